@@ -1,0 +1,91 @@
+//! Rules that say when a phaser ends: closures, each beside the plan that says what it answers.
+#![tactic(auto)]
+
+ghost use Rattle.std.specs.Prelude.{◌≡◌, ℕ, ◌≤◌};
+ghost use Rattle.advance_rule.specs.Plan.{count_ends};
+ghost use Rattle.advance_rule.specs.Stored.{Stored, Answers};
+ghost use Rattle.advance_rule.specs.declared.CountPlan.{CountPlan};
+
+use std::marker::Model;
+
+/// When a phaser ends at an advance: with fewer registered parties than `least`, or at the end of
+/// phase `at` (own; Java SE 21's default for `Phaser.onAdvance` is `least` 1 and no `at`).
+#[derive(Clone, Copy, Debug, PartialEq, Eq)]
+pub struct CountPlan {
+    /// The fewest parties with which the phaser goes on.
+    pub least: u32,
+    /// The phase whose end is the end of the phaser.
+    pub at: Option<u32>,
+}
+
+impl CountPlan {
+    /// Whether the phaser ends at the advance of this phase, with this many registered parties.
+    pub fn ends(&self, phase: u32, count: u32) -> bool
+        ensures { result ≡ count_ends self.now phase count }
+    {
+        count < self.least || self.at == Some(phase)
+    }
+}
+
+/// A closure of a phase and a count of parties, beside the plan that it answers (own).
+///
+/// The type can't keep that the closure answers its plan, so each call that may reach the closure
+/// asks for it again.
+#[derive(Drop)]
+pub struct StoredCount<F: Fn(u32, u32) -> bool> {
+    closure: F,
+    plan: CountPlan,
+}
+
+impl<F: Fn(u32, u32) -> bool> Model for StoredCount<F> {
+    ghost Value = { Stored F CountPlan };
+
+    ghost view = { λ s. record { closure = s.closure; plan = s.plan } };
+}
+
+impl<F: Fn(u32, u32) -> bool> StoredCount<F> {
+    /// Keeps a closure that may be called at every phase up to 2147483647 and every count up to 65535,
+    /// and answers its plan there.
+    pub fn new(closure: F, plan: CountPlan) -> Self
+        requires { Answers (F.pre closure) (F.post closure) (count_ends plan) }
+        ensures { result ≡ record { closure = closure; plan = plan } }
+    {
+        StoredCount { closure, plan }
+    }
+
+    /// What the closure answers.
+    pub fn plan(&self) -> CountPlan
+        ensures { result ≡ self.now.plan }
+    {
+        self.plan
+    }
+
+    /// Calls the closure with a phase and a count of registered parties.
+    pub fn call(&self, phase: u32, count: u32) -> bool
+        requires phase { phase ≤ 2147483647 }
+        requires count { count ≤ 65535 }
+        requires rule { Answers (F.pre self.now.closure) (F.post self.now.closure) (count_ends self.now.plan) }
+        ensures called { F.post self.now.closure phase count result }
+        ensures answer { result ≡ count_ends self.now.plan phase count }
+    {
+        (self.closure)(phase, count)
+    }
+}
+
+#[cfg(test)]
+mod tests {
+    use super::*;
+
+    #[test]
+    fn keeps_a_closure_with_a_limit(rt: HostRuntime) {
+        let limit = 3u32;
+        let plan = CountPlan {
+            least: limit,
+            at: None,
+        };
+        let rule = StoredCount::new(|_phase: u32, count: u32| count < limit, plan);
+        assert!(rt; rule.call(0, 2));
+        assert!(rt; !rule.call(0, 3));
+        assert_eq!(rt; rule.plan(), plan);
+    }
+}
