@@ -1,0 +1,4 @@
+pub mod Flat
+pub mod Step
+pub mod Alike
+pub mod Laws
