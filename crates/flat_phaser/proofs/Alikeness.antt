@@ -1,14 +1,14 @@
 -- What is alike stays alike.
-use Rattle.std.proofs.Common.{◌≡◌, ◌≢◌, ℕ, ◌+◌, Bool, true, false, cond, eqb, List, ◌∷◌, ◌++◌, refl, sym, ◌∙◌, ap, subst, arith, Some}
+use Rattle.std.proofs.Common.{◌≡◌, ◌≢◌, ℕ, ◌+◌, Bool, true, false, cond, eqb, List, ◌∷◌, ◌++◌, refl, sym, ◌∙◌, ap, arith, Some}
 use Rattle.std.proofs.lemmas.Grind.{common_steps}
 use Rattle.phaser_word.specs.Phase.{next_phase_of}
 use Rattle.flat_phaser.specs.Flat.{Flat, Member, members_of, arrived_of, everyone_arrived}
-use Rattle.flat_phaser.specs.Step.{FlatStep, Join, Arrive, Leave, Advance, Force, taken, with_members, newcomers, is_awaited, MayTake}
-use Rattle.flat_phaser.specs.Alike.{IsAlike, IsSound, IsPlace, MayLeave}
+use Rattle.flat_phaser.specs.Step.{Join, Arrive, Leave, Advance, Force, taken, with_members, is_awaited}
+use Rattle.flat_phaser.specs.Alike.{IsAlike, IsPlace}
 use Rattle.flat_phaser.specs.Laws.{StepsAreTaken, AlikeStaysAlike}
-use Rattle.flat_phaser.proofs.Counts.{bit, newcomers_members, newcomers_arrived}
+use Rattle.flat_phaser.proofs.Counts.{newcomers_members, newcomers_arrived}
 use Rattle.flat_phaser.proofs.Everyone.{same_everyone, none_arrived}
-use Rattle.flat_phaser.proofs.Places.{FirstPlace, first_place, marked_members, marked_arrived, dropped_members, dropped_arrived}
+use Rattle.flat_phaser.proofs.Places.{first_place, marked_members, marked_arrived, dropped_members, dropped_arrived}
 
 -- the next phase is another
 pub next_differs : (phase : ℕ) → phase ≢ next_phase_of phase

@@ -1,6 +1,6 @@
 -- Counting the members of a list that meet a test.
-use Rattle.std.proofs.Common.{◌≡◌, ℕ, ◌+◌, ◌*◌, ◌≤◌, Bool, true, false, cond, eqb, List, [], ◌∷◌, ◌++◌, refl, sym, ap, arith, None, Some, Option}
-use Rattle.std.specs.Prelude.{count_by, replicate, ◌&&◌, not}
+use Rattle.std.proofs.Common.{◌≡◌, ℕ, ◌+◌, ◌*◌, ◌≤◌, Bool, true, false, cond, eqb, List, [], ◌∷◌, ◌++◌, refl, ap, arith, None}
+use Rattle.std.specs.Prelude.{count_by, replicate, ◌&&◌}
 use Rattle.std.proofs.lemmas.List.Sums.{sum_by-cons, sum_by-append}
 use Rattle.std.proofs.lemmas.List.Folds.{sum_by-replicate}
 use Rattle.flat_phaser.specs.Flat.{Member, has_arrived, is_owned, members_of, arrived_of}

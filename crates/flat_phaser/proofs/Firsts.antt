@@ -1,9 +1,9 @@
 -- The first member that is awaited, by its place in the list.
-use Rattle.std.proofs.Common.{◌≡◌, ℕ, zero, suc, ◌+◌, ◌<◌, ◌≤◌, Bool, true, false, cond, List, [], ◌∷◌, ◌++◌, length, get_or, refl, ap, arith, Some}
+use Rattle.std.proofs.Common.{◌≡◌, ℕ, zero, suc, ◌+◌, ◌<◌, ◌≤◌, Bool, true, false, cond, List, [], ◌∷◌, length, get_or, refl, ap, arith, Some}
 use Rattle.std.specs.Prelude.{◌&&◌, slice_set, remove}
 use Rattle.flat_phaser.specs.Flat.{Member, has_arrived, is_owned, members_of, arrived_of}
 use Rattle.flat_phaser.specs.Step.{is_awaited, IsWaitedFor, mark_one, drop_one}
-use Rattle.flat_phaser.proofs.Counts.{bit, count_cons, bit_true, bit_and_false, arrived_le}
+use Rattle.flat_phaser.proofs.Counts.{count_cons, bit_true, bit_and_false, arrived_le}
 use Rattle.flat_phaser.proofs.Places.{not_awaited, awaited_owner, awaited_absent}
 use Rattle.std.proofs.lemmas.Bool.{eq-eqb}
 use Rattle.std.proofs.lemmas.List.Quantifiers.{position-Some}

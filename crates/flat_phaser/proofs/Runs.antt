@@ -1,7 +1,7 @@
 -- What holds of every run and every step.
-use Rattle.std.proofs.Common.{◌≡◌, ℕ, ◌+◌, Bool, true, false, cond, eqb, List, [], ◌∷◌, ◌++◌, refl, sym, ◌∙◌, ap, arith, Some}
-use Rattle.flat_phaser.specs.Flat.{Flat, Member, members_of, arrived_of, everyone_arrived, empty_in}
-use Rattle.flat_phaser.specs.Step.{FlatStep, Join, Arrive, Leave, Advance, Force, taken, flat_step, MayTake, IsFlatRun, flat_run}
+use Rattle.std.proofs.Common.{◌≡◌, ℕ, ◌+◌, Bool, true, false, cond, List, [], ◌∷◌, refl, sym, ◌∙◌, ap, arith}
+use Rattle.flat_phaser.specs.Flat.{Flat, Member, arrived_of, empty_in}
+use Rattle.flat_phaser.specs.Step.{FlatStep, Join, Arrive, Leave, Advance, Force, taken, flat_step, MayTake, flat_run}
 use Rattle.flat_phaser.specs.Alike.{IsSound}
 use Rattle.flat_phaser.specs.Laws.{AdvancesWhenAllArrived, EveryoneIsEachOwner, ArrivalsCountOnce, NoArrivalIsLost, is_advance, arrivals_of}
 use Rattle.flat_phaser.proofs.Counts.{newcomers_arrived}

@@ -1,6 +1,5 @@
 -- Flat phasers that nobody can tell apart, and steps that take any member of the owner that hasn't arrived (own).
-use Rattle.std.specs.Prelude.{◌≡◌, ℕ, Bool, true, false, Some, List, ◌∷◌, ◌++◌}
-use Rattle.phaser_word.specs.Phase.{next_phase_of}
+use Rattle.std.specs.Prelude.{◌≡◌, ℕ, true, Some, List, ◌∷◌, ◌++◌}
 use Rattle.flat_phaser.specs.Flat.{Flat, Member, members_of, arrived_of, everyone_arrived}
 use Rattle.flat_phaser.specs.Step.{FlatStep, Join, Arrive, Leave, Advance, Force, is_awaited, with_members, taken}
 

@@ -1,6 +1,6 @@
 -- The flat phaser: one multiset of members, each with an owner and a mark (Java SE 21, `Phaser`; owners, marks and the due mark are own).
 pub use Rattle.flat_phaser.specs.declared.Member.{Member}
-use Rattle.std.specs.Prelude.{ℕ, Bool, true, false, not, ◌==◌, ◌&&◌, Option, None, Some, List, [], count_by, length, ℤ}
+use Rattle.std.specs.Prelude.{ℕ, Bool, false, not, ◌==◌, ◌&&◌, Option, None, Some, List, [], count_by, length, ℤ}
 use Rattle.std.specs.List.{list_all}
 use Rattle.phaser_word.specs.Phase.{shown_of}
 

@@ -1,6 +1,5 @@
 -- What the steps of a flat phaser mean to those who use it.
-use Rattle.std.specs.Prelude.{◌≡◌, ◌≢◌, ℕ, ◌+◌, Bool, true, false, ◌==◌, if◌then◌else◌, List}
-use Rattle.phaser_word.specs.Phase.{next_phase_of}
+use Rattle.std.specs.Prelude.{◌≡◌, ℕ, ◌+◌, Bool, true, false, ◌==◌, if◌then◌else◌, List}
 use Rattle.flat_phaser.specs.Flat.{Flat, Member, members_of, arrived_of, everyone_arrived, empty_in}
 use Rattle.flat_phaser.specs.Step.{FlatStep, Join, Arrive, Leave, Advance, Force, flat_step, taken, MayTake, IsFlatRun, flat_run}
 use Rattle.flat_phaser.specs.Alike.{IsAlike, IsSound, MayLeave}

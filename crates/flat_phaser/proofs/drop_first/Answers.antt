@@ -1,5 +1,5 @@
-use Rattle.std.proofs.Common.{◌≡◌, ◌≤◌, List, refl, sym, ap, ◌∙◌, arith, Some, None}
-use Rattle.std.specs.Prelude.{position, slice_set}
+use Rattle.std.proofs.Common.{◌≡◌, ◌≤◌, List, sym, ◌∙◌, arith, Some, None}
+use Rattle.std.specs.Prelude.{position}
 use Rattle.flat_phaser.specs.Flat.{Member, members_of, arrived_of}
 use Rattle.flat_phaser.specs.Step.{is_awaited}
 use Rattle.flat_phaser.proofs.Firsts.{dropped_at, waited_at, first_from, none_from}

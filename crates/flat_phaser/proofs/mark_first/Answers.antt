@@ -1,4 +1,4 @@
-use Rattle.std.proofs.Common.{◌≡◌, ◌≤◌, List, refl, sym, ap, ◌∙◌, arith, Some, None}
+use Rattle.std.proofs.Common.{◌≡◌, ◌≤◌, List, sym, ap, ◌∙◌, arith, Some, None}
 use Rattle.std.specs.Prelude.{position, slice_set}
 use Rattle.flat_phaser.specs.Flat.{Member, members_of, arrived_of}
 use Rattle.flat_phaser.specs.Step.{is_awaited}

@@ -1,0 +1,3 @@
+pub mod LinesLemmas
+pub mod NumbersLemmas
+pub mod Readings

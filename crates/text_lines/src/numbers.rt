@@ -1,0 +1,28 @@
+//! Numbers as words.
+ghost use Rattle.std.specs.Prelude.{◌≡◌, ◌≢◌, ℤ, IfSome, IfNone, FitsSigned};
+ghost use Rattle.std.specs.Fmt.{signed_decimal};
+ghost use Rattle.std.specs.Int.{w64};
+ghost use Rattle.text_lines.specs.Number.{number_of};
+
+use itoa::Buffer;
+
+/// The number that a word writes, if it writes one of 64 signed bits.
+pub fn number(word: &[u8]) -> Option<i64>
+    ensures value { result ≡ number_of word.now }
+    ensures found { IfSome result (λ n. word.now ≡ signed_decimal n) }
+    ensures none { IfNone result ((n : ℤ) → FitsSigned w64 n → word.now ≢ signed_decimal n) }
+{
+    let text = match str::from_utf8(word) {
+        Ok(text) => text,
+        Err(_) => return None,
+    };
+    let n = match text.parse::<i64>() {
+        Ok(n) => n,
+        Err(_) => return None,
+    };
+    if Buffer::new().format(n).as_bytes() == word {
+        Some(n)
+    } else {
+        None
+    }
+}
