@@ -2,9 +2,10 @@
 #![tactic(auto)]
 
 ghost use Rattle.std.specs.Prelude.{◌≡◌, ℕ, ◌≤◌};
-ghost use Rattle.advance_rule.specs.Plan.{count_ends};
+ghost use Rattle.advance_rule.specs.Plan.{count_ends, end_ends, end_ends_at};
 ghost use Rattle.advance_rule.specs.Stored.{Stored, Answers};
 ghost use Rattle.advance_rule.specs.declared.CountPlan.{CountPlan};
+ghost use Rattle.advance_rule.specs.declared.EndPlan.{EndPlan};
 
 use std::marker::Model;
 
@@ -72,6 +73,71 @@ impl<F: Fn(u32, u32) -> bool> StoredCount<F> {
     }
 }
 
+/// When a tree of phasers ends at an advance of its root: where it is empty, if `when_empty`, or at the
+/// end of phase `at` (own; Java SE 21's default for `Phaser.onAdvance` is `when_empty` and no `at`).
+#[derive(Clone, Copy, Debug, PartialEq, Eq)]
+pub struct EndPlan {
+    /// Whether it ends where nobody is registered.
+    pub when_empty: bool,
+    /// The phase whose end is its end.
+    pub at: Option<u32>,
+}
+
+impl EndPlan {
+    /// Whether it ends at the advance of this phase, where nobody is registered or somebody is.
+    pub fn ends(&self, phase: u32, empty: bool) -> bool
+        ensures { result ≡ end_ends self.now phase empty }
+    {
+        (empty && self.when_empty) || self.at == Some(phase)
+    }
+}
+
+/// A closure of a phase and a count of parties, beside the plan that it answers: whether the count is
+/// zero is all that it looks at (own).
+///
+/// The type can't keep that the closure answers its plan, so each call that may reach the closure
+/// asks for it again.
+#[derive(Drop)]
+pub struct StoredAdvance<F: Fn(u32, u32) -> bool> {
+    closure: F,
+    plan: EndPlan,
+}
+
+impl<F: Fn(u32, u32) -> bool> Model for StoredAdvance<F> {
+    ghost Value = { Stored F EndPlan };
+
+    ghost view = { λ s. record { closure = s.closure; plan = s.plan } };
+}
+
+impl<F: Fn(u32, u32) -> bool> StoredAdvance<F> {
+    /// Keeps a closure that may be called at every phase up to 2147483647 and every count up to 65535,
+    /// and answers its plan there.
+    pub fn new(closure: F, plan: EndPlan) -> Self
+        requires { Answers (F.pre closure) (F.post closure) (end_ends_at plan) }
+        ensures { result ≡ record { closure = closure; plan = plan } }
+    {
+        StoredAdvance { closure, plan }
+    }
+
+    /// What the closure answers.
+    pub fn plan(&self) -> EndPlan
+        ensures { result ≡ self.now.plan }
+    {
+        self.plan
+    }
+
+    /// Calls the closure with a phase and a count of registered parties.
+    pub fn call(&self, phase: u32, count: u32) -> bool
+        requires phase { phase ≤ 2147483647 }
+        requires count { count ≤ 65535 }
+        requires rule { Answers (F.pre self.now.closure) (F.post self.now.closure) (end_ends_at self.now.plan) }
+        ensures called { F.post self.now.closure phase count result }
+        ensures answer { result ≡ end_ends_at self.now.plan phase count }
+    {
+        (self.closure)(phase, count)
+    }
+}
+
 #[cfg(test)]
 mod tests {
     use super::*;
@@ -87,5 +153,20 @@ mod tests {
         assert!(rt; rule.call(0, 2));
         assert!(rt; !rule.call(0, 3));
         assert_eq!(rt; rule.plan(), plan);
+    }
+
+    #[test]
+    fn keeps_a_closure_that_ends_when_empty(rt: HostRuntime) {
+        let last = 7u32;
+        let plan = EndPlan {
+            when_empty: true,
+            at: Some(last),
+        };
+        let rule = StoredAdvance::new(|phase: u32, count: u32| count == 0 || phase == last, plan);
+        assert!(rt; rule.call(0, 0));
+        assert!(rt; !rule.call(0, 1));
+        assert!(rt; rule.call(7, 1));
+        assert_eq!(rt; rule.plan(), plan);
+        assert!(rt; plan.ends(7, false));
     }
 }

@@ -1,0 +1,4 @@
+pub mod Counting
+pub mod Following
+pub mod LawProofs
+pub mod RunProofs

@@ -1,0 +1,4 @@
+use Rattle.phaser_one.proofs.phaser.PhaserOne.unarrived.Goals as goal
+
+pub returns : goal.returns
+returns g c = rw (← c.self.view_is) c.absent.ensures

@@ -1,0 +1,23 @@
+use Rattle.std.proofs.Common.{◌≡◌, ◌≤◌, ◌<◌, ◌-◌, false, sym, ap, ◌∙◌, refl, arith, subst, ℤ, pos, to_z, of_z, w32}
+use Rattle.phaser_word.specs.Fields.{Fields}
+use Rattle.phaser_word.specs.Phase.{shown_of}
+use Rattle.phaser_one.specs.Calls.{Arrive, Refused, NobodyUnarrived}
+use Rattle.phaser_one.specs.Seen.{IsSettled}
+use Rattle.phaser_one.proofs.Following.{refused_follows, nobody_answer, arrive_follows, same_shown}
+use Rattle.phaser_one.proofs.step.arrived.Goals as goal
+
+pub returns-then-unarrived-eq0-clause-flat : goal.returns-then-unarrived-eq0-clause-flat
+returns-then-unarrived-eq0-clause-flat g c = λ f a.
+    let ended : c.args.word.ended ≡ false = sym (ap (λ (w : Fields). w.ended) c.word.view_is) ∙ c.if-ended.false in
+    let nobody : c.args.word.unarrived ≡ 0 = sym (ap (λ (w : Fields). w.unarrived) c.word.view_is) ∙ c.if-unarrived-eq0.true in
+    refused_follows c.args.rule.now.plan Arrive c.args.word f (Refused NobodyUnarrived) a (nobody_answer f c.args.word c.requires.counted a ended nobody) refl
+
+pub returns-clause-flat : goal.returns-clause-flat
+returns-clause-flat g c =
+    let phase : c.word.inside.phase ≡ c.args.word.phase = ap (λ (w : Fields). w.phase) c.word.view_is in
+    let absent : c.word.inside.unarrived ≡ c.args.word.unarrived = ap (λ (w : Fields). w.unarrived) c.word.view_is in
+    let ended : c.args.word.ended ≡ false = sym (ap (λ (w : Fields). w.ended) c.word.view_is) ∙ c.if-ended.false in
+    let small : c.args.word.phase ≤ 2147483647 = (let legal : c.word.inside.phase ≤ 2147483647 = c.word.invariant.phase in omega arith) in
+    let shown : to_z w32 (of_z w32 c.shown-shown.result) ≡ shown_of c.args.word.phase c.args.word.ended = same_shown c.shown-shown.result c.args.word.phase c.args.word.ended c.shown-shown.ensures small in
+    let P : Fields → Type 0 = λ w. IsSettled c.args.rule.now.plan w.phase w.parties (w.unarrived - 1) c.settle-word.result in
+    arrive_follows c.args.rule.now.plan c.args.word c.settle-word.result _ c.requires.counted ended (omega arith) shown (subst P c.word.view_is c.settle-word.ensures)

@@ -1,0 +1,45 @@
+-- What a single phaser promises, in the words of those who use it.
+use Rattle.std.specs.Prelude.{◌≡◌, ◌⊎◌, ℕ, ◌+◌, ◌≤◌, Bool, true, false}
+use Rattle.phaser_word.specs.Fields.{Fields}
+use Rattle.phaser_word.specs.Phase.{next_phase_of}
+use Rattle.advance_rule.specs.declared.CountPlan.{CountPlan}
+use Rattle.advance_rule.specs.Plan.{count_ends}
+use Rattle.flat_phaser.specs.Flat.{Flat, registered, unarrived, everyone_arrived}
+use Rattle.flat_phaser.specs.Alike.{IsAlike}
+use Rattle.phaser_one.specs.Calls.{Call, Register, Bulk, Arrive, Leave, Await, Force, called, after}
+use Rattle.phaser_one.specs.Seen.{flat_of}
+
+-- a call advances: everyone who was then registered has arrived, and the phase is the next one
+pub record Advances (plan : CountPlan) (call : Call) (f : Flat) : Type 0 where
+  pub everyone : everyone_arrived f.phase (called call f).members ≡ true
+  pub next : (after plan call f).phase ≡ next_phase_of f.phase
+  pub end : (after plan call f).ended ≡ count_ends plan f.phase (registered (called call f))
+  pub everybody_stays : registered (after plan call f) ≡ registered (called call f)
+  pub nobody_has_arrived : unarrived (after plan call f) ≡ registered (called call f)
+
+-- a call leaves the phase
+pub record Stays (plan : CountPlan) (call : Call) (f : Flat) : Type 0 where
+  pub phase : (after plan call f).phase ≡ f.phase
+  pub due : (after plan call f).due ≡ false
+
+-- While a phaser hasn't ended its phase takes one step at each advance, and moves at no other time.
+abbrev pub PhaseMovesByOne : Type 0
+PhaseMovesByOne = (plan : CountPlan) (call : Call) (f : Flat) → f.ended ≡ false → f.due ≡ false → Advances plan call f ⊎ Stays plan call f
+
+-- Once it has ended nothing changes it.
+abbrev pub EndedStays : Type 0
+EndedStays = (plan : CountPlan) (call : Call) (f : Flat) → f.ended ≡ true → f.due ≡ false → after plan call f ≡ f
+
+-- While two or more haven't arrived, no call advances.
+abbrev pub NotAllArrived : Type 0
+NotAllArrived = (plan : CountPlan) (call : Call) (f : Flat) → f.due ≡ false → 2 ≤ unarrived f → Stays plan call f
+
+-- the counts of the flat phaser that a word stands for are the word's
+pub record IsCounted (w : Fields) : Type 0 where
+  pub parties : registered (flat_of w) ≡ w.parties
+  pub absent : unarrived (flat_of w) ≡ w.unarrived
+  pub alike : IsAlike (flat_of w) (flat_of w)
+
+-- Every word with no more unarrived than parties stands for a flat phaser.
+abbrev pub WordsAreSeen : Type 0
+WordsAreSeen = (w : Fields) → w.unarrived ≤ w.parties → IsCounted w

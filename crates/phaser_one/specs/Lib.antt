@@ -1,0 +1,4 @@
+pub mod Calls
+pub mod Seen
+pub mod Runs
+pub mod Laws

@@ -1,0 +1,261 @@
+//! The single phaser.
+ghost use Rattle.std.specs.Prelude.{◌≡◌, ◌+◌, ◌≤◌, ◌<◌, ◌^◌, ◌-◌, ◌⊎◌, ◌↔◌, ◌<ℤ◌, ℤ, pos, length, IfOk, IfErr, IsErr, OnErr};
+ghost use Rattle.advance_rule.specs.Plan.{count_ends};
+ghost use Rattle.advance_rule.specs.Stored.{Answers};
+ghost use Rattle.flat_phaser.specs.Flat.{Flat, shown, registered, unarrived};
+ghost use Rattle.flat_phaser.specs.Alike.{IsAlike};
+ghost use Rattle.phaser_one.specs.Calls.{opened};
+ghost use Rattle.phaser_one.specs.Calls as spec;
+ghost use Rattle.phaser_word.specs.Phase.{shown_of};
+ghost use Rattle.std.specs.Prelude.{true};
+ghost use Rattle.phaser_one.specs.Seen.{Single, flat_of, Follows, IsSettled, reply_of, reply_of_awaited};
+ghost use Rattle.phaser_one.specs.Runs.{FollowsAll, advance_of};
+ghost use Rattle.std.specs.Prelude.{◌==◌, if◌then◌else◌};
+
+use crate::call::{Advance, Awaited, Call, OneFault, Reply};
+use advance_rule::StoredCount;
+use crate::step::{Stepped, absent, arrived, forced, joined, left, members, present};
+use phaser_word::{MOST_PARTIES, Word};
+use std::alloc::{AllocError, Global};
+use std::marker::Model;
+
+/// A phaser without tiers, by its counts, and the rule that says when it ends (Java SE 21, `Phaser`).
+///
+/// Its parties are anonymous: any of those that have not arrived may arrive or leave. An advance comes
+/// within the call that makes it due. Once it has ended, calls answer the phase shown, a negative number,
+/// and change nothing (own: the end is looked at before the limit of parties).
+#[derive(Drop)]
+pub struct PhaserOne<F: Fn(u32, u32) -> bool> {
+    word: Word,
+    rule: StoredCount<F>,
+}
+
+impl<F: Fn(u32, u32) -> bool> Model for PhaserOne<F> {
+    ghost use Rattle.std.specs.Prelude.{◌≤◌};
+    ghost use Rattle.phaser_one.specs.Seen.{Single};
+
+    ghost Value = { Single F };
+
+    ghost view = { λ p. record { word = p.word; rule = p.rule } };
+
+    ghost invariant = { λ p. p.word.unarrived ≤ p.word.parties };
+}
+
+impl<F: Fn(u32, u32) -> bool> PhaserOne<F> {
+    /// A phaser with so many parties, none of which has arrived, in this phase (a start at another phase
+    /// than 0 is own). Refused with `TooMany` below 0 and above 65535.
+    pub fn new(parties: i64, phase: u32, rule: StoredCount<F>) -> Result<Self, OneFault>
+    where
+        F: Drop,
+        requires { phase ≤ 2147483647 }
+        ensures word { IfOk result (λ p. (pos p.word.parties ≡ parties) × IsAlike (opened p.word.parties phase) (flat_of p.word)) }
+        ensures rule { IfOk result (λ p. p.rule ≡ rule) }
+        ensures refused { IsErr result ↔ ((parties <ℤ pos 0) ⊎ (pos 65535 <ℤ parties)) }
+        ensures fault { IfErr result (λ e. e ≡ OneFault.TooMany) }
+    {
+        match u32::try_from(parties) {
+            Ok(parties) if parties <= MOST_PARTIES => Ok(PhaserOne {
+                word: Word {
+                    phase,
+                    parties,
+                    unarrived: parties,
+                    ended: false,
+                },
+                rule,
+            }),
+            _ => Err(OneFault::TooMany),
+        }
+    }
+
+    /// Registers one party, and answers the phase to which this applied, or the phase shown once ended.
+    /// Refused with `Full` exactly where 65535 are registered and it has not ended.
+    pub fn register(&mut self) -> Result<i32, OneFault>
+        ensures flat { Follows self.old.rule.plan spec.Register self.old.word self.new.word (reply_of result) }
+        ensures rule { self.new.rule ≡ self.old.rule }
+    {
+        self.join(1)
+    }
+
+    /// Registers so many parties, and answers as `register`; with 0 it adds nobody. Refused with
+    /// `Negative` exactly below 0, whether it has ended or not, and with `Full` exactly where there is
+    /// no room for all of them and it has not ended.
+    pub fn bulk_register(&mut self, count: i64) -> Result<i32, OneFault>
+        ensures flat { Follows self.old.rule.plan (spec.Bulk count) self.old.word self.new.word (reply_of result) }
+        ensures rule { self.new.rule ≡ self.old.rule }
+    {
+        match u64::try_from(count) {
+            Ok(count) => self.join(count),
+            Err(_) => Err(OneFault::Negative),
+        }
+    }
+
+    // Registers so many parties.
+    fn join(&mut self, count: u64) -> Result<i32, OneFault>
+        requires { count < 2 ^ 63 }
+        ensures flat { Follows self.old.rule.plan (spec.Bulk (pos count)) self.old.word self.new.word (reply_of result) }
+        ensures rule { self.new.rule ≡ self.old.rule }
+    {
+        let Stepped { word, shown } = joined(&self.rule, self.word, count)?;
+        self.word = word;
+        Ok(shown)
+    }
+
+    /// Arrives with one party, and answers the arrival phase, or the phase shown once ended. The last to
+    /// arrive brings the next phase. Refused with `NobodyUnarrived` exactly where nobody is unarrived and
+    /// it has not ended.
+    pub fn arrive(&mut self) -> Result<i32, OneFault>
+        requires rule { Answers (F.pre self.old.rule.closure) (F.post self.old.rule.closure) (count_ends self.old.rule.plan) }
+        ensures flat { Follows self.old.rule.plan spec.Arrive self.old.word self.new.word (reply_of result) }
+        ensures rule { self.new.rule ≡ self.old.rule }
+    {
+        let Stepped { word, shown } = arrived(&self.rule, self.word)?;
+        self.word = word;
+        Ok(shown)
+    }
+
+    /// Arrives with one party and takes it away, and answers as `arrive`. The rule is called with the
+    /// parties that are left.
+    pub fn arrive_and_deregister(&mut self) -> Result<i32, OneFault>
+        requires rule { Answers (F.pre self.old.rule.closure) (F.post self.old.rule.closure) (count_ends self.old.rule.plan) }
+        ensures flat { Follows self.old.rule.plan spec.Leave self.old.word self.new.word (reply_of result) }
+        ensures rule { self.new.rule ≡ self.old.rule }
+    {
+        let Stepped { word, shown } = left(&self.rule, self.word)?;
+        self.word = word;
+        Ok(shown)
+    }
+
+    /// Whether a phase is over: a negative number is answered as it is, then the phase shown once ended,
+    /// then the current phase if it is another; else it is still to be waited for (Java SE 21,
+    /// `Phaser.awaitAdvance`; the order is own).
+    pub fn poll_await(&self, phase: i32) -> Awaited
+        ensures { (f : Flat) → IsAlike f (flat_of self.now.word) → reply_of_awaited result ≡ spec.answer (spec.Await phase) f }
+    {
+        let shown = self.word.shown();
+        if phase < 0 {
+            Awaited::Now(phase)
+        } else if self.word.ended || phase != shown {
+            Awaited::Now(shown)
+        } else {
+            Awaited::Waiting
+        }
+    }
+
+    /// Ends the phaser at once. It keeps its phase and its counts (own); ending it again does nothing.
+    pub fn force(&mut self)
+        ensures word { self.new.word ≡ record self.old.word { ended = true } }
+        ensures flat { Follows self.old.rule.plan spec.Force self.old.word self.new.word (spec.Number (shown_of self.new.word.phase true)) }
+        ensures rule { self.new.rule ≡ self.old.rule }
+    {
+        self.word = forced(&self.rule, self.word);
+    }
+
+    /// The phase shown: negative once ended (Java SE 21, `Phaser.getPhase`; the number is own).
+    pub fn phase(&self) -> i32
+        ensures { (f : Flat) → IsAlike f (flat_of self.now.word) → result ≡ shown f }
+    {
+        self.word.shown()
+    }
+
+    /// How many are registered.
+    pub fn registered(&self) -> u32
+        ensures { (f : Flat) → IsAlike f (flat_of self.now.word) → result ≡ registered f }
+    {
+        members(self.word)
+    }
+
+    /// How many of them have arrived in this phase.
+    pub fn arrived(&self) -> u32
+        ensures { (f : Flat) → IsAlike f (flat_of self.now.word) → result + unarrived f ≡ registered f }
+    {
+        present(self.word)
+    }
+
+    /// How many of them have not arrived in this phase.
+    pub fn unarrived(&self) -> u32
+        ensures { (f : Flat) → IsAlike f (flat_of self.now.word) → result ≡ unarrived f }
+    {
+        absent(self.word)
+    }
+
+    /// Whether the phaser has ended.
+    pub fn ended(&self) -> bool
+        ensures { (f : Flat) → IsAlike f (flat_of self.now.word) → result ≡ f.ended }
+    {
+        self.word.ended
+    }
+}
+
+impl<F: Fn(u32, u32) -> bool> PhaserOne<F> {
+    /// Makes a call that is given as data, and answers what that call answers.
+    pub fn call(&mut self, call: Call) -> Reply
+        requires rule { Answers (F.pre self.old.rule.closure) (F.post self.old.rule.closure) (count_ends self.old.rule.plan) }
+        ensures flat { Follows self.old.rule.plan call self.old.word self.new.word result }
+        ensures rule { self.new.rule ≡ self.old.rule }
+    {
+        match call {
+            Call::Register => reply(self.register()),
+            Call::Bulk(count) => reply(self.bulk_register(count)),
+            Call::Arrive => reply(self.arrive()),
+            Call::Leave => reply(self.arrive_and_deregister()),
+            Call::Await(phase) => match self.poll_await(phase) {
+                Awaited::Now(phase) => Reply::Number(phase),
+                Awaited::Waiting => Reply::Waiting,
+            },
+            Call::Force => {
+                self.force();
+                Reply::Number(self.phase())
+            }
+        }
+    }
+
+    /// Makes a call that is given as data, and answers what that call answers and the advance that it
+    /// brought, if it did.
+    pub fn call_told(&mut self, call: Call) -> (Reply, Option<Advance>)
+        requires rule { Answers (F.pre self.old.rule.closure) (F.post self.old.rule.closure) (count_ends self.old.rule.plan) }
+        ensures flat { Follows self.old.rule.plan call self.old.word self.new.word result.0 }
+        ensures advance { (f : Flat) → IsAlike f (flat_of self.old.word) → result.1 ≡ advance_of call f }
+        ensures rule { self.new.rule ≡ self.old.rule }
+    {
+        let before = self.word;
+        let reply = self.call(call);
+        let after = self.word;
+        (reply, advance_between(before, after))
+    }
+
+    /// Makes the calls one after another, and answers what each of them answers. Without memory for the
+    /// answers it makes no call.
+    pub fn call_all(&mut self, alloc: Global, calls: &[Call]) -> Result<Vec<Reply>, AllocError>
+        requires rule { Answers (F.pre self.old.rule.closure) (F.post self.old.rule.closure) (count_ends self.old.rule.plan) }
+        ensures flat { IfOk result (λ replies. FollowsAll self.old.rule.plan calls.now self.old.word self.new.word replies.items) }
+        ensures memory { OnErr result (self.new ≡ self.old) }
+        ensures rule { self.new.rule ≡ self.old.rule }
+    {
+        let mut replies = Vec::with_capacity(alloc, calls.len())?;
+        for call in calls {
+            let reply = self.call(*call);
+            replies.push_reserved(reply);
+        }
+        Ok(replies)
+    }
+}
+
+// The answer of a call that may be refused.
+fn reply(outcome: Result<i32, OneFault>) -> Reply
+    ensures { result ≡ reply_of outcome }
+{
+    match outcome {
+        Ok(phase) => Reply::Number(phase),
+        Err(fault) => Reply::Refused(fault),
+    }
+}
+
+// The advance between the words before and after a call.
+fn advance_between(before: Word, after: Word) -> Option<Advance>
+    ensures { result ≡ (if before.phase == after.phase then None else Some (record { phase = before.phase; parties = after.parties })) }
+{
+    (before.phase != after.phase).then_some(Advance {
+        phase: before.phase,
+        parties: after.parties,
+    })
+}
