@@ -1,0 +1,3 @@
+pub mod PassedBytes
+pub mod CommandRuns
+pub mod TracedRuns

@@ -1,0 +1,1 @@
+-- Traces read backwards: what is asked for, written as lines.

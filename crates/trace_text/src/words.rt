@@ -1,0 +1,260 @@
+//! Heads and commands of a trace, from the words of their lines.
+ghost use Rattle.std.specs.Prelude.{◌≡◌, ◌∷◌, [], codes, None, Some, Ok, Err, Option, option_copied, option_and_then, MatchOption, MatchResult, IfOk, IfSome, ◌≤◌, true, false};
+ghost use Rattle.text_lines.specs.Text.{words_of, is_skipped};
+ghost use Rattle.text_lines.specs.Number.{number_of};
+ghost use Rattle.trace_text.specs.Words as spec;
+ghost use Rattle.trace_text.specs.Parts.{words_in};
+ghost use Rattle.std.specs.Prelude.{◌≢◌};
+
+use advance_rule::CountPlan;
+use phaser_one::Call;
+use phaser_word::LAST_PHASE;
+use text_lines::{Code, first_word, number, split_word};
+
+/// A command of a trace.
+#[derive(Clone, Copy, Debug, PartialEq, Eq)]
+pub enum Command {
+    /// A call of the phaser.
+    Call(Call),
+    /// The phaser's numbers.
+    Show,
+}
+
+/// The head of a trace: what phaser it makes.
+#[derive(Clone, Copy, Debug, PartialEq, Eq)]
+pub struct Head {
+    /// How many parties it begins with.
+    pub parties: i64,
+    /// The phase that it begins in.
+    pub phase: u32,
+    /// When it ends.
+    pub plan: CountPlan,
+}
+
+// A whole number from 0 to a greatest.
+fn up_to(most: u32, word: &[u8]) -> Option<u32>
+    ensures value { result ≡ spec.up_to most (number_of word.now) }
+    ensures small { IfSome result (λ n. n ≤ most) }
+{
+    let n = number(word)?;
+    match u32::try_from(n) {
+        Ok(n) if n <= most => Some(n),
+        _ => None,
+    }
+}
+
+// A number of 32 signed bits.
+fn of_32_bits(word: &[u8]) -> Option<i32>
+    ensures { result ≡ spec.of_32_bits (number_of word.now) }
+{
+    let n = number(word)?;
+    i32::try_from(n).ok()
+}
+
+// A word that begins as a number, if it comes next, and what follows.
+fn take_number(line: &[u8]) -> (Option<&[u8]>, &[u8])
+    ensures { (option_copied result.0, words_of result.1.now) ≡ spec.take_number (words_of line.now) }
+{
+    let Some((word, rest)) = split_word(line) else {
+        return (None, line);
+    };
+    match word.first() {
+        Some(b'-' | b'0'..=b'9') => (Some(word), rest),
+        _ => (None, line),
+    }
+}
+
+// The word behind a keyword, if the keyword comes next, and what follows; nothing where that word lacks.
+fn take_behind<'a>(keyword: &[u8], line: &'a [u8]) -> Option<(Option<&'a [u8]>, &'a [u8])>
+    ensures { MatchOption result
+        (spec.take_behind keyword.now (words_of line.entry.now) ≡ None)
+        (λ r. spec.take_behind keyword.now (words_of line.entry.now) ≡ Some (option_copied r.0, words_of r.1.now)) }
+{
+    let Some((word, rest)) = split_word(line) else {
+        return Some((None, line));
+    };
+    if word != keyword {
+        return Some((None, line));
+    }
+    let (word, rest) = split_word(rest)?;
+    Some((Some(word), rest))
+}
+
+// What the first word of a command asks for.
+#[derive(Clone, Copy)]
+enum Form {
+    // a command alone
+    Alone(Command),
+    // a number of parties behind it
+    Bulk,
+    // a phase behind it
+    Await,
+}
+
+// What this word asks for, if it begins a command.
+fn form_of(word: &[u8]) -> Option<Form>
+    ensures { result ≡ spec.form_of word.now }
+{
+    if word == b"register".as_slice() {
+        Some(Form::Alone(Command::Call(Call::Register)))
+    } else if word == b"bulk".as_slice() {
+        Some(Form::Bulk)
+    } else if word == b"arrive".as_slice() {
+        Some(Form::Alone(Command::Call(Call::Arrive)))
+    } else if word == b"leave".as_slice() {
+        Some(Form::Alone(Command::Call(Call::Leave)))
+    } else if word == b"await".as_slice() {
+        Some(Form::Await)
+    } else if word == b"force".as_slice() {
+        Some(Form::Alone(Command::Call(Call::Force)))
+    } else if word == b"show".as_slice() {
+        Some(Form::Alone(Command::Show))
+    } else {
+        None
+    }
+}
+
+// The only word of a line.
+fn only_word(line: &[u8]) -> Option<&[u8]>
+    ensures { MatchOption result
+        ((w : spec.Word) → words_of line.now ≢ w ∷ [])
+        (λ w. words_of line.now ≡ w.now ∷ []) }
+{
+    let (word, rest) = split_word(line)?;
+    match split_word(rest) {
+        None => Some(word),
+        Some(_) => None,
+    }
+}
+
+// The command of this form, with what follows its first word.
+fn formed(form: Form, rest: &[u8]) -> Result<Command, Code>
+    ensures { result ≡ spec.formed (Some form) (words_of rest.now) }
+{
+    match form {
+        Form::Alone(command) => match split_word(rest) {
+            None => Ok(command),
+            Some(_) => Err(Code::BadLine),
+        },
+        Form::Bulk => {
+            let word = only_word(rest).ok_or(Code::BadLine)?;
+            let count = number(word).ok_or(Code::BadNumber)?;
+            Ok(Command::Call(Call::Bulk(count)))
+        }
+        Form::Await => {
+            let word = only_word(rest).ok_or(Code::BadLine)?;
+            let phase = of_32_bits(word).ok_or(Code::BadNumber)?;
+            Ok(Command::Call(Call::Await(phase)))
+        }
+    }
+}
+
+/// The command of a line, or none where the line is skipped.
+pub(crate) fn read_command(line: &[u8]) -> Result<Option<Command>, Code>
+    ensures { MatchResult result
+        (λ o. MatchOption o (is_skipped (words_of line.now) ≡ true)
+        (λ c. (is_skipped (words_of line.now) ≡ false) × (spec.command_of (words_of line.now) ≡ Ok c)))
+        (λ e. (is_skipped (words_of line.now) ≡ false) × (spec.command_of (words_of line.now) ≡ Err e)) }
+{
+    let Some((word, rest)) = first_word(line) else {
+        return Ok(None);
+    };
+    let Some(form) = form_of(word) else {
+        return Err(Code::UnknownLine);
+    };
+    match formed(form, rest) {
+        Ok(command) => Ok(Some(command)),
+        Err(code) => Err(code),
+    }
+}
+
+// A head in words.
+#[derive(Clone, Copy)]
+struct HeadWords<'a> {
+    parties: &'a [u8],
+    phase: Option<&'a [u8]>,
+    least: Option<&'a [u8]>,
+    at: Option<&'a [u8]>,
+}
+
+// The head in words that follows its first word.
+fn head_words(line: &[u8]) -> Option<HeadWords<'_>>
+    ensures { MatchOption result
+        (spec.head_words (words_of line.now) ≡ None)
+        (λ h. spec.head_words (words_of line.now) ≡ Some (words_in h)) }
+{
+    let (parties, rest) = split_word(line)?;
+    let (phase, rest) = take_number(rest);
+    let (least, rest) = take_behind(b"least", rest)?;
+    let (at, rest) = take_behind(b"at", rest)?;
+    if split_word(rest).is_some() {
+        return None;
+    }
+    Some(HeadWords {
+        parties,
+        phase,
+        least,
+        at,
+    })
+}
+
+// A number from 0 to a greatest that may be left out.
+fn number_or(most: u32, default: u32, word: Option<&[u8]>) -> Option<u32>
+    requires { default ≤ most }
+    ensures value { result ≡ spec.number_or most default (option_copied word.entry) }
+    ensures small { IfSome result (λ n. n ≤ most) }
+{
+    match word {
+        None => Some(default),
+        Some(word) => up_to(most, word),
+    }
+}
+
+// A number from 0 to a greatest, if it is there.
+fn number_if(most: u32, word: Option<&[u8]>) -> Option<Option<u32>>
+    ensures { result ≡ spec.number_if most (option_copied word.entry) }
+{
+    match word {
+        None => Some(None),
+        Some(word) => up_to(most, word).map(Some),
+    }
+}
+
+// The head that its words give.
+fn head_numbers(words: &HeadWords<'_>) -> Option<Head>
+    ensures value { result ≡ spec.head_numbers (words_in words.now) }
+    ensures phase { IfSome result (λ h. h.phase ≤ 2147483647) }
+{
+    let parties = number(words.parties)?;
+    let phase = number_or(LAST_PHASE, 0, words.phase)?;
+    let least = number_or(65536, 1, words.least)?;
+    let at = number_if(LAST_PHASE, words.at)?;
+    Some(Head {
+        parties,
+        phase,
+        plan: CountPlan { least, at },
+    })
+}
+
+/// The head of a line, or none where the line is skipped.
+pub(crate) fn read_head(line: &[u8]) -> Result<Option<Head>, Code>
+    ensures phase { IfOk result (λ o. IfSome o (λ h. h.phase ≤ 2147483647)) }
+    ensures value { MatchResult result
+        (λ o. MatchOption o (is_skipped (words_of line.now) ≡ true)
+        (λ h. (is_skipped (words_of line.now) ≡ false) × (spec.head_of (words_of line.now) ≡ Ok h)))
+        (λ e. (is_skipped (words_of line.now) ≡ false) × (spec.head_of (words_of line.now) ≡ Err e)) }
+{
+    let Some((word, rest)) = first_word(line) else {
+        return Ok(None);
+    };
+    if word != b"phaser".as_slice() {
+        return Err(Code::BadHeader);
+    }
+    let Some(words) = head_words(rest) else {
+        return Err(Code::BadLine);
+    };
+    match head_numbers(&words) {
+        Some(head) => Ok(Some(head)),
+        None => Err(Code::BadNumber),
+    }
+}
