@@ -4,6 +4,7 @@ use Rattle.std.specs.Io.KnownBytes.{Appends, Keeps}
 use Rattle.trace_text.specs.declared.fault.TraceFault.{TraceFault}
 use Rattle.trace_text.specs.declared.fault.TraceFault.TheVariants.{Text, Read, Write, Memory}
 use Rattle.trace_text.specs.Device.{AppendsBeginning}
+use Rattle.text_lines.specs.declared.refusal.Refusal.{Refusal}
 use Rattle.trace_text.specs.Trace.{Asked, asked_of}
 use Rattle.trace_text.specs.Answers.{output_of}
 
@@ -53,3 +54,7 @@ Traces input old new (Err (Text refusal)) = IfSome input (λ bytes. asked_of byt
 Traces input old new (Err Read) = Keeps old new
 Traces input old new (Err Write) = IfSome input (λ bytes. WritesBeginning bytes old new)
 Traces input old new (Err Memory) = Keeps old new ⊎ IfSome input (λ bytes. WritesBeginning bytes old new)
+
+-- the input is refused
+abbrev pub RefusesText : Option (List ℕ) → Type 0
+RefusesText input = IfSome input (λ bytes. (refusal : Refusal) × (asked_of bytes ≡ Err refusal))
