@@ -1,0 +1,46 @@
+//! Tests that cross crates: worked rows through the program's `run`, devices that fail, and phasers
+//! beside the plain flat phaser.
+#![tactic(auto)]
+
+#[cfg(test)]
+mod devices;
+#[cfg(test)]
+mod single;
+#[cfg(test)]
+mod traces;
+
+#[cfg(test)]
+mod runs {
+    use bsp_cli::run;
+    use std::alloc::Global;
+    use std::io::Read;
+    use trace_text::{Reader, Writer};
+
+    /// What a run of the program left.
+    #[derive(Drop)]
+    pub struct Ran {
+        pub status: u8,
+        pub out: Vec<u8>,
+        pub errors: Vec<u8>,
+    }
+
+    /// Runs the program on what a reader gives.
+    pub fn run_on<R: Read + Drop>(alloc: Global, words: &[&str], input: R) -> Ran {
+        let mut out = Vec::new(alloc);
+        let mut errors = Vec::new(alloc);
+        let mut reader = Reader::new(input);
+        let mut writer = Writer::new(&mut out);
+        let mut error_writer = Writer::new(&mut errors);
+        let status = run(alloc, words, &mut reader, &mut writer, &mut error_writer);
+        Ran {
+            status,
+            out,
+            errors,
+        }
+    }
+
+    /// Runs the program on a text.
+    pub fn run_text(alloc: Global, words: &[&str], text: &str) -> Ran {
+        run_on(alloc, words, text.as_bytes())
+    }
+}
