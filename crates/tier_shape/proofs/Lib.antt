@@ -1,0 +1,10 @@
+pub mod Going
+pub mod Kept
+pub mod Childless
+pub mod Numerals
+pub mod Joined
+pub mod Levels
+pub mod TreeShape
+pub mod Refusals
+pub mod LastLevel
+pub mod Telling

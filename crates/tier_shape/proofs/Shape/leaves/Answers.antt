@@ -1,0 +1,16 @@
+use Rattle.std.proofs.Common.{ap, sym, ◌∙◌}
+use Rattle.tier_shape.proofs.Kept.{keeps_next, drops_next}
+use Rattle.tier_shape.specs.Leaves.{is_leaf_of}
+use Rattle.tier_shape.proofs.Shape.leaves.Goals as goal
+use Rattle.tier_shape.proofs.Shape.leaves.Goals.{then-is_leaf+in_ok-push, else-is_leaf}
+
+pub loop-tier-preserved : goal.loop-tier-preserved
+loop-tier-preserved c =
+    elim c.if-is_leaf.branch [
+      | then-is_leaf+in_ok-push w ↦
+          ap (λ v. v.items) w.leaves-is ∙ w.in_ok-push.ensures.items
+          ∙ keeps_next (is_leaf_of c.args.self.now) c.loop-tier.leaves.items c.loop-tier.tier (sym c.is_leaf.ensures.test ∙ w.if-is_leaf.true) c.loop-tier.invariant
+      | else-is_leaf w ↦
+          ap (λ v. v.items) w.leaves-is
+          ∙ drops_next (is_leaf_of c.args.self.now) c.loop-tier.leaves.items c.loop-tier.tier (sym c.is_leaf.ensures.test ∙ w.if-is_leaf.false) c.loop-tier.invariant
+    ]

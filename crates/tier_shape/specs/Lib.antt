@@ -1,0 +1,6 @@
+pub mod Parents
+pub mod Paths
+pub mod Leaves
+pub mod Faults
+pub mod Widths
+pub mod Told
