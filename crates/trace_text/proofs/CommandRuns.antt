@@ -39,7 +39,7 @@ runs_more plan old mid new waited waits all rest more c f w v e r moves after =
     let m = moves g r.seen in
     let later : List ℕ = run_text plan more (command_after plan c g) in
     let text : waited ++ run_text plan rest g ≡ m.0 ++ (waits ++ later) =
-        next_text plan waited rest more c g e ∙ ap (λ (t : List ℕ). t ++ later) m.1 ∙ append_assoc m.0 waits later in
+    next_text plan waited rest more c g e ∙ ap (λ (t : List ℕ). t ++ later) m.1 ∙ append_assoc m.0 waits later in
     let split : Passed old mid (run_text plan all f) (m.0 ++ (waits ++ later)) = rw text at r.written in
     record { current = command_after plan c g; seen = after g r.seen; written = passed_part old mid new (run_text plan all f) m.0 (waits ++ later) split m.2 }
 

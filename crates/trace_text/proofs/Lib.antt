@@ -1,3 +1,5 @@
 pub mod PassedBytes
 pub mod CommandRuns
 pub mod TracedRuns
+pub mod AskedLines
+pub mod SpelledCommands

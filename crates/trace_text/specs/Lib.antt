@@ -6,4 +6,4 @@ pub mod Answers
 pub mod Gives
 pub mod Views
 pub mod Outcome
-pub mod Spelling
+pub mod Laws

@@ -58,8 +58,8 @@ ended a (w ∷ ws) = None
 abbrev pub words_after : Word → Option Word × List Word → Option HeadWords
 words_after parties phase =
     option_and_then (λ least. option_and_then (λ at.
-        ended (record { parties = parties; phase = phase.0; least = least.0; at = at.0 }) at.1)
-      (take_behind (codes "at") least.1))
+    ended (record { parties = parties; phase = phase.0; least = least.0; at = at.0 }) at.1)
+    (take_behind (codes "at") least.1))
     (take_behind (codes "least") phase.1)
 
 abbrev pub head_words : List Word → Option HeadWords
@@ -79,10 +79,10 @@ number_if most (Some w) = option_map Some (up_to most (number_of w))
 abbrev pub head_numbers : HeadWords → Option Head
 head_numbers h =
     option_and_then (λ parties. option_and_then (λ phase. option_and_then (λ least. option_and_then (λ at.
-        Some (record { parties = parties; phase = phase; plan = record { least = least; at = at } }))
-      (number_if 2147483647 h.at))
-      (number_or 65536 1 h.least))
-      (number_or 2147483647 0 h.phase))
+    Some (record { parties = parties; phase = phase; plan = record { least = least; at = at } }))
+    (number_if 2147483647 h.at))
+    (number_or 65536 1 h.least))
+    (number_or 2147483647 0 h.phase))
     (number_of h.parties)
 
 abbrev pub or_else : {A : Type 0} → Code → Option A → Result A Code

@@ -4,6 +4,7 @@
 mod device;
 mod failures;
 mod fault;
+mod laws;
 mod print;
 mod run;
 mod trace;
@@ -15,6 +16,7 @@ pub use device::{
 };
 pub use failures::Failures;
 pub use fault::TraceFault;
+pub use laws::{commands_are_spelled, lines_say_what_is_asked};
 pub use run::run_trace;
 pub use text_lines::{Code, Refusal};
 pub use words::{Command, Head};

@@ -1,1 +1,0 @@
--- Traces read backwards: what is asked for, written as lines.
