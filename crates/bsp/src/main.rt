@@ -2,20 +2,31 @@
 #![tactic(auto)]
 
 use bsp_cli::{run, status};
+use std::io;
 use std::process::ExitCode;
-use trace_text::{Reader, Writer};
+use trace_text::{CountedWrite, Reader, Writer, write_all};
+
+// Ends before the words of the command line could be looked at. A fault of the writer changes nothing.
+fn stopped<E: CountedWrite>(errors: &mut E, kind: io::ErrorKind) -> ExitCode {
+    if kind == io::ErrorKind::OutOfMemory {
+        let _ = write_all(errors, b"out of memory\n");
+        return ExitCode::from(status::OUT_OF_MEMORY);
+    }
+    let _ = write_all(errors, b"command line refused\n");
+    ExitCode::from(status::COMMAND_LINE_REFUSED)
+}
 
 fn main(rt: HostRuntime) -> ExitCode {
-    let words: Vec<String> = match std::env::args(&rt) {
-        Ok(words) => match words.collect(rt.alloc()) {
-            Ok(words) => words,
-            Err(_) => return ExitCode::from(status::OUT_OF_MEMORY),
-        },
-        Err(_) => return ExitCode::from(status::COMMAND_LINE_REFUSED),
+    let mut errors = Writer::new(rt.stderr());
+    let words = match std::env::args(&rt) {
+        Ok(words) => words,
+        Err(error) => return stopped(&mut errors, error.kind()),
+    };
+    let Ok(words) = words.collect::<Vec<String>>(rt.alloc()) else {
+        return stopped(&mut errors, io::ErrorKind::OutOfMemory);
     };
     let mut input = Reader::new(rt.reader());
     let mut output = Writer::new(rt.stdout());
-    let mut errors = Writer::new(rt.stderr());
     ExitCode::from(run(
         rt.alloc(),
         words.as_slice(),

@@ -62,11 +62,11 @@ first_owner : (m : Member) (ms : List Member) → OneOwner (m ∷ ms) → m.owne
 first_owner m ms h = ⊎_elim
     (λ (e : eqb m.owner 0 ≡ true). eqb-true m.owner 0 e)
     (λ (e : eqb m.owner 0 ≡ false). absurd
-        (let other : m.owner ≢ 0 = λ same. (let yes' : eqb m.owner 0 ≡ true = eq-eqb m.owner 0 same in cc) in
-        let none = h m.owner other in
-        let all = count_cons (is_owned m.owner) m ms in
-        let one = bit_true (is_owned m.owner m) (eq-eqb m.owner m.owner refl) in
-        omega arith))
+    (let other : m.owner ≢ 0 = λ same. (let yes' : eqb m.owner 0 ≡ true = eq-eqb m.owner 0 same in cc) in
+    let none = h m.owner other in
+    let all = count_cons (is_owned m.owner) m ms in
+    let one = bit_true (is_owned m.owner m) (eq-eqb m.owner m.owner refl) in
+    omega arith))
     (either (eqb m.owner 0))
 
 rest_owner : (m : Member) (ms : List Member) → OneOwner (m ∷ ms) → OneOwner ms
@@ -116,10 +116,10 @@ all_come phase m a ms c h = everyone_from phase ms (λ u.
 not_all : (phase m a : ℕ) (ms : List Member) → Counts phase m a ms → a < m → everyone_arrived phase ms ≡ false
 not_all phase m a ms c h = ⊎_elim
     (λ (e : everyone_arrived phase ms ≡ true). absurd
-        (let same = everyone_each phase ms e 0 in
-        let own : members_of 0 ms ≡ m = c.own 0 in
-        let come : arrived_of phase 0 ms ≡ a = c.come 0 in
-        omega arith))
+    (let same = everyone_each phase ms e 0 in
+    let own : members_of 0 ms ≡ m = c.own 0 in
+    let come : arrived_of phase 0 ms ≡ a = c.come 0 in
+    omega arith))
     (λ (e : everyone_arrived phase ms ≡ false). e)
     (either (everyone_arrived phase ms))
 
@@ -208,8 +208,8 @@ dropped_counts phase m a ms c h =
     record {
       own = λ u.
           let fewer : members_of u (drop_one 0 phase ms) + bit (eqb 0 u) ≡ of_one u m =
-              ap (λ (l : List Member). members_of u l + bit (eqb 0 u)) p.dropped ∙ dropped_members 0 phase u p.front p.here p.back p.awaited
-              ∙ ap (members_of u) (sym p.whole) ∙ c.own u in
+          ap (λ (l : List Member). members_of u l + bit (eqb 0 u)) p.dropped ∙ dropped_members 0 phase u p.front p.here p.back p.awaited
+          ∙ ap (members_of u) (sym p.whole) ∙ c.own u in
           picked_less (eqb 0 u) (members_of u (drop_one 0 phase ms)) m fewer (omega arith);
       come = λ u.
           ap (arrived_of phase u) p.dropped ∙ dropped_arrived 0 phase u p.front p.here p.back p.awaited

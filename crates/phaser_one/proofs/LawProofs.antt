@@ -118,7 +118,7 @@ stayed plan call f e =
 pub moves_by_one : PhaseMovesByOne
 moves_by_one plan call f open' q = ⊎_elim
     (λ (e : (called call f).due ≡ true).
-        inl (advanced plan call f (called call f) refl e (called_ended call f q e ∙ open') (called_phase call f) (called_sound call f q e)))
+    inl (advanced plan call f (called call f) refl e (called_ended call f q e ∙ open') (called_phase call f) (called_sound call f q e)))
     (λ (e : (called call f).due ≡ false). inr (stayed plan call f e))
     (either (called call f).due)
 
@@ -140,30 +140,30 @@ marked_absent : (o p : ℕ) (ms : List Member) → count_by (λ m. not (has_arri
 marked_absent o p [] = omega arith
 marked_absent o p (m ∷ ms) = ⊎_elim
     (λ (e : is_awaited o p m ≡ true).
-        let one : mark_one o p (m ∷ ms) ≡ record m { mark = Some p } ∷ ms = rw e refl in
-        let old = count_cons (λ x. not (has_arrived p x)) m ms in
-        let new = count_cons (λ x. not (has_arrived p x)) (record m { mark = Some p }) ms in
-        let few = bit_le (not (has_arrived p m)) in
-        rw e (omega arith))
+    let one : mark_one o p (m ∷ ms) ≡ record m { mark = Some p } ∷ ms = rw e refl in
+    let old = count_cons (λ x. not (has_arrived p x)) m ms in
+    let new = count_cons (λ x. not (has_arrived p x)) (record m { mark = Some p }) ms in
+    let few = bit_le (not (has_arrived p m)) in
+    rw e (omega arith))
     (λ (e : is_awaited o p m ≡ false).
-        let old = count_cons (λ x. not (has_arrived p x)) m ms in
-        let new = count_cons (λ x. not (has_arrived p x)) m (mark_one o p ms) in
-        let rest = marked_absent o p ms in
-        rw e (omega arith))
+    let old = count_cons (λ x. not (has_arrived p x)) m ms in
+    let new = count_cons (λ x. not (has_arrived p x)) m (mark_one o p ms) in
+    let rest = marked_absent o p ms in
+    rw e (omega arith))
     (either (is_awaited o p m))
 
 dropped_absent : (o p : ℕ) (ms : List Member) → count_by (λ m. not (has_arrived p m)) ms ≤ count_by (λ m. not (has_arrived p m)) (drop_one o p ms) + 1
 dropped_absent o p [] = omega arith
 dropped_absent o p (m ∷ ms) = ⊎_elim
     (λ (e : is_awaited o p m ≡ true).
-        let old = count_cons (λ x. not (has_arrived p x)) m ms in
-        let few = bit_le (not (has_arrived p m)) in
-        rw e (omega arith))
+    let old = count_cons (λ x. not (has_arrived p x)) m ms in
+    let few = bit_le (not (has_arrived p m)) in
+    rw e (omega arith))
     (λ (e : is_awaited o p m ≡ false).
-        let old = count_cons (λ x. not (has_arrived p x)) m ms in
-        let new = count_cons (λ x. not (has_arrived p x)) m (drop_one o p ms) in
-        let rest = dropped_absent o p ms in
-        rw e (omega arith))
+    let old = count_cons (λ x. not (has_arrived p x)) m ms in
+    let new = count_cons (λ x. not (has_arrived p x)) m (drop_one o p ms) in
+    let rest = dropped_absent o p ms in
+    rw e (omega arith))
     (either (is_awaited o p m))
 
 not_everyone : (p : ℕ) (ms : List Member) → 1 ≤ count_by (λ m. not (has_arrived p m)) ms → everyone_arrived p ms ≡ false
@@ -207,13 +207,13 @@ pub advance_told : (plan : CountPlan) (call : Call) (f : Flat) (w v : Fields) �
     → cond {A = Option Advance} (nat_eq w.phase v.phase) None (Some (record { phase = w.phase; parties = v.parties })) ≡ advance_of call f
 advance_told plan call f w v h a b = ⊎_elim
     (λ (e : (called call f).due ≡ true).
-        let moved = advances_here plan call f a.due e in
-        let next : v.phase ≡ next_phase_of w.phase = sym b.phase ∙ moved.next ∙ ap next_phase_of a.phase in
-        let other : nat_eq w.phase v.phase ≡ false = ne_eqb w.phase v.phase (λ same. next_differs w.phase (same ∙ next)) in
-        let count : v.parties ≡ registered (called call f) = sym (registered_is (after plan call f) v h b) ∙ moved.everybody_stays in
-        rw (other, e) (ap (λ (p : ℕ). Some (record { phase = p; parties = v.parties })) (sym a.phase) ∙ ap (λ (n : ℕ). Some (record { phase = f.phase; parties = n })) count))
+    let moved = advances_here plan call f a.due e in
+    let next : v.phase ≡ next_phase_of w.phase = sym b.phase ∙ moved.next ∙ ap next_phase_of a.phase in
+    let other : nat_eq w.phase v.phase ≡ false = ne_eqb w.phase v.phase (λ same. next_differs w.phase (same ∙ next)) in
+    let count : v.parties ≡ registered (called call f) = sym (registered_is (after plan call f) v h b) ∙ moved.everybody_stays in
+    rw (other, e) (ap (λ (p : ℕ). Some (record { phase = p; parties = v.parties })) (sym a.phase) ∙ ap (λ (n : ℕ). Some (record { phase = f.phase; parties = n })) count))
     (λ (e : (called call f).due ≡ false).
-        let stays = stayed plan call f e in
-        let same : nat_eq w.phase v.phase ≡ true = eq-eqb w.phase v.phase (sym a.phase ∙ sym stays.phase ∙ b.phase) in
-        rw (same, e) refl)
+    let stays = stayed plan call f e in
+    let same : nat_eq w.phase v.phase ≡ true = eq-eqb w.phase v.phase (sym a.phase ∙ sym stays.phase ∙ b.phase) in
+    rw (same, e) refl)
     (either (called call f).due)

@@ -5,23 +5,19 @@ ghost use Rattle.phaser_one.specs.Laws.{PhaseMovesByOne, EndedStays, NotAllArriv
 /// registered has arrived, and moves at no other time.
 pub fn phase_moves_by_one()
     ensures { PhaseMovesByOne }
-{
-}
+{}
 
 /// Once a phaser has ended nothing changes its phase or its counts.
 pub fn ended_stays()
     ensures { EndedStays }
-{
-}
+{}
 
 /// While two or more parties have not arrived, no call advances.
 pub fn not_all_arrived()
     ensures { NotAllArrived }
-{
-}
+{}
 
 /// Every word with no more unarrived than parties stands for a flat phaser.
 pub fn words_are_seen()
     ensures { WordsAreSeen }
-{
-}
+{}

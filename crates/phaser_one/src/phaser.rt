@@ -13,8 +13,8 @@ ghost use Rattle.phaser_one.specs.Runs.{FollowsAll, advance_of};
 ghost use Rattle.std.specs.Prelude.{◌==◌, if◌then◌else◌};
 
 use crate::call::{Advance, Awaited, Call, OneFault, Reply};
-use advance_rule::StoredCount;
 use crate::step::{Stepped, absent, arrived, forced, joined, left, members, present};
+use advance_rule::StoredCount;
 use phaser_word::{MOST_PARTIES, Word};
 use std::alloc::{AllocError, Global};
 use std::marker::Model;
