@@ -1,0 +1,4 @@
+pub mod Paths
+pub mod Cells
+pub mod Seen
+pub mod ArraysView

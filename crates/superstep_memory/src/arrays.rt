@@ -1,0 +1,196 @@
+//! Arrays of numbers by name, in declared order.
+ghost use Rattle.std.specs.Prelude.{
+  ◌≡◌,
+  ◌↔◌,
+  ◌≤◌,
+  ◌^◌,
+  ◌++◌,
+  ◌∷◌,
+  [],
+  length,
+  map,
+  slice_get,
+  string_bytes,
+  vec_len,
+  if◌then◌else◌,
+  true,
+  IsTrue,
+  IfOk,
+  OnErr,
+  IfSome,
+};
+ghost use Rattle.std.specs.Option.{option_map};
+ghost use Rattle.superstep_memory.specs.Seen.{seen};
+ghost use Rattle.superstep_memory.specs.Cells.{cell_at, place_at, are_distinct, IsNew};
+
+use indexmap::IndexMap;
+use std::alloc::{AllocError, Global};
+use std::marker::Model;
+
+/// A value for a cell: the array by its place in declared order, the cell by its number from 0 on.
+#[derive(Clone, Copy, Debug, PartialEq, Eq)]
+pub struct Put {
+    /// The place of the array, in declared order.
+    pub array: u16,
+    /// The number of the cell.
+    pub index: u32,
+    /// What is to be written there.
+    pub value: i64,
+}
+
+/// The puts of one task, in program order.
+pub type PutLog = Vec<Put>;
+
+/// How many cells an array has at most, so that each has a number that a put can hold.
+pub const MOST_CELLS: usize = 4_294_967_296;
+
+/// Arrays of numbers by name, in declared order. No two have one name, and no array has over 4294967296 cells, so that each cell has
+/// a number that a put can hold.
+#[derive(Drop)]
+pub struct Arrays {
+    by_name: IndexMap<String, Vec<i64>>,
+}
+
+impl Model for Arrays {
+    ghost use Rattle.std.specs.Prelude.{List, ℕ, ℤ};
+
+    ghost Value = { List (List ℕ × List ℤ) };
+
+    ghost use Rattle.superstep_memory.specs.ArraysView.{arrays_of};
+
+    ghost view = { arrays_of };
+
+    ghost use Rattle.superstep_memory.specs.ArraysView.{IsInside};
+
+    ghost invariant = { IsInside };
+}
+
+impl Arrays {
+    /// No arrays.
+    pub fn new(alloc: Global) -> Self
+        ensures { result ≡ [] }
+    {
+        Arrays {
+            by_name: IndexMap::new(alloc),
+        }
+    }
+
+    /// Adds an array behind the others. `false`, and nothing is added, where an array has this name or where
+    /// there are over 4294967296 cells.
+    pub fn add(&mut self, name: String, cells: Vec<i64>) -> Result<bool, AllocError>
+        ensures added { IfOk result (λ added. IsTrue added ↔ IsNew self.old (string_bytes name) cells.items) }
+        ensures after { IfOk result (λ added. self.new
+            ≡ (if added then self.old ++ (string_bytes name, cells.items) ∷ [] else self.old)) }
+        ensures memory { OnErr result (self.new ≡ self.old) }
+    {
+        if cells.len() > MOST_CELLS {
+            return Ok(false);
+        }
+        if self.by_name.contains_key(name.as_str()) {
+            return Ok(false);
+        }
+        match self.by_name.insert(name, cells) {
+            Ok(_) => Ok(true),
+            Err(_) => Err(AllocError),
+        }
+    }
+
+    /// How many arrays there are.
+    pub fn len(&self) -> usize
+        ensures count { result ≡ length self.now }
+        ensures distinct { IsTrue (are_distinct self.now) }
+    {
+        self.by_name.len()
+    }
+
+    /// The name and the cells of the array at this place, in declared order.
+    pub fn get(&self, array: usize) -> Option<(&str, &[i64])>
+        ensures seen { option_map seen result ≡ slice_get self.now array }
+        ensures small { IfSome result (λ a. length a.1.now ≤ 2 ^ 32) }
+    {
+        let (name, cells) = self.by_name.get_index(array)?;
+        Some((name.as_str(), cells.as_slice()))
+    }
+
+    /// The value of a cell, if there is such a cell.
+    pub fn cell(&self, array: u16, index: i64) -> Option<i64>
+        ensures { result ≡ cell_at self.now array index }
+    {
+        let (_, cells) = self.by_name.get_index(usize::from(array))?;
+        let index = usize::try_from(index).ok()?;
+        cells.get(index).copied()
+    }
+
+    /// The number of a cell in its array, if there is such a cell.
+    pub fn place(&self, array: u16, index: i64) -> Option<u32>
+        ensures { result ≡ place_at self.now array index }
+    {
+        let (_, cells) = self.by_name.get_index(usize::from(array))?;
+        let place = u32::try_from(index).ok()?;
+        if (place as usize) < cells.len() {
+            Some(place)
+        } else {
+            None
+        }
+    }
+
+    /// A copy of its own.
+    pub fn copy(&self, alloc: Global) -> Result<Arrays, AllocError>
+        ensures { IfOk result (λ copy. copy ≡ self.now) }
+    {
+        let mut copy = Arrays::new(alloc);
+        for place in 0..self.len() {
+            if let Some((name, cells)) = self.get(place) {
+                let name = String::from_str(alloc, name)?;
+                let cells = Vec::from_slice(alloc, cells)?;
+                copy.add(name, cells)?;
+            }
+        }
+        Ok(copy)
+    }
+
+    /// Whether the other arrays are the same: names, order and cells.
+    pub fn same_as(&self, other: &Arrays) -> bool
+        ensures { IsTrue result ↔ (self.now ≡ other.now) }
+    {
+        if self.len() != other.len() {
+            return false;
+        }
+        for place in 0..self.len() {
+            if !is_same(self.get(place), other.get(place)) {
+                return false;
+            }
+        }
+        true
+    }
+}
+
+// Whether two names are the same.
+fn is_same_name(name: &str, other: &str) -> bool
+    ensures { IsTrue result ↔ (name.now ≡ other.now) }
+{
+    name == other
+}
+
+// Whether two lists of cells are the same.
+fn are_same_cells(cells: &[i64], other: &[i64]) -> bool
+    ensures { IsTrue result ↔ (cells.now ≡ other.now) }
+{
+    cells == other
+}
+
+// Whether two arrays have the same name and cells.
+fn is_same(array: Option<(&str, &[i64])>, other: Option<(&str, &[i64])>) -> bool
+    ensures { IsTrue result ↔ (option_map seen array.entry ≡ option_map seen other.entry) }
+{
+    match (array, other) {
+        (Some((name, cells)), Some((other_name, other_cells))) => {
+            if !is_same_name(name, other_name) {
+                return false;
+            }
+            are_same_cells(cells, other_cells)
+        }
+        (None, None) => true,
+        _ => false,
+    }
+}

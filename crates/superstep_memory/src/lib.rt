@@ -1,0 +1,7 @@
+//! Shared arrays, the paths of tasks, and the puts that land in the arrays at the end of a superstep.
+#![tactic(auto)]
+
+pub mod arrays;
+pub mod path;
+#[cfg(test)]
+mod tests;
