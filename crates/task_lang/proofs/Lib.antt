@@ -1,0 +1,12 @@
+pub mod Alls
+pub mod Begins
+pub mod Building
+pub mod Depths
+pub mod AllSegments
+pub mod Joined
+pub mod Mapped
+pub mod Places
+pub mod Reading
+pub mod Runs
+pub mod Segments
+pub mod Unread

@@ -1,0 +1,17 @@
+pub mod BodyValue
+pub mod BodyView
+pub mod FaultCode
+pub mod JobValue
+pub mod JobView
+pub mod Laws
+pub mod Limits
+pub mod Meaning
+pub mod Mentions
+pub mod Names
+pub mod Open
+pub mod Reading
+pub mod Rules
+pub mod SegmentValue
+pub mod TaskValue
+pub mod Tree
+pub mod Views

@@ -1,0 +1,64 @@
+-- What the limits of a body count, and which numbers lines may have (own).
+use Rattle.std.specs.Prelude.{ℕ, ◌+◌, ◌-◌, max, Bool, true, false, ◌&&◌, nat_lt, List, [], ◌∷◌, count_by}
+use Rattle.task_lang.specs.declared.code.Operand.{Operand}
+use Rattle.task_lang.specs.declared.code.Operand.TheVariants as operand
+use Rattle.task_lang.specs.declared.code.Expr.{Expr}
+use Rattle.task_lang.specs.declared.code.Expr.TheVariants as expr
+use Rattle.task_lang.specs.declared.code.Action.{Action}
+use Rattle.task_lang.specs.declared.code.Action.TheVariants as action
+use Rattle.task_lang.specs.declared.code.Line.{Line}
+use Rattle.task_lang.specs.declared.code.Line.TheVariants as line
+
+-- each line but `else` and the ends is a statement
+abbrev pub is_statement : Line → Bool
+is_statement (line.Do a) = true
+is_statement (line.If e n) = true
+is_statement (line.Else n) = false
+is_statement line.EndIf = false
+is_statement (line.While e n) = true
+is_statement (line.EndWhile e n) = false
+
+abbrev pub statements : List Line → ℕ
+statements code = count_by is_statement code
+
+-- how many `if` and `while` lines are open behind a line, where so many were before it
+abbrev pub opened : ℕ → Line → ℕ
+opened k (line.Do a) = k
+opened k (line.If e n) = k + 1
+opened k (line.Else n) = k
+opened k line.EndIf = k - 1
+opened k (line.While e n) = k + 1
+opened k (line.EndWhile e n) = k - 1
+
+-- how many are open at once at most, where so many are in front
+abbrev pub deepest : ℕ → List Line → ℕ
+deepest k [] = k
+deepest k (l ∷ ls) = max k (deepest (opened k l) ls)
+
+-- the arrays that these name are among so many
+module _ (arrays : ℕ) where
+  abbrev pub is_operand : Operand → Bool
+  is_operand (operand.Plain i) = true
+  is_operand (operand.Cell c) = nat_lt c.array arrays
+
+  abbrev pub is_expr : Expr → Bool
+  is_expr (expr.One a) = is_operand a
+  is_expr (expr.Two a o b) = is_operand a && is_operand b
+
+-- the arrays and bodies that these name are among so many
+module _ (arrays bodies : ℕ) where
+  abbrev pub is_action : Action → Bool
+  is_action (action.Let i e) = is_expr arrays e
+  is_action (action.Put c e) = nat_lt c.array arrays && is_expr arrays e
+  is_action (action.Print e) = is_expr arrays e
+  is_action (action.Spawn b e) = nat_lt b bodies && is_expr arrays e
+  is_action action.Sync = true
+  is_action action.Stop = true
+
+  abbrev pub is_line : Line → Bool
+  is_line (line.Do a) = is_action a
+  is_line (line.If e n) = is_expr arrays e
+  is_line (line.Else n) = true
+  is_line line.EndIf = true
+  is_line (line.While e n) = is_expr arrays e
+  is_line (line.EndWhile e n) = is_expr arrays e

@@ -1,0 +1,53 @@
+-- The locals that lines mention, from left to right and line by line (own).
+use Rattle.std.specs.Prelude.{ℕ, ◌+◌, nat_lt, ◌==◌, if◌then◌else◌, List, [], ◌∷◌, ◌++◌, Option, Some, None}
+use Rattle.task_lang.specs.declared.code.Index.{Index}
+use Rattle.task_lang.specs.declared.code.Index.TheVariants as index
+use Rattle.task_lang.specs.declared.code.Operand.{Operand}
+use Rattle.task_lang.specs.declared.code.Operand.TheVariants as operand
+use Rattle.task_lang.specs.declared.code.Expr.{Expr}
+use Rattle.task_lang.specs.declared.code.Expr.TheVariants as expr
+use Rattle.task_lang.specs.declared.code.Action.{Action}
+use Rattle.task_lang.specs.declared.code.Action.TheVariants as action
+use Rattle.task_lang.specs.declared.code.Line.{Line}
+use Rattle.task_lang.specs.declared.code.Line.TheVariants as line
+
+abbrev pub in_index : Index → List ℕ
+in_index (index.Number z) = []
+in_index (index.Local i) = i ∷ []
+in_index index.Arg = []
+in_index index.Step = []
+
+abbrev pub in_operand : Operand → List ℕ
+in_operand (operand.Plain i) = in_index i
+in_operand (operand.Cell c) = in_index c.index
+
+abbrev pub in_expr : Expr → List ℕ
+in_expr (expr.One a) = in_operand a
+in_expr (expr.Two a o b) = in_operand a ++ in_operand b
+
+abbrev pub in_action : Action → List ℕ
+in_action (action.Let i e) = (i ∷ []) ++ in_expr e
+in_action (action.Put c e) = in_index c.index ++ in_expr e
+in_action (action.Print e) = in_expr e
+in_action (action.Spawn b e) = in_expr e
+in_action action.Sync = []
+in_action action.Stop = []
+
+-- the end of a loop mentions what its first line does, as the text doesn't say it again
+abbrev pub in_line : Line → List ℕ
+in_line (line.Do a) = in_action a
+in_line (line.If e n) = in_expr e
+in_line (line.Else n) = []
+in_line line.EndIf = []
+in_line (line.While e n) = in_expr e
+in_line (line.EndWhile e n) = []
+
+abbrev pub mentions : List Line → List ℕ
+mentions [] = []
+mentions (l ∷ ls) = in_line l ++ mentions ls
+
+-- How many locals have been mentioned after these, where so many were before: each mention is of one of those, or
+-- of the next in the list of locals.
+abbrev pub mentioned : ℕ → List ℕ → Option ℕ
+mentioned k [] = Some k
+mentioned k (i ∷ is) = if i == k then mentioned (k + 1) is else if nat_lt i k then mentioned k is else None

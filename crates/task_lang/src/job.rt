@@ -1,0 +1,188 @@
+//! Jobs.
+ghost use Rattle.std.specs.Prelude.{◌≡◌, ◌↔◌, IsSome, IfSome, IsTrue, map, nat_lt, length};
+ghost use Rattle.std.specs.List.{list_all};
+ghost use Rattle.task_lang.specs.JobValue.{JobValue, job_value};
+ghost use Rattle.task_lang.specs.Names as names;
+ghost use Rattle.task_lang.specs.Limits as limits;
+ghost use Rattle.task_lang.specs.Rules.{IsJob, is_array, are_by_mention};
+
+use crate::body::Body;
+use crate::limits::are_lines;
+use crate::names::is_free;
+use crate::same::{same_bodies, same_starts};
+use std::marker::Model;
+use superstep_memory::arrays::Arrays;
+
+/// A task that a job begins with: its body by its place in the job, and its argument.
+#[derive(Clone, Copy, Debug, PartialEq, Eq)]
+pub struct Start {
+    /// The place of the body in declared order.
+    pub body: u16,
+    /// The argument of the task.
+    pub arg: i64,
+}
+
+/// A job: its arrays, its bodies and its start lines, each in declared order.
+#[derive(Drop)]
+pub struct Job {
+    arrays: Arrays,
+    bodies: Vec<Body>,
+    starts: Vec<Start>,
+}
+
+impl Model for Job {
+    ghost use Rattle.task_lang.specs.JobValue.{JobValue};
+
+    ghost Value = { JobValue };
+
+    ghost use Rattle.task_lang.specs.JobView.{job_of, IsJobInside};
+
+    ghost view = { job_of };
+
+    ghost invariant = { IsJobInside };
+}
+
+// Whether a job may have an array of this name with these cells.
+fn is_array(name: &[u8], cells: &[i64]) -> bool
+    ensures { result ≡ is_array (name.now, cells.now) }
+{
+    is_free(name) && !cells.is_empty() && cells.len() <= 4096
+}
+
+// Whether a job may have each of these arrays.
+fn are_arrays(arrays: &Arrays) -> bool
+    ensures { result ≡ list_all is_array arrays.now }
+{
+    for place in 0..arrays.len() {
+        if let Some((name, cells)) = arrays.get(place) {
+            if !is_array(name.as_bytes(), cells) {
+                return false;
+            }
+        }
+    }
+    true
+}
+
+// Whether a body of these has the name.
+fn is_among(bodies: &[Body], name: &[u8]) -> bool
+    ensures { result ≡ names.is_among (map (λ b. b.name) bodies.now) name.now }
+{
+    let mut rest = bodies;
+    while let Some((first, after)) = rest.split_first() {
+        if first.name().as_bytes() == name {
+            return true;
+        }
+        rest = after;
+    }
+    false
+}
+
+// Whether each of these bodies has a name of its own.
+fn are_named_apart(bodies: &[Body]) -> bool
+    ensures { result ≡ names.are_names (map (λ b. b.name) bodies.now) }
+{
+    let mut rest = bodies;
+    while let Some((first, after)) = rest.split_first() {
+        let name = first.name().as_bytes();
+        if !is_free(name) || is_among(after, name) {
+            return false;
+        }
+        rest = after;
+    }
+    true
+}
+
+// Whether the lines of each body name only the first so many arrays and bodies.
+fn are_within(bodies: &[Body], arrays: usize, count: usize) -> bool
+    ensures { result ≡ list_all (λ b. list_all (limits.is_line arrays count) b.code) bodies.now }
+{
+    bodies
+        .iter()
+        .all(|body| are_lines(body.code(), arrays, count))
+}
+
+// Whether the locals of each body stand by first mention.
+fn are_by_mention(bodies: &[Body]) -> bool
+    ensures { IsTrue result ↔ are_by_mention bodies.now }
+{
+    let mut rest = bodies;
+    while let Some((first, after)) = rest.split_first() {
+        if !first.is_by_mention() {
+            return false;
+        }
+        rest = after;
+    }
+    true
+}
+
+// Whether each start line names one of so many bodies.
+fn are_starts(starts: &[Start], bodies: usize) -> bool
+    ensures { result ≡ list_all (λ s. nat_lt s.body bodies) starts.now }
+{
+    starts.iter().all(|start| usize::from(start.body) < bodies)
+}
+
+impl Job {
+    /// A job of these arrays, bodies and start lines. `None` where a name isn't one or a body has the name of
+    /// another, where an array has no cell or over 4096, where a line names an array or a body that isn't there,
+    /// where the locals of a body don't stand by first mention, where a start line names no body, and above
+    /// 16 arrays, 64 bodies and 4096 start lines (all own).
+    pub fn new(arrays: Arrays, bodies: Vec<Body>, starts: Vec<Start>) -> Option<Job>
+        ensures refused { IsSome result ↔ IsJob (job_value arrays bodies starts) }
+        ensures made { IfSome result (λ job. job ≡ job_value arrays bodies starts) }
+    {
+        let count = bodies.len();
+        if arrays.len() > 16 || count > 64 || starts.len() > 4096 {
+            return None;
+        }
+        if !are_arrays(&arrays) || !are_named_apart(&bodies) {
+            return None;
+        }
+        if !are_within(&bodies, arrays.len(), count) || !are_by_mention(&bodies) {
+            return None;
+        }
+        if !are_starts(&starts, count) {
+            return None;
+        }
+        Some(Job {
+            arrays,
+            bodies,
+            starts,
+        })
+    }
+
+    /// The arrays as the job begins, in declared order.
+    pub fn arrays(&self) -> &Arrays
+        ensures { result.now ≡ self.now.arrays }
+    {
+        &self.arrays
+    }
+
+    /// The bodies, in declared order.
+    pub fn bodies(&self) -> &[Body]
+        ensures bodies { result.now ≡ self.now.bodies }
+        ensures kept { IsJob self.now }
+    {
+        self.bodies.as_slice()
+    }
+
+    /// The start lines, in declared order.
+    pub fn starts(&self) -> &[Start]
+        ensures { result.now ≡ self.now.starts }
+    {
+        self.starts.as_slice()
+    }
+
+    /// Whether the other job is the same: arrays, bodies and start lines, each in declared order.
+    pub fn same_as(&self, other: &Job) -> bool
+        ensures { IsTrue result ↔ (self.now ≡ other.now) }
+    {
+        if !self.arrays().same_as(other.arrays()) {
+            return false;
+        }
+        if !same_bodies(self.bodies(), other.bodies()) {
+            return false;
+        }
+        same_starts(self.starts(), other.starts())
+    }
+}

@@ -1,0 +1,20 @@
+//! The task language: bodies of flat code, jobs, and what one segment of a task does.
+#![tactic(auto)]
+
+mod act;
+pub mod body;
+pub mod builder;
+pub mod code;
+pub mod fault;
+pub mod job;
+pub mod laws;
+mod limits;
+mod mentions;
+pub mod names;
+mod same;
+mod scene;
+pub mod segment;
+pub mod task;
+#[cfg(test)]
+mod tests;
+mod value;

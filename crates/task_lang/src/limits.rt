@@ -1,0 +1,105 @@
+//! What the limits of a body count, and which numbers lines may have.
+ghost use Rattle.std.specs.Prelude.{◌≡◌, ◌↔◌, ◌≤◌, IsTrue, count_by};
+ghost use Rattle.std.specs.List.{list_all};
+ghost use Rattle.task_lang.specs.Limits as spec;
+
+use crate::code::{Action, Expr, Line, Operand};
+
+// Whether a line is a statement.
+fn is_statement(line: &Line) -> bool
+    ensures { result ≡ spec.is_statement line.now }
+{
+    match line {
+        Line::Do(_) | Line::If(_, _) | Line::While(_, _) => true,
+        Line::Else(_) | Line::EndIf | Line::EndWhile(_, _) => false,
+    }
+}
+
+/// How many statements these lines are.
+pub(crate) fn statements(code: &[Line]) -> usize
+    ensures { result ≡ spec.statements code.now }
+{
+    let mut count = 0;
+    let mut rest = code;
+    while let Some((line, after)) = rest.split_first() {
+        if is_statement(line) {
+            count += 1;
+        }
+        rest = after;
+    }
+    count
+}
+
+// How many lines are open behind this one, where so many were before it.
+fn opened(before: usize, line: &Line) -> usize
+    requires { before ≤ 16 }
+    ensures { result ≡ spec.opened before line.now }
+{
+    match line {
+        Line::If(_, _) | Line::While(_, _) => before + 1,
+        Line::EndIf | Line::EndWhile(_, _) => before.saturating_sub(1),
+        Line::Do(_) | Line::Else(_) => before,
+    }
+}
+
+/// Whether at most 16 lines are open at once.
+pub(crate) fn are_shallow(code: &[Line]) -> bool
+    ensures { IsTrue result ↔ (spec.deepest 0 code.now ≤ 16) }
+{
+    let mut open_lines = 0;
+    let mut rest = code;
+    while let Some((line, after)) = rest.split_first() {
+        open_lines = opened(open_lines, line);
+        if open_lines > 16 {
+            return false;
+        }
+        rest = after;
+    }
+    true
+}
+
+fn is_operand(operand: &Operand, arrays: usize) -> bool
+    ensures { result ≡ spec.is_operand arrays operand.now }
+{
+    match operand {
+        Operand::Plain(_) => true,
+        Operand::Cell(cell) => usize::from(cell.array) < arrays,
+    }
+}
+
+fn is_expr(expr: &Expr, arrays: usize) -> bool
+    ensures { result ≡ spec.is_expr arrays expr.now }
+{
+    match expr {
+        Expr::One(a) => is_operand(a, arrays),
+        Expr::Two(a, _, b) => is_operand(a, arrays) && is_operand(b, arrays),
+    }
+}
+
+fn is_action(action: &Action, arrays: usize, bodies: usize) -> bool
+    ensures { result ≡ spec.is_action arrays bodies action.now }
+{
+    match action {
+        Action::Let(_, expr) | Action::Print(expr) => is_expr(expr, arrays),
+        Action::Put(cell, expr) => usize::from(cell.array) < arrays && is_expr(expr, arrays),
+        Action::Spawn(body, expr) => usize::from(*body) < bodies && is_expr(expr, arrays),
+        Action::Sync | Action::Stop => true,
+    }
+}
+
+fn is_line(line: &Line, arrays: usize, bodies: usize) -> bool
+    ensures { result ≡ spec.is_line arrays bodies line.now }
+{
+    match line {
+        Line::Do(action) => is_action(action, arrays, bodies),
+        Line::If(expr, _) | Line::While(expr, _) | Line::EndWhile(expr, _) => is_expr(expr, arrays),
+        Line::Else(_) | Line::EndIf => true,
+    }
+}
+
+/// Whether lines name only the first so many arrays and bodies.
+pub(crate) fn are_lines(code: &[Line], arrays: usize, bodies: usize) -> bool
+    ensures { result ≡ list_all (spec.is_line arrays bodies) code.now }
+{
+    code.iter().all(|line| is_line(line, arrays, bodies))
+}
