@@ -1,9 +1,9 @@
 //! The subcommand `trace`.
-ghost use Rattle.std.specs.Prelude.{◌≡◌, ◌≢◌, ◌⊎◌, ◌++◌, IfSome, OnOk, codes, decimal};
+ghost use Rattle.std.specs.Prelude.{◌≡◌, ◌≢◌, ◌⊎◌, ◌++◌, ◌+◌, IfSome, OnOk, codes, decimal};
 ghost use Rattle.std.specs.Io.KnownBytes.{Appends, Keeps};
 ghost use Rattle.trace_text.specs.Outcome.{WritesAnswers, RefusesText};
-ghost use Rattle.trace_text.specs.Device.{AppendsBeginning};
-ghost use Rattle.bsp_cli.specs.Texts.{refusal_line};
+ghost use Rattle.trace_text.specs.Device.{AppendsBeginning, CountsFailure};
+ghost use Rattle.bsp_cli.specs.Texts.{refusal_line, Tells, TellsRefusal};
 
 use crate::status::{COMMAND_LINE_REFUSED, DEVICE_FAILED, OUT_OF_MEMORY, TEXT_REFUSED};
 use itoa::{Buffer, Integer};
@@ -18,7 +18,8 @@ fn write_field<E: CountedWrite, I: Integer>(
     name: &[u8],
     number: I,
 ) -> Result<(), DeviceFailed>
-    ensures { OnOk result (Appends (E.contents errors.old) (E.contents errors.new) (name.now ++ I.text number)) }
+    ensures ok { OnOk result (Appends (E.contents errors.old) (E.contents errors.new) (name.now ++ I.text number)) }
+    ensures failures { CountsFailure (E.failures errors.old) (E.failures errors.new) result }
 {
     write_all(errors, name)?;
     write_all(errors, Buffer::new().format(number).as_bytes())
@@ -26,7 +27,8 @@ fn write_field<E: CountedWrite, I: Integer>(
 
 // Writes the line of a refused text.
 fn write_refusal<E: CountedWrite>(errors: &mut E, refusal: Refusal) -> Result<(), DeviceFailed>
-    ensures { OnOk result (Appends (E.contents errors.old) (E.contents errors.new) (refusal_line refusal)) }
+    ensures ok { OnOk result (Appends (E.contents errors.old) (E.contents errors.new) (refusal_line refusal)) }
+    ensures failures { CountsFailure (E.failures errors.old) (E.failures errors.new) result }
 {
     write_field(errors, b"refused line ", refusal.line)?;
     write_field(errors, b" code ", refusal.code.number())?;
@@ -40,9 +42,21 @@ pub(crate) fn trace<R: CountedRead, W: CountedWrite, E: CountedWrite>(
     writer: &mut W,
     errors: &mut E,
 ) -> u8
+    ensures status { (result ≡ 0) ⊎ (result ≡ TEXT_REFUSED) ⊎ (result ≡ COMMAND_LINE_REFUSED) ⊎ (result ≡ OUT_OF_MEMORY) ⊎ (result ≡ DEVICE_FAILED) }
     ensures ran { result ≡ 0 → IfSome (R.remaining reader.old) (λ bytes. WritesAnswers bytes (W.contents writer.old) (W.contents writer.new)) }
     ensures refused { result ≡ TEXT_REFUSED → RefusesText (R.remaining reader.old) × Keeps (W.contents writer.old) (W.contents writer.new) }
     ensures other { result ≢ COMMAND_LINE_REFUSED }
+    ensures silent { result ≡ 0 → errors.new ≡ errors.old }
+    ensures tells_refusal { result ≡ TEXT_REFUSED → IfSome (R.remaining reader.old) (λ bytes.
+        TellsRefusal bytes (E.contents errors.old) (E.contents errors.new) (E.failures errors.old) (E.failures errors.new)) }
+    ensures tells_memory { result ≡ OUT_OF_MEMORY
+        → Tells (E.contents errors.old) (E.contents errors.new) (E.failures errors.old) (E.failures errors.new) (codes "out of memory\n") }
+    ensures tells_failure { result ≡ DEVICE_FAILED
+        → Tells (E.contents errors.old) (E.contents errors.new) (E.failures errors.old) (E.failures errors.new) (codes "read or write failed\n") }
+    ensures failed { result ≡ DEVICE_FAILED
+        → R.failures reader.new + W.failures writer.new ≡ R.failures reader.old + W.failures writer.old + 1 }
+    ensures worked { result ≢ DEVICE_FAILED
+        → (R.failures reader.new ≡ R.failures reader.old) × (W.failures writer.new ≡ W.failures writer.old) }
 {
     match run_trace(alloc, reader, writer) {
         Ok(()) => 0,

@@ -1,17 +1,16 @@
 -- Counts of members that all have one owner.
-use Rattle.std.proofs.Common.{◌≡◌, ◌≢◌, ℕ, zero, suc, ◌+◌, ◌-◌, ◌*◌, ◌≤◌, ◌<◌, ◌⊎◌, inl, inr, ⊎_elim, Bool, true, false, cond, eqb, nat_eq, List, [], ◌∷◌, ◌++◌, length, refl, sym, ◌∙◌, ap, arith, Some, None}
+use Rattle.std.proofs.Common.{◌≡◌, ◌≢◌, ℕ, ◌+◌, ◌-◌, ◌*◌, ◌≤◌, ◌<◌, ⊎_elim, Bool, true, false, cond, eqb, nat_eq, List, [], ◌∷◌, ◌++◌, length, refl, sym, ◌∙◌, ap, arith, Some, None}
 use Rattle.std.specs.Prelude.{count_by, replicate, not, ◌&&◌}
-use Rattle.std.proofs.lemmas.Grind.{common_steps}
 use Rattle.std.proofs.lemmas.Bool.{eq-eqb, ne_eqb, eqb-true}
 use Rattle.phaser_word.specs.Phase.{next_phase_of}
 use Rattle.phaser_word.specs.Fields.{Fields}
 use Rattle.flat_phaser.specs.declared.Member.{Member}
-use Rattle.flat_phaser.specs.Flat.{Flat, has_arrived, is_owned, members_of, arrived_of, everyone_arrived, registered, unarrived}
+use Rattle.flat_phaser.specs.Flat.{Flat, has_arrived, is_owned, members_of, arrived_of, everyone_arrived}
 use Rattle.flat_phaser.specs.Step.{newcomers, mark_one, drop_one}
 use Rattle.flat_phaser.specs.Alike.{IsAlike}
 use Rattle.flat_phaser.proofs.Counts.{bit, count_cons, count_append, count_replicate, times_bit, bit_true, bit_and_true, bit_and_false, newcomers_members, newcomers_arrived}
 use Rattle.flat_phaser.proofs.Everyone.{either, everyone_from, everyone_each, none_arrived}
-use Rattle.flat_phaser.proofs.Places.{FirstPlace, first_place, marked_members, marked_arrived, dropped_members, dropped_arrived}
+use Rattle.flat_phaser.proofs.Places.{first_place, marked_members, marked_arrived, dropped_members, dropped_arrived}
 use Rattle.flat_phaser.proofs.Alikeness.{next_differs}
 use Rattle.phaser_one.specs.Seen.{members_in, flat_of}
 

@@ -1,5 +1,5 @@
 -- What the numbers say of a flat phaser, they say of it after a call.
-use Rattle.std.proofs.Common.{◌≡◌, ◌≢◌, ℕ, ◌+◌, ◌-◌, ◌≤◌, ◌<◌, Bool, true, false, cond, nat_eq, nat_lt, List, length, refl, sym, ◌∙◌, ap, subst, arith, if◌then◌else◌, ℤ, pos, w32, to_z, of_z}
+use Rattle.std.proofs.Common.{◌≡◌, ℕ, ◌+◌, ◌-◌, ◌≤◌, ◌<◌, Bool, true, false, cond, nat_eq, nat_lt, List, length, refl, sym, ◌∙◌, ap, subst, arith, ℤ, pos, w32, to_z, of_z}
 use Rattle.std.proofs.lemmas.Int.{ints}
 use Rattle.std.proofs.lemmas.Grind.{common_steps}
 use Rattle.phaser_word.specs.Phase.{next_phase_of, shown_of}
@@ -10,9 +10,9 @@ use Rattle.flat_phaser.specs.declared.Member.{Member}
 use Rattle.flat_phaser.specs.declared.FlatStep.{FlatStep}
 use Rattle.flat_phaser.specs.declared.FlatStep.TheVariants as flat
 use Rattle.flat_phaser.specs.Flat.{Flat, registered, unarrived, everyone_arrived, shown}
-use Rattle.flat_phaser.specs.Step.{flat_step, taken, with_members, mark_one, drop_one, newcomers}
+use Rattle.flat_phaser.specs.Step.{flat_step, taken, with_members, mark_one, drop_one}
 use Rattle.flat_phaser.specs.Alike.{IsAlike}
-use Rattle.phaser_one.specs.Calls.{Call, Reply, Number, Refused, Full, NobodyUnarrived, Register, Bulk, Arrive, Leave, Force, answer, room_for, someone_in, called, taken_by, step_of, is_refused, settled, after}
+use Rattle.phaser_one.specs.Calls.{Call, Reply, Number, Refused, Full, NobodyUnarrived, Bulk, Arrive, Leave, Force, answer, room_for, someone_in, called, taken_by, step_of, is_refused, settled, after}
 use Rattle.phaser_one.specs.Seen.{flat_of, Follows, IsSettled}
 use Rattle.phaser_one.proofs.Counting.{Counts, alike_counts, counts_alike, length_is, absent_is, everyone_is, joined_counts, marked_counts, dropped_counts, next_counts}
 

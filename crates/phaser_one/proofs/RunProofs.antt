@@ -4,9 +4,9 @@ use Rattle.phaser_word.specs.Fields.{Fields}
 use Rattle.advance_rule.specs.declared.CountPlan.{CountPlan}
 use Rattle.flat_phaser.specs.Flat.{Flat}
 use Rattle.flat_phaser.specs.Alike.{IsAlike}
-use Rattle.phaser_one.specs.Calls.{Call, Reply, answer, after}
+use Rattle.phaser_one.specs.Calls.{Call, Reply, after}
 use Rattle.phaser_one.specs.Seen.{flat_of, Follows}
-use Rattle.phaser_one.specs.Runs.{answers, after_all, FollowsAll}
+use Rattle.phaser_one.specs.Runs.{answers, after_all}
 
 -- the flat phaser as it is now, and what is still to come of the run from f
 pub record RunsOn (plan : CountPlan) (calls rest : List Call) (replies : List Reply) (f : Flat) (w : Fields) : Type 0 where

@@ -1,12 +1,12 @@
 -- What a single phaser promises, in the words of those who use it.
-use Rattle.std.specs.Prelude.{◌≡◌, ◌⊎◌, ℕ, ◌+◌, ◌≤◌, Bool, true, false}
+use Rattle.std.specs.Prelude.{◌≡◌, ◌⊎◌, ◌≤◌, true, false}
 use Rattle.phaser_word.specs.Fields.{Fields}
 use Rattle.phaser_word.specs.Phase.{next_phase_of}
 use Rattle.advance_rule.specs.declared.CountPlan.{CountPlan}
 use Rattle.advance_rule.specs.Plan.{count_ends}
 use Rattle.flat_phaser.specs.Flat.{Flat, registered, unarrived, everyone_arrived}
 use Rattle.flat_phaser.specs.Alike.{IsAlike}
-use Rattle.phaser_one.specs.Calls.{Call, Register, Bulk, Arrive, Leave, Await, Force, called, after}
+use Rattle.phaser_one.specs.Calls.{Call, called, after}
 use Rattle.phaser_one.specs.Seen.{flat_of}
 
 -- a call advances: everyone who was then registered has arrived, and the phase is the next one

@@ -1,6 +1,5 @@
 -- A run of commands, part of which has been written.
-use Rattle.std.proofs.Common.{◌≡◌, ℕ, List, [], ◌∷◌, ◌++◌, Option, Some, None, Result, Ok, Err, ap, sym, ◌∙◌, refl, append_assoc, append-nil}
-use Rattle.std.specs.Io.KnownBytes.{Appends}
+use Rattle.std.proofs.Common.{◌≡◌, ℕ, List, [], ◌∷◌, ◌++◌, Option, Result, Ok, Err, ap, sym, ◌∙◌, refl, append_assoc, append-nil}
 use Rattle.phaser_word.specs.Fields.{Fields}
 use Rattle.advance_rule.specs.declared.CountPlan.{CountPlan}
 use Rattle.flat_phaser.specs.Flat.{Flat}

@@ -1,9 +1,7 @@
 -- What a run wrote is what its input asks for.
-use Rattle.std.proofs.Common.{◌≡◌, ℕ, ◌<◌, List, length, Option, None, Some, Result, Ok, Err, IfSome, true, nat_lt, sym, ◌∙◌, ap, refl, rules, arith, inr, ℤ, FitsSigned, w64, to_z, of_z, subst}
-use Rattle.std.proofs.lemmas.Int.{ints}
+use Rattle.std.proofs.Common.{◌≡◌, ℕ, ◌<◌, List, length, Option, None, Some, Result, Ok, Err, IfSome, true, nat_lt, sym, ◌∙◌, ap, refl, rules, arith, inr}
 use Rattle.std.proofs.lemmas.Grind.{common_steps}
 use Rattle.std.specs.Io.KnownBytes.{Keeps}
-use Rattle.trace_text.specs.declared.words.Command.{Command}
 use Rattle.text_lines.specs.declared.refusal.Code.TheVariants.{TooLong}
 use Rattle.trace_text.specs.declared.fault.TraceFault.{TraceFault}
 use Rattle.trace_text.specs.declared.fault.TraceFault.TheVariants.{Text, Read, Write, Memory}

@@ -1,8 +1,7 @@
 -- What a trace asks for, in the words of its lines.
-use Rattle.std.specs.Prelude.{◌≡◌, ◌≤◌, ◌↔◌, ℕ, not, List, [], ◌∷◌, length, map, filter, codes, Result, Ok, ℤ, FitsSigned, Err}
+use Rattle.std.specs.Prelude.{◌≡◌, ◌≤◌, ◌↔◌, ℕ, not, List, [], ◌∷◌, length, map, filter, codes, Ok, FitsSigned}
 use Rattle.std.specs.Fmt.{signed_decimal}
 use Rattle.std.specs.Int.{w32, w64}
-use Rattle.text_lines.specs.declared.refusal.Code.{Code}
 use Rattle.text_lines.specs.Text.{words_of, is_skipped}
 use Rattle.phaser_one.specs.declared.call.Call.TheVariants as call
 use Rattle.trace_text.specs.declared.words.Command.{Command}

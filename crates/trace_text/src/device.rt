@@ -49,8 +49,10 @@ pub struct Reader<R: Read> {
 }
 
 impl<R: Read> Reader<R> {
+    /// This reader, which has not failed.
     pub fn new(inner: R) -> Self
-        ensures { result.inner ≡ inner }
+        ensures inner { result.inner ≡ inner }
+        ensures failures { result.failures.count ≡ 0 }
     {
         Reader {
             inner,
@@ -83,8 +85,10 @@ pub struct Writer<W: Write> {
 }
 
 impl<W: Write> Writer<W> {
+    /// This writer, which has not failed.
     pub fn new(inner: W) -> Self
-        ensures { result.inner ≡ inner }
+        ensures inner { result.inner ≡ inner }
+        ensures failures { result.failures.count ≡ 0 }
     {
         Writer {
             inner,

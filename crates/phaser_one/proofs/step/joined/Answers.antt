@@ -1,4 +1,4 @@
-use Rattle.std.proofs.Common.{◌≡◌, ◌≤◌, ◌<◌, ◌+◌, false, sym, ap, ◌∙◌, refl, arith, subst, ℤ, pos, to_z, of_z, w32}
+use Rattle.std.proofs.Common.{◌≡◌, ◌≤◌, ◌<◌, ◌+◌, false, sym, ap, ◌∙◌, refl, arith, pos, to_z, of_z, w32}
 use Rattle.phaser_word.specs.Fields.{Fields}
 use Rattle.phaser_word.specs.Phase.{shown_of}
 use Rattle.phaser_one.specs.Calls.{Bulk, Refused, Full}

@@ -1,4 +1,4 @@
-use Rattle.std.proofs.Common.{◌≡◌, FitsSigned, w64, to_z, of_z, ap, subst, ℤ, arith, rules}
+use Rattle.std.proofs.Common.{◌≡◌, FitsSigned, w64, to_z, of_z, arith, rules}
 use Rattle.std.proofs.lemmas.Int.{ints}
 use Rattle.phaser_one.proofs.phaser.PhaserOne.call.Goals as goal
 

@@ -1,7 +1,6 @@
-use Rattle.std.proofs.Common.{◌≡◌, ◌∙◌, arith, drop, [], length}
+use Rattle.std.proofs.Common.{◌≡◌, ◌∙◌, arith, drop, []}
 use Rattle.std.proofs.lemmas.List.{drop_more}
 use Rattle.std.proofs.lemmas.Grind.{common_steps}
-use Rattle.phaser_one.specs.declared.call.Call.{Call}
 use Rattle.phaser_one.proofs.RunProofs.{runs_more, runs_whole}
 use Rattle.phaser_one.proofs.phaser.PhaserOne.call_all.Goals as goal
 

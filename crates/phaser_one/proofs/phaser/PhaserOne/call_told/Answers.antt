@@ -1,6 +1,5 @@
 use Rattle.std.proofs.Common.{◌≡◌, ◌∙◌, ap, sym, subst}
 use Rattle.phaser_word.specs.Fields.{Fields}
-use Rattle.flat_phaser.specs.Flat.{Flat}
 use Rattle.flat_phaser.specs.Alike.{IsAlike}
 use Rattle.phaser_one.specs.Seen.{flat_of}
 use Rattle.phaser_one.specs.Calls.{after}
