@@ -1,5 +1,6 @@
 -- The locals that lines mention, from left to right and line by line (own).
-use Rattle.std.specs.Prelude.{ℕ, ◌+◌, nat_lt, ◌==◌, if◌then◌else◌, List, [], ◌∷◌, ◌++◌, Option, Some, None}
+use Rattle.std.specs.Prelude.{ℕ, zero, suc, ◌+◌, nat_lt, not, ◌==◌, if◌then◌else◌, List, [], ◌∷◌, ◌++◌, Option, Some, None}
+use Rattle.std.specs.List.{filter}
 use Rattle.task_lang.specs.declared.code.Index.{Index}
 use Rattle.task_lang.specs.declared.code.Index.TheVariants as index
 use Rattle.task_lang.specs.declared.code.Operand.{Operand}
@@ -51,3 +52,13 @@ mentions (l ∷ ls) = in_line l ++ mentions ls
 abbrev pub mentioned : ℕ → List ℕ → Option ℕ
 mentioned k [] = Some k
 mentioned k (i ∷ is) = if i == k then mentioned (k + 1) is else if nat_lt i k then mentioned k is else None
+
+-- each number once, where it stands first
+abbrev pub firsts : List ℕ → List ℕ
+firsts [] = []
+firsts (i ∷ is) = i ∷ filter (λ j. not (j == i)) (firsts is)
+
+-- so many numbers in a row
+abbrev pub places : ℕ → ℕ → List ℕ
+places k zero = []
+places k (suc n) = k ∷ places (k + 1) n

@@ -8,6 +8,7 @@ ghost use Rattle.task_lang.specs.Laws.{
   NumbersItsSpawns,
   StaysTheSameTask,
   GoesOnWhereItWasCut,
+  ByFirstMention,
 };
 
 /// Each flat code with matched jumps is the code of exactly one list of statement trees, and each such list
@@ -50,4 +51,10 @@ pub fn stays_the_same_task()
 /// statements do without that sync, up to the next one, where these don't fault.
 pub fn goes_on_where_it_was_cut()
     ensures { GoesOnWhereItWasCut }
+{}
+
+/// The locals of a body stand by first mention where the lines mention each for the first time in the order of
+/// the locals, and all of them.
+pub fn stand_by_first_mention()
+    ensures { ByFirstMention }
 {}

@@ -11,10 +11,10 @@ pub mod laws;
 mod limits;
 mod mentions;
 pub mod names;
+pub mod plain;
 mod same;
 mod scene;
 pub mod segment;
 pub mod task;
-#[cfg(test)]
-mod tests;
+pub mod trees;
 mod value;
