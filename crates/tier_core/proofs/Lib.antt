@@ -22,3 +22,7 @@ pub mod Start
 pub mod Ready
 pub mod Path
 pub mod Joined
+pub mod Turns
+pub mod Places
+pub mod Runs
+pub mod Opening

@@ -10,3 +10,6 @@ pub mod Start
 pub mod Due
 pub mod Path
 pub mod Seats
+pub mod Turn
+pub mod Machine
+pub mod Run

@@ -7,9 +7,15 @@
 //!   over all members of all tokens.
 #![tactic(auto)]
 
+pub mod call;
 pub mod kind;
 pub mod laws;
 #[cfg(test)]
 mod rows;
 pub mod step;
+pub mod tree;
+#[cfg(test)]
+mod tree_rows;
+pub mod turn;
+pub mod turn_laws;
 pub mod view;

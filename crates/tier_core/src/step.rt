@@ -80,7 +80,7 @@ pub fn may_refresh(tier: u16, word: Word, view: &View) -> bool
 }
 
 /// What a token owes after a party has passed the tier, by the word before.
-fn errand_after(above: u16, tier: u16, trip: Trip, word: Word) -> Errand
+pub(crate) fn errand_after(above: u16, tier: u16, trip: Trip, word: Word) -> Errand
     ensures { result ≡ owed above tier trip word }
 {
     if tier == 0 {
@@ -104,7 +104,7 @@ fn errand_after(above: u16, tier: u16, trip: Trip, word: Word) -> Errand
 }
 
 /// The word of a tier that a party has passed.
-fn word_passed(tier: u16, trip: Trip, word: Word) -> Word
+pub(crate) fn word_passed(tier: u16, trip: Trip, word: Word) -> Word
     ensures { result ≡ passed tier trip word }
 {
     let unarrived = word.unarrived.saturating_sub(1);
@@ -292,7 +292,7 @@ fn go_on(root: Word, view: View) -> View
 }
 
 /// What a look at the root leaves of a view.
-fn look(root: Word, view: View) -> View
+pub(crate) fn look(root: Word, view: View) -> View
     ensures { result ≡ looked root view }
 {
     let going_back = matches!(
@@ -318,7 +318,7 @@ fn look(root: Word, view: View) -> View
 }
 
 /// What a refusal leaves of a view; at the root the token looks there as well.
-fn refuse(tier: u16, word: Word, view: View) -> View
+pub(crate) fn refuse(tier: u16, word: Word, view: View) -> View
     ensures { result ≡ refused tier word view }
 {
     let view = if tier == 0 { look(word, view) } else { view };

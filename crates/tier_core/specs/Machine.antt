@@ -1,0 +1,115 @@
+-- The state of the machine: the words of the tiers, and for each token its view and how far its call has come (own).
+use Rattle.std.specs.Prelude.{◌≡◌, ℕ, suc, ◌≤◌, ◌<◌, Bool, true, false, List, [], ◌∷◌, ◌++◌, length, slice_index_or, slice_set}
+use Rattle.advance_rule.specs.declared.EndPlan.{EndPlan}
+use Rattle.tier_core.specs.Word.{Fields}
+use Rattle.tier_core.specs.View.{View, Rest, Opening, Climbing, Advancing, Seeking, Joined, GoingBack, Trip, new_view}
+use Rattle.tier_core.specs.Tally.{word_at, Tallies, IsShape}
+use Rattle.tier_core.specs.Step.{Kind, Needs, opening}
+use Rattle.tier_core.specs.Laws.{words_after, stepped_view}
+use Rattle.tier_core.specs.Start.{empty_words}
+use Rattle.tier_core.specs.Turn.{Call, Progress, Idle, Begun, ToSeek, Settling, ToGiveBack, Passing, Owing, Due, Refreshing, Turn, turn, claimed_by}
+use Rattle.tier_core.specs.declared.call.Call.TheVariants as call
+
+pub record State : Type 0 where
+  pub parents : List ℕ
+  pub words : List Fields
+  -- the tokens by their numbers: what they know, and how far their calls have come
+  pub views : List View
+  pub calls : List Progress
+  pub plan : EndPlan
+
+abbrev pub view_at : List View → ℕ → View
+view_at views token = slice_index_or views token (new_view 0)
+
+abbrev pub call_at : List Progress → ℕ → Progress
+call_at calls token = slice_index_or calls token Idle
+
+-- so many members are to join an existing tier, by a token without members
+pub record IsWanted (parents : List ℕ) (tier size : ℕ) (v : View) : Type 0 where
+  pub seat : tier < length parents
+  pub some : 0 < size
+  pub few : size ≤ 65535
+  pub none : v.size ≡ 0
+
+-- what a call that has begun keeps of its token's view
+abbrev pub BegunFits : List ℕ → Call → View → Type 0
+BegunFits parents (call.Join tier size) v = IsWanted parents tier size v
+BegunFits parents call.Arrive v = 0 < v.size
+BegunFits parents call.Leave v = 0 < v.size
+BegunFits parents call.Poll v = 0 < v.size
+BegunFits parents call.Force v = Unit {0}
+
+-- what a call keeps of its token's view, as far as it has come
+abbrev pub CallFits : List ℕ → Progress → View → Type 0
+CallFits parents Idle v = v.errand ≡ Rest
+CallFits parents (Begun c) v = (v.errand ≡ Rest) × BegunFits parents c v
+CallFits parents (ToSeek tier size) v = (v.errand ≡ opening tier (claimed_by v.errand) Seeking size) × IsWanted parents tier size v
+CallFits parents Settling v = (tier : ℕ) × (claimed : ℕ) × (size : ℕ) × (v.errand ≡ Opening tier (suc claimed) Joined size)
+CallFits parents (ToGiveBack answer) v = (tier : ℕ) × (claimed : ℕ) × (size : ℕ) × (v.errand ≡ Opening tier (suc claimed) GoingBack size)
+CallFits parents (Passing trip) v = (v.errand ≡ Rest) × (v.arrived < v.size)
+CallFits parents (Owing own) v = (t : ℕ) × (trip : Trip) × (v.errand ≡ Climbing t trip)
+CallFits parents (Due own) v = v.errand ≡ Advancing
+CallFits parents (Refreshing moved) v = (v.errand ≡ Rest) × (v.arrived < v.size) × (0 < v.tier)
+
+-- a step that a token may take, and after which its call fits its view
+pub record IsNext (parents : List ℕ) (words : List Fields) (v : View) (kind : Kind) (t : ℕ) (next : Progress) : Type 0 where
+  pub within : t < length words
+  pub needs : Needs parents kind t (word_at words t) v
+  pub keeps : CallFits parents next (stepped_view parents words kind t v)
+
+-- the calls that go on by a step of their own, and the one that goes on by an advance
+abbrev pub is_active : Progress → Bool
+is_active Idle = false
+is_active (Begun c) = true
+is_active (ToSeek tier size) = true
+is_active Settling = true
+is_active (ToGiveBack answer) = true
+is_active (Passing trip) = true
+is_active (Owing own) = true
+is_active (Due own) = false
+is_active (Refreshing moved) = true
+
+abbrev pub is_due : Progress → Bool
+is_due Idle = false
+is_due (Begun c) = false
+is_due (ToSeek tier size) = false
+is_due Settling = false
+is_due (ToGiveBack answer) = false
+is_due (Passing trip) = false
+is_due (Owing own) = false
+is_due (Due own) = true
+is_due (Refreshing moved) = false
+
+-- Each turn of a call is a step that its token may take.
+abbrev pub TurnsAreSteps : Type 0
+TurnsAreSteps =
+    (parents : List ℕ) (words : List Fields) (front : List View) (v : View) (back : List View) (progress : Progress)
+    → IsShape parents → Tallies parents words (front ++ v ∷ back) → is_active progress ≡ true → CallFits parents progress v
+    → IsNext parents words v (turn parents words progress v).kind (turn parents words progress v).tier (turn parents words progress v).next
+
+-- what is true of every state: the tally holds, and each call fits its token's view
+pub record IsCore (s : State) : Type 0 where
+  pub shape : IsShape s.parents
+  pub few : length s.parents ≤ 65535
+  pub tally : Tallies s.parents s.words s.views
+  pub long : length s.calls ≡ length s.views
+  pub calls : (token : ℕ) → token < length s.views → CallFits s.parents (call_at s.calls token) (view_at s.views token)
+
+-- the next turn of a token, and the state that a turn leaves
+abbrev pub turn_at : State → ℕ → Turn
+turn_at s token = turn s.parents s.words (call_at s.calls token) (view_at s.views token)
+
+abbrev pub played : State → ℕ → Turn → State
+played s token r = record s {
+  words = words_after s.words r.kind r.tier (view_at s.views token);
+  views = slice_set s.views token (stepped_view s.parents s.words r.kind r.tier (view_at s.views token));
+  calls = slice_set s.calls token r.next;
+}
+
+-- how a tree starts: its tiers are empty, and it has no tokens
+abbrev pub opened : List ℕ → ℕ → EndPlan → State
+opened parents phase plan = record { parents = parents; words = empty_words parents phase; views = []; calls = []; plan = plan }
+
+-- a token that comes in behind the others has no members, and the root's phase
+abbrev pub with_token : State → State
+with_token s = record s { views = s.views ++ new_view (word_at s.words 0).phase ∷ []; calls = s.calls ++ Idle ∷ [] }

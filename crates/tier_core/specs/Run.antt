@@ -1,0 +1,128 @@
+-- Whole runs of the machine, and the flat run that each of them is (own).
+pub use Rattle.tier_core.specs.declared.call.Step.{Step}
+pub use Rattle.tier_core.specs.declared.call.Step.TheVariants.{Begin, Go, Finish}
+pub use Rattle.tier_core.specs.declared.call.Answer.{Answer}
+use Rattle.tier_core.specs.declared.call.Answer.TheVariants as answer
+use Rattle.tier_core.specs.declared.call.Call.TheVariants as call
+use Rattle.std.specs.Prelude.{ℕ, ◌<◌, ◌≤◌, Bool, true, false, ◌==◌, nat_lt, ◌&&◌, if◌then◌else◌, Option, None, List, [], ◌∷◌, length, slice_set}
+use Rattle.advance_rule.specs.Plan.{end_ends}
+use Rattle.flat_phaser.specs.Flat.{Flat}
+use Rattle.flat_phaser.specs.declared.FlatStep.{FlatStep}
+use Rattle.tier_core.specs.View.{View}
+use Rattle.tier_core.specs.Tally.{word_at}
+use Rattle.tier_core.specs.Image.{image, label, labelled, IsAllowedLabel, LooksAlike}
+use Rattle.tier_core.specs.Turn.{Call, Progress, Idle, Begun, ToSeek, Settling, ToGiveBack, Passing, Owing, Due, Refreshing, Turn, finish_turn}
+use Rattle.tier_core.specs.Machine.{State, IsCore, view_at, call_at, is_active, is_due, turn_at, played}
+
+abbrev pub is_idle : Progress → Bool
+is_idle Idle = true
+is_idle (Begun c) = false
+is_idle (ToSeek tier size) = false
+is_idle Settling = false
+is_idle (ToGiveBack answer) = false
+is_idle (Passing trip) = false
+is_idle (Owing own) = false
+is_idle (Due own) = false
+is_idle (Refreshing moved) = false
+
+-- a join is of an existing tier and by a token without members; who arrives, leaves or polls has members
+abbrev pub may_call : ℕ → Call → View → Bool
+may_call tiers (call.Join tier size) v = nat_lt tier tiers && (v.size == 0)
+may_call tiers call.Arrive v = nat_lt 0 v.size
+may_call tiers call.Leave v = nat_lt 0 v.size
+may_call tiers call.Poll v = nat_lt 0 v.size
+may_call tiers call.Force v = true
+
+-- a token that exists and is in no call begins one; it goes on where it needn't advance, and finishes where it must
+abbrev pub may_begin : State → ℕ → Call → Bool
+may_begin s token c =
+    nat_lt token (length s.views) && (is_idle (call_at s.calls token) && may_call (length s.parents) c (view_at s.views token))
+
+abbrev pub may_go : State → ℕ → Bool
+may_go s token = nat_lt token (length s.views) && is_active (call_at s.calls token)
+
+abbrev pub may_finish : State → ℕ → Bool
+may_finish s token = nat_lt token (length s.views) && is_due (call_at s.calls token)
+
+abbrev pub begun : State → ℕ → Call → State
+begun s token c = record s { calls = slice_set s.calls token (Begun c) }
+
+-- the turn that an advance is, which ends the tree or doesn't
+abbrev pub finish_at : State → ℕ → Bool → Turn
+finish_at s token ends = finish_turn ends (word_at s.words 0) (view_at s.views token)
+
+-- what the plan says of the root as it is
+abbrev pub plan_ends : State → Bool
+plan_ends s = end_ends s.plan (word_at s.words 0).phase ((word_at s.words 0).parties == 0)
+
+-- what a step answers, and what it leaves
+abbrev pub answer_to : State → Step → Answer
+answer_to s (Begin token c) = if may_begin s token c then answer.Begun else answer.NotNow
+answer_to s (Go token) = if may_go s token then answer.Played (turn_at s token).answer else answer.NotNow
+answer_to s (Finish token) = if may_finish s token then answer.Played (finish_at s token (plan_ends s)).answer else answer.NotNow
+
+abbrev pub after : State → Step → State
+after s (Begin token c) = if may_begin s token c then begun s token c else s
+after s (Go token) = if may_go s token then played s token (turn_at s token) else s
+after s (Finish token) = if may_finish s token then played s token (finish_at s token (plan_ends s)) else s
+
+-- the answers of a run, and the state that it leaves
+abbrev pub answers : List Step → State → List Answer
+answers [] s = []
+answers (x ∷ xs) s = answer_to s x ∷ answers xs (after s x)
+
+abbrev pub run : List Step → State → State
+run [] s = s
+run (x ∷ xs) s = run xs (after s x)
+
+-- the flat step that a step of a run is, by the token's number; none where it does nothing
+abbrev pub step_label : State → Step → Option FlatStep
+step_label s (Begin token c) = None
+step_label s (Go token) = if may_go s token then label token (turn_at s token).kind else None
+step_label s (Finish token) = if may_finish s token then label token (finish_at s token (plan_ends s)).kind else None
+
+abbrev pub labels : List Step → State → List (Option FlatStep)
+labels [] s = []
+labels (x ∷ xs) s = step_label s x ∷ labels xs (after s x)
+
+-- a flat run by labels, and that the flat phaser may take each of them
+abbrev pub flat_run : List (Option FlatStep) → Flat → Flat
+flat_run [] f = f
+flat_run (x ∷ xs) f = flat_run xs (labelled x f)
+
+abbrev pub IsFlatRun : List (Option FlatStep) → Flat → Type 0
+IsFlatRun [] f = Unit {0}
+IsFlatRun (x ∷ xs) f = IsAllowedLabel x f × IsFlatRun xs (labelled x f)
+
+-- the caller's condition: a join is of 1 to 65535 members
+abbrev pub IsCall : Call → Type 0
+IsCall (call.Join tier size) = (0 < size) × (size ≤ 65535)
+IsCall call.Arrive = Unit {0}
+IsCall call.Leave = Unit {0}
+IsCall call.Poll = Unit {0}
+IsCall call.Force = Unit {0}
+
+abbrev pub IsStepOfCalls : Step → Type 0
+IsStepOfCalls (Begin token c) = IsCall c
+IsStepOfCalls (Go token) = Unit {0}
+IsStepOfCalls (Finish token) = Unit {0}
+
+-- of each step of a run
+abbrev pub AreSteps : List Step → Type 0
+AreSteps [] = Unit {0}
+AreSteps (x ∷ xs) = IsStepOfCalls x × AreSteps xs
+
+-- what a run is beside a flat phaser that looks like the tree before it
+pub record IsFlat (s : State) (steps : List Step) (f : Flat) : Type 0 where
+  -- the labels of its steps are a flat run, which leaves what looks like the tree after it
+  pub allowed : IsFlatRun (labels steps s) f
+  pub alike : LooksAlike (flat_run (labels steps s) f) (image (run steps s).words (run steps s).views)
+  -- and the tally holds in the state that is left
+  pub core : IsCore (run steps s)
+
+-- The tree is flat: whatever the steps of whatever tokens, on whatever tree, they are the run of one flat phaser over all members of all
+-- tokens, each counted at the step that admits it.
+abbrev pub TheTreeIsFlat : Type 0
+TheTreeIsFlat =
+    (s : State) (steps : List Step) (f : Flat)
+    → IsCore s → AreSteps steps → LooksAlike f (image s.words s.views) → IsFlat s steps f

@@ -1,0 +1,203 @@
+-- Calls as steps: the next step of each call, and what it answers (own; the calls are those of Java SE 21, `Phaser`, polling is own).
+pub use Rattle.tier_core.specs.declared.call.Call.{Call}
+use Rattle.tier_core.specs.declared.call.Call.TheVariants as call
+pub use Rattle.tier_core.specs.declared.call.Cause.{Cause}
+use Rattle.tier_core.specs.declared.call.Cause.TheVariants as cause
+pub use Rattle.tier_core.specs.declared.call.Played.{Played}
+pub use Rattle.tier_core.specs.declared.call.Played.TheVariants.{GoesOn, Done, Passed, Waiting, Held, Full, AlreadyArrived, Ended, MustAdvance}
+pub use Rattle.tier_core.specs.declared.call.Progress.{Progress}
+pub use Rattle.tier_core.specs.declared.call.Progress.TheVariants.{Idle, Begun, Seeking as ToSeek, Settling, GivingBack as ToGiveBack, Passing, Owing, Due, Refreshing}
+pub use Rattle.tier_core.specs.declared.call.Turn.{Turn}
+use Rattle.std.specs.Prelude.{ℕ, zero, suc, ◌+◌, Bool, true, ◌==◌, nat_lt, not, ◌&&◌, ◌||◌, if◌then◌else◌, List}
+use Rattle.phaser_word.specs.Phase.{shown_of}
+use Rattle.tier_core.specs.Word.{Fields, is_being_opened}
+use Rattle.tier_core.specs.View.{View, Errand, Rest, Opening, Climbing, Advancing, Trip, Arrival, Departure, parent_of, ancestor}
+use Rattle.tier_core.specs.Tally.{word_at}
+use Rattle.tier_core.specs.Step.{Kind, Look, Glance, Refuse, Join, Arrive, Leave, Advance, Force, Claim, Settle, SettleBack, Climb, Refresh, passed, owed, added, looked, refused}
+
+-- the phase that an ended root shows
+abbrev pub end_shown : Fields → Played
+end_shown root = Ended (shown_of root.phase true)
+
+-- a word that is behind a token which counts there
+abbrev pub lags : Fields → View → Bool
+lags w v = nat_lt 0 w.parties && ((w.unarrived == 0) && not (w.phase == v.phase))
+
+-- no room for so many parties; all that refuses them; an empty tier below the root
+abbrev pub has_no_room : ℕ → Fields → Bool
+has_no_room more w = nat_lt 65535 (w.parties + more)
+
+abbrev pub is_refusing : ℕ → Fields → Bool
+is_refusing more w = has_no_room more w || ((w.unarrived == 0) || is_being_opened w)
+
+abbrev pub is_claimable : ℕ → Fields → Bool
+is_claimable t w = nat_lt 0 t && ((w.parties == 0) && (w.unarrived == 1))
+
+-- why a join is held off, in the phase of the call's last look at the root
+abbrev pub cause_of : ℕ → ℕ → Fields → Cause
+cause_of t phase w =
+    if w.unarrived == 0 then (if t == 0 then cause.Advancing else (if w.phase == phase then cause.AllArrived else cause.Lagging))
+    else cause.BeingOpened
+
+abbrev pub refusal : ℕ → ℕ → ℕ → Fields → Played
+refusal t more phase w = if has_no_room more w then Full w.parties else Held phase (cause_of t phase w)
+
+-- A call that has claimed tiers doesn't end at its join or its refusal: it goes on with these tiers.
+abbrev pub unless_claimed : ℕ → Played → Played
+unless_claimed zero answer = answer
+unless_claimed (suc claimed) answer = GoesOn
+
+abbrev pub settling : ℕ → Progress
+settling zero = Idle
+settling (suc claimed) = Settling
+
+abbrev pub giving_back : ℕ → Played → Progress
+giving_back zero answer = Idle
+giving_back (suc claimed) answer = ToGiveBack answer
+
+-- A join with so many claimed tiers, at the next tier of its path: it ends with the tree, is refused, claims an empty tier, or is taken.
+abbrev pub seek_turn : ℕ → ℕ → ℕ → ℕ → Fields → View → Turn
+seek_turn tier claimed size t w v =
+    if w.ended then record { kind = Look; tier = 0; next = giving_back claimed (end_shown w); answer = unless_claimed claimed (end_shown w) }
+    else (if is_refusing (added claimed size) w then record {
+      kind = Refuse tier claimed size;
+      tier = t;
+      next = giving_back claimed (refusal t (added claimed size) (refused t w v).phase w);
+      answer = unless_claimed claimed (refusal t (added claimed size) (refused t w v).phase w);
+    }
+    else (if is_claimable t w then record { kind = Claim tier claimed size; tier = t; next = ToSeek tier size; answer = GoesOn }
+    else record { kind = Join tier claimed size; tier = t; next = settling claimed; answer = unless_claimed claimed (Done w.phase) }))
+
+-- how many tiers an errand has claimed
+abbrev pub claimed_by : Errand → ℕ
+claimed_by Rest = 0
+claimed_by Advancing = 0
+claimed_by (Climbing t trip) = 0
+claimed_by (Opening tier claimed stage size) = claimed
+
+-- A look at the root that a call ends with; it stands where no step is due as well.
+abbrev pub last_look : Played → Turn
+last_look answer = record { kind = Look; tier = 0; next = Idle; answer = answer }
+
+-- after a join the claimed tiers are settled from the highest down, and the last one answers with the phase of the join
+abbrev pub settle_turn : List ℕ → View → Errand → Turn
+settle_turn parents v (Opening tier (suc claimed) stage size) = record {
+  kind = Settle tier claimed size;
+  tier = ancestor parents tier claimed;
+  next = settling claimed;
+  answer = unless_claimed claimed (Done v.phase);
+}
+settle_turn parents v (Opening tier zero stage size) = last_look GoesOn
+settle_turn parents v Rest = last_look GoesOn
+settle_turn parents v Advancing = last_look GoesOn
+settle_turn parents v (Climbing t trip) = last_look GoesOn
+
+-- after a refusal they are given back likewise, and the last one answers the refusal
+abbrev pub give_back_turn : List ℕ → Played → Errand → Turn
+give_back_turn parents answer (Opening tier (suc claimed) stage size) = record {
+  kind = SettleBack tier claimed size;
+  tier = ancestor parents tier claimed;
+  next = giving_back claimed answer;
+  answer = unless_claimed claimed answer;
+}
+give_back_turn parents answer (Opening tier zero stage size) = last_look GoesOn
+give_back_turn parents answer Rest = last_look GoesOn
+give_back_turn parents answer Advancing = last_look GoesOn
+give_back_turn parents answer (Climbing t trip) = last_look GoesOn
+
+-- the own step of a call that passes its tier
+abbrev pub own_kind : Trip → Kind
+own_kind Arrival = Arrive
+own_kind Departure = Leave
+
+-- how a call goes on from what is owed, and what it answers: the phase, and the root's parties as the step leaves them
+abbrev pub goes_on : Trip → Errand → Progress
+goes_on trip Rest = Idle
+goes_on trip Advancing = Due trip
+goes_on trip (Climbing t up) = Owing trip
+goes_on trip (Opening tier claimed stage size) = Idle
+
+abbrev pub told : ℕ → ℕ → Errand → Played
+told phase parties Rest = Done phase
+told phase parties Advancing = MustAdvance phase parties
+told phase parties (Climbing t up) = GoesOn
+told phase parties (Opening tier claimed stage size) = GoesOn
+
+-- A party passes a tier, in a call that arrives or leaves: at an ended root the token looks instead, and a tier that lags is refreshed first.
+abbrev pub pass_turn : List ℕ → Trip → ℕ → Trip → Kind → Progress → Played → Fields → View → Turn
+pass_turn parents own t trip kind here over w v =
+    if w.ended then last_look over
+    else (if lags w v then record { kind = Refresh; tier = t; next = here; answer = GoesOn }
+    else record {
+      kind = kind;
+      tier = t;
+      next = goes_on own (owed (parent_of parents t) t trip w);
+      answer = told v.phase (passed t trip w).parties (owed (parent_of parents t) t trip w);
+    })
+
+-- the climb of such a call, which has counted in the phase of its own step
+abbrev pub climb_turn : List ℕ → List Fields → Trip → View → Errand → Turn
+climb_turn parents words own v (Climbing t trip) =
+    pass_turn parents own t trip (Climb trip) (Owing own) (Done v.phase) (word_at words t) v
+climb_turn parents words own v Rest = last_look GoesOn
+climb_turn parents words own v Advancing = last_look GoesOn
+climb_turn parents words own v (Opening tier claimed stage size) = last_look GoesOn
+
+-- a poll's answer after its look at the root: whether that look moved the token into the next phase
+abbrev pub polled : Bool → ℕ → Played
+polled moved phase = if moved then Passed phase else Done phase
+
+-- the first step of each call, where `root` is the root's word and `own` that of the token's tier
+abbrev pub first_turn : Call → Fields → Fields → View → Turn
+first_turn (call.Join tier size) root own v = record {
+  kind = (if root.ended then Look else (if (tier == 0) && is_refusing size root then Refuse 0 0 size else Look));
+  tier = 0;
+  next = (if root.ended then Idle else ToSeek tier size);
+  answer = (if root.ended then end_shown root else GoesOn);
+}
+first_turn call.Arrive root own v = record {
+  kind = Look;
+  tier = 0;
+  next = (if root.ended then Idle else (if (looked root v).arrived == v.size then Idle else Passing Arrival));
+  answer = (if root.ended then end_shown root else (if (looked root v).arrived == v.size then AlreadyArrived (looked root v).phase else GoesOn));
+}
+first_turn call.Leave root own v = record {
+  kind = Look;
+  tier = 0;
+  next = (if root.ended then Idle else (if (looked root v).arrived == v.size then Idle else Passing Departure));
+  answer = (if root.ended then end_shown root else (if (looked root v).arrived == v.size then AlreadyArrived (looked root v).phase else GoesOn));
+}
+first_turn call.Poll root own v = record {
+  kind = Look;
+  tier = 0;
+  next = (if root.ended then Idle else (if (looked root v).arrived == v.size then Idle
+      else (if lags own (looked root v) then Refreshing (not ((looked root v).phase == v.phase)) else Idle)));
+  answer = (if root.ended then end_shown root else (if (looked root v).arrived == v.size then Waiting
+      else (if lags own (looked root v) then GoesOn else polled (not ((looked root v).phase == v.phase)) (looked root v).phase)));
+}
+first_turn call.Force root own v = record { kind = Force; tier = 0; next = Idle; answer = end_shown root }
+
+-- the next step of a call, wherever it stands
+abbrev pub turn : List ℕ → List Fields → Progress → View → Turn
+turn parents words Idle v = last_look GoesOn
+turn parents words (Begun c) v = first_turn c (word_at words 0) (word_at words v.tier) v
+turn parents words (ToSeek tier size) v =
+    let claimed : ℕ = claimed_by v.errand in
+    let t : ℕ = ancestor parents tier claimed in
+    seek_turn tier claimed size t (word_at words t) v
+turn parents words Settling v = settle_turn parents v v.errand
+turn parents words (ToGiveBack answer) v = give_back_turn parents answer v.errand
+turn parents words (Passing trip) v =
+    pass_turn parents trip v.tier trip (own_kind trip) (Passing trip) (end_shown (word_at words v.tier)) (word_at words v.tier) v
+turn parents words (Owing own) v = climb_turn parents words own v v.errand
+turn parents words (Due trip) v = last_look GoesOn
+turn parents words (Refreshing moved) v = record {
+  kind = (if lags (word_at words v.tier) v then Refresh else Glance);
+  tier = v.tier;
+  next = Idle;
+  answer = polled moved v.phase;
+}
+
+-- the advance, or a look where the root has ended
+abbrev pub finish_turn : Bool → Fields → View → Turn
+finish_turn ends root v = record { kind = (if root.ended then Look else Advance ends); tier = 0; next = Idle; answer = Done v.phase }

@@ -1,0 +1,527 @@
+//! The next step of a call in code: what a token looks at, and the kind of step that it picks.
+
+ghost use Rattle.std.specs.Prelude.{◌≡◌, ℕ, List};
+ghost use Rattle.tier_core.specs.declared.call.Call.TheVariants as call;
+ghost use Rattle.tier_core.specs.Turn as spec;
+ghost use Rattle.tier_core.specs.Word.{Fields};
+ghost use Rattle.tier_core.specs.View.{View};
+ghost use Rattle.tier_core.specs.View.{parent_of, ancestor, Arrival, Departure};
+ghost use Rattle.tier_core.specs.Tally.{word_at, IsShape};
+ghost use Rattle.tier_core.specs.Turn.{
+  lags,
+  has_no_room,
+  is_refusing,
+  is_claimable,
+  cause_of,
+  refusal,
+  unless_claimed,
+  settling,
+  giving_back,
+  seek_turn,
+  settle_turn,
+  give_back_turn,
+  goes_on,
+  told,
+  pass_turn,
+  climb_turn,
+  polled,
+  first_turn,
+  turn,
+  finish_turn,
+  last_look,
+  end_shown,
+};
+
+use crate::call::{Call, Cause, Played, Progress, Turn};
+use crate::kind::Kind;
+use crate::step::{errand_after, look, parties_added, refuse, word_passed};
+use crate::view::{Errand, Trip, View};
+use phaser_word::{MOST_PARTIES, Word};
+use tier_shape::Shape;
+
+/// The tier above another; the root's is itself.
+pub fn above(shape: &Shape, tier: u16) -> u16
+    requires { IsShape shape.now }
+    ensures { result ≡ parent_of shape.now tier }
+{
+    shape.parent(tier).unwrap_or(0)
+}
+
+/// The tier so many steps above another.
+fn far_above(shape: &Shape, tier: u16, steps: u16) -> u16
+    requires { IsShape shape.now }
+    ensures { result ≡ ancestor shape.now tier steps }
+{
+    let mut at = tier;
+    for _ in 0..steps {
+        at = above(shape, at);
+    }
+    at
+}
+
+/// The word of a tier.
+pub fn word_of(words: &[Word], tier: u16) -> Word
+    ensures { result ≡ word_at words.now tier }
+{
+    match words.get(usize::from(tier)) {
+        Some(word) => *word,
+        None => Word {
+            phase: 0,
+            parties: 0,
+            unarrived: 1,
+            ended: false,
+        },
+    }
+}
+
+/// Whether the word is behind a token that counts there.
+fn is_behind(word: Word, view: &View) -> bool
+    ensures { result ≡ lags word view.now }
+{
+    word.parties > 0 && word.unarrived == 0 && word.phase != view.phase
+}
+
+/// The phase that an ended root shows.
+fn shown_end(root: Word) -> Played
+    ensures { result ≡ end_shown root }
+{
+    let root = Word {
+        ended: true,
+        ..root
+    };
+    Played::Ended(root.shown())
+}
+
+/// Whether there is no room for so many parties.
+fn lacks_room(parties: u32, word: Word) -> bool
+    ensures { result ≡ has_no_room parties word }
+{
+    parties > MOST_PARTIES - word.parties
+}
+
+/// Whether so many parties are refused.
+fn turns_away(parties: u32, word: Word) -> bool
+    ensures { result ≡ is_refusing parties word }
+{
+    lacks_room(parties, word) || word.unarrived == 0 || word.parties == 0 && word.unarrived == 2
+}
+
+/// Why a join is held off, in the phase of the call's last look at the root.
+fn cause(tier: u16, phase: u32, word: Word) -> Cause
+    ensures { result ≡ cause_of tier phase word }
+{
+    if word.unarrived != 0 {
+        Cause::BeingOpened
+    } else if tier == 0 {
+        Cause::Advancing
+    } else if word.phase == phase {
+        Cause::AllArrived
+    } else {
+        Cause::Lagging
+    }
+}
+
+/// What a join that is refused answers.
+fn refused_answer(tier: u16, parties: u32, phase: u32, word: Word) -> Played
+    ensures { result ≡ refusal tier parties phase word }
+{
+    if lacks_room(parties, word) {
+        Played::Full(word.parties)
+    } else {
+        Played::Held(phase, cause(tier, phase, word))
+    }
+}
+
+/// What a step answers after which claimed tiers are left.
+fn if_last(claimed: u16, answer: Played) -> Played
+    ensures { result ≡ unless_claimed claimed answer }
+{
+    if claimed == 0 { answer } else { Played::GoesOn }
+}
+
+/// A look at the root that a call ends with.
+fn look_last(answer: Played) -> Turn
+    ensures { result ≡ last_look answer }
+{
+    Turn {
+        kind: Kind::Look,
+        tier: 0,
+        next: Progress::Idle,
+        answer,
+    }
+}
+
+/// How a join that was taken goes on.
+fn then_settle(claimed: u16) -> Progress
+    ensures { result ≡ settling claimed }
+{
+    if claimed == 0 {
+        Progress::Idle
+    } else {
+        Progress::Settling
+    }
+}
+
+/// How a join that was refused goes on.
+fn then_give_back(claimed: u16, answer: Played) -> Progress
+    ensures { result ≡ giving_back claimed answer }
+{
+    if claimed == 0 {
+        Progress::Idle
+    } else {
+        Progress::GivingBack(answer)
+    }
+}
+
+/// A join with so many claimed tiers, at the next tier of its path.
+fn seek(tier: u16, claimed: u16, size: u32, at: u16, word: Word, view: View) -> Turn
+    ensures { result ≡ seek_turn tier claimed size at word view }
+{
+    if word.ended {
+        let answer = shown_end(word);
+        return Turn {
+            kind: Kind::Look,
+            tier: 0,
+            next: then_give_back(claimed, answer),
+            answer: if_last(claimed, answer),
+        };
+    }
+    let parties = parties_added(claimed, size);
+    if turns_away(parties, word) {
+        let answer = refused_answer(at, parties, refuse(at, word, view).phase, word);
+        return Turn {
+            kind: Kind::Refuse {
+                tier,
+                claimed,
+                size,
+            },
+            tier: at,
+            next: then_give_back(claimed, answer),
+            answer: if_last(claimed, answer),
+        };
+    }
+    if at > 0 && word.parties == 0 && word.unarrived == 1 {
+        return Turn {
+            kind: Kind::Claim {
+                tier,
+                claimed,
+                size,
+            },
+            tier: at,
+            next: Progress::Seeking { tier, size },
+            answer: Played::GoesOn,
+        };
+    }
+    Turn {
+        kind: Kind::Join {
+            tier,
+            claimed,
+            size,
+        },
+        tier: at,
+        next: then_settle(claimed),
+        answer: if_last(claimed, Played::Done(word.phase)),
+    }
+}
+
+/// After a join the highest claimed tier is settled.
+fn settle(shape: &Shape, view: View) -> Turn
+    requires { IsShape shape.now }
+    ensures { result ≡ settle_turn shape.now view view.errand }
+{
+    match view.errand {
+        Errand::Opening {
+            tier,
+            claimed,
+            size,
+            ..
+        } if claimed > 0 => {
+            let claimed = claimed - 1;
+            Turn {
+                kind: Kind::Settle {
+                    tier,
+                    claimed,
+                    size,
+                },
+                tier: far_above(shape, tier, claimed),
+                next: then_settle(claimed),
+                answer: if_last(claimed, Played::Done(view.phase)),
+            }
+        }
+        _ => look_last(Played::GoesOn),
+    }
+}
+
+/// After a refusal the highest claimed tier is given back.
+fn give_back(shape: &Shape, answer: Played, view: View) -> Turn
+    requires { IsShape shape.now }
+    ensures { result ≡ give_back_turn shape.now answer view.errand }
+{
+    match view.errand {
+        Errand::Opening {
+            tier,
+            claimed,
+            size,
+            ..
+        } if claimed > 0 => {
+            let claimed = claimed - 1;
+            Turn {
+                kind: Kind::SettleBack {
+                    tier,
+                    claimed,
+                    size,
+                },
+                tier: far_above(shape, tier, claimed),
+                next: then_give_back(claimed, answer),
+                answer: if_last(claimed, answer),
+            }
+        }
+        _ => look_last(Played::GoesOn),
+    }
+}
+
+/// How an arrival or a departure goes on from what is owed.
+fn then_climb(own: Trip, errand: Errand) -> Progress
+    ensures { result ≡ goes_on own errand }
+{
+    match errand {
+        Errand::Rest | Errand::Opening { .. } => Progress::Idle,
+        Errand::Advancing => Progress::Due(own),
+        Errand::Climbing { .. } => Progress::Owing(own),
+    }
+}
+
+/// What it answers.
+fn passed_answer(phase: u32, parties: u32, errand: Errand) -> Played
+    ensures { result ≡ told phase parties errand }
+{
+    match errand {
+        Errand::Rest => Played::Done(phase),
+        Errand::Advancing => Played::MustAdvance(phase, parties),
+        Errand::Climbing { .. } | Errand::Opening { .. } => Played::GoesOn,
+    }
+}
+
+/// The step of a call that passes a tier, which is refreshed first where it lags.
+fn pass(shape: &Shape, own: Trip, at: u16, trip: Trip, pass: Turn, word: Word, view: View) -> Turn
+    requires { IsShape shape.now }
+    ensures { result ≡ pass_turn shape.now own at trip pass.kind pass.next pass.answer word view }
+{
+    if word.ended {
+        return look_last(pass.answer);
+    }
+    if is_behind(word, &view) {
+        return Turn {
+            kind: Kind::Refresh,
+            tier: at,
+            next: pass.next,
+            answer: Played::GoesOn,
+        };
+    }
+    let errand = errand_after(above(shape, at), at, trip, word);
+    Turn {
+        kind: pass.kind,
+        tier: at,
+        next: then_climb(own, errand),
+        answer: passed_answer(view.phase, word_passed(at, trip, word).parties, errand),
+    }
+}
+
+/// What a poll answers after its look at the root.
+fn poll_answer(moved: bool, phase: u32) -> Played
+    ensures { result ≡ polled moved phase }
+{
+    if moved {
+        Played::Passed(phase)
+    } else {
+        Played::Done(phase)
+    }
+}
+
+/// The first look of a call that arrives or leaves.
+fn look_before(trip: Trip, root: Word, view: View) -> Turn
+    ensures arrives { trip ≡ Arrival → result ≡ first_turn call.Arrive root root view }
+    ensures leaves { trip ≡ Departure → result ≡ first_turn call.Leave root root view }
+{
+    if root.ended {
+        return look_last(shown_end(root));
+    }
+    let size = view.size;
+    let looked = look(root, view);
+    if looked.arrived == size {
+        return look_last(Played::AlreadyArrived(looked.phase));
+    }
+    Turn {
+        kind: Kind::Look,
+        tier: 0,
+        next: Progress::Passing(trip),
+        answer: Played::GoesOn,
+    }
+}
+
+/// The first step of a poll.
+fn poll(root: Word, own: Word, view: View) -> Turn
+    ensures { result ≡ first_turn call.Poll root own view }
+{
+    if root.ended {
+        return look_last(shown_end(root));
+    }
+    let size = view.size;
+    let phase = view.phase;
+    let looked = look(root, view);
+    if looked.arrived == size {
+        return look_last(Played::Waiting);
+    }
+    let moved = looked.phase != phase;
+    if !is_behind(own, &looked) {
+        return look_last(poll_answer(moved, looked.phase));
+    }
+    Turn {
+        kind: Kind::Look,
+        tier: 0,
+        next: Progress::Refreshing(moved),
+        answer: Played::GoesOn,
+    }
+}
+
+/// The first step of a join.
+fn look_around(tier: u16, size: u32, root: Word) -> Turn
+    ensures { (own : Fields) (v : View) → result ≡ first_turn (call.Join tier size) root own v }
+{
+    if root.ended {
+        return look_last(shown_end(root));
+    }
+    let kind = if tier == 0 && turns_away(size, root) {
+        Kind::Refuse {
+            tier: 0,
+            claimed: 0,
+            size,
+        }
+    } else {
+        Kind::Look
+    };
+    Turn {
+        kind,
+        tier: 0,
+        next: Progress::Seeking { tier, size },
+        answer: Played::GoesOn,
+    }
+}
+
+/// The first step of a call.
+fn first(call: Call, root: Word, own: Word, view: View) -> Turn
+    ensures { result ≡ first_turn call root own view }
+{
+    match call {
+        Call::Join { tier, n } => look_around(tier, n, root),
+        Call::Arrive => look_before(Trip::Arrival, root, view),
+        Call::Leave => look_before(Trip::Departure, root, view),
+        Call::Poll => poll(root, own, view),
+        Call::Force => Turn {
+            kind: Kind::Force,
+            tier: 0,
+            next: Progress::Idle,
+            answer: shown_end(root),
+        },
+    }
+}
+
+/// The next step of a climb.
+fn climb(shape: &Shape, words: &[Word], own: Trip, view: View) -> Turn
+    requires { IsShape shape.now }
+    ensures { result ≡ climb_turn shape.now words.now own view view.errand }
+{
+    let Errand::Climbing { tier, trip } = view.errand else {
+        return look_last(Played::GoesOn);
+    };
+    let step = Turn {
+        kind: Kind::Climb(trip),
+        tier,
+        next: Progress::Owing(own),
+        answer: Played::Done(view.phase),
+    };
+    pass(shape, own, tier, trip, step, word_of(words, tier), view)
+}
+
+/// The own step of an arrival or a departure.
+fn pass_own(shape: &Shape, words: &[Word], trip: Trip, view: View) -> Turn
+    requires { IsShape shape.now }
+    ensures { result ≡ turn shape.now words.now (spec.Passing trip) view }
+{
+    let word = word_of(words, view.tier);
+    let kind = match trip {
+        Trip::Arrival => Kind::Arrive,
+        Trip::Departure => Kind::Leave,
+    };
+    let step = Turn {
+        kind,
+        tier: view.tier,
+        next: Progress::Passing(trip),
+        answer: shown_end(word),
+    };
+    pass(shape, trip, view.tier, trip, step, word, view)
+}
+
+/// The next step of a join that looks for its tier.
+fn seek_on(shape: &Shape, words: &[Word], tier: u16, size: u32, view: View) -> Turn
+    requires { IsShape shape.now }
+    ensures { result ≡ turn shape.now words.now (spec.ToSeek tier size) view }
+{
+    let claimed = match view.errand {
+        Errand::Opening { claimed, .. } => claimed,
+        Errand::Rest | Errand::Climbing { .. } | Errand::Advancing => 0,
+    };
+    let at = far_above(shape, tier, claimed);
+    seek(tier, claimed, size, at, word_of(words, at), view)
+}
+
+/// The second step of a poll.
+fn refresh(words: &[Word], moved: bool, view: View) -> Turn
+    ensures { (parents : List ℕ) → result ≡ turn parents words.now (spec.Refreshing moved) view }
+{
+    let kind = if is_behind(word_of(words, view.tier), &view) {
+        Kind::Refresh
+    } else {
+        Kind::Glance
+    };
+    Turn {
+        kind,
+        tier: view.tier,
+        next: Progress::Idle,
+        answer: poll_answer(moved, view.phase),
+    }
+}
+
+/// The next step of a call, wherever it stands.
+pub fn next_turn(shape: &Shape, words: &[Word], progress: Progress, view: View) -> Turn
+    requires { IsShape shape.now }
+    ensures { result ≡ turn shape.now words.now progress view }
+{
+    match progress {
+        Progress::Idle | Progress::Due(_) => look_last(Played::GoesOn),
+        Progress::Begun(call) => first(call, word_of(words, 0), word_of(words, view.tier), view),
+        Progress::Seeking { tier, size } => seek_on(shape, words, tier, size, view),
+        Progress::Settling => settle(shape, view),
+        Progress::GivingBack(answer) => give_back(shape, answer, view),
+        Progress::Passing(trip) => pass_own(shape, words, trip, view),
+        Progress::Owing(own) => climb(shape, words, own, view),
+        Progress::Refreshing(moved) => refresh(words, moved, view),
+    }
+}
+
+/// The advance that a token must take, or a look where the root has ended.
+pub fn last_turn(ends: bool, root: Word, view: View) -> Turn
+    ensures { result ≡ finish_turn ends root view }
+{
+    let kind = if root.ended {
+        Kind::Look
+    } else {
+        Kind::Advance(ends)
+    };
+    Turn {
+        kind,
+        tier: 0,
+        next: Progress::Idle,
+        answer: Played::Done(view.phase),
+    }
+}
