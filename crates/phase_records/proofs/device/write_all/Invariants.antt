@@ -1,6 +1,6 @@
 use Rattle.std.proofs.Common.{◌≡◌, length}
-use Rattle.trace_text.proofs.PassedBytes.{Passed}
-use Rattle.trace_text.proofs.device.write_all.Given as goal
+use Rattle.phase_records.proofs.PassedBytes.{Passed}
+use Rattle.phase_records.proofs.device.write_all.Given as goal
 
 abbrev pub invariant-loop-rest : goal.invariant-loop-rest
 invariant-loop-rest g l =

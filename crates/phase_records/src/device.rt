@@ -1,7 +1,7 @@
 //! Devices whose failures are counted, and texts read and written whole.
 ghost use Rattle.std.specs.Prelude.{◌≡◌, ℕ, ◌+◌, ◌≤◌, ◌<◌, List, Option, Some, length, IfOk, IfErr, IfSome, IsErrOf, MatchResult, OnOk, is_err, if◌then◌else◌};
 ghost use Rattle.std.specs.Io.KnownBytes.{ReadConsumes, Appends, IsAtEnd, Keeps};
-ghost use Rattle.trace_text.specs.Device.{CountsFailure, TakesSome, AppendsBeginning, ReadCause};
+ghost use Rattle.phase_records.specs.Device.{CountsFailure, TakesSome, AppendsBeginning, ReadCause};
 
 use crate::failures::Failures;
 use std::alloc::{AllocError, Global};
