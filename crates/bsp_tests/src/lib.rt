@@ -5,9 +5,13 @@
 #[cfg(test)]
 mod devices;
 #[cfg(test)]
+mod interleaved;
+#[cfg(test)]
 mod single;
 #[cfg(test)]
 mod traces;
+#[cfg(test)]
+mod trees;
 
 #[cfg(test)]
 mod runs {

@@ -62,6 +62,7 @@ impl Core {
     ghost use Rattle.tier_core.specs.Machine.{State, IsCore, IsNext, view_at, call_at, is_active, is_due, turn_at, played, opened, with_token};
     ghost use Rattle.tier_core.specs.Run as spec;
     ghost use Rattle.tier_steps.specs.Tally.{word_at};
+    ghost use Rattle.tier_shape.specs.Paths.{IsTiers};
     ghost use Rattle.tier_core.specs.Run.{may_begin, may_go, may_finish, begun, finish_at, IsCall, after, IsStepOfCalls, AreSteps, answer_to, plan_ends, answers, run, IsFlat};
     ghost use Rattle.tier_steps.specs.Image.{image, LooksAlike};
     ghost use Rattle.flat_phaser.specs.Flat.{Flat};
@@ -202,6 +203,7 @@ impl Core {
     pub fn tiers(&self) -> usize
         ensures value { result ≡ length self.now.parents }
         ensures few { result ≤ 64 }
+        ensures shape { IsTiers self.now.parents }
     {
         self.shape.count()
     }
