@@ -1,0 +1,3 @@
+pub mod Framing
+pub mod Planning
+pub mod Holding
