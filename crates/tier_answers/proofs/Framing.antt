@@ -1,5 +1,5 @@
 -- What a turn of a token leaves as it was.
-use Rattle.std.proofs.Common.{◌≡◌, ◌≢◌, ℕ, ◌<◌, ⊎_elim, Bool, true, false, cond, List, length, length-set, get_or, set, refl, sym, ◌∙◌, ap, subst}
+use Rattle.std.proofs.Common.{◌≡◌, ◌≢◌, ℕ, Bool, true, false, cond, length-set, refl}
 use Rattle.std.proofs.lemmas.List.{get_or-set_other}
 use Rattle.tier_steps.specs.View.{new_view}
 use Rattle.tier_steps.specs.Tally.{blank, word_at}
@@ -7,11 +7,10 @@ use Rattle.tier_steps.specs.Step.{word_after}
 use Rattle.tier_steps.specs.Laws.{stepped_view}
 use Rattle.tier_core.specs.declared.call.Turn.{Turn}
 use Rattle.tier_core.specs.declared.call.Progress.TheVariants.{Idle, Begun}
-use Rattle.tier_core.specs.Machine.{State, view_at, call_at, turn_at, played}
-use Rattle.tier_core.specs.declared.call.Step.{Step}
+use Rattle.tier_core.specs.Machine.{State, view_at, turn_at, played}
 use Rattle.tier_core.specs.declared.call.Step.TheVariants.{Begin, Go, Finish}
-use Rattle.tier_core.specs.Run.{may_begin, may_go, may_finish, begun, finish_at, plan_ends, after}
-use Rattle.tier_answers.specs.Frame.{IsOwnChange, TurnsChangeTheirOwn, actor, IsUntouched, OthersStay}
+use Rattle.tier_core.specs.Run.{may_begin, may_go, may_finish, begun, finish_at, plan_ends}
+use Rattle.tier_answers.specs.Frame.{TurnsChangeTheirOwn, IsUntouched, OthersStay}
 
 pub turns_change_their_own : TurnsChangeTheirOwn
 turns_change_their_own s i r = record {

@@ -1,41 +1,29 @@
 -- What keeps the root from advancing, and how many parties a tier may have.
-use Rattle.std.proofs.Common.{◌≡◌, ◌≢◌, ℕ, zero, suc, ◌+◌, ◌<◌, ◌≤◌, ⊎_elim, Bool, true, false, cond, eqb, List, [], ◌∷◌, ◌++◌, length, take, drop, get_or, refl, sym, ◌∙◌, ap, subst, arith}
+use Rattle.std.proofs.Common.{◌≡◌, ◌≢◌, ℕ, zero, suc, ◌+◌, ◌<◌, ◌≤◌, Bool, true, false, cond, eqb, List, [], ◌∷◌, ◌++◌, length, take, drop, get_or, refl, sym, ◌∙◌, ap, subst, arith}
 use Rattle.std.specs.Prelude.{sum_by, count_by}
 use Rattle.std.specs.List.{AllByRecursion}
 use Rattle.std.proofs.lemmas.List.Sums.{sum_by-cons}
-use Rattle.std.proofs.lemmas.Bool.{cases_eq}
 use Rattle.flat_phaser.proofs.Counts.{count_cons}
 use Rattle.phaser_word.specs.Fields.{Fields}
 use Rattle.tier_steps.specs.declared.view.View.{View}
 use Rattle.tier_steps.specs.declared.view.Errand.{Errand}
 use Rattle.tier_steps.specs.declared.view.Errand.TheVariants.{Rest, Opening, Climbing, Advancing}
 use Rattle.tier_steps.specs.declared.view.Stage.TheVariants.{Seeking, Joined, GoingBack}
-use Rattle.tier_steps.specs.declared.view.Trip.{Trip}
 use Rattle.tier_steps.specs.declared.view.Trip.TheVariants.{Arrival, Departure}
-use Rattle.tier_shape.specs.Parents.{IsShape, parent_of}
 use Rattle.tier_steps.specs.View.{new_view, ancestor, absent, only_at, late_share, party_share, errand_parties, errand_late, is_hidden, advance_share, errand_advances}
 use Rattle.tier_steps.specs.Tally.{word_at, root_phase, counted, children_among, children, Tallies, ViewFits, ErrandFits, is_zero}
 use Rattle.tier_steps.specs.Told.{is_under_way}
 use Rattle.tier_steps.specs.Image.{is_climbing}
-use Rattle.tier_steps.proofs.Advance.{all_arrived, is_done, IsDone, zero_field, zero_one}
-use Rattle.tier_steps.proofs.Chains.{both, zero_each}
+use Rattle.tier_steps.proofs.Advance.{all_arrived, is_done, IsDone, zero_field}
+use Rattle.tier_steps.proofs.Chains.{both}
 use Rattle.tier_steps.proofs.Keeping.{all_here, all_map}
 use Rattle.tier_steps.proofs.KindLaw.{mine}
 use Rattle.tier_steps.proofs.Pass.{share_fits, only_here, absent_current, resting_late, unarrived_is_current}
-use Rattle.tier_steps.proofs.Balance.{sum_changes}
 use Rattle.tier_steps.proofs.Ready.{unarrived_hold_the_root, members_are_sizes}
-use Rattle.tier_core.specs.declared.call.Progress.{Progress}
-use Rattle.tier_core.specs.declared.call.Played.{Played}
-use Rattle.tier_core.specs.declared.call.Turn.{Turn}
-use Rattle.tier_core.specs.declared.call.Progress.TheVariants.{Idle, Begun, Seeking as ToSeek, Settling, GivingBack as ToGiveBack, Passing, Owing, Due, Refreshing}
-use Rattle.tier_core.specs.declared.call.Played.TheVariants.{MustAdvance}
-use Rattle.tier_core.specs.Machine.{State, IsCore, CallFits, view_at, call_at, is_active, is_due, turn_at, played}
-use Rattle.tier_core.specs.Run.{may_go}
-use Rattle.tier_core.proofs.Turns.{by_test, not_both}
-use Rattle.tier_core.proofs.Places.{around, played_core, turn_may}
-use Rattle.tier_answers.proofs.Planning.{due_owes, known_active}
-use Rattle.tier_answers.specs.Frame.{flat_of}
-use Rattle.tier_answers.specs.Hold.{IsAwaited, IsHolding, AwaitedTokensHold, NobodyMustAdvance, IsStill, AdvancesAreAlone, MembersAreTheTokens, PartiesAreFew}
+use Rattle.tier_core.specs.Machine.{State, IsCore, view_at, call_at, is_due}
+use Rattle.tier_core.proofs.Places.{around}
+use Rattle.tier_answers.proofs.Planning.{due_owes}
+use Rattle.tier_answers.specs.Hold.{IsAwaited, AwaitedTokensHold, AdvancesAreAlone, MembersAreTheTokens, PartiesAreFew}
 
 -- the tally, split at a token
 pub split : (s : State) (i : ℕ) → IsCore s → i < length s.views → Tallies s.parents s.words (take i s.views ++ view_at s.views i ∷ drop (suc i) s.views)

@@ -1,3 +1,9 @@
 pub mod Framing
 pub mod Planning
 pub mod Holding
+pub mod Counting
+pub mod Ending
+pub mod Memory
+pub mod Seeking
+pub mod Going
+pub mod Telling

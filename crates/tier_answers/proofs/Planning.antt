@@ -1,6 +1,6 @@
 -- The root advances only where that is due, and as the plan says.
-use Rattle.std.proofs.Common.{◌≡◌, ◌≢◌, ℕ, zero, suc, ◌<◌, ◌↔◌, ⊎_elim, Bool, true, false, cond, eqb, ltb, List, ◌∷◌, ◌++◌, length, take, drop, refl, sym, ◌∙◌, ap, subst, arith, Some, None}
-use Rattle.std.specs.Prelude.{Option, ◌&&◌}
+use Rattle.std.proofs.Common.{◌≡◌, ◌≢◌, ℕ, zero, suc, ◌<◌, ◌↔◌, ⊎_elim, Bool, true, false, cond, eqb, ltb, List, length, take, drop, refl, sym, ◌∙◌, ap, subst, Some, None}
+use Rattle.std.specs.Prelude.{Option}
 use Rattle.std.proofs.lemmas.Bool.{cases_eq, eq-eqb, ne_eqb, ltb-true}
 use Rattle.advance_rule.specs.Plan.{end_ends}
 use Rattle.flat_phaser.specs.declared.FlatStep.{FlatStep}
@@ -13,12 +13,11 @@ use Rattle.tier_steps.specs.declared.view.Errand.{Errand}
 use Rattle.tier_steps.specs.declared.view.Errand.TheVariants.{Rest, Opening, Climbing, Advancing}
 use Rattle.tier_steps.specs.declared.view.Stage.{Stage}
 use Rattle.tier_steps.specs.declared.view.Stage.TheVariants.{Seeking, Joined, GoingBack}
-use Rattle.tier_steps.specs.declared.view.Trip.{Trip}
 use Rattle.tier_steps.specs.declared.kind.Kind.{Kind}
 use Rattle.tier_steps.specs.declared.kind.Kind.TheVariants.{Look, Glance, Refuse, Join, Arrive, Leave, Advance, Force, Claim, Settle, SettleBack, Climb, Refresh}
 use Rattle.tier_steps.specs.Tally.{word_at}
 use Rattle.tier_steps.specs.Step.{Needs, opening}
-use Rattle.tier_steps.specs.Image.{image, label}
+use Rattle.tier_steps.specs.Image.{label}
 use Rattle.tier_steps.specs.Laws.{IsStep}
 use Rattle.tier_steps.specs.Due.{IsReady}
 use Rattle.tier_steps.proofs.Ready.{advances_are_due, quiet_is_not_due}
@@ -27,14 +26,13 @@ use Rattle.tier_core.specs.declared.call.Turn.{Turn}
 use Rattle.tier_core.specs.declared.call.Progress.TheVariants.{Idle, Begun, Seeking as ToSeek, Settling, GivingBack as ToGiveBack, Passing, Owing, Due, Refreshing}
 use Rattle.tier_core.specs.Turn.{claimed_by}
 use Rattle.tier_core.specs.Machine.{State, IsCore, CallFits, view_at, call_at, is_active, is_due, turn_at}
-use Rattle.tier_core.specs.declared.call.Step.{Step}
 use Rattle.tier_core.specs.declared.call.Step.TheVariants.{Begin, Go, Finish}
-use Rattle.tier_core.specs.Run.{may_go, may_finish, finish_at, plan_ends, step_label}
+use Rattle.tier_core.specs.Run.{may_go, may_finish, finish_at, plan_ends}
 use Rattle.tier_core.proofs.Turns.{by_test, not_both}
 use Rattle.tier_core.proofs.Places.{around, MayPlay, is_step, turn_may}
 use Rattle.tier_core.proofs.Runs.{finish_may}
 use Rattle.tier_answers.specs.Frame.{flat_of}
-use Rattle.tier_answers.specs.Plan.{flat_ends, IsPlanned, AdvancesArePlanned, IsLastStep, TheLastOneAdvances, QuietTreesWait}
+use Rattle.tier_answers.specs.Plan.{flat_ends, IsPlanned, AdvancesArePlanned, TheLastOneAdvances, QuietTreesWait}
 
 -- what a token finds that may advance the root
 pub found : (s : State) (i : ℕ) (r : Turn) (ends : Bool) → IsCore s → i < length s.views → MayPlay s i r → r.kind ≡ Advance ends → IsReady s.words s.views

@@ -1,5 +1,5 @@
 -- What a turn of a token leaves as it was (own).
-use Rattle.std.specs.Prelude.{◌≡◌, ◌≢◌, ℕ, List, length}
+use Rattle.std.specs.Prelude.{◌≡◌, ◌≢◌, ℕ, length}
 use Rattle.flat_phaser.specs.Flat.{Flat}
 use Rattle.tier_steps.specs.Tally.{word_at}
 use Rattle.tier_steps.specs.Image.{image}

@@ -1,12 +1,11 @@
 -- What keeps the root from advancing, and what nobody does while it advances (own).
-use Rattle.std.specs.Prelude.{◌≡◌, ◌≢◌, ℕ, ◌+◌, ◌<◌, ◌≤◌, Bool, true, false, List, length, sum_by, count_by}
+use Rattle.std.specs.Prelude.{◌≡◌, ◌≢◌, ℕ, ◌+◌, ◌<◌, ◌≤◌, true, false, length, sum_by, count_by}
 use Rattle.flat_phaser.specs.Flat.{registered}
 use Rattle.tier_steps.specs.declared.view.View.{View}
 use Rattle.tier_steps.specs.declared.view.Errand.TheVariants.{Rest, Advancing}
-use Rattle.tier_steps.specs.Tally.{word_at, root_phase, Compared}
+use Rattle.tier_steps.specs.Tally.{word_at, Compared}
 use Rattle.tier_steps.specs.Told.{is_under_way}
 use Rattle.tier_steps.specs.Image.{is_climbing}
-use Rattle.tier_core.specs.declared.call.Played.{Played}
 use Rattle.tier_core.specs.declared.call.Played.TheVariants.{MustAdvance}
 use Rattle.tier_core.specs.Machine.{State, IsCore, view_at, call_at, is_due, turn_at}
 use Rattle.tier_core.specs.Run.{may_go}

@@ -1,3 +1,5 @@
 pub mod Frame
 pub mod Plan
 pub mod Hold
+pub mod Moments
+pub mod Told
