@@ -31,7 +31,7 @@ after_either P false s s' f p = p
 same : (s : State) (j : ℕ) → IsUntouched j s s
 same s j = record { view = refl; call = refl; tokens = refl }
 
-turned : (s : State) (i j : ℕ) (r : Turn) → j ≢ i → IsUntouched j s (played s i r)
+pub turned : (s : State) (i j : ℕ) (r : Turn) → j ≢ i → IsUntouched j s (played s i r)
 turned s i j r n = let own = turns_change_their_own s i r in record { view = own.views j n; call = own.calls j n; tokens = own.tokens }
 
 pub others_stay : OthersStay

@@ -7,3 +7,5 @@ pub mod Memory
 pub mod Seeking
 pub mod Going
 pub mod Telling
+pub mod Ranks
+pub mod Short

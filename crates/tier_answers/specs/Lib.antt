@@ -3,3 +3,4 @@ pub mod Plan
 pub mod Hold
 pub mod Moments
 pub mod Told
+pub mod Count
