@@ -51,17 +51,25 @@ nobody_advances s j core going some h e =
     (let a : advance_share (view_at s.views j) ≡ 1 = ap errand_advances e in
     let b = part s advance_share j h in let c = core.tally.advances going in omega arith))
 
+absent_some : (root : ℕ) (v : View) → 0 < absent root v → 0 < v.size
+absent_some root v h = grind arith
+
 awaited_late : (s : State) (i : ℕ) → IsCore s → IsAwaited s i → ((view_at s.views i).tier < length s.parents) ×
     (0 < late_share (root_phase s.words) s.parents (view_at s.views i).tier (view_at s.views i))
 awaited_late s i core is =
-    let v : View = view_at s.views i in
     let fit = fits_at s i core is.known in
     let some = is.some in
-    let current = unarrived_is_current s.parents (root_phase s.words) (word_at s.words 0).ended (view_at s.views i) fit is.some in
     let a = resting_late (root_phase s.words) s.parents (view_at s.views i).tier (view_at s.views i) is.rests in
-    let b = absent_current (root_phase s.words) (view_at s.views i) current in
     let c = only_here (view_at s.views i).tier (absent (root_phase s.words) (view_at s.views i)) in
-    (fit.seated (omega arith), omega arith)
+    (fit.seated (absent_some (root_phase s.words) (view_at s.views i) is.some), omega arith)
+
+-- a token with a member that hasn't arrived in its own phase
+pub is_awaited : (s : State) (i : ℕ) → IsCore s → i < length s.views → (view_at s.views i).errand ≡ Rest
+    → (view_at s.views i).arrived < (view_at s.views i).size → IsAwaited s i
+is_awaited s i core h rests some =
+    let current = unarrived_is_current s.parents (root_phase s.words) (word_at s.words 0).ended (view_at s.views i) (fits_at s i core h) some in
+    let b = absent_current (root_phase s.words) (view_at s.views i) current in
+    record { known = h; rests = rests; some = omega arith }
 
 pub awaited_field : (s : State) (i : ℕ) → IsCore s → (word_at s.words 0).ended ≡ false → IsAwaited s i → (word_at s.words 0).unarrived ≢ 0
 awaited_field s i core going is = let a = awaited_late s i core is in held s i (view_at s.views i).tier core is.known going a.0 a.1

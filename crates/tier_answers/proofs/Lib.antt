@@ -9,3 +9,4 @@ pub mod Going
 pub mod Telling
 pub mod Ranks
 pub mod Short
+pub mod Alone

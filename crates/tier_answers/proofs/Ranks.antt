@@ -40,7 +40,7 @@ use Rattle.tier_core.specs.Run.{is_idle}
 use Rattle.tier_core.proofs.Turns.{not_both, looked_tier, looked_rests, looked_ended, looked_open}
 use Rattle.tier_core.proofs.Places.{MayPlay, is_step}
 use Rattle.tier_answers.specs.Count.{most_steps}
-use Rattle.tier_answers.proofs.Holding.{fits_at, held, nobody_advances, awaited_field}
+use Rattle.tier_answers.proofs.Holding.{fits_at, held, nobody_advances, awaited_field, is_awaited}
 use Rattle.tier_answers.proofs.Memory.{by_turn}
 use Rattle.tier_answers.proofs.Seeking.{ended_root}
 
@@ -478,7 +478,7 @@ left_stays s i j n (Passing trip) r core h k may fits left =
     let current = unarrived_is_current s.parents (root_phase s.words) (word_at s.words 0).ended (view_at s.views i) (fits_at s i core h) fits.1 in
     climbs_still s.parents s.words (words_after s.words r.kind r.tier (view_at s.views j)) v.phase v.tier n
     (others_keep s j r v.phase core k may current
-    (λ going. awaited_field s i core going record { known = h; rests = fits.0; some = fits.1 })) left
+    (λ going. awaited_field s i core going (is_awaited s i core h fits.0 fits.1))) left
 left_stays s i j n (Owing own) r core h k may fits left =
     let v : View = view_at s.views i in
     let fit : ErrandFits s.parents (root_phase s.words) (view_at s.views i) (Climbing fits.0 fits.1) =

@@ -3,19 +3,19 @@ use Rattle.std.specs.Prelude.{◌≡◌, ◌≢◌, ℕ, ◌+◌, ◌<◌, ◌�
 use Rattle.flat_phaser.specs.Flat.{registered}
 use Rattle.tier_steps.specs.declared.view.View.{View}
 use Rattle.tier_steps.specs.declared.view.Errand.TheVariants.{Rest, Advancing}
+use Rattle.tier_steps.specs.View.{absent}
 use Rattle.tier_steps.specs.Tally.{word_at, Compared}
 use Rattle.tier_steps.specs.Told.{is_under_way}
 use Rattle.tier_steps.specs.Image.{is_climbing}
-use Rattle.tier_core.specs.declared.call.Played.TheVariants.{MustAdvance}
 use Rattle.tier_core.specs.Machine.{State, IsCore, view_at, call_at, is_due, turn_at}
 use Rattle.tier_core.specs.Run.{may_go}
 use Rattle.tier_answers.specs.Frame.{flat_of}
 
--- a token without an errand, which has a member that hasn't arrived
+-- a token without an errand, which has a member that hasn't arrived in the root's phase
 pub record IsAwaited (s : State) (token : ℕ) : Type 0 where
   pub known : token < length s.views
   pub rests : (view_at s.views token).errand ≡ Rest
-  pub some : (view_at s.views token).arrived < (view_at s.views token).size
+  pub some : 0 < absent (flat_of s).phase (view_at s.views token)
 
 -- Such a token holds the root: no token advances, or has to.
 pub record IsHolding (s : State) (other : ℕ) : Type 0 where
@@ -26,11 +26,11 @@ abbrev pub AwaitedTokensHold : Type 0
 AwaitedTokensHold =
     (s : State) (token other : ℕ) → IsCore s → (flat_of s).ended ≡ false → IsAwaited s token → other < length s.views → IsHolding s other
 
--- No step of another token answers that it has to advance.
+-- No step of another token leaves that token with the advance to take.
 abbrev pub NobodyMustAdvance : Type 0
 NobodyMustAdvance =
-    (s : State) (token other phase parties : ℕ) → IsCore s → (flat_of s).ended ≡ false → IsAwaited s token → other ≢ token → may_go s other ≡ true
-    → (turn_at s other).answer ≢ MustAdvance phase parties
+    (s : State) (token other : ℕ) → IsCore s → (flat_of s).ended ≡ false → IsAwaited s token → other ≢ token → may_go s other ≡ true
+    → is_due (turn_at s other).next ≡ false
 
 -- a token whose members have all arrived in this phase, and which neither climbs nor advances nor has a join to open a path for
 pub record IsStill (now : ℕ) (v : View) : Type 0 where

@@ -31,9 +31,15 @@ pub fn quiet_trees_wait()
     ensures { QuietTreesWait }
 {}
 
-/// While a token has a member that hasn't arrived, no token has to advance the root.
+/// While a token has a member that hasn't arrived in the root's phase, no token has to advance the root.
 pub fn awaited_tokens_hold()
     ensures { AwaitedTokensHold }
+{}
+
+/// While a token has such a member, no step of another token leaves that other token with the advance to
+/// take.
+pub fn nobody_must_advance()
+    ensures { NobodyMustAdvance }
 {}
 
 /// While a token has to advance the root all members of all others have arrived, and no other token climbs,
