@@ -54,7 +54,7 @@ nobody_advances s j core going some h e =
 absent_some : (root : ℕ) (v : View) → 0 < absent root v → 0 < v.size
 absent_some root v h = grind arith
 
-awaited_late : (s : State) (i : ℕ) → IsCore s → IsAwaited s i → ((view_at s.views i).tier < length s.parents) ×
+pub awaited_late : (s : State) (i : ℕ) → IsCore s → IsAwaited s i → ((view_at s.views i).tier < length s.parents) ×
     (0 < late_share (root_phase s.words) s.parents (view_at s.views i).tier (view_at s.views i))
 awaited_late s i core is =
     let fit = fits_at s i core is.known in

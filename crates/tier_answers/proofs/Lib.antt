@@ -10,3 +10,5 @@ pub mod Telling
 pub mod Ranks
 pub mod Short
 pub mod Alone
+pub mod Stepping
+pub mod Members

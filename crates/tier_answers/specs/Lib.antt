@@ -4,3 +4,4 @@ pub mod Hold
 pub mod Moments
 pub mod Told
 pub mod Count
+pub mod Calls
