@@ -12,3 +12,4 @@ pub mod Short
 pub mod Alone
 pub mod Stepping
 pub mod Members
+pub mod Opens

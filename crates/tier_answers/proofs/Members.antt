@@ -278,7 +278,7 @@ joins_seat_at_once s i tier size core h e =
     (subst (λ (n : ℕ). ancestor s.parents tier k < n) (sym core.tally.long) (ancestor_within s.parents tier k core.shape fits.1.seat))
     fits.1.none (gone s i (ToSeek tier size) core h e refl)
 
-not_yet : (m n : ℕ) → n ≤ m → ltb m n ≡ false
+pub not_yet : (m n : ℕ) → n ≤ m → ltb m n ≡ false
 not_yet m n h = ⊎_elim (λ (e : ltb m n ≡ true). absurd (let a = ltb-true m n e in omega arith)) (λ e. e) (either (ltb m n))
 
 unclaimable : (a b c : Bool) → b ≡ false → (a && (b && c)) ≡ false

@@ -85,7 +85,7 @@ strictly ps tier n (suc k) shape h le some =
     (cases_eq n k)
 
 -- so the tiers that an opening has claimed aren't the next of its path
-unclaimed : (ps : List ℕ) (tier k n : ℕ) → IsShape ps → tier < length ps → n ≤ k → 0 < ancestor ps tier k
+pub unclaimed : (ps : List ℕ) (tier k n : ℕ) → IsShape ps → tier < length ps → n ≤ k → 0 < ancestor ps tier k
     → claims_on ps tier n (ancestor ps tier k) ≡ 0
 unclaimed ps tier k zero shape h le some = refl
 unclaimed ps tier k (suc n) shape h le some =
@@ -93,7 +93,7 @@ unclaimed ps tier k (suc n) shape h le some =
     let b = strictly ps tier n k shape h (omega arith) some in
     let c = only_elsewhere (ancestor ps tier n) 1 (ancestor ps tier k) (omega arith) in omega arith
 
-own_claims : (ps : List ℕ) (tier k size u : ℕ) → claims_on ps tier k u ≡ 0 → errand_claims ps u (opening tier k Seeking size) ≡ 0
+pub own_claims : (ps : List ℕ) (tier k size u : ℕ) → claims_on ps tier k u ≡ 0 → errand_claims ps u (opening tier k Seeking size) ≡ 0
 own_claims ps tier zero size u e = refl
 own_claims ps tier (suc k) size u e = e
 

@@ -70,7 +70,7 @@ either_goes (Due own) b e going = ap (λ x. (x && false) || (x && true)) e
 either_goes (Refreshing has_moved) b e going = ap (λ x. (x && true) || (x && false)) e
 
 -- what is known of a call and its view is known of those of the state that holds them
-moved_left : (s s' : State) (i n : ℕ) (p : Progress) (v : View) → call_at s'.calls i ≡ p → view_at s'.views i ≡ v → s'.parents ≡ s.parents
+pub moved_left : (s s' : State) (i n : ℕ) (p : Progress) (v : View) → call_at s'.calls i ≡ p → view_at s'.views i ≡ v → s'.parents ≡ s.parents
     → Within s.parents s'.words p v n → Within s'.parents s'.words (call_at s'.calls i) (view_at s'.views i) n
 moved_left s s' i n p v call view same left =
     subst (λ (ps : List ℕ). Within ps s'.words (call_at s'.calls i) (view_at s'.views i) n) (sym same)

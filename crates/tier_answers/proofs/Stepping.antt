@@ -1,5 +1,5 @@
 -- What a step of a call leaves, in the words of the turn that it is, and the steps of polls, arrivals and departures.
-use Rattle.std.proofs.Common.{◌≡◌, ◌≢◌, ℕ, suc, ◌-◌, ◌<◌, ◌⊎◌, inl, inr, ⊎_elim, Bool, true, false, cond, eqb, ltb, List, length, set, take, drop, refl, sym, ◌∙◌, ap, subst, arith, Some, None}
+use Rattle.std.proofs.Common.{◌≡◌, ◌≢◌, ℕ, suc, ◌-◌, ◌<◌, ◌⊎◌, inl, inr, ⊎_elim, Bool, true, false, cond, eqb, ltb, List, length, set, take, drop, refl, sym, ◌∙◌, ap, subst, arith, Some, None, [], ◌∷◌}
 use Rattle.std.specs.Prelude.{◌&&◌, not, Option}
 use Rattle.std.proofs.lemmas.Bool.{cases_eq, eq-eqb, ne_eqb, eqb-true, lt-ltb}
 use Rattle.std.proofs.lemmas.List.{get_or-set_same, set-get_or}
@@ -39,6 +39,8 @@ use Rattle.tier_answers.specs.Hold.{IsAwaited}
 use Rattle.tier_answers.specs.Calls.{moves_root, OnlyAdvancesMove, view_then, call_then, answer_then, IsPollStep, is_poll, PollsFollowTheRoot}
 use Rattle.tier_answers.proofs.Planning.{known_active, known_due}
 use Rattle.tier_answers.proofs.Holding.{split, fits_at, awaited_late}
+use Rattle.tier_answers.specs.Moments.{own_turn}
+use Rattle.tier_answers.proofs.Ending.{at}
 use Rattle.tier_answers.proofs.Counting.{looked_is}
 
 -- a step of a call is this turn
@@ -49,6 +51,10 @@ pub record Gone (s : State) (i : ℕ) (r : Turn) : Type 0 where
   pub call : call_then s i ≡ r.next
   pub words : (after s (Go i)).words ≡ words_after s.words r.kind r.tier (view_at s.views i)
   pub may : MayPlay s i r
+  pub views : (after s (Go i)).views ≡ set s.views i (stepped_view s.parents s.words r.kind r.tier (view_at s.views i))
+  pub parents : (after s (Go i)).parents ≡ s.parents
+  pub label : step_label s (Go i) ≡ label i r.kind
+  pub moment : own_turn i s (Go i) ≡ at s (turn_at s i) ∷ []
 
 both : (a b : Bool) → a ≡ true → b ≡ true → (a && b) ≡ true
 both a b e f = ap (λ x. x && b) e ∙ f
@@ -67,6 +73,10 @@ gone_at s i core h active =
           ∙ get_or-set_same s.calls i (turn_at s i).next Idle (let l = core.long in omega arith);
       words = ap (λ (x : State). x.words) here;
       may = turn_may s i core h active;
+      views = ap (λ (x : State). x.views) here;
+      parents = ap (λ (x : State). x.parents) here;
+      label = ap (λ b. cond b (label i (turn_at s i).kind) None) may;
+      moment = ap (λ b. cond b (cond (may_go s i) (at s (turn_at s i) ∷ []) []) []) (eq-eqb i i refl) ∙ ap (λ b. cond b (at s (turn_at s i) ∷ []) []) may;
     }
 
 -- by how far the call has come
@@ -170,7 +180,7 @@ awaited_look s i core going is =
     (cases_eq v.phase root))
 
 -- the word of its tier is open
-open_at_home : (s : State) (i : ℕ) → IsCore s → (word_at s.words 0).ended ≡ false → IsAwaited s i
+pub open_at_home : (s : State) (i : ℕ) → IsCore s → (word_at s.words 0).ended ≡ false → IsAwaited s i
     → ((view_at s.views i).tier < length s.words) × (0 < (word_at s.words (view_at s.views i).tier).parties)
 open_at_home s i core going is =
     let v : View = view_at s.views i in

@@ -5,3 +5,4 @@ pub mod Moments
 pub mod Told
 pub mod Count
 pub mod Calls
+pub mod Fresh

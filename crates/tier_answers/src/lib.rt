@@ -4,8 +4,10 @@
 //! * [`answers`]: what each answer means, and how many steps a call takes.
 //! * [`calls`]: what the steps of each call do to their token.
 //! * [`holds`]: when the root advances, what holds it, and what a step leaves as it was.
+//! * [`joins`]: joins where nothing refuses them.
 #![tactic(auto)]
 
 pub mod answers;
 pub mod calls;
 pub mod holds;
+pub mod joins;
