@@ -13,3 +13,4 @@ pub mod Alone
 pub mod Stepping
 pub mod Members
 pub mod Opens
+pub mod Answering

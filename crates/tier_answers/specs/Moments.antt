@@ -1,12 +1,14 @@
 -- The steps that a token takes for one call, each with the state that it was taken in (own).
-use Rattle.std.specs.Prelude.{◌≢◌, ℕ, ◌==◌, if◌then◌else◌, List, [], ◌∷◌, ◌++◌}
+use Rattle.std.specs.Prelude.{◌≡◌, ◌≢◌, ℕ, ◌==◌, if◌then◌else◌, List, [], ◌∷◌, ◌++◌}
 use Rattle.flat_phaser.specs.Flat.{Flat}
 use Rattle.tier_core.specs.declared.call.Turn.{Turn}
+use Rattle.tier_core.specs.declared.call.Answer.TheVariants as answer
+use Rattle.tier_core.specs.declared.call.Played.{Played}
 use Rattle.tier_core.specs.declared.call.Step.{Step}
 use Rattle.tier_core.specs.declared.call.Step.TheVariants.{Begin, Go, Finish}
 use Rattle.tier_core.specs.Machine.{State, turn_at, played}
-use Rattle.tier_core.specs.Run.{may_go, may_finish, finish_at, plan_ends, after}
-use Rattle.tier_answers.specs.Frame.{flat_of}
+use Rattle.tier_core.specs.Run.{may_go, may_finish, finish_at, plan_ends, after, answer_to}
+use Rattle.tier_answers.specs.Frame.{flat_of, actor}
 
 -- a state, and the turn that the token took there
 pub record Moment : Type 0 where
@@ -41,3 +43,9 @@ IsOfCall token (Finish other) = Unit {0}
 abbrev pub AreOfCall : ℕ → List Step → Type 0
 AreOfCall token [] = Unit {0}
 AreOfCall token (x ∷ xs) = IsOfCall token x × AreOfCall token xs
+
+-- What a step of the token answers in a run is what its moment answers.
+abbrev pub MomentsAreAnswers : Type 0
+MomentsAreAnswers =
+    (s : State) (step : Step) (played : Played) → answer_to s step ≡ answer.Played played
+    → (m : Moment) × (own_turn (actor step) s step ≡ m ∷ []) × (m.state ≡ s) × (m.turn.answer ≡ played)

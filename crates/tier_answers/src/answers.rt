@@ -1,8 +1,14 @@
 //! What the answers of calls mean, and how many steps a call takes. Each law is the contract of a function
 //! without parameters that does nothing.
 
+ghost use Rattle.tier_answers.specs.Moments.{MomentsAreAnswers};
 ghost use Rattle.tier_answers.specs.Told.{AnswersTell};
 ghost use Rattle.tier_answers.specs.Count.{CallsAreShort};
+
+/// What a run answers to a step of a token is the answer of the moment that the step is.
+pub fn moments_are_answers()
+    ensures { MomentsAreAnswers }
+{}
 
 /// What each answer of a call says of the one flat phaser that the tree stands for, whatever other tokens
 /// do between the steps of the call.
