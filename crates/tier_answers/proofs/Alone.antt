@@ -94,7 +94,8 @@ first_due (call.Join tier size) root own v =
     never (first_turn (call.Join tier size) root own v) (not_by (λ p. is_due p ≡ false) root.ended Idle (ToSeek tier size) refl refl)
 first_due call.Arrive root own v = never (first_turn call.Arrive root own v) (twice root.ended (eqb (looked root v).arrived v.size) Arrival)
 first_due call.Leave root own v = never (first_turn call.Leave root own v) (twice root.ended (eqb (looked root v).arrived v.size) Departure)
-first_due call.Poll root own v = never (first_turn call.Poll root own v) (thrice root.ended (eqb (looked root v).arrived v.size) (lags own (looked root v)) (not (eqb (looked root v).phase v.phase)))
+first_due call.Poll root own v = never (first_turn call.Poll root own v)
+    (thrice root.ended (eqb (looked root v).arrived v.size) (lags own (looked root v)) (not (eqb (looked root v).phase v.phase)))
 first_due call.Force root own v = λ e. not_both false e refl
 
 seek_due : (tier k size t : ℕ) (w : Fields) (v : View) → PassesIfDue (seek_turn tier k size t w v)
@@ -160,7 +161,8 @@ turn_due ps ws (ToSeek tier size) v =
     let t : ℕ = ancestor ps tier k in seek_due tier k size t (word_at ws t) v
 turn_due ps ws Settling v = settle_due ps v v.errand
 turn_due ps ws (ToGiveBack a) v = give_back_due ps a v.errand
-turn_due ps ws (Passing trip) v = pass_due ps trip v.tier trip (own_kind trip) (Passing trip) (end_shown (word_at ws v.tier)) (word_at ws v.tier) v (own_passes trip) refl
+turn_due ps ws (Passing trip) v =
+    pass_due ps trip v.tier trip (own_kind trip) (Passing trip) (end_shown (word_at ws v.tier)) (word_at ws v.tier) v (own_passes trip) refl
 turn_due ps ws (Owing own) v = climb_due ps ws own v v.errand
 turn_due ps ws (Due trip) v = λ e. not_both false e refl
 turn_due ps ws (Refreshing has_moved) v = λ e. not_both false e refl

@@ -46,7 +46,8 @@ counts_at test f u o (v ∷ vs) (suc i) each all h e =
     let d = counts_at test f u (suc o) vs i each all.1 (omega arith) (omega arith) in omega arith
 
 counted_views : (s : State) → IsCore s → AllByRecursion (λ v. v.arrived ≤ v.size) s.views
-counted_views s core = all_map (ViewFits s.parents (root_phase s.words) (word_at s.words 0).ended) (λ v. v.arrived ≤ v.size) (λ v ok. ok.within) s.views core.tally.fits
+counted_views s core = all_map (ViewFits s.parents (root_phase s.words) (word_at s.words 0).ended) (λ v. v.arrived ≤ v.size)
+    (λ v ok. ok.within) s.views core.tally.fits
 
 pub members_owned : (s : State) (i : ℕ) → IsCore s → i < length s.views → members_of i (flat_of s).members ≡ (view_at s.views i).size
 members_owned s i core h =

@@ -53,7 +53,8 @@ makes_due s i c past t trip kind r core is may going z kind_is tier_is owes =
     let v' : View = stepped_view s.parents s.words r.kind r.tier (view_at s.views i) in
     let s' : State = played s i r in
     let core' = played_core s i r core is.known may in
-    let known' : i < length s'.views = subst (λ (n : ℕ). i < n) (sym (length-set s.views i (stepped_view s.parents s.words r.kind r.tier (view_at s.views i)))) is.known in
+    let known' : i < length s'.views = subst (λ (n : ℕ). i < n)
+    (sym (length-set s.views i (stepped_view s.parents s.words r.kind r.tier (view_at s.views i)))) is.known in
     let same : stepped_view s.parents s.words r.kind r.tier (view_at s.views i) ≡ stepped_view s.parents s.words kind t (view_at s.views i) =
     ap (λ k. stepped_view s.parents s.words k r.tier (view_at s.views i)) kind_is
     ∙ ap (λ n. stepped_view s.parents s.words kind n (view_at s.views i)) tier_is in

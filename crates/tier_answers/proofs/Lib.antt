@@ -14,3 +14,4 @@ pub mod Stepping
 pub mod Members
 pub mod Opens
 pub mod Answering
+pub mod Rounding

@@ -319,7 +319,8 @@ look_goes old s i tier size ms is e =
       answer = cond x (end_shown w) GoesOn;
     })) w.ended
     (λ x. not_both w.ended x is.going)
-    (λ _. by_test (λ x. Q (record { kind = cond x (Refuse 0 0 size) Look; tier = 0; next = ToSeek tier size; answer = GoesOn })) (eqb tier 0 && is_refusing size w)
+    (λ _. by_test (λ x. Q (record { kind = cond x (Refuse 0 0 size) Look; tier = 0; next = ToSeek tier size; answer = GoesOn }))
+    (eqb tier 0 && is_refusing size w)
     (λ _ g. goes old s i tier size ms no is g refl (is.words 0 within) (refl, refl))
     (λ _ g. goes old s i tier size ms look is g refl (is.words 0 within) (refl, refl)))
     (gone s i (Begun (call.Join tier size)) is.core is.known e refl)

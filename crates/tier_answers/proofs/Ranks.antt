@@ -223,7 +223,12 @@ seek_lowers s i n tier k size t core within due left =
     let below : 0 < t = may.needs.1.below in
     let other : k ≢ left.levels = λ q. absurd
     (let a : t ≡ 0 = due.here ∙ (ap (ancestor s.parents tier) q ∙ left.root) in omega arith) in
-    record { levels = left.levels; root = left.root; reached = (let a = left.reached in omega arith); left = (let a = left.left in let b = left.reached in omega arith) })
+    record {
+      levels = left.levels;
+      root = left.root;
+      reached = (let a = left.reached in omega arith);
+      left = (let a = left.left in let b = left.reached in omega arith);
+    })
     (λ e _. settles s.parents (words_after s.words (Join tier k size) t v) k (n - 1) (stepped_view s.parents s.words (Join tier k size) t v)
     (claims_kept tier k size Joined) most)))
 
@@ -354,7 +359,8 @@ seeks_first ps tier n e tiers seat left q =
     let none : claimed_by e ≡ 0 = ap claimed_by q in
     record { levels = deep.0; root = deep.2; reached = omega arith; left = (let a = deep.1 in omega arith) }
 
-first_join : (s : State) (i n tier size : ℕ) (answer : Played) (b c : Bool) → IsTiers s.parents → tier < length s.parents → (view_at s.views i).errand ≡ Rest → 14 ≤ n
+first_join : (s : State) (i n tier size : ℕ) (answer : Played) (b c : Bool) → IsTiers s.parents → tier < length s.parents
+    → (view_at s.views i).errand ≡ Rest → 14 ≤ n
     → Lowers s i n record { kind = cond b Look (cond c (Refuse 0 0 size) Look); tier = 0; next = cond b Idle (ToSeek tier size); answer = answer }
 first_join s i n tier size answer true c tiers seat rest left = λ _. tt
 first_join s i n tier size answer false true tiers seat rest left = λ _.

@@ -100,7 +100,8 @@ own_claims ps tier (suc k) size u e = e
 opened_by : (s : State) (i tier k size t : ℕ) → IsCore s → i < length s.views → IsDue s.parents tier k size t (view_at s.views i)
     → t < length s.words → is_being_opened (word_at s.words t) ≡ true → IsClaimedByAnother i t s
 opened_by s i tier k size t core h due within e =
-    let below : t ≢ 0 = λ z. not_both (is_being_opened (word_at s.words 0)) (ap (λ n. is_being_opened (word_at s.words n)) (sym z) ∙ e) core.tally.root_claims in
+    let below : t ≢ 0 = λ z. not_both (is_being_opened (word_at s.words 0))
+    (ap (λ n. is_being_opened (word_at s.words n)) (sym z) ∙ e) core.tally.root_claims in
     let one : sum_by (claim_share s.parents t) s.views ≡ 1 = sym (core.tally.claims t within) ∙ ap bit e in
     let none : claims_on s.parents tier k t ≡ 0 = subst (λ (n : ℕ). claims_on s.parents tier k n ≡ 0) (sym due.here)
     (unclaimed s.parents tier k k core.shape due.seat (omega arith) (subst (λ (n : ℕ). 0 < n) due.here (omega arith))) in

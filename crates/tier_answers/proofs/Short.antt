@@ -164,7 +164,8 @@ courses [] s i c past course are own = record {
   few = (let a = course.count in omega arith);
   sixteen = (let a = course.count in let b = most c in omega arith);
   goes_on = λ going. (let a = course.count in
-      let b = some_left s.parents s.words (call_at s.calls i) (view_at s.views i) course.rest going (course.core.calls i course.known) course.left in omega arith);
+      let b = some_left s.parents s.words (call_at s.calls i) (view_at s.views i) course.rest going
+      (course.core.calls i course.known) course.left in omega arith);
   may = λ going. either_goes (call_at s.calls i) (ltb i (length s.views)) (lt-ltb i (length s.views) course.known) going;
 }
 courses (x ∷ xs) s i c past course are own =

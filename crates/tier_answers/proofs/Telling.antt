@@ -256,7 +256,8 @@ turn_tells s i c past (Refreshing has_moved) core h is active fits knows =
     let r : Turn = turn s.parents s.words (Refreshing has_moved) v in
     λ may. record {
       told = record {
-        tells = subst (λ (x : Call). Tells i x (at s (turn s.parents s.words (Refreshing has_moved) (view_at s.views i))) past (polled has_moved v.phase)) (sym knows.0)
+        tells = subst (λ (x : Call). Tells i x (at s (turn s.parents s.words (Refreshing has_moved) (view_at s.views i))) past (polled has_moved v.phase))
+            (sym knows.0)
             (polled_tells i (at s (turn s.parents s.words (Refreshing has_moved) (view_at s.views i))) past has_moved v.phase
             (poll_later i has_moved v.phase (at s (turn s.parents s.words (Refreshing has_moved) (view_at s.views i))) past knows.1));
         ends = λ _. refl;

@@ -6,3 +6,4 @@ pub mod Told
 pub mod Count
 pub mod Calls
 pub mod Fresh
+pub mod Rounds

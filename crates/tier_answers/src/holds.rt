@@ -3,6 +3,7 @@
 
 ghost use Rattle.tier_answers.specs.Frame.{TurnsChangeTheirOwn, OthersStay};
 ghost use Rattle.tier_answers.specs.Plan.{AdvancesArePlanned, TheLastOneAdvances, QuietTreesWait};
+ghost use Rattle.tier_answers.specs.Rounds.{AdvancesBeginThePhase, AwaitedTokensStay};
 ghost use Rattle.tier_answers.specs.Hold.{AwaitedTokensHold, NobodyMustAdvance, AdvancesAreAlone, MembersAreTheTokens, PartiesAreFew};
 
 /// A turn of a token changes what this token knows, how far its call has come, and the word of one tier.
@@ -56,4 +57,15 @@ pub fn members_are_the_tokens()
 /// How many parties a tier may have: one for each member, each token that climbs, and each tier.
 pub fn parties_are_few()
     ensures { PartiesAreFew }
+{}
+
+/// An advance begins the next phase, and ends the tree exactly if the plan says so; each token that has
+/// members is awaited then.
+pub fn advances_begin_the_phase()
+    ensures { AdvancesBeginThePhase }
+{}
+
+/// Until the tree ends, steps of others leave an awaited token awaited, and the root in its phase.
+pub fn awaited_tokens_stay()
+    ensures { AwaitedTokensStay }
 {}
