@@ -1,0 +1,17 @@
+pub mod Framing
+pub mod Planning
+pub mod Holding
+pub mod Counting
+pub mod Ending
+pub mod Memory
+pub mod Seeking
+pub mod Going
+pub mod Telling
+pub mod Ranks
+pub mod Short
+pub mod Alone
+pub mod Stepping
+pub mod Members
+pub mod Opens
+pub mod Answering
+pub mod Rounding

@@ -1,0 +1,362 @@
+-- What the steps of arrivals, departures and joins do to their token.
+use Rattle.std.proofs.Common.{◌≡◌, ◌≢◌, ℕ, zero, suc, ◌+◌, ◌-◌, ◌<◌, ◌≤◌, ◌⊎◌, inl, inr, ⊎_elim, Bool, true, false, cond, eqb, ltb, length, refl, sym, ◌∙◌, ap, subst, arith, Some, None}
+use Rattle.std.specs.Prelude.{◌&&◌, ◌||◌}
+use Rattle.std.proofs.lemmas.Bool.{cases_eq, ne_eqb, eqb-true, lt-ltb}
+use Rattle.std.proofs.lemmas.List.{get_or-set_same}
+use Rattle.phaser_word.specs.Fields.{Fields}
+use Rattle.flat_phaser.specs.declared.FlatStep.TheVariants as flat
+use Rattle.flat_phaser.proofs.Everyone.{either}
+use Rattle.tier_steps.specs.declared.view.View.{View}
+use Rattle.tier_steps.specs.declared.view.Errand.{Errand}
+use Rattle.tier_steps.specs.declared.view.Errand.TheVariants.{Opening, Climbing}
+use Rattle.tier_steps.specs.declared.view.Trip.{Trip}
+use Rattle.tier_steps.specs.declared.view.Trip.TheVariants.{Arrival, Departure}
+use Rattle.tier_steps.specs.declared.kind.Kind.{Kind}
+use Rattle.tier_steps.specs.declared.kind.Kind.TheVariants.{Look, Refuse, Join, Advance, Claim, Climb, Refresh}
+use Rattle.tier_shape.specs.Parents.{parent_of}
+use Rattle.tier_steps.specs.View.{new_view, ancestor}
+use Rattle.tier_steps.specs.Tally.{word_at, root_phase, ErrandFits}
+use Rattle.tier_steps.specs.Step.{passed, owed, looked}
+use Rattle.tier_steps.specs.Laws.{stepped_view}
+use Rattle.tier_steps.specs.Image.{label}
+use Rattle.tier_steps.proofs.Pass.{owed_is, unarrived_is_current}
+use Rattle.tier_core.specs.declared.call.Call.TheVariants as call
+use Rattle.tier_core.specs.declared.call.Played.{Played}
+use Rattle.tier_core.specs.declared.call.Played.TheVariants.{GoesOn, Done, AlreadyArrived}
+use Rattle.tier_core.specs.declared.call.Progress.{Progress}
+use Rattle.tier_core.specs.declared.call.Progress.TheVariants.{Idle, Begun, Seeking as ToSeek, Settling, GivingBack as ToGiveBack, Passing, Owing, Due, Refreshing}
+use Rattle.tier_core.specs.declared.call.Step.TheVariants.{Finish}
+use Rattle.tier_core.specs.declared.call.Turn.{Turn}
+use Rattle.tier_core.specs.Turn.{end_shown, lags, own_kind, goes_on, told, last_look, pass_turn, climb_turn}
+use Rattle.tier_core.specs.Machine.{State, IsCore, view_at, call_at, is_due, turn_at, played}
+use Rattle.tier_core.specs.Run.{may_finish, finish_at, plan_ends, after}
+use Rattle.tier_core.proofs.Turns.{by_test, not_both, looked_size, looked_tier, looked_rests}
+use Rattle.tier_answers.specs.Frame.{flat_of}
+use Rattle.tier_answers.specs.Hold.{IsAwaited}
+use Rattle.tier_answers.specs.Calls.{view_then, IsSame, IsLookStep, PassesBeginWithALook, GoesAsOwed, Counts, IsOwnStep, PassesCount, IsClimbStep, ClimbsKeepMembers, AdvancesKeepMembers}
+use Rattle.tier_answers.proofs.Holding.{fits_at}
+use Rattle.tier_answers.proofs.Memory.{by_turn}
+use Rattle.tier_answers.proofs.Stepping.{Gone, gone, fitting, awaited_look}
+use Rattle.tier_steps.specs.declared.view.Stage.TheVariants.{Joined, GoingBack}
+use Rattle.tier_steps.specs.Step.{added, opening, refused, given_up}
+use Rattle.tier_steps.proofs.Advance.{ancestor_within}
+use Rattle.tier_core.specs.Turn.{claimed_by, is_refusing, is_claimable, has_no_room, refusal, giving_back, settling, unless_claimed, seek_turn, settle_turn, give_back_turn}
+use Rattle.tier_answers.specs.Calls.{IsSeated, IsJoinLook, JoinsBeginWithALook, JoinsSeatAtOnce, IsAdmitted, OpenTiersAdmit, is_settling, SettlingKeepsMembers}
+use Rattle.tier_answers.proofs.Counting.{looked_empty}
+use Rattle.tier_answers.proofs.Seeking.{joined_phase}
+use Rattle.tier_steps.specs.Word.{is_being_opened}
+use Rattle.std.proofs.lemmas.Bool.{ltb-true}
+
+-- no tier has ended while the root goes on
+pub still_going : (s : State) (t : ℕ) → IsCore s → (word_at s.words 0).ended ≡ false → t < length s.words → (word_at s.words t).ended ≡ false
+still_going s t core going h = ⊎_elim
+    (λ (z : t ≡ 0). ap (λ n. (word_at s.words n).ended) z ∙ going)
+    (λ (n : t ≢ 0). core.tally.ends t (omega arith) h)
+    (cases_eq t 0)
+
+-- a party that passes a tier which hasn't ended: either the tier is refreshed first, or the call goes on as it is owed
+pass_goes : (s : State) (i : ℕ) (own : Trip) (t : ℕ) (trip : Trip) (kind : Kind) (here : Progress) (over : Played) (Q : Type 0)
+    → (word_at s.words t).ended ≡ false
+    → (stepped_view s.parents s.words kind t (view_at s.views i)).errand ≡ owed (parent_of s.parents t) t trip (word_at s.words t)
+    → (Gone s i (record { kind = Refresh; tier = t; next = here; answer = GoesOn }) → Q)
+    → (view_then s i ≡ stepped_view s.parents s.words kind t (view_at s.views i) → GoesAsOwed s i own → Q)
+    → Gone s i (pass_turn s.parents own t trip kind here over (word_at s.words t) (view_at s.views i)) → Q
+pass_goes s i own t trip kind here over Q going errand waits passes =
+    let w : Fields = word_at s.words t in
+    let v : View = view_at s.views i in
+    let parties : ℕ = (passed t trip (word_at s.words t)).parties in
+    let goes : Errand → Turn = λ e. record { kind = kind; tier = t; next = goes_on own e; answer = told v.phase parties e } in
+    let wait : Turn = record { kind = Refresh; tier = t; next = here; answer = GoesOn } in
+    by_turn (λ r. Gone s i r → Q) w.ended (last_look over) (cond (lags w v) wait (goes (owed (parent_of s.parents t) t trip w)))
+    (λ e. not_both w.ended e going)
+    (λ _. by_turn (λ r. Gone s i r → Q) (lags w v) wait (goes (owed (parent_of s.parents t) t trip w))
+    (λ _. waits)
+    (λ _. owed_is (λ x. owed (parent_of s.parents t) t trip w ≡ x → Gone s i (goes x) → Q) (parent_of s.parents t) t trip w
+    (λ owes g. passes g.view (inl (g.answer, ap (λ (x : View). x.errand) g.view ∙ (errand ∙ owes), g.call)))
+    (λ _ owes g. passes g.view (inr (inr ((parties, g.answer), ap (λ (x : View). x.errand) g.view ∙ (errand ∙ owes), g.call))))
+    (λ j _ owes g. passes g.view (inr (inl (g.answer, (parent_of s.parents t, j, ap (λ (x : View). x.errand) g.view ∙ (errand ∙ owes)), g.call))))
+    refl))
+
+-- the look of an arrival and of a departure
+look_by : (s : State) (i : ℕ) (trip : Trip) → IsCore s → (word_at s.words 0).ended ≡ false → IsAwaited s i
+    → (view_at s.views i).phase ≡ root_phase s.words
+    → Gone s i (record {
+      kind = Look;
+      tier = 0;
+      next = cond (word_at s.words 0).ended Idle
+          (cond (eqb (looked (word_at s.words 0) (view_at s.views i)).arrived (view_at s.views i).size) Idle (Passing trip));
+      answer = cond (word_at s.words 0).ended (end_shown (word_at s.words 0))
+          (cond (eqb (looked (word_at s.words 0) (view_at s.views i)).arrived (view_at s.views i).size)
+          (AlreadyArrived (looked (word_at s.words 0) (view_at s.views i)).phase) GoesOn);
+    }) → IsLookStep s i (Passing trip)
+look_by s i trip core going is now =
+    let w : Fields = word_at s.words 0 in
+    let v : View = view_at s.views i in
+    let look = awaited_look s i core going is in
+    let make : Progress → Played → Turn = λ next answer. record { kind = Look; tier = 0; next = next; answer = answer } in
+    by_test (λ b. Gone s i (make (cond b Idle (cond (eqb (looked w v).arrived v.size) Idle (Passing trip)))
+    (cond b (end_shown w) (cond (eqb (looked w v).arrived v.size) (AlreadyArrived (looked w v).phase) GoesOn))) → IsLookStep s i (Passing trip)) w.ended
+    (λ q. not_both w.ended q going)
+    (λ _. by_test (λ b. Gone s i (make (cond b Idle (Passing trip)) (cond b (AlreadyArrived (looked w v).phase) GoesOn)) → IsLookStep s i (Passing trip))
+    (eqb (looked w v).arrived v.size)
+    (λ q. absurd (let a = look.awaited in let b = eqb-true (looked w v).arrived v.size q in omega arith))
+    (λ _ g. record {
+      same = record {
+        tier = ap (λ (x : View). x.tier) g.view ∙ looked_tier w v;
+        size = ap (λ (x : View). x.size) g.view ∙ looked_size w v;
+        phase = ap (λ (x : View). x.phase) g.view ∙ (look.now ∙ sym now);
+        arrived = ap (λ (x : View). x.arrived) g.view ∙ look.kept now;
+      };
+      errand = ap (λ (x : View). x.errand) g.view ∙ looked_rests w v is.rests;
+      answer = g.answer;
+      call = g.call;
+    }))
+
+pub passes_begin_with_a_look : PassesBeginWithALook
+passes_begin_with_a_look s i Arrival core going is now e = look_by s i Arrival core going is now (gone s i (Begun call.Arrive) core is.known e refl)
+passes_begin_with_a_look s i Departure core going is now e = look_by s i Departure core going is now (gone s i (Begun call.Leave) core is.known e refl)
+
+-- the own step
+counted : (s : State) (i : ℕ) (trip : Trip) → (view_at s.views i).arrived < (view_at s.views i).size
+    → view_then s i ≡ stepped_view s.parents s.words (own_kind trip) (view_at s.views i).tier (view_at s.views i)
+    → Counts trip (view_at s.views i) (view_then s i)
+counted s i Arrival some view =
+    (ap (λ (x : View). x.tier) view, ap (λ (x : View). x.size) view, ap (λ (x : View). x.phase) view, ap (λ (x : View). x.arrived) view)
+counted s i Departure some view = (
+  ap (λ (x : View). x.tier) view,
+  (let a : (view_then s i).size ≡ (view_at s.views i).size - 1 = ap (λ (x : View). x.size) view in omega arith),
+  ap (λ (x : View). x.phase) view,
+  ap (λ (x : View). x.arrived) view,
+)
+
+own_errand : (s : State) (i : ℕ) (trip : Trip)
+    → (stepped_view s.parents s.words (own_kind trip) (view_at s.views i).tier (view_at s.views i)).errand
+    ≡ owed (parent_of s.parents (view_at s.views i).tier) (view_at s.views i).tier trip (word_at s.words (view_at s.views i).tier)
+own_errand s i Arrival = refl
+own_errand s i Departure = refl
+
+pub passes_count : PassesCount
+passes_count s i trip core h going e home =
+    let v : View = view_at s.views i in
+    let fits = fitting s i (Passing trip) core h e in
+    let some : (view_at s.views i).arrived < (view_at s.views i).size = fits.1 in
+    let fit = fits_at s i core h in
+    let now = unarrived_is_current s.parents (root_phase s.words) (word_at s.words 0).ended (view_at s.views i) fit fits.1 in
+    let within : v.tier < length s.words = subst (λ (n : ℕ). v.tier < n) (sym core.tally.long) (fit.seated (omega arith)) in
+    pass_goes s i trip v.tier trip (own_kind trip) (Passing trip) (end_shown (word_at s.words v.tier)) (IsOwnStep s i trip)
+    (still_going s v.tier core going within) (own_errand s i trip)
+    (λ g. absurd (g.may.needs.behind (home ∙ sym now)))
+    (λ view owes. record { counts = counted s i trip fits.1 view; owes = owes })
+    (gone s i (Passing trip) core h e refl)
+
+pub climbs_keep_members : ClimbsKeepMembers
+climbs_keep_members s i own core h going e =
+    let v : View = view_at s.views i in
+    let fits = fitting s i (Owing own) core h e in
+    let fit : ErrandFits s.parents (root_phase s.words) (view_at s.views i) (Climbing fits.0 fits.1) =
+    subst (λ (x : Errand). ErrandFits s.parents (root_phase s.words) (view_at s.views i) x) fits.2 (fits_at s i core h).errand in
+    let within : fits.0 < length s.words = subst (λ (n : ℕ). fits.0 < n) (sym core.tally.long) fit.1 in
+    pass_goes s i own fits.0 fits.1 (Climb fits.1) (Owing own) (Done v.phase) (IsClimbStep s i own)
+    (still_going s fits.0 core going within) refl
+    (λ g. record {
+      same = record {
+        tier = ap (λ (x : View). x.tier) g.view;
+        size = ap (λ (x : View). x.size) g.view;
+        phase = ap (λ (x : View). x.phase) g.view;
+        arrived = ap (λ (x : View). x.arrived) g.view;
+      };
+      owes = inr (inl (g.answer, (fits.0, fits.1, ap (λ (x : View). x.errand) g.view ∙ fits.2), g.call));
+    })
+    (λ view owes. record {
+      same = record {
+        tier = ap (λ (x : View). x.tier) view;
+        size = ap (λ (x : View). x.size) view;
+        phase = ap (λ (x : View). x.phase) view;
+        arrived = ap (λ (x : View). x.arrived) view;
+      };
+      owes = owes;
+    })
+    (subst (λ (x : Errand). Gone s i (climb_turn s.parents s.words own v x)) fits.2 (gone s i (Owing own) core h e refl))
+
+-- the advance
+pub advances_keep_members : AdvancesKeepMembers
+advances_keep_members s i own core h going e =
+    let v : View = view_at s.views i in
+    let r : Turn = finish_at s i (plan_ends s) in
+    let may : may_finish s i ≡ true = ap (λ b. b && is_due (call_at s.calls i)) (lt-ltb i (length s.views) h) ∙ ap is_due e in
+    let here : after s (Finish i) ≡ played s i (finish_at s i (plan_ends s)) = ap (λ b. cond b (played s i (finish_at s i (plan_ends s))) s) may in
+    let kind : (finish_at s i (plan_ends s)).kind ≡ Advance (plan_ends s) = ap (λ b. cond b Look (Advance (plan_ends s))) going in
+    let view : view_at (after s (Finish i)).views i ≡ stepped_view s.parents s.words (Advance (plan_ends s)) 0 v =
+    ap (λ (x : State). view_at x.views i) here
+    ∙ (get_or-set_same s.views i (stepped_view s.parents s.words r.kind r.tier (view_at s.views i)) (new_view 0) h
+    ∙ ap (λ k. stepped_view s.parents s.words k 0 (view_at s.views i)) kind) in
+    record {
+      same = record {
+        tier = ap (λ (x : View). x.tier) view;
+        size = ap (λ (x : View). x.size) view;
+        phase = ap (λ (x : View). x.phase) view;
+        arrived = ap (λ (x : View). x.arrived) view;
+      };
+      errand = ap (λ (x : View). x.errand) view;
+      call = ap (λ (x : State). call_at x.calls i) here ∙ get_or-set_same s.calls i Idle Idle (let l = core.long in omega arith);
+      answer = refl;
+    }
+
+-- the look of a join
+pub joins_begin_with_a_look : JoinsBeginWithALook
+joins_begin_with_a_look s i tier size core h going e =
+    let w : Fields = word_at s.words 0 in
+    let v : View = view_at s.views i in
+    let fits = fitting s i (Begun (call.Join tier size)) core h e in
+    let all : v.arrived ≡ v.size = (let a = (fits_at s i core h).within in let b = fits.1.none in omega arith) in
+    let make : Kind → Progress → Played → Turn = λ kind next answer. record { kind = kind; tier = 0; next = next; answer = answer } in
+    by_test (λ x. Gone s i (make (cond x Look (cond (eqb tier 0 && is_refusing size w) (Refuse 0 0 size) Look)) (cond x Idle (ToSeek tier size))
+    (cond x (end_shown w) GoesOn)) → IsJoinLook s i tier size) w.ended
+    (λ q. not_both w.ended q going)
+    (λ _. by_test (λ x. Gone s i (make (cond x (Refuse 0 0 size) Look) (ToSeek tier size) GoesOn) → IsJoinLook s i tier size) (eqb tier 0 && is_refusing size w)
+    (λ _ g. record {
+      none = ap (λ (x : View). x.size) g.view ∙ (looked_size w v ∙ fits.1.none);
+      errand = ap (λ (x : View). x.errand) g.view ∙ ap given_up (looked_rests w v fits.0);
+      phase = ap (λ (x : View). x.phase) g.view ∙ looked_empty w v going all;
+      answer = g.answer;
+      call = g.call;
+    })
+    (λ _ g. record {
+      none = ap (λ (x : View). x.size) g.view ∙ (looked_size w v ∙ fits.1.none);
+      errand = ap (λ (x : View). x.errand) g.view ∙ looked_rests w v fits.0;
+      phase = ap (λ (x : View). x.phase) g.view ∙ looked_empty w v going all;
+      answer = g.answer;
+      call = g.call;
+    })) (gone s i (Begun (call.Join tier size)) core h e refl)
+
+refused_size : (t : ℕ) (w : Fields) (v : View) → (refused t w v).size ≡ v.size
+refused_size zero w v = looked_size w v
+refused_size (suc t) w v = refl
+
+-- the steps of a join that looks for its tier
+abbrev Seats : State → ℕ → ℕ → ℕ → Type 0
+Seats s i tier size =
+    ((label i (turn_at s i).kind ≡ None) × ((view_then s i).size ≡ 0))
+    ⊎ ((label i (turn_at s i).kind ≡ Some (flat.Join i size)) × IsSeated tier size (flat_of s).phase (view_then s i))
+
+seek_seats : (s : State) (i tier k size t : ℕ) → IsCore s → t < length s.words → (view_at s.views i).size ≡ 0
+    → Gone s i (seek_turn tier k size t (word_at s.words t) (view_at s.views i)) → Seats s i tier size
+seek_seats s i tier k size t core within none =
+    let w : Fields = word_at s.words t in
+    let v : View = view_at s.views i in
+    let p : ℕ = (refused t (word_at s.words t) (view_at s.views i)).phase in
+    let over : Turn = record { kind = Look; tier = 0; next = giving_back k (end_shown w); answer = unless_claimed k (end_shown w) } in
+    let no : Turn = record {
+      kind = Refuse tier k size;
+      tier = t;
+      next = giving_back k (refusal t (added k size) p w);
+      answer = unless_claimed k (refusal t (added k size) p w);
+    } in
+    let claim : Turn = record { kind = Claim tier k size; tier = t; next = ToSeek tier size; answer = GoesOn } in
+    let join : Turn = record { kind = Join tier k size; tier = t; next = settling k; answer = unless_claimed k (Done w.phase) } in
+    by_turn (λ r. Gone s i r → Seats s i tier size) w.ended over (cond (is_refusing (added k size) w) no (cond (is_claimable t w) claim join))
+    (λ _ g. inl (ap (label i) g.kind, ap (λ (x : View). x.size) g.view ∙ (looked_size (word_at s.words 0) v ∙ none)))
+    (λ _. by_turn (λ r. Gone s i r → Seats s i tier size) (is_refusing (added k size) w) no (cond (is_claimable t w) claim join)
+    (λ _ g. inl (ap (label i) g.kind, ap (λ (x : View). x.size) g.view ∙ (refused_size t w v ∙ none)))
+    (λ _. by_turn (λ r. Gone s i r → Seats s i tier size) (is_claimable t w) claim join
+    (λ _ g. inl (ap (label i) g.kind, ap (λ (x : View). x.size) g.view ∙ none))
+    (λ _ g. inr (
+      ap (label i) g.kind,
+      record {
+        tier = ap (λ (x : View). x.tier) g.view;
+        size = ap (λ (x : View). x.size) g.view;
+        phase = ap (λ (x : View). x.phase) g.view ∙ joined_phase s t (added k size) core within g.may.needs.1;
+        arrived = ap (λ (x : View). x.arrived) g.view;
+      },
+    ))))
+
+pub joins_seat_at_once : JoinsSeatAtOnce
+joins_seat_at_once s i tier size core h e =
+    let k : ℕ = claimed_by (view_at s.views i).errand in
+    let fits = fitting s i (ToSeek tier size) core h e in
+    seek_seats s i tier k size (ancestor s.parents tier k) core
+    (subst (λ (n : ℕ). ancestor s.parents tier k < n) (sym core.tally.long) (ancestor_within s.parents tier k core.shape fits.1.seat))
+    fits.1.none (gone s i (ToSeek tier size) core h e refl)
+
+pub not_yet : (m n : ℕ) → n ≤ m → ltb m n ≡ false
+not_yet m n h = ⊎_elim (λ (e : ltb m n ≡ true). absurd (let a = ltb-true m n e in omega arith)) (λ e. e) (either (ltb m n))
+
+unclaimable : (a b c : Bool) → b ≡ false → (a && (b && c)) ≡ false
+unclaimable true b c e = ap (λ x. x && c) e
+unclaimable false b c e = refl
+
+-- a tier that is open, waits for a party and has room refuses nothing
+pub admits : (w : Fields) (more : ℕ) → 0 < w.parties → 0 < w.unarrived → w.parties + more ≤ 65535 → is_refusing more w ≡ false
+admits w more some waits room =
+    let a : has_no_room more w ≡ false = not_yet 65535 (w.parties + more) room in
+    let b : eqb w.unarrived 0 ≡ false = ne_eqb w.unarrived 0 (omega arith) in
+    let c : is_being_opened w ≡ false = ap (λ x. cond x (eqb w.unarrived 2) false) (ne_eqb w.parties 0 (omega arith)) in
+    ap (λ x. x || ((eqb w.unarrived 0) || is_being_opened w)) a ∙ (ap (λ x. x || is_being_opened w) b ∙ c)
+
+pub no_claim : (t : ℕ) (w : Fields) → 0 < w.parties → is_claimable t w ≡ false
+no_claim t w some = unclaimable (ltb 0 t) (eqb w.parties 0) (eqb w.unarrived 1) (ne_eqb w.parties 0 (omega arith))
+
+-- a join at a good tier
+pub open_tiers_admit : OpenTiersAdmit
+open_tiers_admit s i tier size core h going e rests some waits room =
+    let v : View = view_at s.views i in
+    let w : Fields = word_at s.words tier in
+    let fits = fitting s i (ToSeek tier size) core h e in
+    let within : tier < length s.words = subst (λ (n : ℕ). tier < n) (sym core.tally.long) fits.1.seat in
+    let p : ℕ = (refused tier w v).phase in
+    let over : Turn = record { kind = Look; tier = 0; next = Idle; answer = end_shown w } in
+    let no : Turn = record { kind = Refuse tier 0 size; tier = tier; next = Idle; answer = refusal tier size p w } in
+    let claim : Turn = record { kind = Claim tier 0 size; tier = tier; next = ToSeek tier size; answer = GoesOn } in
+    let join : Turn = record { kind = Join tier 0 size; tier = tier; next = Idle; answer = Done w.phase } in
+    let g : Gone s i (seek_turn tier 0 size tier w v) = subst (λ (k : ℕ). Gone s i (seek_turn tier k size (ancestor s.parents tier k)
+    (word_at s.words (ancestor s.parents tier k)) v)) (ap claimed_by rests) (gone s i (ToSeek tier size) core h e refl) in
+    by_turn (λ r. Gone s i r → IsAdmitted s i tier size) w.ended over (cond (is_refusing size w) no (cond (is_claimable tier w) claim join))
+    (λ q. not_both w.ended q (still_going s tier core going within))
+    (λ _. by_turn (λ r. Gone s i r → IsAdmitted s i tier size) (is_refusing size w) no (cond (is_claimable tier w) claim join)
+    (λ q. not_both (is_refusing size w) q (admits w size some waits room))
+    (λ _. by_turn (λ r. Gone s i r → IsAdmitted s i tier size) (is_claimable tier w) claim join
+    (λ q. not_both (is_claimable tier w) q (no_claim tier w some))
+    (λ _ j. let phase = joined_phase s tier size core within j.may.needs.1 in
+    record {
+      seated = record {
+        tier = ap (λ (x : View). x.tier) j.view;
+        size = ap (λ (x : View). x.size) j.view;
+        phase = ap (λ (x : View). x.phase) j.view ∙ phase;
+        arrived = ap (λ (x : View). x.arrived) j.view;
+      };
+      errand = ap (λ (x : View). x.errand) j.view;
+      answer = j.answer ∙ ap Done phase;
+      call = j.call;
+    }))) g
+
+-- what follows the join changes the errand alone
+kept_by : (s : State) (i : ℕ) (e : Errand) → view_then s i ≡ record (view_at s.views i) { errand = e } → IsSame (view_at s.views i) (view_then s i)
+kept_by s i e view = record {
+  tier = ap (λ (x : View). x.tier) view;
+  size = ap (λ (x : View). x.size) view;
+  phase = ap (λ (x : View). x.phase) view;
+  arrived = ap (λ (x : View). x.arrived) view;
+}
+
+settling_by : (s : State) (i : ℕ) (p : Progress) → IsCore s → i < length s.views → call_at s.calls i ≡ p → is_settling p ≡ true
+    → IsSame (view_at s.views i) (view_then s i)
+settling_by s i Idle core h e q = not_both false q refl
+settling_by s i (Begun c) core h e q = not_both false q refl
+settling_by s i (ToSeek tier size) core h e q = not_both false q refl
+settling_by s i Settling core h e q =
+    let fits = fitting s i Settling core h e in
+    let g : Gone s i (settle_turn s.parents (view_at s.views i) (Opening fits.0 (suc fits.1) Joined fits.2)) =
+    subst (λ (x : Errand). Gone s i (settle_turn s.parents (view_at s.views i) x)) fits.3 (gone s i Settling core h e refl) in
+    kept_by s i (opening fits.0 fits.1 Joined fits.2) g.view
+settling_by s i (ToGiveBack answer) core h e q =
+    let fits = fitting s i (ToGiveBack answer) core h e in
+    let g : Gone s i (give_back_turn s.parents answer (Opening fits.0 (suc fits.1) GoingBack fits.2)) =
+    subst (λ (x : Errand). Gone s i (give_back_turn s.parents answer x)) fits.3 (gone s i (ToGiveBack answer) core h e refl) in
+    kept_by s i (opening fits.0 fits.1 GoingBack fits.2) g.view
+settling_by s i (Passing trip) core h e q = not_both false q refl
+settling_by s i (Owing own) core h e q = not_both false q refl
+settling_by s i (Due own) core h e q = not_both false q refl
+settling_by s i (Refreshing has_moved) core h e q = not_both false q refl
+
+pub settling_keeps_members : SettlingKeepsMembers
+settling_keeps_members s i core h q = settling_by s i (call_at s.calls i) core h refl q

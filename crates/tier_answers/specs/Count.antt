@@ -1,0 +1,32 @@
+-- How many steps a call takes (own).
+use Rattle.std.specs.Prelude.{◌≡◌, ℕ, ◌<◌, ◌≤◌, ◌||◌, true, false, List, [], length}
+use Rattle.tier_shape.specs.Paths.{IsTiers}
+use Rattle.tier_core.specs.declared.call.Call.{Call}
+use Rattle.tier_core.specs.declared.call.Call.TheVariants as call
+use Rattle.tier_core.specs.declared.call.Step.{Step}
+use Rattle.tier_core.specs.Machine.{State, IsCore, call_at}
+use Rattle.tier_core.specs.Run.{is_idle, may_begin, may_go, may_finish, begun, run, IsCall, AreSteps}
+use Rattle.tier_answers.specs.Moments.{Moment, moments, AreOfCall}
+
+-- The most steps of each call. On a path of 7 tiers a join looks at the root, goes up by 7 tiers, and settles the 6 below the root or gives
+-- them back; an arrival or a departure looks, refreshes each of these 6, passes all 7, and advances the root.
+abbrev pub most_steps : Call → ℕ
+most_steps (call.Join tier size) = 14
+most_steps call.Arrive = 15
+most_steps call.Leave = 15
+most_steps call.Poll = 2
+most_steps call.Force = 1
+
+-- a call after these moments of its own
+pub record IsShort (s : State) (token : ℕ) (c : Call) (ms : List Moment) : Type 0 where
+  pub few : length ms ≤ most_steps c
+  pub sixteen : length ms ≤ 16
+  -- as long as it has no answer there is a step to come, which the token may take at once
+  pub goes_on : is_idle (call_at s.calls token) ≡ false → length ms < most_steps c
+  pub may : is_idle (call_at s.calls token) ≡ false → (may_go s token || may_finish s token) ≡ true
+
+-- Each call has its answer after so many steps of its own, whatever other tokens do between them.
+abbrev pub CallsAreShort : Type 0
+CallsAreShort =
+    (s : State) (token : ℕ) (c : Call) (steps : List Step) → IsTiers s.parents → IsCore s → IsCall c → may_begin s token c ≡ true → AreSteps steps
+    → AreOfCall token steps → IsShort (run steps (begun s token c)) token c (moments token steps (begun s token c) [])

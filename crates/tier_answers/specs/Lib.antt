@@ -1,0 +1,9 @@
+pub mod Frame
+pub mod Plan
+pub mod Hold
+pub mod Moments
+pub mod Told
+pub mod Count
+pub mod Calls
+pub mod Fresh
+pub mod Rounds
