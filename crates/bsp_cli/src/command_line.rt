@@ -18,13 +18,22 @@ use std::convert::AsStr;
 // What stands in a trace, for its help.
 const TRACE_LINES: &str = "The first line: phaser PARTIES [PHASE] [least L] [at Q]
 Then, one a line:
-  register   one party registers
-  bulk N     N parties register
-  arrive     one party arrives
-  leave      one party arrives and deregisters
-  await P    asks whether phase P is over
-  force      ends the phaser
-  show       shows phase, parties, unarrived, ended
+  register      one party registers
+  bulk N        N parties register
+  arrive        one party arrives
+  leave         one party arrives and deregisters
+  await P       asks whether phase P is over
+  force         ends the phaser
+  show          shows phase, parties, unarrived, ended
+Or the first line: tree WIDTHS [PHASE] [keep] [at Q]
+Then, one a line, with CALL: join T N, arrive, leave, poll or force:
+  token         a token comes in
+  begin K CALL  token K begins a call
+  go K          token K takes the next step of its call
+  finish K      token K takes the advance that it must take
+  run K         token K goes on to its answer
+  do K CALL     begin and run
+  show T        shows tier T
 A line that begins with # is a comment.";
 
 // The parser of the command line.
