@@ -2,3 +2,5 @@ pub mod Paths
 pub mod Cells
 pub mod Seen
 pub mod ArraysView
+pub mod Landing
+pub mod Logs

@@ -2,6 +2,7 @@
 #![tactic(auto)]
 
 pub mod arrays;
+pub mod landing;
 pub mod path;
 #[cfg(test)]
 mod tests;
