@@ -2,9 +2,9 @@
 #![tactic(auto)]
 
 use bsp_cli::{run, status};
+use phase_records::{CountedWrite, Reader, Writer, write_all};
 use std::io;
 use std::process::ExitCode;
-use trace_text::{CountedWrite, Reader, Writer, write_all};
 
 // Ends before the words of the command line could be looked at. A fault of the writer changes nothing.
 fn stopped<E: CountedWrite>(errors: &mut E, kind: io::ErrorKind) -> ExitCode {

@@ -11,9 +11,9 @@ use crate::status::{COMMAND_LINE_REFUSED, DEVICE_FAILED, OUT_OF_MEMORY, TEXT_REF
 use crate::trace::trace;
 use clap::error::ErrorKind;
 use clap::{Command, Error};
+use phase_records::{CountedRead, CountedWrite, write_all};
 use std::alloc::Global;
 use std::convert::AsStr;
-use trace_text::{CountedRead, CountedWrite, write_all};
 
 // What stands in a trace, for its help.
 const TRACE_LINES: &str = "The first line: phaser PARTIES [PHASE] [least L] [at Q]

@@ -2,15 +2,14 @@
 ghost use Rattle.std.specs.Prelude.{◌≡◌, ◌≢◌, ◌⊎◌, ◌++◌, ◌+◌, IfSome, OnOk, codes, decimal};
 ghost use Rattle.std.specs.Io.KnownBytes.{Appends, Keeps};
 ghost use Rattle.trace_text.specs.Outcome.{WritesAnswers, RefusesText};
-ghost use Rattle.trace_text.specs.Device.{AppendsBeginning, CountsFailure};
+ghost use Rattle.phase_records.specs.Device.{AppendsBeginning, CountsFailure};
 ghost use Rattle.bsp_cli.specs.Texts.{refusal_line, Tells, TellsRefusal};
 
 use crate::status::{COMMAND_LINE_REFUSED, DEVICE_FAILED, OUT_OF_MEMORY, TEXT_REFUSED};
 use itoa::{Buffer, Integer};
+use phase_records::{CountedRead, CountedWrite, DeviceFailed, write_all};
 use std::alloc::Global;
-use trace_text::{
-    CountedRead, CountedWrite, DeviceFailed, Refusal, TraceFault, run_trace, write_all,
-};
+use trace_text::{Refusal, TraceFault, run_trace};
 
 // Writes a name and a number behind it.
 fn write_field<E: CountedWrite, I: Integer>(

@@ -3,9 +3,9 @@
 
 use anyhow::Error;
 use bsp_cli::run;
+use phase_records::{Reader, Writer};
 use std::alloc::Global;
 use std::fs;
-use trace_text::{Reader, Writer};
 
 const TRACES: [&str; 5] = ["end", "first", "phases", "plan", "refusals"];
 

@@ -1,10 +1,10 @@
 //! Devices that give or take little, and that fail.
 use crate::runs::{run_on, run_text};
 use bsp_cli::run;
+use phase_records::{Reader, Writer};
 use std::io;
 use std::io::{Read, Write};
 use std::test::Fail;
-use trace_text::{Reader, Writer};
 
 const TRACE: [&str; 2] = ["bsp", "trace"];
 

@@ -12,9 +12,9 @@ mod traces;
 #[cfg(test)]
 mod runs {
     use bsp_cli::run;
+    use phase_records::{Reader, Writer};
     use std::alloc::Global;
     use std::io::Read;
-    use trace_text::{Reader, Writer};
 
     /// What a run of the program left.
     #[derive(Drop)]

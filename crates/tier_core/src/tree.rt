@@ -4,14 +4,14 @@ ghost use Rattle.std.specs.Prelude.{◌≡◌, ℕ, ◌+◌, ◌≤◌, ◌<◌,
 ghost use Rattle.tier_core.specs.Run.{may_call};
 
 use crate::call::{Answer, Call, NotNow, Played, Progress, Step, Turn};
-use crate::step::{step_view, step_word};
 use crate::turn::{above, last_turn, next_turn, word_of};
-use crate::view::View;
 use advance_rule::EndPlan;
 use phaser_word::Word;
 use std::alloc::{AllocError, Global};
 use std::marker::Model;
 use tier_shape::Shape;
+use tier_steps::step::{step_view, step_word};
+use tier_steps::view::View;
 
 /// A tree of phasers with its tokens (own; a tree of Java's `Phaser`s, whose parties are tokens' members).
 ///
@@ -61,9 +61,9 @@ fn words_of(alloc: Global, count: usize, word: Word) -> Result<Vec<Word>, AllocE
 impl Core {
     ghost use Rattle.tier_core.specs.Machine.{State, IsCore, IsNext, view_at, call_at, is_active, is_due, turn_at, played, opened, with_token};
     ghost use Rattle.tier_core.specs.Run as spec;
-    ghost use Rattle.tier_core.specs.Tally.{word_at};
+    ghost use Rattle.tier_steps.specs.Tally.{word_at};
     ghost use Rattle.tier_core.specs.Run.{may_begin, may_go, may_finish, begun, finish_at, IsCall, after, IsStepOfCalls, AreSteps, answer_to, plan_ends, answers, run, IsFlat};
-    ghost use Rattle.tier_core.specs.Image.{image, LooksAlike};
+    ghost use Rattle.tier_steps.specs.Image.{image, LooksAlike};
     ghost use Rattle.flat_phaser.specs.Flat.{Flat};
 
     /// A tree of this shape whose tiers are empty, in this phase, and which ends at an advance if the plan

@@ -9,9 +9,9 @@ use Rattle.trace_text.specs.declared.words.Command.{Command}
 use Rattle.trace_text.specs.declared.fault.TraceFault.{TraceFault}
 use Rattle.trace_text.specs.declared.fault.TraceFault.TheVariants.{Text, Read, Write, Memory}
 use Rattle.trace_text.specs.Answers.{command_text, command_after, run_text}
-use Rattle.trace_text.specs.Device.{AppendsBeginning}
+use Rattle.phase_records.specs.Device.{AppendsBeginning}
 use Rattle.trace_text.specs.Outcome.{Writes, Moves}
-use Rattle.trace_text.proofs.PassedBytes.{Passed, passed_none, passed_part, passed_begun, passed_whole, Appends-none}
+use Rattle.phase_records.proofs.PassedBytes.{Passed, passed_none, passed_part, passed_begun, passed_whole, Appends-none}
 
 -- the flat phaser as it is now, and what still waits or is still to come of the run from f
 pub record RunsOn (plan : CountPlan) (old new : Option (List ℕ)) (waits : List ℕ) (all rest : List Command) (f : Flat) (w : Fields) : Type 0 where

@@ -1,4 +1,3 @@
-pub mod PassedBytes
 pub mod CommandRuns
 pub mod TracedRuns
 pub mod AskedLines

@@ -1,4 +1,3 @@
-pub mod Device
 pub mod Words
 pub mod Parts
 pub mod Trace

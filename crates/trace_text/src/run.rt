@@ -7,15 +7,15 @@ ghost use Rattle.flat_phaser.specs.Flat.{Flat};
 ghost use Rattle.flat_phaser.specs.Alike.{IsAlike};
 ghost use Rattle.phaser_one.specs.Seen.{flat_of};
 ghost use Rattle.trace_text.specs.Answers.{command_text, command_after, run_text, opened_text};
-ghost use Rattle.trace_text.specs.Device.{AppendsBeginning};
+ghost use Rattle.phase_records.specs.Device.{AppendsBeginning};
 ghost use Rattle.trace_text.specs.Outcome.{WriteCause, Writes, Moves, ReadsCause, Traces};
 
-use crate::device::{CountedRead, CountedWrite, ReadFault, read_all, write_all};
 use crate::fault::TraceFault;
 use crate::print::{fault_line, push_advance, push_reply, push_show};
 use crate::trace::read_trace;
 use crate::words::{Command, Head};
 use advance_rule::StoredCount;
+use phase_records::{CountedRead, CountedWrite, ReadFault, read_all, write_all};
 use phaser_one::PhaserOne;
 use std::alloc::{AllocError, Global};
 use text_lines::{Code, Refusal};

@@ -1,0 +1,168 @@
+//! Devices whose failures are counted, and texts read and written whole.
+ghost use Rattle.std.specs.Prelude.{◌≡◌, ℕ, ◌+◌, ◌≤◌, ◌<◌, List, Option, Some, length, IfOk, IfErr, IfSome, IsErrOf, MatchResult, OnOk, is_err, if◌then◌else◌};
+ghost use Rattle.std.specs.Io.KnownBytes.{ReadConsumes, Appends, IsAtEnd, Keeps};
+ghost use Rattle.phase_records.specs.Device.{CountsFailure, TakesSome, AppendsBeginning, ReadCause};
+
+use crate::failures::Failures;
+use std::alloc::{AllocError, Global};
+use std::io::{Read, Write};
+
+/// The device failed in this call.
+#[derive(Clone, Copy, Debug, PartialEq, Eq)]
+pub struct DeviceFailed;
+
+/// A reader that counts its failures.
+pub trait CountedRead {
+    // the bytes that reads will give from here on, where they are known
+    ghost remaining: { Self → Option (List ℕ) };
+
+    // how often the device has failed
+    ghost failures: { Self → ℕ };
+
+    /// Reads some bytes into the buffer; none only at the end, or where the buffer has no room.
+    fn read_some(&mut self, buffer: &mut [u8]) -> Result<usize, DeviceFailed>
+        ensures bound { IfOk result (λ n. n ≤ length buffer.new) }
+        ensures bytes { ReadConsumes (remaining self.old) (remaining self.new) result buffer.new }
+        ensures failures { CountsFailure (failures self.old) (failures self.new) result };
+}
+
+/// A writer that counts its failures.
+pub trait CountedWrite {
+    // the bytes that the writer holds, where they are known
+    ghost contents: { Self → Option (List ℕ) };
+
+    // how often the device has failed
+    ghost failures: { Self → ℕ };
+
+    /// Writes some of the bytes from their front, and says how many.
+    fn write_some(&mut self, bytes: &[u8]) -> Result<usize, DeviceFailed>
+        requires { 0 < length bytes.now }
+        ensures bytes { TakesSome (contents self.old) (contents self.new) result bytes.now }
+        ensures failures { CountsFailure (failures self.old) (failures self.new) result };
+}
+
+/// Any reader, with a count of its failures.
+#[derive(Drop)]
+pub struct Reader<R: Read> {
+    inner: R,
+    failures: Failures,
+}
+
+impl<R: Read> Reader<R> {
+    /// This reader, which has not failed.
+    pub fn new(inner: R) -> Self
+        ensures inner { result.inner ≡ inner }
+        ensures failures { result.failures.count ≡ 0 }
+    {
+        Reader {
+            inner,
+            failures: Failures::new(),
+        }
+    }
+}
+
+impl<R: Read> CountedRead for Reader<R> {
+    ghost remaining = { λ r. R.remaining r.inner };
+
+    ghost failures = { λ r. r.failures.count };
+
+    fn read_some(&mut self, buffer: &mut [u8]) -> Result<usize, DeviceFailed> {
+        match self.inner.read(buffer) {
+            Ok(n) => Ok(n),
+            Err(_) => {
+                self.failures.note();
+                Err(DeviceFailed)
+            }
+        }
+    }
+}
+
+/// Any writer, with a count of its failures.
+#[derive(Drop)]
+pub struct Writer<W: Write> {
+    inner: W,
+    failures: Failures,
+}
+
+impl<W: Write> Writer<W> {
+    /// This writer, which has not failed.
+    pub fn new(inner: W) -> Self
+        ensures inner { result.inner ≡ inner }
+        ensures failures { result.failures.count ≡ 0 }
+    {
+        Writer {
+            inner,
+            failures: Failures::new(),
+        }
+    }
+}
+
+impl<W: Write> CountedWrite for Writer<W> {
+    ghost contents = { λ w. W.contents w.inner };
+
+    ghost failures = { λ w. w.failures.count };
+
+    fn write_some(&mut self, bytes: &[u8]) -> Result<usize, DeviceFailed> {
+        match self.inner.write(bytes) {
+            Ok(n) if n > 0 => Ok(n),
+            _ => {
+                self.failures.note();
+                Err(DeviceFailed)
+            }
+        }
+    }
+}
+
+/// The most bytes of a text.
+pub const MOST_BYTES: usize = 1048576;
+
+/// Why a text was not read.
+#[derive(Clone, Copy, Debug, PartialEq, Eq)]
+pub enum ReadFault {
+    TooLong,
+    Read,
+    Memory,
+}
+
+/// Reads to the end of the reader.
+pub fn read_all<R: CountedRead>(alloc: Global, reader: &mut R) -> Result<Vec<u8>, ReadFault>
+    ensures text { IfOk result (λ text. IfSome (R.remaining reader.old) (λ bytes. text.items ≡ bytes)) }
+    ensures short { IfOk result (λ text. length text.items ≤ MOST_BYTES) }
+    ensures too_long { IsErrOf result ReadFault.TooLong → IfSome (R.remaining reader.old) (λ bytes. MOST_BYTES < length bytes) }
+    ensures failures { ReadCause (R.failures reader.old) (R.failures reader.new) result }
+{
+    let mut text = Vec::new(alloc);
+    let mut buffer = [0u8; 8192];
+    for _ in 0..MOST_BYTES + 1 {
+        let n = match reader.read_some(&mut buffer) {
+            Ok(n) => n,
+            Err(DeviceFailed) => return Err(ReadFault::Read),
+        };
+        if n == 0 {
+            return Ok(text);
+        }
+        if MOST_BYTES - text.len() < n {
+            return Err(ReadFault::TooLong);
+        }
+        if text.extend_from_slice(&buffer[..n]).is_err() {
+            return Err(ReadFault::Memory);
+        }
+    }
+    Err(ReadFault::TooLong)
+}
+
+/// Writes all the bytes.
+#[tactic(auto, using(crate::proofs::PassedBytes::passed_steps))]
+pub fn write_all<W: CountedWrite>(writer: &mut W, bytes: &[u8]) -> Result<(), DeviceFailed>
+    ensures ok { OnOk result (Appends (W.contents writer.old) (W.contents writer.new) bytes.now) }
+    ensures err { AppendsBeginning (W.contents writer.old) (W.contents writer.new) bytes.now }
+    ensures failures { CountsFailure (W.failures writer.old) (W.failures writer.new) result }
+{
+    let mut rest = bytes;
+    while !rest.is_empty() {
+        let n = writer.write_some(rest)?;
+        let (_, after) = rest.split_at(n);
+        rest = after;
+    }
+    Ok(())
+}
