@@ -1,1 +1,2 @@
 pub mod PassedBytes
+pub mod ReportProofs

@@ -1,1 +1,7 @@
 pub mod Device
+pub mod PrintValue
+pub mod Status
+pub mod StatusSeen
+pub mod ReportValue
+pub mod ReportText
+pub mod Written
