@@ -4,3 +4,4 @@ pub mod Seen
 pub mod ArraysView
 pub mod Landing
 pub mod Logs
+pub mod Laws

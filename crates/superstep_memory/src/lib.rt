@@ -3,6 +3,7 @@
 
 pub mod arrays;
 pub mod landing;
+pub mod laws;
 pub mod path;
 #[cfg(test)]
 mod tests;
