@@ -4,3 +4,4 @@ pub mod Runs
 pub mod Rounds
 pub mod Closed
 pub mod Whole
+pub mod LawProofs

@@ -72,12 +72,12 @@ same_tasks ps [] p s g at = refl
 same_tasks ps (x ∷ xs) zero s g at = let e : s ≡ x = cc in ap (λ (y : SlotValue). task_of ps y.task ∷ map task_in (slots_of ps xs)) e
 same_tasks ps (x ∷ xs) (suc p) s g at = ap (λ ts. task_of ps x.task ∷ ts) (same_tasks ps xs p s g at)
 
-set_is_with : (ss : List SlotValue) (p : ℕ) (s : SlotValue) (g : SegmentValue) → slice_get ss p ≡ Some s → slice_set ss p record { task = s.task; done = Some g } ≡ with_segment ss p g
+pub set_is_with : (ss : List SlotValue) (p : ℕ) (s : SlotValue) (g : SegmentValue) → slice_get ss p ≡ Some s → slice_set ss p record { task = s.task; done = Some g } ≡ with_segment ss p g
 set_is_with [] p s g at = refl
 set_is_with (x ∷ xs) zero s g at = let e : s ≡ x = cc in ap (λ (y : SlotValue). record { task = y.task; done = Some g } ∷ xs) e
 set_is_with (x ∷ xs) (suc p) s g at = ap (λ ts. x ∷ ts) (set_is_with xs p s g at)
 
-taken : (r : RoundValue) → IsRound r → status_in r ≡ None → (p : ℕ) (s : SlotValue) (path : List ℕ) (g : SegmentValue)
+pub taken : (r : RoundValue) → IsRound r → status_in r ≡ None → (p : ℕ) (s : SlotValue) (path : List ℕ) (g : SegmentValue)
     → slice_get r.slots p ≡ Some s → deed_at (program_of r.job) r.step p ≡ Some (path, meant (plans r.job.bodies) g)
     → IsRound (with_slots r (slice_set r.slots p record { task = s.task; done = Some g }))
 taken r h run p s path g at d =
@@ -111,7 +111,7 @@ pub record Brings (r : RoundValue) (job : JobValue) (step place q : ℕ) (path :
   pub put : w ≡ record { task = s.task; done = Some g }
   pub known : deed_at (program_of job) step place ≡ Some (path, meant (plans job.bodies) g)
 
-here : (r : RoundValue) (job : JobValue) (step place q : ℕ) (path : List ℕ) (g : SegmentValue) → job ≡ r.job → step ≡ r.step → place ≡ q
+pub here : (r : RoundValue) (job : JobValue) (step place q : ℕ) (path : List ℕ) (g : SegmentValue) → job ≡ r.job → step ≡ r.step → place ≡ q
     → deed_at (program_of job) step place ≡ Some (path, meant (plans job.bodies) g) → deed_at (program_of r.job) r.step q ≡ Some (path, meant (plans r.job.bodies) g)
 here r job step place q path g j s p k =
     sym (λ i. deed_at (program_of (j i)) (s i) (p i)) ∙ k ∙ ap (λ (x : JobValue). Some (path, meant (plans x.bodies) g)) j

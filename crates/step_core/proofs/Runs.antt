@@ -41,7 +41,7 @@ pub goes : (o : Option Status) (st next : State) → o ≡ None → unless_ended
 goes None st next h = refl
 goes (Some s) st next h = cc
 
-stays : (o : Option Status) (s : Status) (st next : State) → o ≡ Some s → unless_ended o st next ≡ st
+pub stays : (o : Option Status) (s : Status) (st next : State) → o ≡ Some s → unless_ended o st next ≡ st
 stays None s st next h = cc
 stays (Some t) s st next h = refl
 

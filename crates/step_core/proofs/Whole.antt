@@ -28,7 +28,7 @@ up_more [] (suc p) g u = tt
 up_more (s ∷ ss) zero g u = (refl, u.1)
 up_more (s ∷ ss) (suc p) g u = (u.0, up_more ss p g u.1)
 
-tasks_stay : (ps : List Plan) (ss : List SlotValue) (p : ℕ) (g : SegmentValue) → map task_in (slots_of ps (with_segment ss p g)) ≡ map task_in (slots_of ps ss)
+pub tasks_stay : (ps : List Plan) (ss : List SlotValue) (p : ℕ) (g : SegmentValue) → map task_in (slots_of ps (with_segment ss p g)) ≡ map task_in (slots_of ps ss)
 tasks_stay ps [] p g = refl
 tasks_stay ps (s ∷ ss) zero g = refl
 tasks_stay ps (s ∷ ss) (suc p) g = ap (λ (ts : List Task). task_of ps s.task ∷ ts) (tasks_stay ps ss p g)

@@ -1,6 +1,7 @@
 pub mod Along
 pub mod FinishedValue
 pub mod JobMeaning
+pub mod Laws
 pub mod OrderValue
 pub mod PathOrder
 pub mod Program

@@ -4,6 +4,7 @@
 mod alone;
 mod closing;
 mod fault;
+pub mod laws;
 mod next;
 mod order;
 mod reading;
