@@ -236,7 +236,7 @@ impl<'j> Round<'j> {
         ensures refused { IfErr result (λ fault. Refuses fault self.old delivery.entry) }
         ensures unchanged { OnErr result (self.new ≡ self.old) }
     {
-        if delivery.step() != self.step {
+        if self.step != delivery.step() {
             return Err(AcceptFault::WrongStep);
         }
         if !self.job.same_as(delivery.job()) {
