@@ -5,3 +5,4 @@ pub mod Rounds
 pub mod Closed
 pub mod Whole
 pub mod LawProofs
+pub mod Apart

@@ -1,7 +1,8 @@
 -- What holds of rounds and of jobs (own).
-use Rattle.std.specs.Prelude.{◌≡◌, ℕ, ◌+◌, ◌≤◌, IsTrue, is_some, List, [], ◌∷◌, ◌++◌, length, None}
+use Rattle.std.specs.Prelude.{◌≡◌, ℕ, ◌+◌, ◌≤◌, true, IsTrue, is_some, List, [], ◌∷◌, ◌++◌, length, None}
+use Rattle.superstep_memory.specs.Paths.{is_rising}
 use Rattle.step_core.specs.Program.{Program}
-use Rattle.step_core.specs.Superstep.{State, superstep, segments, record_of}
+use Rattle.step_core.specs.Superstep.{State, superstep, segments, record_of, live_paths}
 use Rattle.step_core.specs.JobMeaning.{so_far, report_of}
 use Rattle.step_core.specs.Slots.{delivered, first_missing}
 use Rattle.step_core.specs.OrderValue.{DeliveryValue, IsDelivery}
@@ -49,3 +50,7 @@ RecordsTally =
     (p : Program) (st : State) → (superstep p st).fault ≡ None
     → length (superstep p st).live + (record_of st.step (segments p st.arrays st.step st.live)).left
     ≡ (record_of st.step (segments p st.arrays st.step st.live)).parties
+
+-- Live paths strictly rise, so that each live task has a path of its own.
+abbrev pub LivePathsRise : Type 0
+LivePathsRise = (p : Program) (limit n : ℕ) → is_rising (live_paths (so_far p limit n)) ≡ true

@@ -1,5 +1,5 @@
 //! Laws on rounds and on what jobs mean. Each function does nothing: its contract is the law.
-ghost use Rattle.step_core.specs.Laws.{DeliveryOrderIsFree, LongerLimitsOnlyAdd, JobsEnd, RecordsTally};
+ghost use Rattle.step_core.specs.Laws.{DeliveryOrderIsFree, LongerLimitsOnlyAdd, JobsEnd, RecordsTally, LivePathsRise};
 
 /// What a superstep does doesn't depend on the order in which deliveries come.
 pub fn delivery_order_is_free()
@@ -19,4 +19,9 @@ pub fn jobs_end()
 /// Of the parties of a superstep those live on that haven't left.
 pub fn records_tally()
     ensures { RecordsTally }
+{}
+
+/// Live paths strictly rise, so that each live task has a path of its own.
+pub fn live_paths_rise()
+    ensures { LivePathsRise }
 {}
