@@ -11,9 +11,10 @@ use Rattle.task_lang.specs.declared.job.Start.{Start}
 use Rattle.task_lang.specs.Meaning.{Plan, Task, After, Synced, Stopped, Faulted, Segment, segment_of}
 use Rattle.task_lang.specs.Laws.{children}
 use Rattle.task_lang.proofs.AllSegments.{numbers-its-spawns, stays-the-same-task}
-use Rattle.step_core.specs.Program.{Program}
+use Rattle.step_core.specs.Program.{Program, program_of}
+use Rattle.step_core.specs.RoundValue.{RoundValue, IsRound, state_of}
 use Rattle.step_core.specs.PathOrder.{put_in, in_path_order}
-use Rattle.step_core.specs.Superstep.{State, superstep, closed, ended_by, gone_on, segments, first_fault, next_live, living_on, synced}
+use Rattle.step_core.specs.Superstep.{State, superstep, closed, ended_by, gone_on, segments, first_fault, next_live, living_on, synced, live_paths}
 use Rattle.step_core.specs.JobMeaning.{so_far, status, unless_ended, start_tasks}
 use Rattle.step_core.specs.Laws.{LivePathsRise}
 
@@ -377,3 +378,6 @@ in_order p limit (suc k) = by (status limit (so_far p limit k)) (in_order p limi
 
 pub live-paths-rise : LivePathsRise
 live-paths-rise p limit k = (in_order p limit k).rising
+
+pub reached_rises : (r : RoundValue) → IsRound r → is_rising (live_paths (state_of r)) ≡ true
+reached_rises r h = ap (λ (x : State). is_rising (live_paths x)) h.reached.1 ∙ live-paths-rise (program_of r.job) r.limit h.reached.0

@@ -1,5 +1,5 @@
 //! What is read of a round.
-ghost use Rattle.std.specs.Prelude.{◌≡◌, ◌++◌, false, IfOk, OnOk, MatchOption, map};
+ghost use Rattle.std.specs.Prelude.{◌≡◌, ◌≤◌, ◌++◌, length, false, IfOk, OnOk, MatchOption, map};
 ghost use Rattle.step_core.specs.Slots.{all_prints, all_told};
 ghost use Rattle.step_core.specs.SlotParts.{path_of, slot_path, IsPlaceOf};
 ghost use Rattle.step_core.specs.Taking.{is_live};
@@ -8,7 +8,7 @@ use crate::slot::{Finished, Slot, task_path};
 use phase_records::{PhaseRecord, Print};
 use smallvec::SmallVec;
 use std::alloc::{AllocError, Global};
-use superstep_memory::path::Path;
+use superstep_memory::path::{Path, is_before};
 
 /// The live paths, in order.
 pub(crate) fn paths_of(alloc: Global, slots: &[Slot]) -> Result<Vec<Path>, AllocError>
@@ -23,8 +23,25 @@ pub(crate) fn paths_of(alloc: Global, slots: &[Slot]) -> Result<Vec<Path>, Alloc
     Ok(paths)
 }
 
-/// The place of the first task of this path.
-pub(crate) fn find_place(slots: &[Slot], path: &[u16]) -> Option<usize>
+// Where a task of this path is, if paths rise.
+fn guess(slots: &[Slot], path: &[u16]) -> usize
+    ensures { result ≤ length slots.now }
+{
+    let mut low = 0;
+    let mut high = slots.len();
+    while low < high {
+        let middle = low + (high - low) / 2;
+        if is_before(slots[middle].task().path.as_slice(), path) {
+            low = middle + 1;
+        } else {
+            high = middle;
+        }
+    }
+    low
+}
+
+// The place of the first task of this path.
+fn scan(slots: &[Slot], path: &[u16]) -> Option<usize>
     ensures { MatchOption result (is_live slots.now path.now ≡ false) (λ place. IsPlaceOf slots.now path.now place) }
 {
     let mut place = 0;
@@ -37,6 +54,18 @@ pub(crate) fn find_place(slots: &[Slot], path: &[u16]) -> Option<usize>
         rest = after;
     }
     None
+}
+
+/// The place of a task of this path. Live paths rise, so that halving finds it; the answer doesn't rest on that, since
+/// else all are looked at.
+pub(crate) fn find_place(slots: &[Slot], path: &[u16]) -> Option<usize>
+    ensures { MatchOption result (is_live slots.now path.now ≡ false) (λ place. IsPlaceOf slots.now path.now place) }
+{
+    let near = guess(slots, path);
+    if near < slots.len() && slots[near].is_of(path) {
+        return Some(near);
+    }
+    scan(slots, path)
 }
 
 /// What was printed, superstep by superstep.

@@ -98,8 +98,9 @@ fn finish(
 }
 
 impl<'j> Round<'j> {
-    ghost use Rattle.std.specs.Prelude.{◌≡◌, ◌≤◌, ◌<◌, ◌↔◌, None, Some, IsTrue, IfOk, OnOk, IfErr, OnErr, MatchOption, is_some, false, length, map};
+    ghost use Rattle.std.specs.Prelude.{◌≡◌, ◌≤◌, ◌<◌, ◌↔◌, None, Some, IsTrue, IfOk, OnOk, IfErr, OnErr, MatchOption, is_some, true, false, length, map};
     ghost use Rattle.std.specs.Option.{option_map};
+    ghost use Rattle.superstep_memory.specs.Paths.{is_rising};
     ghost use Rattle.phase_records.specs.StatusSeen.{status_seen};
     ghost use Rattle.step_core.specs.Program.{program_of};
     ghost use Rattle.step_core.specs.JobMeaning.{opening, report_in};
@@ -156,9 +157,10 @@ impl<'j> Round<'j> {
         None
     }
 
-    /// The live paths, in order.
+    /// The live paths, in order: they strictly rise.
     pub fn live(&self, alloc: Global) -> Result<Vec<Path>, AllocError>
-        ensures { IfOk result (λ paths. map path_of paths.items ≡ live_paths (state_of self.now)) }
+        ensures live { IfOk result (λ paths. map path_of paths.items ≡ live_paths (state_of self.now)) }
+        ensures rising { is_rising (live_paths (state_of self.now)) ≡ true }
     {
         let paths = paths_of(alloc, &self.slots)?;
         Ok(paths)

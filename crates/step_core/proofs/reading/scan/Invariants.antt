@@ -1,6 +1,6 @@
 use Rattle.std.proofs.Common.{◌≡◌, ◌+◌, length, drop}
 use Rattle.step_core.specs.Taking.{is_live}
-use Rattle.step_core.proofs.reading.find_place.Given as goal
+use Rattle.step_core.proofs.reading.scan.Given as goal
 
 abbrev pub invariant-loop-slot : goal.invariant-loop-slot
 invariant-loop-slot l = record {
