@@ -1,2 +1,3 @@
 pub mod PassedBytes
 pub mod ReportProofs
+pub mod ReportLawProofs

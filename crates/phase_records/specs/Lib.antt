@@ -5,3 +5,4 @@ pub mod StatusSeen
 pub mod ReportValue
 pub mod ReportText
 pub mod Written
+pub mod ReportLaws

@@ -3,6 +3,7 @@
 
 mod device;
 mod failures;
+mod laws;
 mod record;
 mod report;
 
@@ -11,5 +12,6 @@ pub use device::{
     write_all,
 };
 pub use failures::Failures;
+pub use laws::each_step_has_its_prints;
 pub use record::{JobStatus, PhaseRecord, Print, Report};
 pub use report::{WriteFault, write_report};
