@@ -1,1 +1,3 @@
 pub mod PassedBytes
+pub mod ReportProofs
+pub mod ReportLawProofs

@@ -1,1 +1,5 @@
 pub mod Names
+pub mod CellProofs
+pub mod Landed
+pub mod PathOrder
+pub mod LandedLaws

@@ -4,6 +4,8 @@ use Rattle.std.specs.Prelude.{
   ◌≤◌,
   ◌^◌,
   ℕ,
+  zero,
+  suc,
   ℤ,
   pos,
   negsuc,
@@ -21,10 +23,13 @@ use Rattle.std.specs.Prelude.{
   Some,
   None,
   slice_get,
+  slice_set,
+  is_some,
   nat_lt,
   if◌then◌else◌,
 }
 use Rattle.std.specs.Str.{bytes_eq}
+use Rattle.superstep_memory.specs.declared.arrays.Put.{Put}
 
 -- the cell of this number, if it is a cell of these
 abbrev pub cell_in : List ℤ → ℤ → Option ℤ
@@ -51,6 +56,20 @@ place_of (Some a) index = place_in a.1 index
 -- the number of a cell of the array at this place in declared order
 abbrev pub place_at : List (List ℕ × List ℤ) → ℕ → ℤ → Option ℕ
 place_at arrays array index = place_of (slice_get arrays array) index
+
+-- a put is to a cell that is there
+abbrev pub is_cell : List (List ℕ × List ℤ) → Put → Bool
+is_cell arrays put = is_some (place_at arrays put.array (pos put.index))
+
+-- arrays with one value written, if there is such a cell
+abbrev pub with_place : List (List ℕ × List ℤ) → ℕ → ℕ → ℤ → List (List ℕ × List ℤ)
+with_place [] array index value = []
+with_place (a ∷ rest) zero index value = (a.0, slice_set a.1 index value) ∷ rest
+with_place (a ∷ rest) (suc array) index value = a ∷ with_place rest array index value
+
+-- arrays with one put written, if there is its cell
+abbrev pub with_cell : List (List ℕ × List ℤ) → Put → List (List ℕ × List ℤ)
+with_cell arrays put = with_place arrays put.array put.index put.value
 
 -- an array has this name
 abbrev pub has_array : List (List ℕ × List ℤ) → List ℕ → Bool

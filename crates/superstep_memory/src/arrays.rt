@@ -21,7 +21,7 @@ ghost use Rattle.std.specs.Prelude.{
 };
 ghost use Rattle.std.specs.Option.{option_map};
 ghost use Rattle.superstep_memory.specs.Seen.{seen};
-ghost use Rattle.superstep_memory.specs.Cells.{cell_at, place_at, are_distinct, IsNew};
+ghost use Rattle.superstep_memory.specs.Cells.{cell_at, place_at, is_cell, with_cell, are_distinct, IsNew};
 
 use indexmap::IndexMap;
 use std::alloc::{AllocError, Global};
@@ -131,6 +131,25 @@ impl Arrays {
             Some(place)
         } else {
             None
+        }
+    }
+
+    /// Whether a put is to a cell that is there.
+    pub fn has_cell(&self, put: Put) -> bool
+        ensures { result ≡ is_cell self.now put }
+    {
+        self.place(put.array, i64::from(put.index)).is_some()
+    }
+
+    /// Writes a value into its cell, if there is one.
+    pub fn write(&mut self, put: Put)
+        ensures { self.new ≡ with_cell self.old put }
+    {
+        if let Some(cells) = self.by_name.get_index_mut(usize::from(put.array)) {
+            let index = put.index as usize;
+            if index < cells.len() {
+                cells[index] = put.value;
+            }
         }
     }
 

@@ -2,6 +2,8 @@
 #![tactic(auto)]
 
 pub mod arrays;
+pub mod landing;
+pub mod laws;
 pub mod path;
 #[cfg(test)]
 mod tests;

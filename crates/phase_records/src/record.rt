@@ -1,0 +1,81 @@
+//! What is recorded of a job: its supersteps, what was printed, and how it ended.
+use std::marker::Model;
+use superstep_memory::arrays::Arrays;
+use superstep_memory::path::Path;
+
+/// What is recorded of one superstep (own).
+#[derive(Clone, Copy, Debug, PartialEq, Eq)]
+pub struct PhaseRecord {
+    /// Its number, from 0.
+    pub phase: u32,
+    /// How many tasks lived as it began, with those that were spawned in it.
+    pub parties: u32,
+    /// How many tasks stopped.
+    pub left: u32,
+    /// How many tasks were spawned.
+    pub spawned: u32,
+}
+
+/// A value that a task printed (own).
+#[derive(Drop)]
+pub struct Print {
+    /// The superstep, from 0.
+    pub step: u32,
+    /// The path of the task.
+    pub path: Path,
+    /// What was printed.
+    pub value: i64,
+}
+
+impl Model for Print {
+    ghost use Rattle.phase_records.specs.PrintValue.{PrintValue};
+
+    ghost Value = { PrintValue };
+
+    ghost view = { λ p. record { step = p.step; path = p.path.items; value = p.value } };
+}
+
+/// How a job ends (own).
+#[derive(Drop)]
+pub enum JobStatus {
+    /// No task lived any longer after so many supersteps.
+    Ended(u32),
+    /// A task faulted, or too many would have lived.
+    Fault {
+        /// The number of the fault; 7 is that over 4096 tasks would have lived.
+        code: u8,
+        /// The superstep, from 0.
+        step: u32,
+        /// The path of the task; no numbers with fault 7.
+        path: Path,
+    },
+    /// Tasks still lived after so many supersteps, and no more were allowed.
+    Limit(u32),
+}
+
+/// What a job leaves: what it printed and the records of its supersteps, in order, its arrays and its status.
+#[derive(Drop)]
+pub struct Report {
+    /// What was printed, by superstep, then by path, then in program order.
+    pub prints: Vec<Print>,
+    /// A record for each superstep, in order.
+    pub records: Vec<PhaseRecord>,
+    /// The arrays.
+    pub arrays: Arrays,
+    /// How the job ended.
+    pub status: JobStatus,
+}
+
+impl Model for Report {
+    ghost use Rattle.phase_records.specs.ReportValue.{ReportValue};
+    ghost use Rattle.phase_records.specs.StatusSeen.{status_seen};
+
+    ghost Value = { ReportValue };
+
+    ghost view = { λ r. record {
+      prints = r.prints.items;
+      records = r.records.items;
+      arrays = r.arrays;
+      status = status_seen r.status;
+    } };
+}

@@ -1,0 +1,288 @@
+-- What closing a round is.
+use Rattle.std.proofs.Common.{◌≡◌, ℕ, suc, ◌+◌, ◌≤◌, ◌<◌, Bool, true, false, nat_lt, List, [], ◌∷◌, ◌++◌, map, length, Option, Some, None, refl, sym, ap, ◌∙◌, subst, arith}
+use Rattle.std.specs.Prelude.{ℤ, if◌then◌else◌}
+use Rattle.std.specs.Option.{option_map}
+use Rattle.superstep_memory.specs.Landing.{landed, joined}
+use Rattle.phase_records.specs.PrintValue.{PrintValue}
+use Rattle.phase_records.specs.declared.record.PhaseRecord.{PhaseRecord}
+use Rattle.task_lang.specs.TaskValue.{TaskValue}
+use Rattle.task_lang.specs.SegmentValue.{SegmentValue}
+use Rattle.task_lang.specs.Meaning.{Plan, Task, Segment, segment_of}
+use Rattle.task_lang.specs.Views.{plans, task_of, meant}
+use Rattle.task_lang.proofs.AllSegments.{numbers-its-spawns}
+use Rattle.step_core.specs.Program.{Program, program_of}
+use Rattle.step_core.specs.PathOrder.{in_path_order}
+use Rattle.step_core.specs.Superstep.{State, superstep, closed, closed_by, ended_by, gone_on, segments, first_fault, next_live, log_of, prints_of, record_of}
+use Rattle.smallvec.specs.SmallVec.{SmallVec}
+use Rattle.task_lang.specs.JobValue.{JobValue}
+use Rattle.task_lang.specs.declared.job.Start.{Start}
+use Rattle.task_lang.specs.BodyValue.{BodyValue}
+use Rattle.step_core.specs.declared.fault.Outcome.TheVariants.{TooMany, Landed}
+use Rattle.step_core.specs.Taking.{outcome_of, outcome_by}
+use Rattle.step_core.specs.JobMeaning.{so_far, status, opening, start_tasks}
+use Rattle.step_core.specs.SlotValue.{SlotValue}
+use Rattle.step_core.specs.FinishedValue.{FinishedValue}
+use Rattle.step_core.specs.Slots.{Slot, slot_of, slots_of, told_by, task_in, delivered, with_done, first_missing, or_missing, fresh, all_prints, all_told}
+use Rattle.step_core.specs.SlotParts.{path_in, path_of, living_in, fresh_slot, IsSmall, AllSmall}
+use Rattle.step_core.specs.RoundValue.{RoundValue, IsRound, Fits, AllFit, AllFresh, Opens, state_of, status_in, slots_in, whole}
+use Rattle.step_core.proofs.Runs.{goes, no_fault}
+use Rattle.step_core.proofs.InOrder.{put_all_mapped}
+use Rattle.step_core.proofs.Deeds.{living_mapped}
+
+one_delivered : (p : Program) (a : List (List ℕ × List ℤ)) (n : ℕ) (t : Task) (ss : List Slot) (o : Option Segment) → Fits p.plans a n t o
+    → or_missing o t.path (first_missing ss) ≡ None → (first_missing ss ≡ None → delivered ss ≡ segments p a n (map task_in ss))
+    → with_done t.path o (delivered ss) ≡ (t.path, segment_of p.plans t a n) ∷ segments p a n (map task_in ss)
+one_delivered p a n t ss None f m more = cc
+one_delivered p a n t ss (Some g) f m more =
+    ap (λ (x : Segment). (t.path, x) ∷ delivered ss) f ∙ ap (λ xs. (t.path, segment_of p.plans t a n) ∷ xs) (more m)
+
+-- where nothing is missing, what was delivered is what each live task does
+pub all_delivered : (p : Program) (a : List (List ℕ × List ℤ)) (n : ℕ) (ss : List Slot) → AllFit p.plans a n ss → first_missing ss ≡ None
+    → delivered ss ≡ segments p a n (map task_in ss)
+all_delivered p a n [] h m = refl
+all_delivered p a n (s ∷ ss) h m = one_delivered p a n s.task ss s.done h.0 m (λ q. all_delivered p a n ss h.1 q)
+
+pub fresh_mapped : (ps : List Plan) (ts : List TaskValue) → slots_of ps (map fresh_slot ts) ≡ map fresh (map (task_of ps) ts)
+fresh_mapped ps [] = refl
+fresh_mapped ps (t ∷ ts) = ap (λ (xs : List Slot). fresh (task_of ps t) ∷ xs) (fresh_mapped ps ts)
+
+fresh_fit : (ps : List Plan) (a : List (List ℕ × List ℤ)) (n : ℕ) (ts : List Task) → AllFit ps a n (map fresh ts)
+fresh_fit ps a n [] = tt
+fresh_fit ps a n (t ∷ ts) = (tt, fresh_fit ps a n ts)
+
+fresh_tasks : (ts : List Task) → map task_in (map fresh ts) ≡ ts
+fresh_tasks [] = refl
+fresh_tasks (t ∷ ts) = ap (λ xs. t ∷ xs) (fresh_tasks ts)
+
+fresh_length : (ts : List Task) → length (map fresh ts) ≡ length ts
+fresh_length [] = refl
+fresh_length (t ∷ ts) = ap suc (fresh_length ts)
+
+slots_length : (ps : List Plan) (ss : List SlotValue) → length (slots_of ps ss) ≡ length ss
+slots_length ps [] = refl
+slots_length ps (s ∷ ss) = ap suc (slots_length ps ss)
+
+all_fresh : (ts : List TaskValue) → AllFresh (map fresh_slot ts)
+all_fresh [] = tt
+all_fresh (t ∷ ts) = (refl, all_fresh ts)
+
+-- no segment that was delivered spawns over eight tasks
+small_by : (ps : List Plan) (a : List (List ℕ × List ℤ)) (n : ℕ) (t : Task) (o : Option SegmentValue)
+    → Fits ps a n t (option_map (meant ps) o) → IsSmall o
+small_by ps a n t None h = tt
+small_by ps a n t (Some g) h =
+    let l : length (map (task_of ps) g.spawns) ≡ length (segment_of ps t a n).spawns = ap (λ (x : Segment). length x.spawns) h in
+    let m = mapped g.spawns in
+    let few = (numbers-its-spawns ps t a n).0 in
+    omega (arith, l, m, few)
+  where
+    mapped : (ts : List TaskValue) → length (map (task_of ps) ts) ≡ length ts
+    mapped [] = refl
+    mapped (t ∷ ts) = ap suc (mapped ts)
+
+pub all_small : (ps : List Plan) (a : List (List ℕ × List ℤ)) (n : ℕ) (ss : List SlotValue) → AllFit ps a n (slots_of ps ss) → AllSmall ss
+all_small ps a n [] h = tt
+all_small ps a n (s ∷ ss) h = (small_by ps a n (task_of ps s.task) s.done h.0, all_small ps a n ss h.1)
+
+-- a round that is to be closed
+pub record Closes (r : RoundValue) : Type 0 where
+  pub round : IsRound r
+  pub run : status_in r ≡ None
+  pub all : first_missing (slots_in r) ≡ None
+
+abbrev pub deeds : RoundValue → List (List ℕ × Segment)
+deeds r = delivered (slots_in r)
+
+abbrev pub next_state : RoundValue → State
+next_state r = superstep (program_of r.job) (state_of r)
+
+-- a round after one superstep more
+abbrev pub IsClosed : RoundValue → RoundValue → Type 0
+IsClosed r new = IsRound new × Opens new r.job r.limit (next_state r)
+
+one_more : (r : RoundValue) → Closes r → (st : State) → st ≡ next_state r → (n : ℕ) × (st ≡ so_far (program_of r.job) r.limit n)
+one_more r c st e =
+    let n = c.round.reached.0 in
+    let q = c.round.reached.1 in
+    let p = program_of r.job in (
+      suc n,
+      e ∙ ap (superstep p) q ∙ sym (goes (status r.limit (so_far p r.limit n)) (so_far p r.limit n) (superstep p (so_far p r.limit n)) (ap (status r.limit) (sym q) ∙ c.run)),
+    )
+
+-- a superstep by what was delivered
+by_delivered : (r : RoundValue) → Closes r → next_state r ≡ closed (state_of r) (deeds r) (first_fault (deeds r))
+by_delivered r c = ap (closed_by (state_of r)) (sym (all_delivered (program_of r.job) r.arrays r.step (slots_in r) c.round.fits c.all))
+
+-- a round that a fault ended
+by_fault : (r : RoundValue) → Closes r → (f : ℕ × List ℕ) → next_state r ≡ ended_by (state_of r) f → IsClosed r (record r { fault = Some f })
+by_fault r c f e = (
+  record { reached = one_more r c (ended_by (state_of r) f) (sym e); fits = c.round.fits; few = c.round.few },
+  record { job = refl; limit = refl; state = sym e; none_yet = λ h. cc },
+)
+
+pub faulted : (r : RoundValue) → Closes r → (f : ℕ × List ℕ) → first_fault (deeds r) ≡ Some f → IsClosed r (record r { fault = Some f })
+faulted r c f h = by_fault r c f (by_delivered r c ∙ ap (closed (state_of r) (deeds r)) h)
+
+chosen : (b : Bool) (x y : State) → b ≡ true → (if b then x else y) ≡ x
+chosen true x y h = refl
+chosen false x y h = cc
+
+other : (b : Bool) (x y : State) → b ≡ false → (if b then x else y) ≡ y
+other true x y h = cc
+other false x y h = refl
+
+-- the next live tasks as the code has them
+pub next_mapped : (ps : List Plan) (ss : List SlotValue) → map (task_of ps) (in_path_order path_in (living_in ss)) ≡ next_live (delivered (slots_of ps ss))
+next_mapped ps ss =
+    put_all_mapped path_in (λ (t : Task). t.path) (task_of ps) (λ t. refl) (living_in ss) []
+    ∙ ap (in_path_order (λ (t : Task). t.path)) (living_mapped ps ss)
+
+next_length : (r : RoundValue) (xs : List SlotValue) → xs ≡ map fresh_slot (in_path_order path_in (living_in r.slots)) → length (next_live (deeds r)) ≡ length xs
+next_length r xs e =
+    let ps = plans r.job.bodies in
+    ap length (sym (next_mapped ps r.slots))
+    ∙ sym (fresh_length (map (task_of ps) (in_path_order path_in (living_in r.slots))))
+    ∙ ap length (sym (fresh_mapped ps (in_path_order path_in (living_in r.slots))))
+    ∙ ap (λ (ys : List SlotValue). length (slots_of ps ys)) (sym e)
+    ∙ slots_length ps xs
+
+-- too many would live on
+pub ended_by_many : (r : RoundValue) → Closes r → first_fault (deeds r) ≡ None → (xs : List SlotValue)
+    → xs ≡ map fresh_slot (in_path_order path_in (living_in r.slots)) → 4096 < length xs
+    → (f : ℕ × List ℕ) → f ≡ (7, []) → IsClosed r (record r { fault = Some f })
+ended_by_many r c none xs ex lt f ef =
+    let l = next_length r xs ex in
+    let b : nat_lt 4096 (length (next_live (deeds r))) ≡ true = grind arith in
+    by_fault r c f
+    (by_delivered r c ∙ ap (closed (state_of r) (deeds r)) none ∙ chosen _ _ _ b ∙ ap (ended_by (state_of r)) (sym ef))
+
+-- the round goes on
+pub gone_further : (r : RoundValue) → Closes r → first_fault (deeds r) ≡ None → (xs : List SlotValue)
+    → xs ≡ map fresh_slot (in_path_order path_in (living_in r.slots)) → length xs ≤ 4096
+    → (a : List (List ℕ × List ℤ)) → a ≡ landed (joined (map log_of (deeds r))) r.arrays
+    → (prints : List PrintValue) → prints ≡ r.prints ++ prints_of r.step (deeds r)
+    → (records : List PhaseRecord) → records ≡ r.records ++ record_of r.step (deeds r) ∷ []
+    → IsClosed r (record r { step = r.step + 1; arrays = a; slots = xs; prints = prints; records = records })
+gone_further r c none xs ex le a ea prints ep records er =
+    let ps = plans r.job.bodies in
+    let ts = in_path_order path_in (living_in r.slots) in
+    let l = next_length r xs ex in
+    let b : nat_lt 4096 (length (next_live (deeds r))) ≡ false = grind arith in
+    let k : next_state r ≡ gone_on (state_of r) (deeds r) (next_live (deeds r)) =
+    by_delivered r c ∙ ap (closed (state_of r) (deeds r)) none ∙ other _ _ _ b in
+    let slots : slots_of ps xs ≡ map fresh (map (task_of ps) ts) = ap (slots_of ps) ex ∙ fresh_mapped ps ts in
+    let live : map task_in (slots_of ps xs) ≡ next_live (deeds r) = ap (map task_in) slots ∙ fresh_tasks (map (task_of ps) ts) ∙ next_mapped ps r.slots in
+    let s : state_of (record r { step = r.step + 1; arrays = a; slots = xs; prints = prints; records = records }) ≡ next_state r =
+    (λ i. record { step = r.step + 1; arrays = ea i; live = live i; prints = ep i; records = er i; fault = no_fault r.limit (state_of r) c.run i }) ∙ sym k in (
+      record {
+        reached = one_more r c _ s;
+        fits = subst (AllFit ps a (r.step + 1)) (sym slots) (fresh_fit ps a (r.step + 1) (map (task_of ps) ts));
+        few = le;
+      },
+      record { job = refl; limit = refl; state = s; none_yet = λ h. subst AllFresh (sym ex) (all_fresh ts) },
+    )
+
+-- one superstep more was printed and recorded
+pub more_prints : (fs gs : List FinishedValue) (f : FinishedValue) → gs ≡ fs ++ f ∷ [] → all_prints gs ≡ all_prints fs ++ f.prints
+more_prints fs gs f e = ap all_prints e ∙ by fs
+  where
+    nil : (xs : List PrintValue) → xs ++ [] ≡ xs
+    nil [] = refl
+    nil (x ∷ xs) = ap (λ ys. x ∷ ys) (nil xs)
+
+    assoc : (xs ys zs : List PrintValue) → xs ++ (ys ++ zs) ≡ (xs ++ ys) ++ zs
+    assoc [] ys zs = refl
+    assoc (x ∷ xs) ys zs = ap (λ ws. x ∷ ws) (assoc xs ys zs)
+
+    by : (fs : List FinishedValue) → all_prints (fs ++ f ∷ []) ≡ all_prints fs ++ f.prints
+    by [] = nil f.prints
+    by (g ∷ gs) = ap (λ (xs : List PrintValue). g.prints ++ xs) (by gs) ∙ assoc g.prints (all_prints gs) f.prints
+
+pub more_told : (fs gs : List FinishedValue) (f : FinishedValue) → gs ≡ fs ++ f ∷ [] → all_told gs ≡ all_told fs ++ f.told ∷ []
+more_told fs gs f e = ap all_told e ∙ by fs
+  where
+    by : (fs : List FinishedValue) → all_told (fs ++ f ∷ []) ≡ all_told fs ++ f.told ∷ []
+    by [] = refl
+    by (g ∷ gs) = ap (λ (xs : List PhaseRecord). g.told ∷ xs) (by gs)
+
+-- as the code keeps it
+pub went_on : (job : JobValue) (limit step : ℕ) (arrays : List (List ℕ × List ℤ)) (slots : List SlotValue) (finished : List FinishedValue) (fault : Option (ℕ × List ℕ))
+    → Closes (whole job limit step arrays slots finished fault) → first_fault (deeds (whole job limit step arrays slots finished fault)) ≡ None
+    → (xs : List SlotValue) → xs ≡ map fresh_slot (in_path_order path_in (living_in slots)) → length xs ≤ 4096
+    → (a : List (List ℕ × List ℤ)) → a ≡ landed (joined (map log_of (deeds (whole job limit step arrays slots finished fault)))) arrays
+    → (fs : List FinishedValue) → fs ≡ finished ++ told_by step (deeds (whole job limit step arrays slots finished fault)) ∷ []
+    → IsClosed (whole job limit step arrays slots finished fault) (whole job limit (step + 1) a xs fs fault)
+went_on job limit step arrays slots finished fault c none xs ex le a ea fs ef =
+    let f = told_by step (deeds (whole job limit step arrays slots finished fault)) in
+    gone_further (whole job limit step arrays slots finished fault) c none xs ex le a ea
+    (all_prints fs) (more_prints finished fs f ef) (all_told fs) (more_told finished fs f ef)
+
+pub closed_now : (r now new : RoundValue) → r ≡ now → IsClosed r new → Opens new now.job now.limit (next_state now)
+closed_now r now new e h = subst (λ x. Opens new x.job x.limit (next_state x)) e h.1
+
+pub none_found : (ps : List Plan) (xs ss : List SlotValue) (o : Option (SmallVec ℕ)) → option_map path_of o ≡ first_missing (slots_of ps xs) → xs ≡ ss → o ≡ None → first_missing (slots_of ps ss) ≡ None
+none_found ps xs ss o h e n = ap (λ (ys : List SlotValue). first_missing (slots_of ps ys)) (sym e) ∙ sym h ∙ ap (option_map path_of) n
+
+pub found : (ps : List Plan) (xs ss : List SlotValue) (o p : Option (ℕ × List ℕ)) → o ≡ first_fault (delivered (slots_of ps xs)) → xs ≡ ss → o ≡ p → first_fault (delivered (slots_of ps ss)) ≡ p
+found ps xs ss o p h e n = ap (λ (ys : List SlotValue). first_fault (delivered (slots_of ps ys))) (sym e) ∙ sym h ∙ n
+
+pub many_outcome : (r now : RoundValue) → r ≡ now → first_fault (deeds r) ≡ None → (xs : List SlotValue)
+    → xs ≡ map fresh_slot (in_path_order path_in (living_in r.slots)) → 4096 < length xs → TooMany ≡ outcome_of (deeds now)
+many_outcome r now e none xs ex lt =
+    let l = next_length r xs ex in
+    let b : nat_lt 4096 (length (next_live (deeds r))) ≡ true = grind arith in
+    sym (ap (λ (x : RoundValue). outcome_of (deeds x)) (sym e) ∙ ap (λ f. outcome_by f (length (next_live (deeds r)))) none
+    ∙ ap (λ t. if t then TooMany else Landed) b)
+
+pub few_outcome : (r now : RoundValue) → r ≡ now → first_fault (deeds r) ≡ None → (xs : List SlotValue)
+    → xs ≡ map fresh_slot (in_path_order path_in (living_in r.slots)) → length xs ≤ 4096 → Landed ≡ outcome_of (deeds now)
+few_outcome r now e none xs ex le =
+    let l = next_length r xs ex in
+    let b : nat_lt 4096 (length (next_live (deeds r))) ≡ false = grind arith in
+    sym (ap (λ (x : RoundValue). outcome_of (deeds x)) (sym e) ∙ ap (λ f. outcome_by f (length (next_live (deeds r)))) none
+    ∙ ap (λ t. if t then TooMany else Landed) b)
+
+-- a round as it opens
+pub opened : (job : JobValue) (limit : ℕ) (arrays : List (List ℕ × List ℤ)) (slots : List SlotValue)
+    → arrays ≡ job.arrays → slots_of (plans job.bodies) slots ≡ map fresh (start_tasks (plans job.bodies) 0 job.starts) → length job.starts ≤ 4096
+    → IsRound (whole job limit 0 arrays slots [] None) × Opens (whole job limit 0 arrays slots [] None) job limit (opening (program_of job))
+opened job limit arrays slots ea es le =
+    let ps = plans job.bodies in
+    let s : state_of (whole job limit 0 arrays slots [] None) ≡ opening (program_of job) =
+    (λ i. record { step = 0; arrays = ea i; live = (ap (map task_in) es ∙ fresh_tasks (start_tasks ps 0 job.starts)) i; prints = []; records = []; fault = None }) in
+    let l : length slots ≡ length job.starts =
+    sym (slots_length ps slots) ∙ ap length es ∙ fresh_length (start_tasks ps 0 job.starts) ∙ starts_length ps 0 job.starts in (
+      record {
+        reached = (0, s);
+        fits = subst (AllFit ps arrays 0) (sym es) (fresh_fit ps arrays 0 (start_tasks ps 0 job.starts));
+        few = subst (λ n. n ≤ 4096) (sym l) le;
+      },
+      record { job = refl; limit = refl; state = s; none_yet = λ h. none_done ps slots (start_tasks ps 0 job.starts) es },
+    )
+  where
+    starts_length : (ps : List Plan) (n : ℕ) (ss : List Start) → length (start_tasks ps n ss) ≡ length ss
+    starts_length ps n [] = refl
+    starts_length ps n (s ∷ ss) = ap suc (starts_length ps (suc n) ss)
+
+    not_some : (ps : List Plan) (o : Option SegmentValue) → option_map (meant ps) o ≡ None → o ≡ None
+    not_some ps None h = refl
+    not_some ps (Some g) h = cc
+
+    none_done : (ps : List Plan) (ss : List SlotValue) (ts : List Task) → slots_of ps ss ≡ map fresh ts → AllFresh ss
+    none_done ps [] ts h = tt
+    none_done ps (s ∷ ss) [] h = cc
+    none_done ps (s ∷ ss) (t ∷ ts) h =
+        let first : slot_of ps s ≡ fresh t = cc in
+        let rest : slots_of ps ss ≡ map fresh ts = cc in
+        (not_some ps s.done (ap (λ (x : Slot). x.done) first), none_done ps ss ts rest)
+
+pub opened_so : (job : JobValue) (limit : ℕ) (arrays : List (List ℕ × List ℤ)) (slots : List SlotValue) (finished : List FinishedValue)
+    → arrays ≡ job.arrays → finished ≡ [] → (bodies : List BodyValue) → bodies ≡ job.bodies → (starts : List Start) → starts ≡ job.starts
+    → slots_of (plans bodies) slots ≡ map fresh (start_tasks (plans bodies) 0 starts) → length job.starts ≤ 4096
+    → IsRound (whole job limit 0 arrays slots finished None) × Opens (whole job limit 0 arrays slots finished None) job limit (opening (program_of job))
+opened_so job limit arrays slots finished ea ef bodies eb starts es h le =
+    let at : slots_of (plans job.bodies) slots ≡ map fresh (start_tasks (plans job.bodies) 0 job.starts) =
+    ap (λ (b : List BodyValue). slots_of (plans b) slots) (sym eb) ∙ h
+    ∙ (λ i. map fresh (start_tasks (plans (eb i)) 0 (es i))) in
+    subst (λ (fs : List FinishedValue). IsRound (whole job limit 0 arrays slots fs None) × Opens (whole job limit 0 arrays slots fs None) job limit (opening (program_of job)))
+    (sym ef) (opened job limit arrays slots ea at le)

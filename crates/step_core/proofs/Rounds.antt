@@ -1,0 +1,199 @@
+-- What a round's orders and deliveries are.
+use Rattle.std.proofs.Common.{◌≡◌, ℕ, zero, suc, ◌+◌, ◌≤◌, ◌<◌, true, false, List, [], ◌∷◌, map, length, Some, None, slice_get, slice_set, drop, add-one, get_or, refl, sym, ap, ◌∙◌, subst, arith}
+use Rattle.std.specs.Prelude.{ℤ, is_some, ◌||◌}
+use Rattle.std.specs.Str.{bytes_eq}
+use Rattle.step_core.specs.SlotParts.{IsPlaceOf, IsPath, slot_path}
+use Rattle.std.proofs.lemmas.List.{length-set}
+use Rattle.task_lang.specs.JobValue.{JobValue}
+use Rattle.task_lang.specs.TaskValue.{TaskValue}
+use Rattle.task_lang.specs.SegmentValue.{SegmentValue}
+use Rattle.task_lang.specs.Meaning.{Plan, Task, Segment, segment_of}
+use Rattle.task_lang.specs.Views.{plans, task_of, meant}
+use Rattle.step_core.specs.Program.{program_of}
+use Rattle.step_core.specs.Superstep.{State}
+use Rattle.step_core.specs.JobMeaning.{state_at, status}
+use Rattle.step_core.specs.SlotValue.{SlotValue}
+use Rattle.step_core.specs.Slots.{slots_of, task_in, with_segment}
+use Rattle.step_core.specs.OrderValue.{order_value, IsOrder, deed_of, deed_at, DeliveryValue, IsDelivery}
+use Rattle.step_core.specs.Taking.{IsFor, IsOrdered, is_done, is_live, Takes}
+use Rattle.step_core.specs.RoundValue.{RoundValue, IsRound, AllFit, state_of, status_in, with_slots}
+use Rattle.step_core.proofs.Runs.{going_on}
+
+pub running : (r : RoundValue) → IsRound r → status_in r ≡ None → state_of r ≡ state_at (program_of r.job) r.step
+running r h run =
+    let n = h.reached.0 in
+    let e = h.reached.1 in
+    let g = going_on (program_of r.job) r.limit n (ap (status r.limit) (sym e) ∙ run) in
+    let k : r.step ≡ n = ap (λ (x : State). x.step) e ∙ g.step in
+    e ∙ g.same ∙ ap (state_at (program_of r.job)) (sym k)
+
+pub slot_task : (ps : List Plan) (ss : List SlotValue) (p : ℕ) (s : SlotValue) → slice_get ss p ≡ Some s → slice_get (map task_in (slots_of ps ss)) p ≡ Some (task_of ps s.task)
+slot_task ps [] p s h = cc
+slot_task ps (x ∷ xs) zero s h = let e : x ≡ s = cc in ap (λ (y : SlotValue). Some (task_of ps y.task)) e
+slot_task ps (x ∷ xs) (suc p) s h = slot_task ps xs p s h
+
+pub is_order : (r : RoundValue) → IsRound r → status_in r ≡ None → (p : ℕ) (s : SlotValue) (t : TaskValue) (a : List (List ℕ × List ℤ))
+    → slice_get r.slots p ≡ Some s → t ≡ s.task → a ≡ r.arrays → IsOrder (order_value r.job r.step p t a)
+is_order r h run p s t a at et ea =
+    let e = running r h run in
+    record {
+      step = ap (λ (x : State). x.step) (sym e);
+      task = ap (λ (x : State). slice_get x.live p) (sym e) ∙ slot_task (plans r.job.bodies) r.slots p s at
+          ∙ ap (λ (x : TaskValue). Some (task_of (plans r.job.bodies) x)) (sym et);
+      arrays = ea ∙ ap (λ (x : State). x.arrays) e;
+    }
+
+some_is : {A : Type 0} (x y : A) → Some x ≡ Some y → x ≡ y
+some_is x y h = cc
+
+abbrev IsDeed : List ℕ × Segment → List ℕ × Segment → Type 0
+IsDeed x y = x ≡ y
+
+-- what was delivered is the segment of the task of its place
+pub delivered_is : (r : RoundValue) → IsRound r → status_in r ≡ None → (p : ℕ) (s : SlotValue) (path : List ℕ) (g : Segment)
+    → slice_get r.slots p ≡ Some s → deed_at (program_of r.job) r.step p ≡ Some (path, g)
+    → IsDeed (s.task.path, segment_of (plans r.job.bodies) (task_of (plans r.job.bodies) s.task) r.arrays r.step) (path, g)
+delivered_is r h run p s path g at d =
+    let e = running r h run in
+    some_is _ _
+    (sym (ap (deed_of (program_of r.job) (state_of r)) (slot_task (plans r.job.bodies) r.slots p s at))
+    ∙ ap (λ (x : State). deed_of (program_of r.job) x (slice_get x.live p)) e ∙ d)
+
+fits_more : (ps : List Plan) (a : List (List ℕ × List ℤ)) (n : ℕ) (ss : List SlotValue) (p : ℕ) (s : SlotValue) (g : SegmentValue)
+    → AllFit ps a n (slots_of ps ss) → slice_get ss p ≡ Some s → meant ps g ≡ segment_of ps (task_of ps s.task) a n
+    → AllFit ps a n (slots_of ps (slice_set ss p record { task = s.task; done = Some g }))
+fits_more ps a n [] p s g h at e = h
+fits_more ps a n (x ∷ xs) zero s g h at e = (e, h.1)
+fits_more ps a n (x ∷ xs) (suc p) s g h at e = (h.0, fits_more ps a n xs p s g h.1 at e)
+
+same_tasks : (ps : List Plan) (ss : List SlotValue) (p : ℕ) (s : SlotValue) (g : SegmentValue) → slice_get ss p ≡ Some s
+    → map task_in (slots_of ps (slice_set ss p record { task = s.task; done = Some g })) ≡ map task_in (slots_of ps ss)
+same_tasks ps [] p s g at = refl
+same_tasks ps (x ∷ xs) zero s g at = let e : s ≡ x = cc in ap (λ (y : SlotValue). task_of ps y.task ∷ map task_in (slots_of ps xs)) e
+same_tasks ps (x ∷ xs) (suc p) s g at = ap (λ ts. task_of ps x.task ∷ ts) (same_tasks ps xs p s g at)
+
+pub set_is_with : (ss : List SlotValue) (p : ℕ) (s : SlotValue) (g : SegmentValue) → slice_get ss p ≡ Some s → slice_set ss p record { task = s.task; done = Some g } ≡ with_segment ss p g
+set_is_with [] p s g at = refl
+set_is_with (x ∷ xs) zero s g at = let e : s ≡ x = cc in ap (λ (y : SlotValue). record { task = y.task; done = Some g } ∷ xs) e
+set_is_with (x ∷ xs) (suc p) s g at = ap (λ ts. x ∷ ts) (set_is_with xs p s g at)
+
+pub taken : (r : RoundValue) → IsRound r → status_in r ≡ None → (p : ℕ) (s : SlotValue) (path : List ℕ) (g : SegmentValue)
+    → slice_get r.slots p ≡ Some s → deed_at (program_of r.job) r.step p ≡ Some (path, meant (plans r.job.bodies) g)
+    → IsRound (with_slots r (slice_set r.slots p record { task = s.task; done = Some g }))
+taken r h run p s path g at d =
+    let deed = delivered_is r h run p s path (meant (plans r.job.bodies) g) at d in
+    let l : length (slice_set r.slots p record { task = s.task; done = Some g }) ≡ length r.slots = length-set r.slots p record { task = s.task; done = Some g } in
+    record {
+      reached = (h.reached.0, ap (λ (ts : List Task). record (state_of r) { live = ts }) (same_tasks (plans r.job.bodies) r.slots p s g at) ∙ h.reached.1);
+      fits = fits_more (plans r.job.bodies) r.arrays r.step r.slots p s g h.fits at (sym (ap (λ (x : List ℕ × Segment). x.1) deed));
+      few = subst (λ k. k ≤ 4096) (sym l) h.few;
+    }
+
+pub slot_at : (ss : List SlotValue) (p : ℕ) (s : SlotValue) → p < length ss → s ≡ get_or ss p s → slice_get ss p ≡ Some s
+slot_at [] p s lt e = absurd (omega arith)
+slot_at (x ∷ xs) zero s lt e = ap Some (sym e)
+slot_at (x ∷ xs) (suc p) s lt e = slot_at xs p s (omega arith) e
+
+pub no_slot : (ss : List SlotValue) (p : ℕ) → length ss ≤ p → slice_get ss p ≡ None
+no_slot [] p le = refl
+no_slot (x ∷ xs) zero le = absurd (omega arith)
+no_slot (x ∷ xs) (suc p) le = no_slot xs p (omega arith)
+
+-- a delivery of this job and step to a place
+pub record Brings (r : RoundValue) (job : JobValue) (step place q : ℕ) (path : List ℕ) (s w : SlotValue) (g : SegmentValue) : Type 0 where
+  pub round : IsRound r
+  pub run : status_in r ≡ None
+  pub same_job : job ≡ r.job
+  pub same_step : step ≡ r.step
+  pub same_place : place ≡ q
+  pub below : q < length r.slots
+  pub slot : s ≡ get_or r.slots q s
+  pub put : w ≡ record { task = s.task; done = Some g }
+  pub known : deed_at (program_of job) step place ≡ Some (path, meant (plans job.bodies) g)
+
+pub here : (r : RoundValue) (job : JobValue) (step place q : ℕ) (path : List ℕ) (g : SegmentValue) → job ≡ r.job → step ≡ r.step → place ≡ q
+    → deed_at (program_of job) step place ≡ Some (path, meant (plans job.bodies) g) → deed_at (program_of r.job) r.step q ≡ Some (path, meant (plans r.job.bodies) g)
+here r job step place q path g j s p k =
+    sym (λ i. deed_at (program_of (j i)) (s i) (p i)) ∙ k ∙ ap (λ (x : JobValue). Some (path, meant (plans x.bodies) g)) j
+
+pub taken_at : (r : RoundValue) (job : JobValue) (step place q : ℕ) (path : List ℕ) (s w : SlotValue) (g : SegmentValue)
+    → Brings r job step place q path s w g → IsRound (with_slots r (slice_set r.slots q w))
+taken_at r job step place q path s w g b =
+    let at = slot_at r.slots q s b.below b.slot in
+    subst (λ x. IsRound (with_slots r (slice_set r.slots q x))) (sym b.put)
+    (taken r b.round b.run q s path g at (here r job step place q path g b.same_job b.same_step b.same_place b.known))
+
+-- the slot of its place is for its task
+pub for_task : (r : RoundValue) (job : JobValue) (step place q : ℕ) (path : List ℕ) (s : SlotValue) (g : SegmentValue) → IsRound r → status_in r ≡ None
+    → job ≡ r.job → step ≡ r.step → place ≡ q → slice_get r.slots q ≡ Some s
+    → deed_at (program_of job) step place ≡ Some (path, meant (plans job.bodies) g) → s.task.path ≡ path
+for_task r job step place q path s g h run j e p at k =
+    ap (λ (x : List ℕ × Segment). x.0) (delivered_is r h run q s path (meant (plans r.job.bodies) g) at (here r job step place q path g j e p k))
+
+pub is_taken : (ss : List SlotValue) (p : ℕ) (s w : SlotValue) (g : SegmentValue) → p < length ss → s ≡ get_or ss p s → w ≡ record { task = s.task; done = Some g } → slice_set ss p w ≡ with_segment ss p g
+is_taken ss p s w g lt e h = ap (slice_set ss p) h ∙ set_is_with ss p s g (slot_at ss p s lt e)
+
+-- a delivery that meets a slot
+pub record Meets (r : RoundValue) (d : DeliveryValue) (q : ℕ) (s : SlotValue) : Type 0 where
+  pub round : IsRound r
+  pub run : status_in r ≡ None
+  pub job : d.job ≡ r.job
+  pub step : d.step ≡ r.step
+  pub place : d.place ≡ q
+  pub below : q < length r.slots
+  pub slot : s ≡ get_or r.slots q s
+  pub known : IsDelivery d
+
+slot_there : (r : RoundValue) (d : DeliveryValue) (q : ℕ) (s : SlotValue) → Meets r d q s → slice_get r.slots d.place ≡ Some s
+slot_there r d q s m = ap (slice_get r.slots) m.place ∙ slot_at r.slots q s m.below m.slot
+
+is_ordered : (r : RoundValue) (d : DeliveryValue) (q : ℕ) (s : SlotValue) → Meets r d q s → IsOrdered r d
+is_ordered r d q s m = (
+  m.job,
+  subst (IsFor d.path) (sym (slot_there r d q s m))
+      (for_task r d.job d.step d.place q d.path s d.segment m.round m.run m.job m.step m.place (slot_at r.slots q s m.below m.slot) m.known),
+)
+
+pub is_double : (r now : RoundValue) → r ≡ now → (d : DeliveryValue) (q : ℕ) (s : SlotValue) → Meets r d q s → is_some s.done ≡ true
+    → (d.step ≡ now.step) × IsOrdered now d × (is_done (slice_get now.slots d.place) ≡ true)
+is_double r now e d q s m t =
+    subst (λ (x : RoundValue). (d.step ≡ x.step) × IsOrdered x d × (is_done (slice_get x.slots d.place) ≡ true)) e
+    (m.step, is_ordered r d q s m, ap is_done (slot_there r d q s m) ∙ t)
+
+pub is_first : (r now : RoundValue) → r ≡ now → (d : DeliveryValue) (q : ℕ) (s : SlotValue) → Meets r d q s → is_some s.done ≡ false → Takes now d
+is_first r now e d q s m t =
+    subst (λ (x : RoundValue). Takes x d) e
+    record { step = m.step; ordered = is_ordered r d q s m; first = ap is_done (slot_there r d q s m) ∙ t }
+
+pub is_stranger : (now : RoundValue) (d : DeliveryValue) (slots : List SlotValue) → slots ≡ now.slots → (q : ℕ) → d.place ≡ q → length slots ≤ q → IsOrdered now d → ⊥
+is_stranger now d slots e q p le o =
+    subst (IsFor d.path) (ap (λ (ss : List SlotValue). slice_get ss d.place) (sym e) ∙ ap (slice_get slots) p ∙ no_slot slots q le) o.1
+
+-- the slot in front of what is left
+pub slot_left : (ss rest after : List SlotValue) (p : ℕ) (s : SlotValue) → rest ≡ drop p ss → rest ≡ s ∷ after → slice_get ss p ≡ Some s
+slot_left ss rest after p s d e = by ss p (sym d ∙ e)
+  where
+    by : (ss : List SlotValue) (p : ℕ) → drop p ss ≡ s ∷ after → slice_get ss p ≡ Some s
+    by [] zero h = cc
+    by [] (suc p) h = cc
+    by (x ∷ xs) zero h = cc
+    by (x ∷ xs) (suc p) h = by xs p h
+
+pub rest_left : (ss rest after : List SlotValue) (p : ℕ) (s : SlotValue) → rest ≡ drop p ss → rest ≡ s ∷ after → after ≡ drop (p + 1) ss
+rest_left ss rest after p s d e = by ss p (sym d ∙ e) ∙ ap (λ (k : ℕ). drop k ss) (sym (add-one p))
+  where
+    by : (ss : List SlotValue) (p : ℕ) → drop p ss ≡ s ∷ after → after ≡ drop (suc p) ss
+    by [] zero h = cc
+    by [] (suc p) h = cc
+    by (x ∷ xs) zero h = cc
+    by (x ∷ xs) (suc p) h = by xs p h
+
+pub is_place : (ss : List SlotValue) (path : List ℕ) (p : ℕ) (s : SlotValue) → p < length ss → slice_get ss p ≡ Some s → s.task.path ≡ path → IsPlaceOf ss path p
+is_place ss path p s lt at e = record { below = lt; path = subst (IsPath path) (sym at) e }
+
+pub live_left : (rest after : List SlotValue) (path : List ℕ) (s : SlotValue) → rest ≡ s ∷ after → bytes_eq s.task.path path ≡ false → is_live rest path ≡ is_live after path
+live_left rest after path s e h = ap (λ ss. is_live ss path) e ∙ ap (λ b. b || is_live after path) h
+
+pub slot_paths : (ps : List Plan) (ss : List SlotValue) → map slot_path ss ≡ map (λ (t : Task). t.path) (map task_in (slots_of ps ss))
+slot_paths ps [] = refl
+slot_paths ps (s ∷ ss) = ap (λ xs. s.task.path ∷ xs) (slot_paths ps ss)

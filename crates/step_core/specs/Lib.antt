@@ -1,0 +1,13 @@
+pub mod Along
+pub mod FinishedValue
+pub mod JobMeaning
+pub mod Laws
+pub mod OrderValue
+pub mod PathOrder
+pub mod Program
+pub mod SlotParts
+pub mod SlotValue
+pub mod Slots
+pub mod Superstep
+pub mod RoundValue
+pub mod Taking

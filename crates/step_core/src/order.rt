@@ -1,0 +1,185 @@
+//! Orders and deliveries.
+ghost use Rattle.std.specs.Prelude.{◌≡◌, IfOk, map};
+ghost use Rattle.step_core.specs.SlotParts.{path_of, path_in};
+
+use crate::slot::task_path;
+use std::alloc::{AllocError, Global};
+use std::marker::Model;
+use std::sync::Arc;
+use superstep_memory::arrays::Arrays;
+use superstep_memory::path::Path;
+use task_lang::job::Job;
+use task_lang::segment::segment;
+use task_lang::task::{After, Segment, Task};
+
+/// What the segment of a live task needs: its job, its step, the task and the opening arrays. It is one of the
+/// job's supersteps. The arrays are shared among the orders of a superstep.
+#[derive(Drop)]
+pub struct Order<'j> {
+    job: &'j Job,
+    step: u32,
+    place: usize,
+    task: Task,
+    arrays: Arc<Arrays>,
+}
+
+impl<'j> Model for Order<'j> {
+    ghost use Rattle.step_core.specs.OrderValue.{OrderValue, order_value, IsOrder};
+    ghost use Rattle.std.specs.Arc.{arc_value};
+
+    ghost Value = { OrderValue };
+
+    ghost view = { λ o. order_value o.job.now o.step o.place o.task (arc_value o.arrays) };
+
+    ghost invariant = { λ o. IsOrder (order_value o.job.now o.step o.place o.task (arc_value o.arrays)) };
+}
+
+/// What the segment of an order did, for the round that gave it.
+#[derive(Drop)]
+pub struct Delivery<'j> {
+    job: &'j Job,
+    step: u32,
+    place: usize,
+    path: Path,
+    segment: Segment,
+}
+
+impl<'j> Model for Delivery<'j> {
+    ghost use Rattle.step_core.specs.OrderValue.{DeliveryValue, delivery_value, IsDeliveryInside};
+
+    ghost Value = { DeliveryValue };
+
+    ghost view = { λ d. delivery_value d.job.now d.step d.place d.path.items d.segment };
+
+    ghost invariant = { λ d. IsDeliveryInside d.job.now d.step d.place d.path.items d.segment };
+}
+
+// The paths of tasks.
+fn paths_of(alloc: Global, tasks: &[Task]) -> Result<Vec<Path>, AllocError>
+    ensures { IfOk result (λ paths. map path_of paths.items ≡ map path_in tasks.now) }
+{
+    let mut paths = Vec::new(alloc);
+    let mut rest = tasks;
+    while let Some((task, after)) = rest.split_first() {
+        paths.push(task_path(task))?;
+        rest = after;
+    }
+    Ok(paths)
+}
+
+impl<'j> Order<'j> {
+    ghost use Rattle.std.specs.Prelude.{◌≡◌};
+    ghost use Rattle.step_core.specs.OrderValue.{order_value, IsOrder};
+    ghost use Rattle.std.specs.Arc.{arc_value};
+
+    /// An order for the task of this place.
+    pub(crate) fn new(
+        job: &'j Job,
+        step: u32,
+        place: usize,
+        task: Task,
+        arrays: Arc<Arrays>,
+    ) -> Self
+        requires { IsOrder (order_value job.now step place task (arc_value arrays)) }
+        ensures { result ≡ order_value job.now step place task (arc_value arrays) }
+    {
+        Order {
+            job,
+            step,
+            place,
+            task,
+            arrays,
+        }
+    }
+
+    /// The path of its task. It takes no memory.
+    pub fn path(&self) -> &[u16]
+        ensures { result.now ≡ self.now.task.path }
+    {
+        self.task.path.as_slice()
+    }
+
+    /// The superstep, from 0.
+    pub fn step(&self) -> u32
+        ensures { result ≡ self.now.step }
+    {
+        self.step
+    }
+}
+
+impl<'j> Delivery<'j> {
+    ghost use Rattle.std.specs.Prelude.{◌≡◌, ◌≤◌, IfOk, List, map, length};
+    ghost use Rattle.task_lang.specs.Meaning.{segment_of};
+    ghost use Rattle.task_lang.specs.Views.{plans};
+    ghost use Rattle.step_core.specs.SlotParts.{path_of};
+    ghost use Rattle.step_core.specs.OrderValue.{IsDelivery, ordered_task, delivered_segment, has_synced, spawned_paths};
+
+    /// Does the segment of an order.
+    pub fn of(alloc: Global, order: Order<'j>) -> Result<Self, AllocError>
+        ensures job { IfOk result (λ d. d.job ≡ order.entry.job) }
+        ensures step { IfOk result (λ d. d.step ≡ order.entry.step) }
+        ensures place { IfOk result (λ d. d.place ≡ order.entry.place) }
+        ensures path { IfOk result (λ d. d.path ≡ order.entry.task.path) }
+        ensures segment { IfOk result (λ d. delivered_segment d
+            ≡ segment_of (plans order.entry.job.bodies) (ordered_task order.entry) order.entry.arrays order.entry.step) }
+    {
+        let done = segment(alloc, order.job, &order.task, &order.arrays, order.step)?;
+        let path = task_path(&order.task);
+        Ok(Delivery {
+            job: order.job,
+            step: order.step,
+            place: order.place,
+            path,
+            segment: done,
+        })
+    }
+
+    /// The path of its task. It takes no memory.
+    pub fn path(&self) -> &[u16]
+        ensures path { result.now ≡ self.now.path }
+        ensures known { IsDelivery self.now }
+    {
+        self.path.as_slice()
+    }
+
+    /// The paths of the tasks that were spawned, in order.
+    #[tactic(auto, using(crate::proofs::Deeds::paths_mapped))]
+    pub fn spawns(&self, alloc: Global) -> Result<Vec<Path>, AllocError>
+        ensures { IfOk result (λ paths. map path_of paths.items ≡ spawned_paths (delivered_segment self.now)) }
+    {
+        paths_of(alloc, &self.segment.spawns)
+    }
+
+    /// Whether its task synced. It takes no memory.
+    pub fn synced(&self) -> bool
+        ensures { result ≡ has_synced (delivered_segment self.now) }
+    {
+        matches!(self.segment.after, After::Synced(_))
+    }
+
+    pub(crate) fn job(&self) -> &'j Job
+        ensures { result.now ≡ self.now.job }
+    {
+        self.job
+    }
+
+    pub(crate) fn step(&self) -> u32
+        ensures { result ≡ self.now.step }
+    {
+        self.step
+    }
+
+    pub(crate) fn place(&self) -> usize
+        ensures { result ≡ self.now.place }
+    {
+        self.place
+    }
+
+    /// What the segment did.
+    pub(crate) fn into_segment(self) -> Segment
+        ensures same { result ≡ self.entry.segment }
+        ensures known { IsDelivery self.entry }
+    {
+        self.segment
+    }
+}

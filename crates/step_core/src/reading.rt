@@ -1,0 +1,115 @@
+//! What is read of a round.
+ghost use Rattle.std.specs.Prelude.{◌≡◌, ◌≤◌, ◌++◌, length, false, IfOk, OnOk, MatchOption, map};
+ghost use Rattle.step_core.specs.Slots.{all_prints, all_told};
+ghost use Rattle.step_core.specs.SlotParts.{path_of, slot_path, IsPlaceOf};
+ghost use Rattle.step_core.specs.Taking.{is_live};
+
+use crate::slot::{Finished, Slot, task_path};
+use phase_records::{PhaseRecord, Print};
+use smallvec::SmallVec;
+use std::alloc::{AllocError, Global};
+use superstep_memory::path::{Path, is_before};
+
+/// The live paths, in order.
+pub(crate) fn paths_of(alloc: Global, slots: &[Slot]) -> Result<Vec<Path>, AllocError>
+    ensures { IfOk result (λ paths. map path_of paths.items ≡ map slot_path slots.now) }
+{
+    let mut paths = Vec::new(alloc);
+    let mut rest = slots;
+    while let Some((slot, after)) = rest.split_first() {
+        paths.push(task_path(slot.task()))?;
+        rest = after;
+    }
+    Ok(paths)
+}
+
+// Where a task of this path is, if paths rise.
+fn guess(slots: &[Slot], path: &[u16]) -> usize
+    ensures { result ≤ length slots.now }
+{
+    let mut low = 0;
+    let mut high = slots.len();
+    while low < high {
+        let middle = low + (high - low) / 2;
+        if is_before(slots[middle].task().path.as_slice(), path) {
+            low = middle + 1;
+        } else {
+            high = middle;
+        }
+    }
+    low
+}
+
+// The place of the first task of this path.
+fn scan(slots: &[Slot], path: &[u16]) -> Option<usize>
+    ensures { MatchOption result (is_live slots.now path.now ≡ false) (λ place. IsPlaceOf slots.now path.now place) }
+{
+    let mut place = 0;
+    let mut rest = slots;
+    while let Some((slot, after)) = rest.split_first() {
+        if slot.is_of(path) {
+            return Some(place);
+        }
+        place += 1;
+        rest = after;
+    }
+    None
+}
+
+/// The place of a task of this path. Live paths rise, so that halving finds it; the answer doesn't rest on that, since
+/// else all are looked at.
+pub(crate) fn find_place(slots: &[Slot], path: &[u16]) -> Option<usize>
+    ensures { MatchOption result (is_live slots.now path.now ≡ false) (λ place. IsPlaceOf slots.now path.now place) }
+{
+    let near = guess(slots, path);
+    if near < slots.len() && slots[near].is_of(path) {
+        return Some(near);
+    }
+    scan(slots, path)
+}
+
+/// What was printed, superstep by superstep.
+pub(crate) fn prints_of(alloc: Global, finished: &[Finished]) -> Result<Vec<Print>, AllocError>
+    ensures { IfOk result (λ prints. prints.items ≡ all_prints finished.now) }
+{
+    let mut prints = Vec::new(alloc);
+    let mut rest = finished;
+    while let Some((one, after)) = rest.split_first() {
+        copy_prints(&mut prints, &one.prints)?;
+        rest = after;
+    }
+    Ok(prints)
+}
+
+// Puts copies of prints behind what is there.
+fn copy_prints(prints: &mut Vec<Print>, more: &[Print]) -> Result<(), AllocError>
+    ensures { OnOk result (prints.new.items ≡ prints.old.items ++ more.now) }
+{
+    let mut rest = more;
+    while let Some((print, after)) = rest.split_first() {
+        let path = SmallVec::from_slice(*print.path.allocator(), print.path.as_slice())?;
+        prints.push(Print {
+            step: print.step,
+            path,
+            value: print.value,
+        })?;
+        rest = after;
+    }
+    Ok(())
+}
+
+/// The records, superstep by superstep.
+pub(crate) fn records_of(
+    alloc: Global,
+    finished: &[Finished],
+) -> Result<Vec<PhaseRecord>, AllocError>
+    ensures { IfOk result (λ records. records.items ≡ all_told finished.now) }
+{
+    let mut records = Vec::with_capacity(alloc, finished.len())?;
+    let mut rest = finished;
+    while let Some((one, after)) = rest.split_first() {
+        records.push(one.told)?;
+        rest = after;
+    }
+    Ok(records)
+}

@@ -1,0 +1,323 @@
+//! The supersteps of a job, taken one by one.
+ghost use Rattle.std.specs.Prelude.{◌≡◌, ◌≤◌, ◌+◌, ◌++◌, ◌∷◌, [], List, IfOk, OnOk, OnErr, map, length};
+ghost use Rattle.std.specs.Arc.{arc_value};
+ghost use Rattle.superstep_memory.specs.Landing.{landed, joined};
+ghost use Rattle.task_lang.specs.Meaning.{Plan};
+ghost use Rattle.task_lang.specs.Views.{plans};
+ghost use Rattle.step_core.specs.JobMeaning.{start_tasks};
+ghost use Rattle.step_core.specs.Superstep.{log_of};
+ghost use Rattle.step_core.specs.Slots.{slots_of, delivered, fresh, told_by};
+ghost use Rattle.step_core.specs.SlotParts.{AllSmall};
+ghost use Rattle.step_core.specs.FinishedValue.{FinishedValue};
+
+use crate::closing::{collect_prints, find_fault, find_missing, land_opening, record_of, too_many};
+use crate::fault::{AcceptFault, CloseFault, Outcome};
+use crate::next::next_slots;
+use crate::order::{Delivery, Order};
+use crate::reading::{find_place, paths_of, prints_of, records_of};
+use crate::slot::{Blame, Finished, Slot};
+use phase_records::{JobStatus, Report};
+use smallvec::SmallVec;
+use std::alloc::{AllocError, Global};
+use std::marker::Model;
+use std::sync::Arc;
+use superstep_memory::arrays::Arrays;
+use superstep_memory::path::Path;
+use task_lang::body::Body;
+use task_lang::job::{Job, Start};
+use task_lang::task::Task;
+
+/// The supersteps of a job so far, and what was delivered of the next. Its type keeps that its arrays, prints, records,
+/// live tasks and status are those of the job's supersteps so far, and that each delivery is the segment of its order.
+#[derive(Drop)]
+pub struct Round<'j> {
+    job: &'j Job,
+    limit: u32,
+    step: u32,
+    opening: Arc<Arrays>,
+    slots: Vec<Slot>,
+    finished: Vec<Finished>,
+    fault: Option<Blame>,
+}
+
+impl<'j> Model for Round<'j> {
+    ghost use Rattle.step_core.specs.RoundValue.{RoundValue, IsRound, whole};
+    ghost use Rattle.std.specs.Arc.{arc_value};
+
+    ghost Value = { RoundValue };
+
+    ghost view = { λ r. whole r.job.now r.limit r.step (arc_value r.opening) r.slots.items r.finished.items r.fault };
+
+    ghost invariant = { λ r. IsRound (whole r.job.now r.limit r.step (arc_value r.opening) r.slots.items r.finished.items r.fault) };
+}
+
+// Slots for the start lines.
+fn start_slots(alloc: Global, bodies: &[Body], starts: &[Start]) -> Result<Vec<Slot>, AllocError>
+    requires { length starts.now ≤ 4096 }
+    ensures slots { IfOk result (λ slots. slots_of (plans bodies.now) slots.items
+        ≡ map fresh (start_tasks (plans bodies.now) 0 starts.now)) }
+{
+    let mut slots = Vec::new(alloc);
+    let mut number: u16 = 0;
+    let mut rest = starts;
+    while let Some((start, after)) = rest.split_first() {
+        let path = SmallVec::from_slice(alloc, &[number])?;
+        let task = Task::start(alloc, bodies, path, start.body, start.arg)?;
+        slots.push(Slot::new(task))?;
+        number += 1;
+        rest = after;
+    }
+    Ok(slots)
+}
+
+// Lands what was delivered, and keeps what the superstep printed and its record. Without memory nothing changes.
+fn finish(
+    alloc: Global,
+    step: u32,
+    slots: &[Slot],
+    opening: &mut Arc<Arrays>,
+    finished: &mut Vec<Finished>,
+) -> Result<(), AllocError>
+    requires few { length slots.now ≤ 4096 }
+    requires small { AllSmall slots.now }
+    ensures lands { OnOk result ((ps : List Plan)
+        → arc_value opening.new ≡ landed (joined (map log_of (delivered (slots_of ps slots.now)))) (arc_value opening.old)) }
+    ensures tells { OnOk result ((ps : List Plan)
+        → finished.new.items ≡ finished.old.items ++ told_by step (delivered (slots_of ps slots.now)) ∷ []) }
+    ensures same_arrays { OnErr result (arc_value opening.new ≡ arc_value opening.old) }
+    ensures same_tales { OnErr result (finished.new.items ≡ finished.old.items) }
+{
+    let prints = collect_prints(alloc, step, slots)?;
+    let told = record_of(step, slots);
+    finished.reserve(1)?;
+    land_opening(alloc, opening, slots)?;
+    match finished.push(Finished { prints, told }) {
+        Ok(()) => Ok(()),
+        Err(_) => unreachable!(),
+    }
+}
+
+impl<'j> Round<'j> {
+    ghost use Rattle.std.specs.Prelude.{◌≡◌, ◌≤◌, ◌<◌, ◌↔◌, None, Some, IsTrue, IfOk, OnOk, IfErr, OnErr, MatchOption, is_some, true, false, length, map};
+    ghost use Rattle.std.specs.Option.{option_map};
+    ghost use Rattle.superstep_memory.specs.Paths.{is_rising};
+    ghost use Rattle.phase_records.specs.StatusSeen.{status_seen};
+    ghost use Rattle.step_core.specs.Program.{program_of};
+    ghost use Rattle.step_core.specs.JobMeaning.{opening, report_in};
+    ghost use Rattle.step_core.specs.Superstep.{superstep, live_paths};
+    ghost use Rattle.step_core.specs.Slots.{delivered, first_missing};
+    ghost use Rattle.step_core.specs.SlotParts.{path_of, IsPlaceOf};
+    ghost use Rattle.step_core.specs.RoundValue.{IsRound, Opens, state_of, status_in, slots_in};
+    ghost use Rattle.step_core.specs.Taking.{Refuses, Takes, with_delivery, NotClosed, outcome_of, IsOrderOf, IsOrderAt, is_live};
+
+    /// A round of this job with this limit of supersteps, before the first of them.
+    pub fn new(alloc: Global, job: &'j Job, limit: u32) -> Result<Self, AllocError>
+        requires { 1 ≤ limit }
+        ensures { IfOk result (λ r. Opens r job.now limit (opening (program_of job.now))) }
+    {
+        let slots = start_slots(alloc, job.bodies(), job.starts())?;
+        let arrays = job.arrays().copy(alloc)?;
+        match Arc::new(alloc, arrays) {
+            Ok(opening) => Ok(Round {
+                job,
+                limit,
+                step: 0,
+                opening,
+                slots,
+                finished: Vec::new(alloc),
+                fault: None,
+            }),
+            Err(_) => Err(AllocError),
+        }
+    }
+
+    /// Whether the job has ended.
+    pub(crate) fn has_ended(&self) -> bool
+        ensures ended { result ≡ is_some (status_in self.now) }
+        ensures round { IsRound self.now }
+    {
+        self.fault.is_some() || self.slots.is_empty() || self.limit <= self.step
+    }
+
+    /// How the job has ended, if it has: by a fault, with no task left, or at the limit, looked at in this order. It takes
+    /// no memory.
+    pub fn status(&self) -> Option<JobStatus>
+        ensures status { option_map status_seen result ≡ status_in self.now }
+        ensures round { IsRound self.now }
+    {
+        if let Some(blame) = &self.fault {
+            return Some(blame.status(self.step));
+        }
+        if self.slots.is_empty() {
+            return Some(JobStatus::Ended(self.step));
+        }
+        if self.limit <= self.step {
+            return Some(JobStatus::Limit(self.step));
+        }
+        None
+    }
+
+    /// The live paths, in order: they strictly rise.
+    pub fn live(&self, alloc: Global) -> Result<Vec<Path>, AllocError>
+        ensures live { IfOk result (λ paths. map path_of paths.items ≡ live_paths (state_of self.now)) }
+        ensures rising { is_rising (live_paths (state_of self.now)) ≡ true }
+    {
+        let paths = paths_of(alloc, &self.slots)?;
+        Ok(paths)
+    }
+
+    /// Whether it holds this job, by value, and this limit. It takes no memory.
+    pub fn is_of(&self, job: &Job, limit: u32) -> bool
+        ensures { IsTrue result ↔ ((self.now.job ≡ job.now) × (self.now.limit ≡ limit)) }
+    {
+        self.limit == limit && self.job.same_as(job)
+    }
+
+    /// What the job leaves, once it has ended: a copy.
+    pub fn report(&self, alloc: Global) -> Result<Option<Report>, AllocError>
+        ensures { IfOk result (λ report. report ≡ report_in self.now.limit (state_of self.now)) }
+    {
+        let Some(status) = self.status() else {
+            return Ok(None);
+        };
+        let prints = prints_of(alloc, &self.finished)?;
+        let records = records_of(alloc, &self.finished)?;
+        let arrays = self.opening.copy(alloc)?;
+        Ok(Some(Report {
+            prints,
+            records,
+            arrays,
+            status,
+        }))
+    }
+
+    /// How many tasks live.
+    pub(crate) fn count(&self) -> usize
+        ensures { result ≡ length self.now.slots }
+    {
+        self.slots.len()
+    }
+
+    /// What the segment of the live task at this place needs.
+    pub(crate) fn order_at(&self, alloc: Global, place: usize) -> Result<Order<'j>, AllocError>
+        requires running { status_in self.now ≡ None }
+        requires place { place < length self.now.slots }
+        ensures order { IfOk result (λ o. IsOrderAt self.now place o) }
+        ensures path { IfOk result (λ o. IsPlaceOf self.now.slots o.task.path place) }
+    {
+        let task = self.slots[place].task().copy(alloc)?;
+        let arrays = Arc::try_clone(&self.opening)?;
+        Ok(Order::new(self.job, self.step, place, task, arrays))
+    }
+
+    /// What the segment of the live task of this path needs, the opening arrays and the step included; `None` where no
+    /// live task has it, and where the job has ended.
+    pub fn order(&self, alloc: Global, path: &[u16]) -> Result<Option<Order<'j>>, AllocError>
+        ensures { IfOk result (λ order. MatchOption order
+            (status_in self.now ≡ None → is_live self.now.slots path.now ≡ false)
+            (λ o. (status_in self.now ≡ None) × IsOrderOf self.now path.now o)) }
+    {
+        if self.has_ended() {
+            return Ok(None);
+        }
+        match find_place(&self.slots, path) {
+            None => Ok(None),
+            Some(place) => {
+                let order = self.order_at(alloc, place)?;
+                Ok(Some(order))
+            }
+        }
+    }
+
+    /// Takes a delivery of an order of this round, or refuses to and changes nothing: it is of another step; its order
+    /// isn't one of this round, compared by value; its task has one already.
+    pub fn accept(&mut self, delivery: Delivery<'j>) -> Result<(), AcceptFault>
+        requires running { status_in self.old ≡ None }
+        ensures taken { OnOk result (Takes self.old delivery.entry) }
+        ensures added { OnOk result (self.new ≡ with_delivery self.old delivery.entry) }
+        ensures refused { IfErr result (λ fault. Refuses fault self.old delivery.entry) }
+        ensures unchanged { OnErr result (self.new ≡ self.old) }
+    {
+        if self.step != delivery.step() {
+            return Err(AcceptFault::WrongStep);
+        }
+        if !self.job.same_as(delivery.job()) {
+            return Err(AcceptFault::Stranger);
+        }
+        self.accept_known(delivery)
+    }
+
+    /// How many supersteps were taken. It takes no memory.
+    pub fn step(&self) -> u32
+        ensures { result ≡ self.now.step }
+    {
+        self.step
+    }
+
+    /// Takes a delivery of an order of this round, or refuses to and changes nothing: it is of another step; its order
+    /// isn't one of this round; its task has one already. The caller knows that it is of this job.
+    pub fn accept_known(&mut self, delivery: Delivery<'j>) -> Result<(), AcceptFault>
+        requires running { status_in self.old ≡ None }
+        requires job { delivery.job ≡ self.old.job }
+        ensures taken { OnOk result (Takes self.old delivery.entry) }
+        ensures added { OnOk result (self.new ≡ with_delivery self.old delivery.entry) }
+        ensures refused { IfErr result (λ fault. Refuses fault self.old delivery.entry) }
+        ensures unchanged { OnErr result (self.new ≡ self.old) }
+    {
+        if delivery.step() != self.step {
+            return Err(AcceptFault::WrongStep);
+        }
+        let place = delivery.place();
+        if place >= self.slots.len() {
+            return Err(AcceptFault::Stranger);
+        }
+        let _known = delivery.path();
+        if self.slots[place].is_done() {
+            return Err(AcceptFault::Double);
+        }
+        let segment = delivery.into_segment();
+        self.slots[place].put(segment);
+        Ok(())
+    }
+
+    /// Takes one superstep, where each live task has its delivery, or refuses to and changes nothing. A task's fault, or
+    /// over 4096 tasks that would live on, is no refusal: it ends the job, and the superstep leaves nothing else.
+    pub fn close_round(&mut self, alloc: Global) -> Result<Outcome, CloseFault>
+        requires running { status_in self.old ≡ None }
+        ensures whole { OnOk result (first_missing (slots_in self.old) ≡ None) }
+        ensures closed { OnOk result (Opens self.new self.old.job self.old.limit
+            (superstep (program_of self.old.job) (state_of self.old))) }
+        ensures outcome { IfOk result (λ outcome. outcome ≡ outcome_of (delivered (slots_in self.old))) }
+        ensures refused { IfErr result (λ fault. NotClosed fault self.old) }
+        ensures unchanged { OnErr result (self.new ≡ self.old) }
+    {
+        if let Some(path) = find_missing(&self.slots) {
+            return Err(CloseFault::Missing(path));
+        }
+        if let Some(blame) = find_fault(&self.slots) {
+            self.fault = Some(blame);
+            return Ok(Outcome::Faulted);
+        }
+        let next = match next_slots(alloc, &self.slots) {
+            Ok(next) => next,
+            Err(fault) => return Err(CloseFault::Memory(fault)),
+        };
+        if next.len() > 4096 {
+            self.fault = Some(too_many(alloc));
+            return Ok(Outcome::TooMany);
+        }
+        let done = finish(
+            alloc,
+            self.step,
+            &self.slots,
+            &mut self.opening,
+            &mut self.finished,
+        );
+        if let Err(fault) = done {
+            return Err(CloseFault::Memory(fault));
+        }
+        self.slots = next;
+        self.step += 1;
+        Ok(Outcome::Landed)
+    }
+}

@@ -1,0 +1,149 @@
+//! Live tasks with their deliveries, and what a superstep leaves.
+ghost use Rattle.std.specs.Prelude.{◌≡◌, ◌≤◌, length};
+
+use phase_records::{JobStatus, PhaseRecord, Print};
+use smallvec::SmallVec;
+use std::marker::Model;
+use superstep_memory::arrays::Arrays;
+use superstep_memory::landing::write_puts;
+use superstep_memory::path::Path;
+use task_lang::task::{Segment, Task};
+
+/// A live task, and its segment once it was delivered.
+#[derive(Drop)]
+pub(crate) struct Slot {
+    task: Task,
+    done: Option<Segment>,
+}
+
+impl Model for Slot {
+    ghost use Rattle.step_core.specs.SlotValue.{SlotValue};
+
+    ghost Value = { SlotValue };
+
+    ghost view = { λ s. record { task = s.task; done = s.done } };
+}
+
+impl Slot {
+    ghost use Rattle.std.specs.Prelude.{◌≡◌, is_some, Some, None};
+    ghost use Rattle.std.specs.Option.{option_copied};
+    ghost use Rattle.std.specs.Str.{bytes_eq};
+    ghost use Rattle.superstep_memory.specs.Landing.{written};
+    ghost use Rattle.step_core.specs.SlotParts.{puts_in};
+
+    /// A slot for this task.
+    pub(crate) fn new(task: Task) -> Self
+        ensures { result ≡ record { task = task; done = None } }
+    {
+        Slot { task, done: None }
+    }
+
+    pub(crate) fn task(&self) -> &Task
+        ensures { result.now ≡ self.now.task }
+    {
+        &self.task
+    }
+
+    pub(crate) fn done(&self) -> Option<&Segment>
+        ensures { option_copied result ≡ self.now.done }
+    {
+        self.done.as_ref()
+    }
+
+    pub(crate) fn is_done(&self) -> bool
+        ensures { result ≡ is_some self.now.done }
+    {
+        self.done.is_some()
+    }
+
+    /// Whether its task has this path.
+    pub(crate) fn is_of(&self, path: &[u16]) -> bool
+        ensures { result ≡ bytes_eq self.now.task.path path.now }
+    {
+        self.task.path.as_slice() == path
+    }
+
+    /// Keeps what was delivered.
+    pub(crate) fn put(&mut self, segment: Segment)
+        ensures { self.new ≡ record { task = self.old.task; done = Some segment } }
+    {
+        self.done = Some(segment);
+    }
+
+    /// Lands what was delivered, if it was.
+    pub(crate) fn land(&self, arrays: &mut Arrays)
+        ensures { arrays.new ≡ written (puts_in self.now) arrays.old }
+    {
+        if let Some(segment) = &self.done {
+            write_puts(arrays, &segment.puts);
+        }
+    }
+}
+
+/// A path of its own, like this one. It takes no memory.
+pub(crate) fn copy_path(path: &Path) -> Path
+    requires { length path.now.items ≤ 8 }
+    ensures { result.items ≡ path.now.items }
+{
+    match SmallVec::from_slice(*path.allocator(), path.as_slice()) {
+        Ok(copy) => copy,
+        Err(_) => unreachable!(),
+    }
+}
+
+/// The path of a task, of its own. It takes no memory.
+pub(crate) fn task_path(task: &Task) -> Path
+    ensures path { result.items ≡ task.now.path }
+    ensures short { length result.items ≤ 8 }
+{
+    copy_path(&task.path)
+}
+
+/// Why a job ended by a fault, and by which task.
+#[derive(Drop)]
+pub(crate) struct Blame {
+    pub(crate) code: u8,
+    pub(crate) path: Path,
+}
+
+impl Model for Blame {
+    ghost use Rattle.std.specs.Prelude.{ℕ, List, ◌≤◌, length};
+
+    ghost Value = { ℕ × List ℕ };
+
+    ghost view = { λ b. (b.code, b.path.items) };
+
+    ghost invariant = { λ b. length b.path.items ≤ 8 };
+}
+
+impl Blame {
+    ghost use Rattle.std.specs.Prelude.{◌≡◌};
+    ghost use Rattle.phase_records.specs.StatusSeen.{status_seen};
+    ghost use Rattle.phase_records.specs.Status.{Fault};
+
+    /// The status of a job that it ended in this step.
+    pub(crate) fn status(&self, step: u32) -> JobStatus
+        ensures { status_seen result ≡ Fault self.now.0 step self.now.1 }
+    {
+        JobStatus::Fault {
+            code: self.code,
+            step,
+            path: copy_path(&self.path),
+        }
+    }
+}
+
+/// What a superstep left: its prints and its record.
+#[derive(Drop)]
+pub(crate) struct Finished {
+    pub(crate) prints: Vec<Print>,
+    pub(crate) told: PhaseRecord,
+}
+
+impl Model for Finished {
+    ghost use Rattle.step_core.specs.FinishedValue.{FinishedValue};
+
+    ghost Value = { FinishedValue };
+
+    ghost view = { λ f. record { prints = f.prints.items; told = f.told } };
+}
