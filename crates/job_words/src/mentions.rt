@@ -1,5 +1,5 @@
 //! The locals that lines mention.
-ghost use Rattle.std.specs.Prelude.{◌≡◌, ◌++◌, ◌∷◌, [], OnOk};
+ghost use Rattle.std.specs.Prelude.{◌≡◌, ◌≤◌, ◌+◌, ◌++◌, ◌∷◌, [], length, OnOk};
 ghost use Rattle.job_words.specs.Words as words;
 ghost use Rattle.job_words.specs.Exprs as exprs;
 ghost use Rattle.job_words.specs.Lines as lines;
@@ -13,7 +13,8 @@ use std::alloc::AllocError;
 #[tactic(auto, using(crate::proofs::NotedLemmas::note_steps))]
 // Notes a local, behind those that are there if it is new.
 fn note<'a>(locals: &mut Vec<&'a [u8]>, word: &'a [u8]) -> Result<(), AllocError>
-    ensures { OnOk result (lent locals.new.items ≡ words.noted (lent locals.old.items) (word.entry.now ∷ [])) }
+    ensures noted { OnOk result (lent locals.new.items ≡ words.noted (lent locals.old.items) (word.entry.now ∷ [])) }
+    ensures few { OnOk result (length locals.new.items ≤ length locals.old.items + 1) }
 {
     match place(locals, word) {
         Some(_) => Ok(()),
@@ -27,7 +28,8 @@ fn note<'a>(locals: &mut Vec<&'a [u8]>, word: &'a [u8]) -> Result<(), AllocError
 // Notes the local that the word of an index mentions, if any.
 #[tactic(auto, unfolding(crate::specs::Words::in_index))]
 fn note_index<'a>(locals: &mut Vec<&'a [u8]>, word: &'a [u8]) -> Result<(), AllocError>
-    ensures { OnOk result (lent locals.new.items ≡ words.noted (lent locals.old.items) (words.in_index word.entry.now)) }
+    ensures noted { OnOk result (lent locals.new.items ≡ words.noted (lent locals.old.items) (words.in_index word.entry.now)) }
+    ensures few { OnOk result (length locals.new.items ≤ length locals.old.items + 1) }
 {
     if begins_number(word) || word == b"arg".as_slice() || word == b"step".as_slice() {
         return Ok(());
@@ -38,7 +40,8 @@ fn note_index<'a>(locals: &mut Vec<&'a [u8]>, word: &'a [u8]) -> Result<(), Allo
 // Notes the local that the word of an operand mentions, if any.
 #[tactic(auto, unfolding(crate::specs::Exprs::in_operand))]
 fn note_operand<'a>(locals: &mut Vec<&'a [u8]>, word: &'a [u8]) -> Result<(), AllocError>
-    ensures { OnOk result (lent locals.new.items ≡ words.noted (lent locals.old.items) (exprs.in_operand word.entry.now)) }
+    ensures noted { OnOk result (lent locals.new.items ≡ words.noted (lent locals.old.items) (exprs.in_operand word.entry.now)) }
+    ensures few { OnOk result (length locals.new.items ≤ length locals.old.items + 1) }
 {
     if !has_bracket(word) {
         return note_index(locals, word);
@@ -52,8 +55,9 @@ fn note_operand<'a>(locals: &mut Vec<&'a [u8]>, word: &'a [u8]) -> Result<(), Al
 // Notes the locals that two operands mention.
 #[tactic(auto, using(crate::proofs::NotedLemmas::noted_steps))]
 fn note_two<'a>(locals: &mut Vec<&'a [u8]>, a: &'a [u8], b: &'a [u8]) -> Result<(), AllocError>
-    ensures { OnOk result (lent locals.new.items
+    ensures noted { OnOk result (lent locals.new.items
         ≡ words.noted (lent locals.old.items) (exprs.in_operand a.entry.now ++ exprs.in_operand b.entry.now)) }
+    ensures few { OnOk result (length locals.new.items ≤ length locals.old.items + 2) }
 {
     note_operand(locals, a)?;
     note_operand(locals, b)?;
@@ -61,7 +65,8 @@ fn note_two<'a>(locals: &mut Vec<&'a [u8]>, a: &'a [u8], b: &'a [u8]) -> Result<
 }
 
 fn note_expr<'a>(locals: &mut Vec<&'a [u8]>, line: &[&'a [u8]]) -> Result<(), AllocError>
-    ensures { OnOk result (lent locals.new.items ≡ words.noted (lent locals.old.items) (exprs.in_expr (lent line.entry.now))) }
+    ensures noted { OnOk result (lent locals.new.items ≡ words.noted (lent locals.old.items) (exprs.in_expr (lent line.entry.now))) }
+    ensures few { OnOk result (length locals.new.items ≤ length locals.old.items + 2) }
 {
     match line {
         [a] => note_operand(locals, a),
@@ -72,7 +77,8 @@ fn note_expr<'a>(locals: &mut Vec<&'a [u8]>, line: &[&'a [u8]]) -> Result<(), Al
 
 #[tactic(auto, using(crate::proofs::NotedLemmas::noted_steps))]
 fn note_let<'a>(locals: &mut Vec<&'a [u8]>, line: &[&'a [u8]]) -> Result<(), AllocError>
-    ensures { OnOk result (lent locals.new.items ≡ words.noted (lent locals.old.items) (lines.in_let (lent line.entry.now))) }
+    ensures noted { OnOk result (lent locals.new.items ≡ words.noted (lent locals.old.items) (lines.in_let (lent line.entry.now))) }
+    ensures few { OnOk result (length locals.new.items ≤ length locals.old.items + 3) }
 {
     let Some((name, rest)) = take_word(line) else {
         return Ok(());
@@ -87,7 +93,8 @@ fn note_let<'a>(locals: &mut Vec<&'a [u8]>, line: &[&'a [u8]]) -> Result<(), All
 
 #[tactic(auto, using(crate::proofs::NotedLemmas::noted_steps))]
 fn note_put<'a>(locals: &mut Vec<&'a [u8]>, line: &[&'a [u8]]) -> Result<(), AllocError>
-    ensures { OnOk result (lent locals.new.items ≡ words.noted (lent locals.old.items) (lines.in_put (lent line.entry.now))) }
+    ensures noted { OnOk result (lent locals.new.items ≡ words.noted (lent locals.old.items) (lines.in_put (lent line.entry.now))) }
+    ensures few { OnOk result (length locals.new.items ≤ length locals.old.items + 3) }
 {
     let Some((cell, rest)) = take_word(line) else {
         return Ok(());
@@ -101,7 +108,8 @@ fn note_put<'a>(locals: &mut Vec<&'a [u8]>, line: &[&'a [u8]]) -> Result<(), All
 }
 
 fn note_spawn<'a>(locals: &mut Vec<&'a [u8]>, line: &[&'a [u8]]) -> Result<(), AllocError>
-    ensures { OnOk result (lent locals.new.items ≡ words.noted (lent locals.old.items) (lines.in_spawn (lent line.entry.now))) }
+    ensures noted { OnOk result (lent locals.new.items ≡ words.noted (lent locals.old.items) (lines.in_spawn (lent line.entry.now))) }
+    ensures few { OnOk result (length locals.new.items ≤ length locals.old.items + 2) }
 {
     let Some((_, rest)) = take_word(line) else {
         return Ok(());
@@ -116,8 +124,9 @@ pub fn note_behind<'a>(
     keyword: Option<Keyword>,
     line: &[&'a [u8]],
 ) -> Result<(), AllocError>
-    ensures { OnOk result (lent locals.new.items
+    ensures noted { OnOk result (lent locals.new.items
         ≡ words.noted (lent locals.old.items) (lines.mentions_behind keyword (lent line.entry.now))) }
+    ensures few { OnOk result (length locals.new.items ≤ length locals.old.items + 3) }
 {
     let Some(keyword) = keyword else {
         return Ok(());
