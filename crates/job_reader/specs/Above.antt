@@ -41,8 +41,8 @@ abbrev pub statements_behind : ℕ → Line → ℕ
 statements_behind n l = if is_statement l then n + 1 else n
 
 -- the open body behind a line that made these open lines and this block
-abbrev pub grown : Inside → List Word → ℕ → List Frame × Block → Inside
-grown o locals statements s = record { name = o.name; locals = locals; frames = s.0; block = s.1; statements = statements }
+abbrev pub grown : Inside → ℕ → List Frame × Block → Inside
+grown o statements s = record { name = o.name; locals = o.locals; frames = s.0; block = s.1; statements = statements }
 
 abbrev pub ended : Inside → BodyTree
 ended o = record { name = o.name; locals = o.locals; block = o.block }

@@ -33,6 +33,7 @@ use Rattle.std.specs.Prelude.{
   negsuc,
   Vec,
 }
+use Rattle.std.specs.Borrow.{Bor}
 use Rattle.std.specs.declared.alloc.Global.{Global}
 use Rattle.std.specs.List.{filter_map}
 use Rattle.std.specs.Str.{bytes_eq}
@@ -54,7 +55,8 @@ use Rattle.text_lines.specs.Text.{lines_of, words_of, is_skipped, bad_byte_line}
 use Rattle.job_words.specs.Faults.{both, made}
 use Rattle.job_words.specs.Words.{Word, Words, named, numbered, noted}
 use Rattle.job_words.specs.Exprs.{Names}
-use Rattle.job_words.specs.Lines.{body_at, line_of, mentions_of}
+use Rattle.job_words.specs.declared.lines.Keyword.{Keyword}
+use Rattle.job_words.specs.Lines.{body_at, keyword_of, line_behind, mentions_behind}
 use Rattle.task_lang.specs.Names.{is_among}
 use Rattle.task_lang.specs.Limits.{opened}
 use Rattle.task_lang.specs.Tree.{Block}
@@ -115,6 +117,14 @@ abbrev pub items_if_ok : Result (Vec ℤ Global) Code → Result (List ℤ) Code
 items_if_ok (Ok values) = Ok values.items
 items_if_ok (Err code) = Err code
 
+abbrev pub word_if_ok : Result (Bor (List ℕ)) Code → Result Word Code
+word_if_ok (Ok w) = Ok w.now
+word_if_ok (Err code) = Err code
+
+abbrev pub array_if_ok : Result (Bor (List ℕ) × Vec ℤ Global) Code → Result (Word × List ℤ) Code
+array_if_ok (Ok a) = Ok (a.0.now, a.1.items)
+array_if_ok (Err code) = Err code
+
 -- numbers in front of those that are read
 abbrev pub with_front : List ℤ → Result (List ℤ) Code → Result (List ℤ) Code
 with_front front read = read >>= λ ns. Ok (front ++ ns)
@@ -171,46 +181,57 @@ new_body j name =
 abbrev pub with_start : JobTree → Start → Result JobTree Code
 with_start j s = if nat_le 4096 (length j.starts) then Err TooMany else Ok (record j { starts = j.starts ++ s ∷ [] })
 
+abbrev pub array_line : JobTree → Words → Result JobTree Code
+array_line j ws = array_of ws >>= with_array j
+
+abbrev pub body_line : JobTree → Words → Result Inside Code
+body_line j ws = body_of ws >>= new_body j
+
+abbrev pub start_line : List Word → JobTree → Words → Result JobTree Code
+start_line bodies j ws = start_of bodies ws >>= with_start j
+
 -- a line outside bodies: the job behind it, and the body that it opens
 abbrev pub outer_line : List Word → JobTree → Option Outer → Words → Result (JobTree × Option Inside) Code
 outer_line bodies j None ws = Err UnknownLine
-outer_line bodies j (Some outer.Array) ws = made (λ k. (k, None)) (array_of ws >>= with_array j)
-outer_line bodies j (Some outer.Body) ws = made (λ o. (j, Some o)) (body_of ws >>= new_body j)
-outer_line bodies j (Some outer.Start) ws = made (λ k. (k, None)) (start_of bodies ws >>= with_start j)
+outer_line bodies j (Some outer.Array) ws = made (λ k. (k, None)) (array_line j ws)
+outer_line bodies j (Some outer.Body) ws = made (λ o. (j, Some o)) (body_line j ws)
+outer_line bodies j (Some outer.Start) ws = made (λ k. (k, None)) (start_line bodies j ws)
 
 -- at most 1024 statements, 32 locals and 16 lines open at once
 abbrev pub is_over : ℕ → ℕ → ℕ → Bool
 is_over statements locals open_lines = nat_lt 1024 statements || nat_lt 32 locals || nat_lt 16 open_lines
 
-abbrev pub within_limits : Inside → List Word → Line → Result Line Code
-within_limits o locals l =
-    if is_over (statements_behind o.statements l) (length locals) (opened (length o.frames) l) then Err TooMany else Ok l
+abbrev pub within_limits : Inside → Line → Result Line Code
+within_limits o l =
+    if is_over (statements_behind o.statements l) (length o.locals) (opened (length o.frames) l) then Err TooMany else Ok l
 
 -- the job and the open body behind a line in it, by what the line made of the open lines: nothing where it ends the body
-abbrev pub behind : JobTree → Inside → List Word → ℕ → Option (List Frame × Block) → JobTree × Option Inside
-behind j o locals statements None = (record j { bodies = j.bodies ++ ended o ∷ [] }, None)
-behind j o locals statements (Some s) = (j, Some (grown o locals statements s))
+abbrev pub behind : JobTree → Inside → ℕ → Option (List Frame × Block) → JobTree × Option Inside
+behind j o statements None = (record j { bodies = j.bodies ++ ended o ∷ [] }, None)
+behind j o statements (Some s) = (j, Some (grown o statements s))
 
-abbrev pub with_line : JobTree → Inside → List Word → Line → JobTree × Option Inside
-with_line j o locals l = behind j o locals (statements_behind o.statements l) (step_of l o.frames o.block)
+abbrev pub with_line : JobTree → Inside → Line → JobTree × Option Inside
+with_line j o l = behind j o (statements_behind o.statements l) (step_of l o.frames o.block)
 
--- the locals that a body has behind a line
-abbrev pub locals_behind : Inside → Words → List Word
-locals_behind o ws = noted o.locals (mentions_of ws)
+-- the open body with the mentions of a line noted
+abbrev pub mentioning : Inside → Option Keyword → Words → Inside
+mentioning o k ws = record o { locals = noted o.locals (mentions_behind k ws) }
 
--- the line that words say in an open body
-abbrev pub said : List Word → List Word → Inside → Words → Result Line Code
-said arrays bodies o ws =
-    line_of (record { arrays = arrays; bodies = bodies; locals = locals_behind o ws }) (can_else o.frames) ws
-    >>= within_limits o (locals_behind o ws)
+-- the line that words say in an open body in which their mentions are noted
+abbrev pub said : List Word → List Word → Inside → Option Keyword → Words → Result Line Code
+said arrays bodies o k ws =
+    line_behind (record { arrays = arrays; bodies = bodies; locals = o.locals }) (can_else o.frames) k ws >>= within_limits o
 
--- a line in a body; its own mentions are among the locals
-abbrev pub inner_line : List Word → JobTree → Inside → Words → Result (JobTree × Option Inside) Code
-inner_line bodies j o ws = made (with_line j o (locals_behind o ws)) (said (array_names j) bodies o ws)
+-- a line in a body, in which its mentions are noted
+abbrev pub noted_line : List Word → JobTree → Inside → Option Keyword → Words → Result (JobTree × Option Inside) Code
+noted_line bodies j o k ws = made (with_line j o) (said (array_names j) bodies o k ws)
+
+abbrev pub inner_line : List Word → JobTree → Inside → Option Keyword → Words → Result (JobTree × Option Inside) Code
+inner_line bodies j o k ws = noted_line bodies j (mentioning o k ws) k ws
 
 abbrev pub any_line : List Word → JobTree → Option Inside → Words → Result (JobTree × Option Inside) Code
-any_line bodies j (Some o) ws = inner_line bodies j o ws
-any_line bodies j None [] = Err UnknownLine
+any_line bodies j i [] = Err UnknownLine
+any_line bodies j (Some o) (k ∷ ws) = inner_line bodies j o (keyword_of k) ws
 any_line bodies j None (k ∷ ws) = outer_line bodies j (outer_of k) ws
 
 -- whether a line names a body that isn't there

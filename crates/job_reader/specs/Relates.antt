@@ -31,6 +31,10 @@ pub record IsSoFar (j : JobTree) (r : SoFar) : Type 0 where
   pub starts : r.starts.items ≡ j.starts
 
 -- the open body behind a line, by what the line made of it
-abbrev pub IsGrown : Inside → List Word → ℕ → Option (List Frame × Block) → OpenBody → Type 0
-IsGrown o locals statements None w = Unit {0}
-IsGrown o locals statements (Some s) w = IsInside (grown o locals statements s) w
+abbrev pub IsGrown : Inside → ℕ → Option (List Frame × Block) → OpenBody → Type 0
+IsGrown o statements None w = Unit {0}
+IsGrown o statements (Some s) w = IsInside (grown o statements s) w
+
+-- the job and the open body behind a line
+abbrev pub IsBehind : JobTree × Option Inside → SoFar → Option OpenBody → Type 0
+IsBehind p r w = IsSoFar p.0 r × IsOpened p.1 w

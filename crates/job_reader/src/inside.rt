@@ -1,20 +1,17 @@
 //! A body that is open: its lines one by one.
-ghost use Rattle.std.specs.Prelude.{◌≡◌, ◌≤◌, ◌∷◌, [], List, ℕ, length, map, string_bytes, IfOk, OnOk, IfSome, Some};
+ghost use Rattle.std.specs.Prelude.{◌≡◌, ◌≤◌, ◌+◌, length, slice_get, IfOk, OnOk};
 ghost use Rattle.job_words.specs.Views.{lent};
-ghost use Rattle.job_words.specs.Words.{Word};
+ghost use Rattle.job_words.specs.Lines as lines;
 ghost use Rattle.task_lang.specs.Open.{step_of};
-ghost use Rattle.job_reader.specs.Trees.{body_tree};
-ghost use Rattle.job_reader.specs.Above.{Inside, begun, can_else, belongs, statements_behind, ended};
+ghost use Rattle.task_lang.specs.Limits.{opened};
+ghost use Rattle.job_reader.specs.Above.{Inside, begun, can_else, belongs, statements_behind};
 ghost use Rattle.job_reader.specs.Reading as spec;
 ghost use Rattle.job_reader.specs.Relates.{IsInside, IsGrown};
-ghost use Rattle.job_reader.specs.Gives.{LineGives};
 
-use crate::fault::LineFault;
 use job_words::exprs::Scope;
-use job_words::lines::{Keyword, keyword_of, line_behind};
+use job_words::lines::{Keyword, line_behind};
 use job_words::mentions::note_behind;
 use std::alloc::{AllocError, Global};
-use task_lang::body::Body;
 use task_lang::builder::Builder;
 use task_lang::code::Line;
 use text_lines::Code;
@@ -60,6 +57,29 @@ fn open_line(code: &[Line], place: usize) -> Option<Line>
     code.get(place).copied()
 }
 
+// The line that words behind a keyword say, with these names.
+fn line_in<'x>(
+    arrays: &'x [&'x [u8]],
+    bodies: &'x [&'x [u8]],
+    locals: &'x [&'x [u8]],
+    fits: bool,
+    keyword: Option<Keyword>,
+    words: &[&[u8]],
+) -> Result<Line, Code>
+    requires arrays { length arrays.now ≤ 65536 }
+    requires bodies { length bodies.now ≤ 65536 }
+    requires locals { length locals.now ≤ 256 }
+    ensures { result ≡ lines.line_behind (record { arrays = lent arrays.now; bodies = lent bodies.now; locals = lent locals.now })
+        fits keyword (lent words.now) }
+{
+    let scope = Scope {
+        arrays,
+        bodies,
+        locals,
+    };
+    line_behind(&scope, fits, keyword, words)
+}
+
 impl<'a> OpenBody<'a> {
     /// A body behind its first line.
     pub(crate) fn begin(alloc: Global, name: &'a [u8]) -> Self
@@ -90,48 +110,75 @@ impl<'a> OpenBody<'a> {
     }
 
     // How many lines are open.
+    #[tactic(auto, using(crate::proofs::OpenLemmas::depth_steps))]
     fn depth(&self) -> usize
         ensures { (o : Inside) → IsInside o self.now → result ≡ length o.frames }
     {
         self.builder.places.len()
     }
 
-    /// The line that these words say. The locals that it mentions are noted.
+    /// Notes the locals that a line mentions.
+    pub(crate) fn note(&mut self, keyword: Option<Keyword>, words: &[&'a [u8]]) -> Result<(), AllocError>
+        ensures noted { OnOk result ((o : Inside) → IsInside o self.old
+            → IsInside (spec.mentioning o keyword (lent words.entry.now)) self.new) }
+        ensures few { OnOk result (length self.new.locals.items ≤ length self.old.locals.items + 3) }
+    {
+        note_behind(&mut self.locals, keyword, words)?;
+        Ok(())
+    }
+
+    /// The line that words behind a keyword say, where the locals that they mention are noted.
     pub(crate) fn said(
-        &mut self,
+        &self,
         arrays: &[&'a [u8]],
         bodies: &[&'a [u8]],
-        first: &'a [u8],
-        rest: &[&'a [u8]],
-    ) -> Result<Line, LineFault>
+        keyword: Option<Keyword>,
+        words: &[&'a [u8]],
+    ) -> Result<Line, Code>
         requires arrays { length arrays.now ≤ 65536 }
         requires bodies { length bodies.now ≤ 65536 }
-        ensures said { (o : Inside) → IsInside o self.old
-            → LineGives (λ x y. x ≡ y) result (spec.said (lent arrays.now) (lent bodies.now) o (first.entry.now ∷ lent rest.now)) }
-        ensures noted { IfOk result (λ line. (o : Inside) → IsInside o self.old
-            → IsInside (record o { locals = spec.locals_behind o (first.entry.now ∷ lent rest.now) }) self.new) }
-        ensures small { IfOk result (λ line. statements_behind self.new.statements line ≤ 1024) }
+        requires few { length self.now.locals.items ≤ 256 }
+        ensures said { (o : Inside) → IsInside o self.now
+            → result ≡ spec.said (lent arrays.now) (lent bodies.now) o keyword (lent words.now) }
+        ensures small { IfOk result (λ line. statements_behind self.now.statements line ≤ 1024) }
+        ensures still_few { OnOk result (length self.now.locals.items ≤ 32) }
     {
-        let keyword = keyword_of(first);
-        if note_behind(&mut self.locals, keyword, rest).is_err() {
-            return Err(LineFault::Memory);
-        }
-        if self.locals.len() > 256 {
-        }
-        let scope = Scope {
-            arrays,
-            bodies,
-            locals: self.locals.as_slice(),
-        };
-        match line_behind(&scope, self.can_else(), keyword, rest) {
+        let fits = self.can_else();
+        let depth = self.depth();
+        match line_in(arrays, bodies, &self.locals, fits, keyword, words) {
             Ok(line) => {
-                if is_over(self.statements, self.locals.len(), self.depth(), line) {
-                    Err(LineFault::Refused(Code::TooMany))
-                } else {
-                    Ok(line)
+                if is_over(self.statements, self.locals.len(), depth, line) {
+                    return Err(Code::TooMany);
                 }
+                Ok(line)
             }
-            Err(code) => Err(LineFault::Refused(code)),
+            Err(code) => Err(code),
         }
+    }
+
+    /// Whether a line belongs to the open lines.
+    pub(crate) fn belongs(&self, line: Line) -> bool
+        ensures { (o : Inside) → IsInside o self.now → result ≡ belongs line o.frames }
+    {
+        match line {
+            Line::Do(_) | Line::If(_, _) | Line::While(_, _) => true,
+            Line::Else(_) => self.can_else(),
+            Line::EndIf | Line::EndWhile(_, _) => self.depth() > 0,
+        }
+    }
+
+    /// Puts a line behind the others.
+    pub(crate) fn push(&mut self, line: Line) -> Result<(), AllocError>
+        requires { statements_behind self.old.statements line ≤ 1024 }
+        ensures grown { OnOk result ((o : Inside) → IsInside o self.old
+            → IsGrown o (statements_behind o.statements line) (step_of line o.frames o.block) self.new) }
+        ensures locals { OnOk result (self.new.locals ≡ self.old.locals) }
+    {
+        self.builder.line(line)?;
+        match line {
+            Line::Do(_) | Line::If(_, _) | Line::While(_, _) => self.statements += 1,
+            Line::Else(_) | Line::EndIf | Line::EndWhile(_, _) => {}
+        }
+        Ok(())
     }
 }

@@ -2,7 +2,10 @@
 #![tactic(auto)]
 
 mod fault;
+mod grow;
+mod inside;
 mod outer;
+mod so_far;
 
 pub use fault::{ReadJobFault, WriteJobFault};
 pub use text_lines::{Code, Refusal};

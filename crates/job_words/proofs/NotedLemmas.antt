@@ -33,6 +33,13 @@ pub noted-append : (names xs ys : List Word) → noted names (xs ++ ys) ≡ note
 noted-append names [] ys = refl
 noted-append names (x ∷ xs) ys = noted-append (if is_among names x then names else names ++ x ∷ []) xs ys
 
+pub is-among-some : (names : List Word) (w : Word) (i : ℕ) → Some i ≡ place_from 0 names w → true ≡ is_among names w
+is-among-some names w i e = sym (among-some 0 names w i (sym e))
+
+pub is-among-none : (names : List Word) (w : Word) → None ≡ place_from 0 names w → false ≡ is_among names w
+is-among-none names w e = sym (among-none 0 names w (sym e))
+
+pub ruleset among_steps = (is-among-some, is-among-none)
 pub ruleset note_steps = (note-known, note-new)
 
 pub ruleset noted_steps = (noted-append)

@@ -1,6 +1,8 @@
 //! Names, numbers and indices as words.
-ghost use Rattle.std.specs.Prelude.{◌≡◌, ◌≤◌, ◌<◌, ◌^◌, ◌∷◌, [], length, MatchOption, IfSome, IfOk};
+ghost use Rattle.std.specs.Prelude.{◌≡◌, ◌≤◌, ◌<◌, ◌^◌, ◌∷◌, [], length, MatchOption, IfSome, IfOk, FitsSigned};
+ghost use Rattle.std.specs.Int.{w64};
 ghost use Rattle.job_words.specs.Words as spec;
+ghost use Rattle.task_lang.specs.Names.{is_among};
 ghost use Rattle.job_words.specs.Views.{lent};
 
 use crate::faults::both;
@@ -43,7 +45,8 @@ pub fn named(word: &[u8]) -> Result<(), Code>
 
 /// The number that a word writes, of 64 signed bits.
 pub fn numbered(word: &[u8]) -> Result<i64, Code>
-    ensures { result ≡ spec.numbered word.now }
+    ensures number { result ≡ spec.numbered word.now }
+    ensures fits { IfOk result (λ n. FitsSigned w64 n) }
 {
     match number(word) {
         Some(n) => Ok(n),
@@ -62,6 +65,17 @@ pub fn place(names: &[&[u8]], word: &[u8]) -> Option<usize>
         }
     }
     None
+}
+
+/// Whether a name is among others.
+#[tactic(auto, using(crate::proofs::NotedLemmas::among_steps))]
+pub fn is_among(names: &[&[u8]], word: &[u8]) -> bool
+    ensures { result ≡ is_among (lent names.now) word.now }
+{
+    match place(names, word) {
+        Some(_) => true,
+        None => false,
+    }
 }
 
 /// The place of a name among those that are declared.

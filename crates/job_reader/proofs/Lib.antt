@@ -1,0 +1,2 @@
+pub mod NumberedLemmas
+pub mod OpenLemmas
