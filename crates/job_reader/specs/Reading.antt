@@ -250,6 +250,9 @@ line_step bodies line a ws =
     made (λ p. record { job = p.0; inside = p.1; missing = first_missing a.missing line (is_missing bodies ws) })
     (any_line bodies a.job a.inside ws)
 
+abbrev pub kept_step : List Word → ℕ → Above → Words → Result Above Code
+kept_step bodies line a ws = if is_skipped ws then Ok a else line_step bodies line a ws
+
 -- no body is open, and each that is named is there
 abbrev pub finished : ℕ → Above → Option Inside → Option ℕ → Result JobTree Refusal
 finished line a (Some o) missing = refused line Unclosed
@@ -260,8 +263,7 @@ finished line a None None = Ok a.job
 abbrev pub read_lines : List Word → ℕ → Above → List (List ℕ) → Result JobTree Refusal
 read_lines bodies line a [] = finished line a a.inside a.missing
 read_lines bodies line a (l ∷ ls) =
-    if is_skipped (words_of l) then read_lines bodies (line + 1) a ls
-    else at line (line_step bodies line a (words_of l)) >>= λ b. read_lines bodies (line + 1) b ls
+    at line (kept_step bodies line a (words_of l)) >>= λ b. read_lines bodies (line + 1) b ls
 
 -- the first line, and the lines behind it
 abbrev pub read_from : List Word → ℕ → List (List ℕ) → Result JobTree Refusal

@@ -6,8 +6,9 @@ use Rattle.task_lang.specs.Open.{Frame, IsOpen}
 use Rattle.job_words.specs.Words.{Word}
 use Rattle.job_reader.specs.declared.inside.OpenBody.{OpenBody}
 use Rattle.job_reader.specs.declared.so_far.SoFar.{SoFar}
+use Rattle.job_reader.specs.declared.state.State.{State}
 use Rattle.job_reader.specs.Trees.{BodyTree, JobTree, body_tree, array_names, body_names}
-use Rattle.job_reader.specs.Above.{Inside, grown}
+use Rattle.job_reader.specs.Above.{Inside, Above, grown}
 
 -- an open body
 pub record IsInside (o : Inside) (w : OpenBody) : Type 0 where
@@ -38,3 +39,9 @@ IsGrown o statements (Some s) w = IsInside (grown o statements s) w
 -- the job and the open body behind a line
 abbrev pub IsBehind : JobTree × Option Inside → SoFar → Option OpenBody → Type 0
 IsBehind p r w = IsSoFar p.0 r × IsOpened p.1 w
+
+-- what the reader knows above a line
+pub record IsAt (a : Above) (s : State) : Type 0 where
+  pub so_far : IsSoFar a.job s.so_far
+  pub inside : IsOpened a.inside s.inside
+  pub missing : s.missing ≡ a.missing

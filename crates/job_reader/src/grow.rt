@@ -1,24 +1,26 @@
 //! Lines that the job grows by.
-ghost use Rattle.std.specs.Prelude.{◌≡◌, ◌≤◌, ◌∷◌, [], ◌++◌, length, map, string_bytes, IfOk, IfSome, OnOk, ◌<◌};
+ghost use Rattle.std.specs.Prelude.{◌≡◌, ◌≤◌, ◌∷◌, [], ◌++◌, length, map, string_bytes, IfOk, IfErr, IfSome, OnOk, ◌<◌, Option};
+ghost use Rattle.std.specs.Option.{ForSome};
 ghost use Rattle.text_lines.specs.Text.{words_of};
 ghost use Rattle.job_words.specs.Views.{lent};
-ghost use Rattle.job_reader.specs.Trees.{JobTree, body_tree};
+ghost use Rattle.job_reader.specs.Trees.{JobTree, body_tree, job_tree};
 ghost use Rattle.job_reader.specs.Above.{Inside, nothing, ended, statements_behind};
 ghost use Rattle.job_reader.specs.Reading as spec;
-ghost use Rattle.job_reader.specs.Relates.{IsSoFar, IsInside, IsBehind};
+ghost use Rattle.job_reader.specs.Relates.{IsSoFar, IsInside, IsOpened, IsBehind};
 ghost use Rattle.job_reader.specs.Gives.{LineGives};
 
-use crate::fault::LineFault;
+use crate::fault::{LineFault, ReadJobFault};
 use crate::inside::OpenBody;
-use crate::outer::{Outer, array_of, body_of, start_of};
+use crate::outer::{Outer, array_of, body_of, outer_of, start_of};
 use crate::so_far::SoFar;
-use job_words::lines::Keyword;
+use job_words::lines::{Keyword, keyword_of};
 use job_words::words::is_among;
 use std::alloc::{AllocError, Global};
 use superstep_memory::arrays::Arrays;
 use task_lang::body::Body;
 use task_lang::code::Line;
-use text_lines::Code;
+use task_lang::job::Job;
+use text_lines::{Code, split_word};
 
 /// The most arrays of a job.
 const MOST_ARRAYS: usize = 16;
@@ -68,6 +70,19 @@ fn finished(alloc: Global, inner: OpenBody<'_>) -> Result<Body, AllocError>
     }
 }
 
+// The words of a line.
+fn words_in<'a>(alloc: Global, line: &'a [u8]) -> Result<Vec<&'a [u8]>, AllocError>
+    ensures { IfOk result (λ words. lent words.items ≡ words_of line.entry.now) }
+{
+    let mut words = Vec::new(alloc);
+    let mut rest = line;
+    while let Some((word, after)) = split_word(rest) {
+        rest = after;
+        words.push(word)?;
+    }
+    Ok(words)
+}
+
 impl<'a> SoFar<'a> {
     /// Nothing yet.
     pub(crate) fn new(alloc: Global) -> Self
@@ -82,9 +97,27 @@ impl<'a> SoFar<'a> {
         }
     }
 
+    /// The job.
+    pub(crate) fn job(self) -> Result<Job, ReadJobFault>
+        ensures job { (j : JobTree) → IsSoFar j self.entry → IfOk result (λ job. job_tree job ≡ j) }
+        ensures memory { IfErr result (λ fault. fault ≡ ReadJobFault.Memory) }
+    {
+        let SoFar {
+            arrays,
+            array_names: _,
+            bodies,
+            body_names: _,
+            starts,
+        } = self;
+        match Job::new(arrays, bodies, starts) {
+            Some(job) => Ok(job),
+            None => Err(ReadJobFault::Memory),
+        }
+    }
+
     // Puts an array behind the others.
     fn push_array(&mut self, text: String, name: &'a [u8], cells: Vec<i64>) -> Result<(), AllocError>
-        requires text { string_bytes text ≡ name.entry.now }
+        requires text { string_bytes text ≡ name.now }
         requires few { length self.old.array_names.items < 16 }
         ensures { OnOk result ((j : JobTree) → IsSoFar j self.old
             → IsSoFar (record j { arrays = j.arrays ++ (name.entry.now, cells.items) ∷ [] }) self.new) }
@@ -210,7 +243,7 @@ impl<'a> SoFar<'a> {
         inner: OpenBody<'a>,
         line: Line,
     ) -> Result<Option<OpenBody<'a>>, AllocError>
-        requires { statements_behind inner.entry.statements line ≤ 1024 }
+        requires { statements_behind inner.statements line ≤ 1024 }
         ensures line { IfOk result (λ w. (j : JobTree) (o : Inside) → IsSoFar j self.old → IsInside o inner.entry
             → IsBehind (spec.with_line j o line) self.new w) }
         ensures few { IfOk result (λ o. IfSome o (λ w. w.locals ≡ inner.entry.locals)) }
@@ -235,7 +268,7 @@ impl<'a> SoFar<'a> {
         words: &[&'a [u8]],
     ) -> Result<Option<OpenBody<'a>>, LineFault>
         requires bodies { length bodies.now ≤ 64 }
-        requires few { length inner.entry.locals.items ≤ 32 }
+        requires few { length inner.locals.items ≤ 32 }
         ensures line { (j : JobTree) (o : Inside) → IsSoFar j self.old → IsInside o inner.entry
             → LineGives (λ w p. IsBehind p self.new w) result (spec.inner_line (lent bodies.now) j o keyword (lent words.now)) }
         ensures few { IfOk result (λ o. IfSome o (λ w. length w.locals.items ≤ 32)) }
@@ -251,6 +284,32 @@ impl<'a> SoFar<'a> {
         match self.put_line(alloc, inner, line) {
             Ok(inner) => Ok(inner),
             Err(_) => Err(LineFault::Memory),
+        }
+    }
+
+    /// A line that isn't skipped, from its first word and the line behind that, where a body may be open.
+    pub(crate) fn any_line(
+        &mut self,
+        alloc: Global,
+        bodies: &[&'a [u8]],
+        inside: Option<OpenBody<'a>>,
+        first: &'a [u8],
+        rest: &'a [u8],
+    ) -> Result<Option<OpenBody<'a>>, LineFault>
+        requires bodies { length bodies.now ≤ 64 }
+        requires few { ForSome inside (λ w. length w.locals.items ≤ 32) }
+        ensures line { (j : JobTree) (i : Option Inside) → IsSoFar j self.old → IsOpened i inside.entry
+            → LineGives (λ w p. IsBehind p self.new w) result (spec.any_line (lent bodies.now) j i (first.entry.now ∷ words_of rest.entry.now)) }
+        ensures few { IfOk result (λ o. IfSome o (λ w. length w.locals.items ≤ 32)) }
+    {
+        match inside {
+            None => self.outer_line(alloc, bodies, outer_of(first), rest),
+            Some(inner) => {
+                let Ok(words) = words_in(alloc, rest) else {
+                    return Err(LineFault::Memory);
+                };
+                self.inner_line(alloc, bodies, inner, keyword_of(first), &words)
+            }
         }
     }
 }

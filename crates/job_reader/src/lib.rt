@@ -5,7 +5,10 @@ mod fault;
 mod grow;
 mod inside;
 mod outer;
+mod read;
 mod so_far;
+mod state;
 
 pub use fault::{ReadJobFault, WriteJobFault};
+pub use read::read_job;
 pub use text_lines::{Code, Refusal};
