@@ -1,2 +1,5 @@
 pub mod NumberedLemmas
 pub mod OpenLemmas
+pub mod LineLemmas
+pub mod DeclaredLemmas
+pub mod StepLemmas

@@ -60,3 +60,12 @@ belongs (line.While e n) fs = true
 belongs (line.Else n) fs = can_else fs
 belongs line.EndIf fs = is_nested fs
 belongs (line.EndWhile e n) fs = is_nested fs
+
+-- a line may stand where an `else` may or may not
+abbrev pub sits : Bool → Line → Bool
+sits fits (line.Do a) = true
+sits fits (line.If e n) = true
+sits fits (line.While e n) = true
+sits fits (line.Else n) = fits
+sits fits line.EndIf = true
+sits fits (line.EndWhile e n) = true

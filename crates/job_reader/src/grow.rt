@@ -1,10 +1,10 @@
 //! Lines that the job grows by.
-ghost use Rattle.std.specs.Prelude.{◌≡◌, ◌≤◌, ◌∷◌, [], ◌++◌, length, map, string_bytes, IfOk, IfErr, IfSome, OnOk, ◌<◌, Option};
+ghost use Rattle.std.specs.Prelude.{◌≡◌, ◌≤◌, ◌∷◌, [], ◌++◌, length, map, string_bytes, IfOk, IfErr, IfSome, OnOk, ◌<◌, Option, true};
 ghost use Rattle.std.specs.Option.{ForSome};
 ghost use Rattle.text_lines.specs.Text.{words_of};
 ghost use Rattle.job_words.specs.Views.{lent};
 ghost use Rattle.job_reader.specs.Trees.{JobTree, body_tree, job_tree};
-ghost use Rattle.job_reader.specs.Above.{Inside, nothing, ended, statements_behind};
+ghost use Rattle.job_reader.specs.Above.{Inside, nothing, can_else, sits, ended, statements_behind};
 ghost use Rattle.job_reader.specs.Reading as spec;
 ghost use Rattle.job_reader.specs.Relates.{IsSoFar, IsInside, IsOpened, IsBehind};
 ghost use Rattle.job_reader.specs.Gives.{LineGives};
@@ -116,7 +116,12 @@ impl<'a> SoFar<'a> {
     }
 
     // Puts an array behind the others.
-    fn push_array(&mut self, text: String, name: &'a [u8], cells: Vec<i64>) -> Result<(), AllocError>
+    fn push_array(
+        &mut self,
+        text: String,
+        name: &'a [u8],
+        cells: Vec<i64>,
+    ) -> Result<(), AllocError>
         requires text { string_bytes text ≡ name.now }
         requires few { length self.old.array_names.items < 16 }
         ensures { OnOk result ((j : JobTree) → IsSoFar j self.old
@@ -245,7 +250,7 @@ impl<'a> SoFar<'a> {
     ) -> Result<Option<OpenBody<'a>>, AllocError>
         requires { statements_behind inner.statements line ≤ 1024 }
         ensures line { IfOk result (λ w. (j : JobTree) (o : Inside) → IsSoFar j self.old → IsInside o inner.entry
-            → IsBehind (spec.with_line j o line) self.new w) }
+            → sits (can_else o.frames) line ≡ true → IsBehind (spec.with_line j o line) self.new w) }
         ensures few { IfOk result (λ o. IfSome o (λ w. w.locals ≡ inner.entry.locals)) }
     {
         if inner.belongs(line) {
@@ -274,9 +279,9 @@ impl<'a> SoFar<'a> {
         ensures few { IfOk result (λ o. IfSome o (λ w. length w.locals.items ≤ 32)) }
     {
         let mut inner = inner;
-        if inner.note(keyword, words).is_err() {
+        let Ok(()) = inner.note(keyword, words) else {
             return Err(LineFault::Memory);
-        }
+        };
         let line = match inner.said(&self.array_names, bodies, keyword, words) {
             Ok(line) => line,
             Err(code) => return Err(LineFault::Refused(code)),

@@ -39,11 +39,15 @@ fn is_over(statements: usize, locals: usize, open_lines: usize, line: Line) -> b
     ensures { result ≡ spec.is_over (statements_behind statements line) locals (opened open_lines line) }
 {
     match line {
-        Line::Do(_) => statements >= MOST_STATEMENTS || locals > MOST_LOCALS || open_lines > MOST_OPEN,
+        Line::Do(_) => statements >= MOST_STATEMENTS
+            || locals > MOST_LOCALS
+            || open_lines > MOST_OPEN,
         Line::If(_, _) | Line::While(_, _) => {
             statements >= MOST_STATEMENTS || locals > MOST_LOCALS || open_lines >= MOST_OPEN
         }
-        Line::Else(_) => statements > MOST_STATEMENTS || locals > MOST_LOCALS || open_lines > MOST_OPEN,
+        Line::Else(_) => statements > MOST_STATEMENTS
+            || locals > MOST_LOCALS
+            || open_lines > MOST_OPEN,
         Line::EndIf | Line::EndWhile(_, _) => {
             statements > MOST_STATEMENTS || locals > MOST_LOCALS || open_lines > MOST_OPEN + 1
         }
@@ -118,7 +122,11 @@ impl<'a> OpenBody<'a> {
     }
 
     /// Notes the locals that a line mentions.
-    pub(crate) fn note(&mut self, keyword: Option<Keyword>, words: &[&'a [u8]]) -> Result<(), AllocError>
+    pub(crate) fn note(
+        &mut self,
+        keyword: Option<Keyword>,
+        words: &[&'a [u8]],
+    ) -> Result<(), AllocError>
         ensures noted { OnOk result ((o : Inside) → IsInside o self.old
             → IsInside (spec.mentioning o keyword (lent words.entry.now)) self.new) }
         ensures few { OnOk result (length self.new.locals.items ≤ length self.old.locals.items + 3) }

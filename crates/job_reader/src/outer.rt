@@ -87,7 +87,11 @@ fn all_numbered(alloc: Global, line: &[u8]) -> Result<Result<Vec<i64>, Code>, Al
 }
 
 // Fills values up with zeros to 1 to 4096 cells.
-fn filled(alloc: Global, length: i64, values: Vec<i64>) -> Result<Result<Vec<i64>, Code>, AllocError>
+fn filled(
+    alloc: Global,
+    length: i64,
+    values: Vec<i64>,
+) -> Result<Result<Vec<i64>, Code>, AllocError>
     ensures { IfOk result (λ read. spec.items_if_ok read ≡ spec.filled (length, values.items)) }
 {
     let Ok(length) = usize::try_from(length) else {

@@ -126,15 +126,15 @@ impl<'a> State<'a> {
 }
 
 // The lines behind the header, from this number on.
-fn read_lines(
+fn read_lines<'a>(
     alloc: Global,
-    bodies: &[&[u8]],
-    text: &[u8],
+    bodies: &[&'a [u8]],
+    text: &'a [u8],
     first: usize,
 ) -> Result<Job, ReadJobFault>
     requires bodies { length bodies.now ≤ 64 }
     requires lines { first + length text.now < 2 ^ 32 }
-    ensures { Gives job_tree result (spec.read_lines (lent bodies.now) first nothing (lines_of text.now)) }
+    ensures { Gives job_tree result (spec.read_lines (lent bodies.now) first nothing (lines_of text.entry.now)) }
 {
     let mut state = State::new(alloc);
     let mut line = first;

@@ -40,6 +40,7 @@ pub is-among-none : (names : List Word) (w : Word) → None ≡ place_from 0 nam
 is-among-none names w e = sym (among-none 0 names w (sym e))
 
 pub ruleset among_steps = (is-among-some, is-among-none)
+
 pub ruleset note_steps = (note-known, note-new)
 
 pub ruleset noted_steps = (noted-append)
