@@ -5,6 +5,7 @@ mod fault;
 mod grow;
 mod inside;
 mod outer;
+mod push;
 mod read;
 mod so_far;
 mod state;
