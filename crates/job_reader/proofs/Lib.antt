@@ -3,3 +3,5 @@ pub mod OpenLemmas
 pub mod LineLemmas
 pub mod DeclaredLemmas
 pub mod StepLemmas
+pub mod CodeLemmas
+pub mod TextLemmas

@@ -9,7 +9,9 @@ mod push;
 mod read;
 mod so_far;
 mod state;
+mod write;
 
 pub use fault::{ReadJobFault, WriteJobFault};
 pub use read::read_job;
 pub use text_lines::{Code, Refusal};
+pub use write::write_job;
