@@ -15,3 +15,6 @@ pub use fault::{ReadJobFault, WriteJobFault};
 pub use read::read_job;
 pub use text_lines::{Code, Refusal};
 pub use write::write_job;
+
+#[cfg(test)]
+mod tests;
