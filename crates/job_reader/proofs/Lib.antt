@@ -5,3 +5,5 @@ pub mod DeclaredLemmas
 pub mod StepLemmas
 pub mod CodeLemmas
 pub mod TextLemmas
+pub mod ItemLemmas
+pub mod StepCode

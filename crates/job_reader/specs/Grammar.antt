@@ -1,14 +1,13 @@
 -- How a job is written, as lines of words, and which texts are a job's (own).
-use Rattle.std.specs.Prelude.{◌≡◌, ◌≤◌, ℕ, ◌-◌, IsTrue, List, [], ◌∷◌, ◌++◌, length, codes, map, replicate, ℤ, pos, not}
+use Rattle.std.specs.Prelude.{◌≡◌, ◌≤◌, ◌<◌, ℕ, ◌-◌, true, List, [], ◌∷◌, ◌++◌, length, codes, map, replicate, ℤ, pos, not}
 use Rattle.std.specs.List.{flat_map, filter, list_all}
 use Rattle.std.specs.Fmt.{decimal, signed_decimal}
 use Rattle.text_lines.specs.Text.{words_of, is_skipped}
 use Rattle.task_lang.specs.Tree.{Block, Done, Do, If, IfElse, While, flat}
-use Rattle.task_lang.specs.Limits.{is_line}
 use Rattle.task_lang.specs.declared.job.Start.{Start}
-use Rattle.job_words.specs.Words.{Word, Words, name_at}
+use Rattle.job_words.specs.Words.{Word, Words, name_at, noted}
 use Rattle.job_words.specs.Exprs.{Names, expr_words}
-use Rattle.job_words.specs.Lines.{action_words, end_words}
+use Rattle.job_words.specs.Lines.{action_words, end_words, line_fits, mentions_of}
 use Rattle.job_reader.specs.Trees.{BodyTree, JobTree, array_names, body_names}
 
 -- the lines of statements
@@ -54,13 +53,26 @@ items_lines arrays bodies (AnArray name given cells ∷ is) = array_words name (
 items_lines arrays bodies (ABody b ∷ is) = body_lines arrays bodies b ++ items_lines arrays bodies is
 items_lines arrays bodies (AStart s ∷ is) = start_words bodies s ∷ items_lines arrays bodies is
 
--- Values that a line leaves out are 0, and lines name only arrays that stand above them and bodies of the text.
+-- the locals that the lines of a body mention
+abbrev pub mentioned_by : List Words → List Word
+mentioned_by lines = noted [] (flat_map mentions_of lines)
+
+-- A body names only arrays that stand above it, bodies of the text, and its locals, which are those that it mentions, in
+-- the order of their first mentions.
+abbrev pub IsSoundBody : List Word → List Word → BodyTree → Type 0
+IsSoundBody arrays bodies b =
+    (list_all (line_fits (names_above arrays bodies b)) (flat b.block) ≡ true)
+    × (mentioned_by (block_lines (names_above arrays bodies b) b.block) ≡ b.locals)
+
+-- the values that an array line leaves out are 0
+abbrev pub IsFilled : List ℤ → List ℤ → Type 0
+IsFilled given cells = (length given ≤ length cells) × (cells ≡ given ++ replicate (length cells - length given) (pos 0))
+
 abbrev pub AreSound : List Word → List Word → List Item → Type 0
 AreSound arrays bodies [] = Unit {0}
-AreSound arrays bodies (AnArray name given cells ∷ is) =
-    (length given ≤ length cells) × (cells ≡ given ++ replicate (length cells - length given) (pos 0)) × AreSound (arrays ++ name ∷ []) bodies is
-AreSound arrays bodies (ABody b ∷ is) = IsTrue (list_all (is_line (length arrays) (length bodies)) (flat b.block)) × AreSound arrays bodies is
-AreSound arrays bodies (AStart s ∷ is) = AreSound arrays bodies is
+AreSound arrays bodies (AnArray name given cells ∷ is) = IsFilled given cells × AreSound (arrays ++ name ∷ []) bodies is
+AreSound arrays bodies (ABody b ∷ is) = IsSoundBody arrays bodies b × AreSound arrays bodies is
+AreSound arrays bodies (AStart s ∷ is) = (s.body < length bodies) × AreSound arrays bodies is
 
 -- what items say: each kind in its order
 abbrev pub with_item : Item → JobTree → JobTree

@@ -1,2 +1,5 @@
 pub mod CellLemmas
 pub mod NotedLemmas
+pub mod SaidLemmas
+pub mod LineSaid
+pub mod GrowLemmas

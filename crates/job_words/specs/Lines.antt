@@ -2,6 +2,10 @@
 use Rattle.std.specs.Prelude.{
   ℕ,
   Bool,
+  true,
+  ◌&&◌,
+  nat_lt,
+  length,
   ◌==◌,
   if◌then◌else◌,
   List,
@@ -18,6 +22,9 @@ use Rattle.std.specs.Prelude.{
   unwrap_or,
 }
 use Rattle.std.specs.Str.{bytes_eq}
+use Rattle.std.specs.List.{list_all}
+use Rattle.task_lang.specs.Limits.{is_expr, is_action}
+use Rattle.task_lang.specs.Mentions.{in_line}
 use Rattle.text_lines.specs.declared.refusal.Code.{Code}
 use Rattle.text_lines.specs.declared.refusal.Code.TheVariants.{BadLine, BadNesting, UnknownLine}
 use Rattle.task_lang.specs.declared.code.Cell.{Cell}
@@ -156,3 +163,16 @@ mentions_behind (Some End) ws = []
 abbrev pub mentions_of : Words → List Word
 mentions_of [] = []
 mentions_of (k ∷ ws) = mentions_behind (keyword_of k) ws
+
+-- the arrays and bodies that a line names are among the first so many; the end of a loop doesn't say its test again
+abbrev pub line_names : ℕ → ℕ → Line → Bool
+line_names n m (line.Do a) = is_action n m a
+line_names n m (line.If e j) = is_expr n e
+line_names n m (line.Else j) = true
+line_names n m line.EndIf = true
+line_names n m (line.While e j) = is_expr n e
+line_names n m (line.EndWhile e j) = true
+
+-- and the locals too
+abbrev pub line_fits : Names → Line → Bool
+line_fits s l = line_names (length s.arrays) (length s.bodies) l && list_all (λ i. nat_lt i (length s.locals)) (in_line l)
