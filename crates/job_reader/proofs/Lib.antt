@@ -7,3 +7,4 @@ pub mod CodeLemmas
 pub mod TextLemmas
 pub mod ItemLemmas
 pub mod StepCode
+pub mod ToldInside

@@ -33,7 +33,7 @@ within-one : (b : Bool) (k l : Line) (c : Code) → (if b then Err c else Ok k) 
 within-one true k l c e = absurd cc
 within-one false k l c e = e
 
-within-sits : (r : Result Line Code) (o : Inside) (l : Line) → (r >>= within_limits o) ≡ Ok l → r ≡ Ok l
+pub within-sits : (r : Result Line Code) (o : Inside) (l : Line) → (r >>= within_limits o) ≡ Ok l → r ≡ Ok l
 within-sits (Err c) o l e = absurd cc
 within-sits (Ok k) o l e =
     within-one (is_over (statements_behind o.statements k) (length o.locals) (opened (length o.frames) k)) k l TooMany e
