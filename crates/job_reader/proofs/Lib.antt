@@ -8,3 +8,4 @@ pub mod TextLemmas
 pub mod ItemLemmas
 pub mod StepCode
 pub mod ToldInside
+pub mod ToldOuter
