@@ -9,3 +9,4 @@ pub mod ItemLemmas
 pub mod StepCode
 pub mod ToldInside
 pub mod ToldOuter
+pub mod ToldText

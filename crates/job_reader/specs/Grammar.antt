@@ -1,6 +1,6 @@
 -- How a job is written, as lines of words, and which texts are a job's (own).
-use Rattle.std.specs.Prelude.{◌≡◌, ◌≤◌, ◌<◌, ℕ, ◌-◌, true, List, [], ◌∷◌, ◌++◌, length, codes, map, replicate, ℤ, pos, not}
-use Rattle.std.specs.List.{flat_map, filter, list_all}
+use Rattle.std.specs.Prelude.{◌≡◌, ◌≤◌, ◌<◌, ℕ, ◌-◌, true, List, [], ◌∷◌, ◌++◌, length, codes, map, replicate, ℤ, pos, if◌then◌else◌}
+use Rattle.std.specs.List.{flat_map, list_all}
 use Rattle.std.specs.Fmt.{decimal, signed_decimal}
 use Rattle.text_lines.specs.Text.{words_of, is_skipped}
 use Rattle.task_lang.specs.Tree.{Block, Done, Do, If, IfElse, While, flat}
@@ -89,7 +89,8 @@ job_of (i ∷ is) = with_item i (job_of is)
 
 -- the lines of a text that aren't skipped
 abbrev pub kept : List (List ℕ) → List Words
-kept lines = filter (λ ws. not (is_skipped ws)) (map words_of lines)
+kept [] = []
+kept (l ∷ ls) = if is_skipped (words_of l) then kept ls else words_of l ∷ kept ls
 
 -- The grammar: these lines are a job's where they are its items as they are written. A text is free in the lines that are
 -- skipped, in the order of items of different kinds, and in values left out; all else is written in one way.
