@@ -64,8 +64,8 @@ told-put bodies lines j i t s =
     record {
       items = t.items ++ i ∷ [];
       written = ap (λ (x : List Words). x ++ items_lines (array_names j) bodies (i ∷ [])) t.written
-        ∙ ap (λ (a : List Word). items_lines [] bodies t.items ++ items_lines a bodies (i ∷ [])) (sym names)
-        ∙ sym (items-append [] bodies t.items (i ∷ []));
+          ∙ ap (λ (a : List Word). items_lines [] bodies t.items ++ items_lines a bodies (i ∷ [])) (sym names)
+          ∙ sym (items-append [] bodies t.items (i ∷ []));
       said = job-put t.items i ∙ ap (put i) t.said;
       sound = sound-append [] bodies t.items (i ∷ []) t.sound (subst (λ (a : List Word). AreSound a bodies (i ∷ [])) (sym names) s);
     }

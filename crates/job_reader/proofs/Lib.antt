@@ -10,3 +10,5 @@ pub mod StepCode
 pub mod ToldInside
 pub mod ToldOuter
 pub mod ToldText
+pub mod ToldNames
+pub mod ToldWhole

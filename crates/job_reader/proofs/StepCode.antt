@@ -14,7 +14,6 @@ module _ {X : Type 0} (f : Line → X)
     (on-else : (n m : ℕ) → f (line.Else n) ≡ f (line.Else m))
     (on-while : (e : Expr) (n m : ℕ) → f (line.While e n) ≡ f (line.While e m))
     (on-end : (e : Expr) (n : ℕ) → f (line.EndWhile e n) ≡ f line.EndIf) where
-
   mapped : (xs ys : List Line) → map f (xs ++ ys) ≡ map f xs ++ map f ys
   mapped xs ys = map-append f xs ys
 
@@ -58,8 +57,8 @@ module _ {X : Type 0} (f : Line → X)
       subst (λ (u : List Frame × Block). After u (InIf t before ∷ fs) b (line.Else n)) same
       (mapped (open_code fs before ++ line.If t (length (flat b) + 1) ∷ flat b) (line.Else 0 ∷ [])
       ∙ ap (λ (x : List X). x ++ f (line.Else 0) ∷ []) (mapped (open_code fs before) (line.If t (length (flat b) + 1) ∷ flat b)
-        ∙ ap (λ (x : X). map f (open_code fs before) ++ x ∷ map f (flat b)) (on-if t (length (flat b) + 1) 0)
-        ∙ sym (mapped (open_code fs before) (line.If t 0 ∷ flat b)))
+      ∙ ap (λ (x : X). map f (open_code fs before) ++ x ∷ map f (flat b)) (on-if t (length (flat b) + 1) 0)
+      ∙ sym (mapped (open_code fs before) (line.If t 0 ∷ flat b)))
       ∙ ap (λ (x : X). map f (open_code (InIf t before ∷ fs) b) ++ x ∷ []) (on-else 0 n))
   step-map (line.Else n) (InElse t before a ∷ fs) b s e = absurd cc
   step-map (line.Else n) (InWhile t before ∷ fs) b s e = absurd cc

@@ -101,8 +101,8 @@ grown-told bodies lines j o k ws l n st t x e =
       base = t.base;
       told = t.told;
       written = ap (λ (c : List Words). c ++ (k ∷ ws) ∷ []) t.written
-        ∙ append_assoc t.base (body_words o.name ∷ code_lines s code) ((k ∷ ws) ∷ [])
-        ∙ ap (λ (c : List Words). t.base ++ body_words o.name ∷ c) (sym after);
+          ∙ append_assoc t.base (body_words o.name ∷ code_lines s code) ((k ∷ ws) ∷ [])
+          ∙ ap (λ (c : List Words). t.base ++ body_words o.name ∷ c) (sym after);
       fits = fits;
       noted = ap mentioned_by after ∙ mentioned-one (code_lines s code) (k ∷ ws) ∙ ap (λ (c : List Word). noted c (mentions_of (k ∷ ws))) t.noted;
     }

@@ -28,7 +28,6 @@ pub bind-ok : {A B E : Type 0} (r : Result A E) (f : A → Result B E) (y : B) �
 bind-ok (Ok x) f y e = (x, refl, e)
 bind-ok (Err c) f y e = absurd cc
 
-
 abbrev pub outer_text : Outer → Word
 outer_text outer.Array = codes "array"
 outer_text outer.Body = codes "body"
@@ -81,7 +80,7 @@ cells-said len values cells e =
     by-sign (negsuc n) vs l v f = absurd cc
     by-sign (pos m) vs l v f =
         let h = filled-ok (nat_le 1 m && nat_le m 4096 && nat_le (length vs) m) m vs cells
-          (λ t. le-true (length vs) m (and-right (nat_le 1 m && nat_le m 4096) (nat_le (length vs) m) t)) f in
+        (λ t. le-true (length vs) m (and-right (nat_le 1 m && nat_le m 4096) (nat_le (length vs) m) t)) f in
         (vs, l ∙ ap decimal h.0, v, h.1)
 
 array-said : (ws : Words) (x : Word × List ℤ) → array_of ws ≡ Ok x → (given : List ℤ) × (codes "array" ∷ ws ≡ array_words x.0 (length x.1) given) × IsFilled given x.1
@@ -94,12 +93,12 @@ array-said (name ∷ len ∷ values) x e =
     subst (λ (y : Word × List ℤ). (given : List ℤ) × (codes "array" ∷ name ∷ len ∷ values ≡ array_words y.0 (length y.1) given) × IsFilled given y.1) m.2
     (c.0, ap (λ (t : Word). codes "array" ∷ name ∷ t ∷ values) c.1 ∙ ap (λ (t : Words). codes "array" ∷ name ∷ decimal (length m.0.1) ∷ t) c.2, c.3)
 
-two-tests : {A : Type 0} (a b : Bool) (c d : Code) (r : Result A Code) (y : A) → (if a then Err c else if b then Err d else r) ≡ Ok y → r ≡ Ok y
+pub two-tests : {A : Type 0} (a b : Bool) (c d : Code) (r : Result A Code) (y : A) → (if a then Err c else if b then Err d else r) ≡ Ok y → r ≡ Ok y
 two-tests true b c d r y e = absurd cc
 two-tests false true c d r y e = absurd cc
 two-tests false false c d r y e = e
 
-one-test : {A : Type 0} (a : Bool) (c : Code) (r : Result A Code) (y : A) → (if a then Err c else r) ≡ Ok y → r ≡ Ok y
+pub one-test : {A : Type 0} (a : Bool) (c : Code) (r : Result A Code) (y : A) → (if a then Err c else r) ≡ Ok y → r ≡ Ok y
 one-test true c r y e = absurd cc
 one-test false c r y e = e
 

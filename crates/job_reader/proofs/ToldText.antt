@@ -31,7 +31,7 @@ use Rattle.job_reader.proofs.ItemLemmas.{Told, told-nothing}
 use Rattle.job_reader.proofs.ToldInside.{Tells, inner-told}
 use Rattle.job_reader.proofs.ToldOuter.{bind-ok, outer-told}
 
-finished-ok : (n : ℕ) (a : Above) (i : Option Inside) (m : Option ℕ) (j : JobTree) → finished n a i m ≡ Ok j → (i ≡ None) × (m ≡ None) × (a.job ≡ j)
+pub finished-ok : (n : ℕ) (a : Above) (i : Option Inside) (m : Option ℕ) (j : JobTree) → finished n a i m ≡ Ok j → (i ≡ None) × (m ≡ None) × (a.job ≡ j)
 finished-ok n a (Some o) m j e = absurd cc
 finished-ok n a None (Some k) j e = absurd cc
 finished-ok n a None None j e = (refl, refl, cc)
@@ -65,14 +65,17 @@ Next bodies n a l ls j =
     (b : Above) × (read_lines bodies (n + 1) b ls ≡ Ok j)
     × (((is_skipped (words_of l) ≡ true) × (a ≡ b)) ⊎ ((is_skipped (words_of l) ≡ false) × Stepped bodies n a (words_of l) b))
 
-next : (bodies : List Word) (n : ℕ) (a : Above) (l : List ℕ) (ls : List (List ℕ)) (j : JobTree) → read_lines bodies n a (l ∷ ls) ≡ Ok j → Next bodies n a l ls j
+pub next : (bodies : List Word) (n : ℕ) (a : Above) (l : List ℕ) (ls : List (List ℕ)) (j : JobTree) → read_lines bodies n a (l ∷ ls) ≡ Ok j → Next bodies n a l ls j
 next bodies n a l ls j e =
     let m = bind-ok (at n (kept_step bodies n a (words_of l))) (λ (b : Above). read_lines bodies (n + 1) b ls) j e in
-    let k = at-ok n (kept_step bodies n a (words_of l)) m.0 m.1 in
-    (m.0, m.2, elim (skip-cases (is_skipped (words_of l)) a m.0 (line_step bodies n a (words_of l)) k) [
-      | inl x ↦ inl x
-      | inr x ↦ inr (x.0, stepped bodies n a (words_of l) m.0 x.1)
-    ])
+    let k = at-ok n (kept_step bodies n a (words_of l)) m.0 m.1 in (
+      m.0,
+      m.2,
+      elim (skip-cases (is_skipped (words_of l)) a m.0 (line_step bodies n a (words_of l)) k) [
+        | inl x ↦ inl x
+        | inr x ↦ inr (x.0, stepped bodies n a (words_of l) m.0 x.1)
+      ],
+    )
 
 pub lines-found : (bodies : List Word) (ls : List (List ℕ)) (n : ℕ) (a : Above) (j : JobTree) → read_lines bodies n a ls ≡ Ok j → a.missing ≡ None
 lines-found bodies [] n a j e = (finished-ok n a a.inside a.missing j e).1

@@ -1,6 +1,7 @@
 pub mod Above
 pub mod Gives
 pub mod Grammar
+pub mod Laws
 pub mod Outcome
 pub mod Reading
 pub mod Relates

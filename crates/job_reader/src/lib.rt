@@ -4,6 +4,7 @@
 mod fault;
 mod grow;
 mod inside;
+mod laws;
 mod outer;
 mod push;
 mod read;
@@ -12,6 +13,7 @@ mod state;
 mod write;
 
 pub use fault::{ReadJobFault, WriteJobFault};
+pub use laws::read_texts_are_jobs;
 pub use read::read_job;
 pub use text_lines::{Code, Refusal};
 pub use write::write_job;

@@ -8,6 +8,7 @@ ghost use Rattle.job_reader.specs.Above.{Above, nothing};
 ghost use Rattle.job_reader.specs.Reading as spec;
 ghost use Rattle.job_reader.specs.Relates.{IsAt};
 ghost use Rattle.job_reader.specs.Gives.{LineGives, Gives};
+ghost use Rattle.job_reader.specs.Grammar.{kept, IsTextOf};
 
 use crate::fault::{LineFault, ReadJobFault};
 use crate::outer::{declared_by, is_header};
@@ -178,11 +179,9 @@ fn split_header(text: &[u8]) -> Result<(usize, &[u8]), Refusal>
     Err(Refusal { line, code })
 }
 
-/// The job that a text says, or the text's first refusal (own): `TooLong` above 1048576 bytes; then the first byte that
-/// isn't allowed; then the first line that is refused, from the top, and within a line the fault that counts; then
-/// `Unclosed` where the text ends in a body; then the first line that names a body that isn't there.
+// The job that a text says, or its first refusal.
 #[tactic(auto, unfolding(crate::specs::Reading::job_in))]
-pub fn read_job(alloc: Global, text: &[u8]) -> Result<Job, ReadJobFault>
+fn read_text(alloc: Global, text: &[u8]) -> Result<Job, ReadJobFault>
     ensures { Gives job_tree result (spec.job_in text.now) }
 {
     if text.len() > MOST_BYTES {
@@ -201,4 +200,18 @@ pub fn read_job(alloc: Global, text: &[u8]) -> Result<Job, ReadJobFault>
         return Err(ReadJobFault::Memory);
     };
     read_lines(alloc, &bodies, rest, line)
+}
+
+/// The job that a text says, or the text's first refusal (own): `TooLong` above 1048576 bytes; then the first byte that
+/// isn't allowed; then the first line that is refused, from the top, and within a line the fault that counts; then
+/// `Unclosed` where the text ends in a body; then the first line that names a body that isn't there.
+#[tactic(auto, using(crate::proofs::ToldWhole::text_steps))]
+pub fn read_job(alloc: Global, text: &[u8]) -> Result<Job, ReadJobFault>
+    ensures read { Gives job_tree result (spec.job_in text.now) }
+    ensures grammar { IfOk result (λ job. IsTextOf (job_tree job) (kept (lines_of text.now))) }
+{
+    match read_text(alloc, text) {
+        Ok(job) => Ok(job),
+        Err(fault) => Err(fault),
+    }
 }
