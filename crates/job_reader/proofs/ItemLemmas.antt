@@ -31,7 +31,8 @@ pub job-put : (xs : List Item) (i : Item) → job_of (xs ++ i ∷ []) ≡ put i 
 job-put [] i = put-first i
 job-put (x ∷ xs) i = ap (with_item x) (job-put xs i) ∙ put-in x i (job_of xs)
 
-pub items-append : (arrays bodies : List Word) (xs ys : List Item) → items_lines arrays bodies (xs ++ ys) ≡ items_lines arrays bodies xs ++ items_lines (arrays ++ array_names (job_of xs)) bodies ys
+pub items-append : (arrays bodies : List Word) (xs ys : List Item)
+    → items_lines arrays bodies (xs ++ ys) ≡ items_lines arrays bodies xs ++ items_lines (arrays ++ array_names (job_of xs)) bodies ys
 items-append arrays bodies [] ys = ap (λ (a : List Word). items_lines a bodies ys) (sym (append-nil arrays))
 items-append arrays bodies (AnArray n g c ∷ xs) ys =
     ap (λ (t : List Words). array_words n (length c) g ∷ t)
@@ -42,7 +43,8 @@ items-append arrays bodies (ABody b ∷ xs) ys =
     ∙ sym (append_assoc (body_lines arrays bodies b) (items_lines arrays bodies xs) (items_lines (arrays ++ array_names (job_of xs)) bodies ys))
 items-append arrays bodies (AStart s ∷ xs) ys = ap (λ (t : List Words). start_words bodies s ∷ t) (items-append arrays bodies xs ys)
 
-pub sound-append : (arrays bodies : List Word) (xs ys : List Item) → AreSound arrays bodies xs → AreSound (arrays ++ array_names (job_of xs)) bodies ys → AreSound arrays bodies (xs ++ ys)
+pub sound-append : (arrays bodies : List Word) (xs ys : List Item) → AreSound arrays bodies xs
+    → AreSound (arrays ++ array_names (job_of xs)) bodies ys → AreSound arrays bodies (xs ++ ys)
 sound-append arrays bodies [] ys h k = subst (λ (a : List Word). AreSound a bodies ys) (append-nil arrays) k
 sound-append arrays bodies (AnArray n g c ∷ xs) ys h k =
     (h.0, sound-append (arrays ++ n ∷ []) bodies xs ys h.1 (subst (λ (a : List Word). AreSound a bodies ys) (sym (append_assoc arrays (n ∷ []) (array_names (job_of xs)))) k))

@@ -39,7 +39,8 @@ within-sits (Ok k) o l e =
     within-one (is_over (statements_behind o.statements k) (length o.locals) (opened (length o.frames) k)) k l TooMany e
 
 -- the line that was said may stand there
-pub said-stands : (arrays bodies : List Word) (o : Inside) (k : Option Keyword) (ws : Words) (l : Line) → Ok l ≡ said arrays bodies o k ws → sits (can_else o.frames) l ≡ true
+pub said-stands : (arrays bodies : List Word) (o : Inside) (k : Option Keyword) (ws : Words) (l : Line) → Ok l ≡ said arrays bodies o k ws
+    → sits (can_else o.frames) l ≡ true
 said-stands arrays bodies o k ws l e =
     said-sits (record { arrays = arrays; bodies = bodies; locals = o.locals }) (can_else o.frames) k ws l (within-sits _ o l (sym e))
 
@@ -48,7 +49,8 @@ pub line-refused : (names : List Word) (bodies : List Word) (j : JobTree) (o : I
 line-refused names bodies j o k ws c n e =
     ap (made (with_line j (mentioning o k ws))) (ap (λ (x : List Word). said x bodies (mentioning o k ws) k ws) (sym n) ∙ sym e)
 
-pub line-put : (names : List Word) (bodies : List Word) (j : JobTree) (o : Inside) (k : Option Keyword) (ws : Words) (l : Line) (r : SoFar) (w : Option OpenBody) → names ≡ array_names j
+pub line-put : (names : List Word) (bodies : List Word) (j : JobTree) (o : Inside) (k : Option Keyword) (ws : Words) (l : Line) (r : SoFar) (w : Option OpenBody)
+    → names ≡ array_names j
     → Ok l ≡ said names bodies (mentioning o k ws) k ws → IsBehind (with_line j (mentioning o k ws) l) r w → FitsOk (λ p. IsBehind p r w) (inner_line bodies j o k ws)
 line-put names bodies j o k ws l r w n e b =
     let P : Result (JobTree × Option Inside) Code → Type 0 = λ x. FitsOk (λ p. IsBehind p r w) x in

@@ -1,5 +1,29 @@
 -- The open lines of a body.
-use Rattle.std.proofs.Common.{◌≡◌, ℕ, ◌+◌, Bool, true, false, List, [], ◌∷◌, ◌++◌, length, Option, Some, None, Result, Ok, Err, refl, sym, ap, ◌∙◌, arith, length-append}
+use Rattle.std.proofs.Common.{
+  ◌≡◌,
+  ℕ,
+  ◌+◌,
+  Bool,
+  true,
+  false,
+  List,
+  [],
+  ◌∷◌,
+  ◌++◌,
+  length,
+  Option,
+  Some,
+  None,
+  Result,
+  Ok,
+  Err,
+  refl,
+  sym,
+  ap,
+  ◌∙◌,
+  arith,
+  length-append,
+}
 use Rattle.std.specs.Prelude.{IfSome}
 use Rattle.text_lines.specs.declared.refusal.Code.{Code}
 use Rattle.task_lang.specs.declared.code.Expr.{Expr}
@@ -45,7 +69,8 @@ if-some None b v e h = absurd cc
 if-some (Some x) b v e h = let same : x ≡ b = cc in sym same ∙ h
 
 -- a body in which no line is open says its block
-pub body-ended : (o : Inside) (w : OpenBody) (b : BodyValue) → IsInside o w → o.frames ≡ [] → b.name ≡ w.name.now → b.locals ≡ lent w.locals.items → b.code ≡ w.builder.code.items
+pub body-ended : (o : Inside) (w : OpenBody) (b : BodyValue) → IsInside o w → o.frames ≡ [] → b.name ≡ w.name.now
+    → b.locals ≡ lent w.locals.items → b.code ≡ w.builder.code.items
     → body_tree b ≡ ended o
 body-ended o w b i none n l c =
     let code : b.code ≡ flat o.block = c ∙ i.built.code ∙ ap (λ (fs : List Frame). open_code fs o.block) none in
@@ -62,7 +87,8 @@ ends-body line.EndIf (f ∷ fs) b e s = absurd cc
 ends-body (line.EndWhile t n) [] b e s = (refl, refl)
 ends-body (line.EndWhile t n) (f ∷ fs) b e s = absurd cc
 
-made-sits : {A : Type 0} (fits : Bool) (f : A → Line) → ((a : A) → sits fits (f a) ≡ true) → (r : Result A Code) (l : Line) → made f r ≡ Ok l → sits fits l ≡ true
+made-sits : {A : Type 0} (fits : Bool) (f : A → Line) → ((a : A) → sits fits (f a) ≡ true) → (r : Result A Code) (l : Line)
+    → made f r ≡ Ok l → sits fits l ≡ true
 made-sits fits f h (Ok a) l e = let same : f a ≡ l = cc in ap (sits fits) (sym same) ∙ h a
 made-sits fits f h (Err c) l e = absurd cc
 

@@ -1,5 +1,34 @@
 -- Texts of lines in turn.
-use Rattle.std.proofs.Common.{◌≡◌, ◌≢◌, ℕ, ℤ, zero, suc, ◌+◌, ◌<◌, List, [], ◌∷◌, ◌++◌, length, map, drop, get_or, Option, Some, None, refl, sym, ap, ◌∙◌, append_assoc, append-nil, codes, arith, add-one}
+use Rattle.std.proofs.Common.{
+  ◌≡◌,
+  ◌≢◌,
+  ℕ,
+  ℤ,
+  zero,
+  suc,
+  ◌+◌,
+  ◌<◌,
+  List,
+  [],
+  ◌∷◌,
+  ◌++◌,
+  length,
+  map,
+  drop,
+  get_or,
+  Option,
+  Some,
+  None,
+  refl,
+  sym,
+  ap,
+  ◌∙◌,
+  append_assoc,
+  append-nil,
+  codes,
+  arith,
+  add-one,
+}
 use Rattle.std.specs.Prelude.{slice_get}
 use Rattle.task_lang.specs.declared.code.Line.{Line}
 use Rattle.task_lang.specs.Reading.{tree_of, IsMatched}
@@ -10,7 +39,19 @@ use Rattle.job_words.specs.Lines.{end_words}
 use Rattle.task_lang.specs.JobValue.{JobValue}
 use Rattle.task_lang.specs.declared.job.Start.{Start}
 use Rattle.job_reader.specs.Trees.{BodyTree, body_tree, job_tree, array_names, body_names}
-use Rattle.job_reader.specs.Grammar.{block_lines, body_words, body_lines, bodies_lines, array_words, array_lines, start_lines, canonical_text, header_words, line_text, text_of}
+use Rattle.job_reader.specs.Grammar.{
+  block_lines,
+  body_words,
+  body_lines,
+  bodies_lines,
+  array_words,
+  array_lines,
+  start_lines,
+  canonical_text,
+  header_words,
+  line_text,
+  text_of,
+}
 use Rattle.job_reader.specs.Writing.{code_lines}
 use Rattle.job_reader.proofs.CodeLemmas.{matched-code, text-append}
 
@@ -40,7 +81,8 @@ body-text s name code m out a b c d e p q r t u =
     let first : codes "body " ++ (name ++ (10 ∷ [] ++ text_of (block_lines s (tree_of code) ++ end_words ∷ []))) ≡ text_of (body_words name ∷ (block_lines s (tree_of code) ++ end_words ∷ [])) =
     ap (λ (x : List ℕ). codes "body " ++ x) (sym (append_assoc name (10 ∷ []) (text_of (block_lines s (tree_of code) ++ end_words ∷ []))))
     ∙ ap (λ (x : List ℕ). codes "body " ++ ((x ++ 10 ∷ []) ++ text_of (block_lines s (tree_of code) ++ end_words ∷ []))) (sym name-nil) in
-    u ∙ ap (λ (x : List ℕ). x ++ codes "end\n") (t ∙ ap (λ (x : List ℕ). x ++ text_of (code_lines s code)) (r ∙ ap (λ (x : List ℕ). x ++ 10 ∷ []) (q ∙ ap (λ (x : List ℕ). x ++ name) p)))
+    u
+    ∙ ap (λ (x : List ℕ). x ++ codes "end\n") (t ∙ ap (λ (x : List ℕ). x ++ text_of (code_lines s code)) (r ∙ ap (λ (x : List ℕ). x ++ 10 ∷ []) (q ∙ ap (λ (x : List ℕ). x ++ name) p)))
     ∙ append_assoc (((out ++ codes "body ") ++ name) ++ 10 ∷ []) (text_of (code_lines s code)) (codes "end\n")
     ∙ ap (λ (x : List ℕ). (((out ++ codes "body ") ++ name) ++ 10 ∷ []) ++ x) whole
     ∙ pieces out (codes "body ") name (10 ∷ []) (text_of (block_lines s (tree_of code) ++ end_words ∷ []))
@@ -51,10 +93,12 @@ names-of-trees [] = refl
 names-of-trees (b ∷ bs) = ap (λ (t : List Word). b.name ∷ t) (names-of-trees bs)
 
 -- a job's pieces are its text
-pub job-text : (xs ys zs : List Words) (new a b c d : List ℕ) → new ≡ [] → a ≡ new ++ codes "bsp 1\n" → b ≡ a ++ text_of xs → c ≡ b ++ text_of ys → d ≡ c ++ text_of zs
+pub job-text : (xs ys zs : List Words) (new a b c d : List ℕ) → new ≡ [] → a ≡ new ++ codes "bsp 1\n" → b ≡ a ++ text_of xs
+    → c ≡ b ++ text_of ys → d ≡ c ++ text_of zs
     → d ≡ text_of (header_words ∷ (xs ++ (ys ++ zs)))
 job-text xs ys zs new a b c d n p q r t =
-    t ∙ ap (λ (x : List ℕ). x ++ text_of zs) (r ∙ ap (λ (x : List ℕ). x ++ text_of ys) (q ∙ ap (λ (x : List ℕ). x ++ text_of xs) (p ∙ ap (λ (x : List ℕ). x ++ codes "bsp 1\n") n)))
+    t
+    ∙ ap (λ (x : List ℕ). x ++ text_of zs) (r ∙ ap (λ (x : List ℕ). x ++ text_of ys) (q ∙ ap (λ (x : List ℕ). x ++ text_of xs) (p ∙ ap (λ (x : List ℕ). x ++ codes "bsp 1\n") n)))
     ∙ append_assoc (codes "bsp 1\n" ++ text_of xs) (text_of ys) (text_of zs)
     ∙ append_assoc (codes "bsp 1\n") (text_of xs) (text_of ys ++ text_of zs)
     ∙ ap (λ (x : List ℕ). codes "bsp 1\n" ++ (text_of xs ++ x)) (sym (text-append ys zs))
@@ -72,7 +116,8 @@ past-end (y ∷ ys) zero e = absurd cc
 past-end (y ∷ ys) (suc i) e = past-end ys i e
 
 -- one array more
-pub arrays-next : (xs : List (Word × List ℤ)) (i : ℕ) (x : Word × List ℤ) (out next : List ℕ) → Some x ≡ slice_get xs i → next ≡ out ++ line_text (array_words x.0 (length x.1) x.1)
+pub arrays-next : (xs : List (Word × List ℤ)) (i : ℕ) (x : Word × List ℤ) (out next : List ℕ) → Some x ≡ slice_get xs i
+    → next ≡ out ++ line_text (array_words x.0 (length x.1) x.1)
     → next ++ text_of (array_lines (drop (i + 1) xs)) ≡ out ++ text_of (array_lines (drop i xs))
 arrays-next xs i x out next e n =
     ap (λ (k : ℕ). next ++ text_of (array_lines (drop k xs))) (add-one i)

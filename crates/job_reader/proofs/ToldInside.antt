@@ -1,5 +1,32 @@
 -- Lines of an open body are those of its code.
-use Rattle.std.proofs.Common.{◌≡◌, ℕ, Bool, true, false, ◌&&◌, List, [], ◌∷◌, ◌++◌, length, map, Option, Some, None, Result, Ok, Err, refl, sym, ap, subst, ◌∙◌, append_assoc, append-nil, codes}
+use Rattle.std.proofs.Common.{
+  ◌≡◌,
+  ℕ,
+  Bool,
+  true,
+  false,
+  ◌&&◌,
+  List,
+  [],
+  ◌∷◌,
+  ◌++◌,
+  length,
+  map,
+  Option,
+  Some,
+  None,
+  Result,
+  Ok,
+  Err,
+  refl,
+  sym,
+  ap,
+  subst,
+  ◌∙◌,
+  append_assoc,
+  append-nil,
+  codes,
+}
 use Rattle.std.specs.Prelude.{not, ◌||◌}
 use Rattle.std.specs.List.{list_all, flat_map}
 use Rattle.std.specs.Str.{bytes_eq}
@@ -80,7 +107,8 @@ added bodies j locals ws code e =
     subst (λ (ls : List Word). SameCode s (names bodies j ls) code) (sym more.1) (code-wider s more.0 code e, fits-wider s more.0 code e)
 
 -- a line more in the body
-grown-told : (bodies : List Word) (lines : List Words) (j : JobTree) (o : Inside) (k : Word) (ws : Words) (l : Line) (n : ℕ) (st : List Frame × Block) → ToldInside bodies lines j o
+grown-told : (bodies : List Word) (lines : List Words) (j : JobTree) (o : Inside) (k : Word) (ws : Words) (l : Line) (n : ℕ) (st : List Frame × Block)
+    → ToldInside bodies lines j o
     → LineSaid (names bodies j (mentioning o (keyword_of k) ws).locals) (k ∷ ws) l → step_of l o.frames o.block ≡ Some st
     → ToldInside bodies (lines ++ (k ∷ ws) ∷ []) j (grown (mentioning o (keyword_of k) ws) n st)
 grown-told bodies lines j o k ws l n st t x e =
@@ -108,7 +136,8 @@ grown-told bodies lines j o k ws l n st t x e =
     }
 
 -- a line that no open line takes is the end of the body
-none-ends : (s : Names) (l : Line) (fs : List Frame) (b : Block) → step_of l fs b ≡ None → sits (can_else fs) l ≡ true → (fs ≡ []) × (line_words s l ≡ end_words)
+none-ends : (s : Names) (l : Line) (fs : List Frame) (b : Block) → step_of l fs b ≡ None → sits (can_else fs) l ≡ true
+    → (fs ≡ []) × (line_words s l ≡ end_words)
 none-ends s (line.Do a) fs b e t = absurd cc
 none-ends s (line.If x n) fs b e t = absurd cc
 none-ends s (line.While x n) fs b e t = absurd cc
@@ -151,7 +180,8 @@ ended-told bodies lines j o k ws l t x e st =
     ∙ ap (λ (c : List Words). t.base ++ c) (sym (append-nil (body_lines (array_names j) bodies b))) in
     subst (λ (c : List Words). Told bodies c (put (ABody b) j)) (sym shape) (told-put bodies t.base j (ABody b) t.told ((same.1, locals), tt))
 
-present-cases : (bodies : List Word) (j : JobTree) (locals : List Word) (k : Word) (ws : Words) (o : Option Keyword) → keyword_of k ≡ o → is_missing bodies (k ∷ ws) ≡ false
+present-cases : (bodies : List Word) (j : JobTree) (locals : List Word) (k : Word) (ws : Words) (o : Option Keyword) → keyword_of k ≡ o
+    → is_missing bodies (k ∷ ws) ≡ false
     → is_present_if (names bodies j locals) o ws ≡ true
 present-cases bodies j locals k ws None h e = refl
 present-cases bodies j locals k ws (Some Let) h e = refl
@@ -171,14 +201,16 @@ present-cases bodies j locals k ws (Some Else) h e = refl
 present-cases bodies j locals k ws (Some While) h e = refl
 present-cases bodies j locals k ws (Some End) h e = refl
 
-by-step : (bodies : List Word) (lines : List Words) (j : JobTree) (o : Inside) (k : Word) (ws : Words) (l : Line) (r : Option (List Frame × Block)) → ToldInside bodies lines j o
+by-step : (bodies : List Word) (lines : List Words) (j : JobTree) (o : Inside) (k : Word) (ws : Words) (l : Line) (r : Option (List Frame × Block))
+    → ToldInside bodies lines j o
     → LineSaid (names bodies j (mentioning o (keyword_of k) ws).locals) (k ∷ ws) l → sits (can_else o.frames) l ≡ true → step_of l o.frames o.block ≡ r → (n : ℕ)
     → Tells bodies (lines ++ (k ∷ ws) ∷ []) (behind j (mentioning o (keyword_of k) ws) n r).0 (behind j (mentioning o (keyword_of k) ws) n r).1
 by-step bodies lines j o k ws l None t x st e n = ended-told bodies lines j o k ws l t x e st
 by-step bodies lines j o k ws l (Some s) t x st e n = grown-told bodies lines j o k ws l n s t x e
 
 -- a line in an open body
-pub inner-told : (bodies : List Word) (lines : List Words) (j : JobTree) (o : Inside) (k : Word) (ws : Words) (p : JobTree × Option Inside) → ToldInside bodies lines j o
+pub inner-told : (bodies : List Word) (lines : List Words) (j : JobTree) (o : Inside) (k : Word) (ws : Words) (p : JobTree × Option Inside)
+    → ToldInside bodies lines j o
     → is_missing bodies (k ∷ ws) ≡ false → inner_line bodies j o (keyword_of k) ws ≡ Ok p → Tells bodies (lines ++ (k ∷ ws) ∷ []) p.0 p.1
 inner-told bodies lines j o k ws p t miss e =
     let o' : Inside = mentioning o (keyword_of k) ws in

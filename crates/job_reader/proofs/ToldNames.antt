@@ -1,5 +1,41 @@
 -- The bodies of a text that is read are those that its lines declare.
-use Rattle.std.proofs.Common.{◌≡◌, ◌⊎◌, inl, inr, ℕ, ◌+◌, ◌<◌, ◌≤◌, Bool, true, false, ◌&&◌, List, [], ◌∷◌, ◌++◌, length, map, Option, Some, None, Result, Ok, Err, refl, sym, ap, subst, ◌∙◌, arith, codes, append-nil, append_assoc, length-append, nat_eq}
+use Rattle.std.proofs.Common.{
+  ◌≡◌,
+  ◌⊎◌,
+  inl,
+  inr,
+  ℕ,
+  ◌+◌,
+  ◌<◌,
+  ◌≤◌,
+  Bool,
+  true,
+  false,
+  ◌&&◌,
+  List,
+  [],
+  ◌∷◌,
+  ◌++◌,
+  length,
+  map,
+  Option,
+  Some,
+  None,
+  Result,
+  Ok,
+  Err,
+  refl,
+  sym,
+  ap,
+  subst,
+  ◌∙◌,
+  arith,
+  codes,
+  append-nil,
+  append_assoc,
+  length-append,
+  nat_eq,
+}
 use Rattle.std.specs.Prelude.{if◌then◌else◌, nat_le}
 use Rattle.std.specs.List.{filter_map, cons_option}
 use Rattle.std.specs.Str.{bytes_eq}
@@ -24,7 +60,28 @@ use Rattle.job_reader.specs.declared.outer.Outer.{Outer}
 use Rattle.job_reader.specs.declared.outer.Outer.TheVariants as outer
 use Rattle.job_reader.specs.Trees.{BodyTree, JobTree, array_names, body_names}
 use Rattle.job_reader.specs.Above.{Inside, Above, begun, ended, can_else, statements_behind}
-use Rattle.job_reader.specs.Reading.{outer_of, name_if_body, declared_by, body_of, array_of, start_of, with_array, new_body, with_start, array_line, body_line, start_line, outer_line, mentioning, said, behind, with_line, inner_line, any_line, read_lines}
+use Rattle.job_reader.specs.Reading.{
+  outer_of,
+  name_if_body,
+  declared_by,
+  body_of,
+  array_of,
+  start_of,
+  with_array,
+  new_body,
+  with_start,
+  array_line,
+  body_line,
+  start_line,
+  outer_line,
+  mentioning,
+  said,
+  behind,
+  with_line,
+  inner_line,
+  any_line,
+  read_lines,
+}
 use Rattle.job_reader.proofs.LineLemmas.{within-sits}
 use Rattle.job_reader.proofs.ToldOuter.{bind-ok, two-tests, one-test}
 use Rattle.job_reader.proofs.ToldText.{finished-ok, Next, next, Stepped}
@@ -48,7 +105,8 @@ names_in ls = filter_map (λ l. declared_by (words_of l)) ls
 abbrev pub Adds : JobTree → Option Inside → Words → JobTree × Option Inside → Type 0
 Adds j i ws p = (so_far p.0 p.1 ≡ so_far j i ++ listed (declared_by ws)) × (length (so_far j i) ≤ 64 → length (so_far p.0 p.1) ≤ 64)
 
-same-adds : (j : JobTree) (i : Option Inside) (ws : Words) (p : JobTree × Option Inside) → so_far p.0 p.1 ≡ so_far j i → declared_by ws ≡ None → Adds j i ws p
+same-adds : (j : JobTree) (i : Option Inside) (ws : Words) (p : JobTree × Option Inside) → so_far p.0 p.1 ≡ so_far j i
+    → declared_by ws ≡ None → Adds j i ws p
 same-adds j i ws p e d =
     (e ∙ sym (append-nil (so_far j i)) ∙ ap (λ (o : Option Word). so_far j i ++ listed o) (sym d), λ h. subst (λ (x : List Word). length x ≤ 64) (sym e) h)
 
@@ -69,14 +127,16 @@ ended-names : (j : JobTree) (o : Inside) (m : ℕ) (r : Option (List Frame × Bl
 ended-names j o m None = append-nil _ ∙ map-append (λ (b : BodyTree). b.name) j.bodies (ended o ∷ [])
 ended-names j o m (Some s) = refl
 
-inner-adds : (bodies : List Word) (j : JobTree) (o : Inside) (k : Word) (ws : Words) (w : Option Keyword) (p : JobTree × Option Inside) → keyword_of k ≡ w → inner_line bodies j o w ws ≡ Ok p → Adds j (Some o) (k ∷ ws) p
+inner-adds : (bodies : List Word) (j : JobTree) (o : Inside) (k : Word) (ws : Words) (w : Option Keyword) (p : JobTree × Option Inside)
+    → keyword_of k ≡ w → inner_line bodies j o w ws ≡ Ok p → Adds j (Some o) (k ∷ ws) p
 unfolding line_behind
 inner-adds bodies j o k ws None p h e = absurd cc
 inner-adds bodies j o k ws (Some w) p h e =
     let o' : Inside = mentioning o (Some w) ws in
     let m = made-ok (with_line j o') (said (array_names j) bodies o' (Some w) ws) p e in
     let names : so_far p.0 p.1 ≡ so_far j (Some o) =
-    ap (λ (q : JobTree × Option Inside). so_far q.0 q.1) (sym m.2) ∙ ended-names j o' (statements_behind o'.statements m.0) (step_of m.0 o.frames o.block) in
+    ap (λ (q : JobTree × Option Inside). so_far q.0 q.1) (sym m.2)
+    ∙ ended-names j o' (statements_behind o'.statements m.0) (step_of m.0 o.frames o.block) in
     same-adds j (Some o) (k ∷ ws) p names
     (ap (λ (x : Word). name_if_body (outer_of x) ws) (keyword-said k w h) ∙ ap (λ (x : Option Outer). name_if_body x ws) (no-body w))
 
@@ -88,12 +148,14 @@ second-false true b c d r y e = absurd cc
 second-false false true c d r y e = absurd cc
 second-false false false c d r y e = refl
 
-outer-adds : (bodies : List Word) (j : JobTree) (k : Word) (ws : Words) (x : Option Outer) (p : JobTree × Option Inside) → outer_of k ≡ x → outer_line bodies j x ws ≡ Ok p → Adds j None (k ∷ ws) p
+outer-adds : (bodies : List Word) (j : JobTree) (k : Word) (ws : Words) (x : Option Outer) (p : JobTree × Option Inside) → outer_of k ≡ x
+    → outer_line bodies j x ws ≡ Ok p → Adds j None (k ∷ ws) p
 outer-adds bodies j k ws None p h e = absurd cc
 outer-adds bodies j k ws (Some outer.Array) p h e =
     let m = made-ok (λ (i : JobTree). (i, None)) (array_line j ws) p e in
     let a = bind-ok (array_of ws) (with_array j) m.0 m.1 in
-    let ok = two-tests (is_among (array_names j) a.0.0) (nat_le 16 (length (array_names j))) Twice TooMany (Ok (record j { arrays = j.arrays ++ a.0 ∷ [] })) m.0 a.2 in
+    let ok =
+    two-tests (is_among (array_names j) a.0.0) (nat_le 16 (length (array_names j))) Twice TooMany (Ok (record j { arrays = j.arrays ++ a.0 ∷ [] })) m.0 a.2 in
     let same : (record j { arrays = j.arrays ++ a.0 ∷ [] }) ≡ m.0 = cc in
     same-adds j None (k ∷ ws) p (ap (λ (q : JobTree × Option Inside). so_far q.0 q.1) (sym m.2) ∙ ap (λ (i : JobTree). so_far i None) (sym same)) (ap (λ (o : Option Outer). name_if_body o ws) h)
 outer-adds bodies j k ws (Some outer.Start) p h e =
@@ -113,13 +175,15 @@ outer-adds bodies j k (name ∷ []) (Some outer.Body) p h e =
     let few : length (body_names j) < 64 =
     le-false 64 (length (body_names j)) (second-false (is_among (body_names j) a.0) (nat_le 64 (length (body_names j))) Twice TooMany (Ok (begun a.0)) m.0 a.2) in
     let names : so_far p.0 p.1 ≡ body_names j ++ name ∷ [] =
-    ap (λ (q : JobTree × Option Inside). so_far q.0 q.1) (sym m.2) ∙ ap (λ (o : Inside). so_far j (Some o)) (sym same) ∙ ap (λ (x : Word). body_names j ++ x ∷ []) (sym b.2) in (
+    ap (λ (q : JobTree × Option Inside). so_far q.0 q.1) (sym m.2) ∙ ap (λ (o : Inside). so_far j (Some o)) (sym same)
+    ∙ ap (λ (x : Word). body_names j ++ x ∷ []) (sym b.2) in (
       names ∙ ap (λ (x : List Word). x ++ name ∷ []) (sym (append-nil (body_names j)))
           ∙ ap (λ (o : Option Outer). so_far j None ++ listed (name_if_body o (name ∷ []))) (sym h),
       λ _. subst (λ (x : List Word). length x ≤ 64) (sym names) (omega (arith, length-append (body_names j) (name ∷ []))),
     )
 
-step-adds : (bodies : List Word) (j : JobTree) (i : Option Inside) (ws : Words) (p : JobTree × Option Inside) → any_line bodies j i ws ≡ Ok p → Adds j i ws p
+step-adds : (bodies : List Word) (j : JobTree) (i : Option Inside) (ws : Words) (p : JobTree × Option Inside)
+    → any_line bodies j i ws ≡ Ok p → Adds j i ws p
 step-adds bodies j None [] p e = absurd cc
 step-adds bodies j (Some o) [] p e = absurd cc
 step-adds bodies j None (k ∷ ws) p e = outer-adds bodies j k ws (outer_of k) p refl e
@@ -142,7 +206,8 @@ pub listed-first : (xs : List Word) (o : Option Word) (ys : List Word) → (xs +
 listed-first xs None ys = append_assoc xs [] ys
 listed-first xs (Some w) ys = append_assoc xs (w ∷ []) ys
 
-pub lines-named : (bodies : List Word) (ls : List (List ℕ)) (n : ℕ) (a : Above) (j : JobTree) → length (so_far a.job a.inside) ≤ 64 → read_lines bodies n a ls ≡ Ok j
+pub lines-named : (bodies : List Word) (ls : List (List ℕ)) (n : ℕ) (a : Above) (j : JobTree) → length (so_far a.job a.inside) ≤ 64
+    → read_lines bodies n a ls ≡ Ok j
     → (body_names j ≡ so_far a.job a.inside ++ names_in ls) × (length (body_names j) ≤ 64)
 lines-named bodies [] n a j h e =
     let f = finished-ok n a a.inside a.missing j e in

@@ -1,5 +1,40 @@
 -- Lines outside bodies are those of items.
-use Rattle.std.proofs.Common.{◌≡◌, ℕ, ◌+◌, ◌-◌, ◌<◌, ◌≤◌, Bool, true, false, ◌&&◌, List, [], ◌∷◌, ◌++◌, length, map, Option, Some, None, Result, Ok, Err, ℤ, pos, negsuc, refl, sym, ap, subst, ◌∙◌, arith, codes, append-nil, length-append}
+use Rattle.std.proofs.Common.{
+  ◌≡◌,
+  ℕ,
+  ◌+◌,
+  ◌-◌,
+  ◌<◌,
+  ◌≤◌,
+  Bool,
+  true,
+  false,
+  ◌&&◌,
+  List,
+  [],
+  ◌∷◌,
+  ◌++◌,
+  length,
+  map,
+  Option,
+  Some,
+  None,
+  Result,
+  Ok,
+  Err,
+  ℤ,
+  pos,
+  negsuc,
+  refl,
+  sym,
+  ap,
+  subst,
+  ◌∙◌,
+  arith,
+  codes,
+  append-nil,
+  length-append,
+}
 use Rattle.std.specs.Prelude.{if◌then◌else◌, nat_le, not, ◌||◌, replicate}
 use Rattle.std.specs.Fmt.{decimal, signed_decimal}
 use Rattle.std.specs.Str.{bytes_eq}
@@ -20,7 +55,25 @@ use Rattle.job_reader.specs.declared.outer.Outer.TheVariants as outer
 use Rattle.job_reader.specs.Trees.{BodyTree, JobTree, array_names, body_names}
 use Rattle.job_reader.specs.Above.{Inside, begun}
 use Rattle.job_reader.specs.Grammar.{Item, AnArray, AStart, array_words, body_words, start_words, items_lines, IsFilled}
-use Rattle.job_reader.specs.Reading.{◌>>=◌, outer_of, all_numbered, filled, cells_of, array_of, body_of, start_from, start_of, with_array, new_body, with_start, array_line, body_line, start_line, outer_line, is_missing}
+use Rattle.job_reader.specs.Reading.{
+  ◌>>=◌,
+  outer_of,
+  all_numbered,
+  filled,
+  cells_of,
+  array_of,
+  body_of,
+  start_from,
+  start_of,
+  with_array,
+  new_body,
+  with_start,
+  array_line,
+  body_line,
+  start_line,
+  outer_line,
+  is_missing,
+}
 use Rattle.job_reader.proofs.ItemLemmas.{put, Told, told-put}
 use Rattle.job_reader.proofs.ToldInside.{ToldInside, Tells}
 
@@ -33,7 +86,8 @@ outer_text outer.Array = codes "array"
 outer_text outer.Body = codes "body"
 outer_text outer.Start = codes "start"
 
-pick : (b : Bool) (w : Word) (x k : Outer) (rest : Option Outer) → (b ≡ true → w ≡ outer_text x) → (rest ≡ Some k → w ≡ outer_text k) → (if b then Some x else rest) ≡ Some k → w ≡ outer_text k
+pick : (b : Bool) (w : Word) (x k : Outer) (rest : Option Outer) → (b ≡ true → w ≡ outer_text x) → (rest ≡ Some k → w ≡ outer_text k)
+    → (if b then Some x else rest) ≡ Some k → w ≡ outer_text k
 pick true w x k rest is other e = let same : x ≡ k = cc in is refl ∙ ap outer_text same
 pick false w x k rest is other e = other e
 
@@ -57,7 +111,8 @@ le-true : (a b : ℕ) → nat_le a b ≡ true → a ≤ b
 le-true a b e = grind (arith, common_steps)
 
 -- the cells that were filled, by whether the length fits
-filled-ok : (b : Bool) (m : ℕ) (vs cells : List ℤ) → (b ≡ true → length vs ≤ m) → (if b then Ok (vs ++ replicate (m - length vs) (pos 0)) else Err BadLength) ≡ Ok cells
+filled-ok : (b : Bool) (m : ℕ) (vs cells : List ℤ) → (b ≡ true → length vs ≤ m)
+    → (if b then Ok (vs ++ replicate (m - length vs) (pos 0)) else Err BadLength) ≡ Ok cells
     → (m ≡ length cells) × IsFilled vs cells
 filled-ok true m vs cells h e =
     let same : vs ++ replicate (m - length vs) (pos 0) ≡ cells = cc in
@@ -83,7 +138,8 @@ cells-said len values cells e =
         (λ t. le-true (length vs) m (and-right (nat_le 1 m && nat_le m 4096) (nat_le (length vs) m) t)) f in
         (vs, l ∙ ap decimal h.0, v, h.1)
 
-array-said : (ws : Words) (x : Word × List ℤ) → array_of ws ≡ Ok x → (given : List ℤ) × (codes "array" ∷ ws ≡ array_words x.0 (length x.1) given) × IsFilled given x.1
+array-said : (ws : Words) (x : Word × List ℤ) → array_of ws ≡ Ok x
+    → (given : List ℤ) × (codes "array" ∷ ws ≡ array_words x.0 (length x.1) given) × IsFilled given x.1
 array-said [] x e = absurd cc
 array-said (name ∷ []) x e = absurd cc
 array-said (name ∷ len ∷ values) x e =
@@ -102,7 +158,8 @@ pub one-test : {A : Type 0} (a : Bool) (c : Code) (r : Result A Code) (y : A) �
 one-test true c r y e = absurd cc
 one-test false c r y e = e
 
-array-told : (bodies : List Word) (lines : List Words) (j j' : JobTree) (ws : Words) → Told bodies lines j → array_line j ws ≡ Ok j' → Told bodies (lines ++ (codes "array" ∷ ws) ∷ []) j'
+array-told : (bodies : List Word) (lines : List Words) (j j' : JobTree) (ws : Words) → Told bodies lines j → array_line j ws ≡ Ok j'
+    → Told bodies (lines ++ (codes "array" ∷ ws) ∷ []) j'
 array-told bodies lines j j' ws t e =
     let a = bind-ok (array_of ws) (with_array j) j' e in
     let s = array-said ws a.0 a.1 in
@@ -112,7 +169,8 @@ array-told bodies lines j j' ws t e =
     (subst (λ (k : JobTree). Told bodies (lines ++ array_words a.0.0 (length a.0.1) s.0 ∷ []) k) same
     (told-put bodies lines j (AnArray a.0.0 s.0 a.0.1) t (s.2, tt)))
 
-body-told : (bodies : List Word) (lines : List Words) (j : JobTree) (o : Inside) (ws : Words) → Told bodies lines j → body_line j ws ≡ Ok o → ToldInside bodies (lines ++ (codes "body" ∷ ws) ∷ []) j o
+body-told : (bodies : List Word) (lines : List Words) (j : JobTree) (o : Inside) (ws : Words) → Told bodies lines j → body_line j ws ≡ Ok o
+    → ToldInside bodies (lines ++ (codes "body" ∷ ws) ∷ []) j o
 body-told bodies lines j o [] t e = absurd cc
 body-told bodies lines j o (name ∷ []) t e =
     let a = bind-ok (body_of (name ∷ [])) (new_body j) o e in
@@ -124,7 +182,8 @@ body-told bodies lines j o (name ∷ []) t e =
     (record { base = lines; told = t; written = refl; fits = refl; noted = refl })
 body-told bodies lines j o (name ∷ w ∷ ws) t e = absurd cc
 
-start-told : (bodies : List Word) (lines : List Words) (j j' : JobTree) (ws : Words) → Told bodies lines j → is_missing bodies (codes "start" ∷ ws) ≡ false → start_line bodies j ws ≡ Ok j'
+start-told : (bodies : List Word) (lines : List Words) (j j' : JobTree) (ws : Words) → Told bodies lines j
+    → is_missing bodies (codes "start" ∷ ws) ≡ false → start_line bodies j ws ≡ Ok j'
     → Told bodies (lines ++ (codes "start" ∷ ws) ∷ []) j'
 start-told bodies lines j j' [] t miss e = absurd cc
 start-told bodies lines j j' (b ∷ []) t miss e = absurd cc
@@ -136,7 +195,8 @@ start-told bodies lines j j' (b ∷ n ∷ []) t miss e =
     let ok = one-test (nat_le 4096 (length j.starts)) TooMany (Ok (put (AStart a.0) j)) j' a.2 in
     let same : put (AStart a.0) j ≡ j' = cc in
     let words : codes "start" ∷ b ∷ n ∷ [] ≡ start_words bodies (start_from m.0) =
-    ap (λ (x : Word). codes "start" ∷ x ∷ n ∷ []) (sym body.0) ∙ ap (λ (x : Word). codes "start" ∷ name_at bodies m.0.0 ∷ x ∷ []) (number-said n m.0.1 p.1) in
+    ap (λ (x : Word). codes "start" ∷ x ∷ n ∷ []) (sym body.0)
+    ∙ ap (λ (x : Word). codes "start" ∷ name_at bodies m.0.0 ∷ x ∷ []) (number-said n m.0.1 p.1) in
     subst (λ (w : Words). Told bodies (lines ++ w ∷ []) j') (sym words)
     (subst (λ (k : JobTree). Told bodies (lines ++ start_words bodies (start_from m.0) ∷ []) k) (ap (λ (x : Start). put (AStart x) j) m.2 ∙ same)
     (told-put bodies lines j (AStart (start_from m.0)) t (body.1, tt)))
@@ -146,7 +206,8 @@ start-told bodies lines j j' (b ∷ n ∷ []) t miss e =
     there false e = absurd cc
 start-told bodies lines j j' (b ∷ n ∷ w ∷ ws) t miss e = absurd cc
 
-by-first : (bodies : List Word) (lines : List Words) (j : JobTree) (k : Outer) (ws : Words) (p : JobTree × Option Inside) → Told bodies lines j → is_missing bodies (outer_text k ∷ ws) ≡ false
+by-first : (bodies : List Word) (lines : List Words) (j : JobTree) (k : Outer) (ws : Words) (p : JobTree × Option Inside)
+    → Told bodies lines j → is_missing bodies (outer_text k ∷ ws) ≡ false
     → outer_line bodies j (Some k) ws ≡ Ok p → Tells bodies (lines ++ (outer_text k ∷ ws) ∷ []) p.0 p.1
 by-first bodies lines j outer.Array ws p t miss e =
     let m = made-ok (λ (k : JobTree). (k, None)) (array_line j ws) p e in
@@ -158,7 +219,8 @@ by-first bodies lines j outer.Start ws p t miss e =
     let m = made-ok (λ (k : JobTree). (k, None)) (start_line bodies j ws) p e in
     subst (λ (q : JobTree × Option Inside). Tells bodies (lines ++ (codes "start" ∷ ws) ∷ []) q.0 q.1) m.2 (start-told bodies lines j m.0 ws t miss m.1)
 
-by-outer : (bodies : List Word) (lines : List Words) (j : JobTree) (k : Word) (o : Option Outer) (ws : Words) (p : JobTree × Option Inside) → Told bodies lines j → outer_of k ≡ o → is_missing bodies (k ∷ ws) ≡ false
+by-outer : (bodies : List Word) (lines : List Words) (j : JobTree) (k : Word) (o : Option Outer) (ws : Words) (p : JobTree × Option Inside)
+    → Told bodies lines j → outer_of k ≡ o → is_missing bodies (k ∷ ws) ≡ false
     → outer_line bodies j o ws ≡ Ok p → Tells bodies (lines ++ (k ∷ ws) ∷ []) p.0 p.1
 by-outer bodies lines j k None ws p t h miss e = absurd cc
 by-outer bodies lines j k (Some x) ws p t h miss e =
@@ -167,6 +229,7 @@ by-outer bodies lines j k (Some x) ws p t h miss e =
     (by-first bodies lines j x ws p t (ap (λ (w : Word). is_missing bodies (w ∷ ws)) (sym same) ∙ miss) e)
 
 -- a line outside bodies
-pub outer-told : (bodies : List Word) (lines : List Words) (j : JobTree) (k : Word) (ws : Words) (p : JobTree × Option Inside) → Told bodies lines j → is_missing bodies (k ∷ ws) ≡ false
+pub outer-told : (bodies : List Word) (lines : List Words) (j : JobTree) (k : Word) (ws : Words) (p : JobTree × Option Inside)
+    → Told bodies lines j → is_missing bodies (k ∷ ws) ≡ false
     → outer_line bodies j (outer_of k) ws ≡ Ok p → Tells bodies (lines ++ (k ∷ ws) ∷ []) p.0 p.1
 outer-told bodies lines j k ws p t miss e = by-outer bodies lines j k (outer_of k) ws p t refl miss e

@@ -1,5 +1,43 @@
 -- A text that is read is the text of its job.
-use Rattle.std.proofs.Common.{◌≡◌, ◌⊎◌, inl, inr, ℕ, ◌+◌, ◌<◌, ◌≤◌, Bool, true, false, ◌&&◌, List, [], ◌∷◌, ◌++◌, length, map, take, take_all, Option, Some, None, Result, Ok, Err, refl, sym, ap, subst, ◌∙◌, arith, codes, append-nil, append_assoc, length-append, nat_eq}
+use Rattle.std.proofs.Common.{
+  ◌≡◌,
+  ◌⊎◌,
+  inl,
+  inr,
+  ℕ,
+  ◌+◌,
+  ◌<◌,
+  ◌≤◌,
+  Bool,
+  true,
+  false,
+  ◌&&◌,
+  List,
+  [],
+  ◌∷◌,
+  ◌++◌,
+  length,
+  map,
+  take,
+  take_all,
+  Option,
+  Some,
+  None,
+  Result,
+  Ok,
+  Err,
+  refl,
+  sym,
+  ap,
+  subst,
+  ◌∙◌,
+  arith,
+  codes,
+  append-nil,
+  append_assoc,
+  length-append,
+  nat_eq,
+}
 use Rattle.std.specs.Prelude.{if◌then◌else◌, nat_le, nat_lt}
 use Rattle.std.specs.List.{filter_map, cons_option}
 use Rattle.std.specs.Str.{bytes_eq}
@@ -25,7 +63,42 @@ use Rattle.job_reader.specs.declared.outer.Outer.TheVariants as outer
 use Rattle.job_reader.specs.Trees.{BodyTree, JobTree, array_names, body_names}
 use Rattle.job_reader.specs.Above.{Inside, Above, nothing, begun, ended, can_else}
 use Rattle.job_reader.specs.Grammar.{Item, header_words, items_lines, AreSound, job_of, kept, IsTextOf}
-use Rattle.job_reader.specs.Reading.{◌>>=◌, at, refused, is_header, outer_of, name_if_body, declared_by, declared, body_of, with_array, new_body, with_start, array_of, start_of, array_line, body_line, start_line, outer_line, mentioning, said, within_limits, behind, with_line, inner_line, any_line, is_missing, first_missing, line_step, kept_step, finished, read_lines, read_from, unless_bad, job_in}
+use Rattle.job_reader.specs.Reading.{
+  ◌>>=◌,
+  at,
+  refused,
+  is_header,
+  outer_of,
+  name_if_body,
+  declared_by,
+  declared,
+  body_of,
+  with_array,
+  new_body,
+  with_start,
+  array_of,
+  start_of,
+  array_line,
+  body_line,
+  start_line,
+  outer_line,
+  mentioning,
+  said,
+  within_limits,
+  behind,
+  with_line,
+  inner_line,
+  any_line,
+  is_missing,
+  first_missing,
+  line_step,
+  kept_step,
+  finished,
+  read_lines,
+  read_from,
+  unless_bad,
+  job_in,
+}
 use Rattle.job_reader.proofs.LineLemmas.{within-sits}
 use Rattle.job_reader.proofs.ItemLemmas.{Told, told-nothing}
 use Rattle.job_reader.proofs.ToldInside.{Tells, inner-told}
@@ -51,7 +124,8 @@ missing-none None n false e = (refl, refl)
 
 -- what a line that was read made of the lines above it
 abbrev pub Stepped : List Word → ℕ → Above → Words → Above → Type 0
-Stepped bodies n a ws b = (p : JobTree × Option Inside) × (any_line bodies a.job a.inside ws ≡ Ok p) × (b.job ≡ p.0) × (b.inside ≡ p.1) × (b.missing ≡ first_missing a.missing n (is_missing bodies ws))
+Stepped bodies n a ws b =
+    (p : JobTree × Option Inside) × (any_line bodies a.job a.inside ws ≡ Ok p) × (b.job ≡ p.0) × (b.inside ≡ p.1) × (b.missing ≡ first_missing a.missing n (is_missing bodies ws))
 
 stepped : (bodies : List Word) (n : ℕ) (a : Above) (ws : Words) (b : Above) → line_step bodies n a ws ≡ Ok b → Stepped bodies n a ws b
 stepped bodies n a ws b e =
@@ -65,7 +139,8 @@ Next bodies n a l ls j =
     (b : Above) × (read_lines bodies (n + 1) b ls ≡ Ok j)
     × (((is_skipped (words_of l) ≡ true) × (a ≡ b)) ⊎ ((is_skipped (words_of l) ≡ false) × Stepped bodies n a (words_of l) b))
 
-pub next : (bodies : List Word) (n : ℕ) (a : Above) (l : List ℕ) (ls : List (List ℕ)) (j : JobTree) → read_lines bodies n a (l ∷ ls) ≡ Ok j → Next bodies n a l ls j
+pub next : (bodies : List Word) (n : ℕ) (a : Above) (l : List ℕ) (ls : List (List ℕ)) (j : JobTree) → read_lines bodies n a (l ∷ ls) ≡ Ok j
+    → Next bodies n a l ls j
 next bodies n a l ls j e =
     let m = bind-ok (at n (kept_step bodies n a (words_of l))) (λ (b : Above). read_lines bodies (n + 1) b ls) j e in
     let k = at-ok n (kept_step bodies n a (words_of l)) m.0 m.1 in (
@@ -87,14 +162,16 @@ lines-found bodies (l ∷ ls) n a j e =
       | inr x ↦ (missing-none a.missing n (is_missing bodies (words_of l)) (sym x.1.4 ∙ later)).0
     ]
 
-step-told : (bodies : List Word) (lines : List Words) (j : JobTree) (i : Option Inside) (ws : Words) (p : JobTree × Option Inside) → Tells bodies lines j i → is_missing bodies ws ≡ false
+step-told : (bodies : List Word) (lines : List Words) (j : JobTree) (i : Option Inside) (ws : Words) (p : JobTree × Option Inside)
+    → Tells bodies lines j i → is_missing bodies ws ≡ false
     → any_line bodies j i ws ≡ Ok p → Tells bodies (lines ++ ws ∷ []) p.0 p.1
 step-told bodies lines j None [] p t miss e = absurd cc
 step-told bodies lines j (Some o) [] p t miss e = absurd cc
 step-told bodies lines j None (k ∷ ws) p t miss e = outer-told bodies lines j k ws p t miss e
 step-told bodies lines j (Some o) (k ∷ ws) p t miss e = inner-told bodies lines j o k ws p t miss e
 
-pub lines-told : (bodies : List Word) (ls : List (List ℕ)) (n : ℕ) (a : Above) (lines : List Words) (j : JobTree) → Tells bodies lines a.job a.inside → read_lines bodies n a ls ≡ Ok j
+pub lines-told : (bodies : List Word) (ls : List (List ℕ)) (n : ℕ) (a : Above) (lines : List Words) (j : JobTree)
+    → Tells bodies lines a.job a.inside → read_lines bodies n a ls ≡ Ok j
     → Told bodies (lines ++ kept ls) j
 lines-told bodies [] n a lines j t e =
     let f = finished-ok n a a.inside a.missing j e in

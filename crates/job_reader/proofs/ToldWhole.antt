@@ -1,5 +1,34 @@
 -- A text that is read is the text of its job.
-use Rattle.std.proofs.Common.{◌≡◌, ℕ, ◌+◌, ◌≤◌, Bool, true, false, ◌&&◌, List, [], ◌∷◌, ◌++◌, length, take, take_all, Option, Some, None, Result, Ok, Err, refl, sym, ap, subst, ◌∙◌, arith, codes}
+use Rattle.std.proofs.Common.{
+  ◌≡◌,
+  ℕ,
+  ◌+◌,
+  ◌≤◌,
+  Bool,
+  true,
+  false,
+  ◌&&◌,
+  List,
+  [],
+  ◌∷◌,
+  ◌++◌,
+  length,
+  take,
+  take_all,
+  Option,
+  Some,
+  None,
+  Result,
+  Ok,
+  Err,
+  refl,
+  sym,
+  ap,
+  subst,
+  ◌∙◌,
+  arith,
+  codes,
+}
 use Rattle.std.specs.Prelude.{if◌then◌else◌, nat_lt}
 use Rattle.std.specs.List.{filter_map, cons_option}
 use Rattle.std.specs.Str.{bytes_eq}
@@ -38,7 +67,8 @@ record Begun (bodies : List Word) (ls : List (List ℕ)) (j : JobTree) : Type 0 
   named : names_in ls ≡ names_in rest
   read : read_lines bodies line nothing rest ≡ Ok j
 
-begun-cases : (bodies : List Word) (n : ℕ) (l : List ℕ) (ls : List (List ℕ)) (j : JobTree) (a b : Bool) → is_skipped (words_of l) ≡ a → is_header (words_of l) ≡ b
+begun-cases : (bodies : List Word) (n : ℕ) (l : List ℕ) (ls : List (List ℕ)) (j : JobTree) (a b : Bool) → is_skipped (words_of l) ≡ a
+    → is_header (words_of l) ≡ b
     → (read_from bodies (n + 1) ls ≡ Ok j → Begun bodies ls j)
     → (if a then read_from bodies (n + 1) ls else if b then read_lines bodies (n + 1) nothing ls else refused n BadHeader) ≡ Ok j → Begun bodies (l ∷ ls) j
 begun-cases bodies n l ls j true b h g later e =

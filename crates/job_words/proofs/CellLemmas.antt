@@ -127,7 +127,8 @@ cell-opens (c ∷ cs) (suc i) h p e =
     ∙ fused (index_part (drop (suc i) cs)) c (take i cs))
 
 -- with the parts as they are split
-pub cell-split : (w name back rest : Word) (i : ℕ) (o : Option Word) → i < length w → Plain i w → get_or w i 0 ≡ 91 → name ≡ take i w → back ≡ drop i w → rest ≡ drop 1 back → index_part rest ≡ o
+pub cell-split : (w name back rest : Word) (i : ℕ) (o : Option Word) → i < length w → Plain i w → get_or w i 0 ≡ 91 → name ≡ take i w
+    → back ≡ drop i w → rest ≡ drop 1 back → index_part rest ≡ o
     → cell_parts w ≡ option_map {U = Word × Word} (λ (x : Word). (name, x)) o
 cell-split w name back rest i o h p e n b r q =
     let d : drop 1 (drop i w) ≡ drop (suc i) w = drop-drop-one w i in

@@ -1,5 +1,31 @@
 -- Lines keep their words where locals come behind those that they name.
-use Rattle.std.proofs.Common.{◌≡◌, ℕ, zero, suc, ◌+◌, ◌<◌, ◌≤◌, Bool, true, false, ◌&&◌, List, [], ◌∷◌, ◌++◌, length, refl, sym, ap, ◌∙◌, arith, codes, append_assoc, append-nil, length-append}
+use Rattle.std.proofs.Common.{
+  ◌≡◌,
+  ℕ,
+  zero,
+  suc,
+  ◌+◌,
+  ◌<◌,
+  ◌≤◌,
+  Bool,
+  true,
+  false,
+  ◌&&◌,
+  List,
+  [],
+  ◌∷◌,
+  ◌++◌,
+  length,
+  refl,
+  sym,
+  ap,
+  ◌∙◌,
+  arith,
+  codes,
+  append_assoc,
+  append-nil,
+  length-append,
+}
 use Rattle.std.specs.Prelude.{if◌then◌else◌, nat_lt}
 use Rattle.std.specs.List.{list_all}
 use Rattle.std.proofs.lemmas.Bool.{ltb-true}
@@ -45,7 +71,8 @@ name-grows (l ∷ ls) more (suc i) h = name-grows ls more i (omega arith)
 abbrev pub wider : Names → List Word → Names
 wider s more = record s { locals = s.locals ++ more }
 
-index-grows : (ls more : List Word) (i : Index) → list_all (λ k. nat_lt k (length ls)) (mentions.in_index i) ≡ true → index_word (ls ++ more) i ≡ index_word ls i
+index-grows : (ls more : List Word) (i : Index) → list_all (λ k. nat_lt k (length ls)) (mentions.in_index i) ≡ true
+    → index_word (ls ++ more) i ≡ index_word ls i
 index-grows ls more (index.Number n) e = refl
 index-grows ls more (index.Local i) e = name-grows ls more i (ltb-true i (length ls) (and-left _ true e))
 index-grows ls more index.Arg e = refl
@@ -85,7 +112,8 @@ line-grows s more line.EndIf e = refl
 line-grows s more (line.While x n) e = ap (λ (t : Words). codes "while" ∷ t) (expr-grows s more x (and-right _ _ e))
 line-grows s more (line.EndWhile x n) e = refl
 
-below-grows : (ls more : List Word) (is : List ℕ) → list_all (λ k. nat_lt k (length ls)) is ≡ true → list_all (λ k. nat_lt k (length (ls ++ more))) is ≡ true
+below-grows : (ls more : List Word) (is : List ℕ) → list_all (λ k. nat_lt k (length ls)) is ≡ true
+    → list_all (λ k. nat_lt k (length (ls ++ more))) is ≡ true
 below-grows ls more [] e = refl
 below-grows ls more (i ∷ is) e =
     let h : i < length ls = ltb-true i (length ls) (and-left _ (list_all (λ k. nat_lt k (length ls)) is) e) in
@@ -94,14 +122,16 @@ below-grows ls more (i ∷ is) e =
 
 -- and its names stay there
 pub fits-grows : (s : Names) (more : List Word) (l : Line) → line_fits s l ≡ true → line_fits (wider s more) l ≡ true
-fits-grows s more l e = and-true _ _ (and-left _ _ e) (below-grows s.locals more (mentions.in_line l) (and-right (line_names (length s.arrays) (length s.bodies) l) _ e))
+fits-grows s more l e =
+    and-true _ _ (and-left _ _ e) (below-grows s.locals more (mentions.in_line l) (and-right (line_names (length s.arrays) (length s.bodies) l) _ e))
 
 -- mentions only add locals at the end
 pub noted-grows : (ls ws : List Word) → (more : List Word) × (noted ls ws ≡ ls ++ more)
 noted-grows ls [] = ([], sym (append-nil ls))
 noted-grows ls (w ∷ ws) = added (is_among ls w) ls w ws (noted-grows ls ws) (noted-grows (ls ++ w ∷ []) ws)
   where
-    added : (b : Bool) (ls : List Word) (w : Word) (ws : List Word) → ((more : List Word) × (noted ls ws ≡ ls ++ more)) → ((more : List Word) × (noted (ls ++ w ∷ []) ws ≡ (ls ++ w ∷ []) ++ more))
+    added : (b : Bool) (ls : List Word) (w : Word) (ws : List Word) → ((more : List Word) × (noted ls ws ≡ ls ++ more))
+        → ((more : List Word) × (noted (ls ++ w ∷ []) ws ≡ (ls ++ w ∷ []) ++ more))
         → (more : List Word) × (noted (if b then ls else ls ++ w ∷ []) ws ≡ ls ++ more)
     added true ls w ws x y = x
     added false ls w ws x y = (w ∷ y.0, y.1 ∙ append_assoc ls (w ∷ []) y.0)

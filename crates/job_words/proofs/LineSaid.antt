@@ -1,5 +1,30 @@
 -- What the words of a line say is written so.
-use Rattle.std.proofs.Common.{◌≡◌, ℕ, ◌<◌, Bool, true, false, ◌&&◌, List, [], ◌∷◌, ◌++◌, length, Option, Some, None, Result, Ok, Err, refl, sym, ap, subst, ◌∙◌, codes}
+use Rattle.std.proofs.Common.{
+  ◌≡◌,
+  ℕ,
+  ◌<◌,
+  Bool,
+  true,
+  false,
+  ◌&&◌,
+  List,
+  [],
+  ◌∷◌,
+  ◌++◌,
+  length,
+  Option,
+  Some,
+  None,
+  Result,
+  Ok,
+  Err,
+  refl,
+  sym,
+  ap,
+  subst,
+  ◌∙◌,
+  codes,
+}
 use Rattle.std.specs.Prelude.{if◌then◌else◌, nat_lt, unwrap_or}
 use Rattle.std.specs.List.{list_all}
 use Rattle.std.specs.Str.{bytes_eq}
@@ -19,9 +44,37 @@ use Rattle.job_words.specs.declared.lines.Keyword.TheVariants.{Let, Put, Print, 
 use Rattle.job_words.specs.Faults.{both, made, checked}
 use Rattle.job_words.specs.Words.{Word, Words, named, place_from, declared_at, name_at}
 use Rattle.job_words.specs.Exprs.{Names, cell_word, cell_of, expr_words, expr_of}
-use Rattle.job_words.specs.Lines.{keyword_of, line_words, is_equals, body_at, let_line, put_line, spawn_line, let_of, put_of, spawn_of, alone, else_of, line_behind, line_names, line_fits}
+use Rattle.job_words.specs.Lines.{
+  keyword_of,
+  line_words,
+  is_equals,
+  body_at,
+  let_line,
+  put_line,
+  spawn_line,
+  let_of,
+  put_of,
+  spawn_of,
+  alone,
+  else_of,
+  line_behind,
+  line_names,
+  line_fits,
+}
 use Rattle.job_words.proofs.NotedLemmas.{among-none}
-use Rattle.job_words.proofs.SaidLemmas.{made-ok, both-ok, and-true, below-true, same-word, place-said, declared-said, cell-said, expr-said, all-both, AllBelow}
+use Rattle.job_words.proofs.SaidLemmas.{
+  made-ok,
+  both-ok,
+  and-true,
+  below-true,
+  same-word,
+  place-said,
+  declared-said,
+  cell-said,
+  expr-said,
+  all-both,
+  AllBelow,
+}
 
 abbrev pub keyword_text : Keyword → Word
 keyword_text Let = codes "let"
@@ -35,7 +88,8 @@ keyword_text Else = codes "else"
 keyword_text While = codes "while"
 keyword_text End = codes "end"
 
-pick : (b : Bool) (w : Word) (x k : Keyword) (rest : Option Keyword) → (b ≡ true → w ≡ keyword_text x) → (rest ≡ Some k → w ≡ keyword_text k) → (if b then Some x else rest) ≡ Some k → w ≡ keyword_text k
+pick : (b : Bool) (w : Word) (x k : Keyword) (rest : Option Keyword) → (b ≡ true → w ≡ keyword_text x)
+    → (rest ≡ Some k → w ≡ keyword_text k) → (if b then Some x else rest) ≡ Some k → w ≡ keyword_text k
 pick true w x k rest is other e = let same : x ≡ k = cc in is refl ∙ ap keyword_text same
 pick false w x k rest is other e = other e
 
@@ -78,7 +132,8 @@ checked-ok false c u e = absurd cc
 equals-ok : (w : Word) (u : Unit {0}) → is_equals w ≡ Ok u → w ≡ codes "="
 equals-ok w u e = same-word w (codes "=") (checked-ok (bytes_eq w (codes "=")) BadLine u e)
 
-present-at : (names : List Word) (w : Word) (o : Option ℕ) → place_from 0 names w ≡ o → is_among names w ≡ true → (name_at names (unwrap_or o 0) ≡ w) × (unwrap_or o 0 < length names)
+present-at : (names : List Word) (w : Word) (o : Option ℕ) → place_from 0 names w ≡ o → is_among names w ≡ true
+    → (name_at names (unwrap_or o 0) ≡ w) × (unwrap_or o 0 < length names)
 present-at names w None h a = let no = among-none 0 names w h in absurd cc
 present-at names w (Some i) h a = place-said names w i h
 
@@ -102,10 +157,11 @@ let-said s (w ∷ v ∷ ws) l e =
     let d = declared-said s.locals w m.0.0.1 inner.1 in
     let x = expr-said s ws m.0.1 outer.1 in
     let q = equals-ok v m.0.0.0 inner.0 in
-    subst (LineSaid s (codes "let" ∷ w ∷ v ∷ ws)) m.2
-    (ap (λ (t : Word). codes "let" ∷ t ∷ v ∷ ws) (sym d.0) ∙ ap (λ (t : Word). codes "let" ∷ name_at s.locals m.0.0.1 ∷ t ∷ ws) q
-    ∙ ap (λ (t : Words). codes "let" ∷ name_at s.locals m.0.0.1 ∷ codes "=" ∷ t) x.0,
-    and-true _ _ x.1 (all-both _ (m.0.0.1 ∷ []) (mentions.in_expr m.0.1) (and-true _ true (below-true m.0.0.1 (length s.locals) d.1) refl) x.2))
+    subst (LineSaid s (codes "let" ∷ w ∷ v ∷ ws)) m.2 (
+      ap (λ (t : Word). codes "let" ∷ t ∷ v ∷ ws) (sym d.0) ∙ ap (λ (t : Word). codes "let" ∷ name_at s.locals m.0.0.1 ∷ t ∷ ws) q
+          ∙ ap (λ (t : Words). codes "let" ∷ name_at s.locals m.0.0.1 ∷ codes "=" ∷ t) x.0,
+      and-true _ _ x.1 (all-both _ (m.0.0.1 ∷ []) (mentions.in_expr m.0.1) (and-true _ true (below-true m.0.0.1 (length s.locals) d.1) refl) x.2),
+    )
 
 put-said : (s : Names) (ws : Words) (l : Line) → put_of s ws ≡ Ok l → LineSaid s (codes "put" ∷ ws) l
 put-said s [] l e = absurd cc
@@ -117,10 +173,11 @@ put-said s (w ∷ v ∷ ws) l e =
     let d = cell-said s w m.0.0.0 inner.0 in
     let x = expr-said s ws m.0.1 outer.1 in
     let q = equals-ok v m.0.0.1 inner.1 in
-    subst (LineSaid s (codes "put" ∷ w ∷ v ∷ ws)) m.2
-    (ap (λ (t : Word). codes "put" ∷ t ∷ v ∷ ws) d.0 ∙ ap (λ (t : Word). codes "put" ∷ cell_word s m.0.0.0 ∷ t ∷ ws) q
-    ∙ ap (λ (t : Words). codes "put" ∷ cell_word s m.0.0.0 ∷ codes "=" ∷ t) x.0,
-    and-true _ _ (and-true _ _ d.1 x.1) (all-both _ (mentions.in_index m.0.0.0.index) (mentions.in_expr m.0.1) d.2 x.2))
+    subst (LineSaid s (codes "put" ∷ w ∷ v ∷ ws)) m.2 (
+      ap (λ (t : Word). codes "put" ∷ t ∷ v ∷ ws) d.0 ∙ ap (λ (t : Word). codes "put" ∷ cell_word s m.0.0.0 ∷ t ∷ ws) q
+          ∙ ap (λ (t : Words). codes "put" ∷ cell_word s m.0.0.0 ∷ codes "=" ∷ t) x.0,
+      and-true _ _ (and-true _ _ d.1 x.1) (all-both _ (mentions.in_index m.0.0.0.index) (mentions.in_expr m.0.1) d.2 x.2),
+    )
 
 spawn-said : (s : Names) (ws : Words) (l : Line) → is_present s Spawn ws ≡ true → spawn_of s ws ≡ Ok l → LineSaid s (codes "spawn" ∷ ws) l
 spawn-said s [] l p e = absurd cc
@@ -129,11 +186,13 @@ spawn-said s (w ∷ ws) l p e =
     let outer = both-ok (body_at s.bodies w) (expr_of s ws) m.0 m.1 in
     let b = body-said s.bodies w m.0.0 p outer.0 in
     let x = expr-said s ws m.0.1 outer.1 in
-    subst (LineSaid s (codes "spawn" ∷ w ∷ ws)) m.2
-    (ap (λ (t : Word). codes "spawn" ∷ t ∷ ws) (sym b.0) ∙ ap (λ (t : Words). codes "spawn" ∷ name_at s.bodies m.0.0 ∷ t) x.0,
-    and-true _ _ (and-true _ _ (below-true m.0.0 (length s.bodies) b.1) x.1) x.2)
+    subst (LineSaid s (codes "spawn" ∷ w ∷ ws)) m.2 (
+      ap (λ (t : Word). codes "spawn" ∷ t ∷ ws) (sym b.0) ∙ ap (λ (t : Words). codes "spawn" ∷ name_at s.bodies m.0.0 ∷ t) x.0,
+      and-true _ _ (and-true _ _ (below-true m.0.0 (length s.bodies) b.1) x.1) x.2,
+    )
 
-test-said : (s : Names) (k : Word) (f : Expr → Line) (ws : Words) (l : Line) → ((e : Expr) → line_words s (f e) ≡ k ∷ expr_words s e) → ((e : Expr) → is_expr (length s.arrays) e ≡ true → AllBelow s (mentions.in_expr e) → line_fits s (f e) ≡ true)
+test-said : (s : Names) (k : Word) (f : Expr → Line) (ws : Words) (l : Line) → ((e : Expr) → line_words s (f e) ≡ k ∷ expr_words s e)
+    → ((e : Expr) → is_expr (length s.arrays) e ≡ true → AllBelow s (mentions.in_expr e) → line_fits s (f e) ≡ true)
     → made f (expr_of s ws) ≡ Ok l → LineSaid s (k ∷ ws) l
 test-said s k f ws l w fits e =
     let m = made-ok f (expr_of s ws) l e in
@@ -146,7 +205,8 @@ else-said s true (w ∷ ws) l e = absurd cc
 else-said s false [] l e = absurd cc
 else-said s false (w ∷ ws) l e = absurd cc
 
-behind-said : (s : Names) (fits : Bool) (k : Keyword) (ws : Words) (l : Line) → is_present s k ws ≡ true → line_behind s fits (Some k) ws ≡ Ok l → LineSaid s (keyword_text k ∷ ws) l
+behind-said : (s : Names) (fits : Bool) (k : Keyword) (ws : Words) (l : Line) → is_present s k ws ≡ true
+    → line_behind s fits (Some k) ws ≡ Ok l → LineSaid s (keyword_text k ∷ ws) l
 unfolding line_behind
 behind-said s fits Let ws l p e = let-said s ws l e
 behind-said s fits Put ws l p e = put-said s ws l e
@@ -163,7 +223,8 @@ abbrev pub is_present_if : Names → Option Keyword → Words → Bool
 is_present_if s None ws = true
 is_present_if s (Some k) ws = is_present s k ws
 
-line-cases : (s : Names) (fits : Bool) (o : Option Keyword) (k : Word) (ws : Words) (l : Line) → keyword_of k ≡ o → is_present_if s o ws ≡ true → line_behind s fits o ws ≡ Ok l → LineSaid s (k ∷ ws) l
+line-cases : (s : Names) (fits : Bool) (o : Option Keyword) (k : Word) (ws : Words) (l : Line) → keyword_of k ≡ o
+    → is_present_if s o ws ≡ true → line_behind s fits o ws ≡ Ok l → LineSaid s (k ∷ ws) l
 unfolding line_behind
 line-cases s fits None k ws l h p e = absurd cc
 line-cases s fits (Some j) k ws l h p e =
@@ -171,5 +232,6 @@ line-cases s fits (Some j) k ws l h p e =
     (ap (λ (x : Word). x ∷ ws) (keyword-said k j h) ∙ b.0, b.1)
 
 -- a line in a body is written as it was said, and what it names is there
-pub line-said : (s : Names) (fits : Bool) (k : Word) (ws : Words) (l : Line) → is_present_if s (keyword_of k) ws ≡ true → line_behind s fits (keyword_of k) ws ≡ Ok l → LineSaid s (k ∷ ws) l
+pub line-said : (s : Names) (fits : Bool) (k : Word) (ws : Words) (l : Line) → is_present_if s (keyword_of k) ws ≡ true
+    → line_behind s fits (keyword_of k) ws ≡ Ok l → LineSaid s (k ∷ ws) l
 line-said s fits k ws l p e = line-cases s fits (keyword_of k) k ws l refl p e

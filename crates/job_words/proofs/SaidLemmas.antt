@@ -1,5 +1,36 @@
 -- What words say is written so.
-use Rattle.std.proofs.Common.{◌≡◌, ℕ, zero, suc, ◌+◌, ◌<◌, Bool, true, false, ◌&&◌, List, [], ◌∷◌, ◌++◌, length, Option, Some, None, Result, Ok, Err, ℤ, refl, sym, ap, subst, ◌∙◌, arith, codes, nat_eq}
+use Rattle.std.proofs.Common.{
+  ◌≡◌,
+  ℕ,
+  zero,
+  suc,
+  ◌+◌,
+  ◌<◌,
+  Bool,
+  true,
+  false,
+  ◌&&◌,
+  List,
+  [],
+  ◌∷◌,
+  ◌++◌,
+  length,
+  Option,
+  Some,
+  None,
+  Result,
+  Ok,
+  Err,
+  ℤ,
+  refl,
+  sym,
+  ap,
+  subst,
+  ◌∙◌,
+  arith,
+  codes,
+  nat_eq,
+}
 use Rattle.std.specs.Prelude.{if◌then◌else◌, nat_lt, not, ◌||◌}
 use Rattle.std.specs.List.{list_all}
 use Rattle.std.specs.Option.{option_map}
@@ -25,8 +56,38 @@ use Rattle.task_lang.specs.declared.code.Operator.TheVariants.{Add, Subtract, Mu
 use Rattle.task_lang.specs.declared.code.Expr.{Expr}
 use Rattle.task_lang.specs.declared.code.Expr.TheVariants.{One, Two}
 use Rattle.job_words.specs.Faults.{both, made, checked}
-use Rattle.job_words.specs.Words.{Word, Words, begins_number, named, numbered, or_bad_number, place_from, or_unknown, declared_at, name_at, index_word, index_of}
-use Rattle.job_words.specs.Exprs.{Names, at_end, index_part, cell_parts, cell_word, cell_at, cell_from, cell_of, has_bracket, operand_word, operand_of, operator_word, operator_of, expr_words, expr_of, two}
+use Rattle.job_words.specs.Words.{
+  Word,
+  Words,
+  begins_number,
+  named,
+  numbered,
+  or_bad_number,
+  place_from,
+  or_unknown,
+  declared_at,
+  name_at,
+  index_word,
+  index_of,
+}
+use Rattle.job_words.specs.Exprs.{
+  Names,
+  at_end,
+  index_part,
+  cell_parts,
+  cell_word,
+  cell_at,
+  cell_from,
+  cell_of,
+  has_bracket,
+  operand_word,
+  operand_of,
+  operator_word,
+  operator_of,
+  expr_words,
+  expr_of,
+  two,
+}
 
 pub made-ok : {A B : Type 0} (f : A → B) (r : Result A Code) (y : B) → made f r ≡ Ok y → (x : A) × (r ≡ Ok x) × (f x ≡ y)
 made-ok f (Ok x) y e = (x, refl, cc)
@@ -54,7 +115,8 @@ same-word a b e = (bytes_eq-Decides a b).0 e
 abbrev pub StandsAt : ℕ → List Word → Word → ℕ → Type 0
 StandsAt k names w i = (p : ℕ) × (i ≡ k + p) × (p < length names) × (name_at names p ≡ w)
 
-stands : (b : Bool) (k : ℕ) (n : Word) (ns : List Word) (w : Word) (i : ℕ) → bytes_eq n w ≡ b → (place_from (k + 1) ns w ≡ Some i → StandsAt (k + 1) ns w i)
+stands : (b : Bool) (k : ℕ) (n : Word) (ns : List Word) (w : Word) (i : ℕ) → bytes_eq n w ≡ b
+    → (place_from (k + 1) ns w ≡ Some i → StandsAt (k + 1) ns w i)
     → (if b then Some k else place_from (k + 1) ns w) ≡ Some i → StandsAt k (n ∷ ns) w i
 stands true k n ns w i h rec e = let same : k ≡ i = cc in (0, omega arith, omega arith, same-word n w h)
 stands false k n ns w i h rec e = let r = rec e in (suc r.0, omega (arith, r.1), omega (arith, r.2), r.3)
@@ -132,7 +194,8 @@ index-part-said : (w q : Word) → index_part w ≡ Some q → w ≡ q ++ 93 ∷
 index-part-said [] q e = absurd cc
 index-part-said (c ∷ cs) q e = index-part-case (nat_eq c 91) (nat_eq c 93) c cs q refl (index-part-said cs) e
 
-parts-case : (a b : Bool) (c : ℕ) (cs : Word) (p : Word × Word) → nat_eq c 91 ≡ a → ((q : Word × Word) → cell_parts cs ≡ Some q → cs ≡ q.0 ++ 91 ∷ (q.1 ++ 93 ∷ []))
+parts-case : (a b : Bool) (c : ℕ) (cs : Word) (p : Word × Word) → nat_eq c 91 ≡ a
+    → ((q : Word × Word) → cell_parts cs ≡ Some q → cs ≡ q.0 ++ 91 ∷ (q.1 ++ 93 ∷ []))
     → (if a then option_map (λ (i : Word). ([], i)) (index_part cs) else if b then None else option_map (λ (q : Word × Word). (c ∷ q.0, q.1)) (cell_parts cs)) ≡ Some p
     → c ∷ cs ≡ p.0 ++ 91 ∷ (p.1 ++ 93 ∷ [])
 parts-case true b c cs p h rec e =
@@ -151,7 +214,8 @@ parts-said (c ∷ cs) p e = parts-case (nat_eq c 91) (nat_eq c 93) c cs p refl (
 
 -- how a cell was said, and that its array and local are there
 abbrev pub CellSaid : Names → Word → Cell → Type 0
-CellSaid s w c = (w ≡ cell_word s c) × (nat_lt c.array (length s.arrays) ≡ true) × (list_all (λ k. nat_lt k (length s.locals)) (mentions.in_index c.index) ≡ true)
+CellSaid s w c =
+    (w ≡ cell_word s c) × (nat_lt c.array (length s.arrays) ≡ true) × (list_all (λ k. nat_lt k (length s.locals)) (mentions.in_index c.index) ≡ true)
 
 cell-from-said : (s : Names) (o : Option (Word × Word)) (w : Word) (c : Cell) → cell_parts w ≡ o → cell_from s o ≡ Ok c → CellSaid s w c
 cell-from-said s None w c h e = absurd cc
@@ -174,7 +238,8 @@ AllBelow s is = list_all (λ k. nat_lt k (length s.locals)) is ≡ true
 abbrev pub OperandSaid : Names → Word → Operand → Type 0
 OperandSaid s w o = (w ≡ operand_word s o) × (is_operand (length s.arrays) o ≡ true) × AllBelow s (mentions.in_operand o)
 
-operand-cases : (s : Names) (w : Word) (o : Operand) (b : Bool) → (if b then made operand.Cell (cell_of s w) else made operand.Plain (index_of s.locals w)) ≡ Ok o → OperandSaid s w o
+operand-cases : (s : Names) (w : Word) (o : Operand) (b : Bool)
+    → (if b then made operand.Cell (cell_of s w) else made operand.Plain (index_of s.locals w)) ≡ Ok o → OperandSaid s w o
 operand-cases s w o true e = let m = made-ok operand.Cell (cell_of s w) o e in subst (OperandSaid s w) m.2 (cell-said s w m.0 m.1)
 operand-cases s w o false e =
     let m = made-ok operand.Plain (index_of s.locals w) o e in
@@ -185,7 +250,8 @@ pub operand-said : (s : Names) (w : Word) (o : Operand) → operand_of s w ≡ O
 unfolding operand_of
 operand-said s w o e = operand-cases s w o (has_bracket w) e
 
-pick : (b : Bool) (w : Word) (x op : Operator) (rest : Result Operator Code) → (b ≡ true → w ≡ operator_word x) → (rest ≡ Ok op → w ≡ operator_word op) → (if b then Ok x else rest) ≡ Ok op → w ≡ operator_word op
+pick : (b : Bool) (w : Word) (x op : Operator) (rest : Result Operator Code) → (b ≡ true → w ≡ operator_word x)
+    → (rest ≡ Ok op → w ≡ operator_word op) → (if b then Ok x else rest) ≡ Ok op → w ≡ operator_word op
 pick true w x op rest is other e = let same : x ≡ op = cc in is refl ∙ ap operator_word same
 pick false w x op rest is other e = other e
 
@@ -223,7 +289,9 @@ expr-said s (a ∷ op ∷ b ∷ []) e h =
     let x = operand-said s a m.0.0.0 inner.0 in
     let o = operator-said op m.0.0.1 inner.1 in
     let y = operand-said s b m.0.1 outer.1 in
-    subst (ExprSaid s (a ∷ op ∷ b ∷ [])) m.2
-    (ap (λ (t : Word). t ∷ op ∷ b ∷ []) x.0 ∙ ap (λ (t : Word). operand_word s m.0.0.0 ∷ t ∷ b ∷ []) o ∙ ap (λ (t : Word). operand_word s m.0.0.0 ∷ operator_word m.0.0.1 ∷ t ∷ []) y.0,
-    and-true _ _ x.1 y.1, all-both _ (mentions.in_operand m.0.0.0) (mentions.in_operand m.0.1) x.2 y.2)
+    subst (ExprSaid s (a ∷ op ∷ b ∷ [])) m.2 (
+      ap (λ (t : Word). t ∷ op ∷ b ∷ []) x.0 ∙ ap (λ (t : Word). operand_word s m.0.0.0 ∷ t ∷ b ∷ []) o ∙ ap (λ (t : Word). operand_word s m.0.0.0 ∷ operator_word m.0.0.1 ∷ t ∷ []) y.0,
+      and-true _ _ x.1 y.1,
+      all-both _ (mentions.in_operand m.0.0.0) (mentions.in_operand m.0.1) x.2 y.2,
+    )
 expr-said s (a ∷ op ∷ b ∷ c ∷ ws) e h = absurd cc

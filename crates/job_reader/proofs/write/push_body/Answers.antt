@@ -9,7 +9,8 @@ use Rattle.job_reader.proofs.TextLemmas.{body-text}
 use Rattle.job_reader.proofs.write.push_body.Goals as goal
 
 abbrev with_locals : List (Word × List ℤ) → List BodyValue → List Word → Names
-with_locals arrays bodies locals = record { arrays = map (λ (a : Word × List ℤ). a.0) arrays; bodies = map (λ (b : BodyValue). b.name) bodies; locals = locals }
+with_locals arrays bodies locals =
+    record { arrays = map (λ (a : Word × List ℤ). a.0) arrays; bodies = map (λ (b : BodyValue). b.name) bodies; locals = locals }
 
 pub returns : goal.returns
 returns c =
