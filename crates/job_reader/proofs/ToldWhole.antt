@@ -1,5 +1,8 @@
 -- A text that is read is the text of its job.
 use Rattle.std.proofs.Common.{
+  ◌⊎◌,
+  inl,
+  inr,
   ◌≡◌,
   ℕ,
   ◌+◌,
@@ -43,6 +46,7 @@ use Rattle.job_reader.specs.Trees.{JobTree, body_names}
 use Rattle.job_reader.specs.Above.{Above, nothing}
 use Rattle.job_reader.specs.Grammar.{header_words, items_lines, AreSound, job_of, kept, IsTextOf}
 use Rattle.job_reader.specs.Reading.{refused, is_header, outer_of, name_if_body, declared_by, declared, read_lines, read_from, unless_bad, job_in}
+use Rattle.job_reader.specs.Laws.{IsRead, IsRefused, EachTextIsReadOrRefused}
 use Rattle.job_reader.proofs.ItemLemmas.{Told, told-nothing}
 use Rattle.job_reader.proofs.ToldText.{lines-told}
 use Rattle.job_reader.proofs.ToldNames.{names_in, lines-named, skipped-none}
@@ -125,5 +129,15 @@ unfolding job_in
 text-told text j e =
     lines-are-text (lines_of text) j
     (long-ok (nat_lt 1048576 (length text)) (bad_byte_line 1 text) (read_from (declared (lines_of text)) 1 (lines_of text)) j e)
+
+judged : (text : List ℕ) (r : Result JobTree Refusal) → job_in text ≡ r → IsRead text ⊎ IsRefused text
+judged text (Ok j) e = inl (j, e, text-told text j e)
+judged text (Err c) e = inr (c, e)
+
+never-both : (text : List ℕ) → IsRead text → IsRefused text → ⊥
+never-both text a b = let same : ◌≡◌ {A = Result JobTree Refusal} (Ok a.0) (Err b.0) = sym a.1 ∙ b.1 in cc
+
+pub each-text : EachTextIsReadOrRefused
+each-text = λ text. (judged text (job_in text) refl, λ a b. never-both text a b)
 
 pub ruleset text_steps = (text-told)

@@ -13,7 +13,7 @@ mod state;
 mod write;
 
 pub use fault::{ReadJobFault, WriteJobFault};
-pub use laws::read_texts_are_jobs;
+pub use laws::{each_text_is_read_or_refused, read_texts_are_jobs};
 pub use read::read_job;
 pub use text_lines::{Code, Refusal};
 pub use write::write_job;
