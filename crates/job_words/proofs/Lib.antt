@@ -3,3 +3,4 @@ pub mod NotedLemmas
 pub mod SaidLemmas
 pub mod LineSaid
 pub mod GrowLemmas
+pub mod WrittenLemmas
