@@ -4,3 +4,4 @@ pub mod SaidLemmas
 pub mod LineSaid
 pub mod GrowLemmas
 pub mod WrittenLemmas
+pub mod WrittenExprs
