@@ -5,3 +5,4 @@ pub mod LineSaid
 pub mod GrowLemmas
 pub mod WrittenLemmas
 pub mod WrittenExprs
+pub mod WrittenLines
