@@ -3,11 +3,13 @@ use Rattle.std.proofs.Common.{◌≡◌, ℕ, zero, suc, ◌+◌, ◌<◌, ◌�
 use Rattle.std.proofs.lemmas.Bool.{cases_lt}
 use Rattle.std.proofs.lemmas.List.{length-append}
 use Rattle.advance_rule.specs.declared.EndPlan.{EndPlan}
-use Rattle.tier_core.specs.View.{View, new_view}
-use Rattle.tier_core.specs.Tally.{word_at, IsShape, Tallies}
+use Rattle.tier_steps.specs.declared.view.View.{View}
+use Rattle.tier_steps.specs.View.{new_view}
+use Rattle.tier_steps.specs.Tally.{word_at, Tallies}
+use Rattle.tier_shape.specs.Parents.{IsShape}
 use Rattle.tier_core.specs.Turn.{Progress, Idle}
 use Rattle.tier_core.specs.Machine.{State, IsCore, CallFits, view_at, call_at, opened, with_token}
-use Rattle.tier_core.proofs.Start.{nobody_tallies, new_tokens_tally}
+use Rattle.tier_steps.proofs.Start.{nobody_tallies, new_tokens_tally}
 
 pub opened_core : (ps : List ℕ) (phase : ℕ) (plan : EndPlan) → IsShape ps → length ps ≤ 65535 → phase ≤ 2147483647 → IsCore (opened ps phase plan)
 opened_core ps phase plan shape few legal = record {

@@ -3,17 +3,19 @@ use Rattle.std.proofs.Common.{◌≡◌, ◌≢◌, ℕ, zero, suc, ◌<◌, ⊎
 use Rattle.std.proofs.lemmas.Bool.{cases_eq}
 use Rattle.std.proofs.lemmas.List.{get_or-set_same, get_or-set_other, get_or_default, length-take}
 use Rattle.flat_phaser.specs.Flat.{Flat}
-use Rattle.tier_core.specs.Word.{Fields}
-use Rattle.tier_core.specs.View.{View, new_view, parent_of}
-use Rattle.tier_core.specs.Tally.{blank, word_at, Tallies}
-use Rattle.tier_core.specs.Step.{word_after, view_after, IsRunnable}
-use Rattle.tier_core.specs.Laws.{IsStep, words_after, stepped_view}
-use Rattle.tier_core.specs.Image.{image, label, labelled, IsAllowedLabel, LooksAlike}
+use Rattle.phaser_word.specs.Fields.{Fields}
+use Rattle.tier_steps.specs.declared.view.View.{View}
+use Rattle.tier_steps.specs.View.{new_view}
+use Rattle.tier_shape.specs.Parents.{parent_of}
+use Rattle.tier_steps.specs.Tally.{blank, word_at, Tallies}
+use Rattle.tier_steps.specs.Step.{word_after, view_after, IsRunnable}
+use Rattle.tier_steps.specs.Laws.{IsStep, words_after, stepped_view}
+use Rattle.tier_steps.specs.Image.{image, label, labelled, IsAllowedLabel, LooksAlike}
 use Rattle.tier_core.specs.Turn.{Progress, Idle, Turn}
 use Rattle.tier_core.specs.Machine.{State, IsCore, IsNext, CallFits, view_at, call_at, is_active, turn_at, played}
-use Rattle.tier_core.proofs.KindLaw.{kinds_keep_tally}
-use Rattle.tier_core.proofs.FlatLaw.{kinds_are_flat}
-use Rattle.tier_core.proofs.Known.{tally_is_known, steps_are_runnable}
+use Rattle.tier_steps.proofs.KindLaw.{kinds_keep_tally}
+use Rattle.tier_steps.proofs.FlatLaw.{kinds_are_flat}
+use Rattle.tier_steps.proofs.Known.{tally_is_known, steps_are_runnable}
 use Rattle.tier_core.proofs.Turns.{turns_are_steps}
 
 pub around : {X : Type 0} (xs : List X) (i : ℕ) (d : X) → i < length xs → xs ≡ take i xs ++ get_or xs i d ∷ drop (suc i) xs

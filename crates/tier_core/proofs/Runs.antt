@@ -7,10 +7,12 @@ use Rattle.std.specs.Prelude.{Option}
 use Rattle.flat_phaser.specs.Flat.{Flat}
 use Rattle.flat_phaser.specs.declared.FlatStep.{FlatStep}
 use Rattle.flat_phaser.proofs.Everyone.{both_true}
-use Rattle.tier_core.specs.View.{View, Rest, Advancing}
-use Rattle.tier_core.specs.Tally.{word_at}
-use Rattle.tier_core.specs.Step.{Look, Advance, dropped}
-use Rattle.tier_core.specs.Image.{image, label, labelled, IsAllowedLabel, LooksAlike}
+use Rattle.tier_steps.specs.declared.view.View.{View}
+use Rattle.tier_steps.specs.declared.view.Errand.TheVariants.{Rest, Advancing}
+use Rattle.tier_steps.specs.Tally.{word_at}
+use Rattle.tier_steps.specs.declared.kind.Kind.TheVariants.{Look, Advance}
+use Rattle.tier_steps.specs.Step.{dropped}
+use Rattle.tier_steps.specs.Image.{image, label, labelled, IsAllowedLabel, LooksAlike}
 use Rattle.tier_core.specs.Turn.{Call, Progress, Idle, Begun, ToSeek, Settling, ToGiveBack, Passing, Owing, Due, Refreshing, Turn}
 use Rattle.tier_core.specs.Machine.{State, IsCore, IsNext, CallFits, BegunFits, view_at, call_at, is_active, is_due, turn_at, played}
 use Rattle.tier_core.specs.Run.{Step, Begin, Go, Finish, is_idle, may_call, may_begin, may_go, may_finish, begun, finish_at, plan_ends, after, step_label, IsCall, IsStepOfCalls, TheTreeIsFlat}

@@ -3,18 +3,28 @@ use Rattle.std.proofs.Common.{◌≡◌, ◌≢◌, ℕ, zero, suc, ◌+◌, ◌
 use Rattle.std.specs.Prelude.{◌&&◌, ◌||◌, not}
 use Rattle.std.proofs.lemmas.Bool.{cases_eq, eq-eqb, ne_eqb, eqb-true, eqb-false, lt-ltb, ltb-true, ltb-false}
 use Rattle.flat_phaser.proofs.Everyone.{either, both_true}
-use Rattle.tier_core.specs.Word.{Fields, IsLegal, is_being_opened}
-use Rattle.tier_core.specs.View.{View, Errand, Rest, Opening, Climbing, Seeking, Joined, GoingBack, Trip, Arrival, Departure, parent_of, ancestor, absent}
-use Rattle.tier_core.specs.Tally.{word_at, root_phase, IsShape, Tallies, ViewFits, ErrandFits, KeepsUp}
-use Rattle.tier_core.specs.Step.{Look, Glance, Refuse, Join, Arrive, Leave, Claim, Climb, Refresh, CanPass, CanClimb, Admits, Refuses, IsFree, IsDue, opening, added, owed, looked, moved, dropped, given_up, passed, is_going_back, refused, view_after}
+use Rattle.phaser_word.specs.Fields.{Fields, IsLegal}
+use Rattle.tier_steps.specs.Word.{is_being_opened}
+use Rattle.tier_steps.specs.declared.view.View.{View}
+use Rattle.tier_steps.specs.declared.view.Errand.{Errand}
+use Rattle.tier_steps.specs.declared.view.Errand.TheVariants.{Rest, Opening, Climbing}
+use Rattle.tier_steps.specs.declared.view.Stage.TheVariants.{Seeking, Joined, GoingBack}
+use Rattle.tier_steps.specs.declared.view.Trip.{Trip}
+use Rattle.tier_steps.specs.declared.view.Trip.TheVariants.{Arrival, Departure}
+use Rattle.tier_shape.specs.Parents.{parent_of}
+use Rattle.tier_steps.specs.View.{ancestor, absent}
+use Rattle.tier_steps.specs.Tally.{word_at, root_phase, Tallies, ViewFits, ErrandFits, KeepsUp}
+use Rattle.tier_shape.specs.Parents.{IsShape}
+use Rattle.tier_steps.specs.declared.kind.Kind.TheVariants.{Look, Glance, Refuse, Join, Arrive, Leave, Claim, Climb, Refresh}
+use Rattle.tier_steps.specs.Step.{CanPass, CanClimb, Admits, Refuses, IsFree, IsDue, opening, added, owed, looked, moved, dropped, given_up, passed, is_going_back, refused, view_after}
 use Rattle.tier_core.specs.Turn.{Call, Played, GoesOn, Done, Idle, Begun, ToSeek, Settling, ToGiveBack, Passing, Owing, Due, Refreshing, Turn, turn, first_turn, seek_turn, settle_turn, give_back_turn, climb_turn, last_look, claimed_by, lags, has_no_room, is_refusing, is_claimable, refusal, end_shown, giving_back, settling, unless_claimed, goes_on, told, own_kind}
 use Rattle.tier_core.specs.Machine.{IsWanted, BegunFits, CallFits, IsNext, TurnsAreSteps}
 use Rattle.tier_core.specs.declared.call.Call.TheVariants as call
-use Rattle.tier_core.proofs.Legal.{legal_empty}
-use Rattle.tier_core.proofs.Advance.{ancestor_within}
-use Rattle.tier_core.proofs.KindLaw.{mine}
-use Rattle.tier_core.proofs.Pass.{owed_is, only_here, stands, resting_late, absent_current, waiting_open, unarrived_is_current, climbing_late}
-use Rattle.tier_core.proofs.Looking.{move_keeps, looked_on}
+use Rattle.tier_steps.proofs.Legal.{legal_empty}
+use Rattle.tier_steps.proofs.Advance.{ancestor_within}
+use Rattle.tier_steps.proofs.KindLaw.{mine}
+use Rattle.tier_steps.proofs.Pass.{owed_is, only_here, stands, resting_late, absent_current, waiting_open, unarrived_is_current, climbing_late}
+use Rattle.tier_steps.proofs.Looking.{move_keeps, looked_on}
 
 -- a test, with what it says in each case
 pub by_test : (P : Bool → Type 0) (b : Bool) → (b ≡ true → P true) → (b ≡ false → P false) → P b

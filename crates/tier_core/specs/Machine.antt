@@ -1,12 +1,18 @@
 -- The state of the machine: the words of the tiers, and for each token its view and how far its call has come (own).
 use Rattle.std.specs.Prelude.{◌≡◌, ℕ, suc, ◌≤◌, ◌<◌, Bool, true, false, List, [], ◌∷◌, ◌++◌, length, slice_index_or, slice_set}
 use Rattle.advance_rule.specs.declared.EndPlan.{EndPlan}
-use Rattle.tier_core.specs.Word.{Fields}
-use Rattle.tier_core.specs.View.{View, Rest, Opening, Climbing, Advancing, Seeking, Joined, GoingBack, Trip, new_view}
-use Rattle.tier_core.specs.Tally.{word_at, Tallies, IsShape}
-use Rattle.tier_core.specs.Step.{Kind, Needs, opening}
-use Rattle.tier_core.specs.Laws.{words_after, stepped_view}
-use Rattle.tier_core.specs.Start.{empty_words}
+use Rattle.phaser_word.specs.Fields.{Fields}
+use Rattle.tier_steps.specs.declared.view.View.{View}
+use Rattle.tier_steps.specs.declared.view.Errand.TheVariants.{Rest, Opening, Climbing, Advancing}
+use Rattle.tier_steps.specs.declared.view.Stage.TheVariants.{Seeking, Joined, GoingBack}
+use Rattle.tier_steps.specs.declared.view.Trip.{Trip}
+use Rattle.tier_steps.specs.View.{new_view}
+use Rattle.tier_steps.specs.Tally.{word_at, Tallies}
+use Rattle.tier_shape.specs.Parents.{IsShape}
+use Rattle.tier_steps.specs.declared.kind.Kind.{Kind}
+use Rattle.tier_steps.specs.Step.{Needs, opening}
+use Rattle.tier_steps.specs.Laws.{words_after, stepped_view}
+use Rattle.tier_steps.specs.Start.{empty_words}
 use Rattle.tier_core.specs.Turn.{Call, Progress, Idle, Begun, ToSeek, Settling, ToGiveBack, Passing, Owing, Due, Refreshing, Turn, turn, claimed_by}
 use Rattle.tier_core.specs.declared.call.Call.TheVariants as call
 

@@ -8,9 +8,9 @@ use Rattle.std.specs.Prelude.{ℕ, ◌<◌, ◌≤◌, Bool, true, false, ◌==�
 use Rattle.advance_rule.specs.Plan.{end_ends}
 use Rattle.flat_phaser.specs.Flat.{Flat}
 use Rattle.flat_phaser.specs.declared.FlatStep.{FlatStep}
-use Rattle.tier_core.specs.View.{View}
-use Rattle.tier_core.specs.Tally.{word_at}
-use Rattle.tier_core.specs.Image.{image, label, labelled, IsAllowedLabel, LooksAlike}
+use Rattle.tier_steps.specs.declared.view.View.{View}
+use Rattle.tier_steps.specs.Tally.{word_at}
+use Rattle.tier_steps.specs.Image.{image, label, labelled, IsAllowedLabel, LooksAlike}
 use Rattle.tier_core.specs.Turn.{Call, Progress, Idle, Begun, ToSeek, Settling, ToGiveBack, Passing, Owing, Due, Refreshing, Turn, finish_turn}
 use Rattle.tier_core.specs.Machine.{State, IsCore, view_at, call_at, is_active, is_due, turn_at, played}
 

@@ -10,10 +10,19 @@ pub use Rattle.tier_core.specs.declared.call.Progress.TheVariants.{Idle, Begun, 
 pub use Rattle.tier_core.specs.declared.call.Turn.{Turn}
 use Rattle.std.specs.Prelude.{ℕ, zero, suc, ◌+◌, Bool, true, ◌==◌, nat_lt, not, ◌&&◌, ◌||◌, if◌then◌else◌, List}
 use Rattle.phaser_word.specs.Phase.{shown_of}
-use Rattle.tier_core.specs.Word.{Fields, is_being_opened}
-use Rattle.tier_core.specs.View.{View, Errand, Rest, Opening, Climbing, Advancing, Trip, Arrival, Departure, parent_of, ancestor}
-use Rattle.tier_core.specs.Tally.{word_at}
-use Rattle.tier_core.specs.Step.{Kind, Look, Glance, Refuse, Join, Arrive, Leave, Advance, Force, Claim, Settle, SettleBack, Climb, Refresh, passed, owed, added, looked, refused}
+use Rattle.phaser_word.specs.Fields.{Fields}
+use Rattle.tier_steps.specs.Word.{is_being_opened}
+use Rattle.tier_steps.specs.declared.view.View.{View}
+use Rattle.tier_steps.specs.declared.view.Errand.{Errand}
+use Rattle.tier_steps.specs.declared.view.Errand.TheVariants.{Rest, Opening, Climbing, Advancing}
+use Rattle.tier_steps.specs.declared.view.Trip.{Trip}
+use Rattle.tier_steps.specs.declared.view.Trip.TheVariants.{Arrival, Departure}
+use Rattle.tier_shape.specs.Parents.{parent_of}
+use Rattle.tier_steps.specs.View.{ancestor}
+use Rattle.tier_steps.specs.Tally.{word_at}
+use Rattle.tier_steps.specs.declared.kind.Kind.{Kind}
+use Rattle.tier_steps.specs.declared.kind.Kind.TheVariants.{Look, Glance, Refuse, Join, Arrive, Leave, Advance, Force, Claim, Settle, SettleBack, Climb, Refresh}
+use Rattle.tier_steps.specs.Step.{passed, owed, added, looked, refused}
 
 -- the phase that an ended root shows
 abbrev pub end_shown : Fields → Played

@@ -1,8 +1,8 @@
 //! Calls of tokens, how far they have come, and what their steps answer.
 
-use crate::kind::Kind;
-use crate::view::Trip;
 use thiserror::Error;
+use tier_steps::kind::Kind;
+use tier_steps::view::Trip;
 
 /// What a token is asked to do (own; Java SE 21, `Phaser`: `bulkRegister`, `arrive`,
 /// `arriveAndDeregister`, `forceTermination`; polling is own).

@@ -1,21 +1,14 @@
-//! A tree of phasers as a pure machine: one word for each tier, one view for each token, and steps that
-//! change at most one word and the view of the token that takes them.
+//! A tree of phasers as a pure machine: tokens begin calls, and each call goes one step at a time.
 //!
-//! * [`view`] and [`kind`]: what a token knows and owes, and the kinds of step, as plain data.
-//! * [`step`]: what each kind leaves, and the tests that a token makes before it takes a step.
-//! * [`laws`]: each kind of step keeps the tally of words and views, and is the step of one flat phaser
-//!   over all members of all tokens.
+//! * [`call`]: the calls, what they answer, and how far a call has come.
+//! * [`turn`]: the next step of a call, and what it answers.
+//! * [`tree`]: the tree itself, with its tokens and the calls that they are in.
+//! * [`turn_laws`]: whatever steps are taken in whatever order, the tree is one flat phaser.
 #![tactic(auto)]
 
 pub mod call;
-pub mod kind;
-pub mod laws;
-#[cfg(test)]
-mod rows;
-pub mod step;
 pub mod tree;
 #[cfg(test)]
 mod tree_rows;
 pub mod turn;
 pub mod turn_laws;
-pub mod view;

@@ -4,14 +4,14 @@ ghost use Rattle.std.specs.Prelude.{◌≡◌, ℕ, ◌+◌, ◌≤◌, ◌<◌,
 ghost use Rattle.tier_core.specs.Run.{may_call};
 
 use crate::call::{Answer, Call, NotNow, Played, Progress, Step, Turn};
-use crate::step::{step_view, step_word};
 use crate::turn::{above, last_turn, next_turn, word_of};
-use crate::view::View;
 use advance_rule::EndPlan;
 use phaser_word::Word;
 use std::alloc::{AllocError, Global};
 use std::marker::Model;
 use tier_shape::Shape;
+use tier_steps::step::{step_view, step_word};
+use tier_steps::view::View;
 
 /// A tree of phasers with its tokens (own; a tree of Java's `Phaser`s, whose parties are tokens' members).
 ///
@@ -61,9 +61,9 @@ fn words_of(alloc: Global, count: usize, word: Word) -> Result<Vec<Word>, AllocE
 impl Core {
     ghost use Rattle.tier_core.specs.Machine.{State, IsCore, IsNext, view_at, call_at, is_active, is_due, turn_at, played, opened, with_token};
     ghost use Rattle.tier_core.specs.Run as spec;
-    ghost use Rattle.tier_core.specs.Tally.{word_at};
+    ghost use Rattle.tier_steps.specs.Tally.{word_at};
     ghost use Rattle.tier_core.specs.Run.{may_begin, may_go, may_finish, begun, finish_at, IsCall, after, IsStepOfCalls, AreSteps, answer_to, plan_ends, answers, run, IsFlat};
-    ghost use Rattle.tier_core.specs.Image.{image, LooksAlike};
+    ghost use Rattle.tier_steps.specs.Image.{image, LooksAlike};
     ghost use Rattle.flat_phaser.specs.Flat.{Flat};
 
     /// A tree of this shape whose tiers are empty, in this phase, and which ends at an advance if the plan
@@ -94,7 +94,7 @@ impl Core {
         ensures added { OnOk result (self.new ≡ with_token self.old) }
         ensures memory { OnErr result (self.new ≡ self.old) }
     {
-        let token = self.views.len();
+        let token = self.tokens();
         let phase = word_of(&self.words, 0).phase;
         self.calls.reserve(1)?;
         self.views.extend_from_slice(&[View::new(phase)])?;
@@ -121,23 +121,23 @@ impl Core {
     fn may_begin(&self, token: usize, call: Call) -> bool
         ensures { result ≡ may_begin self.now token call }
     {
-        token < self.views.len()
+        token < self.tokens()
             && matches!(self.calls[token], Progress::Idle)
-            && may_take(self.shape.count(), call, &self.views[token])
+            && may_take(self.tiers(), call, &self.views[token])
     }
 
     /// Whether a token has a step of its call to take.
     fn may_go(&self, token: usize) -> bool
         ensures { result ≡ may_go self.now token }
     {
-        token < self.views.len() && !matches!(self.calls[token], Progress::Idle | Progress::Due(_))
+        token < self.tokens() && !matches!(self.calls[token], Progress::Idle | Progress::Due(_))
     }
 
     /// Whether a token has to advance the root.
-    fn may_finish(&self, token: usize) -> bool
+    pub fn must_advance(&self, token: usize) -> bool
         ensures { result ≡ may_finish self.now token }
     {
-        token < self.views.len() && matches!(self.calls[token], Progress::Due(_))
+        token < self.tokens() && matches!(self.calls[token], Progress::Due(_))
     }
 
     /// Begins a call. A token that is unknown or in a call, a join of an unknown tier or by a token with
@@ -190,7 +190,7 @@ impl Core {
         ensures answer { IfOk result (λ a. a ≡ (finish_at self.old token ends).answer) }
         ensures after { self.new ≡ (if may_finish self.old token then played self.old token (finish_at self.old token ends) else self.old) }
     {
-        if !self.may_finish(token) {
+        if !self.must_advance(token) {
             return Err(NotNow);
         }
         let turn = last_turn(ends, word_of(&self.words, 0), self.views[token]);
@@ -198,11 +198,20 @@ impl Core {
         Ok(turn.answer)
     }
 
-    /// How many tiers the tree has.
+    /// How many tiers the tree has, from 1 to 64.
     pub fn tiers(&self) -> usize
-        ensures { result ≡ length self.now.parents }
+        ensures value { result ≡ length self.now.parents }
+        ensures few { result ≤ 64 }
     {
         self.shape.count()
+    }
+
+    /// The word of the root.
+    pub fn root(&self) -> Word
+        ensures { result ≡ word_at self.now.words 0 }
+    {
+        let root = 0;
+        word_of(&self.words, root)
     }
 
     /// How many tokens it has.
@@ -220,16 +229,16 @@ impl Core {
         word_of(&self.words, tier)
     }
 
-    /// What a token knows and owes.
-    pub fn view(&self, token: usize) -> View
-        requires { token < length self.now.views }
-        ensures { result ≡ view_at self.now.views token }
+    /// What the token with this number knows and owes.
+    pub fn view(&self, number: usize) -> View
+        requires { number < length self.now.views }
+        ensures { result ≡ view_at self.now.views number }
     {
-        self.views[token]
+        self.views[number]
     }
 
-    /// One step of a run.
-    fn step(&mut self, step: Step) -> Answer
+    /// Takes one step of a run, an advance as the plan says, and answers it.
+    pub fn step(&mut self, step: Step) -> Answer
         requires { IsStepOfCalls step }
         ensures answer { result ≡ answer_to self.old step }
         ensures after { self.new ≡ after self.old step }

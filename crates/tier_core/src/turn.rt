@@ -3,10 +3,13 @@
 ghost use Rattle.std.specs.Prelude.{◌≡◌, ℕ, List};
 ghost use Rattle.tier_core.specs.declared.call.Call.TheVariants as call;
 ghost use Rattle.tier_core.specs.Turn as spec;
-ghost use Rattle.tier_core.specs.Word.{Fields};
-ghost use Rattle.tier_core.specs.View.{View};
-ghost use Rattle.tier_core.specs.View.{parent_of, ancestor, Arrival, Departure};
-ghost use Rattle.tier_core.specs.Tally.{word_at, IsShape};
+ghost use Rattle.phaser_word.specs.Fields.{Fields};
+ghost use Rattle.tier_steps.specs.declared.view.View.{View};
+ghost use Rattle.tier_shape.specs.Parents.{parent_of};
+ghost use Rattle.tier_steps.specs.View.{ancestor};
+ghost use Rattle.tier_steps.specs.declared.view.Trip.TheVariants.{Arrival, Departure};
+ghost use Rattle.tier_steps.specs.Tally.{word_at};
+ghost use Rattle.tier_shape.specs.Parents.{IsShape};
 ghost use Rattle.tier_core.specs.Turn.{
   lags,
   has_no_room,
@@ -33,11 +36,11 @@ ghost use Rattle.tier_core.specs.Turn.{
 };
 
 use crate::call::{Call, Cause, Played, Progress, Turn};
-use crate::kind::Kind;
-use crate::step::{errand_after, look, parties_added, refuse, word_passed};
-use crate::view::{Errand, Trip, View};
 use phaser_word::{MOST_PARTIES, Word};
 use tier_shape::Shape;
+use tier_steps::kind::Kind;
+use tier_steps::step::{errand_after, look, parties_added, refuse, word_passed};
+use tier_steps::view::{Errand, Trip, View};
 
 /// The tier above another; the root's is itself.
 pub fn above(shape: &Shape, tier: u16) -> u16

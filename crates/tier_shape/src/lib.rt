@@ -156,7 +156,7 @@ fn has_no_child(parents: &[u16], tier: u16) -> bool
 }
 
 // The shape that a text says, or why it says none.
-fn read_shape(alloc: Global, text: &str) -> Result<Shape, ShapeFault>
+fn read_shape(alloc: Global, text: &[u8]) -> Result<Shape, ShapeFault>
     ensures { MatchResult result (λ shape. IsTreeText text.now shape × IsTiers shape) (λ fault. IsRefusedText text.now fault) }
 {
     let widths = read_widths(alloc, text)?;
@@ -211,6 +211,14 @@ impl Shape {
         ensures not_earlier { IsErrOf result ShapeFault.ParentNotEarlier → ⊥ }
         ensures memory { (e : AllocError) → IsErrOf result (ShapeFault.Memory e) → IsGoodText text.now }
         ensures ok { IfOk result (λ shape. IsTreeText text.now shape × IsTiers shape) }
+        ensures told { IfOk result (λ shape. shape_told text.now ≡ Ok shape) }
+        ensures refused { IfErr result (λ fault. (fault_number fault ≡ None → ⊥) → shape_told text.now ≡ Err fault) }
+    {
+        read_shape(alloc, text.as_bytes())
+    }
+
+    /// The shape that a text of widths says, by its bytes; as [`Shape::from_widths`].
+    pub fn from_width_bytes(alloc: Global, text: &[u8]) -> Result<Self, ShapeFault>
         ensures told { IfOk result (λ shape. shape_told text.now ≡ Ok shape) }
         ensures refused { IfErr result (λ fault. (fault_number fault ≡ None → ⊥) → shape_told text.now ≡ Err fault) }
     {

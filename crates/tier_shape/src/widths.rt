@@ -47,16 +47,16 @@ fn first_piece(bytes: &[u8]) -> (&[u8], Option<&[u8]>)
 }
 
 // The widths that a text says, or why there is no tree of them: it says none, or more than six.
-pub(crate) fn read_widths(alloc: Global, text: &str) -> Result<SmallVec<u16, 6>, ShapeFault>
+pub(crate) fn read_widths(alloc: Global, text: &[u8]) -> Result<SmallVec<u16, 6>, ShapeFault>
     ensures { MatchResult result (λ widths. IsWidthsText text.now widths.items × (length widths.items ≤ 6))
         (λ fault. IsRefusedText text.now fault) }
 {
     let mut widths = SmallVec::new(alloc);
-    if text == "flat" {
+    if text == b"flat".as_slice() {
         return Ok(widths);
     }
     let mut deep = false;
-    let mut rest = Some(text.as_bytes());
+    let mut rest = Some(text);
     while let Some(bytes) = rest {
         let (piece, more) = first_piece(bytes);
         let Some(width) = width_of(piece) else {

@@ -2,3 +2,4 @@ pub mod CommandRuns
 pub mod TracedRuns
 pub mod AskedLines
 pub mod SpelledCommands
+pub mod TreeRuns

@@ -10,8 +10,8 @@ use Rattle.text_lines.specs.declared.refusal.Code.TheVariants.{BadNumber, BadLin
 use Rattle.text_lines.specs.Number.{number_of}
 use Rattle.text_lines.proofs.NumbersLemmas.{numbers_law}
 use Rattle.phaser_one.specs.declared.call.Call.TheVariants as call
-use Rattle.trace_text.specs.declared.words.Command.{Command}
-use Rattle.trace_text.specs.declared.words.Command.TheVariants.{Call, Show}
+use Rattle.trace_text.specs.declared.words.PhaserCommand.{PhaserCommand}
+use Rattle.trace_text.specs.declared.words.PhaserCommand.TheVariants.{Call, Show}
 use Rattle.trace_text.specs.declared.words.Form.{Form}
 use Rattle.trace_text.specs.declared.words.Form.TheVariants.{Alone, Bulk, Await}
 use Rattle.trace_text.specs.Words.{Word, form_of, formed, command_of, of_32_bits, or_else}
@@ -25,7 +25,7 @@ within : (n : ℤ) → FitsSigned w32 n → of_32_bits (Some n) ≡ Some n
 within (pos n) f = let small : nat_lt n (2 ^ 31) ≡ true = grind (arith, common_steps, ints, f) in rw small refl
 within (negsuc n) f = let small : nat_lt n (2 ^ 31) ≡ true = grind (arith, common_steps, ints, f) in rw small refl
 
-read_back : (c : Command) → HasRoom c → command_of (spelled c) ≡ Ok c
+read_back : (c : PhaserCommand) → HasRoom c → command_of (spelled c) ≡ Ok c
 read_back (Call call.Register) r = refl
 read_back (Call (call.Bulk n)) r = ap (λ (o : Option ℤ). or_else BadNumber (option_map (λ k. Call (call.Bulk k)) o)) (numbers_law.0 n r)
 read_back (Call call.Arrive) r = refl
@@ -74,8 +74,8 @@ form_said w g e =
     (one_word w (codes "register") (Alone (Call call.Register)) g _ refl e)
 
 -- an answer of a number
-numbered : (o : Option ℤ) (make : ℤ → Command) (c : Command) → or_else BadNumber (option_map make o) ≡ Ok c → (n : ℤ) × (o ≡ Some n) × (make n ≡ c)
-numbered None make c e = absurd (let wrong : ◌≡◌ {A = Result Command Code} (Err BadNumber) (Ok c) = e in cc)
+numbered : (o : Option ℤ) (make : ℤ → PhaserCommand) (c : PhaserCommand) → or_else BadNumber (option_map make o) ≡ Ok c → (n : ℤ) × (o ≡ Some n) × (make n ≡ c)
+numbered None make c e = absurd (let wrong : ◌≡◌ {A = Result PhaserCommand Code} (Err BadNumber) (Ok c) = e in cc)
 numbered (Some n) make c e = (n, refl, cc)
 
 narrow : (o : Option ℤ) (n : ℤ) → of_32_bits o ≡ Some n → (o ≡ Some n) × FitsSigned w32 n
@@ -92,14 +92,14 @@ narrow (Some (negsuc k)) n e = chosen (nat_lt k (2 ^ 31)) refl e
     chosen false t h = absurd (let wrong : ◌≡◌ {A = Option ℤ} None (Some n) = h in cc)
 
 -- a command alone
-alone : (w : Word) (ws : List Word) (x c : Command) → spelled x ≡ w ∷ [] → HasRoom x → formed (Some (Alone x)) ws ≡ Ok c → (w ∷ ws ≡ spelled c) × HasRoom c
+alone : (w : Word) (ws : List Word) (x c : PhaserCommand) → spelled x ≡ w ∷ [] → HasRoom x → formed (Some (Alone x)) ws ≡ Ok c → (w ∷ ws ≡ spelled c) × HasRoom c
 alone w [] x c s r h =
     let same : x ≡ c = cc in
-    let P : Command → Type 0 = λ y. (w ∷ [] ≡ spelled y) × HasRoom y in
+    let P : PhaserCommand → Type 0 = λ y. (w ∷ [] ≡ spelled y) × HasRoom y in
     subst P same (sym s, r)
-alone w (v ∷ ws) x c s r h = absurd (let wrong : ◌≡◌ {A = Result Command Code} (Err BadLine) (Ok c) = h in cc)
+alone w (v ∷ ws) x c s r h = absurd (let wrong : ◌≡◌ {A = Result PhaserCommand Code} (Err BadLine) (Ok c) = h in cc)
 
-refused : (c : Command) → ◌≡◌ {A = Result Command Code} (Err BadLine) (Ok c) → {A : Type 0} → A
+refused : (c : PhaserCommand) → ◌≡◌ {A = Result PhaserCommand Code} (Err BadLine) (Ok c) → {A : Type 0} → A
 refused c e = absurd cc
 
 -- no command begins with a word of no bytes
@@ -107,7 +107,7 @@ nothing : (w : Word) (f : Form) → w ≡ [] → form_of w ≡ Some f → {A : T
 nothing w f e t = absurd (let wrong : ◌≡◌ {A = Option Form} None (Some f) = ap form_of (sym e) ∙ t in cc)
 
 -- what a form and the words behind it say
-said : (w : Word) (ws : List Word) (f : Form) (c : Command) → w ≡ first_word f → form_of w ≡ Some f → formed (Some f) ws ≡ Ok c → (w ∷ ws ≡ spelled c) × HasRoom c
+said : (w : Word) (ws : List Word) (f : Form) (c : PhaserCommand) → w ≡ first_word f → form_of w ≡ Some f → formed (Some f) ws ≡ Ok c → (w ∷ ws ≡ spelled c) × HasRoom c
 said w ws (Alone (Call call.Register)) c e t h = alone w ws (Call call.Register) c (ap (λ (v : Word). v ∷ []) (sym e)) tt h
 said w ws (Alone (Call (call.Bulk n))) c e t h = nothing w (Alone (Call (call.Bulk n))) e t
 said w ws (Alone (Call call.Arrive)) c e t h = alone w ws (Call call.Arrive) c (ap (λ (v : Word). v ∷ []) (sym e)) tt h
@@ -119,7 +119,7 @@ said w [] Bulk c e t h = refused c h
 said w (v ∷ []) Bulk c e t h =
     let number = numbered (number_of v) (λ n. Call (call.Bulk n)) c h in
     let text = numbers_law.1 v number.0 number.1 in
-    let P : Command → Type 0 = λ y. (w ∷ v ∷ [] ≡ spelled y) × HasRoom y in
+    let P : PhaserCommand → Type 0 = λ y. (w ∷ v ∷ [] ≡ spelled y) × HasRoom y in
     subst P number.2 (ap (λ (k : Word). k ∷ v ∷ []) e ∙ ap (λ (k : Word). codes "bulk" ∷ k ∷ []) text.0, text.1)
 said w (v ∷ u ∷ ws) Bulk c e t h = refused c h
 said w [] Await c e t h = refused c h
@@ -127,16 +127,16 @@ said w (v ∷ []) Await c e t h =
     let number = numbered (of_32_bits (number_of v)) (λ n. Call (call.Await n)) c h in
     let small = narrow (number_of v) number.0 number.1 in
     let text = numbers_law.1 v number.0 small.0 in
-    let P : Command → Type 0 = λ y. (w ∷ v ∷ [] ≡ spelled y) × HasRoom y in
+    let P : PhaserCommand → Type 0 = λ y. (w ∷ v ∷ [] ≡ spelled y) × HasRoom y in
     subst P number.2 (ap (λ (k : Word). k ∷ v ∷ []) e ∙ ap (λ (k : Word). codes "await" ∷ k ∷ []) text.0, small.1)
 said w (v ∷ u ∷ ws) Await c e t h = refused c h
 
-by_form : (w : Word) (ws : List Word) (o : Option Form) (c : Command) → form_of w ≡ o → formed o ws ≡ Ok c → (w ∷ ws ≡ spelled c) × HasRoom c
-by_form w ws None c t h = absurd (let wrong : ◌≡◌ {A = Result Command Code} (Err UnknownLine) (Ok c) = h in cc)
+by_form : (w : Word) (ws : List Word) (o : Option Form) (c : PhaserCommand) → form_of w ≡ o → formed o ws ≡ Ok c → (w ∷ ws ≡ spelled c) × HasRoom c
+by_form w ws None c t h = absurd (let wrong : ◌≡◌ {A = Result PhaserCommand Code} (Err UnknownLine) (Ok c) = h in cc)
 by_form w ws (Some f) c t h = said w ws f c (form_said w f t) t h
 
-written : (words : List Word) (c : Command) → command_of words ≡ Ok c → (words ≡ spelled c) × HasRoom c
-written [] c h = absurd (let wrong : ◌≡◌ {A = Result Command Code} (Err UnknownLine) (Ok c) = h in cc)
+written : (words : List Word) (c : PhaserCommand) → command_of words ≡ Ok c → (words ≡ spelled c) × HasRoom c
+written [] c h = absurd (let wrong : ◌≡◌ {A = Result PhaserCommand Code} (Err UnknownLine) (Ok c) = h in cc)
 written (w ∷ ws) c h = by_form w ws (form_of w) c refl h
 
 pub spelled_law : CommandsAreSpelled

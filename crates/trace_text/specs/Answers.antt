@@ -1,5 +1,5 @@
 -- What a trace prints (own), over the flat phaser with an advance at once where it is due.
-use Rattle.std.specs.Prelude.{ℕ, Bool, nat_le, if◌then◌else◌, List, [], ◌∷◌, ◌++◌, Option, None, Some, ℤ, pos, negsuc, codes, decimal}
+use Rattle.std.specs.Prelude.{ℕ, Bool, nat_le, if◌then◌else◌, List, [], ◌++◌, Option, None, Some, ℤ, pos, negsuc, codes, decimal}
 use Rattle.std.specs.Fmt.{signed_decimal}
 use Rattle.advance_rule.specs.declared.CountPlan.{CountPlan}
 use Rattle.flat_phaser.specs.Flat.{Flat, registered, unarrived, shown}
@@ -10,9 +10,12 @@ use Rattle.phaser_one.specs.declared.call.Reply.TheVariants.{Number, Waiting, Re
 use Rattle.phaser_one.specs.declared.call.Advance.{Advance}
 use Rattle.phaser_one.specs.Calls.{answer, after, opened}
 use Rattle.phaser_one.specs.Runs.{advance_of}
-use Rattle.trace_text.specs.declared.words.Command.{Command}
-use Rattle.trace_text.specs.declared.words.Command.TheVariants.{Call, Show}
-use Rattle.trace_text.specs.Trace.{Asked}
+use Rattle.trace_text.specs.declared.words.PhaserCommand.{PhaserCommand}
+use Rattle.trace_text.specs.declared.words.PhaserCommand.TheVariants.{Call, Show}
+use Rattle.trace_text.specs.Lines.{advance_line}
+use Rattle.trace_text.specs.Runs.{run_text}
+use Rattle.trace_text.specs.Trace.{Asked, AsksPhaser, AsksTree}
+use Rattle.trace_text.specs.TreeAnswers.{tree_opened_text}
 
 abbrev pub fault_text : OneFault → List ℕ
 fault_text TooMany = codes "refused 1 TooMany\n"
@@ -25,10 +28,6 @@ reply_text (Number n) = signed_decimal n ++ codes "\n"
 reply_text Waiting = codes "waiting\n"
 reply_text (Refused fault) = fault_text fault
 
--- the line of an advance: the phase that ends, and the parties
-abbrev pub advance_line : ℕ → ℕ → List ℕ
-advance_line phase parties = codes "advance " ++ decimal phase ++ codes " parties " ++ decimal parties ++ codes "\n"
-
 abbrev pub advance_text : Option Advance → List ℕ
 advance_text None = []
 advance_text (Some a) = advance_line a.phase a.parties
@@ -39,22 +38,20 @@ show_numbers phase parties unarrived ended =
     ++ codes " unarrived " ++ decimal unarrived ++ (if ended then codes " ended yes\n" else codes " ended no\n")
 
 -- what a command prints, and the phaser after it
-abbrev pub command_text : Command → Flat → List ℕ
+abbrev pub command_text : PhaserCommand → Flat → List ℕ
 command_text (Call call) f = advance_text (advance_of call f) ++ reply_text (answer call f)
 command_text Show f = show_numbers (shown f) (registered f) (unarrived f) f.ended
 
-abbrev pub command_after : CountPlan → Command → Flat → Flat
+abbrev pub command_after : CountPlan → PhaserCommand → Flat → Flat
 command_after plan (Call call) f = after plan call f
 command_after plan Show f = f
 
-abbrev pub run_text : CountPlan → List Command → Flat → List ℕ
-run_text plan [] f = []
-run_text plan (c ∷ cs) f = command_text c f ++ run_text plan cs (command_after plan c f)
-
 -- so many parties in this phase, or the refusal of as many
-abbrev pub opened_text : CountPlan → List Command → ℕ → ℤ → List ℕ
+abbrev pub opened_text : CountPlan → List PhaserCommand → ℕ → ℤ → List ℕ
 opened_text plan commands phase (negsuc n) = fault_text TooMany
-opened_text plan commands phase (pos n) = if nat_le n 65535 then run_text plan commands (opened n phase) else fault_text TooMany
+opened_text plan commands phase (pos n) =
+    if nat_le n 65535 then run_text command_text (command_after plan) commands (opened n phase) else fault_text TooMany
 
 unfoldable pub output_of : Asked → List ℕ
-output_of asked = opened_text asked.head.plan asked.commands asked.head.phase asked.head.parties
+output_of (AsksPhaser head commands) = opened_text head.plan commands head.phase head.parties
+output_of (AsksTree head commands) = tree_opened_text head commands

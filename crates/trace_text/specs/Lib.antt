@@ -1,6 +1,10 @@
 pub mod Words
+pub mod TreeWords
 pub mod Parts
 pub mod Trace
+pub mod Lines
+pub mod Runs
+pub mod TreeAnswers
 pub mod Answers
 pub mod Gives
 pub mod Views

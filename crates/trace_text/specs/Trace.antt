@@ -1,12 +1,15 @@
 -- What a text asks for, or the first place where it asks for nothing (own).
-use Rattle.std.specs.Prelude.{ℕ, ◌+◌, nat_lt, if◌then◌else◌, List, [], ◌∷◌, ◌++◌, length, Option, None, Some, Result, Ok, Err}
+use Rattle.std.specs.Prelude.{ℕ, ◌+◌, Bool, false, not, ◌&&◌, ◌||◌, nat_lt, if◌then◌else◌, List, [], ◌∷◌, ◌++◌, length, Option, None, Some, Result, Ok, Err, codes}
+use Rattle.std.specs.Str.{bytes_eq}
 use Rattle.text_lines.specs.declared.refusal.Code.{Code}
 use Rattle.text_lines.specs.declared.refusal.Code.TheVariants.{TooLong, BadByte, BadHeader, TooMany}
 use Rattle.text_lines.specs.declared.refusal.Refusal.{Refusal}
 use Rattle.text_lines.specs.Text.{lines_of, words_of, is_skipped, bad_byte_line}
-use Rattle.trace_text.specs.declared.words.Command.{Command}
-use Rattle.trace_text.specs.declared.words.Head.{Head}
-use Rattle.trace_text.specs.Words.{head_of, command_of}
+use Rattle.trace_text.specs.declared.words.PhaserCommand.{PhaserCommand}
+use Rattle.trace_text.specs.declared.words.PhaserHead.{PhaserHead}
+use Rattle.trace_text.specs.declared.tree_words.TreeCommand.{TreeCommand}
+use Rattle.trace_text.specs.Words.{Word, head_words, numbered, command_of}
+use Rattle.trace_text.specs.TreeWords.{TreeAsked, tree_head_words, tree_numbered, tree_command_of, brings_token, made}
 
 infixl 10 ◌>>=◌
 abbrev pub ◌>>=◌ : {A B E : Type 0} → Result A E → (A → Result B E) → Result B E
@@ -18,32 +21,54 @@ abbrev pub at : {A : Type 0} → ℕ → Result A Code → Result A Refusal
 at line (Ok x) = Ok x
 at line (Err code) = Err (record { line = line; code = code })
 
+-- what a head asks for: a phaser or a tree
+pub data Head : Type 0 where
+  OfPhaser : PhaserHead → Head
+  OfTree : TreeAsked → Head
+
+abbrev pub head_of : List Word → Result Head Code
+head_of [] = Err BadHeader
+head_of (w ∷ ws) =
+    if bytes_eq w (codes "phaser") then made OfPhaser (numbered (head_words ws))
+    else if bytes_eq w (codes "tree") then made OfTree (tree_numbered (tree_head_words ws))
+    else Err BadHeader
+
 -- a head, and the commands below it
-pub record Asked : Type 0 where
-  pub head : Head
-  pub commands : List Command
+pub data Asked : Type 0 where
+  AsksPhaser : PhaserHead → List PhaserCommand → Asked
+  AsksTree : TreeAsked → List TreeCommand → Asked
 
--- at most 4096 commands
-abbrev pub counted : ℕ → Result Command Code → Result Command Code
-counted count (Err code) = Err code
-counted count (Ok c) = if nat_lt count 4096 then Ok c else Err TooMany
+-- no command of a phaser brings a token in
+abbrev pub brings_none : PhaserCommand → Bool
+brings_none c = false
 
--- the commands of the lines from this number on, behind so many commands
-abbrev pub commands_from : ℕ → ℕ → List (List ℕ) → Result (List Command) Refusal
-commands_from line count [] = Ok []
-commands_from line count (l ∷ ls) =
-    if is_skipped (words_of l) then commands_from (line + 1) count ls
-    else at line (counted count (command_of (words_of l))) >>= λ c. commands_from (line + 1) (count + 1) ls >>= λ cs. Ok (c ∷ cs)
+-- at most 4096 commands, of which at most 256 bring a token in, behind so many of each
+abbrev pub counted : {C : Type 0} → (C → Bool) → ℕ → ℕ → Result C Code → Result C Code
+counted brings count tokens (Err code) = Err code
+counted brings count tokens (Ok c) = if nat_lt count 4096 && (not (brings c) || nat_lt tokens 256) then Ok c else Err TooMany
 
-abbrev pub with_head : Head → Result (List Command) Refusal → Result Asked Refusal
-with_head head read = read >>= λ commands. Ok (record { head = head; commands = commands })
+abbrev pub tokens_with : {C : Type 0} → (C → Bool) → ℕ → C → ℕ
+tokens_with brings tokens c = if brings c then tokens + 1 else tokens
+
+-- The commands of the lines from this number on, behind so many commands and tokens; what the words of a line say is given.
+abbrev pub commands_from : {C : Type 0} → (List Word → Result C Code) → (C → Bool) → ℕ → ℕ → ℕ → List (List ℕ) → Result (List C) Refusal
+commands_from says brings line count tokens [] = Ok []
+commands_from says brings line count tokens (l ∷ ls) =
+    if is_skipped (words_of l) then commands_from says brings (line + 1) count tokens ls
+    else at line (counted brings count tokens (says (words_of l))) >>= λ c.
+    commands_from says brings (line + 1) (count + 1) (tokens_with brings tokens c) ls >>= λ cs. Ok (c ∷ cs)
+
+-- what the lines below a head ask for
+abbrev pub below : Head → ℕ → List (List ℕ) → Result Asked Refusal
+below (OfPhaser head) line ls = commands_from command_of brings_none line 0 0 ls >>= λ cs. Ok (AsksPhaser head cs)
+below (OfTree head) line ls = commands_from tree_command_of brings_token line 0 0 ls >>= λ cs. Ok (AsksTree head cs)
 
 -- the head and the commands of the lines from this number on
 abbrev pub asked_from : ℕ → List (List ℕ) → Result Asked Refusal
 asked_from line [] = Err (record { line = line; code = BadHeader })
 asked_from line (l ∷ ls) =
     if is_skipped (words_of l) then asked_from (line + 1) ls
-    else at line (head_of (words_of l)) >>= λ head. with_head head (commands_from (line + 1) 0 ls)
+    else at line (head_of (words_of l)) >>= λ head. below head (line + 1) ls
 
 abbrev pub unless_bad : Option ℕ → Result Asked Refusal → Result Asked Refusal
 unless_bad None read = read
@@ -56,5 +81,5 @@ asked_of text =
     else unless_bad (bad_byte_line 1 text) (asked_from 1 (lines_of text))
 
 -- commands in front of those that are read
-abbrev pub with_front : List Command → Result (List Command) Refusal → Result (List Command) Refusal
+abbrev pub with_front : {C : Type 0} → List C → Result (List C) Refusal → Result (List C) Refusal
 with_front front read = read >>= λ cs. Ok (front ++ cs)

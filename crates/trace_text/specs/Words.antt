@@ -2,12 +2,12 @@
 use Rattle.std.specs.Prelude.{ℕ, ◌^◌, Bool, false, ◌||◌, ◌&&◌, nat_le, nat_lt, ◌==◌, if◌then◌else◌, List, [], ◌∷◌, Option, None, Some, option_and_then, option_map, Result, Ok, Err, ℤ, pos, negsuc, codes}
 use Rattle.std.specs.Str.{bytes_eq}
 use Rattle.text_lines.specs.declared.refusal.Code.{Code}
-use Rattle.text_lines.specs.declared.refusal.Code.TheVariants.{BadHeader, UnknownLine, BadNumber, BadLine}
+use Rattle.text_lines.specs.declared.refusal.Code.TheVariants.{UnknownLine, BadNumber, BadLine}
 use Rattle.text_lines.specs.Number.{number_of}
 use Rattle.phaser_one.specs.declared.call.Call.TheVariants as call
-use Rattle.trace_text.specs.declared.words.Command.{Command}
-use Rattle.trace_text.specs.declared.words.Command.TheVariants.{Call, Show}
-use Rattle.trace_text.specs.declared.words.Head.{Head}
+use Rattle.trace_text.specs.declared.words.PhaserCommand.{PhaserCommand}
+use Rattle.trace_text.specs.declared.words.PhaserCommand.TheVariants.{Call, Show}
+use Rattle.trace_text.specs.declared.words.PhaserHead.{PhaserHead}
 use Rattle.trace_text.specs.declared.words.Form.{Form}
 use Rattle.trace_text.specs.declared.words.Form.TheVariants.{Alone, Bulk, Await}
 
@@ -76,7 +76,7 @@ number_if most None = Some None
 number_if most (Some w) = option_map Some (up_to most (number_of w))
 
 -- The head that its words give: any number of parties, a phase or 0, the fewest parties with which it goes on or 1, and the phase after which it ends.
-abbrev pub head_numbers : HeadWords → Option Head
+abbrev pub head_numbers : HeadWords → Option PhaserHead
 head_numbers h =
     option_and_then (λ parties. option_and_then (λ phase. option_and_then (λ least. option_and_then (λ at.
     Some (record { parties = parties; phase = phase; plan = record { least = least; at = at } }))
@@ -90,13 +90,9 @@ or_else code None = Err code
 or_else code (Some a) = Ok a
 
 -- words too few, too many or misplaced are looked for before numbers
-abbrev pub numbered : Option HeadWords → Result Head Code
+abbrev pub numbered : Option HeadWords → Result PhaserHead Code
 numbered None = Err BadLine
 numbered (Some h) = or_else BadNumber (head_numbers h)
-
-abbrev pub head_of : List Word → Result Head Code
-head_of [] = Err BadHeader
-head_of (w ∷ ws) = if bytes_eq w (codes "phaser") then numbered (head_words ws) else Err BadHeader
 
 -- what the first word of a command asks for: a command alone, or one with a number
 abbrev pub form_of : Word → Option Form
@@ -110,7 +106,7 @@ form_of w =
     else if bytes_eq w (codes "show") then Some (Alone Show)
     else None
 
-abbrev pub formed : Option Form → List Word → Result Command Code
+abbrev pub formed : Option Form → List Word → Result PhaserCommand Code
 formed None ws = Err UnknownLine
 formed (Some (Alone c)) [] = Ok c
 formed (Some (Alone c)) (w ∷ ws) = Err BadLine
@@ -121,6 +117,6 @@ formed (Some Await) [] = Err BadLine
 formed (Some Await) (w ∷ []) = or_else BadNumber (option_map (λ n. Call (call.Await n)) (of_32_bits (number_of w)))
 formed (Some Await) (w ∷ v ∷ ws) = Err BadLine
 
-abbrev pub command_of : List Word → Result Command Code
+abbrev pub command_of : List Word → Result PhaserCommand Code
 command_of [] = Err UnknownLine
 command_of (w ∷ ws) = formed (form_of w) ws

@@ -18,15 +18,15 @@ pub(crate) fn fault_line(fault: OneFault) -> &'static str
     }
 }
 
-// Puts the text of a number behind what is there.
-fn push_number<I: Integer>(out: &mut Vec<u8>, n: I) -> Result<(), AllocError>
+/// Puts the text of a number behind what is there.
+pub(crate) fn push_number<I: Integer>(out: &mut Vec<u8>, n: I) -> Result<(), AllocError>
     ensures { OnOk result (out.new.items ≡ out.old.items ++ I.text n) }
 {
     out.extend_from_slice(Buffer::new().format(n).as_bytes())
 }
 
-// Puts a name and a number behind what is there.
-fn push_field<I: Integer>(out: &mut Vec<u8>, name: &[u8], n: I) -> Result<(), AllocError>
+/// Puts a name and a number behind what is there.
+pub(crate) fn push_field<I: Integer>(out: &mut Vec<u8>, name: &[u8], n: I) -> Result<(), AllocError>
     ensures { OnOk result (out.new.items ≡ out.old.items ++ name.now ++ I.text n) }
 {
     out.extend_from_slice(name)?;

@@ -1,24 +1,33 @@
 //! Traces run on a phaser.
-ghost use Rattle.std.specs.Prelude.{◌≡◌, ◌≤◌, [], ◌++◌, ℤ, IfOk, OnOk, length};
+ghost use Rattle.std.specs.Prelude.{◌≡◌, ◌≤◌, [], ◌++◌, ℤ, All, IfOk, OnOk, length};
 ghost use Rattle.std.specs.Io.KnownBytes.{Appends};
 ghost use Rattle.advance_rule.specs.Plan.{count_ends};
 ghost use Rattle.advance_rule.specs.Stored.{Answers};
 ghost use Rattle.flat_phaser.specs.Flat.{Flat};
 ghost use Rattle.flat_phaser.specs.Alike.{IsAlike};
 ghost use Rattle.phaser_one.specs.Seen.{flat_of};
-ghost use Rattle.trace_text.specs.Answers.{command_text, command_after, run_text, opened_text};
+ghost use Rattle.trace_text.specs.Answers.{command_text, command_after, opened_text};
+ghost use Rattle.trace_text.specs.Runs.{run_text};
+ghost use Rattle.trace_text.specs.TreeAnswers.{tree_text, tree_after, tree_opened_text};
+ghost use Rattle.trace_text.specs.TreeWords.{InRange};
+ghost use Rattle.trace_text.specs.Parts.{tree_asked};
 ghost use Rattle.phase_records.specs.Device.{AppendsBeginning};
 ghost use Rattle.trace_text.specs.Outcome.{WriteCause, Writes, Moves, ReadsCause, Traces};
 
 use crate::fault::TraceFault;
 use crate::print::{fault_line, push_advance, push_reply, push_show};
-use crate::trace::read_trace;
-use crate::words::{Command, Head};
+use crate::trace::{Trace, read_trace};
+use crate::tree::push_tree_command;
+use crate::tree_print::shape_fault_line;
+use crate::tree_words::{TreeCommand, TreeHead};
+use crate::words::{PhaserCommand, PhaserHead};
 use advance_rule::StoredCount;
 use phase_records::{CountedRead, CountedWrite, ReadFault, read_all, write_all};
 use phaser_one::PhaserOne;
 use std::alloc::{AllocError, Global};
 use text_lines::{Code, Refusal};
+use tier_core::tree::Core;
+use tier_shape::{Shape, ShapeFault};
 
 // So many bytes of answers are written at once.
 const PIECE: usize = 8192;
@@ -27,7 +36,7 @@ const PIECE: usize = 8192;
 fn push_command<F: Fn(u32, u32) -> bool>(
     out: &mut Vec<u8>,
     phaser: &mut PhaserOne<F>,
-    command: Command,
+    command: PhaserCommand,
 ) -> Result<(), AllocError>
     requires { Answers (F.pre phaser.old.rule.closure) (F.post phaser.old.rule.closure) (count_ends phaser.old.rule.plan) }
     ensures text { OnOk result ((f : Flat) → IsAlike f (flat_of phaser.old.word) → out.new.items ≡ out.old.items ++ command_text command f) }
@@ -35,12 +44,12 @@ fn push_command<F: Fn(u32, u32) -> bool>(
     ensures rule { phaser.new.rule ≡ phaser.old.rule }
 {
     match command {
-        Command::Call(call) => {
+        PhaserCommand::Call(call) => {
             let (reply, advance) = phaser.call_told(call);
             push_advance(out, advance)?;
             push_reply(out, reply)
         }
-        Command::Show => push_show(
+        PhaserCommand::Show => push_show(
             out,
             phaser.phase(),
             phaser.registered(),
@@ -70,7 +79,7 @@ fn run_command<F: Fn(u32, u32) -> bool, W: CountedWrite>(
     writer: &mut W,
     out: &mut Vec<u8>,
     phaser: &mut PhaserOne<F>,
-    command: Command,
+    command: PhaserCommand,
 ) -> Result<(), TraceFault>
     requires { Answers (F.pre phaser.old.rule.closure) (F.post phaser.old.rule.closure) (count_ends phaser.old.rule.plan) }
     ensures moves { (f : Flat) → IsAlike f (flat_of phaser.old.word)
@@ -93,11 +102,11 @@ fn run_commands<F: Fn(u32, u32) -> bool, W: CountedWrite>(
     alloc: Global,
     writer: &mut W,
     phaser: &mut PhaserOne<F>,
-    commands: &[Command],
+    commands: &[PhaserCommand],
 ) -> Result<(), TraceFault>
     requires { Answers (F.pre phaser.old.rule.closure) (F.post phaser.old.rule.closure) (count_ends phaser.old.rule.plan) }
     ensures writes { (f : Flat) → IsAlike f (flat_of phaser.old.word)
-        → Writes (W.contents writer.old) (W.contents writer.new) result (run_text phaser.old.rule.plan commands.now f) }
+        → Writes (W.contents writer.old) (W.contents writer.new) result (run_text command_text (command_after phaser.old.rule.plan) commands.now f) }
     ensures failures { WriteCause (W.failures writer.old) (W.failures writer.new) result }
 {
     let mut out = Vec::new(alloc);
@@ -114,9 +123,9 @@ fn run_commands<F: Fn(u32, u32) -> bool, W: CountedWrite>(
 fn run_opened<F: Fn(u32, u32) -> bool + Drop, W: CountedWrite>(
     alloc: Global,
     writer: &mut W,
-    head: Head,
+    head: PhaserHead,
     rule: StoredCount<F>,
-    commands: &[Command],
+    commands: &[PhaserCommand],
 ) -> Result<(), TraceFault>
     requires answers { Answers (F.pre rule.closure) (F.post rule.closure) (count_ends rule.plan) }
     requires plan { rule.plan ≡ head.plan }
@@ -130,6 +139,76 @@ fn run_opened<F: Fn(u32, u32) -> bool + Drop, W: CountedWrite>(
             Ok(()) => Ok(()),
             Err(_) => Err(TraceFault::Write),
         },
+    }
+}
+
+// Does a command of a tree, and writes what waits to be written where it is a piece.
+fn run_tree_command<W: CountedWrite>(
+    writer: &mut W,
+    out: &mut Vec<u8>,
+    core: &mut Core,
+    command: TreeCommand,
+) -> Result<(), TraceFault>
+    requires { InRange command }
+    ensures moves { Moves (W.contents writer.old) (W.contents writer.new) out.old.items out.new.items result (tree_text command core.old) }
+    ensures after { OnOk result (core.new ≡ tree_after command core.old) }
+    ensures failures { WriteCause (W.failures writer.old) (W.failures writer.new) result }
+{
+    if push_tree_command(out, core, command).is_err() {
+        return Err(TraceFault::Memory);
+    }
+    if out.len() < PIECE {
+        return Ok(());
+    }
+    flush(writer, out)
+}
+
+// Does the commands of a tree in turn.
+fn run_tree_commands<W: CountedWrite>(
+    alloc: Global,
+    writer: &mut W,
+    core: &mut Core,
+    commands: &[TreeCommand],
+) -> Result<(), TraceFault>
+    requires { All InRange commands.now }
+    ensures writes { Writes (W.contents writer.old) (W.contents writer.new) result (run_text tree_text tree_after commands.now core.old) }
+    ensures failures { WriteCause (W.failures writer.old) (W.failures writer.new) result }
+{
+    let mut lines = Vec::new(alloc);
+    for command in commands {
+        match run_tree_command(writer, &mut lines, core, *command) {
+            Ok(()) => {}
+            Err(fault) => return Err(fault),
+        }
+    }
+    flush(writer, &mut lines)
+}
+
+// Runs the commands on the tree of a head.
+fn run_tree<W: CountedWrite>(
+    alloc: Global,
+    writer: &mut W,
+    head: TreeHead<'_>,
+    commands: &[TreeCommand],
+) -> Result<(), TraceFault>
+    requires phase { head.phase ≤ 2147483647 }
+    requires range { All InRange commands.now }
+    ensures writes { Writes (W.contents writer.old) (W.contents writer.new) result (tree_opened_text (tree_asked head.entry) commands.now) }
+    ensures failures { WriteCause (W.failures writer.old) (W.failures writer.new) result }
+{
+    let shape = match Shape::from_width_bytes(alloc, head.widths) {
+        Ok(shape) => shape,
+        Err(ShapeFault::Memory(_)) => return Err(TraceFault::Memory),
+        Err(fault) => {
+            return match write_all(writer, shape_fault_line(&fault).as_bytes()) {
+                Ok(()) => Ok(()),
+                Err(_) => Err(TraceFault::Write),
+            };
+        }
+    };
+    match Core::new(alloc, shape, head.phase, head.plan) {
+        Ok(mut core) => run_tree_commands(alloc, writer, &mut core, commands),
+        Err(_) => Err(TraceFault::Memory),
     }
 }
 
@@ -157,8 +236,12 @@ pub fn run_trace<R: CountedRead, W: CountedWrite>(
         Ok(trace) => trace,
         Err(fault) => return Err(fault),
     };
-    let head = trace.head;
-    let plan = head.plan;
-    let rule = StoredCount::new(|phase: u32, count: u32| plan.ends(phase, count), plan);
-    run_opened(alloc, writer, head, rule, &trace.commands)
+    match trace {
+        Trace::Phaser(head, commands) => {
+            let plan = head.plan;
+            let rule = StoredCount::new(|phase: u32, count: u32| plan.ends(phase, count), plan);
+            run_opened(alloc, writer, head, rule, &commands)
+        }
+        Trace::Tree(head, commands) => run_tree(alloc, writer, head, &commands),
+    }
 }

@@ -1,30 +1,33 @@
 //! What a text asks for.
-ghost use Rattle.std.specs.Prelude.{◌≡◌, ◌+◌, ◌≤◌, ◌<◌, ◌^◌, length, MatchResult, IfOk};
+ghost use Rattle.std.specs.Prelude.{◌≡◌, ◌+◌, ◌≤◌, ◌<◌, ◌^◌, not, ◌&&◌, ◌||◌, nat_lt, length, MatchResult, IfOk, All};
 ghost use Rattle.text_lines.specs.Text.{lines_of};
 ghost use Rattle.trace_text.specs.Trace as spec;
 ghost use Rattle.trace_text.specs.Gives.{Gives};
-ghost use Rattle.trace_text.specs.Views.{asked};
+ghost use Rattle.trace_text.specs.Views.{asked, head_in, first_phase, opening_phase, commands_fit};
 
+use crate::command::Command;
 use crate::fault::TraceFault;
-use crate::words::{Command, Head, read_command, read_head};
+use crate::head::{Head, read_head};
+use crate::tree_words::{TreeCommand, TreeHead};
+use crate::words::{PhaserCommand, PhaserHead};
 use std::alloc::Global;
 use text_lines::{Code, Refusal, bad_byte_line, split_line};
 
 /// What a text asks for.
 #[derive(Drop)]
-pub(crate) struct Trace {
-    pub head: Head,
-    pub commands: Vec<Command>,
+pub(crate) enum Trace<'a> {
+    Phaser(PhaserHead, Vec<PhaserCommand>),
+    Tree(TreeHead<'a>, Vec<TreeCommand>),
 }
 
 // The head, the number of the line after it, and the text from there on.
-fn split_head(text: &[u8]) -> Result<(Head, usize, &[u8]), Refusal>
+fn split_head(text: &[u8]) -> Result<(Head<'_>, usize, &[u8]), Refusal>
     requires { length text.now ≤ 1048576 }
     ensures head { MatchResult result
-        (λ h. spec.asked_from 1 (lines_of text.now) ≡ spec.with_head h.0 (spec.commands_from h.1 0 (lines_of h.2.now)))
+        (λ h. spec.asked_from 1 (lines_of text.now) ≡ spec.below (head_in h.0) h.1 (lines_of h.2.now))
         (λ r. spec.asked_from 1 (lines_of text.now) ≡ Err r) }
     ensures lines { IfOk result (λ h. h.1 + length h.2.now ≤ length text.now + 1) }
-    ensures phase { IfOk result (λ h. h.0.phase ≤ 2147483647) }
+    ensures phase { IfOk result (λ h. first_phase h.0 ≤ 2147483647) }
 {
     let mut line = 1;
     let mut rest = text;
@@ -45,25 +48,40 @@ fn split_head(text: &[u8]) -> Result<(Head, usize, &[u8]), Refusal>
 /// The most commands of a trace.
 pub(crate) const MOST_COMMANDS: usize = 4096;
 
+/// The most tokens of a trace.
+pub(crate) const MOST_TOKENS: usize = 256;
+
+// Whether one more command is one too many, behind so many commands and tokens.
+fn is_too_many<C: Command>(count: usize, tokens: usize, command: C) -> bool
+    ensures { result ≡ not (nat_lt count 4096 && (not (C.brings command) || nat_lt tokens 256)) }
+{
+    count >= MOST_COMMANDS || (command.brings_token() && tokens >= MOST_TOKENS)
+}
+
 // The commands of a text that begins in this line.
-fn read_commands(alloc: Global, text: &[u8], first: usize) -> Result<Vec<Command>, TraceFault>
+fn read_commands<C: Command>(alloc: Global, text: &[u8], first: usize) -> Result<Vec<C>, TraceFault>
     requires { first + length text.now < 2 ^ 32 }
-    ensures { Gives (λ v. v.items) result (spec.commands_from first 0 (lines_of text.now)) }
+    ensures value { Gives (λ v. v.items) result (spec.commands_from C.says C.brings first 0 0 (lines_of text.now)) }
+    ensures range { IfOk result (λ v. All C.fits v.items) }
 {
     let mut commands = Vec::new(alloc);
+    let mut tokens = 0;
     let mut line = first;
     let mut rest = text;
     while let Some((this, after)) = split_line(rest) {
         rest = after;
-        match read_command(this) {
+        match C::read(this) {
             Ok(None) => {}
-            Ok(Some(_)) if commands.len() >= MOST_COMMANDS => {
+            Ok(Some(command)) if is_too_many(commands.len(), tokens, command) => {
                 let code = Code::TooMany;
                 return Err(TraceFault::Text(Refusal { line, code }));
             }
             Ok(Some(command)) => {
                 if commands.push(command).is_err() {
                     return Err(TraceFault::Memory);
+                }
+                if command.brings_token() {
+                    tokens += 1;
                 }
             }
             Err(code) => return Err(TraceFault::Text(Refusal { line, code })),
@@ -75,10 +93,11 @@ fn read_commands(alloc: Global, text: &[u8], first: usize) -> Result<Vec<Command
 
 /// Reads a whole text.
 #[tactic(auto, unfolding(crate::specs::Trace::asked_of))]
-pub(crate) fn read_trace(alloc: Global, text: &[u8]) -> Result<Trace, TraceFault>
+pub(crate) fn read_trace(alloc: Global, text: &[u8]) -> Result<Trace<'_>, TraceFault>
     requires { length text.now ≤ 1048576 }
     ensures asked { Gives asked result (spec.asked_of text.now) }
-    ensures phase { IfOk result (λ t. t.head.phase ≤ 2147483647) }
+    ensures phase { IfOk result (λ t. opening_phase t ≤ 2147483647) }
+    ensures range { IfOk result commands_fit }
 {
     if let Some(line) = bad_byte_line(text) {
         let code = Code::BadByte;
@@ -88,6 +107,8 @@ pub(crate) fn read_trace(alloc: Global, text: &[u8]) -> Result<Trace, TraceFault
         Ok(head) => head,
         Err(refusal) => return Err(TraceFault::Text(refusal)),
     };
-    let commands = read_commands(alloc, rest, line)?;
-    Ok(Trace { head, commands })
+    match head {
+        Head::Phaser(head) => Ok(Trace::Phaser(head, read_commands(alloc, rest, line)?)),
+        Head::Tree(head) => Ok(Trace::Tree(head, read_commands(alloc, rest, line)?)),
+    }
 }

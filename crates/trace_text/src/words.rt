@@ -13,7 +13,7 @@ use text_lines::{Code, first_word, number, split_word};
 
 /// A command of a trace.
 #[derive(Clone, Copy, Debug, PartialEq, Eq)]
-pub enum Command {
+pub enum PhaserCommand {
     /// A call of the phaser.
     Call(Call),
     /// The phaser's numbers.
@@ -22,7 +22,7 @@ pub enum Command {
 
 /// The head of a trace: what phaser it makes.
 #[derive(Clone, Copy, Debug, PartialEq, Eq)]
-pub struct Head {
+pub struct PhaserHead {
     /// How many parties it begins with.
     pub parties: i64,
     /// The phase that it begins in.
@@ -32,7 +32,7 @@ pub struct Head {
 }
 
 // A whole number from 0 to a greatest.
-fn up_to(most: u32, word: &[u8]) -> Option<u32>
+pub(crate) fn up_to(most: u32, word: &[u8]) -> Option<u32>
     ensures value { result ≡ spec.up_to most (number_of word.now) }
     ensures small { IfSome result (λ n. n ≤ most) }
 {
@@ -52,7 +52,7 @@ fn of_32_bits(word: &[u8]) -> Option<i32>
 }
 
 // A word that begins as a number, if it comes next, and what follows.
-fn take_number(line: &[u8]) -> (Option<&[u8]>, &[u8])
+pub(crate) fn take_number(line: &[u8]) -> (Option<&[u8]>, &[u8])
     ensures { (option_copied result.0, words_of result.1.now) ≡ spec.take_number (words_of line.now) }
 {
     let Some((word, rest)) = split_word(line) else {
@@ -65,7 +65,10 @@ fn take_number(line: &[u8]) -> (Option<&[u8]>, &[u8])
 }
 
 // The word behind a keyword, if the keyword comes next, and what follows; nothing where that word lacks.
-fn take_behind<'a>(keyword: &[u8], line: &'a [u8]) -> Option<(Option<&'a [u8]>, &'a [u8])>
+pub(crate) fn take_behind<'a>(
+    keyword: &[u8],
+    line: &'a [u8],
+) -> Option<(Option<&'a [u8]>, &'a [u8])>
     ensures { MatchOption result
         (spec.take_behind keyword.now (words_of line.entry.now) ≡ None)
         (λ r. spec.take_behind keyword.now (words_of line.entry.now) ≡ Some (option_copied r.0, words_of r.1.now)) }
@@ -84,7 +87,7 @@ fn take_behind<'a>(keyword: &[u8], line: &'a [u8]) -> Option<(Option<&'a [u8]>, 
 #[derive(Clone, Copy)]
 enum Form {
     // a command alone
-    Alone(Command),
+    Alone(PhaserCommand),
     // a number of parties behind it
     Bulk,
     // a phase behind it
@@ -96,26 +99,26 @@ fn form_of(word: &[u8]) -> Option<Form>
     ensures { result ≡ spec.form_of word.now }
 {
     if word == b"register".as_slice() {
-        Some(Form::Alone(Command::Call(Call::Register)))
+        Some(Form::Alone(PhaserCommand::Call(Call::Register)))
     } else if word == b"bulk".as_slice() {
         Some(Form::Bulk)
     } else if word == b"arrive".as_slice() {
-        Some(Form::Alone(Command::Call(Call::Arrive)))
+        Some(Form::Alone(PhaserCommand::Call(Call::Arrive)))
     } else if word == b"leave".as_slice() {
-        Some(Form::Alone(Command::Call(Call::Leave)))
+        Some(Form::Alone(PhaserCommand::Call(Call::Leave)))
     } else if word == b"await".as_slice() {
         Some(Form::Await)
     } else if word == b"force".as_slice() {
-        Some(Form::Alone(Command::Call(Call::Force)))
+        Some(Form::Alone(PhaserCommand::Call(Call::Force)))
     } else if word == b"show".as_slice() {
-        Some(Form::Alone(Command::Show))
+        Some(Form::Alone(PhaserCommand::Show))
     } else {
         None
     }
 }
 
 // The only word of a line.
-fn only_word(line: &[u8]) -> Option<&[u8]>
+pub(crate) fn only_word(line: &[u8]) -> Option<&[u8]>
     ensures { MatchOption result
         ((w : spec.Word) → words_of line.now ≢ w ∷ [])
         (λ w. words_of line.now ≡ w.now ∷ []) }
@@ -128,7 +131,7 @@ fn only_word(line: &[u8]) -> Option<&[u8]>
 }
 
 // The command of this form, with what follows its first word.
-fn formed(form: Form, rest: &[u8]) -> Result<Command, Code>
+fn formed(form: Form, rest: &[u8]) -> Result<PhaserCommand, Code>
     ensures { result ≡ spec.formed (Some form) (words_of rest.now) }
 {
     match form {
@@ -139,18 +142,18 @@ fn formed(form: Form, rest: &[u8]) -> Result<Command, Code>
         Form::Bulk => {
             let word = only_word(rest).ok_or(Code::BadLine)?;
             let count = number(word).ok_or(Code::BadNumber)?;
-            Ok(Command::Call(Call::Bulk(count)))
+            Ok(PhaserCommand::Call(Call::Bulk(count)))
         }
         Form::Await => {
             let word = only_word(rest).ok_or(Code::BadLine)?;
             let phase = of_32_bits(word).ok_or(Code::BadNumber)?;
-            Ok(Command::Call(Call::Await(phase)))
+            Ok(PhaserCommand::Call(Call::Await(phase)))
         }
     }
 }
 
 /// The command of a line, or none where the line is skipped.
-pub(crate) fn read_command(line: &[u8]) -> Result<Option<Command>, Code>
+pub(crate) fn read_command(line: &[u8]) -> Result<Option<PhaserCommand>, Code>
     ensures { MatchResult result
         (λ o. MatchOption o (is_skipped (words_of line.now) ≡ true)
         (λ c. (is_skipped (words_of line.now) ≡ false) × (spec.command_of (words_of line.now) ≡ Ok c)))
@@ -199,7 +202,7 @@ fn head_words(line: &[u8]) -> Option<HeadWords<'_>>
 }
 
 // A number from 0 to a greatest that may be left out.
-fn number_or(most: u32, default: u32, word: Option<&[u8]>) -> Option<u32>
+pub(crate) fn number_or(most: u32, default: u32, word: Option<&[u8]>) -> Option<u32>
     requires { default ≤ most }
     ensures value { result ≡ spec.number_or most default (option_copied word.entry) }
     ensures small { IfSome result (λ n. n ≤ most) }
@@ -211,7 +214,7 @@ fn number_or(most: u32, default: u32, word: Option<&[u8]>) -> Option<u32>
 }
 
 // A number from 0 to a greatest, if it is there.
-fn number_if(most: u32, word: Option<&[u8]>) -> Option<Option<u32>>
+pub(crate) fn number_if(most: u32, word: Option<&[u8]>) -> Option<Option<u32>>
     ensures { result ≡ spec.number_if most (option_copied word.entry) }
 {
     match word {
@@ -221,7 +224,7 @@ fn number_if(most: u32, word: Option<&[u8]>) -> Option<Option<u32>>
 }
 
 // The head that its words give.
-fn head_numbers(words: &HeadWords<'_>) -> Option<Head>
+fn head_numbers(words: &HeadWords<'_>) -> Option<PhaserHead>
     ensures value { result ≡ spec.head_numbers (words_in words.now) }
     ensures phase { IfSome result (λ h. h.phase ≤ 2147483647) }
 {
@@ -229,32 +232,23 @@ fn head_numbers(words: &HeadWords<'_>) -> Option<Head>
     let phase = number_or(LAST_PHASE, 0, words.phase)?;
     let least = number_or(65536, 1, words.least)?;
     let at = number_if(LAST_PHASE, words.at)?;
-    Some(Head {
+    Some(PhaserHead {
         parties,
         phase,
         plan: CountPlan { least, at },
     })
 }
 
-/// The head of a line, or none where the line is skipped.
-pub(crate) fn read_head(line: &[u8]) -> Result<Option<Head>, Code>
-    ensures phase { IfOk result (λ o. IfSome o (λ h. h.phase ≤ 2147483647)) }
-    ensures value { MatchResult result
-        (λ o. MatchOption o (is_skipped (words_of line.now) ≡ true)
-        (λ h. (is_skipped (words_of line.now) ≡ false) × (spec.head_of (words_of line.now) ≡ Ok h)))
-        (λ e. (is_skipped (words_of line.now) ≡ false) × (spec.head_of (words_of line.now) ≡ Err e)) }
+/// The head that follows the first word of a line.
+pub(crate) fn read_phaser_head(line: &[u8]) -> Result<PhaserHead, Code>
+    ensures phase { IfOk result (λ h. h.phase ≤ 2147483647) }
+    ensures value { result ≡ spec.numbered (spec.head_words (words_of line.now)) }
 {
-    let Some((word, rest)) = first_word(line) else {
-        return Ok(None);
-    };
-    if word != b"phaser".as_slice() {
-        return Err(Code::BadHeader);
-    }
-    let Some(words) = head_words(rest) else {
+    let Some(words) = head_words(line) else {
         return Err(Code::BadLine);
     };
     match head_numbers(&words) {
-        Some(head) => Ok(Some(head)),
+        Some(head) => Ok(head),
         None => Err(Code::BadNumber),
     }
 }

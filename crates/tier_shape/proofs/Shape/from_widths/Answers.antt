@@ -1,20 +1,38 @@
+use Rattle.std.proofs.Common.{◌≡◌, List, ℕ, Result, subst}
+use Rattle.std.specs.Prelude.{MatchResult}
+use Rattle.tier_shape.specs.declared.ShapeFault.{ShapeFault}
+use Rattle.tier_shape.specs.Faults.{IsRefusedText}
 use Rattle.tier_shape.proofs.Refusals.{exact_bad, exact_deep, exact_wide}
 use Rattle.tier_shape.specs.Paths.{IsTiers}
 use Rattle.tier_shape.specs.Widths.{IsTreeText}
 use Rattle.tier_shape.proofs.Telling.{ok_told, err_told}
 use Rattle.tier_shape.proofs.Shape.from_widths.Goals as goal
 
+-- what was read from the bytes was read from the text
+read : (bytes text : List ℕ) (result : Result (List ℕ) ShapeFault) → bytes ≡ text
+    → MatchResult result (λ shape. IsTreeText bytes shape × IsTiers shape) (λ fault. IsRefusedText bytes fault)
+    → MatchResult result (λ shape. IsTreeText text shape × IsTiers shape) (λ fault. IsRefusedText text fault)
+read bytes text result e h =
+    let P : List ℕ → Type 0 = λ t. MatchResult result (λ shape. IsTreeText t shape × IsTiers shape) (λ fault. IsRefusedText t fault) in
+    subst P e h
+
 pub returns-clause-bad_text : goal.returns-clause-bad_text
-returns-clause-bad_text c = exact_bad c.args.text.now (λ shape. IsTreeText c.args.text.now shape × IsTiers shape) (λ shape good. (shape, good.0)) c.read_shape.result c.read_shape.ensures
+returns-clause-bad_text c =
+    exact_bad c.args.text.now (λ shape. IsTreeText c.args.text.now shape × IsTiers shape) (λ shape good. (shape, good.0)) c.read_shape.result
+    (read _ _ c.read_shape.result c.as_bytes.ensures.value c.read_shape.ensures)
 
 pub returns-clause-too_deep : goal.returns-clause-too_deep
-returns-clause-too_deep c = exact_deep c.args.text.now (λ shape. IsTreeText c.args.text.now shape × IsTiers shape) (λ shape good. (shape, good.0)) c.read_shape.result c.read_shape.ensures
+returns-clause-too_deep c =
+    exact_deep c.args.text.now (λ shape. IsTreeText c.args.text.now shape × IsTiers shape) (λ shape good. (shape, good.0)) c.read_shape.result
+    (read _ _ c.read_shape.result c.as_bytes.ensures.value c.read_shape.ensures)
 
 pub returns-clause-too_many : goal.returns-clause-too_many
-returns-clause-too_many c = exact_wide c.args.text.now (λ shape. IsTreeText c.args.text.now shape × IsTiers shape) (λ shape good. (shape, good.0)) c.read_shape.result c.read_shape.ensures
+returns-clause-too_many c =
+    exact_wide c.args.text.now (λ shape. IsTreeText c.args.text.now shape × IsTiers shape) (λ shape good. (shape, good.0)) c.read_shape.result
+    (read _ _ c.read_shape.result c.as_bytes.ensures.value c.read_shape.ensures)
 
 pub returns-clause-told : goal.returns-clause-told
-returns-clause-told c = ok_told c.args.text.now c.read_shape.result c.read_shape.ensures
+returns-clause-told c = ok_told c.args.text.now c.read_shape.result (read _ _ c.read_shape.result c.as_bytes.ensures.value c.read_shape.ensures)
 
 pub returns-clause-refused : goal.returns-clause-refused
-returns-clause-refused c = err_told c.args.text.now c.read_shape.result c.read_shape.ensures
+returns-clause-refused c = err_told c.args.text.now c.read_shape.result (read _ _ c.read_shape.result c.as_bytes.ensures.value c.read_shape.ensures)

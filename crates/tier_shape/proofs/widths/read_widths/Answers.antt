@@ -3,7 +3,7 @@ use Rattle.tier_shape.proofs.Joined.{IsReadTo, left_of, size_of, read_none, read
 use Rattle.tier_shape.proofs.widths.read_widths.Goals as goal
 
 pub loop-rest-init : goal.loop-rest-init
-loop-rest-init c = (c.new-widths.ensures.capacity, rw (c.as_bytes.ensures.value, c.new-widths.ensures.items) (read_none c.args.text.now))
+loop-rest-init c = (c.new-widths.ensures.capacity, rw (c.new-widths.ensures.items) (read_none c.args.text.now))
 
 pub returns-in_default-width_of : goal.returns-in_default-width_of
 returns-in_default-width_of c =

@@ -8,7 +8,7 @@ use Rattle.trace_text.proofs.run.run_commands.Goals as goal
 pub loop-command-preserved : goal.loop-command-preserved
 loop-command-preserved g c = record {
   flat = λ f s.
-      runs_more _ _ _ _ _ _ _ _ _ _ f _ _ (drop_more _ _ _ c.loop-command-test.true) (c.loop-command.invariant.flat f s)
+      runs_more _ _ _ _ _ _ _ _ _ _ _ f _ _ (drop_more _ _ _ c.loop-command-test.true) (c.loop-command.invariant.flat f s)
       c.in-Ok.ensures.moves (rw c.loop-command.invariant.rule at c.in-Ok.ensures.after);
   rule = c.in-Ok.ensures.rule ∙ c.loop-command.invariant.rule;
   failures = c.in-Ok.ensures.failures ∙ c.loop-command.invariant.failures;
@@ -16,10 +16,10 @@ loop-command-preserved g c = record {
 
 pub returns-in-Err-clause-writes : goal.returns-in-Err-clause-writes
 returns-in-Err-clause-writes g c = λ f s.
-    runs_stopped _ _ _ _ _ c.run_command.new.out.items _ _ _ _ f _ _ (drop_more _ _ _ c.loop-command-test.true) (c.loop-command.invariant.flat f s)
+    runs_stopped _ _ _ _ _ _ c.run_command.new.out.items _ _ _ _ f _ _ (drop_more _ _ _ c.loop-command-test.true) (c.loop-command.invariant.flat f s)
     c.in-Err.ensures.moves
 
 pub returns-clause-writes : goal.returns-clause-writes
 returns-clause-writes g c = λ f s.
     let none : drop c.loop-command.command-index c.args.commands.now ≡ [] = grind (arith, common_steps) in
-    runs_whole _ _ _ _ _ _ _ f _ _ none (c.loop-command.invariant.flat f s) c.flush.ensures.writes
+    runs_whole _ _ _ _ _ _ _ _ f _ _ none (c.loop-command.invariant.flat f s) c.flush.ensures.writes

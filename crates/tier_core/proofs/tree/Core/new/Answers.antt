@@ -1,10 +1,10 @@
 use Rattle.std.proofs.Common.{◌≡◌, ◌≤◌, List, [], length, ◌∙◌, ap, subst, sym, arith}
 use Rattle.std.specs.Prelude.{replicate}
-use Rattle.tier_core.specs.Word.{Fields}
-use Rattle.tier_core.specs.View.{View}
+use Rattle.phaser_word.specs.Fields.{Fields}
+use Rattle.tier_steps.specs.declared.view.View.{View}
 use Rattle.tier_core.specs.Turn.{Progress}
 use Rattle.tier_core.specs.Machine.{IsCore}
-use Rattle.tier_core.specs.Start.{empty_word}
+use Rattle.tier_steps.specs.Start.{empty_word}
 use Rattle.tier_core.proofs.Opening.{opened_core}
 use Rattle.tier_core.proofs.tree.Core.new.Goals as goal
 

@@ -1,5 +1,0 @@
-use Rattle.tier_core.proofs.Ready.{advances_are_due}
-use Rattle.tier_core.proofs.laws.advances_are_due.Goals as goal
-
-pub returns : goal.returns
-returns c = advances_are_due

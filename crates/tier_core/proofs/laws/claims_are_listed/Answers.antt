@@ -1,5 +1,0 @@
-use Rattle.tier_core.proofs.Path.{claims_are_listed}
-use Rattle.tier_core.proofs.laws.claims_are_listed.Goals as goal
-
-pub returns : goal.returns
-returns c = claims_are_listed

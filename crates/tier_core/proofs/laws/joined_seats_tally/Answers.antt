@@ -1,5 +1,0 @@
-use Rattle.tier_core.proofs.Joined.{joined_seats_tally}
-use Rattle.tier_core.proofs.laws.joined_seats_tally.Goals as goal
-
-pub returns : goal.returns
-returns c = joined_seats_tally

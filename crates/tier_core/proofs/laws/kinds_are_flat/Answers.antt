@@ -1,5 +1,0 @@
-use Rattle.tier_core.proofs.FlatLaw.{kinds_are_flat}
-use Rattle.tier_core.proofs.laws.kinds_are_flat.Goals as goal
-
-pub returns : goal.returns
-returns c = kinds_are_flat

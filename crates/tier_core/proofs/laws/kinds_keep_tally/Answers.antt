@@ -1,5 +1,0 @@
-use Rattle.tier_core.proofs.KindLaw.{kinds_keep_tally}
-use Rattle.tier_core.proofs.laws.kinds_keep_tally.Goals as goal
-
-pub returns : goal.returns
-returns c = kinds_keep_tally

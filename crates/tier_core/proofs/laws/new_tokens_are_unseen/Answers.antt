@@ -1,5 +1,0 @@
-use Rattle.tier_core.proofs.Start.{new_tokens_are_unseen}
-use Rattle.tier_core.proofs.laws.new_tokens_are_unseen.Goals as goal
-
-pub returns : goal.returns
-returns c = new_tokens_are_unseen

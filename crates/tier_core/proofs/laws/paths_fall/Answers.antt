@@ -1,5 +1,0 @@
-use Rattle.tier_core.proofs.Path.{paths_fall}
-use Rattle.tier_core.proofs.laws.paths_fall.Goals as goal
-
-pub returns : goal.returns
-returns c = paths_fall

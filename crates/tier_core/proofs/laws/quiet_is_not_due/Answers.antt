@@ -1,5 +1,0 @@
-use Rattle.tier_core.proofs.Ready.{quiet_is_not_due}
-use Rattle.tier_core.proofs.laws.quiet_is_not_due.Goals as goal
-
-pub returns : goal.returns
-returns c = quiet_is_not_due

@@ -1,5 +1,0 @@
-use Rattle.tier_core.proofs.Seats.{seats_keep_tally}
-use Rattle.tier_core.proofs.laws.seats_keep_tally.Goals as goal
-
-pub returns : goal.returns
-returns c = seats_keep_tally

@@ -1,5 +1,0 @@
-use Rattle.tier_core.proofs.Start.{start_tallies}
-use Rattle.tier_core.proofs.laws.start_tallies.Goals as goal
-
-pub returns : goal.returns
-returns c = start_tallies

@@ -1,5 +1,0 @@
-use Rattle.tier_core.proofs.Known.{steps_are_runnable}
-use Rattle.tier_core.proofs.laws.steps_are_runnable.Goals as goal
-
-pub returns : goal.returns
-returns c = steps_are_runnable

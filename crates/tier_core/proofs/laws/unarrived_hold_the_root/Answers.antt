@@ -1,5 +1,0 @@
-use Rattle.tier_core.proofs.Ready.{unarrived_hold_the_root}
-use Rattle.tier_core.proofs.laws.unarrived_hold_the_root.Goals as goal
-
-pub returns : goal.returns
-returns c = unarrived_hold_the_root

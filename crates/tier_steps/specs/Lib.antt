@@ -1,0 +1,12 @@
+pub mod Word
+pub mod View
+pub mod Tally
+pub mod Step
+pub mod Image
+pub mod Laws
+pub mod Told
+pub mod Known
+pub mod Start
+pub mod Due
+pub mod Path
+pub mod Seats

@@ -1,0 +1,37 @@
+-- Seats that hold lists of views: a step by a seat with one view is a flat step, two seats may be joined, and a new one may come in (own).
+use Rattle.std.specs.Prelude.{ℕ, ◌<◌, List, [], ◌∷◌, ◌++◌, length}
+use Rattle.flat_phaser.specs.Flat.{Flat}
+use Rattle.tier_steps.specs.Word.{Fields}
+use Rattle.tier_steps.specs.View.{View, new_view}
+use Rattle.tier_steps.specs.Tally.{word_at, Tallies, IsShape}
+use Rattle.tier_steps.specs.Step.{Kind, Needs}
+use Rattle.tier_steps.specs.Image.{image, label, labelled, IsAllowedLabel, LooksAlike}
+use Rattle.tier_steps.specs.Laws.{words_after, stepped_view}
+use Rattle.tier_steps.specs.Known.{seated_views}
+
+-- A step by a seat with one view is the flat step of its label, by the token at that view's place among all views.
+abbrev pub SeatsAreFlat : Type 0
+SeatsAreFlat =
+    (parents : List ℕ) (words : List Fields) (front : List (List View)) (v : View) (back : List (List View)) (t : ℕ) (kind : Kind) (f : Flat)
+    → IsShape parents → t < length words
+    → Tallies parents words (seated_views (front ++ (v ∷ []) ∷ back))
+    → Needs parents kind t (word_at words t) v
+    → LooksAlike f (image words (seated_views (front ++ (v ∷ []) ∷ back)))
+    → IsAllowedLabel (label (length (seated_views front)) kind) f
+    × LooksAlike (labelled (label (length (seated_views front)) kind) f)
+    (image (words_after words kind t v) (seated_views (front ++ (stepped_view parents words kind t v ∷ []) ∷ back)))
+
+-- One seat may take the views of another.
+abbrev pub JoinedSeatsTally : Type 0
+JoinedSeatsTally =
+    (parents : List ℕ) (words : List Fields) (front : List (List View)) (x : List View) (middle : List (List View)) (y : List View)
+    (back : List (List View))
+    → Tallies parents words (seated_views (front ++ x ∷ (middle ++ y ∷ back)))
+    → Tallies parents words (seated_views (front ++ (x ++ y) ∷ (middle ++ [] ∷ back)))
+
+-- A seat for a token without members may come in anywhere.
+abbrev pub NewSeatsTally : Type 0
+NewSeatsTally =
+    (parents : List ℕ) (words : List Fields) (front back : List (List View)) (phase : ℕ)
+    → Tallies parents words (seated_views (front ++ back))
+    → Tallies parents words (seated_views (front ++ (new_view phase ∷ []) ∷ back))

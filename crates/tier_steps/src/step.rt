@@ -1,0 +1,411 @@
+//! The steps in code: what each kind leaves of one word and of one view, and the tests that a token makes
+//! before it picks a kind. No sum over tiers or tokens is taken here.
+
+ghost use Rattle.std.specs.Prelude.{◌≡◌, ◌↔◌, ◌+◌, ◌≤◌, true};
+ghost use Rattle.tier_steps.specs.View.{Arrival, Departure};
+ghost use Rattle.tier_steps.specs.Word.{IsLegal, joined, advanced, settled, refreshed};
+ghost use Rattle.tier_steps.specs.Step.{
+  passed,
+  owed,
+  added,
+  opening,
+  looked,
+  refused,
+  given_up,
+  dropped,
+  moved,
+  arrived_view,
+  left_view,
+  joined_view,
+  Admits,
+  Refuses,
+  IsFree,
+  CanRefresh,
+  word_after,
+  view_after,
+  IsRunnable,
+};
+
+use crate::kind::Kind;
+use crate::view::{Errand, Stage, Trip, View};
+use phaser_word::{LAST_PHASE, MOST_PARTIES, Word, next_phase};
+
+/// What a tier gets of a join with so many claimed tiers below it: the members, or one party.
+pub fn parties_added(claimed: u16, size: u32) -> u32
+    ensures { result ≡ added claimed size }
+{
+    if claimed == 0 { size } else { 1 }
+}
+
+/// Whether so many parties may join this tier: it has not ended, an unarrived party is there or it is the
+/// empty root, and there is room.
+pub fn is_admitted(tier: u16, parties: u32, word: Word) -> bool
+    ensures { (result ≡ true) ↔ Admits tier parties word }
+{
+    !word.ended
+        && word.unarrived > 0
+        && (word.parties > 0 || tier == 0 && word.unarrived == 1)
+        && parties <= MOST_PARTIES - word.parties
+}
+
+/// Whether so many parties are refused here: there is no room, nobody is unarrived, or the tier is being
+/// opened.
+pub fn is_refused(parties: u32, word: Word) -> bool
+    ensures { (result ≡ true) ↔ Refuses parties word }
+{
+    !word.ended
+        && (parties > MOST_PARTIES - word.parties
+            || word.unarrived == 0
+            || word.parties == 0 && word.unarrived == 2)
+}
+
+/// Whether this tier is empty and may be claimed.
+pub fn is_free(tier: u16, word: Word) -> bool
+    ensures { (result ≡ true) ↔ IsFree tier word }
+{
+    tier > 0 && word.parties == 0 && word.unarrived == 1
+}
+
+/// Whether the token may bring this word into its phase: the word lags, and the token has an unarrived
+/// member there or climbs there.
+pub fn may_refresh(tier: u16, word: Word, view: &View) -> bool
+    ensures { (result ≡ true) ↔ CanRefresh tier word view.now }
+{
+    let leave = match view.errand {
+        Errand::Rest => view.tier == tier && view.arrived < view.size,
+        Errand::Climbing { tier: next, .. } => next == tier,
+        Errand::Opening { .. } | Errand::Advancing => false,
+    };
+    leave && word.parties > 0 && word.unarrived == 0 && word.phase != view.phase
+}
+
+/// What a token owes after a party has passed the tier, by the word before.
+pub fn errand_after(above: u16, tier: u16, trip: Trip, word: Word) -> Errand
+    ensures { result ≡ owed above tier trip word }
+{
+    if tier == 0 {
+        return if word.unarrived == 1 {
+            Errand::Advancing
+        } else {
+            Errand::Rest
+        };
+    }
+    match trip {
+        Trip::Departure if word.parties == 1 => Errand::Climbing {
+            tier: above,
+            trip: Trip::Departure,
+        },
+        _ if word.unarrived == 1 => Errand::Climbing {
+            tier: above,
+            trip: Trip::Arrival,
+        },
+        _ => Errand::Rest,
+    }
+}
+
+/// The word of a tier that a party has passed.
+pub fn word_passed(tier: u16, trip: Trip, word: Word) -> Word
+    ensures { result ≡ passed tier trip word }
+{
+    let unarrived = word.unarrived.saturating_sub(1);
+    match trip {
+        Trip::Arrival => Word { unarrived, ..word },
+        Trip::Departure => Word {
+            parties: word.parties.saturating_sub(1),
+            unarrived: if tier != 0 && word.parties == 1 {
+                1
+            } else {
+                unarrived
+            },
+            ..word
+        },
+    }
+}
+
+/// Whether this step can be run: the word that it leaves is legal, and its numbers stay in their ranges.
+/// Every step that a token may take can be run.
+pub fn can_run(kind: Kind, tier: u16, word: Word, view: &View) -> bool
+    ensures { (result ≡ true) ↔ IsRunnable kind tier word view.now }
+{
+    let fits = match kind {
+        Kind::Join { claimed, size, .. } => {
+            parties_added(claimed, size) <= MOST_PARTIES - word.parties
+        }
+        Kind::Settle { claimed, size, .. } => {
+            view.phase <= LAST_PHASE && parties_added(claimed, size) <= MOST_PARTIES
+        }
+        Kind::Refresh => view.phase <= LAST_PHASE,
+        Kind::Claim { claimed, .. } => claimed < u16::MAX,
+        _ => true,
+    };
+    fits && view.arrived <= MOST_PARTIES
+}
+
+/// The word of a tier that so many parties join.
+fn word_joined(word: Word, more: u32) -> Word
+    requires room { word.parties + more ≤ 65535 }
+    ensures { result ≡ joined word more }
+{
+    let unarrived = if word.parties == 0 {
+        more
+    } else {
+        word.unarrived + more
+    };
+    Word {
+        parties: word.parties + more,
+        unarrived,
+        ..word
+    }
+}
+
+/// The root's word in the next phase, in which nobody has arrived.
+fn word_advanced(word: Word, ended: bool) -> Word
+    ensures { result ≡ advanced word ended }
+{
+    Word {
+        phase: next_phase(word.phase),
+        parties: word.parties,
+        unarrived: if word.parties == 0 { 1 } else { word.parties },
+        ended,
+    }
+}
+
+/// The word of a claimed tier that gets its first parties, in this phase.
+fn word_settled(word: Word, phase: u32, parties: u32) -> Word
+    requires legal { IsLegal (settled word phase parties) }
+    ensures { result ≡ settled word phase parties }
+{
+    Word {
+        phase,
+        parties,
+        unarrived: parties,
+        ..word
+    }
+}
+
+/// The word of a tier without parties, empty or being opened.
+fn word_without(word: Word, unarrived: u32) -> Word
+    requires few { unarrived ≤ 2 }
+    ensures { result ≡ record word { parties = 0; unarrived = unarrived } }
+{
+    Word {
+        parties: 0,
+        unarrived,
+        ..word
+    }
+}
+
+/// The word that lagged, in this phase: all its parties are unarrived.
+fn word_refreshed(word: Word, phase: u32) -> Word
+    requires legal { phase ≤ 2147483647 }
+    ensures { result ≡ refreshed word phase }
+{
+    Word {
+        phase,
+        unarrived: word.parties,
+        ..word
+    }
+}
+
+/// The word that a step leaves.
+pub fn step_word(kind: Kind, tier: u16, word: Word, view: &View) -> Word
+    requires { IsRunnable kind tier word view.now }
+    ensures { result ≡ word_after kind tier word view.now }
+{
+    match kind {
+        Kind::Look | Kind::Glance | Kind::Refuse { .. } => word,
+        Kind::Join { claimed, size, .. } => word_joined(word, parties_added(claimed, size)),
+        Kind::Arrive => word_passed(tier, Trip::Arrival, word),
+        Kind::Leave => word_passed(tier, Trip::Departure, word),
+        Kind::Advance(ends) => word_advanced(word, ends),
+        Kind::Force => Word {
+            ended: true,
+            ..word
+        },
+        Kind::Claim { .. } => word_without(word, 2),
+        Kind::Settle { claimed, size, .. } => {
+            word_settled(word, view.phase, parties_added(claimed, size))
+        }
+        Kind::SettleBack { .. } => word_without(word, 1),
+        Kind::Climb(trip) => word_passed(tier, trip, word),
+        Kind::Refresh => word_refreshed(word, view.phase),
+    }
+}
+
+/// The errand of a path with so many claimed tiers: without claims there is none.
+fn path(tier: u16, claimed: u16, stage: Stage, size: u32) -> Errand
+    ensures { result ≡ opening tier claimed stage size }
+{
+    if claimed == 0 {
+        return Errand::Rest;
+    }
+    Errand::Opening {
+        tier,
+        claimed,
+        stage,
+        size,
+    }
+}
+
+/// A path whose join is not taken is given back from now on.
+fn give_up(errand: Errand) -> Errand
+    ensures { result ≡ given_up errand }
+{
+    match errand {
+        Errand::Opening {
+            tier,
+            claimed,
+            stage: Stage::Seeking,
+            size,
+        } => Errand::Opening {
+            tier,
+            claimed,
+            stage: Stage::GoingBack,
+            size,
+        },
+        _ => errand,
+    }
+}
+
+/// What is left of an errand once the root has ended.
+fn drop_errand(errand: Errand) -> Errand
+    ensures { result ≡ dropped errand }
+{
+    match errand {
+        Errand::Advancing | Errand::Climbing { tier: 0, .. } => Errand::Rest,
+        Errand::Rest | Errand::Climbing { .. } | Errand::Opening { .. } => give_up(errand),
+    }
+}
+
+/// A token whose members have all arrived goes on to the root's phase.
+fn go_on(root: Word, view: View) -> View
+    ensures { result ≡ moved root view }
+{
+    if view.arrived != view.size || view.phase == root.phase {
+        return view;
+    }
+    View {
+        phase: root.phase,
+        arrived: 0,
+        ..view
+    }
+}
+
+/// What a look at the root leaves of a view.
+pub fn look(root: Word, view: View) -> View
+    ensures { result ≡ looked root view }
+{
+    let going_back = matches!(
+        view.errand,
+        Errand::Opening {
+            stage: Stage::GoingBack,
+            ..
+        }
+    );
+    let view = View {
+        led: false,
+        note: if going_back { view.note } else { None },
+        ..view
+    };
+    if !root.ended {
+        return go_on(root, view);
+    }
+    View {
+        end_seen: Some(root.phase),
+        errand: drop_errand(view.errand),
+        ..view
+    }
+}
+
+/// What a refusal leaves of a view; at the root the token looks there as well.
+pub fn refuse(tier: u16, word: Word, view: View) -> View
+    ensures { result ≡ refused tier word view }
+{
+    let view = if tier == 0 { look(word, view) } else { view };
+    View {
+        note: Some((tier, word)),
+        errand: give_up(view.errand),
+        ..view
+    }
+}
+
+/// One more member has arrived, or one fewer is there.
+fn pass(trip: Trip, above: u16, tier: u16, word: Word, view: View) -> View
+    requires few { view.arrived ≤ 65535 }
+    ensures arrived { trip ≡ Arrival → result ≡ arrived_view above tier word view }
+    ensures left { trip ≡ Departure → result ≡ left_view above tier word view }
+{
+    let errand = errand_after(above, tier, trip, word);
+    match trip {
+        Trip::Arrival => View {
+            arrived: view.arrived + 1,
+            errand,
+            ..view
+        },
+        Trip::Departure => View {
+            size: view.size.saturating_sub(1),
+            errand,
+            ..view
+        },
+    }
+}
+
+/// The members of a token are admitted, all of them unarrived.
+fn admit(tier: u16, claimed: u16, size: u32, word: Word, view: View) -> View
+    ensures { result ≡ joined_view tier claimed size word view }
+{
+    View {
+        tier,
+        size,
+        phase: word.phase,
+        arrived: 0,
+        errand: path(tier, claimed, Stage::Joined, size),
+        ..view
+    }
+}
+
+/// The view that a step leaves, where `above` is the parent of the tier.
+pub fn step_view(kind: Kind, tier: u16, above: u16, word: Word, view: View) -> View
+    requires { IsRunnable kind tier word view }
+    ensures { result ≡ view_after above kind tier word view }
+{
+    let errand = match kind {
+        Kind::Look => return look(word, view),
+        Kind::Refuse { .. } => return refuse(tier, word, view),
+        Kind::Join {
+            tier,
+            claimed,
+            size,
+        } => return admit(tier, claimed, size, word, view),
+        Kind::Arrive => return pass(Trip::Arrival, above, tier, word, view),
+        Kind::Leave => return pass(Trip::Departure, above, tier, word, view),
+        Kind::Force => {
+            let end_seen = Some(word.phase);
+            return View { end_seen, ..view };
+        }
+        Kind::Glance | Kind::Refresh => view.errand,
+        Kind::Advance(_) => Errand::Rest,
+        Kind::Claim {
+            tier,
+            claimed,
+            size,
+        } => path(tier, claimed + 1, Stage::Seeking, size),
+        Kind::Settle {
+            tier,
+            claimed,
+            size,
+        } => path(tier, claimed, Stage::Joined, size),
+        Kind::SettleBack {
+            tier,
+            claimed,
+            size,
+        } => path(tier, claimed, Stage::GoingBack, size),
+        Kind::Climb(trip) => errand_after(above, tier, trip, word),
+    };
+    let led = view.led || matches!(kind, Kind::Advance(_));
+    View {
+        errand,
+        led,
+        ..view
+    }
+}

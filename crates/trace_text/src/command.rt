@@ -1,0 +1,67 @@
+//! Commands of traces, of whichever kind.
+ghost use Rattle.std.specs.Prelude.{◌≡◌, ℕ, Bool, List, Ok, Err, Result, IfOk, IfSome, MatchOption, MatchResult, ⊤, true, false};
+ghost use Rattle.text_lines.specs.declared.refusal.Code.{Code};
+ghost use Rattle.text_lines.specs.Text.{words_of, is_skipped};
+ghost use Rattle.trace_text.specs.Trace.{brings_none};
+ghost use Rattle.trace_text.specs.TreeWords.{tree_command_of, brings_token, InRange};
+ghost use Rattle.trace_text.specs.Words.{command_of};
+
+use crate::tree_words::{TreeCommand, read_tree_command};
+use crate::words::{PhaserCommand, read_command};
+use text_lines::Code;
+
+/// A command of a trace.
+pub(crate) trait Command: Copy {
+    // what the words of a line say
+    ghost says: { List (List ℕ) → Result Self Code };
+
+    // whether it brings a token in
+    ghost brings: { Self → Bool };
+
+    // that its numbers are in range
+    ghost fits: { Self → Type 0 };
+
+    /// The command of a line, or none where the line is skipped.
+    fn read(line: &[u8]) -> Result<Option<Self>, Code>
+        ensures range { IfOk result (λ o. IfSome o (λ c. fits c)) }
+        ensures value { MatchResult result
+            (λ o. MatchOption o (is_skipped (words_of line.now) ≡ true)
+            (λ c. (is_skipped (words_of line.now) ≡ false) × (says (words_of line.now) ≡ Ok c)))
+            (λ e. (is_skipped (words_of line.now) ≡ false) × (says (words_of line.now) ≡ Err e)) };
+
+    /// Whether it brings a token in.
+    fn brings_token(self) -> bool
+        ensures { result ≡ brings self };
+}
+
+impl Command for PhaserCommand {
+    ghost says = { command_of };
+
+    ghost brings = { brings_none };
+
+    ghost fits = { λ _. ⊤ };
+
+    fn read(line: &[u8]) -> Result<Option<Self>, Code> {
+        read_command(line)
+    }
+
+    fn brings_token(self) -> bool {
+        false
+    }
+}
+
+impl Command for TreeCommand {
+    ghost says = { tree_command_of };
+
+    ghost brings = { brings_token };
+
+    ghost fits = { InRange };
+
+    fn read(line: &[u8]) -> Result<Option<Self>, Code> {
+        read_tree_command(line)
+    }
+
+    fn brings_token(self) -> bool {
+        matches!(self, TreeCommand::Token)
+    }
+}

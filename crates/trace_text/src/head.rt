@@ -1,0 +1,44 @@
+//! The head of a trace: what it is a trace of.
+ghost use Rattle.std.specs.Prelude.{◌≡◌, ◌≤◌, Ok, Err, MatchOption, MatchResult, IfOk, IfSome, true, false};
+ghost use Rattle.text_lines.specs.Text.{words_of, is_skipped};
+ghost use Rattle.trace_text.specs.Trace as spec;
+ghost use Rattle.trace_text.specs.Views.{head_in, first_phase};
+
+use crate::tree_words::{TreeHead, read_tree_head};
+use crate::words::{PhaserHead, read_phaser_head};
+use text_lines::{Code, first_word};
+
+/// The head of a trace: what it is a trace of.
+#[derive(Clone, Copy, Debug, PartialEq, Eq)]
+pub enum Head<'a> {
+    /// A single phaser.
+    Phaser(PhaserHead),
+    /// A tree of phasers.
+    Tree(TreeHead<'a>),
+}
+
+/// The head of a line, or none where the line is skipped.
+pub(crate) fn read_head(line: &[u8]) -> Result<Option<Head<'_>>, Code>
+    ensures phase { IfOk result (λ o. IfSome o (λ h. first_phase h ≤ 2147483647)) }
+    ensures value { MatchResult result
+        (λ o. MatchOption o (is_skipped (words_of line.now) ≡ true)
+        (λ h. (is_skipped (words_of line.now) ≡ false) × (spec.head_of (words_of line.now) ≡ Ok (head_in h))))
+        (λ e. (is_skipped (words_of line.now) ≡ false) × (spec.head_of (words_of line.now) ≡ Err e)) }
+{
+    let Some((word, rest)) = first_word(line) else {
+        return Ok(None);
+    };
+    if word == b"phaser".as_slice() {
+        return match read_phaser_head(rest) {
+            Ok(head) => Ok(Some(Head::Phaser(head))),
+            Err(code) => Err(code),
+        };
+    }
+    if word == b"tree".as_slice() {
+        return match read_tree_head(rest) {
+            Ok(head) => Ok(Some(Head::Tree(head))),
+            Err(code) => Err(code),
+        };
+    }
+    Err(Code::BadHeader)
+}

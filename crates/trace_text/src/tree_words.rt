@@ -1,0 +1,297 @@
+//! Heads and commands of a trace of a tree, from the words of their lines.
+ghost use Rattle.std.specs.Prelude.{◌≡◌, ◌≢◌, ◌∷◌, [], ◌≤◌, ◌<◌, None, Some, Ok, Err, Option, option_copied, MatchOption, MatchResult, IfOk, IfSome, true, false, map};
+ghost use Rattle.text_lines.specs.Text.{words_of, is_skipped};
+ghost use Rattle.text_lines.specs.Number.{number_of};
+ghost use Rattle.trace_text.specs.TreeWords as spec;
+ghost use Rattle.trace_text.specs.Words.{up_to};
+ghost use Rattle.trace_text.specs.Parts.{call_words_in, tree_words_in, tree_asked};
+
+use crate::words::{number_if, number_or, only_word, take_behind, take_number, up_to};
+use advance_rule::EndPlan;
+use phaser_word::{LAST_PHASE, MOST_PARTIES};
+use text_lines::{Code, first_word, split_word};
+
+/// What a token of a tree is asked to do; the tier has any number.
+#[derive(Clone, Copy, Debug, PartialEq, Eq)]
+pub enum TokenCall {
+    /// To join a tier with members.
+    Join {
+        /// The tier.
+        tier: u32,
+        /// How many members, from 1 to 65535.
+        n: u32,
+    },
+    /// To let a member arrive.
+    Arrive,
+    /// To let a member leave.
+    Leave,
+    /// To see whether the token's phase has passed.
+    Poll,
+    /// To end the tree by force.
+    Force,
+}
+
+/// A command of a trace of a tree; tokens and tiers have any number.
+#[derive(Clone, Copy, Debug, PartialEq, Eq)]
+pub enum TreeCommand {
+    /// A token comes in.
+    Token,
+    /// A token begins a call.
+    Begin(u32, TokenCall),
+    /// A token takes the next step of its call.
+    Go(u32),
+    /// A token takes the advance that it must take.
+    Finish(u32),
+    /// A token goes on with its call to the end.
+    Run(u32),
+    /// A token begins a call, and goes on with it to the end.
+    Do(u32, TokenCall),
+    /// The numbers of a tier.
+    Show(u32),
+}
+
+/// The head of a trace of a tree: what tree it makes.
+#[derive(Clone, Copy, Debug, PartialEq, Eq)]
+pub struct TreeHead<'a> {
+    /// The text of its widths.
+    pub widths: &'a [u8],
+    /// The phase that it begins in.
+    pub phase: u32,
+    /// When it ends.
+    pub plan: EndPlan,
+}
+
+// What the first word of a command asks for.
+#[derive(Clone, Copy)]
+enum Form {
+    Token,
+    Begin,
+    Go,
+    Finish,
+    Run,
+    Do,
+    Show,
+}
+
+// What this word asks for, if it begins a command.
+fn form_of(word: &[u8]) -> Option<Form>
+    ensures { result ≡ spec.tree_form_of word.now }
+{
+    if word == b"token".as_slice() {
+        Some(Form::Token)
+    } else if word == b"begin".as_slice() {
+        Some(Form::Begin)
+    } else if word == b"go".as_slice() {
+        Some(Form::Go)
+    } else if word == b"finish".as_slice() {
+        Some(Form::Finish)
+    } else if word == b"run".as_slice() {
+        Some(Form::Run)
+    } else if word == b"do".as_slice() {
+        Some(Form::Do)
+    } else if word == b"show".as_slice() {
+        Some(Form::Show)
+    } else {
+        None
+    }
+}
+
+// A call in words.
+#[derive(Clone, Copy)]
+enum CallWords<'a> {
+    // a join, with the words of its numbers
+    Join(&'a [u8], &'a [u8]),
+    // another one
+    Alone(TokenCall),
+}
+
+// A call of one word.
+fn call_alone(word: &[u8]) -> Option<TokenCall>
+    ensures value { result ≡ spec.call_alone word.now }
+    ensures range { IfSome result (λ c. spec.HasMembers c) }
+{
+    if word == b"arrive".as_slice() {
+        Some(TokenCall::Arrive)
+    } else if word == b"leave".as_slice() {
+        Some(TokenCall::Leave)
+    } else if word == b"poll".as_slice() {
+        Some(TokenCall::Poll)
+    } else if word == b"force".as_slice() {
+        Some(TokenCall::Force)
+    } else {
+        None
+    }
+}
+
+// The words of a join's numbers.
+fn join_words(line: &[u8]) -> Option<CallWords<'_>>
+    ensures value { MatchOption result
+        (spec.join_words (words_of line.now) ≡ None)
+        (λ c. spec.join_words (words_of line.now) ≡ Some (call_words_in c)) }
+    ensures range { IfSome result (λ c. spec.WordsFit (call_words_in c)) }
+{
+    let (tier, rest) = split_word(line)?;
+    let n = only_word(rest)?;
+    Some(CallWords::Join(tier, n))
+}
+
+// The call in words that makes up the rest of a line.
+fn call_words(line: &[u8]) -> Option<CallWords<'_>>
+    ensures value { MatchOption result
+        (spec.call_words (words_of line.now) ≡ None)
+        (λ c. spec.call_words (words_of line.now) ≡ Some (call_words_in c)) }
+    ensures range { IfSome result (λ c. spec.WordsFit (call_words_in c)) }
+{
+    let (word, rest) = split_word(line)?;
+    if word == b"join".as_slice() {
+        return join_words(rest);
+    }
+    let call = call_alone(word)?;
+    if split_word(rest).is_some() {
+        return None;
+    }
+    Some(CallWords::Alone(call))
+}
+
+// The call that its words give.
+fn call_numbers(words: &CallWords<'_>) -> Option<TokenCall>
+    requires { spec.WordsFit (call_words_in words.now) }
+    ensures value { result ≡ spec.call_numbers (call_words_in words.now) }
+    ensures range { IfSome result (λ c. spec.HasMembers c) }
+{
+    match words {
+        CallWords::Alone(call) => Some(*call),
+        CallWords::Join(tier, n) => {
+            let tier = up_to(u32::MAX, tier)?;
+            match up_to(MOST_PARTIES, n)? {
+                0 => None,
+                n => Some(TokenCall::Join { tier, n }),
+            }
+        }
+    }
+}
+
+// The number that makes up the rest of a line.
+fn one_number(line: &[u8]) -> Result<u32, Code>
+    ensures { result ≡ spec.one_number (words_of line.now) }
+{
+    let word = only_word(line).ok_or(Code::BadLine)?;
+    up_to(u32::MAX, word).ok_or(Code::BadNumber)
+}
+
+// The token and the call that make up the rest of a line.
+fn token_and_call(line: &[u8]) -> Result<(u32, TokenCall), Code>
+    ensures value { result ≡ spec.token_and_call (words_of line.now) }
+    ensures range { IfOk result (λ k. spec.HasMembers k.1) }
+{
+    let (token, rest) = split_word(line).ok_or(Code::BadLine)?;
+    let words = call_words(rest).ok_or(Code::BadLine)?;
+    let token = up_to(u32::MAX, token).ok_or(Code::BadNumber)?;
+    let call = call_numbers(&words).ok_or(Code::BadNumber)?;
+    Ok((token, call))
+}
+
+// The command of this form, with what follows its first word.
+fn formed(form: Form, rest: &[u8]) -> Result<TreeCommand, Code>
+    ensures value { result ≡ spec.tree_formed (Some form) (words_of rest.now) }
+    ensures range { IfOk result (λ c. spec.InRange c) }
+{
+    match form {
+        Form::Token => match split_word(rest) {
+            None => Ok(TreeCommand::Token),
+            Some(_) => Err(Code::BadLine),
+        },
+        Form::Begin => {
+            let (token, call) = token_and_call(rest)?;
+            Ok(TreeCommand::Begin(token, call))
+        }
+        Form::Go => Ok(TreeCommand::Go(one_number(rest)?)),
+        Form::Finish => Ok(TreeCommand::Finish(one_number(rest)?)),
+        Form::Run => Ok(TreeCommand::Run(one_number(rest)?)),
+        Form::Do => {
+            let (token, call) = token_and_call(rest)?;
+            Ok(TreeCommand::Do(token, call))
+        }
+        Form::Show => Ok(TreeCommand::Show(one_number(rest)?)),
+    }
+}
+
+/// The command of a line, or none where the line is skipped.
+pub(crate) fn read_tree_command(line: &[u8]) -> Result<Option<TreeCommand>, Code>
+    ensures range { IfOk result (λ o. IfSome o (λ c. spec.InRange c)) }
+    ensures value { MatchResult result
+        (λ o. MatchOption o (is_skipped (words_of line.now) ≡ true)
+        (λ c. (is_skipped (words_of line.now) ≡ false) × (spec.tree_command_of (words_of line.now) ≡ Ok c)))
+        (λ e. (is_skipped (words_of line.now) ≡ false) × (spec.tree_command_of (words_of line.now) ≡ Err e)) }
+{
+    let Some((word, rest)) = first_word(line) else {
+        return Ok(None);
+    };
+    let Some(form) = form_of(word) else {
+        return Err(Code::UnknownLine);
+    };
+    match formed(form, rest) {
+        Ok(command) => Ok(Some(command)),
+        Err(code) => Err(code),
+    }
+}
+
+// A head in words.
+#[derive(Clone, Copy)]
+struct TreeHeadWords<'a> {
+    widths: &'a [u8],
+    phase: Option<&'a [u8]>,
+    keep: bool,
+    at: Option<&'a [u8]>,
+}
+
+// Whether a keyword comes next, and what follows.
+fn take_keyword<'a>(keyword: &[u8], line: &'a [u8]) -> (bool, &'a [u8])
+    ensures { (result.0, words_of result.1.now) ≡ spec.take_keyword keyword.now (words_of line.entry.now) }
+{
+    match split_word(line) {
+        Some((word, rest)) if word == keyword => (true, rest),
+        _ => (false, line),
+    }
+}
+
+// The head in words that follows its first word.
+fn tree_head_words(line: &[u8]) -> Option<TreeHeadWords<'_>>
+    ensures { MatchOption result
+        (spec.tree_head_words (words_of line.now) ≡ None)
+        (λ h. spec.tree_head_words (words_of line.now) ≡ Some (tree_words_in h)) }
+{
+    let (widths, rest) = split_word(line)?;
+    let (phase, rest) = take_number(rest);
+    let (keep, rest) = take_keyword(b"keep", rest);
+    let (at, rest) = take_behind(b"at", rest)?;
+    if split_word(rest).is_some() {
+        return None;
+    }
+    Some(TreeHeadWords {
+        widths,
+        phase,
+        keep,
+        at,
+    })
+}
+
+/// The head that follows the first word of a line.
+pub(crate) fn read_tree_head(line: &[u8]) -> Result<TreeHead<'_>, Code>
+    ensures phase { IfOk result (λ h. h.phase ≤ 2147483647) }
+    ensures value { MatchResult result
+        (λ h. spec.tree_numbered (spec.tree_head_words (words_of line.now)) ≡ Ok (tree_asked h))
+        (λ e. spec.tree_numbered (spec.tree_head_words (words_of line.now)) ≡ Err e) }
+{
+    let words = tree_head_words(line).ok_or(Code::BadLine)?;
+    let phase = number_or(LAST_PHASE, 0, words.phase).ok_or(Code::BadNumber)?;
+    let at = number_if(LAST_PHASE, words.at).ok_or(Code::BadNumber)?;
+    Ok(TreeHead {
+        widths: words.widths,
+        phase,
+        plan: EndPlan {
+            when_empty: !words.keep,
+            at,
+        },
+    })
+}
