@@ -1,0 +1,14 @@
+pub mod NumberedLemmas
+pub mod OpenLemmas
+pub mod LineLemmas
+pub mod DeclaredLemmas
+pub mod StepLemmas
+pub mod CodeLemmas
+pub mod TextLemmas
+pub mod ItemLemmas
+pub mod StepCode
+pub mod ToldInside
+pub mod ToldOuter
+pub mod ToldText
+pub mod ToldNames
+pub mod ToldWhole

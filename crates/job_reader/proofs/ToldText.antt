@@ -1,0 +1,196 @@
+-- A text that is read is the text of its job.
+use Rattle.std.proofs.Common.{
+  ◌≡◌,
+  ◌⊎◌,
+  inl,
+  inr,
+  ℕ,
+  ◌+◌,
+  ◌<◌,
+  ◌≤◌,
+  Bool,
+  true,
+  false,
+  ◌&&◌,
+  List,
+  [],
+  ◌∷◌,
+  ◌++◌,
+  length,
+  map,
+  take,
+  take_all,
+  Option,
+  Some,
+  None,
+  Result,
+  Ok,
+  Err,
+  refl,
+  sym,
+  ap,
+  subst,
+  ◌∙◌,
+  arith,
+  codes,
+  append-nil,
+  append_assoc,
+  length-append,
+  nat_eq,
+}
+use Rattle.std.specs.Prelude.{if◌then◌else◌, nat_le, nat_lt}
+use Rattle.std.specs.List.{filter_map, cons_option}
+use Rattle.std.specs.Str.{bytes_eq}
+use Rattle.std.proofs.lemmas.List.{map-append}
+use Rattle.std.proofs.lemmas.Grind.{common_steps}
+use Rattle.text_lines.specs.declared.refusal.Code.{Code}
+use Rattle.text_lines.specs.declared.refusal.Code.TheVariants.{Twice, TooMany, TooLong, BadHeader}
+use Rattle.text_lines.specs.declared.refusal.Refusal.{Refusal}
+use Rattle.text_lines.specs.Text.{lines_of, words_of, is_skipped, begins_comment, bad_byte_line}
+use Rattle.task_lang.specs.Names.{is_among}
+use Rattle.task_lang.specs.Open.{Frame, step_of}
+use Rattle.task_lang.specs.Tree.{Block}
+use Rattle.job_words.specs.Words.{Word, Words, named}
+use Rattle.job_words.specs.declared.lines.Keyword.{Keyword}
+use Rattle.job_words.specs.declared.lines.Keyword.TheVariants.{Let, Put, Print, Spawn, Sync, Stop, If, Else, While, End}
+use Rattle.job_words.specs.Faults.{made}
+use Rattle.job_words.specs.Lines.{keyword_of, line_behind}
+use Rattle.job_words.proofs.SaidLemmas.{made-ok, same-word}
+use Rattle.job_words.proofs.LineSaid.{keyword_text, keyword-said}
+use Rattle.job_words.proofs.GrowLemmas.{and-left, and-right}
+use Rattle.job_reader.specs.declared.outer.Outer.{Outer}
+use Rattle.job_reader.specs.declared.outer.Outer.TheVariants as outer
+use Rattle.job_reader.specs.Trees.{BodyTree, JobTree, array_names, body_names}
+use Rattle.job_reader.specs.Above.{Inside, Above, nothing, begun, ended, can_else}
+use Rattle.job_reader.specs.Grammar.{Item, header_words, items_lines, AreSound, job_of, kept, IsTextOf}
+use Rattle.job_reader.specs.Reading.{
+  ◌>>=◌,
+  at,
+  refused,
+  is_header,
+  outer_of,
+  name_if_body,
+  declared_by,
+  declared,
+  body_of,
+  with_array,
+  new_body,
+  with_start,
+  array_of,
+  start_of,
+  array_line,
+  body_line,
+  start_line,
+  outer_line,
+  mentioning,
+  said,
+  within_limits,
+  behind,
+  with_line,
+  inner_line,
+  any_line,
+  is_missing,
+  first_missing,
+  line_step,
+  kept_step,
+  finished,
+  read_lines,
+  read_from,
+  unless_bad,
+  job_in,
+}
+use Rattle.job_reader.proofs.LineLemmas.{within-sits}
+use Rattle.job_reader.proofs.ItemLemmas.{Told, told-nothing}
+use Rattle.job_reader.proofs.ToldInside.{Tells, inner-told}
+use Rattle.job_reader.proofs.ToldOuter.{bind-ok, outer-told}
+
+pub finished-ok : (n : ℕ) (a : Above) (i : Option Inside) (m : Option ℕ) (j : JobTree) → finished n a i m ≡ Ok j → (i ≡ None) × (m ≡ None) × (a.job ≡ j)
+finished-ok n a (Some o) m j e = absurd cc
+finished-ok n a None (Some k) j e = absurd cc
+finished-ok n a None None j e = (refl, refl, cc)
+
+at-ok : {A : Type 0} (n : ℕ) (r : Result A Code) (x : A) → at n r ≡ Ok x → r ≡ Ok x
+at-ok n (Ok y) x e = let same : y ≡ x = cc in ap (λ z. Ok z) same
+at-ok n (Err c) x e = absurd cc
+
+skip-cases : {A : Type 0} (b : Bool) (a x : A) (r : Result A Code) → (if b then Ok a else r) ≡ Ok x → ((b ≡ true) × (a ≡ x)) ⊎ ((b ≡ false) × (r ≡ Ok x))
+skip-cases true a x r e = inl (refl, cc)
+skip-cases false a x r e = inr (refl, e)
+
+missing-none : (m : Option ℕ) (n : ℕ) (b : Bool) → first_missing m n b ≡ None → (m ≡ None) × (b ≡ false)
+missing-none (Some k) n b e = absurd cc
+missing-none None n true e = absurd cc
+missing-none None n false e = (refl, refl)
+
+-- what a line that was read made of the lines above it
+abbrev pub Stepped : List Word → ℕ → Above → Words → Above → Type 0
+Stepped bodies n a ws b =
+    (p : JobTree × Option Inside) × (any_line bodies a.job a.inside ws ≡ Ok p) × (b.job ≡ p.0) × (b.inside ≡ p.1) × (b.missing ≡ first_missing a.missing n (is_missing bodies ws))
+
+stepped : (bodies : List Word) (n : ℕ) (a : Above) (ws : Words) (b : Above) → line_step bodies n a ws ≡ Ok b → Stepped bodies n a ws b
+stepped bodies n a ws b e =
+    let f : JobTree × Option Inside → Above = λ p. record { job = p.0; inside = p.1; missing = first_missing a.missing n (is_missing bodies ws) } in
+    let m = made-ok f (any_line bodies a.job a.inside ws) b e in
+    (m.0, m.1, ap (λ (x : Above). x.job) (sym m.2), ap (λ (x : Above). x.inside) (sym m.2), ap (λ (x : Above). x.missing) (sym m.2))
+
+-- a line of the text, skipped or read
+abbrev pub Next : List Word → ℕ → Above → List ℕ → List (List ℕ) → JobTree → Type 0
+Next bodies n a l ls j =
+    (b : Above) × (read_lines bodies (n + 1) b ls ≡ Ok j)
+    × (((is_skipped (words_of l) ≡ true) × (a ≡ b)) ⊎ ((is_skipped (words_of l) ≡ false) × Stepped bodies n a (words_of l) b))
+
+pub next : (bodies : List Word) (n : ℕ) (a : Above) (l : List ℕ) (ls : List (List ℕ)) (j : JobTree) → read_lines bodies n a (l ∷ ls) ≡ Ok j
+    → Next bodies n a l ls j
+next bodies n a l ls j e =
+    let m = bind-ok (at n (kept_step bodies n a (words_of l))) (λ (b : Above). read_lines bodies (n + 1) b ls) j e in
+    let k = at-ok n (kept_step bodies n a (words_of l)) m.0 m.1 in (
+      m.0,
+      m.2,
+      elim (skip-cases (is_skipped (words_of l)) a m.0 (line_step bodies n a (words_of l)) k) [
+        | inl x ↦ inl x
+        | inr x ↦ inr (x.0, stepped bodies n a (words_of l) m.0 x.1)
+      ],
+    )
+
+pub lines-found : (bodies : List Word) (ls : List (List ℕ)) (n : ℕ) (a : Above) (j : JobTree) → read_lines bodies n a ls ≡ Ok j → a.missing ≡ None
+lines-found bodies [] n a j e = (finished-ok n a a.inside a.missing j e).1
+lines-found bodies (l ∷ ls) n a j e =
+    let m = next bodies n a l ls j e in
+    let later : m.0.missing ≡ None = lines-found bodies ls (n + 1) m.0 j m.1 in
+    elim m.2 [
+      | inl x ↦ ap (λ (y : Above). y.missing) x.1 ∙ later
+      | inr x ↦ (missing-none a.missing n (is_missing bodies (words_of l)) (sym x.1.4 ∙ later)).0
+    ]
+
+step-told : (bodies : List Word) (lines : List Words) (j : JobTree) (i : Option Inside) (ws : Words) (p : JobTree × Option Inside)
+    → Tells bodies lines j i → is_missing bodies ws ≡ false
+    → any_line bodies j i ws ≡ Ok p → Tells bodies (lines ++ ws ∷ []) p.0 p.1
+step-told bodies lines j None [] p t miss e = absurd cc
+step-told bodies lines j (Some o) [] p t miss e = absurd cc
+step-told bodies lines j None (k ∷ ws) p t miss e = outer-told bodies lines j k ws p t miss e
+step-told bodies lines j (Some o) (k ∷ ws) p t miss e = inner-told bodies lines j o k ws p t miss e
+
+pub lines-told : (bodies : List Word) (ls : List (List ℕ)) (n : ℕ) (a : Above) (lines : List Words) (j : JobTree)
+    → Tells bodies lines a.job a.inside → read_lines bodies n a ls ≡ Ok j
+    → Told bodies (lines ++ kept ls) j
+lines-told bodies [] n a lines j t e =
+    let f = finished-ok n a a.inside a.missing j e in
+    subst (λ (x : List Words). Told bodies x j) (sym (append-nil lines))
+    (subst (λ (x : JobTree). Told bodies lines x) f.2 (subst (λ (i : Option Inside). Tells bodies lines a.job i) f.0 t))
+lines-told bodies (l ∷ ls) n a lines j t e =
+    let m = next bodies n a l ls j e in
+    elim m.2 [
+      | inl x ↦
+          subst (λ (c : List Words). Told bodies (lines ++ c) j) (sym (ap (λ (b : Bool). if b then kept ls else words_of l ∷ kept ls) x.0))
+          (lines-told bodies ls (n + 1) m.0 lines j (subst (λ (y : Above). Tells bodies lines y.job y.inside) x.1 t) m.1)
+      | inr x ↦
+          let later : m.0.missing ≡ None = lines-found bodies ls (n + 1) m.0 j m.1 in
+          let miss : is_missing bodies (words_of l) ≡ false = (missing-none a.missing n (is_missing bodies (words_of l)) (sym x.1.4 ∙ later)).1 in
+          let s = step-told bodies lines a.job a.inside (words_of l) x.1.0 t miss x.1.1 in
+          let u : Tells bodies (lines ++ words_of l ∷ []) m.0.job m.0.inside =
+          subst (λ (k : JobTree). Tells bodies (lines ++ words_of l ∷ []) k m.0.inside) (sym x.1.2)
+          (subst (λ (i : Option Inside). Tells bodies (lines ++ words_of l ∷ []) x.1.0.0 i) (sym x.1.3) s) in
+          subst (λ (c : List Words). Told bodies c j)
+          (append_assoc lines (words_of l ∷ []) (kept ls) ∙ ap (λ (c : List Words). lines ++ c) (sym (ap (λ (b : Bool). if b then kept ls else words_of l ∷ kept ls) x.0)))
+          (lines-told bodies ls (n + 1) m.0 (lines ++ words_of l ∷ []) j u m.1)
+    ]

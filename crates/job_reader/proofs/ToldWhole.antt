@@ -1,0 +1,143 @@
+-- A text that is read is the text of its job.
+use Rattle.std.proofs.Common.{
+  ◌⊎◌,
+  inl,
+  inr,
+  ◌≡◌,
+  ℕ,
+  ◌+◌,
+  ◌≤◌,
+  Bool,
+  true,
+  false,
+  ◌&&◌,
+  List,
+  [],
+  ◌∷◌,
+  ◌++◌,
+  length,
+  take,
+  take_all,
+  Option,
+  Some,
+  None,
+  Result,
+  Ok,
+  Err,
+  refl,
+  sym,
+  ap,
+  subst,
+  ◌∙◌,
+  arith,
+  codes,
+}
+use Rattle.std.specs.Prelude.{if◌then◌else◌, nat_lt}
+use Rattle.std.specs.List.{filter_map, cons_option}
+use Rattle.std.specs.Str.{bytes_eq}
+use Rattle.text_lines.specs.declared.refusal.Code.{Code}
+use Rattle.text_lines.specs.declared.refusal.Code.TheVariants.{TooLong, BadHeader}
+use Rattle.text_lines.specs.declared.refusal.Refusal.{Refusal}
+use Rattle.text_lines.specs.Text.{lines_of, words_of, is_skipped, bad_byte_line}
+use Rattle.job_words.specs.Words.{Word, Words}
+use Rattle.job_words.proofs.SaidLemmas.{same-word}
+use Rattle.job_words.proofs.GrowLemmas.{and-left, and-right}
+use Rattle.job_reader.specs.Trees.{JobTree, body_names}
+use Rattle.job_reader.specs.Above.{Above, nothing}
+use Rattle.job_reader.specs.Grammar.{header_words, items_lines, AreSound, job_of, kept, IsTextOf}
+use Rattle.job_reader.specs.Reading.{refused, is_header, outer_of, name_if_body, declared_by, declared, read_lines, read_from, unless_bad, job_in}
+use Rattle.job_reader.specs.Laws.{IsRead, IsRefused, EachTextIsReadOrRefused}
+use Rattle.job_reader.proofs.ItemLemmas.{Told, told-nothing}
+use Rattle.job_reader.proofs.ToldText.{lines-told}
+use Rattle.job_reader.proofs.ToldNames.{names_in, lines-named, skipped-none}
+
+header-said : (ws : Words) → is_header ws ≡ true → ws ≡ header_words
+header-said [] e = absurd cc
+header-said (a ∷ []) e = absurd cc
+header-said (a ∷ b ∷ []) e =
+    ap (λ (x : Word). x ∷ b ∷ []) (same-word a (codes "bsp") (and-left _ (bytes_eq b (codes "1")) e))
+    ∙ ap (λ (x : Word). codes "bsp" ∷ x ∷ []) (same-word b (codes "1") (and-right (bytes_eq a (codes "bsp")) _ e))
+header-said (a ∷ b ∷ c ∷ ws) e = absurd cc
+
+header-none : declared_by header_words ≡ None
+unfolding outer_of
+header-none = refl
+
+-- the lines behind the first one, which is the header
+record Begun (bodies : List Word) (ls : List (List ℕ)) (j : JobTree) : Type 0 where
+  rest : List (List ℕ)
+  line : ℕ
+  kept_lines : kept ls ≡ header_words ∷ kept rest
+  named : names_in ls ≡ names_in rest
+  read : read_lines bodies line nothing rest ≡ Ok j
+
+begun-cases : (bodies : List Word) (n : ℕ) (l : List ℕ) (ls : List (List ℕ)) (j : JobTree) (a b : Bool) → is_skipped (words_of l) ≡ a
+    → is_header (words_of l) ≡ b
+    → (read_from bodies (n + 1) ls ≡ Ok j → Begun bodies ls j)
+    → (if a then read_from bodies (n + 1) ls else if b then read_lines bodies (n + 1) nothing ls else refused n BadHeader) ≡ Ok j → Begun bodies (l ∷ ls) j
+begun-cases bodies n l ls j true b h g later e =
+    let r = later e in
+    record {
+      rest = r.rest;
+      line = r.line;
+      kept_lines = ap (λ (x : Bool). if x then kept ls else words_of l ∷ kept ls) h ∙ r.kept_lines;
+      named = ap (λ (o : Option Word). cons_option o (names_in ls)) (skipped-none (words_of l) h) ∙ r.named;
+      read = r.read;
+    }
+begun-cases bodies n l ls j false true h g later e =
+    let header : words_of l ≡ header_words = header-said (words_of l) g in
+    record {
+      rest = ls;
+      line = n + 1;
+      kept_lines = ap (λ (x : Bool). if x then kept ls else words_of l ∷ kept ls) h ∙ ap (λ (w : Words). w ∷ kept ls) header;
+      named = ap (λ (w : Words). cons_option (declared_by w) (names_in ls)) header ∙ ap (λ (o : Option Word). cons_option o (names_in ls)) header-none;
+      read = e;
+    }
+begun-cases bodies n l ls j false false h g later e = absurd cc
+
+begins : (bodies : List Word) (ls : List (List ℕ)) (n : ℕ) (j : JobTree) → read_from bodies n ls ≡ Ok j → Begun bodies ls j
+begins bodies [] n j e = absurd cc
+begins bodies (l ∷ ls) n j e = begun-cases bodies n l ls j (is_skipped (words_of l)) (is_header (words_of l)) refl refl (begins bodies ls (n + 1) j) e
+
+lines-are-text : (ls : List (List ℕ)) (j : JobTree) → read_from (declared ls) 1 ls ≡ Ok j → IsTextOf j (kept ls)
+lines-are-text ls j e =
+    let b = begins (declared ls) ls 1 j e in
+    let names = lines-named (declared ls) b.rest b.line nothing j (omega arith) b.read in
+    let all : names_in ls ≡ body_names j = b.named ∙ sym names.0 in
+    let same : declared ls ≡ body_names j =
+    ap (λ (x : List Word). take 64 x) all ∙ take_all 64 (body_names j) names.1 in
+    let told : Told (body_names j) (kept b.rest) j =
+    subst (λ (x : List Word). Told x (kept b.rest) j) same (lines-told (declared ls) b.rest b.line nothing [] j (told-nothing (declared ls)) b.read) in
+    record {
+      items = told.items;
+      written = b.kept_lines ∙ ap (λ (x : List Words). header_words ∷ x) told.written;
+      said = told.said;
+      sound = told.sound;
+    }
+
+unless-ok : (o : Option ℕ) (r : Result JobTree Refusal) (j : JobTree) → unless_bad o r ≡ Ok j → r ≡ Ok j
+unless-ok None r j e = e
+unless-ok (Some n) r j e = absurd cc
+
+long-ok : (b : Bool) (o : Option ℕ) (r : Result JobTree Refusal) (j : JobTree) → (if b then refused 1 TooLong else unless_bad o r) ≡ Ok j → r ≡ Ok j
+long-ok true o r j e = absurd cc
+long-ok false o r j e = unless-ok o r j e
+
+-- what a text says as a job has that text
+pub text-told : (text : List ℕ) (j : JobTree) → job_in text ≡ Ok j → IsTextOf j (kept (lines_of text))
+unfolding job_in
+text-told text j e =
+    lines-are-text (lines_of text) j
+    (long-ok (nat_lt 1048576 (length text)) (bad_byte_line 1 text) (read_from (declared (lines_of text)) 1 (lines_of text)) j e)
+
+judged : (text : List ℕ) (r : Result JobTree Refusal) → job_in text ≡ r → IsRead text ⊎ IsRefused text
+judged text (Ok j) e = inl (j, e, text-told text j e)
+judged text (Err c) e = inr (c, e)
+
+never-both : (text : List ℕ) → IsRead text → IsRefused text → ⊥
+never-both text a b = let same : ◌≡◌ {A = Result JobTree Refusal} (Ok a.0) (Err b.0) = sym a.1 ∙ b.1 in cc
+
+pub each-text : EachTextIsReadOrRefused
+each-text = λ text. (judged text (job_in text) refl, λ a b. never-both text a b)
+
+pub ruleset text_steps = (text-told)

@@ -1,0 +1,9 @@
+use Rattle.std.proofs.Common.{◌∙◌}
+use Rattle.job_reader.proofs.NumberedLemmas.{numbered-next}
+use Rattle.job_reader.proofs.outer.all_numbered.Goals as goal
+
+pub loop-word-preserved : goal.loop-word-preserved
+loop-word-preserved c =
+    numbered-next c.loop-word.values.items c.push.new.self.items c.in-Ok.n c.in-Some.word.now _ _ c.in-Ok.ensures.number c.in-Ok.ensures.fits
+    c.in_ok-push-in-Ok.ensures.items c.in-Some.ensures.words
+    ∙ c.loop-word.invariant

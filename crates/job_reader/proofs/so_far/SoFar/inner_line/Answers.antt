@@ -1,0 +1,21 @@
+use Rattle.std.proofs.Common.{◌∙◌, ap, sym}
+use Rattle.job_words.specs.Views.{lent}
+use Rattle.job_reader.specs.Reading.{mentioning}
+use Rattle.job_reader.proofs.LineLemmas.{said-stands, line-refused, line-put}
+use Rattle.job_reader.proofs.so_far.SoFar.inner_line.Goals as goal
+
+pub returns-in-Err-clause-line : goal.returns-in-Err-clause-line
+returns-in-Err-clause-line c = λ j o s i.
+    line-refused _ (lent c.args.bodies.now) j o c.args.keyword (lent c.args.words.now) c.in-Err.code
+    (ap lent c.deref.ensures.value ∙ s.array_names)
+    (c.in-Err.ensures.said (mentioning o c.args.keyword (lent c.args.words.now)) (c.in-Ok.ensures.noted o i))
+
+pub returns-in-Ok-put_line-clause-line : goal.returns-in-Ok-put_line-clause-line
+returns-in-Ok-put_line-clause-line c = λ j o s i.
+    let noted = mentioning o c.args.keyword (lent c.args.words.now) in
+    let inside = c.in-Ok.ensures.noted o i in
+    let said = c.in-Ok-said.ensures.said noted inside in
+    line-put _ (lent c.args.bodies.now) j o c.args.keyword (lent c.args.words.now) c.in-Ok-said.line c.put_line.new.self c.in-Ok-put_line.inner
+    (ap lent c.deref.ensures.value ∙ s.array_names)
+    said
+    (c.in-Ok-put_line.ensures.line j noted s inside (said-stands _ _ noted c.args.keyword (lent c.args.words.now) c.in-Ok-said.line said))

@@ -1,0 +1,71 @@
+-- What the lines above a line say (own).
+use Rattle.std.specs.Prelude.{ℕ, ◌+◌, Bool, true, false, if◌then◌else◌, List, [], ◌∷◌, ◌++◌, Option, Some, None, length}
+use Rattle.job_words.specs.Words.{Word}
+use Rattle.task_lang.specs.Tree.{Block, Done}
+use Rattle.task_lang.specs.Open.{Frame, InIf, InElse, InWhile}
+use Rattle.task_lang.specs.Limits.{is_statement}
+use Rattle.task_lang.specs.declared.code.Line.{Line}
+use Rattle.task_lang.specs.declared.code.Line.TheVariants as line
+use Rattle.job_reader.specs.Trees.{BodyTree, JobTree}
+
+-- a body that is open: its locals so far, its open lines, the innermost first, the statements behind that, and how
+-- many statements it has
+pub record Inside : Type 0 where
+  pub name : Word
+  pub locals : List Word
+  pub frames : List Frame
+  pub block : Block
+  pub statements : ℕ
+
+-- the job so far, the open body, and the first line that names a body that isn't there
+pub record Above : Type 0 where
+  pub job : JobTree
+  pub inside : Option Inside
+  pub missing : Option ℕ
+
+abbrev pub nothing : Above
+nothing = record { job = record { arrays = []; bodies = []; starts = [] }; inside = None; missing = None }
+
+-- an `else` wants an `if` without one as the innermost open line
+abbrev pub can_else : List Frame → Bool
+can_else [] = false
+can_else (InIf e before ∷ fs) = true
+can_else (InElse e before a ∷ fs) = false
+can_else (InWhile e before ∷ fs) = false
+
+abbrev pub begun : Word → Inside
+begun name = record { name = name; locals = []; frames = []; block = Done; statements = 0 }
+
+-- how many statements there are behind a line
+abbrev pub statements_behind : ℕ → Line → ℕ
+statements_behind n l = if is_statement l then n + 1 else n
+
+-- the open body behind a line that made these open lines and this block
+abbrev pub grown : Inside → ℕ → List Frame × Block → Inside
+grown o statements s = record { name = o.name; locals = o.locals; frames = s.0; block = s.1; statements = statements }
+
+abbrev pub ended : Inside → BodyTree
+ended o = record { name = o.name; locals = o.locals; block = o.block }
+
+-- a line is open in the body
+abbrev pub is_nested : List Frame → Bool
+is_nested [] = false
+is_nested (f ∷ fs) = true
+
+-- whether a line belongs to the open lines: an `else` to an `if` without one, an end to any
+abbrev pub belongs : Line → List Frame → Bool
+belongs (line.Do a) fs = true
+belongs (line.If e n) fs = true
+belongs (line.While e n) fs = true
+belongs (line.Else n) fs = can_else fs
+belongs line.EndIf fs = is_nested fs
+belongs (line.EndWhile e n) fs = is_nested fs
+
+-- a line may stand where an `else` may or may not
+abbrev pub sits : Bool → Line → Bool
+sits fits (line.Do a) = true
+sits fits (line.If e n) = true
+sits fits (line.While e n) = true
+sits fits (line.Else n) = fits
+sits fits line.EndIf = true
+sits fits (line.EndWhile e n) = true

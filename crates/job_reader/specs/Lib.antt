@@ -1,0 +1,9 @@
+pub mod Above
+pub mod Gives
+pub mod Grammar
+pub mod Laws
+pub mod Outcome
+pub mod Reading
+pub mod Relates
+pub mod Trees
+pub mod Writing

@@ -1,0 +1,284 @@
+-- What a text says as a job, or its first refusal (own).
+use Rattle.std.specs.Prelude.{
+  ℕ,
+  ◌+◌,
+  ◌-◌,
+  Bool,
+  true,
+  false,
+  not,
+  ◌&&◌,
+  ◌||◌,
+  nat_le,
+  nat_lt,
+  if◌then◌else◌,
+  List,
+  [],
+  ◌∷◌,
+  ◌++◌,
+  length,
+  map,
+  take,
+  replicate,
+  codes,
+  Option,
+  Some,
+  None,
+  is_some,
+  Result,
+  Ok,
+  Err,
+  ℤ,
+  pos,
+  negsuc,
+  Vec,
+}
+use Rattle.std.specs.Borrow.{Bor}
+use Rattle.std.specs.declared.alloc.Global.{Global}
+use Rattle.std.specs.List.{filter_map}
+use Rattle.std.specs.Str.{bytes_eq}
+use Rattle.text_lines.specs.declared.refusal.Code.{Code}
+use Rattle.text_lines.specs.declared.refusal.Code.TheVariants.{
+  TooLong,
+  BadByte,
+  BadHeader,
+  UnknownLine,
+  BadLine,
+  Twice,
+  UnknownName,
+  Unclosed,
+  TooMany,
+  BadLength,
+}
+use Rattle.text_lines.specs.declared.refusal.Refusal.{Refusal}
+use Rattle.text_lines.specs.Text.{lines_of, words_of, is_skipped, bad_byte_line}
+use Rattle.job_words.specs.Faults.{both, made}
+use Rattle.job_words.specs.Words.{Word, Words, named, numbered, noted}
+use Rattle.job_words.specs.Exprs.{Names}
+use Rattle.job_words.specs.declared.lines.Keyword.{Keyword}
+use Rattle.job_words.specs.Lines.{body_at, keyword_of, line_behind, mentions_behind}
+use Rattle.task_lang.specs.Names.{is_among}
+use Rattle.task_lang.specs.Limits.{opened}
+use Rattle.task_lang.specs.Tree.{Block}
+use Rattle.task_lang.specs.Open.{Frame, step_of}
+use Rattle.task_lang.specs.declared.code.Line.{Line}
+use Rattle.task_lang.specs.declared.job.Start.{Start}
+use Rattle.job_reader.specs.declared.outer.Outer.{Outer}
+use Rattle.job_reader.specs.declared.outer.Outer.TheVariants as outer
+use Rattle.job_reader.specs.Trees.{BodyTree, JobTree, array_names, body_names}
+use Rattle.job_reader.specs.Above.{Inside, Above, nothing, can_else, begun, statements_behind, grown, ended}
+
+infixl 10 ◌>>=◌
+abbrev pub ◌>>=◌ : {A B E : Type 0} → Result A E → (A → Result B E) → Result B E
+(Ok x) >>= f = f x
+(Err e) >>= f = Err e
+
+-- a refusal of this line
+abbrev pub refused : {A : Type 0} → ℕ → Code → Result A Refusal
+refused line code = Err (record { line = line; code = code })
+
+abbrev pub at : {A : Type 0} → ℕ → Result A Code → Result A Refusal
+at line (Ok x) = Ok x
+at line (Err code) = refused line code
+
+-- the first line
+abbrev pub is_header : Words → Bool
+is_header [] = false
+is_header (a ∷ []) = false
+is_header (a ∷ b ∷ []) = bytes_eq a (codes "bsp") && bytes_eq b (codes "1")
+is_header (a ∷ b ∷ c ∷ ws) = false
+
+-- the first word of a line outside bodies
+unfoldable pub outer_of : Word → Option Outer
+outer_of w =
+    if bytes_eq w (codes "array") then Some outer.Array
+    else if bytes_eq w (codes "body") then Some outer.Body
+    else if bytes_eq w (codes "start") then Some outer.Start
+    else None
+
+-- the name that a line gives to a body, if it is such a line
+abbrev pub name_if_body : Option Outer → Words → Option Word
+name_if_body None ws = None
+name_if_body (Some outer.Array) ws = None
+name_if_body (Some outer.Start) ws = None
+name_if_body (Some outer.Body) [] = None
+name_if_body (Some outer.Body) (name ∷ ws) = Some name
+
+abbrev pub declared_by : Words → Option Word
+declared_by [] = None
+declared_by (k ∷ ws) = name_if_body (outer_of k) ws
+
+-- the bodies of a text in declared order: a body may be named before it stands
+abbrev pub declared : List (List ℕ) → List Word
+declared lines = take 64 (filter_map (λ l. declared_by (words_of l)) lines)
+
+-- values as they are lent, if they are read
+abbrev pub items_if_ok : Result (Vec ℤ Global) Code → Result (List ℤ) Code
+items_if_ok (Ok values) = Ok values.items
+items_if_ok (Err code) = Err code
+
+abbrev pub word_if_ok : Result (Bor (List ℕ)) Code → Result Word Code
+word_if_ok (Ok w) = Ok w.now
+word_if_ok (Err code) = Err code
+
+abbrev pub array_if_ok : Result (Bor (List ℕ) × Vec ℤ Global) Code → Result (Word × List ℤ) Code
+array_if_ok (Ok a) = Ok (a.0.now, a.1.items)
+array_if_ok (Err code) = Err code
+
+-- numbers in front of those that are read
+abbrev pub with_front : List ℤ → Result (List ℤ) Code → Result (List ℤ) Code
+with_front front read = read >>= λ ns. Ok (front ++ ns)
+
+-- values as numbers
+abbrev pub all_numbered : Words → Result (List ℤ) Code
+all_numbered [] = Ok []
+all_numbered (w ∷ ws) = numbered w >>= λ n. all_numbered ws >>= λ ns. Ok (n ∷ ns)
+
+-- 1 to 4096 cells; the values that are left out are 0
+abbrev pub filled : ℤ × List ℤ → Result (List ℤ) Code
+filled (negsuc n, values) = Err BadLength
+filled (pos n, values) =
+    if nat_le 1 n && nat_le n 4096 && nat_le (length values) n then Ok (values ++ replicate (n - length values) (pos 0))
+    else Err BadLength
+
+abbrev pub cells_of : Word → Words → Result (List ℤ) Code
+cells_of len values = both (numbered len) (all_numbered values) >>= filled
+
+abbrev pub array_of : Words → Result (Word × List ℤ) Code
+array_of [] = Err BadLine
+array_of (name ∷ []) = Err BadLine
+array_of (name ∷ len ∷ values) = made (λ p. (name, p.1)) (both (named name) (cells_of len values))
+
+abbrev pub body_of : Words → Result Word Code
+body_of [] = Err BadLine
+body_of (name ∷ []) = made (λ _. name) (named name)
+body_of (name ∷ w ∷ ws) = Err BadLine
+
+abbrev pub start_from : ℕ × ℤ → Start
+start_from p = record { body = p.0; arg = p.1 }
+
+abbrev pub start_of : List Word → Words → Result Start Code
+start_of bodies [] = Err BadLine
+start_of bodies (body ∷ []) = Err BadLine
+start_of bodies (body ∷ n ∷ []) = made start_from (both (body_at bodies body) (numbered n))
+start_of bodies (body ∷ n ∷ w ∷ ws) = Err BadLine
+
+-- an array of a name of its own, of at most 16
+abbrev pub with_array : JobTree → Word × List ℤ → Result JobTree Code
+with_array j x =
+    if is_among (array_names j) x.0 then Err Twice
+    else if nat_le 16 (length (array_names j)) then Err TooMany
+    else Ok (record j { arrays = j.arrays ++ x ∷ [] })
+
+-- a body of a name of its own, of at most 64
+abbrev pub new_body : JobTree → Word → Result Inside Code
+new_body j name =
+    if is_among (body_names j) name then Err Twice
+    else if nat_le 64 (length (body_names j)) then Err TooMany
+    else Ok (begun name)
+
+-- a start line, of at most 4096
+abbrev pub with_start : JobTree → Start → Result JobTree Code
+with_start j s = if nat_le 4096 (length j.starts) then Err TooMany else Ok (record j { starts = j.starts ++ s ∷ [] })
+
+abbrev pub array_line : JobTree → Words → Result JobTree Code
+array_line j ws = array_of ws >>= with_array j
+
+abbrev pub body_line : JobTree → Words → Result Inside Code
+body_line j ws = body_of ws >>= new_body j
+
+abbrev pub start_line : List Word → JobTree → Words → Result JobTree Code
+start_line bodies j ws = start_of bodies ws >>= with_start j
+
+-- a line outside bodies: the job behind it, and the body that it opens
+abbrev pub outer_line : List Word → JobTree → Option Outer → Words → Result (JobTree × Option Inside) Code
+outer_line bodies j None ws = Err UnknownLine
+outer_line bodies j (Some outer.Array) ws = made (λ k. (k, None)) (array_line j ws)
+outer_line bodies j (Some outer.Body) ws = made (λ o. (j, Some o)) (body_line j ws)
+outer_line bodies j (Some outer.Start) ws = made (λ k. (k, None)) (start_line bodies j ws)
+
+-- at most 1024 statements, 32 locals and 16 lines open at once
+abbrev pub is_over : ℕ → ℕ → ℕ → Bool
+is_over statements locals open_lines = nat_lt 1024 statements || nat_lt 32 locals || nat_lt 16 open_lines
+
+abbrev pub within_limits : Inside → Line → Result Line Code
+within_limits o l =
+    if is_over (statements_behind o.statements l) (length o.locals) (opened (length o.frames) l) then Err TooMany else Ok l
+
+-- the job and the open body behind a line in it, by what the line made of the open lines: nothing where it ends the body
+abbrev pub behind : JobTree → Inside → ℕ → Option (List Frame × Block) → JobTree × Option Inside
+behind j o statements None = (record j { bodies = j.bodies ++ ended o ∷ [] }, None)
+behind j o statements (Some s) = (j, Some (grown o statements s))
+
+abbrev pub with_line : JobTree → Inside → Line → JobTree × Option Inside
+with_line j o l = behind j o (statements_behind o.statements l) (step_of l o.frames o.block)
+
+-- the open body with the mentions of a line noted
+abbrev pub mentioning : Inside → Option Keyword → Words → Inside
+mentioning o k ws = record o { locals = noted o.locals (mentions_behind k ws) }
+
+-- the line that words say in an open body in which their mentions are noted
+abbrev pub said : List Word → List Word → Inside → Option Keyword → Words → Result Line Code
+said arrays bodies o k ws =
+    line_behind (record { arrays = arrays; bodies = bodies; locals = o.locals }) (can_else o.frames) k ws >>= within_limits o
+
+-- a line in a body, in which its mentions are noted
+abbrev pub noted_line : List Word → JobTree → Inside → Option Keyword → Words → Result (JobTree × Option Inside) Code
+noted_line bodies j o k ws = made (with_line j o) (said (array_names j) bodies o k ws)
+
+abbrev pub inner_line : List Word → JobTree → Inside → Option Keyword → Words → Result (JobTree × Option Inside) Code
+inner_line bodies j o k ws = noted_line bodies j (mentioning o k ws) k ws
+
+abbrev pub any_line : List Word → JobTree → Option Inside → Words → Result (JobTree × Option Inside) Code
+any_line bodies j i [] = Err UnknownLine
+any_line bodies j (Some o) (k ∷ ws) = inner_line bodies j o (keyword_of k) ws
+any_line bodies j None (k ∷ ws) = outer_line bodies j (outer_of k) ws
+
+-- whether a line names a body that isn't there
+abbrev pub is_missing : List Word → Words → Bool
+is_missing bodies [] = false
+is_missing bodies (k ∷ []) = false
+is_missing bodies (k ∷ b ∷ ws) = (bytes_eq k (codes "spawn") || bytes_eq k (codes "start")) && not (is_among bodies b)
+
+abbrev pub first_missing : Option ℕ → ℕ → Bool → Option ℕ
+first_missing (Some n) line b = Some n
+first_missing None line b = if b then Some line else None
+
+-- what a line makes of the lines above it
+abbrev pub line_step : List Word → ℕ → Above → Words → Result Above Code
+line_step bodies line a ws =
+    made (λ p. record { job = p.0; inside = p.1; missing = first_missing a.missing line (is_missing bodies ws) })
+    (any_line bodies a.job a.inside ws)
+
+abbrev pub kept_step : List Word → ℕ → Above → Words → Result Above Code
+kept_step bodies line a ws = if is_skipped ws then Ok a else line_step bodies line a ws
+
+-- no body is open, and each that is named is there
+abbrev pub finished : ℕ → Above → Option Inside → Option ℕ → Result JobTree Refusal
+finished line a (Some o) missing = refused line Unclosed
+finished line a None (Some n) = refused n UnknownName
+finished line a None None = Ok a.job
+
+-- the lines from this number on, behind the lines above
+abbrev pub read_lines : List Word → ℕ → Above → List (List ℕ) → Result JobTree Refusal
+read_lines bodies line a [] = finished line a a.inside a.missing
+read_lines bodies line a (l ∷ ls) =
+    at line (kept_step bodies line a (words_of l)) >>= λ b. read_lines bodies (line + 1) b ls
+
+-- the first line, and the lines behind it
+abbrev pub read_from : List Word → ℕ → List (List ℕ) → Result JobTree Refusal
+read_from bodies line [] = refused line BadHeader
+read_from bodies line (l ∷ ls) =
+    if is_skipped (words_of l) then read_from bodies (line + 1) ls
+    else if is_header (words_of l) then read_lines bodies (line + 1) nothing ls
+    else refused line BadHeader
+
+abbrev pub unless_bad : Option ℕ → Result JobTree Refusal → Result JobTree Refusal
+unless_bad None read = read
+unless_bad (Some line) read = refused line BadByte
+
+-- What a text says: its length is looked at first, then its bytes, then line by line.
+unfoldable pub job_in : List ℕ → Result JobTree Refusal
+job_in text =
+    if nat_lt 1048576 (length text) then refused 1 TooLong
+    else unless_bad (bad_byte_line 1 text) (read_from (declared (lines_of text)) 1 (lines_of text))

@@ -1,0 +1,320 @@
+//! Lines that the job grows by.
+ghost use Rattle.std.specs.Prelude.{◌≡◌, ◌≤◌, ◌∷◌, [], ◌++◌, length, map, string_bytes, IfOk, IfErr, IfSome, OnOk, ◌<◌, Option, true};
+ghost use Rattle.std.specs.Option.{ForSome};
+ghost use Rattle.text_lines.specs.Text.{words_of};
+ghost use Rattle.job_words.specs.Views.{lent};
+ghost use Rattle.job_reader.specs.Trees.{JobTree, body_tree, job_tree};
+ghost use Rattle.job_reader.specs.Above.{Inside, nothing, can_else, sits, ended, statements_behind};
+ghost use Rattle.job_reader.specs.Reading as spec;
+ghost use Rattle.job_reader.specs.Relates.{IsSoFar, IsInside, IsOpened, IsBehind};
+ghost use Rattle.job_reader.specs.Gives.{LineGives};
+
+use crate::fault::{LineFault, ReadJobFault};
+use crate::inside::OpenBody;
+use crate::outer::{Outer, array_of, body_of, outer_of, start_of};
+use crate::so_far::SoFar;
+use job_words::lines::{Keyword, keyword_of};
+use job_words::words::is_among;
+use std::alloc::{AllocError, Global};
+use superstep_memory::arrays::Arrays;
+use task_lang::body::Body;
+use task_lang::code::Line;
+use task_lang::job::Job;
+use text_lines::{Code, split_word};
+
+/// The most arrays of a job.
+const MOST_ARRAYS: usize = 16;
+
+/// The most bodies of a job.
+const MOST_BODIES: usize = 64;
+
+/// The most start lines of a job.
+const MOST_STARTS: usize = 4096;
+
+// A name as a string of its own.
+fn name_text(alloc: Global, name: &[u8]) -> Result<String, AllocError>
+    ensures { IfOk result (λ text. string_bytes text ≡ name.now) }
+{
+    match str::from_utf8(name) {
+        Ok(text) => String::from_str(alloc, text),
+        Err(_) => Err(AllocError),
+    }
+}
+
+// Names as strings of their own.
+fn name_texts(alloc: Global, names: &[&[u8]]) -> Result<Vec<String>, AllocError>
+    ensures { IfOk result (λ texts. map string_bytes texts.items ≡ lent names.now) }
+{
+    let mut texts = Vec::new(alloc);
+    for name in names {
+        texts.push(name_text(alloc, name)?)?;
+    }
+    Ok(texts)
+}
+
+// The body that an open one is, where no line is open in it.
+fn finished(alloc: Global, inner: OpenBody<'_>) -> Result<Body, AllocError>
+    ensures { IfOk result (λ body. (o : Inside) → IsInside o inner.entry → o.frames ≡ [] → body_tree body ≡ ended o) }
+{
+    let OpenBody {
+        name,
+        locals,
+        builder,
+        statements: _,
+    } = inner;
+    let name = name_text(alloc, name)?;
+    let locals = name_texts(alloc, &locals)?;
+    match Body::new(alloc, name, locals, builder.code)? {
+        Some(body) => Ok(body),
+        None => Err(AllocError),
+    }
+}
+
+// The words of a line.
+fn words_in<'a>(alloc: Global, line: &'a [u8]) -> Result<Vec<&'a [u8]>, AllocError>
+    ensures { IfOk result (λ words. lent words.items ≡ words_of line.entry.now) }
+{
+    let mut words = Vec::new(alloc);
+    let mut rest = line;
+    while let Some((word, after)) = split_word(rest) {
+        rest = after;
+        words.push(word)?;
+    }
+    Ok(words)
+}
+
+impl<'a> SoFar<'a> {
+    /// Nothing yet.
+    pub(crate) fn new(alloc: Global) -> Self
+        ensures { IsSoFar nothing.job result }
+    {
+        SoFar {
+            arrays: Arrays::new(alloc),
+            array_names: Vec::new(alloc),
+            bodies: Vec::new(alloc),
+            body_names: Vec::new(alloc),
+            starts: Vec::new(alloc),
+        }
+    }
+
+    /// The job.
+    pub(crate) fn job(self) -> Result<Job, ReadJobFault>
+        ensures job { (j : JobTree) → IsSoFar j self.entry → IfOk result (λ job. job_tree job ≡ j) }
+        ensures memory { IfErr result (λ fault. fault ≡ ReadJobFault.Memory) }
+    {
+        let SoFar {
+            arrays,
+            array_names: _,
+            bodies,
+            body_names: _,
+            starts,
+        } = self;
+        match Job::new(arrays, bodies, starts) {
+            Some(job) => Ok(job),
+            None => Err(ReadJobFault::Memory),
+        }
+    }
+
+    // Puts an array behind the others.
+    fn push_array(
+        &mut self,
+        text: String,
+        name: &'a [u8],
+        cells: Vec<i64>,
+    ) -> Result<(), AllocError>
+        requires text { string_bytes text ≡ name.now }
+        requires few { length self.old.array_names.items < 16 }
+        ensures { OnOk result ((j : JobTree) → IsSoFar j self.old
+            → IsSoFar (record j { arrays = j.arrays ++ (name.entry.now, cells.items) ∷ [] }) self.new) }
+    {
+        if !self.arrays.add(text, cells)? {
+            return Err(AllocError);
+        }
+        self.array_names.push(name)?;
+        Ok(())
+    }
+
+    // A line with an array.
+    fn add_array(&mut self, alloc: Global, line: &'a [u8]) -> Result<(), LineFault>
+        ensures { (j : JobTree) → IsSoFar j self.old
+            → LineGives (λ _ k. IsSoFar k self.new) result (spec.array_line j (words_of line.entry.now)) }
+    {
+        let (name, cells) = match array_of(alloc, line) {
+            Ok(Ok(array)) => array,
+            Ok(Err(code)) => return Err(LineFault::Refused(code)),
+            Err(_) => return Err(LineFault::Memory),
+        };
+        if is_among(&self.array_names, name) {
+            return Err(LineFault::Refused(Code::Twice));
+        }
+        if self.array_names.len() >= MOST_ARRAYS {
+            return Err(LineFault::Refused(Code::TooMany));
+        }
+        let Ok(text) = name_text(alloc, name) else {
+            return Err(LineFault::Memory);
+        };
+        match self.push_array(text, name, cells) {
+            Ok(()) => Ok(()),
+            Err(_) => Err(LineFault::Memory),
+        }
+    }
+
+    // The first line of a body.
+    fn begin_body(&self, alloc: Global, line: &'a [u8]) -> Result<OpenBody<'a>, LineFault>
+        ensures begun { (j : JobTree) → IsSoFar j self.now
+            → LineGives (λ w o. IsInside o w) result (spec.body_line j (words_of line.entry.now)) }
+        ensures few { IfOk result (λ w. length w.locals.items ≤ 32) }
+    {
+        let name = match body_of(line) {
+            Ok(name) => name,
+            Err(code) => return Err(LineFault::Refused(code)),
+        };
+        if is_among(&self.body_names, name) {
+            return Err(LineFault::Refused(Code::Twice));
+        }
+        if self.body_names.len() >= MOST_BODIES {
+            return Err(LineFault::Refused(Code::TooMany));
+        }
+        Ok(OpenBody::begin(alloc, name))
+    }
+
+    // A start line.
+    fn add_start(&mut self, bodies: &[&'a [u8]], line: &'a [u8]) -> Result<(), LineFault>
+        requires { length bodies.now ≤ 65536 }
+        ensures { (j : JobTree) → IsSoFar j self.old
+            → LineGives (λ _ k. IsSoFar k self.new) result (spec.start_line (lent bodies.now) j (words_of line.entry.now)) }
+    {
+        let start = match start_of(bodies, line) {
+            Ok(start) => start,
+            Err(code) => return Err(LineFault::Refused(code)),
+        };
+        if self.starts.len() >= MOST_STARTS {
+            return Err(LineFault::Refused(Code::TooMany));
+        }
+        match self.starts.push(start) {
+            Ok(()) => Ok(()),
+            Err(_) => Err(LineFault::Memory),
+        }
+    }
+
+    // The end of a body.
+    fn add_body(&mut self, alloc: Global, inner: OpenBody<'a>) -> Result<(), AllocError>
+        ensures { OnOk result ((j : JobTree) (o : Inside) → IsSoFar j self.old → IsInside o inner.entry → o.frames ≡ []
+            → IsSoFar (record j { bodies = j.bodies ++ ended o ∷ [] }) self.new) }
+    {
+        let name = inner.name;
+        let body = finished(alloc, inner)?;
+        self.bodies.push(body)?;
+        self.body_names.push(name)?;
+        Ok(())
+    }
+
+    // A line outside bodies, from what it begins and the line behind that.
+    fn outer_line(
+        &mut self,
+        alloc: Global,
+        bodies: &[&'a [u8]],
+        begins: Option<Outer>,
+        line: &'a [u8],
+    ) -> Result<Option<OpenBody<'a>>, LineFault>
+        requires { length bodies.now ≤ 64 }
+        ensures line { (j : JobTree) → IsSoFar j self.old
+            → LineGives (λ w p. IsBehind p self.new w) result (spec.outer_line (lent bodies.now) j begins (words_of line.entry.now)) }
+        ensures few { IfOk result (λ o. IfSome o (λ w. length w.locals.items ≤ 32)) }
+    {
+        let Some(begins) = begins else {
+            return Err(LineFault::Refused(Code::UnknownLine));
+        };
+        match begins {
+            Outer::Array => match self.add_array(alloc, line) {
+                Ok(()) => Ok(None),
+                Err(fault) => Err(fault),
+            },
+            Outer::Body => match self.begin_body(alloc, line) {
+                Ok(inner) => Ok(Some(inner)),
+                Err(fault) => Err(fault),
+            },
+            Outer::Start => match self.add_start(bodies, line) {
+                Ok(()) => Ok(None),
+                Err(fault) => Err(fault),
+            },
+        }
+    }
+
+    // A line in an open body, by what it says.
+    fn put_line(
+        &mut self,
+        alloc: Global,
+        inner: OpenBody<'a>,
+        line: Line,
+    ) -> Result<Option<OpenBody<'a>>, AllocError>
+        requires { statements_behind inner.statements line ≤ 1024 }
+        ensures line { IfOk result (λ w. (j : JobTree) (o : Inside) → IsSoFar j self.old → IsInside o inner.entry
+            → sits (can_else o.frames) line ≡ true → IsBehind (spec.with_line j o line) self.new w) }
+        ensures few { IfOk result (λ o. IfSome o (λ w. w.locals ≡ inner.entry.locals)) }
+    {
+        if inner.belongs(line) {
+            let mut inner = inner;
+            inner.push(line)?;
+            Ok(Some(inner))
+        } else {
+            self.add_body(alloc, inner)?;
+            Ok(None)
+        }
+    }
+
+    // A line in an open body, from its keyword and the words behind it.
+    fn inner_line(
+        &mut self,
+        alloc: Global,
+        bodies: &[&'a [u8]],
+        inner: OpenBody<'a>,
+        keyword: Option<Keyword>,
+        words: &[&'a [u8]],
+    ) -> Result<Option<OpenBody<'a>>, LineFault>
+        requires bodies { length bodies.now ≤ 64 }
+        requires few { length inner.locals.items ≤ 32 }
+        ensures line { (j : JobTree) (o : Inside) → IsSoFar j self.old → IsInside o inner.entry
+            → LineGives (λ w p. IsBehind p self.new w) result (spec.inner_line (lent bodies.now) j o keyword (lent words.now)) }
+        ensures few { IfOk result (λ o. IfSome o (λ w. length w.locals.items ≤ 32)) }
+    {
+        let mut inner = inner;
+        let Ok(()) = inner.note(keyword, words) else {
+            return Err(LineFault::Memory);
+        };
+        let line = match inner.said(&self.array_names, bodies, keyword, words) {
+            Ok(line) => line,
+            Err(code) => return Err(LineFault::Refused(code)),
+        };
+        match self.put_line(alloc, inner, line) {
+            Ok(inner) => Ok(inner),
+            Err(_) => Err(LineFault::Memory),
+        }
+    }
+
+    /// A line that isn't skipped, from its first word and the line behind that, where a body may be open.
+    pub(crate) fn any_line(
+        &mut self,
+        alloc: Global,
+        bodies: &[&'a [u8]],
+        inside: Option<OpenBody<'a>>,
+        first: &'a [u8],
+        rest: &'a [u8],
+    ) -> Result<Option<OpenBody<'a>>, LineFault>
+        requires bodies { length bodies.now ≤ 64 }
+        requires few { ForSome inside (λ w. length w.locals.items ≤ 32) }
+        ensures line { (j : JobTree) (i : Option Inside) → IsSoFar j self.old → IsOpened i inside.entry
+            → LineGives (λ w p. IsBehind p self.new w) result (spec.any_line (lent bodies.now) j i (first.entry.now ∷ words_of rest.entry.now)) }
+        ensures few { IfOk result (λ o. IfSome o (λ w. length w.locals.items ≤ 32)) }
+    {
+        match inside {
+            None => self.outer_line(alloc, bodies, outer_of(first), rest),
+            Some(inner) => {
+                let Ok(words) = words_in(alloc, rest) else {
+                    return Err(LineFault::Memory);
+                };
+                self.inner_line(alloc, bodies, inner, keyword_of(first), &words)
+            }
+        }
+    }
+}

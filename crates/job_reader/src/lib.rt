@@ -1,0 +1,22 @@
+//! The text of a job: read as the job that it says or refused at its first fault, and written in one way.
+#![tactic(auto)]
+
+mod fault;
+mod grow;
+mod inside;
+mod laws;
+mod outer;
+mod push;
+mod read;
+mod so_far;
+mod state;
+mod write;
+
+pub use fault::{ReadJobFault, WriteJobFault};
+pub use laws::{each_text_is_read_or_refused, read_texts_are_jobs};
+pub use read::read_job;
+pub use text_lines::{Code, Refusal};
+pub use write::write_job;
+
+#[cfg(test)]
+mod tests;

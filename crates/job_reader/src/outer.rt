@@ -1,0 +1,174 @@
+//! Lines outside bodies as words.
+ghost use Rattle.std.specs.Prelude.{◌≡◌, ◌≤◌, ◌∷◌, length, None, Some, IfOk, MatchOption};
+ghost use Rattle.text_lines.specs.Text.{words_of};
+ghost use Rattle.job_words.specs.Views.{lent};
+ghost use Rattle.job_reader.specs.Reading as spec;
+
+use job_words::faults::both;
+use job_words::lines::body_at;
+use job_words::words::{named, numbered};
+use std::alloc::{AllocError, Global};
+use task_lang::job::Start;
+use text_lines::{Code, split_word};
+
+/// The first word of a line outside bodies.
+#[derive(Clone, Copy, Debug, PartialEq, Eq)]
+pub enum Outer {
+    /// `array`
+    Array,
+    /// `body`
+    Body,
+    /// `start`
+    Start,
+}
+
+/// The most cells of an array.
+const MOST_CELLS: usize = 4096;
+
+/// What a word begins outside bodies, if anything.
+#[tactic(auto, unfolding(crate::specs::Reading::outer_of))]
+pub(crate) fn outer_of(word: &[u8]) -> Option<Outer>
+    ensures { result ≡ spec.outer_of word.now }
+{
+    if word == b"array".as_slice() {
+        Some(Outer::Array)
+    } else if word == b"body".as_slice() {
+        Some(Outer::Body)
+    } else if word == b"start".as_slice() {
+        Some(Outer::Start)
+    } else {
+        None
+    }
+}
+
+/// Whether this is the first line of a job, from its first word and the line behind it.
+pub(crate) fn is_header(first: &[u8], rest: &[u8]) -> bool
+    ensures { result ≡ spec.is_header (first.now ∷ words_of rest.now) }
+{
+    let Some((format, rest)) = split_word(rest) else {
+        return false;
+    };
+    if split_word(rest).is_some() {
+        return false;
+    }
+    first == b"bsp".as_slice() && format == b"1".as_slice()
+}
+
+/// The name that a line gives to a body, if it is such a line.
+pub(crate) fn declared_by(line: &[u8]) -> Option<&[u8]>
+    ensures { MatchOption result (spec.declared_by (words_of line.now) ≡ None) (λ w. spec.declared_by (words_of line.now) ≡ Some w.now) }
+{
+    let Some((first, rest)) = split_word(line) else {
+        return None;
+    };
+    match outer_of(first) {
+        Some(Outer::Body) => match split_word(rest) {
+            Some((name, _)) => Some(name),
+            None => None,
+        },
+        _ => None,
+    }
+}
+
+// Values as numbers.
+fn all_numbered(alloc: Global, line: &[u8]) -> Result<Result<Vec<i64>, Code>, AllocError>
+    ensures { IfOk result (λ read. spec.items_if_ok read ≡ spec.all_numbered (words_of line.now)) }
+{
+    let mut values = Vec::new(alloc);
+    let mut rest = line;
+    while let Some((word, after)) = split_word(rest) {
+        rest = after;
+        match numbered(word) {
+            Ok(n) => values.push(n)?,
+            Err(code) => return Ok(Err(code)),
+        }
+    }
+    Ok(Ok(values))
+}
+
+// Fills values up with zeros to 1 to 4096 cells.
+fn filled(
+    alloc: Global,
+    length: i64,
+    values: Vec<i64>,
+) -> Result<Result<Vec<i64>, Code>, AllocError>
+    ensures { IfOk result (λ read. spec.items_if_ok read ≡ spec.filled (length, values.items)) }
+{
+    let Ok(length) = usize::try_from(length) else {
+        return Ok(Err(Code::BadLength));
+    };
+    if length < 1 || length > MOST_CELLS || values.len() > length {
+        return Ok(Err(Code::BadLength));
+    }
+    let mut cells = values;
+    let zeros = vec![in alloc; 0i64; length - cells.len()]?;
+    cells.extend_from_slice(&zeros)?;
+    Ok(Ok(cells))
+}
+
+// The cells that a length and values say.
+fn cells_of(alloc: Global, len: &[u8], values: &[u8]) -> Result<Result<Vec<i64>, Code>, AllocError>
+    ensures { IfOk result (λ read. spec.items_if_ok read ≡ spec.cells_of len.now (words_of values.now)) }
+{
+    let values = all_numbered(alloc, values)?;
+    match both(numbered(len), values) {
+        Ok((len, values)) => filled(alloc, len, values),
+        Err(code) => Ok(Err(code)),
+    }
+}
+
+/// The name and the cells of an array.
+pub(crate) fn array_of(
+    alloc: Global,
+    line: &[u8],
+) -> Result<Result<(&[u8], Vec<i64>), Code>, AllocError>
+    ensures { IfOk result (λ read. spec.array_if_ok read ≡ spec.array_of (words_of line.now)) }
+{
+    let Some((name, rest)) = split_word(line) else {
+        return Ok(Err(Code::BadLine));
+    };
+    let Some((len, values)) = split_word(rest) else {
+        return Ok(Err(Code::BadLine));
+    };
+    let cells = cells_of(alloc, len, values)?;
+    match both(named(name), cells) {
+        Ok((_, cells)) => Ok(Ok((name, cells))),
+        Err(code) => Ok(Err(code)),
+    }
+}
+
+/// The name of a body.
+pub(crate) fn body_of(line: &[u8]) -> Result<&[u8], Code>
+    ensures { spec.word_if_ok result ≡ spec.body_of (words_of line.now) }
+{
+    let Some((name, rest)) = split_word(line) else {
+        return Err(Code::BadLine);
+    };
+    match split_word(rest) {
+        None => match named(name) {
+            Ok(()) => Ok(name),
+            Err(code) => Err(code),
+        },
+        Some(_) => Err(Code::BadLine),
+    }
+}
+
+/// The body and the argument of a start line.
+pub(crate) fn start_of(bodies: &[&[u8]], line: &[u8]) -> Result<Start, Code>
+    requires { length bodies.now ≤ 65536 }
+    ensures { result ≡ spec.start_of (lent bodies.now) (words_of line.now) }
+{
+    let Some((body, rest)) = split_word(line) else {
+        return Err(Code::BadLine);
+    };
+    let Some((number, rest)) = split_word(rest) else {
+        return Err(Code::BadLine);
+    };
+    match split_word(rest) {
+        None => match both(body_at(bodies, body), numbered(number)) {
+            Ok((body, arg)) => Ok(Start { body, arg }),
+            Err(code) => Err(code),
+        },
+        Some(_) => Err(Code::BadLine),
+    }
+}

@@ -1,0 +1,217 @@
+//! The text of a job, read.
+ghost use Rattle.std.specs.Prelude.{◌≡◌, ◌≤◌, ◌<◌, ◌+◌, ◌^◌, ◌∷◌, length, IfOk, MatchResult, Err, List};
+ghost use Rattle.text_lines.specs.Text.{lines_of, words_of};
+ghost use Rattle.job_words.specs.Words.{Word};
+ghost use Rattle.job_words.specs.Views.{lent};
+ghost use Rattle.job_reader.specs.Trees.{JobTree, job_tree};
+ghost use Rattle.job_reader.specs.Above.{Above, nothing};
+ghost use Rattle.job_reader.specs.Reading as spec;
+ghost use Rattle.job_reader.specs.Relates.{IsAt};
+ghost use Rattle.job_reader.specs.Gives.{LineGives, Gives};
+ghost use Rattle.job_reader.specs.Grammar.{kept, IsTextOf};
+
+use crate::fault::{LineFault, ReadJobFault};
+use crate::outer::{declared_by, is_header};
+use crate::so_far::SoFar;
+use crate::state::State;
+use job_words::words::is_among;
+use std::alloc::{AllocError, Global};
+use task_lang::job::Job;
+use text_lines::{Code, Refusal, bad_byte_line, first_word, split_line, split_word};
+
+/// The most bytes of a job's text.
+const MOST_BYTES: usize = 1_048_576;
+
+/// The most bodies of a job.
+const MOST_BODIES: usize = 64;
+
+// Whether a line names a body that isn't there, from its first word and the line behind it.
+fn is_missing(bodies: &[&[u8]], first: &[u8], rest: &[u8]) -> bool
+    ensures { result ≡ spec.is_missing (lent bodies.now) (first.now ∷ words_of rest.now) }
+{
+    let Some((name, _)) = split_word(rest) else {
+        return false;
+    };
+    if first != b"spawn".as_slice() && first != b"start".as_slice() {
+        return false;
+    }
+    !is_among(bodies, name)
+}
+
+// The bodies of a text, in declared order.
+fn declared<'a>(alloc: Global, text: &'a [u8]) -> Result<Vec<&'a [u8]>, AllocError>
+    ensures names { IfOk result (λ names. lent names.items ≡ spec.declared (lines_of text.entry.now)) }
+    ensures few { IfOk result (λ names. length names.items ≤ 64) }
+{
+    let mut names = Vec::new(alloc);
+    let mut rest = text;
+    while let Some((line, after)) = split_line(rest) {
+        rest = after;
+        if let Some(name) = declared_by(line) {
+            if names.len() < MOST_BODIES {
+                names.push(name)?;
+            }
+        }
+    }
+    Ok(names)
+}
+
+impl<'a> State<'a> {
+    // Above the first line behind the header.
+    fn new(alloc: Global) -> Self
+        ensures { IsAt nothing result }
+    {
+        State {
+            so_far: SoFar::new(alloc),
+            inside: None,
+            missing: None,
+        }
+    }
+
+    // Notes the first line that names a body that isn't there.
+    fn note_missing(&mut self, line: usize, missing: bool)
+        ensures missing { self.new.missing ≡ spec.first_missing self.old.missing line missing }
+        ensures inside { self.new.inside ≡ self.old.inside }
+        ensures so_far { self.new.so_far ≡ self.old.so_far }
+    {
+        if missing && self.missing.is_none() {
+            self.missing = Some(line);
+        }
+    }
+
+    // One line, of this number.
+    fn step(
+        &mut self,
+        alloc: Global,
+        bodies: &[&'a [u8]],
+        line: usize,
+        this: &'a [u8],
+    ) -> Result<(), LineFault>
+        requires { length bodies.now ≤ 64 }
+        ensures { (a : Above) → IsAt a self.old
+            → LineGives (λ _ b. IsAt b self.new) result (spec.kept_step (lent bodies.now) line a (words_of this.entry.now)) }
+    {
+        let Some((first, rest)) = first_word(this) else {
+            return Ok(());
+        };
+        let inside = self.inside.take();
+        match self.so_far.any_line(alloc, bodies, inside, first, rest) {
+            Ok(inside) => {
+                self.inside = inside;
+                self.note_missing(line, is_missing(bodies, first, rest));
+                Ok(())
+            }
+            Err(fault) => Err(fault),
+        }
+    }
+
+    // The job, where no body is open and each that is named is there.
+    fn finished(self, line: usize) -> Result<Job, ReadJobFault>
+        ensures { (a : Above) → IsAt a self.entry → Gives job_tree result (spec.finished line a a.inside a.missing) }
+    {
+        let State {
+            so_far,
+            inside,
+            missing,
+        } = self;
+        if inside.is_some() {
+            let code = Code::Unclosed;
+            return Err(ReadJobFault::Text(Refusal { line, code }));
+        }
+        if let Some(line) = missing {
+            let code = Code::UnknownName;
+            return Err(ReadJobFault::Text(Refusal { line, code }));
+        }
+        so_far.job()
+    }
+}
+
+// The lines behind the header, from this number on.
+fn read_lines<'a>(
+    alloc: Global,
+    bodies: &[&'a [u8]],
+    text: &'a [u8],
+    first: usize,
+) -> Result<Job, ReadJobFault>
+    requires bodies { length bodies.now ≤ 64 }
+    requires lines { first + length text.now < 2 ^ 32 }
+    ensures { Gives job_tree result (spec.read_lines (lent bodies.now) first nothing (lines_of text.entry.now)) }
+{
+    let mut state = State::new(alloc);
+    let mut line = first;
+    let mut rest = text;
+    while let Some((this, after)) = split_line(rest) {
+        rest = after;
+        match state.step(alloc, bodies, line, this) {
+            Ok(()) => {}
+            Err(LineFault::Refused(code)) => {
+                return Err(ReadJobFault::Text(Refusal { line, code }));
+            }
+            Err(LineFault::Memory) => return Err(ReadJobFault::Memory),
+        }
+        line += 1;
+    }
+    state.finished(line)
+}
+
+// The text behind the header, and the number of its first line.
+fn split_header(text: &[u8]) -> Result<(usize, &[u8]), Refusal>
+    requires { length text.now ≤ 1048576 }
+    ensures header { MatchResult result
+        (λ h. (bodies : List Word) → spec.read_from bodies 1 (lines_of text.now) ≡ spec.read_lines bodies h.0 nothing (lines_of h.1.now))
+        (λ r. (bodies : List Word) → spec.read_from bodies 1 (lines_of text.now) ≡ Err r) }
+    ensures lines { IfOk result (λ h. h.0 + length h.1.now ≤ length text.now + 1) }
+{
+    let mut line = 1;
+    let mut rest = text;
+    while let Some((this, after)) = split_line(rest) {
+        rest = after;
+        if let Some((first, behind)) = first_word(this) {
+            if is_header(first, behind) {
+                return Ok((line + 1, rest));
+            }
+            let code = Code::BadHeader;
+            return Err(Refusal { line, code });
+        }
+        line += 1;
+    }
+    let code = Code::BadHeader;
+    Err(Refusal { line, code })
+}
+
+// The job that a text says, or its first refusal.
+#[tactic(auto, unfolding(crate::specs::Reading::job_in))]
+fn read_text(alloc: Global, text: &[u8]) -> Result<Job, ReadJobFault>
+    ensures { Gives job_tree result (spec.job_in text.now) }
+{
+    if text.len() > MOST_BYTES {
+        let code = Code::TooLong;
+        return Err(ReadJobFault::Text(Refusal { line: 1, code }));
+    }
+    if let Some(line) = bad_byte_line(text) {
+        let code = Code::BadByte;
+        return Err(ReadJobFault::Text(Refusal { line, code }));
+    }
+    let (line, rest) = match split_header(text) {
+        Ok(header) => header,
+        Err(refusal) => return Err(ReadJobFault::Text(refusal)),
+    };
+    let Ok(bodies) = declared(alloc, text) else {
+        return Err(ReadJobFault::Memory);
+    };
+    read_lines(alloc, &bodies, rest, line)
+}
+
+/// The job that a text says, or the text's first refusal (own): `TooLong` above 1048576 bytes; then the first byte that
+/// isn't allowed; then the first line that is refused, from the top, and within a line the fault that counts; then
+/// `Unclosed` where the text ends in a body; then the first line that names a body that isn't there.
+#[tactic(auto, using(crate::proofs::ToldWhole::text_steps))]
+pub fn read_job(alloc: Global, text: &[u8]) -> Result<Job, ReadJobFault>
+    ensures read { Gives job_tree result (spec.job_in text.now) }
+    ensures grammar { IfOk result (λ job. IsTextOf (job_tree job) (kept (lines_of text.now))) }
+{
+    match read_text(alloc, text) {
+        Ok(job) => Ok(job),
+        Err(fault) => Err(fault),
+    }
+}

@@ -1,0 +1,17 @@
+//! The job so far.
+ghost use Rattle.std.specs.Prelude.{◌≤◌, length};
+
+use superstep_memory::arrays::Arrays;
+use task_lang::body::Body;
+use task_lang::job::Start;
+
+/// The arrays, bodies and start lines that are read, and the names of the first two as they stand in the text.
+#[derive(Drop)]
+pub(crate) struct SoFar<'a> {
+    pub arrays: Arrays,
+    pub array_names: Vec<&'a [u8]>,
+    pub bodies: Vec<Body>,
+    pub body_names: Vec<&'a [u8]>,
+    pub starts: Vec<Start>,
+    ghost few: { length array_names.items ≤ 16 },
+}

@@ -1,0 +1,157 @@
+//! The canonical text of a job, written.
+ghost use Rattle.std.specs.Prelude.{◌≡◌, ◌++◌, ◌∷◌, [], OnOk, IfOk, map, length};
+ghost use Rattle.std.specs.Fmt.{signed_decimal};
+ghost use Rattle.job_reader.specs.Trees.{body_tree, job_tree};
+ghost use Rattle.job_reader.specs.Grammar as spec;
+ghost use Rattle.job_reader.specs.Grammar.{spaced, line_text, text_of};
+ghost use Rattle.job_reader.specs.Outcome.{WritesJob, WriteCause};
+
+use crate::fault::WriteJobFault;
+use crate::push::{Writing, push_body_name, push_code, push_number};
+use phase_records::{CountedWrite, write_all};
+use std::alloc::{AllocError, Global};
+use superstep_memory::arrays::Arrays;
+use task_lang::body::Body;
+use task_lang::job::{Job, Start};
+
+// Puts values behind what is there, each behind a space.
+fn push_values(out: &mut Vec<u8>, values: &[i64]) -> Result<(), AllocError>
+    ensures { OnOk result (out.new.items ≡ out.old.items ++ spaced (map signed_decimal values.now)) }
+{
+    let mut rest = values;
+    while let Some((value, after)) = rest.split_first() {
+        rest = after;
+        out.extend_from_slice(b" ")?;
+        push_number(out, *value)?;
+    }
+    Ok(())
+}
+
+// Puts the line of an array behind what is there.
+fn push_array(out: &mut Vec<u8>, name: &str, cells: &[i64]) -> Result<(), AllocError>
+    ensures { OnOk result (out.new.items ≡ out.old.items ++ line_text (spec.array_words name.now (length cells.now) cells.now)) }
+{
+    out.extend_from_slice(b"array ")?;
+    out.extend_from_slice(name.as_bytes())?;
+    out.extend_from_slice(b" ")?;
+    push_number(out, cells.len())?;
+    push_cells(out, cells)
+}
+
+// Puts values behind what is there, each behind a space, and an LF.
+fn push_cells(out: &mut Vec<u8>, values: &[i64]) -> Result<(), AllocError>
+    ensures { OnOk result (out.new.items ≡ out.old.items ++ (spaced (map signed_decimal values.now) ++ 10 ∷ [])) }
+{
+    push_values(out, values)?;
+    out.extend_from_slice(b"\n")?;
+    Ok(())
+}
+
+// Puts the lines of the arrays behind what is there.
+fn push_arrays(out: &mut Vec<u8>, arrays: &Arrays) -> Result<(), AllocError>
+    ensures { OnOk result (out.new.items ≡ out.old.items ++ text_of (spec.array_lines arrays.now)) }
+{
+    for place in 0..arrays.len() {
+        if let Some((name, cells)) = arrays.get(place) {
+            push_array(out, name, cells)?;
+        }
+    }
+    Ok(())
+}
+
+// Puts the lines of a body behind what is there.
+fn push_body(
+    out: &mut Vec<u8>,
+    arrays: &Arrays,
+    bodies: &[Body],
+    body: &Body,
+) -> Result<(), AllocError>
+    ensures { OnOk result (out.new.items ≡ out.old.items
+        ++ text_of (spec.body_lines (map (λ a. a.0) arrays.now) (map (λ b. b.name) bodies.now) (body_tree body.now))) }
+{
+    out.extend_from_slice(b"body ")?;
+    out.extend_from_slice(body.name().as_bytes())?;
+    out.extend_from_slice(b"\n")?;
+    let names = Writing {
+        arrays,
+        bodies,
+        locals: body.locals(),
+    };
+    push_code(out, &names, body.code())?;
+    out.extend_from_slice(b"end\n")?;
+    Ok(())
+}
+
+// Puts the lines of bodies behind what is there, where all bodies are these.
+fn push_bodies(
+    out: &mut Vec<u8>,
+    arrays: &Arrays,
+    all: &[Body],
+    bodies: &[Body],
+) -> Result<(), AllocError>
+    ensures { OnOk result (out.new.items ≡ out.old.items
+        ++ text_of (spec.bodies_lines (map (λ a. a.0) arrays.now) (map (λ b. b.name) all.now) (map body_tree bodies.now))) }
+{
+    let mut rest = bodies;
+    while let Some((body, after)) = rest.split_first() {
+        rest = after;
+        push_body(out, arrays, all, body)?;
+    }
+    Ok(())
+}
+
+// Puts a start line behind what is there.
+fn push_start(out: &mut Vec<u8>, bodies: &[Body], start: Start) -> Result<(), AllocError>
+    ensures { OnOk result (out.new.items ≡ out.old.items ++ line_text (spec.start_words (map (λ b. b.name) bodies.now) start)) }
+{
+    out.extend_from_slice(b"start ")?;
+    push_body_name(out, bodies, usize::from(start.body))?;
+    out.extend_from_slice(b" ")?;
+    push_number(out, start.arg)?;
+    out.extend_from_slice(b"\n")?;
+    Ok(())
+}
+
+// Puts start lines behind what is there.
+fn push_starts(out: &mut Vec<u8>, bodies: &[Body], starts: &[Start]) -> Result<(), AllocError>
+    ensures { OnOk result (out.new.items ≡ out.old.items ++ text_of (spec.start_lines (map (λ b. b.name) bodies.now) starts.now)) }
+{
+    let mut rest = starts;
+    while let Some((start, after)) = rest.split_first() {
+        rest = after;
+        push_start(out, bodies, *start)?;
+    }
+    Ok(())
+}
+
+// The canonical text of a job.
+fn canonical(alloc: Global, job: &Job) -> Result<Vec<u8>, AllocError>
+    ensures { IfOk result (λ text. text.items ≡ spec.canonical_text (job_tree job.now)) }
+{
+    let mut out = Vec::new(alloc);
+    out.extend_from_slice(b"bsp 1\n")?;
+    push_arrays(&mut out, job.arrays())?;
+    push_bodies(&mut out, job.arrays(), job.bodies(), job.bodies())?;
+    push_starts(&mut out, job.bodies(), job.starts())?;
+    Ok(out)
+}
+
+/// Writes the canonical text of a job (own): `bsp 1`, the arrays with all their values, the bodies, the start lines, each
+/// in declared order, with single spaces, no comments and an LF behind each line. All memory is taken before the first
+/// byte. `Write` where the writer failed: a beginning of the text went out.
+pub fn write_job<W: CountedWrite>(
+    alloc: Global,
+    job: &Job,
+    writer: &mut W,
+) -> Result<(), WriteJobFault>
+    ensures writes { WritesJob (W.contents writer.old) (W.contents writer.new) result (spec.canonical_text (job_tree job.now)) }
+    ensures failures { WriteCause result (W.failures writer.old) (W.failures writer.new) }
+{
+    let Ok(text) = canonical(alloc, job) else {
+        return Err(WriteJobFault::Memory);
+    };
+    match write_all(writer, &text) {
+        Ok(()) => Ok(()),
+        Err(_) => Err(WriteJobFault::Write),
+    }
+}

@@ -1,0 +1,12 @@
+use Rattle.std.proofs.Common.{◌≡◌, ◌∙◌, sym, ap, List, ℕ, None, ◌∷◌, []}
+use Rattle.std.specs.Borrow.{Bor}
+use Rattle.job_words.specs.Views.{lent}
+use Rattle.job_words.specs.Words.{place_from}
+use Rattle.job_words.proofs.NotedLemmas.{note-new, lent-append}
+use Rattle.job_words.proofs.mentions.note.Goals as goal
+
+pub returns-in_ok-push-in-None-clause-noted : goal.returns-in_ok-push-in-None-clause-noted
+returns-in_ok-push-in-None-clause-noted c =
+    ap lent c.in_ok-push-in-None.ensures.items ∙ lent-append c.args.locals.now.items (c.args.word ∷ [])
+    ∙ sym (note-new (lent c.args.locals.now.items) c.args.word.now
+    (c.in-None.ensures.place ∙ ap (λ (x : List (Bor (List ℕ))). place_from 0 (lent x) c.args.word.now) c.deref.ensures.value))

@@ -1,0 +1,5 @@
+pub mod Exprs
+pub mod Faults
+pub mod Lines
+pub mod Views
+pub mod Words
