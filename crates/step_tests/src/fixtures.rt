@@ -1,4 +1,6 @@
 //! Lines, bodies and jobs for the tests, and the text that a job leaves.
+ghost use Rattle.std.specs.Prelude.{◌≤◌};
+
 use phase_records::{Writer, write_report};
 use std::alloc::{AllocError, Global};
 use std::test::Fail;
@@ -87,7 +89,9 @@ pub(crate) fn job_of(
 }
 
 // The text of the report that the job leaves within this limit.
-pub(crate) fn text_of(alloc: Global, job: &Job, limit: u32) -> Result<Vec<u8>, Fail> {
+pub(crate) fn text_of(alloc: Global, job: &Job, limit: u32) -> Result<Vec<u8>, Fail>
+    requires { 1 ≤ limit }
+{
     let report = run_alone(alloc, job, limit)?;
     let mut out = Vec::new(alloc);
     let mut writer = Writer::new(&mut out);
