@@ -2,6 +2,7 @@ pub mod Above
 pub mod Gives
 pub mod Grammar
 pub mod Laws
+pub mod Legal
 pub mod Outcome
 pub mod Reading
 pub mod Relates
