@@ -1,1 +1,5 @@
+mod Limits
 mod Parsed
+mod Refusals
+mod RunJobs
+mod TooLong

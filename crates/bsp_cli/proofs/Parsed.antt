@@ -1,12 +1,13 @@
--- The subcommand is taken.
+-- The command line as it is taken.
 use Rattle.std.proofs.Common.{◌≡◌, ◌∙◌, ap₂, ℕ, true, List, [], ◌∷◌, codes, refl}
-use Rattle.clap.specs.Words.{App, takes}
+use Rattle.clap.specs.Words.{is_simple_and_free, is_simple}
 use Rattle.clap.proofs.OnLiterals.{clap_on_literals}
-use Rattle.bsp_cli.specs.CommandLine.{AsksForTrace, program}
+use Rattle.bsp_cli.specs.CommandLine.{program}
 
-named : (name : List ℕ) → takes program (name ∷ codes "trace" ∷ []) ≡ true
+pub free-program : is_simple_and_free program ≡ true
 unfolding clap_on_literals
-named name = refl
+free-program = refl
 
-pub trace_taken : (app : App) (words : List (List ℕ)) → app ≡ program → AsksForTrace words → takes app words ≡ true
-trace_taken app words a w = ap₂ takes a w.1 ∙ named w.0
+pub simple-program : is_simple program ≡ true
+unfolding clap_on_literals
+simple-program = refl

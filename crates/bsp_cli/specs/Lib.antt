@@ -1,2 +1,5 @@
-pub mod Texts
 pub mod CommandLine
+pub mod Did
+pub mod Ends
+pub mod Jobs
+pub mod Texts

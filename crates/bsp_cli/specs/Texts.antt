@@ -1,9 +1,10 @@
 -- The lines on standard error (own).
-use Rattle.std.specs.Prelude.{◌≡◌, ℕ, List, ◌++◌, Option, Err, codes, decimal}
+use Rattle.std.specs.Prelude.{◌≡◌, ℕ, List, ◌++◌, Option, codes, decimal}
 use Rattle.std.specs.Io.KnownBytes.{Appends}
 use Rattle.text_lines.specs.declared.refusal.Refusal.{Refusal}
 use Rattle.text_lines.specs.Refusals.{code_number}
-use Rattle.trace_text.specs.Trace.{asked_of}
+use Rattle.bsp_cli.specs.declared.fault.CommandFault.{CommandFault}
+use Rattle.bsp_cli.specs.declared.fault.CommandFault.TheVariants.{Text, Read, Write, Memory}
 
 abbrev pub refusal_line : Refusal → List ℕ
 refusal_line r = (codes "refused line " ++ decimal r.line) ++ (codes " code " ++ decimal (code_number r.code)) ++ codes "\n"
@@ -12,6 +13,15 @@ refusal_line r = (codes "refused line " ++ decimal r.line) ++ (codes " code " ++
 abbrev pub Tells : Option (List ℕ) → Option (List ℕ) → ℕ → ℕ → List ℕ → Type 0
 Tells old new failures failures_after text = failures_after ≡ failures → Appends old new text
 
--- the input is refused, and a writer gets the line of its refusal, unless it fails
-abbrev pub TellsRefusal : List ℕ → Option (List ℕ) → Option (List ℕ) → ℕ → ℕ → Type 0
-TellsRefusal input old new failures failures_after = (refusal : Refusal) × (asked_of input ≡ Err refusal) × Tells old new failures failures_after (refusal_line refusal)
+-- the line and the status of a command that did not end
+abbrev pub fault_text : CommandFault → List ℕ
+fault_text (Text r) = refusal_line r
+fault_text Memory = codes "out of memory\n"
+fault_text Read = codes "read or write failed\n"
+fault_text Write = codes "read or write failed\n"
+
+abbrev pub fault_status : CommandFault → ℕ
+fault_status (Text r) = 4
+fault_status Memory = 6
+fault_status Read = 8
+fault_status Write = 8

@@ -1,13 +1,21 @@
 //! The program's command line, and what each subcommand does.
 #![tactic(auto)]
 
+mod asked;
 mod command_line;
+mod fault;
+mod job;
 mod trace;
 
+pub use asked::Asked;
 pub use command_line::run;
 
 /// Statuses that the program ends with (own); 0 is for what was done.
 pub mod status {
+    /// A task faulted, or too many would have lived; the report is printed.
+    pub const TASK_FAULT: u8 = 2;
+    /// The limit of supersteps was reached with live tasks; the report is printed.
+    pub const LIMIT_REACHED: u8 = 3;
     /// The text is refused.
     pub const TEXT_REFUSED: u8 = 4;
     /// The command line is refused.

@@ -1,15 +1,24 @@
-use Rattle.std.proofs.Common.{◌≡◌, arith}
-use Rattle.bsp_cli.proofs.Parsed.{trace_taken}
+use Rattle.std.proofs.Common.{◌≡◌, inl, inr, ap, map, List, [], ℕ, refl}
+use Rattle.std.specs.Prelude.{◌⊎◌}
+use Rattle.clap.specs.Words.{HasKind, Kinds}
+use Rattle.bsp_cli.specs.CommandLine.{asked_in, refused_by}
+use Rattle.bsp_cli.specs.Texts.{Tells}
+use Rattle.bsp_cli.proofs.Refusals.{no-memory, refused-kind}
 use Rattle.bsp_cli.proofs.command_line.run.Goals as goal
 
-pub returns-clause-takes_trace : goal.returns-clause-takes_trace
-returns-clause-takes_trace g c = λ asks refused.
-    let memory : c.answer_error-in-Err-try_get_matches_from.result ≡ 6 =
-    c.answer_error-in-Err-try_get_matches_from.ensures.memory (c.in-Err-try_get_matches_from.ensures.passes (trace_taken _ _ c.in-Ok.ensures.app asks)) in
-    absurd (omega arith)
+pub returns-in-Err-clause-did : goal.returns-in-Err-clause-did
+returns-in-Err-clause-did g c = λ taken.
+    let kind : HasKind [] c.in-Err.error = rw taken at c.in-Err.ensures.err in
+    elim kind [
+      | inl memory ↦
+          let six : c.answer_error.result ≡ 6 = c.answer_error.ensures.memory memory in
+          no-memory _ _ _ _ _ c.answer_error.result (ap g.W.CountedWrite.contents (c.answer_error.ensures.out six)) six
+      | inr none ↦ absurd none
+    ]
 
-pub returns-clause-runs_trace : goal.returns-clause-runs_trace
-returns-clause-runs_trace g c = λ asks done.
-    let memory : c.answer_error-in-Err-try_get_matches_from.result ≡ 6 =
-    c.answer_error-in-Err-try_get_matches_from.ensures.memory (c.in-Err-try_get_matches_from.ensures.passes (trace_taken _ _ c.in-Ok.ensures.app asks)) in
-    absurd (omega arith)
+pub returns-in-Err-clause-refuses : goal.returns-in-Err-clause-refuses
+returns-in-Err-clause-refuses g c = λ refused.
+    elim c.in-Err.ensures.err [
+      | inl memory ↦ inr (c.answer_error.ensures.memory memory)
+      | inr among ↦ c.answer_error.ensures.refuses (refused-kind _ _ refused among)
+    ]

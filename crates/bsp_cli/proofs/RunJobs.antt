@@ -1,0 +1,59 @@
+-- What running a job leaves.
+use Rattle.std.proofs.Common.{◌≡◌, ℕ, List, [], ◌∷◌, map, Option, Some, None, Result, Ok, Err, refl, ap, ◌∙◌, ◌≤◌, arith}
+use Rattle.std.specs.Prelude.{IfSome}
+use Rattle.phase_records.specs.ReportValue.{ReportValue}
+use Rattle.phase_records.specs.Status.{Status, Ended, Fault, Limit}
+use Rattle.task_lang.specs.BodyValue.{BodyValue}
+use Rattle.task_lang.specs.JobValue.{JobValue}
+use Rattle.task_lang.specs.Meaning.{Plan}
+use Rattle.task_lang.specs.Views.{plans}
+use Rattle.job_reader.specs.Trees.{body_tree, job_tree}
+use Rattle.job_reader.specs.Reading.{job_in}
+use Rattle.step_core.specs.Program.{Program, program_of}
+use Rattle.step_core.specs.JobMeaning.{report_of}
+use Rattle.bsp_cli.specs.Jobs.{plan_of, program_of_tree, status_number}
+use Rattle.bsp_cli.specs.Ends.{Reports, Runs, Does}
+use Rattle.bsp_cli.specs.declared.asked.Asked.{Asked}
+use Rattle.bsp_cli.specs.declared.asked.Asked.TheVariants.{Run}
+use Rattle.bsp_cli.specs.declared.fault.CommandFault.{CommandFault}
+use Rattle.bsp_cli.specs.declared.fault.CommandFault.TheVariants.{Text, Read, Write, Memory}
+
+same-plans : (bs : List BodyValue) → map plan_of (map body_tree bs) ≡ plans bs
+same-plans [] = refl
+same-plans (b ∷ bs) = ap (λ (ps : List Plan). plan_of (body_tree b) ∷ ps) (same-plans bs)
+
+same-program : (j : JobValue) → program_of_tree (job_tree j) ≡ program_of j
+same-program j = ap (λ (ps : List Plan). record { arrays = j.arrays; plans = ps; starts = j.starts }) (same-plans j.bodies)
+
+left : (j : JobValue) (limit : ℕ) (report : ReportValue) → report_of (program_of j) limit ≡ Some report
+    → report_of (program_of_tree (job_tree j)) limit ≡ Some report
+left j limit report e = ap (λ (p : Program). report_of p limit) (same-program j) ∙ e
+
+if-some : {P Q : List ℕ → Type 0} (o : Option (List ℕ)) → ((x : List ℕ) → P x → Q x) → IfSome o P → IfSome o Q
+if-some None so h = tt
+if-some (Some x) so h = so x h
+
+small : (s : Status) → status_number s ≤ 3
+small (Ended n) = omega arith
+small (Fault c n p) = omega arith
+small (Limit n) = omega arith
+
+-- a job that was read and run, and its report that was written
+pub runs : (limit : ℕ) (input old new : Option (List ℕ)) (j : JobValue) (report : ReportValue) (r : Result ℕ CommandFault)
+    → IfSome input (λ bytes. job_in bytes ≡ Ok (job_tree j)) → report_of (program_of j) limit ≡ Some report → Reports report old new r
+    → Runs limit input old new r
+runs limit input old new j report (Ok status) read left_it h =
+    let few : status ≤ 3 = rw h.1 (small report.status) in
+    (few, if-some input (λ bytes e. (report, (job_tree j, e, left j limit report left_it), h.0, h.1)) read)
+runs limit input old new j report (Err (Text x)) read left_it h = absurd h
+runs limit input old new j report (Err Read) read left_it h = absurd h
+runs limit input old new j report (Err Write) read left_it h = if-some input (λ bytes e. (report, (job_tree j, e, left j limit report left_it), h)) read
+runs limit input old new j report (Err Memory) read left_it h = h
+
+-- and so what was asked for was done
+pub does : (limit : ℕ) (input old new : Option (List ℕ)) (r : Result ℕ CommandFault) → Runs limit input old new r → Does (Run limit) input old new r
+does limit input old new (Ok status) h = h
+does limit input old new (Err (Text x)) h = h
+does limit input old new (Err Read) h = h
+does limit input old new (Err Write) h = h
+does limit input old new (Err Memory) h = h
