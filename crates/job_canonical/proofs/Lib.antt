@@ -1,0 +1,5 @@
+pub mod TextOfLines
+pub mod PrintedLines
+pub mod MentionedLocals
+pub mod CanonicalItems
+pub mod CanonicalJob
