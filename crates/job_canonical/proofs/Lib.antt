@@ -3,3 +3,4 @@ pub mod PrintedLines
 pub mod MentionedLocals
 pub mod CanonicalItems
 pub mod CanonicalJob
+pub mod ReadWords
