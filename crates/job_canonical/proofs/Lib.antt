@@ -4,3 +4,5 @@ pub mod MentionedLocals
 pub mod CanonicalItems
 pub mod CanonicalJob
 pub mod ReadWords
+pub mod BodyCounts
+pub mod NotedNames

@@ -1,5 +1,5 @@
 -- Written lines mention the locals that their code does.
-use Rattle.std.proofs.Common.{◌≡◌, ℕ, zero, suc, ◌+◌, ◌<◌, Bool, true, false, List, [], ◌∷◌, ◌++◌, length, map, take, Option, Some, None, Result, Ok, Err, ℤ, refl, sym, ap, ◌∙◌, arith, codes, nat_eq}
+use Rattle.std.proofs.Common.{◌≡◌, ℕ, zero, suc, ◌+◌, ◌<◌, ◌≤◌, Bool, true, false, List, [], ◌∷◌, ◌++◌, length, map, take, Option, Some, None, Result, Ok, Err, ℤ, refl, sym, ap, ◌∙◌, arith, codes, nat_eq}
 use Rattle.std.specs.Prelude.{if◌then◌else◌, nat_lt, ◌||◌}
 use Rattle.std.specs.List.{list_all, flat_map}
 use Rattle.std.specs.Fmt.{signed_decimal}
@@ -146,7 +146,7 @@ or-false true b e f = absurd cc
 or-false false b e f = f
 
 -- the first names hold each name in front of their end
-among-below : (ns : List Word) (k i : ℕ) → i < k → i < length ns → is_among (take k ns) (name_at ns i) ≡ true
+pub among-below : (ns : List Word) (k i : ℕ) → i < k → i < length ns → is_among (take k ns) (name_at ns i) ≡ true
 among-below [] k i h l = absurd (omega arith)
 among-below (n ∷ ns) zero i h l = absurd (omega arith)
 among-below (n ∷ ns) (suc k) zero h l = or-true-left (bytes_eq n n) (is_among (take k ns) n) (same-bytes n)
@@ -156,21 +156,22 @@ first-other : (b : Bool) (k i : ℕ) (o : Option ℕ) → i ≡ suc k → (if b 
 first-other true k i o h e = let same : 0 ≡ i = cc in absurd (omega arith)
 first-other false k i o h e = refl
 
--- and not the one behind their end
-among-at : (ns : List Word) (k : ℕ) → are_names ns ≡ true → k < length ns → is_among (take k ns) (name_at ns k) ≡ false
-among-at [] k e h = absurd (omega arith)
-among-at (n ∷ ns) zero e h = refl
-among-at (n ∷ ns) (suc k) e h =
-    or-false (bytes_eq n (name_at ns k)) _
-    (first-other (bytes_eq n (name_at ns k)) k (0 + suc k) (place_from 1 ns (name_at ns k)) (omega arith) (place-name 0 (n ∷ ns) (suc k) e h))
-    (among-at ns k (and-right _ (are_names ns) e) (omega arith))
+-- and none from their end on
+pub among-beyond : (ns : List Word) (k i : ℕ) → are_names ns ≡ true → k ≤ i → i < length ns → is_among (take k ns) (name_at ns i) ≡ false
+among-beyond [] k i e h l = absurd (omega arith)
+among-beyond (n ∷ ns) zero i e h l = refl
+among-beyond (n ∷ ns) (suc k) zero e h l = absurd (omega arith)
+among-beyond (n ∷ ns) (suc k) (suc i) e h l =
+    or-false (bytes_eq n (name_at ns i)) _
+    (first-other (bytes_eq n (name_at ns i)) i (0 + suc i) (place_from 1 ns (name_at ns i)) (omega arith) (place-name 0 (n ∷ ns) (suc i) e l))
+    (among-beyond ns k i (and-right _ (are_names ns) e) (omega arith) (omega arith))
 
-take-next : (ns : List Word) (k : ℕ) → k < length ns → take k ns ++ name_at ns k ∷ [] ≡ take (suc k) ns
+pub take-next : (ns : List Word) (k : ℕ) → k < length ns → take k ns ++ name_at ns k ∷ [] ≡ take (suc k) ns
 take-next [] k h = absurd (omega arith)
 take-next (n ∷ ns) zero h = refl
 take-next (n ∷ ns) (suc k) h = ap (λ (x : List Word). n ∷ x) (take-next ns k (omega arith))
 
-same-number : (i k : ℕ) → nat_eq i k ≡ true → i ≡ k
+pub same-number : (i k : ℕ) → nat_eq i k ≡ true → i ≡ k
 same-number i k e = grind (arith, common_steps)
 
 -- locals behind those that the first mention of the rest is of
@@ -183,7 +184,7 @@ one-more : (ns : List Word) (k m i : ℕ) (is : List ℕ) (a b : Bool) → are_n
 one-more ns k m i is true b g below later p q f =
     let same : i ≡ k = same-number i k p in
     let new : is_among (take k ns) (name_at ns i) ≡ false =
-    ap (λ (x : ℕ). is_among (take k ns) (name_at ns x)) same ∙ among-at ns k g (omega arith) in
+    ap (λ (x : ℕ). is_among (take k ns) (name_at ns x)) same ∙ among-beyond ns k k g (omega arith) (omega arith) in
     let more : suc k ≡ k + 1 = omega arith in
     let grown : take k ns ++ name_at ns i ∷ [] ≡ take (k + 1) ns =
     ap (λ (x : ℕ). take k ns ++ name_at ns x ∷ []) same ∙ take-next ns k (omega arith) ∙ ap (λ (x : ℕ). take x ns) more in
