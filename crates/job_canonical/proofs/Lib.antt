@@ -6,3 +6,4 @@ pub mod CanonicalJob
 pub mod ReadWords
 pub mod BodyCounts
 pub mod NotedNames
+pub mod KeptJobs
