@@ -44,7 +44,7 @@ pub record GoodBody (arrays bodies : List Word) (b : BodyTree) : Type 0 where
   pub inside : list_all (λ i. nat_lt i (length b.locals)) (mentions (flat b.block)) ≡ true
   pub order : mentioned 0 (mentions (flat b.block)) ≡ Some (length b.locals)
 
-all-lines : (s : Names) (code : List Line) → list_all (line_fits s) code ≡ true → list_all fits_line code ≡ true → AllLines s code
+pub all-lines : (s : Names) (code : List Line) → list_all (line_fits s) code ≡ true → list_all fits_line code ≡ true → AllLines s code
 all-lines s [] e f = tt
 all-lines s (l ∷ ls) e f = (
   line-is s l (and-left _ (list_all (line_fits s) ls) e) (and-left _ (list_all fits_line ls) f),

@@ -7,3 +7,5 @@ pub mod ReadWords
 pub mod BodyCounts
 pub mod NotedNames
 pub mod KeptJobs
+pub mod KeptLines
+pub mod LegalBodies
