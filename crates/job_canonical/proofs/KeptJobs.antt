@@ -1,46 +1,12 @@
 -- What a job and its open body keep while lines are read.
-use Rattle.std.proofs.Common.{
-  ◌≡◌,
-  ℕ,
-  ◌+◌,
-  ◌-◌,
-  ◌<◌,
-  ◌≤◌,
-  Bool,
-  true,
-  false,
-  ◌&&◌,
-  List,
-  [],
-  ◌∷◌,
-  ◌++◌,
-  length,
-  map,
-  Option,
-  Some,
-  None,
-  Result,
-  Ok,
-  Err,
-  ℤ,
-  pos,
-  negsuc,
-  refl,
-  sym,
-  ap,
-  subst,
-  ◌∙◌,
-  arith,
-  length-append,
-}
-use Rattle.std.specs.Prelude.{if◌then◌else◌, nat_le, nat_lt, ◌||◌, replicate}
+use Rattle.std.proofs.Common.{◌≡◌, ℕ, ◌<◌, ◌≤◌, Bool, true, false, List, [], ◌∷◌, ◌++◌, length, map, Option, Some, None, Result, Ok, Err, refl, sym, ap, subst, ◌∙◌, arith, length-append}
+use Rattle.std.specs.Prelude.{if◌then◌else◌, nat_lt, ◌||◌}
 use Rattle.std.specs.List.{list_all}
-use Rattle.std.proofs.lemmas.List.{map-append, length-replicate}
-use Rattle.std.proofs.lemmas.List.Folds.{list_all-append}
+use Rattle.std.proofs.lemmas.List.{map-append}
 use Rattle.std.proofs.lemmas.Grind.{common_steps}
 use Rattle.text_lines.specs.Number.{fits_i64}
 use Rattle.text_lines.specs.declared.refusal.Code.{Code}
-use Rattle.text_lines.specs.declared.refusal.Code.TheVariants.{Twice, TooMany, BadLength}
+use Rattle.text_lines.specs.declared.refusal.Code.TheVariants.{TooMany}
 use Rattle.task_lang.specs.Names.{is_free, is_among, are_names}
 use Rattle.task_lang.specs.Limits.{statements, opened, deepest}
 use Rattle.task_lang.specs.Rules.{is_array}
@@ -48,51 +14,19 @@ use Rattle.task_lang.specs.Tree.{Block, flat}
 use Rattle.task_lang.specs.Open.{Frame, InIf, InElse, InWhile, open_code, step_of}
 use Rattle.task_lang.specs.declared.code.Line.{Line}
 use Rattle.task_lang.specs.declared.code.Line.TheVariants as line
-use Rattle.task_lang.specs.declared.job.Start.{Start}
-use Rattle.job_words.specs.Words.{Word, Words, named, numbered}
+use Rattle.job_words.specs.Words.{Word, Words}
 use Rattle.job_words.specs.Exprs.{Names}
 use Rattle.job_words.specs.declared.lines.Keyword.{Keyword}
-use Rattle.job_words.specs.Faults.{both, made}
-use Rattle.job_words.specs.Lines.{body_at, line_behind, mentions_behind}
-use Rattle.job_words.proofs.SaidLemmas.{made-ok, both-ok, and-true}
-use Rattle.job_words.proofs.GrowLemmas.{and-left, and-right}
-use Rattle.job_reader.specs.declared.outer.Outer.{Outer}
-use Rattle.job_reader.specs.declared.outer.Outer.TheVariants as outer
+use Rattle.job_words.specs.Lines.{line_behind, mentions_behind}
+use Rattle.job_words.proofs.SaidLemmas.{made-ok}
 use Rattle.job_reader.specs.Trees.{BodyTree, JobTree, array_names, body_names}
-use Rattle.job_reader.specs.Above.{Inside, nothing, can_else, sits, begun, grown, ended, statements_behind}
+use Rattle.job_reader.specs.Above.{Inside, nothing, can_else, sits, ended, statements_behind}
 use Rattle.job_reader.specs.Legal.{fits_line}
-use Rattle.job_reader.specs.Reading.{
-  ◌>>=◌,
-  all_numbered,
-  filled,
-  cells_of,
-  array_of,
-  body_of,
-  start_from,
-  start_of,
-  with_array,
-  new_body,
-  with_start,
-  array_line,
-  body_line,
-  start_line,
-  outer_line,
-  is_over,
-  within_limits,
-  said,
-  behind,
-  with_line,
-  mentioning,
-  inner_line,
-  any_line,
-  outer_of,
-}
-use Rattle.job_words.specs.Lines.{keyword_of}
+use Rattle.job_reader.specs.Reading.{◌>>=◌, is_over, within_limits, said, behind, with_line, mentioning, inner_line}
 use Rattle.job_reader.proofs.LineLemmas.{within-sits}
 use Rattle.job_reader.proofs.OpenLemmas.{said-sits}
-use Rattle.job_reader.proofs.ToldOuter.{bind-ok}
-use Rattle.job_canonical.proofs.ReadWords.{free-named, number-fits, line-reads}
-use Rattle.job_canonical.proofs.BodyCounts.{Counted, counted-none, counted-step}
+use Rattle.job_canonical.proofs.ReadWords.{line-reads}
+use Rattle.job_canonical.proofs.BodyCounts.{Counted, counted-step}
 use Rattle.job_canonical.proofs.NotedNames.{names-put, names-noted}
 
 -- a body that was read
@@ -153,27 +87,13 @@ kept-put (x ∷ bs) b h k = (h.0, kept-put bs b h.1 k)
 at-most : (a b : ℕ) → nat_lt b a ≡ false → a ≤ b
 at-most a b e = grind (arith, common_steps)
 
-below : (a b : ℕ) → nat_le b a ≡ false → a < b
-below a b e = grind (arith, common_steps)
-
-or-left : (a b : Bool) → (a || b) ≡ false → a ≡ false
-or-left true b e = absurd cc
-or-left false b e = refl
-
-or-right : (a b : Bool) → (a || b) ≡ false → b ≡ false
-or-right true b e = absurd cc
-or-right false b e = e
-
 -- within the limits of a body
 abbrev Within : Inside → Line → Type 0
 Within o l = (statements_behind o.statements l ≤ 1024) × (length o.locals ≤ 32) × (opened (length o.frames) l ≤ 16)
 
 not-over : (o : Inside) (l : Line) → is_over (statements_behind o.statements l) (length o.locals) (opened (length o.frames) l) ≡ false → Within o l
 not-over o l e =
-    let a : Bool = nat_lt 1024 (statements_behind o.statements l) in
-    let b : Bool = nat_lt 32 (length o.locals) in
-    let c : Bool = nat_lt 16 (opened (length o.frames) l) in
-    parts a b c refl refl refl e
+    parts (nat_lt 1024 (statements_behind o.statements l)) (nat_lt 32 (length o.locals)) (nat_lt 16 (opened (length o.frames) l)) refl refl refl e
   where
     parts : (a b c : Bool) → nat_lt 1024 (statements_behind o.statements l) ≡ a → nat_lt 32 (length o.locals) ≡ b → nat_lt 16 (opened (length o.frames) l) ≡ c
         → (a || b || c) ≡ false → Within o l

@@ -1,43 +1,5 @@
 -- Lines outside bodies, and whole texts, keep what a job has to be.
-use Rattle.std.proofs.Common.{
-  ◌≡◌,
-  ◌⊎◌,
-  inl,
-  inr,
-  ℕ,
-  zero,
-  suc,
-  ◌+◌,
-  ◌-◌,
-  ◌<◌,
-  ◌≤◌,
-  Bool,
-  true,
-  false,
-  ◌&&◌,
-  List,
-  [],
-  ◌∷◌,
-  ◌++◌,
-  length,
-  map,
-  Option,
-  Some,
-  None,
-  Result,
-  Ok,
-  Err,
-  ℤ,
-  pos,
-  negsuc,
-  refl,
-  sym,
-  ap,
-  subst,
-  ◌∙◌,
-  arith,
-  length-append,
-}
+use Rattle.std.proofs.Common.{◌≡◌, inl, inr, ℕ, zero, suc, ◌+◌, ◌-◌, ◌<◌, ◌≤◌, Bool, true, false, ◌&&◌, List, [], ◌∷◌, ◌++◌, length, Option, Some, None, Result, Ok, Err, ℤ, pos, negsuc, refl, sym, ap, subst, ◌∙◌, arith, length-append}
 use Rattle.std.specs.Prelude.{if◌then◌else◌, nat_le, nat_lt, replicate}
 use Rattle.std.specs.List.{list_all}
 use Rattle.std.proofs.lemmas.List.{map-append, length-map, length-replicate}
@@ -52,13 +14,13 @@ use Rattle.task_lang.specs.Names.{is_free, is_among, are_names}
 use Rattle.task_lang.specs.Rules.{is_array}
 use Rattle.task_lang.specs.declared.job.Start.{Start}
 use Rattle.job_words.specs.Words.{Word, Words, named, numbered}
-use Rattle.job_words.specs.Faults.{both, made}
+use Rattle.job_words.specs.Faults.{both}
 use Rattle.job_words.specs.Lines.{body_at, keyword_of}
 use Rattle.job_words.proofs.SaidLemmas.{made-ok, both-ok, and-true}
 use Rattle.job_words.proofs.GrowLemmas.{and-left, and-right}
 use Rattle.job_reader.specs.declared.outer.Outer.{Outer}
 use Rattle.job_reader.specs.declared.outer.Outer.TheVariants as outer
-use Rattle.job_reader.specs.Trees.{BodyTree, JobTree, array_names, body_names}
+use Rattle.job_reader.specs.Trees.{JobTree, array_names, body_names}
 use Rattle.job_reader.specs.Above.{Inside, Above, nothing, begun}
 use Rattle.job_reader.specs.Reading.{
   ◌>>=◌,

@@ -1,30 +1,5 @@
 -- Bodies of sound items name what is there, and their locals stand by first mention.
-use Rattle.std.proofs.Common.{
-  ◌≡◌,
-  ℕ,
-  ◌+◌,
-  ◌<◌,
-  ◌≤◌,
-  Bool,
-  true,
-  false,
-  ◌&&◌,
-  List,
-  [],
-  ◌∷◌,
-  ◌++◌,
-  length,
-  map,
-  refl,
-  sym,
-  ap,
-  subst,
-  ◌∙◌,
-  arith,
-  append_assoc,
-  append-nil,
-  length-append,
-}
+use Rattle.std.proofs.Common.{◌≡◌, ℕ, ◌+◌, ◌<◌, ◌≤◌, Bool, true, List, [], ◌∷◌, ◌++◌, length, map, refl, sym, ap, ◌∙◌, arith, append_assoc, length-append}
 use Rattle.std.specs.Prelude.{nat_lt}
 use Rattle.std.specs.List.{list_all}
 use Rattle.std.proofs.lemmas.Bool.{ltb-true}
@@ -48,7 +23,7 @@ use Rattle.job_words.specs.Lines.{line_names, line_fits}
 use Rattle.job_words.proofs.SaidLemmas.{and-true, below-true, all-both, AllBelow}
 use Rattle.job_words.proofs.GrowLemmas.{and-left, and-right}
 use Rattle.job_words.proofs.WrittenExprs.{AreGood}
-use Rattle.job_reader.specs.Trees.{BodyTree, JobTree, array_names}
+use Rattle.job_reader.specs.Trees.{BodyTree, array_names}
 use Rattle.job_reader.specs.Legal.{flat_body}
 use Rattle.job_reader.specs.Grammar.{Item, AnArray, ABody, AStart, names_above, mentioned_by, IsSoundBody, AreSound, job_of}
 use Rattle.job_reader.proofs.CodeLemmas.{block-code}

@@ -9,3 +9,4 @@ pub mod NotedNames
 pub mod KeptJobs
 pub mod KeptLines
 pub mod LegalBodies
+pub mod ReadJobs

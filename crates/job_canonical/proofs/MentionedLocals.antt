@@ -111,7 +111,7 @@ action-mentions s (action.Spawn b e) g h = expr-mentions s e g h.1
 action-mentions s action.Sync g h = refl
 action-mentions s action.Stop g h = refl
 
-pub line-mentions : (s : Names) (l : Line) → AreGood s → LineIs s true l → mentions_of (line_words s l) ≡ map (name_at s.locals) (mentions.in_line l)
+line-mentions : (s : Names) (l : Line) → AreGood s → LineIs s true l → mentions_of (line_words s l) ≡ map (name_at s.locals) (mentions.in_line l)
 unfolding keyword_of mentions_behind
 line-mentions s (line.Do a) g h = action-mentions s a g h
 line-mentions s (line.If e n) g h = expr-mentions s e g h

@@ -92,17 +92,17 @@ number-printed (pos n) h = let small : n < 2 ^ 64 = omega (arith, ints, h) in de
 number-printed (negsuc n) h = let small : suc n < 2 ^ 64 = omega (arith, ints, h) in decimal-seen (suc n) small
 
 -- the numbers of a line fit, and what it names is there
-pub index-is : (locals : List Word) (i : Index) → fits_index i ≡ true → list_all (λ k. nat_lt k (length locals)) (mentions.in_index i) ≡ true → IndexIs locals i
+index-is : (locals : List Word) (i : Index) → fits_index i ≡ true → list_all (λ k. nat_lt k (length locals)) (mentions.in_index i) ≡ true → IndexIs locals i
 index-is locals (index.Number n) e h = fits-signed n e
 index-is locals (index.Local i) e h = ltb-true i (length locals) (and-left _ true h)
 index-is locals index.Arg e h = tt
 index-is locals index.Step e h = tt
 
-pub operand-is : (s : Names) (o : Operand) → is_operand (length s.arrays) o ≡ true → fits_operand o ≡ true → AllBelow s (mentions.in_operand o) → OperandIs s o
+operand-is : (s : Names) (o : Operand) → is_operand (length s.arrays) o ≡ true → fits_operand o ≡ true → AllBelow s (mentions.in_operand o) → OperandIs s o
 operand-is s (operand.Plain i) a e h = index-is s.locals i e h
 operand-is s (operand.Cell c) a e h = (ltb-true c.array (length s.arrays) a, index-is s.locals c.index e h)
 
-pub expr-is : (s : Names) (e : Expr) → is_expr (length s.arrays) e ≡ true → fits_expr e ≡ true → AllBelow s (mentions.in_expr e) → ExprIs s e
+expr-is : (s : Names) (e : Expr) → is_expr (length s.arrays) e ≡ true → fits_expr e ≡ true → AllBelow s (mentions.in_expr e) → ExprIs s e
 expr-is s (One a) x e h = operand-is s a x e h
 expr-is s (Two a op b) x e h = (
   operand-is s a (and-left _ (is_operand (length s.arrays) b) x) (and-left _ (fits_operand b) e) (all-left _ (mentions.in_operand a) (mentions.in_operand b) h),

@@ -45,10 +45,8 @@ use Rattle.task_lang.specs.declared.code.Index.TheVariants as index
 use Rattle.task_lang.specs.declared.code.Cell.{Cell}
 use Rattle.task_lang.specs.declared.code.Operand.{Operand}
 use Rattle.task_lang.specs.declared.code.Operand.TheVariants as operand
-use Rattle.task_lang.specs.declared.code.Operator.{Operator}
 use Rattle.task_lang.specs.declared.code.Expr.{Expr}
-use Rattle.task_lang.specs.declared.code.Expr.TheVariants.{One, Two}
-use Rattle.task_lang.specs.declared.code.Action.{Action}
+use Rattle.task_lang.specs.declared.code.Expr.TheVariants.{One}
 use Rattle.task_lang.specs.declared.code.Action.TheVariants as action
 use Rattle.task_lang.specs.declared.code.Line.{Line}
 use Rattle.task_lang.specs.declared.code.Line.TheVariants as line
@@ -76,9 +74,6 @@ free-declared names w i e =
     let m = made-ok (λ (p : Unit {0} × ℕ). p.1) _ i e in
     let b = both-ok (named w) (or_unknown (place_from 0 names w)) m.0 m.1 in
     free-named w m.0.0 b.0
-
-pub free-body : (bodies : List Word) (w : Word) (i : ℕ) → body_at bodies w ≡ Ok i → is_free w ≡ true
-free-body bodies w i e = let m = made-ok _ (named w) i e in free-named w m.0 m.1
 
 fits-back : (n : ℤ) → FitsSigned w64 n → fits_i64 n ≡ true
 fits-back (pos n) f = grind (arith, common_steps, ints, f)

@@ -77,7 +77,7 @@ parted w (v ∷ vs) h k =
       lasts = p.lasts;
     }
 
-pub words-back : (l : Words) → is_plain_line l ≡ true → words_of (line_bytes l) ≡ l
+words-back : (l : Words) → is_plain_line l ≡ true → words_of (line_bytes l) ≡ l
 words-back [] e = absurd cc
 words-back (w ∷ ws) e =
     let h : is_printed w ≡ true = and-right (not (begins_comment w)) _ (and-left _ (list_all is_printed ws) e) in
