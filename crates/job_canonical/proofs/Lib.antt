@@ -1,0 +1,12 @@
+pub mod TextOfLines
+pub mod PrintedLines
+pub mod MentionedLocals
+pub mod CanonicalItems
+pub mod CanonicalJob
+pub mod ReadWords
+pub mod BodyCounts
+pub mod NotedNames
+pub mod KeptJobs
+pub mod KeptLines
+pub mod LegalBodies
+pub mod ReadJobs

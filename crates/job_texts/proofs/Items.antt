@@ -1,0 +1,191 @@
+-- The lines of items are read as their job.
+use Rattle.std.proofs.Common.{◌≡◌, ℕ, ◌<◌, ◌≤◌, Bool, true, ◌&&◌, List, [], ◌∷◌, ◌++◌, length, None, ℤ, sym, ap, subst, ◌∙◌, arith, append_assoc, append-nil, length-append}
+use Rattle.std.specs.Prelude.{nat_le}
+use Rattle.std.specs.List.{list_all}
+use Rattle.std.proofs.lemmas.List.{map-append, length-map}
+use Rattle.std.proofs.lemmas.Grind.{common_steps}
+use Rattle.text_lines.specs.Number.{fits_i64}
+use Rattle.task_lang.specs.Names.{is_free, are_names}
+use Rattle.task_lang.specs.Rules.{is_array}
+use Rattle.task_lang.specs.Tree.{flat}
+use Rattle.task_lang.specs.declared.job.Start.{Start}
+use Rattle.job_words.specs.Words.{Word}
+use Rattle.job_words.proofs.GrowLemmas.{and-left, and-right}
+use Rattle.job_reader.specs.Trees.{BodyTree, JobTree, array_names, body_names}
+use Rattle.job_reader.specs.Grammar.{Item, AnArray, ABody, AStart, body_lines, items_lines, AreSound, job_of}
+use Rattle.job_reader.specs.Legal.{AreBodies, fits_line}
+use Rattle.job_reader.proofs.ItemLemmas.{put}
+use Rattle.job_texts.proofs.Chain.{Reads, reads-append}
+use Rattle.job_texts.proofs.Known.{names-front, behind-new}
+use Rattle.job_texts.proofs.OneItem.{AreCells, IsFreeArray, IsFreeBody, IsLegalBody, array-passes, body-reads, start-passes}
+
+-- items that a job may have
+abbrev pub IsItem : Item → Type 0
+IsItem (AnArray name given cells) = (is_free name ≡ true) × AreCells cells
+IsItem (ABody b) = IsLegalBody b
+IsItem (AStart s) = fits_i64 s.arg ≡ true
+
+abbrev pub AreItems : List Item → Type 0
+AreItems [] = Unit {0}
+AreItems (i ∷ is) = IsItem i × AreItems is
+
+-- what is so of the items of a job, each for itself
+pub record AreFit (j : JobTree) : Type 0 where
+  pub arrays : list_all is_array j.arrays ≡ true
+  pub cells : list_all (λ a. list_all fits_i64 a.1) j.arrays ≡ true
+  pub bodies : AreBodies j.bodies
+  pub numbers : list_all (λ b. list_all fits_line (flat b.block)) j.bodies ≡ true
+  pub args : list_all (λ s. fits_i64 s.arg) j.starts ≡ true
+
+le-from : (a b : ℕ) → nat_le a b ≡ true → a ≤ b
+le-from a b e = grind (arith, common_steps)
+
+array-is : (a : Word × List ℤ) → is_array a ≡ true → list_all fits_i64 a.1 ≡ true → (is_free a.0 ≡ true) × AreCells a.1
+array-is a e f =
+    let n : ℕ = length a.1 in
+    let front : (is_free a.0 && nat_le 1 n) ≡ true = and-left (is_free a.0 && nat_le 1 n) (nat_le n 4096) e in (
+      and-left (is_free a.0) (nat_le 1 n) front,
+      record {
+        some = le-from 1 n (and-right (is_free a.0) (nat_le 1 n) front);
+        few = le-from n 4096 (and-right (is_free a.0 && nat_le 1 n) (nat_le n 4096) e);
+        numbers = f;
+      },
+    )
+
+pub items-fit : (is : List Item) → AreFit (job_of is) → AreItems is
+items-fit [] h = tt
+items-fit (AnArray name given cells ∷ is) h =
+    let j : JobTree = job_of is in (
+      array-is (name, cells) (and-left (is_array (name, cells)) (list_all is_array j.arrays) h.arrays)
+          (and-left (list_all fits_i64 cells) (list_all (λ a. list_all fits_i64 a.1) j.arrays) h.cells),
+      items-fit is (record {
+        arrays = and-right (is_array (name, cells)) (list_all is_array j.arrays) h.arrays;
+        cells = and-right (list_all fits_i64 cells) (list_all (λ a. list_all fits_i64 a.1) j.arrays) h.cells;
+        bodies = h.bodies;
+        numbers = h.numbers;
+        args = h.args;
+      }),
+    )
+items-fit (ABody b ∷ is) h =
+    let j : JobTree = job_of is in
+    let rest : Bool = list_all (λ b. list_all fits_line (flat b.block)) j.bodies in (
+      record { rules = h.bodies.0; numbers = and-left (list_all fits_line (flat b.block)) rest h.numbers },
+      items-fit is (record {
+        arrays = h.arrays;
+        cells = h.cells;
+        bodies = h.bodies.1;
+        numbers = and-right (list_all fits_line (flat b.block)) rest h.numbers;
+        args = h.args;
+      }),
+    )
+items-fit (AStart s ∷ is) h =
+    let j : JobTree = job_of is in
+    let rest : Bool = list_all (λ s. fits_i64 s.arg) j.starts in (
+      and-left (fits_i64 s.arg) rest h.args,
+      items-fit is (record {
+        arrays = h.arrays;
+        cells = h.cells;
+        bodies = h.bodies;
+        numbers = h.numbers;
+        args = and-right (fits_i64 s.arg) rest h.args;
+      }),
+    )
+
+-- a job, and items behind it
+abbrev pub joined : JobTree → JobTree → JobTree
+joined k j = record { arrays = k.arrays ++ j.arrays; bodies = k.bodies ++ j.bodies; starts = k.starts ++ j.starts }
+
+joined-nothing : (k : JobTree) → k ≡ joined k (job_of [])
+joined-nothing k =
+    ap (λ (x : List (Word × List ℤ)). record { arrays = x; bodies = k.bodies; starts = k.starts }) (sym (append-nil k.arrays))
+    ∙ ap (λ (x : List BodyTree). record { arrays = k.arrays ++ []; bodies = x; starts = k.starts }) (sym (append-nil k.bodies))
+    ∙ ap (λ (x : List Start). record { arrays = k.arrays ++ []; bodies = k.bodies ++ []; starts = x }) (sym (append-nil k.starts))
+
+joined-next : (k : JobTree) (i : Item) (is : List Item) → joined (put i k) (job_of is) ≡ joined k (job_of (i ∷ is))
+joined-next k (AnArray n g c) is =
+    let j : JobTree = job_of is in
+    ap (λ (x : List (Word × List ℤ)). record { arrays = x; bodies = k.bodies ++ j.bodies; starts = k.starts ++ j.starts }) (append_assoc k.arrays ((n, c) ∷ []) j.arrays)
+joined-next k (ABody b) is =
+    let j : JobTree = job_of is in
+    ap (λ (x : List BodyTree). record { arrays = k.arrays ++ j.arrays; bodies = x; starts = k.starts ++ j.starts }) (append_assoc k.bodies (b ∷ []) j.bodies)
+joined-next k (AStart s) is =
+    let j : JobTree = job_of is in
+    ap (λ (x : List Start). record { arrays = k.arrays ++ j.arrays; bodies = k.bodies ++ j.bodies; starts = x }) (append_assoc k.starts (s ∷ []) j.starts)
+
+-- names of their own, and few of each kind
+pub record IsRoomy (t : JobTree) : Type 0 where
+  pub arrays : are_names (array_names t) ≡ true
+  pub few_arrays : length t.arrays ≤ 16
+  pub bodies : are_names (body_names t) ≡ true
+  pub few_bodies : length t.bodies ≤ 64
+  pub few_starts : length t.starts ≤ 4096
+
+names-of-arrays : (k j : JobTree) → array_names (joined k j) ≡ array_names k ++ array_names j
+names-of-arrays k j = map-append (λ (a : Word × List ℤ). a.0) k.arrays j.arrays
+
+names-of-bodies : (k j : JobTree) → body_names (joined k j) ≡ body_names k ++ body_names j
+names-of-bodies k j = map-append (λ (b : BodyTree). b.name) k.bodies j.bodies
+
+module _ (bodies : List Word) (t : JobTree) (good : are_names bodies ≡ true) (roomy : IsRoomy t) where
+  arrays-good : (k j : JobTree) → joined k j ≡ t → are_names (array_names k) ≡ true
+  arrays-good k j e =
+      names-front (array_names k) (array_names j)
+      (subst (λ (x : List Word). are_names x ≡ true) (names-of-arrays k j) (subst (λ (x : JobTree). are_names (array_names x) ≡ true) (sym e) roomy.arrays))
+
+  free-array : (k : JobTree) (name : Word) (given cells : List ℤ) (is : List Item) → is_free name ≡ true → joined k (job_of (AnArray name given cells ∷ is)) ≡ t
+      → IsFreeArray k name
+  free-array k name given cells is free e =
+      let j : JobTree = job_of is in
+      let all : are_names (array_names k ++ name ∷ array_names j) ≡ true =
+      subst (λ (x : List Word). are_names x ≡ true) (names-of-arrays k (job_of (AnArray name given cells ∷ is)))
+      (subst (λ (x : JobTree). are_names (array_names x) ≡ true) (sym e) roomy.arrays) in
+      let few : length (k.arrays ++ (name, cells) ∷ j.arrays) ≤ 16 = subst (λ (x : JobTree). length x.arrays ≤ 16) (sym e) roomy.few_arrays in
+      let count : length (array_names k) ≡ length k.arrays = length-map k.arrays (λ (a : Word × List ℤ). a.0) in
+      record {
+        free = free;
+        fresh = behind-new (array_names k) name (array_names j) all;
+        room = omega (arith, length-append k.arrays ((name, cells) ∷ j.arrays));
+      }
+
+  free-body : (k : JobTree) (b : BodyTree) (is : List Item) → IsLegalBody b → joined k (job_of (ABody b ∷ is)) ≡ t → IsFreeBody k b.name
+  free-body k b is legal e =
+      let j : JobTree = job_of is in
+      let all : are_names (body_names k ++ b.name ∷ body_names j) ≡ true =
+      subst (λ (x : List Word). are_names x ≡ true) (names-of-bodies k (job_of (ABody b ∷ is)))
+      (subst (λ (x : JobTree). are_names (body_names x) ≡ true) (sym e) roomy.bodies) in
+      let few : length (k.bodies ++ b ∷ j.bodies) ≤ 64 = subst (λ (x : JobTree). length x.bodies ≤ 64) (sym e) roomy.few_bodies in
+      let count : length (body_names k) ≡ length k.bodies = length-map k.bodies (λ (b : BodyTree). b.name) in
+      record {
+        free = legal.rules.name;
+        fresh = behind-new (body_names k) b.name (body_names j) all;
+        room = omega (arith, length-append k.bodies (b ∷ j.bodies));
+      }
+
+  free-start : (k : JobTree) (s : Start) (is : List Item) → joined k (job_of (AStart s ∷ is)) ≡ t → length k.starts < 4096
+  free-start k s is e =
+      let j : JobTree = job_of is in
+      let few : length (k.starts ++ s ∷ j.starts) ≤ 4096 = subst (λ (x : JobTree). length x.starts ≤ 4096) (sym e) roomy.few_starts in
+      omega (arith, length-append k.starts (s ∷ j.starts))
+
+  -- the lines of items lead from a job to the job with them
+  pub items-read : (is : List Item) (k : JobTree) → joined k (job_of is) ≡ t → AreItems is → AreSound (array_names k) bodies is
+      → Reads bodies (items_lines (array_names k) bodies is) (k, None) (t, None)
+  items-read [] k e h s = ap (λ (x : JobTree). (x, None)) (joined-nothing k ∙ e)
+  items-read (AnArray name given cells ∷ is) k e h s =
+      let k' : JobTree = put (AnArray name given cells) k in
+      let named : array_names k' ≡ array_names k ++ name ∷ [] = map-append (λ (a : Word × List ℤ). a.0) k.arrays ((name, cells) ∷ []) in
+      let rest : Reads bodies (items_lines (array_names k') bodies is) (k', None) (t, None) =
+      items-read is k' (joined-next k (AnArray name given cells) is ∙ e) h.1 (subst (λ (x : List Word). AreSound x bodies is) (sym named) s.1) in (
+        (k', None),
+        array-passes bodies k name given cells (free-array k name given cells is h.0.0 e) h.0.1 s.0,
+        subst (λ (x : List Word). Reads bodies (items_lines x bodies is) (k', None) (t, None)) named rest,
+      )
+  items-read (ABody b ∷ is) k e h s =
+      reads-append bodies (body_lines (array_names k) bodies b) (items_lines (array_names k) bodies is) (k, None) (put (ABody b) k, None) (t, None)
+      (body-reads bodies k b (arrays-good k (job_of (ABody b ∷ is)) e) good (free-body k b is h.0 e) h.0 s.0)
+      (items-read is (put (ABody b) k) (joined-next k (ABody b) is ∙ e) h.1 s.1)
+  items-read (AStart a ∷ is) k e h s = (
+    (put (AStart a) k, None),
+    start-passes bodies k a good s.0 h.0 (free-start k a is e),
+    items-read is (put (AStart a) k) (joined-next k (AStart a) is ∙ e) h.1 s.1,
+  )

@@ -1,0 +1,9 @@
+pub mod Chain
+pub mod Declares
+pub mod Mentioned
+pub mod Known
+pub mod Fitting
+pub mod InBody
+pub mod OneItem
+pub mod Items
+pub mod Whole
