@@ -1,8 +1,9 @@
 -- The command line as it is taken.
-use Rattle.std.proofs.Common.{◌≡◌, ◌∙◌, ap₂, ℕ, true, List, [], ◌∷◌, codes, refl}
+use Rattle.std.proofs.Common.{◌≡◌, true, refl}
 use Rattle.clap.specs.Words.{is_simple_and_free, is_simple}
 use Rattle.clap.proofs.OnLiterals.{clap_on_literals}
 use Rattle.bsp_cli.specs.CommandLine.{program}
+use Rattle.bsp_cli.specs.Laws.{EachNameAsks, EachNameRefuses}
 
 pub free-program : is_simple_and_free program ≡ true
 unfolding clap_on_literals
@@ -11,3 +12,26 @@ free-program = refl
 pub simple-program : is_simple program ≡ true
 unfolding clap_on_literals
 simple-program = refl
+
+pub words-ask : EachNameAsks
+unfolding clap_on_literals
+words-ask name = record {
+  trace = (refl, refl);
+  check = (refl, refl);
+  run = (refl, refl);
+  least = (refl, refl);
+  most = (refl, refl);
+  joined = (refl, refl);
+}
+
+pub words-refused : EachNameRefuses
+unfolding clap_on_literals
+words-refused name = record {
+  nothing = refl;
+  unknown = refl;
+  more = refl;
+  none = refl;
+  many = refl;
+  workers = refl;
+  tree = refl;
+}

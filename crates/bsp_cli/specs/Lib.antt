@@ -2,4 +2,5 @@ pub mod CommandLine
 pub mod Did
 pub mod Ends
 pub mod Jobs
+pub mod Laws
 pub mod Texts

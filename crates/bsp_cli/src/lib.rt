@@ -5,10 +5,12 @@ mod asked;
 mod command_line;
 mod fault;
 mod job;
+mod laws;
 mod trace;
 
 pub use asked::Asked;
 pub use command_line::run;
+pub use laws::{words_are_refused, words_ask};
 
 /// Statuses that the program ends with (own); 0 is for what was done.
 pub mod status {

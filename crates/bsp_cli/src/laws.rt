@@ -1,0 +1,13 @@
+//! Laws on the words of a command line. Each function does nothing: its contract is the law.
+ghost use Rattle.bsp_cli.specs.Laws.{EachNameAsks, EachNameRefuses};
+
+/// Which words ask for what: `trace`, `check`, and `run` with its limits, behind any name of the program.
+pub fn words_ask()
+    ensures { EachNameAsks }
+{}
+
+/// Words that are refused: no subcommand or an unknown one, more words than are taken, a limit that isn't one, and
+/// options that `run` doesn't have.
+pub fn words_are_refused()
+    ensures { EachNameRefuses }
+{}
