@@ -55,7 +55,7 @@ fn written_out(alloc: Global, short: &str) -> Result<String, AllocError> {
     let mut is_first = true;
     for part in short.split('{') {
         if is_first {
-            write_lines(alloc, &mut whole, part, 0)?;
+            write_lines(alloc, &mut whole, part, None)?;
         } else {
             write_part(alloc, &mut whole, part)?;
         }
@@ -73,27 +73,28 @@ fn write_part(alloc: Global, whole: &mut String, part: &str) -> Result<(), Alloc
     let (count_word, piece) = repeated.split_once(':').unwrap_or(("0", ""));
     let count = count_word.parse::<u32>().unwrap_or(0);
     for number in 0..count {
-        write_lines(alloc, whole, piece, number)?;
+        write_lines(alloc, whole, piece, Some(number))?;
     }
-    write_lines(alloc, whole, rest, 0)
+    write_lines(alloc, whole, rest, None)
 }
 
-// Writes a line's end for each `;` and a space behind it, and a number for each `#`.
+// Writes a line's end for each `;` and a space behind it, and a piece's number for each `#`.
 fn write_lines(
     alloc: Global,
     whole: &mut String,
     short: &str,
-    number: u32,
+    piece_number: Option<u32>,
 ) -> Result<(), AllocError> {
     let mut behind_end = false;
     for letter in short.chars() {
-        if letter == '#' {
-            let digits = format!(in alloc; "{number}")?;
-            whole.push_str(digits.as_str())?;
-        } else if letter == ';' {
-            whole.push('\n')?;
-        } else if letter != ' ' || !behind_end {
-            whole.push(letter)?;
+        match (letter, piece_number) {
+            ('#', Some(number)) => {
+                let digits = format!(in alloc; "{number}")?;
+                whole.push_str(digits.as_str())?;
+            },
+            (';', _) => whole.push('\n')?,
+            _ if letter != ' ' || !behind_end => whole.push(letter)?,
+            _ => {},
         }
         behind_end = letter == ';';
     }
