@@ -1,0 +1,102 @@
+//! The rows of a table of texts: the words of a command line, the text that it reads, the status and
+//! what is printed.
+
+use std::alloc::{AllocError, Global};
+
+/// A row of the table, its text and output written short.
+#[derive(Drop)]
+pub(crate) struct Row<'a> {
+    words: &'a str,
+    text: &'a str,
+    /// The status that the program is to end with.
+    pub(crate) status: u8,
+    output: &'a str,
+}
+
+/// The row that a line holds.
+pub(crate) fn row_of(line: &str) -> Option<Row<'_>> {
+    let (words, behind_words) = line.split_once(" | ")?;
+    let (text, behind_text) = behind_words.split_once(" | ")?;
+    let (status_word, output) = behind_text.split_once(" | ")?;
+    let status = status_word.parse::<u8>().ok()?;
+    Some(Row {
+        words,
+        text,
+        status,
+        output,
+    })
+}
+
+impl<'a> Row<'a> {
+    /// The words of the command line, the program's name first.
+    pub(crate) fn command_line(&self, alloc: Global) -> Result<Vec<&'a str>, AllocError> {
+        let mut line = Vec::new(alloc);
+        line.push("bsp")?;
+        for word in self.words.split_whitespace() {
+            line.push(word)?;
+        }
+        Ok(line)
+    }
+
+    /// The text that the program reads.
+    pub(crate) fn whole_text(&self, alloc: Global) -> Result<String, AllocError> {
+        written_out(alloc, self.text)
+    }
+
+    /// What the program is to print.
+    pub(crate) fn whole_output(&self, alloc: Global) -> Result<String, AllocError> {
+        written_out(alloc, self.output)
+    }
+}
+
+// A short text written out: each piece `{N:piece}` N times, and a line's end at the end.
+fn written_out(alloc: Global, short: &str) -> Result<String, AllocError> {
+    let mut whole = String::new(alloc);
+    let mut is_first = true;
+    for part in short.split('{') {
+        if is_first {
+            write_lines(alloc, &mut whole, part, None)?;
+        } else {
+            write_part(alloc, &mut whole, part)?;
+        }
+        is_first = false;
+    }
+    if !whole.as_str().is_empty() && !whole.as_str().ends_with('\n') {
+        whole.push('\n')?;
+    }
+    Ok(whole)
+}
+
+// Writes a part that begins behind a `{`.
+fn write_part(alloc: Global, whole: &mut String, part: &str) -> Result<(), AllocError> {
+    let (repeated, rest) = part.split_once('}').unwrap_or(("", part));
+    let (count_word, piece) = repeated.split_once(':').unwrap_or(("0", ""));
+    let count = count_word.parse::<u32>().unwrap_or(0);
+    for number in 0..count {
+        write_lines(alloc, whole, piece, Some(number))?;
+    }
+    write_lines(alloc, whole, rest, None)
+}
+
+// Writes a line's end for each `;` and a space behind it, and a piece's number for each `#`.
+fn write_lines(
+    alloc: Global,
+    whole: &mut String,
+    short: &str,
+    piece_number: Option<u32>,
+) -> Result<(), AllocError> {
+    let mut behind_end = false;
+    for letter in short.chars() {
+        match (letter, piece_number) {
+            ('#', Some(number)) => {
+                let digits = format!(in alloc; "{number}")?;
+                whole.push_str(digits.as_str())?;
+            },
+            (';', _) => whole.push('\n')?,
+            _ if letter != ' ' || !behind_end => whole.push(letter)?,
+            _ => {},
+        }
+        behind_end = letter == ';';
+    }
+    Ok(())
+}
