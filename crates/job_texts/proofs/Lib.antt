@@ -7,3 +7,4 @@ pub mod InBody
 pub mod OneItem
 pub mod Items
 pub mod Whole
+pub mod Joined

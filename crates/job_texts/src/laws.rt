@@ -1,5 +1,12 @@
 //! Laws on texts that are a job's. Each function does nothing: its contract is the law.
-ghost use Rattle.job_texts.specs.Laws.{TextsOfJobsAreRead, OneJobAText};
+ghost use Rattle.job_texts.specs.Laws.{
+  TextsOfJobsAreRead,
+  OneJobAText,
+  TextsAreReadAsTheirJobs,
+  EachTextIsOneJobsOrRefused,
+  CanonicalTextsAreRead,
+  WritingTwiceIsWritingOnce,
+};
 
 /// A text of a job, which is short, has allowed bytes only, and whose lines that aren't skipped are the job's as they
 /// are written, is read as that job.
@@ -10,4 +17,24 @@ pub fn texts_of_jobs_are_read()
 /// A text is of one job at most.
 pub fn one_job_a_text()
     ensures { OneJobAText }
+{}
+
+/// A text is read as a job exactly where it is a text of that job.
+pub fn texts_are_read_as_their_jobs()
+    ensures { TextsAreReadAsTheirJobs }
+{}
+
+/// Each text is a job's or is refused, and never both.
+pub fn each_text_is_one_jobs_or_refused()
+    ensures { EachTextIsOneJobsOrRefused }
+{}
+
+/// The canonical text of a job, where it has no more bytes than a text may have, is read as that job.
+pub fn canonical_texts_are_read()
+    ensures { CanonicalTextsAreRead }
+{}
+
+/// What the canonical text of a read job is read as is that same job, and so has that same canonical text.
+pub fn writing_twice_is_writing_once()
+    ensures { WritingTwiceIsWritingOnce }
 {}

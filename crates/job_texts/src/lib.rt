@@ -1,6 +1,10 @@
-//! Laws on texts that are a job's: each is read as that job. Each function does nothing: its contract is the law.
+//! Laws on texts that are a job's: these and no others are read, each as that job. Each function does nothing: its
+//! contract is the law.
 #![tactic(auto)]
 
 mod laws;
 
-pub use laws::{one_job_a_text, texts_of_jobs_are_read};
+pub use laws::{
+    canonical_texts_are_read, each_text_is_one_jobs_or_refused, one_job_a_text,
+    texts_are_read_as_their_jobs, texts_of_jobs_are_read, writing_twice_is_writing_once,
+};
