@@ -6,3 +6,4 @@ pub mod Closed
 pub mod Whole
 pub mod LawProofs
 pub mod Apart
+pub mod Landings

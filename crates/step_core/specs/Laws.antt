@@ -1,6 +1,11 @@
 -- What holds of rounds and of jobs (own).
-use Rattle.std.specs.Prelude.{◌≡◌, ℕ, ◌+◌, ◌≤◌, true, IsTrue, is_some, List, [], ◌∷◌, ◌++◌, length, None}
-use Rattle.superstep_memory.specs.Paths.{is_rising}
+use Rattle.std.specs.Prelude.{◌≡◌, ℕ, ◌+◌, ◌≤◌, pos, true, false, IsTrue, is_some, List, [], ◌∷◌, ◌++◌, length, Some, None}
+use Rattle.std.specs.List.{Contains}
+use Rattle.superstep_memory.specs.declared.arrays.Put.{Put}
+use Rattle.superstep_memory.specs.Cells.{cell_at}
+use Rattle.superstep_memory.specs.Paths.{path_lt, is_rising}
+use Rattle.superstep_memory.specs.Laws.{has_put}
+use Rattle.task_lang.specs.Meaning.{Task, Segment, segment_of}
 use Rattle.step_core.specs.Program.{Program}
 use Rattle.step_core.specs.Superstep.{State, superstep, segments, record_of, live_paths}
 use Rattle.step_core.specs.JobMeaning.{so_far, report_of}
@@ -54,3 +59,31 @@ RecordsTally =
 -- Live paths strictly rise, so that each live task has a path of its own.
 abbrev pub LivePathsRise : Type 0
 LivePathsRise = (p : Program) (limit n : ℕ) → is_rising (live_paths (so_far p limit n)) ≡ true
+
+-- what this task does in this state
+abbrev pub deed : Program → State → Task → Segment
+deed p st t = segment_of p.plans t st.arrays st.step
+
+-- no live task of a later path puts to this cell
+abbrev pub NoneLater : Program → State → List ℕ → ℕ → ℕ → Type 0
+NoneLater p st path array index =
+    (u : Task) → Contains st.live u → path_lt path u.path ≡ true → has_put (deed p st u).puts array index ≡ false
+
+-- A put of a later path wins over every put of an earlier one: where a live task's segment puts to a cell, with no later put
+-- of its own to it, and no task of a later path puts there, the superstep leaves the value of that put in the cell.
+abbrev pub LaterPathWins : Type 0
+LaterPathWins =
+    (p : Program) (limit n : ℕ) (t : Task) (front back : List Put) (q : Put)
+    → (superstep p (so_far p limit n)).fault ≡ None
+    → Contains (so_far p limit n).live t
+    → (deed p (so_far p limit n) t).puts ≡ front ++ q ∷ back
+    → has_put back q.array q.index ≡ false
+    → NoneLater p (so_far p limit n) t.path q.array q.index
+    → cell_at (superstep p (so_far p limit n)).arrays q.array (pos q.index) ≡ Some q.value
+
+-- A cell to which no live task's segment puts keeps its value.
+abbrev pub OthersKeepTheirValues : Type 0
+OthersKeepTheirValues =
+    (p : Program) (st : State) (array index : ℕ)
+    → ((u : Task) → Contains st.live u → has_put (deed p st u).puts array index ≡ false)
+    → cell_at (superstep p st).arrays array (pos index) ≡ cell_at st.arrays array (pos index)

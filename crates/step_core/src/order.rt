@@ -17,7 +17,7 @@ use task_lang::task::{After, Segment, Task};
 #[derive(Drop)]
 pub struct Order<'j> {
     job: &'j Job,
-    step: u32,
+    superstep: u32,
     place: usize,
     task: Task,
     arrays: Arc<Arrays>,
@@ -29,9 +29,9 @@ impl<'j> Model for Order<'j> {
 
     ghost Value = { OrderValue };
 
-    ghost view = { λ o. order_value o.job.now o.step o.place o.task (arc_value o.arrays) };
+    ghost view = { λ o. order_value o.job.now o.superstep o.place o.task (arc_value o.arrays) };
 
-    ghost invariant = { λ o. IsOrder (order_value o.job.now o.step o.place o.task (arc_value o.arrays)) };
+    ghost invariant = { λ o. IsOrder (order_value o.job.now o.superstep o.place o.task (arc_value o.arrays)) };
 }
 
 /// What the segment of an order did, for the round that gave it.
@@ -85,7 +85,7 @@ impl<'j> Order<'j> {
     {
         Order {
             job,
-            step,
+            superstep: step,
             place,
             task,
             arrays,
@@ -103,7 +103,7 @@ impl<'j> Order<'j> {
     pub fn step(&self) -> u32
         ensures { result ≡ self.now.step }
     {
-        self.step
+        self.superstep
     }
 }
 
@@ -123,11 +123,17 @@ impl<'j> Delivery<'j> {
         ensures segment { IfOk result (λ d. delivered_segment d
             ≡ segment_of (plans order.entry.job.bodies) (ordered_task order.entry) order.entry.arrays order.entry.step) }
     {
-        let done = segment(alloc, order.job, &order.task, &order.arrays, order.step)?;
+        let done = segment(
+            alloc,
+            order.job,
+            &order.task,
+            &order.arrays,
+            order.superstep,
+        )?;
         let path = task_path(&order.task);
         Ok(Delivery {
             job: order.job,
-            step: order.step,
+            step: order.superstep,
             place: order.place,
             path,
             segment: done,

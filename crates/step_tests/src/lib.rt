@@ -1,0 +1,15 @@
+//! Tests of rounds and of jobs on one thread: worked rows, faults, limits, deliveries in any order, refusals.
+#![tactic(auto)]
+
+#[cfg(test)]
+mod faults;
+#[cfg(test)]
+mod fixtures;
+#[cfg(test)]
+mod hands;
+#[cfg(test)]
+mod limits;
+#[cfg(test)]
+mod rounds;
+#[cfg(test)]
+mod rows;
