@@ -1,14 +1,14 @@
 //! Devices that give or take little, and that fail.
-use crate::runs::{run_on, run_text};
+use crate::runs::{SWAP, run_on, run_text};
 use bsp_cli::run;
 use phase_records::{Reader, Writer};
+use std::alloc::Global;
 use std::io;
 use std::io::{Read, Write};
+use std::process::Abort;
 use std::test::Fail;
 
-const TRACE: [&str; 2] = ["bsp", "trace"];
-
-const TEXT: &str = "phaser 2\narrive\narrive\nshow\nbulk -1\nawait 1\n";
+const TRACE: &str = "phaser 2\narrive\narrive\nshow\nbulk -1\nawait 1\n";
 
 // Gives a byte a read, and fails once so many have been given.
 #[derive(Drop)]
@@ -63,15 +63,16 @@ impl Write for Filling<'_> {
     }
 }
 
-#[test]
-fn a_reader_that_fails_leaves_no_output(rt: HostRuntime) -> Result<(), Fail> {
-    let whole = run_text(rt.alloc(), &TRACE, TEXT);
-    for room in 0..TEXT.len() + 1 {
+// Runs the program on readers that fail at each read of a text: nothing is written before the text's end was read.
+fn reads_fail(rt: &impl Abort, alloc: Global, words: &[&str], text: &str) {
+    let whole = run_text(alloc, words, text);
+    assert_eq!(rt; whole.status, 0);
+    for room in 0..text.len() + 1 {
         let input = Dripping {
-            rest: TEXT.as_bytes(),
+            rest: text.as_bytes(),
             room,
         };
-        let left = run_on(rt.alloc(), &TRACE, input);
+        let left = run_on(alloc, words, input);
         assert_eq!(rt; left.status, 8, "{room}");
         assert!(rt; left.out.is_empty(), "{room}");
         assert_eq!(rt;
@@ -80,64 +81,74 @@ fn a_reader_that_fails_leaves_no_output(rt: HostRuntime) -> Result<(), Fail> {
         );
     }
     let input = Dripping {
-        rest: TEXT.as_bytes(),
-        room: TEXT.len() + 1,
+        rest: text.as_bytes(),
+        room: text.len() + 1,
     };
-    let left = run_on(rt.alloc(), &TRACE, input);
+    let left = run_on(alloc, words, input);
     assert_eq!(rt; left.status, 0);
     assert_eq!(rt; left.out.as_slice(), whole.out.as_slice());
+}
+
+#[test]
+fn a_reader_that_fails_leaves_no_output(rt: HostRuntime) -> Result<(), Fail> {
+    for (word, text) in [("trace", TRACE), ("check", SWAP), ("run", SWAP)] {
+        reads_fail(&rt, rt.alloc(), &["bsp", word], text);
+    }
     Ok(())
+}
+
+// Runs the program on writers that stop at each byte: what they took are the first bytes of the whole output.
+fn writes_fail(rt: &impl Abort, alloc: Global, words: &[&str], text: &str, fails: bool) {
+    let whole = run_text(alloc, words, text);
+    assert_eq!(rt; whole.status, 0);
+    for room in 0..whole.out.len() {
+        let mut taken = Vec::new(alloc);
+        let mut errors = Vec::new(alloc);
+        let mut reader = Reader::new(text.as_bytes());
+        let mut writer = Writer::new(Filling {
+            taken: &mut taken,
+            room,
+            fails,
+        });
+        let mut error_writer = Writer::new(&mut errors);
+        let status = run(alloc, words, &mut reader, &mut writer, &mut error_writer);
+        assert_eq!(rt; status, 8, "{room}");
+        assert_eq!(rt; Some(taken.as_slice()), whole.out.get(..room), "{room}");
+        assert_eq!(rt; errors.as_slice(), b"read or write failed\n".as_slice());
+    }
 }
 
 #[test]
 fn a_writer_that_fails_has_the_first_bytes(rt: HostRuntime) -> Result<(), Fail> {
-    let whole = run_text(rt.alloc(), &TRACE, TEXT);
-    for fails in [true, false] {
-        for room in 0..whole.out.len() {
-            let mut taken = Vec::new(rt.alloc());
-            let mut errors = Vec::new(rt.alloc());
-            let mut reader = Reader::new(TEXT.as_bytes());
-            let mut writer = Writer::new(Filling {
-                taken: &mut taken,
-                room,
-                fails,
-            });
-            let mut error_writer = Writer::new(&mut errors);
-            let status = run(
-                rt.alloc(),
-                &TRACE,
-                &mut reader,
-                &mut writer,
-                &mut error_writer,
-            );
-            assert_eq!(rt; status, 8, "{room}");
-            assert_eq!(rt; Some(taken.as_slice()), whole.out.get(..room), "{room}");
-            assert_eq!(rt; errors.as_slice(), b"read or write failed\n".as_slice());
-        }
+    for (word, text) in [("trace", TRACE), ("check", SWAP), ("run", SWAP)] {
+        writes_fail(&rt, rt.alloc(), &["bsp", word], text, true);
+        writes_fail(&rt, rt.alloc(), &["bsp", word], text, false);
     }
     Ok(())
 }
 
 #[test]
 fn a_writer_of_errors_that_fails_leaves_the_status(rt: HostRuntime) -> Result<(), Fail> {
-    let mut taken = Vec::new(rt.alloc());
-    let mut out = Vec::new(rt.alloc());
-    let mut reader = Reader::new("phaser\n".as_bytes());
-    let mut writer = Writer::new(&mut out);
-    let mut error_writer = Writer::new(Filling {
-        taken: &mut taken,
-        room: 4,
-        fails: true,
-    });
-    let status = run(
-        rt.alloc(),
-        &TRACE,
-        &mut reader,
-        &mut writer,
-        &mut error_writer,
-    );
-    assert_eq!(rt; status, 4);
-    assert_eq!(rt; taken.as_slice(), b"refu".as_slice());
+    for word in ["trace", "check", "run"] {
+        let mut taken = Vec::new(rt.alloc());
+        let mut out = Vec::new(rt.alloc());
+        let mut reader = Reader::new("phaser\n".as_bytes());
+        let mut writer = Writer::new(&mut out);
+        let mut error_writer = Writer::new(Filling {
+            taken: &mut taken,
+            room: 4,
+            fails: true,
+        });
+        let status = run(
+            rt.alloc(),
+            &["bsp", word],
+            &mut reader,
+            &mut writer,
+            &mut error_writer,
+        );
+        assert_eq!(rt; status, 4, "{word}");
+        assert_eq!(rt; taken.as_slice(), b"refu".as_slice(), "{word}");
+    }
     Ok(())
 }
 
@@ -160,12 +171,14 @@ impl Read for Endless<'_> {
 
 #[test]
 fn a_text_is_read_by_at_most_1048577_reads(rt: HostRuntime) -> Result<(), Fail> {
-    let mut reads = 0;
-    let left = run_on(rt.alloc(), &TRACE, Endless { reads: &mut reads });
-    assert_eq!(rt;
-        left.errors.as_slice(),
-        b"refused line 1 code 1\n".as_slice()
-    );
-    assert_eq!(rt; reads, 1048577);
+    for word in ["trace", "check", "run"] {
+        let mut reads = 0;
+        let left = run_on(rt.alloc(), &["bsp", word], Endless { reads: &mut reads });
+        assert_eq!(rt;
+            left.errors.as_slice(),
+            b"refused line 1 code 1\n".as_slice()
+        );
+        assert_eq!(rt; reads, 1048577, "{word}");
+    }
     Ok(())
 }

@@ -7,6 +7,8 @@ mod devices;
 #[cfg(test)]
 mod interleaved;
 #[cfg(test)]
+mod jobs;
+#[cfg(test)]
 mod single;
 #[cfg(test)]
 mod traces;
@@ -19,6 +21,19 @@ mod runs {
     use phase_records::{Reader, Writer};
     use std::alloc::Global;
     use std::io::Read;
+
+    /// A job of two tasks that swap two cells.
+    pub const SWAP: &str = "bsp 1
+array a 2 10 20
+body swap
+let other = 1 - arg
+put a[arg] = a[other]
+sync
+print a[arg]
+end
+start swap 0
+start swap 1
+";
 
     /// What a run of the program left.
     #[derive(Drop)]

@@ -203,10 +203,21 @@ fn takes_1048576_bytes_and_no_more(rt: HostRuntime) -> Result<(), Fail> {
 
 #[test]
 fn takes_the_command_line_by_its_words(rt: HostRuntime) -> Result<(), Fail> {
-    let rows: [(&[&str], u8, &str); 5] = [
+    let rows: [(&[&str], u8, &str); 8] = [
         (&["bsp"], 5, "command line refused\n"),
-        (&["bsp", "run"], 5, "command line refused\n"),
+        (&["bsp", "walk"], 5, "command line refused\n"),
         (&["bsp", "trace", "more"], 5, "command line refused\n"),
+        (
+            &["bsp", "check", "--limit", "1"],
+            5,
+            "command line refused\n",
+        ),
+        (&["bsp", "run", "--limit", "0"], 5, "command line refused\n"),
+        (
+            &["bsp", "run", "--limit", "1000001"],
+            5,
+            "command line refused\n",
+        ),
         (&["bsp", "--help"], 0, ""),
         (&["bsp", "trace", "-h"], 0, ""),
     ];
@@ -215,6 +226,24 @@ fn takes_the_command_line_by_its_words(rt: HostRuntime) -> Result<(), Fail> {
         assert_eq!(rt; left.status, status);
         assert_eq!(rt; left.errors.as_slice(), errors.as_bytes());
         assert_eq!(rt; left.out.is_empty(), status != 0);
+    }
+    Ok(())
+}
+
+#[test]
+fn help_names_what_the_command_line_takes(rt: HostRuntime) -> Result<(), Fail> {
+    let rows: [(&[&str], &str); 4] = [
+        (&["bsp", "--help"], "\n  trace  "),
+        (&["bsp", "--help"], "\n  check  "),
+        (&["bsp", "--help"], "\n  run  "),
+        (&["bsp", "run", "--help"], "--limit <N>"),
+    ];
+    for (words, name) in rows {
+        let left = run_text(rt.alloc(), words, "");
+        assert_eq!(rt; left.status, 0, "{name}");
+        assert!(rt; left.errors.is_empty(), "{name}");
+        let text = str::from_utf8(left.out.as_slice()).ok().ok_or("text")?;
+        assert!(rt; text.contains(name), "{name}");
     }
     Ok(())
 }
