@@ -77,17 +77,24 @@ set_is_with [] p s g at = refl
 set_is_with (x ∷ xs) zero s g at = let e : s ≡ x = cc in ap (λ (y : SlotValue). record { task = y.task; done = Some g } ∷ xs) e
 set_is_with (x ∷ xs) (suc p) s g at = ap (λ ts. x ∷ ts) (set_is_with xs p s g at)
 
+-- with a segment that is its task's, a round is a round
+pub kept : (r : RoundValue) → IsRound r → (p : ℕ) (s : SlotValue) (g : SegmentValue) → slice_get r.slots p ≡ Some s
+    → meant (plans r.job.bodies) g ≡ segment_of (plans r.job.bodies) (task_of (plans r.job.bodies) s.task) r.arrays r.step
+    → IsRound (with_slots r (slice_set r.slots p record { task = s.task; done = Some g }))
+kept r h p s g at e =
+    let l : length (slice_set r.slots p record { task = s.task; done = Some g }) ≡ length r.slots = length-set r.slots p record { task = s.task; done = Some g } in
+    record {
+      reached = (h.reached.0, ap (λ (ts : List Task). record (state_of r) { live = ts }) (same_tasks (plans r.job.bodies) r.slots p s g at) ∙ h.reached.1);
+      fits = fits_more (plans r.job.bodies) r.arrays r.step r.slots p s g h.fits at e;
+      few = subst (λ k. k ≤ 4096) (sym l) h.few;
+    }
+
 pub taken : (r : RoundValue) → IsRound r → status_in r ≡ None → (p : ℕ) (s : SlotValue) (path : List ℕ) (g : SegmentValue)
     → slice_get r.slots p ≡ Some s → deed_at (program_of r.job) r.step p ≡ Some (path, meant (plans r.job.bodies) g)
     → IsRound (with_slots r (slice_set r.slots p record { task = s.task; done = Some g }))
 taken r h run p s path g at d =
     let deed = delivered_is r h run p s path (meant (plans r.job.bodies) g) at d in
-    let l : length (slice_set r.slots p record { task = s.task; done = Some g }) ≡ length r.slots = length-set r.slots p record { task = s.task; done = Some g } in
-    record {
-      reached = (h.reached.0, ap (λ (ts : List Task). record (state_of r) { live = ts }) (same_tasks (plans r.job.bodies) r.slots p s g at) ∙ h.reached.1);
-      fits = fits_more (plans r.job.bodies) r.arrays r.step r.slots p s g h.fits at (sym (ap (λ (x : List ℕ × Segment). x.1) deed));
-      few = subst (λ k. k ≤ 4096) (sym l) h.few;
-    }
+    kept r h p s g at (sym (ap (λ (x : List ℕ × Segment). x.1) deed))
 
 pub slot_at : (ss : List SlotValue) (p : ℕ) (s : SlotValue) → p < length ss → s ≡ get_or ss p s → slice_get ss p ≡ Some s
 slot_at [] p s lt e = absurd (omega arith)
@@ -122,6 +129,27 @@ taken_at r job step place q path s w g b =
     let at = slot_at r.slots q s b.below b.slot in
     subst (λ x. IsRound (with_slots r (slice_set r.slots q x))) (sym b.put)
     (taken r b.round b.run q s path g at (here r job step place q path g b.same_job b.same_step b.same_place b.known))
+
+-- a segment that is done where its task stands
+pub record DoneAt (r : RoundValue) (p : ℕ) (s m w : SlotValue) (t : TaskValue) (a : List (List ℕ × List ℤ)) (g : SegmentValue) : Type 0 where
+  pub round : IsRound r
+  pub below : p < length r.slots
+  pub slot : s ≡ get_or r.slots p s
+  pub again : m ≡ get_or r.slots p m
+  pub task : t ≡ s.task
+  pub arrays : a ≡ r.arrays
+  pub means : meant (plans r.job.bodies) g ≡ segment_of (plans r.job.bodies) (task_of (plans r.job.bodies) t) a r.step
+  pub put : w ≡ record { task = m.task; done = Some g }
+
+pub done_at : (r : RoundValue) (p : ℕ) (s m w : SlotValue) (t : TaskValue) (a : List (List ℕ × List ℤ)) (g : SegmentValue)
+    → DoneAt r p s m w t a g → IsRound (with_slots r (slice_set r.slots p w))
+done_at r p s m w t a g d =
+    let at = slot_at r.slots p m d.below d.again in
+    let same : s ≡ m = some_is _ _ (sym (slot_at r.slots p s d.below d.slot) ∙ at) in
+    let task : t ≡ m.task = d.task ∙ ap (λ (x : SlotValue). x.task) same in
+    subst (λ x. IsRound (with_slots r (slice_set r.slots p x))) (sym d.put)
+    (kept r d.round p m g at
+    (d.means ∙ (λ i. segment_of (plans r.job.bodies) (task_of (plans r.job.bodies) (task i)) (d.arrays i) r.step)))
 
 -- the slot of its place is for its task
 pub for_task : (r : RoundValue) (job : JobValue) (step place q : ℕ) (path : List ℕ) (s : SlotValue) (g : SegmentValue) → IsRound r → status_in r ≡ None

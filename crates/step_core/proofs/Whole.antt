@@ -1,5 +1,5 @@
 -- A job on one thread.
-use Rattle.std.proofs.Common.{◌≡◌, ℕ, zero, suc, ◌+◌, ◌≤◌, ◌<◌, true, false, List, [], ◌∷◌, map, length, Option, Some, None, is_some, slice_get, refl, sym, ap, ◌∙◌, subst, arith, add-one}
+use Rattle.std.proofs.Common.{◌≡◌, ℕ, zero, suc, ◌+◌, ◌≤◌, ◌<◌, true, false, List, [], ◌∷◌, map, length, Option, Some, None, is_some, refl, sym, ap, ◌∙◌, subst, arith, add-one}
 use Rattle.phase_records.specs.Status.{Status}
 use Rattle.phase_records.specs.ReportValue.{ReportValue}
 use Rattle.task_lang.specs.JobValue.{JobValue}
@@ -11,16 +11,9 @@ use Rattle.step_core.specs.Superstep.{State, superstep, segments, first_fault}
 use Rattle.step_core.specs.JobMeaning.{so_far, status, told, report_in, report_of}
 use Rattle.step_core.specs.SlotValue.{SlotValue}
 use Rattle.step_core.specs.Slots.{slots_of, task_in, with_segment, first_missing}
-use Rattle.step_core.specs.Taking.{is_done}
 use Rattle.step_core.specs.Along.{HasTaken, IsUpTo, IsAlong, IsAtEnd, measure_of}
 use Rattle.step_core.specs.RoundValue.{RoundValue, IsRound, Opens, state_of, status_in, slots_in}
 use Rattle.step_core.proofs.Runs.{ended_is_last, ends_in_time, step_moves, below_limit, no_fault}
-
--- nothing was delivered for the next task
-pub not_yet : (ss : List SlotValue) (p : ℕ) → IsUpTo p ss → p < length ss → is_done (slice_get ss p) ≡ false
-not_yet [] p u lt = absurd (omega arith)
-not_yet (s ∷ ss) zero u lt = ap is_some u.0
-not_yet (s ∷ ss) (suc p) u lt = not_yet ss p u.1 (omega arith)
 
 up_more : (ss : List SlotValue) (p : ℕ) (g : SegmentValue) → IsUpTo p ss → IsUpTo (suc p) (with_segment ss p g)
 up_more [] zero g u = tt

@@ -1,43 +1,16 @@
 //! A job on one thread.
-ghost use Rattle.std.specs.Prelude.{◌≡◌, ◌≤◌, ◌<◌, None, Some, false, IfOk, OnOk, length, slice_get};
+ghost use Rattle.std.specs.Prelude.{◌≡◌, ◌≤◌, None, Some, IfOk, OnOk};
 ghost use Rattle.step_core.specs.Program.{program_of};
 ghost use Rattle.step_core.specs.Superstep.{superstep};
-ghost use Rattle.step_core.specs.JobMeaning.{so_far, report_of};
+ghost use Rattle.step_core.specs.JobMeaning.{report_of};
 ghost use Rattle.step_core.specs.RoundValue.{Opens, AllFresh, state_of, status_in};
-ghost use Rattle.step_core.specs.Taking.{Takes, with_delivery, is_done};
-ghost use Rattle.step_core.specs.Along.{HasTaken, IsAtEnd};
+ghost use Rattle.step_core.specs.Along.{IsAtEnd};
 
 use crate::fault::CloseFault;
-use crate::order::Delivery;
 use crate::round::Round;
 use phase_records::Report;
 use std::alloc::{AllocError, Global};
 use task_lang::job::Job;
-
-// Takes a delivery that isn't refused.
-fn take<'j>(round: &mut Round<'j>, delivery: Delivery<'j>)
-    requires running { status_in round.old ≡ None }
-    requires taken { Takes round.old delivery }
-    ensures { round.new ≡ with_delivery round.old delivery.entry }
-{
-    match round.accept_known(delivery) {
-        Ok(()) => {}
-        Err(_) => unreachable!(),
-    }
-}
-
-// Does the segment of the live task at this place.
-fn do_task(alloc: Global, round: &mut Round<'_>, place: usize) -> Result<(), AllocError>
-    requires running { status_in round.old ≡ None }
-    requires place { place < length round.old.slots }
-    requires first { is_done (slice_get round.old.slots place) ≡ false }
-    ensures { OnOk result (HasTaken round.old round.new place) }
-{
-    let order = round.order_at(alloc, place)?;
-    let delivery = Delivery::of(alloc, order)?;
-    take(round, delivery);
-    Ok(())
-}
 
 // Does each live task's segment, by path, and closes the round.
 fn run_superstep(alloc: Global, round: &mut Round<'_>) -> Result<(), AllocError>
@@ -49,7 +22,7 @@ fn run_superstep(alloc: Global, round: &mut Round<'_>) -> Result<(), AllocError>
     let count = round.count();
     let mut place = 0;
     while place < count {
-        do_task(alloc, round, place)?;
+        round.do_at(alloc, place)?;
         place += 1;
     }
     match round.close_round(alloc) {

@@ -1,5 +1,5 @@
 //! What a round does with what was delivered.
-ghost use Rattle.std.specs.Prelude.{◌≡◌, ◌≤◌, ◌++◌, List, IfOk, OnOk, OnErr, IsTrue, map, length, option_map, MatchOption, None, []};
+ghost use Rattle.std.specs.Prelude.{◌≡◌, ◌≤◌, ◌++◌, List, IfOk, OnOk, OnErr, map, length, option_map, []};
 ghost use Rattle.std.specs.Arc.{arc_value};
 ghost use Rattle.superstep_memory.specs.Landing.{landed, joined};
 ghost use Rattle.task_lang.specs.Meaning.{Plan};
@@ -7,7 +7,7 @@ ghost use Rattle.step_core.specs.Superstep.{first_fault, prints_of, print_of, re
 ghost use Rattle.step_core.specs.Slots.{slots_of, delivered, first_missing};
 ghost use Rattle.step_core.specs.SlotParts.{path_of, AllSmall};
 
-use crate::slot::{Blame, Finished, Slot, task_path};
+use crate::slot::{Blame, Slot, task_path};
 use phase_records::{PhaseRecord, Print};
 use smallvec::SmallVec;
 use std::alloc::{AllocError, Global};

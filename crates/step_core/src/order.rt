@@ -108,7 +108,7 @@ impl<'j> Order<'j> {
 }
 
 impl<'j> Delivery<'j> {
-    ghost use Rattle.std.specs.Prelude.{◌≡◌, ◌≤◌, IfOk, List, map, length};
+    ghost use Rattle.std.specs.Prelude.{◌≡◌, IfOk, map};
     ghost use Rattle.task_lang.specs.Meaning.{segment_of};
     ghost use Rattle.task_lang.specs.Views.{plans};
     ghost use Rattle.step_core.specs.SlotParts.{path_of};
