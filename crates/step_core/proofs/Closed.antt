@@ -26,7 +26,8 @@ use Rattle.step_core.specs.Slots.{Slot, slot_of, slots_of, told_by, task_in, del
 use Rattle.step_core.specs.SlotParts.{path_in, path_of, living_in, fresh_slot, IsSmall, AllSmall}
 use Rattle.step_core.specs.RoundValue.{RoundValue, IsRound, Fits, AllFit, AllFresh, Opens, state_of, status_in, slots_in, whole}
 use Rattle.step_core.proofs.Runs.{goes, no_fault}
-use Rattle.step_core.proofs.InOrder.{put_all_mapped}
+use Rattle.step_core.proofs.InOrder.{put_all_mapped, count_in_order}
+use Rattle.std.proofs.lemmas.List.{length-map}
 use Rattle.step_core.proofs.Deeds.{living_mapped}
 
 one_delivered : (p : Program) (a : List (List ℕ × List ℤ)) (n : ℕ) (t : Task) (ss : List Slot) (o : Option Segment) → Fits p.plans a n t o
@@ -145,6 +146,10 @@ next_length r xs e =
     ∙ ap length (sym (fresh_mapped ps (in_path_order path_in (living_in r.slots))))
     ∙ ap (λ (ys : List SlotValue). length (slots_of ps ys)) (sym e)
     ∙ slots_length ps xs
+
+-- how many they are
+pub next_count : (ss : List SlotValue) (n : ℕ) → n ≡ length (living_in ss) → length (map fresh_slot (in_path_order path_in (living_in ss))) ≡ n
+next_count ss n e = length-map (in_path_order path_in (living_in ss)) fresh_slot ∙ count_in_order path_in (living_in ss) ∙ sym e
 
 -- too many would live on
 pub ended_by_many : (r : RoundValue) → Closes r → first_fault (deeds r) ≡ None → (xs : List SlotValue)

@@ -1,8 +1,8 @@
 -- Things in path order, kept with the last one first.
-use Rattle.std.proofs.Common.{◌≡◌, ℕ, Bool, true, false, List, [], ◌∷◌, ◌++◌, length, map, reverse, refl, sym, ap, ◌∙◌, arith, append_assoc}
+use Rattle.std.proofs.Common.{◌≡◌, ℕ, suc, ◌+◌, Bool, true, false, List, [], ◌∷◌, ◌++◌, length, map, reverse, refl, sym, ap, ◌∙◌, arith, append_assoc}
 use Rattle.std.specs.Prelude.{if◌then◌else◌}
 use Rattle.std.specs.List.{insert}
-use Rattle.std.proofs.lemmas.List.{reverse-append, reverse-reverse, append-nil}
+use Rattle.std.proofs.lemmas.List.{reverse-append, reverse-reverse, append-nil, length-append}
 use Rattle.std.proofs.Math.Seq.{take-append_seam, drop-append_seam}
 use Rattle.superstep_memory.specs.Paths.{path_lt}
 use Rattle.step_core.specs.PathOrder.{put_in, put_all}
@@ -93,6 +93,29 @@ module _ {A : Type 0} (path : A → List ℕ) where
       ∙ sym (put_all_append front xs (reverse us))
       ∙ ap (λ (zs : List A). put_all path zs (reverse us)) (sym e)
       ∙ h
+
+  count_in : (x : A) (ys : List A) → length (put_in path x ys) ≡ suc (length ys)
+  count_in x [] = refl
+  count_in x (y ∷ ys) = by (path_lt (path y) (path x)) (count_in x ys)
+    where
+      by : (b : Bool) → length (put_in path x ys) ≡ suc (length ys) → length (if b then y ∷ put_in path x ys else x ∷ y ∷ ys) ≡ suc (length (y ∷ ys))
+      by true h = ap suc h
+      by false h = refl
+
+  count_all : (xs ys : List A) → length (put_all path xs ys) ≡ length xs + length ys
+  count_all [] ys = omega arith
+  count_all (x ∷ xs) ys =
+      let one = count_in x (put_all path xs ys) in
+      let more = count_all xs ys in
+      omega (arith, one, more)
+
+  -- putting things in order keeps their number
+  pub count_in_order : (xs : List A) → length (put_all path xs []) ≡ length xs
+  count_in_order xs = let l = count_all xs [] in omega (arith, l)
+
+-- the lengths of two parts
+pub length_cut : {A : Type 0} (xs ys zs : List A) → xs ≡ ys ++ zs → length xs ≡ length ys + length zs
+length_cut xs ys zs e = ap length e ∙ length-append ys zs
 
 -- a change of the things that keeps their paths keeps their order
 pub put_in_mapped : {A B : Type 0} (p : A → List ℕ) (q : B → List ℕ) (f : A → B) → ((x : A) → q (f x) ≡ p x) → (x : A) (ys : List A) → map f (put_in p x ys) ≡ put_in q (f x) (map f ys)

@@ -1,17 +1,33 @@
 //! The next live tasks, in path order.
-ghost use Rattle.std.specs.Prelude.{◌≡◌, ◌≤◌, OnOk, IfOk, map, length, reverse};
+ghost use Rattle.std.specs.Prelude.{◌≡◌, ◌≤◌, ◌<◌, ◌+◌, [], IfOk, map, length, reverse};
 ghost use Rattle.std.specs.List.{insert};
+ghost use Rattle.std.specs.Vec.{vec_len, vec_capacity};
 ghost use Rattle.task_lang.specs.TaskValue.{TaskValue};
 ghost use Rattle.step_core.specs.PathOrder.{put_in, put_all, in_path_order};
-ghost use Rattle.step_core.specs.SlotParts.{path_in, living_of, living_in, fresh_slot};
+ghost use Rattle.step_core.specs.SlotParts.{AllSmall, path_in, living_of, living_in, fresh_slot};
 
 use crate::slot::Slot;
 use std::alloc::{AllocError, Global};
 use superstep_memory::path::is_before;
-use task_lang::task::{After, Task};
+use task_lang::task::{After, Segment, Task};
+
+/// How many tasks live on.
+pub(crate) fn count_living(slots: &[Slot]) -> usize
+    requires few { length slots.now ≤ 4096 }
+    requires small { AllSmall slots.now }
+    ensures { result ≡ length (living_in slots.now) }
+{
+    let mut count = 0;
+    let mut rest = slots;
+    while let Some((slot, after)) = rest.split_first() {
+        count += slot.count_living();
+        rest = after;
+    }
+    count
+}
 
 // The next live tasks are collected with the last by path first. Tasks come from the last slot to the first, so
-// that each passes only those that its path begins.
+// that each passes only those that its path begins. They are moved, into room that is there.
 
 // The place for a task of this path.
 fn place_for(living: &[Task], path: &[u16]) -> usize
@@ -30,63 +46,89 @@ fn place_for(living: &[Task], path: &[u16]) -> usize
 }
 
 // Puts a task in its place.
-fn put_task(living: &mut Vec<Task>, task: Task) -> Result<(), AllocError>
-    ensures { OnOk result (living.new.items ≡ reverse (put_in path_in task (reverse living.old.items))) }
+fn put_task(living: &mut Vec<Task>, task: Task)
+    requires room { vec_len living.old < vec_capacity living.old }
+    ensures items { living.new.items ≡ reverse (put_in path_in task (reverse living.old.items)) }
+    ensures one_more { vec_len living.new ≡ vec_len living.old + 1 }
+    ensures room { vec_capacity living.new ≡ vec_capacity living.old }
 {
     let place = place_for(living, task.path.as_slice());
-    living.insert(place, task)?;
-    Ok(())
+    match living.insert(place, task) {
+        Ok(()) => {}
+        Err(_) => unreachable!(),
+    }
 }
 
-// Puts copies of tasks in their places.
-fn put_tasks(alloc: Global, living: &mut Vec<Task>, tasks: &[Task]) -> Result<(), AllocError>
-    ensures { OnOk result (living.new.items ≡ reverse (put_all path_in tasks.now (reverse living.old.items))) }
+// Puts tasks in their places.
+fn put_tasks(living: &mut Vec<Task>, tasks: Vec<Task>)
+    requires room { vec_len living.old + length tasks.items ≤ vec_capacity living.old }
+    ensures items { living.new.items ≡ reverse (put_all path_in tasks.items (reverse living.old.items)) }
+    ensures more { vec_len living.new ≡ vec_len living.old + length tasks.items }
+    ensures room { vec_capacity living.new ≡ vec_capacity living.old }
 {
     let mut rest = tasks;
-    while let Some((task, before)) = rest.split_last() {
-        let copy = task.copy(alloc)?;
-        put_task(living, copy)?;
-        rest = before;
+    while let Some(task) = rest.pop() {
+        put_task(living, task);
     }
-    Ok(())
 }
 
-// Puts copies of the tasks that live on behind this slot in their places.
-fn put_slot(alloc: Global, living: &mut Vec<Task>, slot: &Slot) -> Result<(), AllocError>
-    ensures { OnOk result (living.new.items ≡ reverse (put_all path_in (living_of slot.now.done) (reverse living.old.items))) }
+// Puts the tasks that live on behind this slot in their places.
+fn put_slot(living: &mut Vec<Task>, slot: Slot)
+    requires room { vec_len living.old + length (living_of slot.done) ≤ vec_capacity living.old }
+    ensures items { living.new.items ≡ reverse (put_all path_in (living_of slot.done) (reverse living.old.items)) }
+    ensures more { vec_len living.new ≡ vec_len living.old + length (living_of slot.done) }
+    ensures room { vec_capacity living.new ≡ vec_capacity living.old }
 {
-    let Some(segment) = slot.done() else {
-        return Ok(());
+    let Some(segment) = slot.into_done() else {
+        return;
     };
-    put_tasks(alloc, living, &segment.spawns)?;
-    if let After::Synced(task) = &segment.after {
-        let copy = task.copy(alloc)?;
-        put_task(living, copy)?;
+    let Segment {
+        puts: _,
+        prints: _,
+        spawns,
+        after,
+    } = segment;
+    put_tasks(living, spawns);
+    if let After::Synced(task) = after {
+        put_task(living, task);
     }
-    Ok(())
 }
 
-// Copies of the tasks that live on, the last by path first.
-fn collect_living(alloc: Global, slots: &[Slot]) -> Result<Vec<Task>, AllocError>
-    ensures { IfOk result (λ living. living.items ≡ reverse (in_path_order path_in (living_in slots.now))) }
+// The tasks that live on, the last by path first.
+fn collect_living(slots: &mut Vec<Slot>, living: &mut Vec<Task>)
+    requires none_yet { living.old.items ≡ [] }
+    requires room { length (living_in slots.old.items) ≤ vec_capacity living.old }
+    ensures { living.new.items ≡ reverse (in_path_order path_in (living_in slots.old.items)) }
 {
-    let mut living = Vec::new(alloc);
-    let mut rest = slots;
-    while let Some((slot, before)) = rest.split_last() {
-        put_slot(alloc, &mut living, slot)?;
-        rest = before;
+    while let Some(slot) = slots.pop() {
+        put_slot(living, slot);
     }
-    Ok(living)
 }
 
-/// Slots for the next live tasks.
-pub(crate) fn next_slots(alloc: Global, slots: &[Slot]) -> Result<Vec<Slot>, AllocError>
-    ensures { IfOk result (λ next. next.items ≡ map fresh_slot (in_path_order path_in (living_in slots.now))) }
+/// Room for so many tasks, and for as many slots.
+pub(crate) fn rooms_for(alloc: Global, count: usize) -> Result<(Vec<Task>, Vec<Slot>), AllocError>
+    ensures tasks { IfOk result (λ rooms. (rooms.0.items ≡ []) × (count ≤ vec_capacity rooms.0)) }
+    ensures slots { IfOk result (λ rooms. (rooms.1.items ≡ []) × (count ≤ vec_capacity rooms.1)) }
 {
-    let mut living = collect_living(alloc, slots)?;
-    let mut next = Vec::with_capacity(alloc, living.len())?;
-    while let Some(task) = living.pop() {
-        next.push(Slot::new(task))?;
+    let tasks = Vec::with_capacity(alloc, count)?;
+    let slots = Vec::with_capacity(alloc, count)?;
+    Ok((tasks, slots))
+}
+
+/// Puts slots for the next live tasks in place of those for the last ones. It takes no memory: there is room in the
+/// other two.
+pub(crate) fn go_on(slots: &mut Vec<Slot>, living: Vec<Task>, next: Vec<Slot>)
+    requires no_task { living.items ≡ [] }
+    requires no_slot { next.items ≡ [] }
+    requires room { length (living_in slots.old.items) ≤ vec_capacity living }
+    requires places { length (living_in slots.old.items) ≤ vec_capacity next }
+    ensures { slots.new.items ≡ map fresh_slot (in_path_order path_in (living_in slots.old.items)) }
+{
+    let mut tasks = living;
+    collect_living(slots, &mut tasks);
+    let mut opened = next;
+    while let Some(task) = tasks.pop() {
+        opened.push_reserved(Slot::new(task));
     }
-    Ok(next)
+    *slots = opened;
 }

@@ -11,7 +11,7 @@ ghost use Rattle.step_core.specs.SlotParts.{AllSmall};
 
 use crate::closing::{collect_prints, find_fault, find_missing, land_opening, record_of, too_many};
 use crate::fault::{AcceptFault, CloseFault, Outcome};
-use crate::next::next_slots;
+use crate::next::{count_living, go_on, rooms_for};
 use crate::order::{Delivery, Order};
 use crate::reading::{find_place, paths_of, prints_of, records_of};
 use crate::slot::{Blame, Finished, Slot};
@@ -310,14 +310,15 @@ impl<'j> Round<'j> {
             self.fault = Some(blame);
             return Ok(Outcome::Faulted);
         }
-        let next = match next_slots(alloc, &self.slots) {
-            Ok(next) => next,
-            Err(fault) => return Err(CloseFault::Memory(fault)),
-        };
-        if next.len() > 4096 {
+        let count = count_living(&self.slots);
+        if count > 4096 {
             self.fault = Some(too_many(alloc));
             return Ok(Outcome::TooMany);
         }
+        let (living, next) = match rooms_for(alloc, count) {
+            Ok(rooms) => rooms,
+            Err(fault) => return Err(CloseFault::Memory(fault)),
+        };
         let done = finish(
             alloc,
             self.step,
@@ -328,7 +329,7 @@ impl<'j> Round<'j> {
         if let Err(fault) = done {
             return Err(CloseFault::Memory(fault));
         }
-        self.slots = next;
+        go_on(&mut self.slots, living, next);
         self.step += 1;
         Ok(Outcome::Landed)
     }

@@ -7,7 +7,7 @@ use std::marker::Model;
 use superstep_memory::arrays::Arrays;
 use superstep_memory::landing::write_puts;
 use superstep_memory::path::Path;
-use task_lang::task::{Segment, Task};
+use task_lang::task::{After, Segment, Task};
 
 /// A live task, and its segment once it was delivered.
 #[derive(Drop)]
@@ -25,11 +25,11 @@ impl Model for Slot {
 }
 
 impl Slot {
-    ghost use Rattle.std.specs.Prelude.{◌≡◌, is_some, Some, None};
+    ghost use Rattle.std.specs.Prelude.{◌≡◌, is_some, Some, None, length};
     ghost use Rattle.std.specs.Option.{option_copied};
     ghost use Rattle.std.specs.Str.{bytes_eq};
     ghost use Rattle.superstep_memory.specs.Landing.{written};
-    ghost use Rattle.step_core.specs.SlotParts.{puts_in};
+    ghost use Rattle.step_core.specs.SlotParts.{puts_in, living_of, IsSmall};
 
     /// A slot for this task.
     pub(crate) fn new(task: Task) -> Self
@@ -68,6 +68,27 @@ impl Slot {
         ensures { self.new ≡ record { task = self.old.task; done = Some segment } }
     {
         self.done = Some(segment);
+    }
+
+    /// What was delivered.
+    pub(crate) fn into_done(self) -> Option<Segment>
+        ensures { result ≡ self.done }
+    {
+        self.done
+    }
+
+    /// How many tasks live on, as far as was delivered.
+    pub(crate) fn count_living(&self) -> usize
+        requires { IsSmall self.now.done }
+        ensures { result ≡ length (living_of self.now.done) }
+    {
+        match &self.done {
+            None => 0,
+            Some(segment) => match &segment.after {
+                After::Synced(_) => segment.spawns.len() + 1,
+                After::Stopped | After::Fault(_) => segment.spawns.len(),
+            },
+        }
     }
 
     /// Lands what was delivered, if it was.

@@ -1,13 +1,15 @@
-use Rattle.std.proofs.Common.{◌∙◌, ap, reverse}
-use Rattle.task_lang.specs.TaskValue.{TaskValue}
-use Rattle.step_core.specs.PathOrder.{put_in}
+use Rattle.std.proofs.Common.{◌∙◌, ◌∷◌, [], arith}
 use Rattle.step_core.specs.SlotParts.{path_in}
-use Rattle.step_core.proofs.InOrder.{put_next}
+use Rattle.step_core.proofs.InOrder.{put_next, length_cut}
 use Rattle.step_core.proofs.next.put_tasks.Goals as goal
 
 pub loop-task-preserved : goal.loop-task-preserved
-loop-task-preserved c =
-    put_next path_in c.loop-task.rest.now c.in-Some.before.now c.in-Some.task.now c.loop-task.living.items c.put_task.new.living.items _
-    c.in-Some.ensures.cases.0
-    (c.in_ok-put_task.ensures ∙ ap (λ (t : TaskValue). reverse (put_in path_in t (reverse c.loop-task.living.items))) c.in_ok-copy.ensures)
-    c.loop-task.invariant
+loop-task-preserved c = record {
+  items =
+      put_next path_in c.loop-task.rest.items c.pop.new.self.items c.in-Some.task c.loop-task.living.items c.put_task.new.living.items _
+      c.in-Some.ensures.items c.put_task.ensures.items c.loop-task.invariant.items;
+  more =
+      let l = length_cut c.loop-task.rest.items c.pop.new.self.items (c.in-Some.task ∷ []) c.in-Some.ensures.items in
+      omega (arith, l, c.put_task.ensures.one_more, c.loop-task.invariant.more);
+  room = c.put_task.ensures.room ∙ c.loop-task.invariant.room;
+}

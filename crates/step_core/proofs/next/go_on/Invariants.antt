@@ -1,0 +1,14 @@
+use Rattle.std.proofs.Common.{◌≡◌, ◌≤◌, ◌+◌, ◌++◌, map, length, reverse}
+use Rattle.std.specs.Vec.{vec_len, vec_capacity}
+use Rattle.step_core.specs.PathOrder.{in_path_order}
+use Rattle.step_core.specs.SlotParts.{path_in, living_in, fresh_slot}
+use Rattle.step_core.proofs.next.go_on.Given as goal
+
+abbrev pub invariant-loop-task : goal.invariant-loop-task
+invariant-loop-task l = record {
+  items : l.opened.items ++ map fresh_slot (reverse l.tasks.items) ≡ map fresh_slot (in_path_order path_in (living_in l.fn.slots.items));
+  room : vec_len l.opened + length l.tasks.items ≤ vec_capacity l.opened;
+}
+
+abbrev pub decreases-loop-task : goal.decreases-loop-task
+decreases-loop-task l = length l.tasks.items
