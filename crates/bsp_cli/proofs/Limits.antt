@@ -2,7 +2,7 @@
 use Rattle.std.proofs.Common.{◌≡◌, ℕ, ◌<◌, ◌≤◌, ◌^◌, Bool, true, false, List, Option, Some, None, Result, Ok, Err, refl, sym, ap, ◌∙◌, arith}
 use Rattle.std.specs.Prelude.{◌&&◌, nat_le, if◌then◌else◌}
 use Rattle.std.proofs.lemmas.Grind.{common_steps}
-use Rattle.std.proofs.lemmas.Bool.{leb-true, le-leb}
+use Rattle.std.proofs.lemmas.Bool.{leb-true}
 use Rattle.std.specs.Str.Parse.{ParsesUnsigned, digits_value, without_leading_plus}
 use Rattle.clap.specs.Words.{ReadsOne}
 use Rattle.clap.specs.ValueTests.{is_unsigned_in}

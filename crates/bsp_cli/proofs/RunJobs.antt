@@ -13,7 +13,6 @@ use Rattle.step_core.specs.Program.{Program, program_of}
 use Rattle.step_core.specs.JobMeaning.{report_of}
 use Rattle.bsp_cli.specs.Jobs.{plan_of, program_of_tree, status_number}
 use Rattle.bsp_cli.specs.Ends.{Reports, Runs, Does}
-use Rattle.bsp_cli.specs.declared.asked.Asked.{Asked}
 use Rattle.bsp_cli.specs.declared.asked.Asked.TheVariants.{Run}
 use Rattle.bsp_cli.specs.declared.fault.CommandFault.{CommandFault}
 use Rattle.bsp_cli.specs.declared.fault.CommandFault.TheVariants.{Text, Read, Write, Memory}

@@ -1,11 +1,9 @@
 -- A text that is too long is refused at its first line.
-use Rattle.std.proofs.Common.{◌≡◌, ℕ, ◌<◌, Bool, true, List, length, Result, Err, ap, arith}
-use Rattle.std.specs.Prelude.{nat_lt, if◌then◌else◌}
+use Rattle.std.proofs.Common.{◌≡◌, ℕ, ◌<◌, Bool, List, length, Err, ap}
+use Rattle.std.specs.Prelude.{if◌then◌else◌}
 use Rattle.std.proofs.lemmas.Bool.{lt-ltb}
 use Rattle.text_lines.specs.declared.refusal.Code.TheVariants.{TooLong}
-use Rattle.text_lines.specs.declared.refusal.Refusal.{Refusal}
 use Rattle.text_lines.specs.Text.{lines_of, bad_byte_line}
-use Rattle.job_reader.specs.Trees.{JobTree}
 use Rattle.job_reader.specs.Reading.{refused, declared, read_from, unless_bad, job_in}
 
 pub long-refused : (text : List ℕ) → 1048576 < length text → job_in text ≡ Err (record { line = 1; code = TooLong })

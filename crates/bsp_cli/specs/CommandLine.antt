@@ -1,5 +1,5 @@
 -- The command line (own): the program's name, a subcommand, and its options.
-use Rattle.std.specs.Prelude.{◌≡◌, ℕ, ◌&&◌, true, pos, nat_le, if◌then◌else◌, List, [], ◌∷◌, codes, Option, Some, None}
+use Rattle.std.specs.Prelude.{ℕ, ◌&&◌, true, pos, nat_le, if◌then◌else◌, List, codes, Option, Some, None}
 use Rattle.std.specs.Str.{bytes_eq}
 use Rattle.std.specs.Str.Parse.{digits_value, without_leading_plus}
 use Rattle.clap.specs.Words.{App, Kinds, Row, Rule, fault_of, new_app, new_rule, one_of, subcommand_of, with_rule, with_subcommand}

@@ -1,8 +1,7 @@
 -- Items one behind the other.
-use Rattle.std.proofs.Common.{◌≡◌, ℕ, ℤ, List, [], ◌∷◌, ◌++◌, length, map, refl, sym, ap, subst, ◌∙◌, append_assoc, append-nil}
-use Rattle.task_lang.specs.declared.job.Start.{Start}
+use Rattle.std.proofs.Common.{◌≡◌, List, [], ◌∷◌, ◌++◌, length, refl, sym, ap, subst, ◌∙◌, append_assoc, append-nil}
 use Rattle.job_words.specs.Words.{Word, Words}
-use Rattle.job_reader.specs.Trees.{BodyTree, JobTree, array_names}
+use Rattle.job_reader.specs.Trees.{JobTree, array_names}
 use Rattle.job_reader.specs.Grammar.{Item, AnArray, ABody, AStart, array_words, body_lines, start_words, items_lines, AreSound, with_item, no_job, job_of}
 
 -- a job with an item behind its others

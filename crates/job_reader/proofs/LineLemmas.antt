@@ -1,24 +1,21 @@
 -- A line of an open body in the reader's steps.
-use Rattle.std.proofs.Common.{◌≡◌, ℕ, Bool, true, false, List, [], ◌∷◌, ◌++◌, Option, Some, None, Result, Ok, Err, refl, sym, ap, subst, ◌∙◌}
+use Rattle.std.proofs.Common.{◌≡◌, Bool, true, false, List, [], ◌∷◌, ◌++◌, Option, None, Result, Ok, Err, sym, ap, subst, ◌∙◌}
 use Rattle.std.specs.Prelude.{length, if◌then◌else◌}
 use Rattle.text_lines.specs.declared.refusal.Code.{Code}
 use Rattle.text_lines.specs.declared.refusal.Code.TheVariants.{TooMany}
 use Rattle.task_lang.specs.Limits.{opened}
 use Rattle.task_lang.specs.declared.code.Line.{Line}
 use Rattle.task_lang.specs.Tree.{Block}
-use Rattle.task_lang.specs.Open.{Frame, step_of}
+use Rattle.task_lang.specs.Open.{Frame}
 use Rattle.job_words.specs.Words.{Word, Words}
-use Rattle.job_words.specs.Views.{lent}
 use Rattle.job_words.specs.Faults.{made}
-use Rattle.job_words.specs.Exprs.{Names}
-use Rattle.job_words.specs.Lines.{line_behind}
 use Rattle.job_words.specs.declared.lines.Keyword.{Keyword}
 use Rattle.job_reader.specs.declared.inside.OpenBody.{OpenBody}
 use Rattle.job_reader.specs.declared.so_far.SoFar.{SoFar}
-use Rattle.job_reader.specs.Trees.{BodyTree, JobTree, array_names}
+use Rattle.job_reader.specs.Trees.{JobTree, array_names}
 use Rattle.job_reader.specs.Above.{Inside, can_else, belongs, sits, ended, statements_behind}
-use Rattle.job_reader.specs.Reading.{◌>>=◌, is_over, within_limits, said, behind, with_line, noted_line, mentioning, inner_line}
-use Rattle.job_reader.specs.Relates.{IsSoFar, IsInside, IsBehind}
+use Rattle.job_reader.specs.Reading.{◌>>=◌, is_over, within_limits, said, behind, with_line, mentioning, inner_line}
+use Rattle.job_reader.specs.Relates.{IsSoFar, IsBehind}
 use Rattle.job_reader.specs.Gives.{FitsOk}
 use Rattle.job_reader.proofs.OpenLemmas.{ends-body, said-sits}
 

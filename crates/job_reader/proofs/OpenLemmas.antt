@@ -26,23 +26,22 @@ use Rattle.std.proofs.Common.{
 }
 use Rattle.std.specs.Prelude.{IfSome}
 use Rattle.text_lines.specs.declared.refusal.Code.{Code}
-use Rattle.task_lang.specs.declared.code.Expr.{Expr}
 use Rattle.task_lang.specs.declared.code.Line.{Line}
 use Rattle.task_lang.specs.declared.code.Line.TheVariants as line
 use Rattle.task_lang.specs.Tree.{Block, flat}
-use Rattle.task_lang.specs.Open.{Frame, InIf, InElse, InWhile, place_of, open_places, open_code, step_of}
+use Rattle.task_lang.specs.Open.{Frame, place_of, open_places, open_code, step_of}
 use Rattle.task_lang.specs.Reading.{tree_of}
 use Rattle.task_lang.specs.BodyValue.{BodyValue}
 use Rattle.task_lang.proofs.Reading.{tree-flat}
 use Rattle.job_words.specs.Words.{Word, Words}
 use Rattle.job_words.specs.Views.{lent}
 use Rattle.job_words.specs.Faults.{made}
-use Rattle.job_words.specs.Exprs.{Names, expr_of}
+use Rattle.job_words.specs.Exprs.{Names}
 use Rattle.job_words.specs.declared.lines.Keyword.{Keyword}
 use Rattle.job_words.specs.declared.lines.Keyword.TheVariants.{Let, Put, Print, Spawn, Sync, Stop, If, Else, While, End}
-use Rattle.job_words.specs.Lines.{line_behind, let_of, put_of, spawn_of, alone, else_of}
+use Rattle.job_words.specs.Lines.{line_behind, alone}
 use Rattle.job_reader.specs.declared.inside.OpenBody.{OpenBody}
-use Rattle.job_reader.specs.Trees.{BodyTree, JobTree, body_tree}
+use Rattle.job_reader.specs.Trees.{BodyTree, body_tree}
 use Rattle.job_reader.specs.Above.{Inside, can_else, belongs, sits, ended}
 use Rattle.job_reader.specs.Relates.{IsInside}
 

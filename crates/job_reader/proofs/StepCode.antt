@@ -25,7 +25,6 @@ use Rattle.std.proofs.Common.{
   append-nil,
 }
 use Rattle.std.proofs.lemmas.List.{map-append}
-use Rattle.std.specs.List.{list_all}
 use Rattle.task_lang.specs.declared.code.Expr.{Expr}
 use Rattle.task_lang.specs.declared.code.Line.{Line}
 use Rattle.task_lang.specs.declared.code.Line.TheVariants as line

@@ -32,7 +32,6 @@ use Rattle.std.specs.List.{list_all, flat_map}
 use Rattle.std.specs.Str.{bytes_eq}
 use Rattle.std.proofs.lemmas.Grind.{flat_map-append}
 use Rattle.std.proofs.lemmas.List.Folds.{list_all-append}
-use Rattle.text_lines.specs.declared.refusal.Code.{Code}
 use Rattle.task_lang.specs.Names.{is_among}
 use Rattle.task_lang.specs.declared.code.Line.{Line}
 use Rattle.task_lang.specs.declared.code.Line.TheVariants as line
@@ -42,16 +41,15 @@ use Rattle.job_words.specs.Words.{Word, Words, noted}
 use Rattle.job_words.specs.Exprs.{Names}
 use Rattle.job_words.specs.declared.lines.Keyword.{Keyword}
 use Rattle.job_words.specs.declared.lines.Keyword.TheVariants.{Let, Put, Print, Spawn, Sync, Stop, If, Else, While, End}
-use Rattle.job_words.specs.Faults.{made}
-use Rattle.job_words.specs.Lines.{keyword_of, line_words, line_fits, line_behind, mentions_behind, mentions_of, end_words}
+use Rattle.job_words.specs.Lines.{keyword_of, line_words, line_fits, mentions_behind, mentions_of, end_words}
 use Rattle.job_words.proofs.SaidLemmas.{made-ok, and-true}
-use Rattle.job_words.proofs.LineSaid.{LineSaid, is_present, is_present_if, keyword_text, keyword-said, line-said}
+use Rattle.job_words.proofs.LineSaid.{LineSaid, is_present_if, keyword-said, line-said}
 use Rattle.job_words.proofs.GrowLemmas.{wider, line-grows, fits-grows, noted-grows, and-left, and-right}
 use Rattle.job_words.proofs.NotedLemmas.{noted-append}
 use Rattle.job_reader.specs.Trees.{BodyTree, JobTree, array_names}
 use Rattle.job_reader.specs.Above.{Inside, can_else, sits, grown, ended, statements_behind}
-use Rattle.job_reader.specs.Grammar.{Item, ABody, body_words, block_lines, body_lines, mentioned_by, items_lines}
-use Rattle.job_reader.specs.Reading.{mentioning, said, within_limits, behind, with_line, inner_line, is_missing}
+use Rattle.job_reader.specs.Grammar.{ABody, body_words, block_lines, body_lines, mentioned_by, items_lines}
+use Rattle.job_reader.specs.Reading.{mentioning, said, behind, with_line, inner_line, is_missing}
 use Rattle.job_reader.specs.Writing.{code_lines}
 use Rattle.job_reader.proofs.CodeLemmas.{block-code}
 use Rattle.job_reader.proofs.OpenLemmas.{said-sits}

@@ -38,28 +38,24 @@ use Rattle.std.proofs.Common.{
 }
 use Rattle.std.specs.Prelude.{if◌then◌else◌, nat_le}
 use Rattle.std.specs.List.{filter_map, cons_option}
-use Rattle.std.specs.Str.{bytes_eq}
 use Rattle.std.proofs.lemmas.List.{map-append}
 use Rattle.std.proofs.lemmas.Grind.{common_steps}
 use Rattle.text_lines.specs.declared.refusal.Code.{Code}
 use Rattle.text_lines.specs.declared.refusal.Code.TheVariants.{Twice, TooMany}
-use Rattle.text_lines.specs.Text.{words_of, is_skipped, begins_comment}
+use Rattle.text_lines.specs.Text.{words_of, is_skipped}
 use Rattle.task_lang.specs.Names.{is_among}
 use Rattle.task_lang.specs.Open.{Frame, step_of}
 use Rattle.task_lang.specs.Tree.{Block}
-use Rattle.task_lang.specs.declared.code.Line.{Line}
 use Rattle.job_words.specs.Words.{Word, Words, named}
-use Rattle.job_words.specs.Exprs.{Names}
 use Rattle.job_words.specs.declared.lines.Keyword.{Keyword}
 use Rattle.job_words.specs.declared.lines.Keyword.TheVariants.{Let, Put, Print, Spawn, Sync, Stop, If, Else, While, End}
-use Rattle.job_words.specs.Faults.{made}
 use Rattle.job_words.specs.Lines.{keyword_of, line_behind}
 use Rattle.job_words.proofs.SaidLemmas.{made-ok}
 use Rattle.job_words.proofs.LineSaid.{keyword_text, keyword-said}
 use Rattle.job_reader.specs.declared.outer.Outer.{Outer}
 use Rattle.job_reader.specs.declared.outer.Outer.TheVariants as outer
 use Rattle.job_reader.specs.Trees.{BodyTree, JobTree, array_names, body_names}
-use Rattle.job_reader.specs.Above.{Inside, Above, begun, ended, can_else, statements_behind}
+use Rattle.job_reader.specs.Above.{Inside, Above, begun, ended, statements_behind}
 use Rattle.job_reader.specs.Reading.{
   outer_of,
   name_if_body,
@@ -82,9 +78,8 @@ use Rattle.job_reader.specs.Reading.{
   any_line,
   read_lines,
 }
-use Rattle.job_reader.proofs.LineLemmas.{within-sits}
 use Rattle.job_reader.proofs.ToldOuter.{bind-ok, two-tests, one-test}
-use Rattle.job_reader.proofs.ToldText.{finished-ok, Next, next, Stepped}
+use Rattle.job_reader.proofs.ToldText.{finished-ok, next}
 
 abbrev pub open_name : Option Inside → List Word
 open_name None = []

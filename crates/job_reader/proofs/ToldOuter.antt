@@ -35,26 +35,26 @@ use Rattle.std.proofs.Common.{
   append-nil,
   length-append,
 }
-use Rattle.std.specs.Prelude.{if◌then◌else◌, nat_le, not, ◌||◌, replicate}
+use Rattle.std.specs.Prelude.{if◌then◌else◌, nat_le, not, replicate}
 use Rattle.std.specs.Fmt.{decimal, signed_decimal}
 use Rattle.std.specs.Str.{bytes_eq}
 use Rattle.std.proofs.lemmas.List.{length-replicate}
 use Rattle.std.proofs.lemmas.Grind.{common_steps}
 use Rattle.text_lines.specs.declared.refusal.Code.{Code}
-use Rattle.text_lines.specs.declared.refusal.Code.TheVariants.{Twice, TooMany, BadLength, BadLine, UnknownLine}
+use Rattle.text_lines.specs.declared.refusal.Code.TheVariants.{Twice, TooMany, BadLength}
 use Rattle.task_lang.specs.Names.{is_among}
 use Rattle.task_lang.specs.declared.job.Start.{Start}
 use Rattle.job_words.specs.Words.{Word, Words, named, numbered, name_at}
-use Rattle.job_words.specs.Faults.{both, made}
+use Rattle.job_words.specs.Faults.{both}
 use Rattle.job_words.specs.Lines.{body_at}
 use Rattle.job_words.proofs.SaidLemmas.{made-ok, both-ok, number-said, same-word}
 use Rattle.job_words.proofs.LineSaid.{body-said}
-use Rattle.job_words.proofs.GrowLemmas.{and-left, and-right}
+use Rattle.job_words.proofs.GrowLemmas.{and-right}
 use Rattle.job_reader.specs.declared.outer.Outer.{Outer}
 use Rattle.job_reader.specs.declared.outer.Outer.TheVariants as outer
-use Rattle.job_reader.specs.Trees.{BodyTree, JobTree, array_names, body_names}
+use Rattle.job_reader.specs.Trees.{JobTree, array_names, body_names}
 use Rattle.job_reader.specs.Above.{Inside, begun}
-use Rattle.job_reader.specs.Grammar.{Item, AnArray, AStart, array_words, body_words, start_words, items_lines, IsFilled}
+use Rattle.job_reader.specs.Grammar.{AnArray, AStart, array_words, start_words, IsFilled}
 use Rattle.job_reader.specs.Reading.{
   ◌>>=◌,
   outer_of,

@@ -38,31 +38,15 @@ use Rattle.std.proofs.Common.{
   length-append,
   nat_eq,
 }
-use Rattle.std.specs.Prelude.{if◌then◌else◌, nat_le, nat_lt}
-use Rattle.std.specs.List.{filter_map, cons_option}
-use Rattle.std.specs.Str.{bytes_eq}
-use Rattle.std.proofs.lemmas.List.{map-append}
-use Rattle.std.proofs.lemmas.Grind.{common_steps}
+use Rattle.std.specs.Prelude.{if◌then◌else◌}
 use Rattle.text_lines.specs.declared.refusal.Code.{Code}
-use Rattle.text_lines.specs.declared.refusal.Code.TheVariants.{Twice, TooMany, TooLong, BadHeader}
-use Rattle.text_lines.specs.declared.refusal.Refusal.{Refusal}
-use Rattle.text_lines.specs.Text.{lines_of, words_of, is_skipped, begins_comment, bad_byte_line}
-use Rattle.task_lang.specs.Names.{is_among}
-use Rattle.task_lang.specs.Open.{Frame, step_of}
-use Rattle.task_lang.specs.Tree.{Block}
-use Rattle.job_words.specs.Words.{Word, Words, named}
-use Rattle.job_words.specs.declared.lines.Keyword.{Keyword}
-use Rattle.job_words.specs.declared.lines.Keyword.TheVariants.{Let, Put, Print, Spawn, Sync, Stop, If, Else, While, End}
-use Rattle.job_words.specs.Faults.{made}
-use Rattle.job_words.specs.Lines.{keyword_of, line_behind}
-use Rattle.job_words.proofs.SaidLemmas.{made-ok, same-word}
-use Rattle.job_words.proofs.LineSaid.{keyword_text, keyword-said}
-use Rattle.job_words.proofs.GrowLemmas.{and-left, and-right}
-use Rattle.job_reader.specs.declared.outer.Outer.{Outer}
+use Rattle.text_lines.specs.Text.{words_of, is_skipped}
+use Rattle.job_words.specs.Words.{Word, Words}
+use Rattle.job_words.proofs.SaidLemmas.{made-ok}
 use Rattle.job_reader.specs.declared.outer.Outer.TheVariants as outer
-use Rattle.job_reader.specs.Trees.{BodyTree, JobTree, array_names, body_names}
-use Rattle.job_reader.specs.Above.{Inside, Above, nothing, begun, ended, can_else}
-use Rattle.job_reader.specs.Grammar.{Item, header_words, items_lines, AreSound, job_of, kept, IsTextOf}
+use Rattle.job_reader.specs.Trees.{JobTree}
+use Rattle.job_reader.specs.Above.{Inside, Above}
+use Rattle.job_reader.specs.Grammar.{kept}
 use Rattle.job_reader.specs.Reading.{
   ◌>>=◌,
   at,
@@ -99,8 +83,7 @@ use Rattle.job_reader.specs.Reading.{
   unless_bad,
   job_in,
 }
-use Rattle.job_reader.proofs.LineLemmas.{within-sits}
-use Rattle.job_reader.proofs.ItemLemmas.{Told, told-nothing}
+use Rattle.job_reader.proofs.ItemLemmas.{Told}
 use Rattle.job_reader.proofs.ToldInside.{Tells, inner-told}
 use Rattle.job_reader.proofs.ToldOuter.{bind-ok, outer-told}
 

@@ -33,9 +33,8 @@ use Rattle.std.proofs.Common.{
   codes,
 }
 use Rattle.std.specs.Prelude.{if◌then◌else◌, nat_lt}
-use Rattle.std.specs.List.{filter_map, cons_option}
+use Rattle.std.specs.List.{cons_option}
 use Rattle.std.specs.Str.{bytes_eq}
-use Rattle.text_lines.specs.declared.refusal.Code.{Code}
 use Rattle.text_lines.specs.declared.refusal.Code.TheVariants.{TooLong, BadHeader}
 use Rattle.text_lines.specs.declared.refusal.Refusal.{Refusal}
 use Rattle.text_lines.specs.Text.{lines_of, words_of, is_skipped, bad_byte_line}
@@ -43,9 +42,9 @@ use Rattle.job_words.specs.Words.{Word, Words}
 use Rattle.job_words.proofs.SaidLemmas.{same-word}
 use Rattle.job_words.proofs.GrowLemmas.{and-left, and-right}
 use Rattle.job_reader.specs.Trees.{JobTree, body_names}
-use Rattle.job_reader.specs.Above.{Above, nothing}
-use Rattle.job_reader.specs.Grammar.{header_words, items_lines, AreSound, job_of, kept, IsTextOf}
-use Rattle.job_reader.specs.Reading.{refused, is_header, outer_of, name_if_body, declared_by, declared, read_lines, read_from, unless_bad, job_in}
+use Rattle.job_reader.specs.Above.{nothing}
+use Rattle.job_reader.specs.Grammar.{header_words, kept, IsTextOf}
+use Rattle.job_reader.specs.Reading.{refused, is_header, outer_of, declared_by, declared, read_lines, read_from, unless_bad, job_in}
 use Rattle.job_reader.specs.Laws.{IsRead, IsRefused, EachTextIsReadOrRefused}
 use Rattle.job_reader.proofs.ItemLemmas.{Told, told-nothing}
 use Rattle.job_reader.proofs.ToldText.{lines-told}

@@ -1,5 +1,5 @@
 -- What the lines above a line say (own).
-use Rattle.std.specs.Prelude.{ℕ, ◌+◌, Bool, true, false, if◌then◌else◌, List, [], ◌∷◌, ◌++◌, Option, Some, None, length}
+use Rattle.std.specs.Prelude.{ℕ, ◌+◌, Bool, true, false, if◌then◌else◌, List, [], ◌∷◌, Option, None}
 use Rattle.job_words.specs.Words.{Word}
 use Rattle.task_lang.specs.Tree.{Block, Done}
 use Rattle.task_lang.specs.Open.{Frame, InIf, InElse, InWhile}

@@ -1,6 +1,6 @@
 -- Which jobs there are (own): what the types of a body and of a job keep, said of statement trees, and that each number
 -- is one of 64 signed bits.
-use Rattle.std.specs.Prelude.{ℕ, ℤ, Bool, true, ◌&&◌, IsTrue, List, [], ◌∷◌, map}
+use Rattle.std.specs.Prelude.{Bool, true, ◌&&◌, IsTrue, List, [], ◌∷◌, map}
 use Rattle.std.specs.List.{list_all}
 use Rattle.text_lines.specs.Number.{fits_i64}
 use Rattle.task_lang.specs.Tree.{flat}

@@ -54,7 +54,6 @@ use Rattle.text_lines.specs.declared.refusal.Refusal.{Refusal}
 use Rattle.text_lines.specs.Text.{lines_of, words_of, is_skipped, bad_byte_line}
 use Rattle.job_words.specs.Faults.{both, made}
 use Rattle.job_words.specs.Words.{Word, Words, named, numbered, noted}
-use Rattle.job_words.specs.Exprs.{Names}
 use Rattle.job_words.specs.declared.lines.Keyword.{Keyword}
 use Rattle.job_words.specs.Lines.{body_at, keyword_of, line_behind, mentions_behind}
 use Rattle.task_lang.specs.Names.{is_among}
@@ -65,7 +64,7 @@ use Rattle.task_lang.specs.declared.code.Line.{Line}
 use Rattle.task_lang.specs.declared.job.Start.{Start}
 use Rattle.job_reader.specs.declared.outer.Outer.{Outer}
 use Rattle.job_reader.specs.declared.outer.Outer.TheVariants as outer
-use Rattle.job_reader.specs.Trees.{BodyTree, JobTree, array_names, body_names}
+use Rattle.job_reader.specs.Trees.{JobTree, array_names, body_names}
 use Rattle.job_reader.specs.Above.{Inside, Above, nothing, can_else, begun, statements_behind, grown, ended}
 
 infixl 10 ◌>>=◌

@@ -1,5 +1,5 @@
 -- Jobs whose bodies are statement trees.
-use Rattle.std.specs.Prelude.{ℕ, ℤ, List, map}
+use Rattle.std.specs.Prelude.{ℤ, List, map}
 use Rattle.job_words.specs.Words.{Word}
 use Rattle.task_lang.specs.Tree.{Block}
 use Rattle.task_lang.specs.Reading.{tree_of}

@@ -31,7 +31,7 @@ use Rattle.std.proofs.Common.{
 use Rattle.std.specs.Option.{option_map}
 use Rattle.std.proofs.lemmas.Grind.{common_steps}
 use Rattle.job_words.specs.Words.{Word}
-use Rattle.job_words.specs.Exprs.{at_end, index_part, cell_parts}
+use Rattle.job_words.specs.Exprs.{index_part, cell_parts}
 
 other : (c n : ℕ) → c ≢ n → nat_eq c n ≡ false
 other c n h = grind (arith, common_steps)

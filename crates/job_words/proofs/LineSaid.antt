@@ -25,17 +25,14 @@ use Rattle.std.proofs.Common.{
   ◌∙◌,
   codes,
 }
-use Rattle.std.specs.Prelude.{if◌then◌else◌, nat_lt, unwrap_or}
-use Rattle.std.specs.List.{list_all}
+use Rattle.std.specs.Prelude.{if◌then◌else◌, unwrap_or}
 use Rattle.std.specs.Str.{bytes_eq}
 use Rattle.text_lines.specs.declared.refusal.Code.{Code}
 use Rattle.text_lines.specs.declared.refusal.Code.TheVariants.{BadLine}
 use Rattle.task_lang.specs.Names.{is_among}
-use Rattle.task_lang.specs.Limits.{is_expr, is_action}
+use Rattle.task_lang.specs.Limits.{is_expr}
 use Rattle.task_lang.specs.Mentions as mentions
-use Rattle.task_lang.specs.declared.code.Cell.{Cell}
 use Rattle.task_lang.specs.declared.code.Expr.{Expr}
-use Rattle.task_lang.specs.declared.code.Action.{Action}
 use Rattle.task_lang.specs.declared.code.Action.TheVariants as action
 use Rattle.task_lang.specs.declared.code.Line.{Line}
 use Rattle.task_lang.specs.declared.code.Line.TheVariants as line

@@ -31,7 +31,7 @@ use Rattle.std.proofs.Common.{
   codes,
   nat_eq,
 }
-use Rattle.std.specs.Prelude.{if◌then◌else◌, nat_lt, not, ◌||◌}
+use Rattle.std.specs.Prelude.{if◌then◌else◌, nat_lt}
 use Rattle.std.specs.List.{list_all}
 use Rattle.std.specs.Option.{option_map}
 use Rattle.std.specs.Str.{bytes_eq}
@@ -40,11 +40,9 @@ use Rattle.std.proofs.lemmas.Slice.Eq.{bytes_eq-Decides}
 use Rattle.std.proofs.lemmas.Grind.{common_steps}
 use Rattle.std.proofs.lemmas.List.Folds.{list_all-append}
 use Rattle.text_lines.specs.declared.refusal.Code.{Code}
-use Rattle.text_lines.specs.declared.refusal.Code.TheVariants.{BadLine}
 use Rattle.text_lines.specs.Number.{number_of}
 use Rattle.text_lines.proofs.NumbersLemmas.{numbers_law}
-use Rattle.task_lang.specs.Names.{is_among}
-use Rattle.task_lang.specs.Limits.{is_operand, is_expr, is_action}
+use Rattle.task_lang.specs.Limits.{is_operand, is_expr}
 use Rattle.task_lang.specs.Mentions as mentions
 use Rattle.task_lang.specs.declared.code.Index.{Index}
 use Rattle.task_lang.specs.declared.code.Index.TheVariants as index
@@ -54,8 +52,8 @@ use Rattle.task_lang.specs.declared.code.Operand.TheVariants as operand
 use Rattle.task_lang.specs.declared.code.Operator.{Operator}
 use Rattle.task_lang.specs.declared.code.Operator.TheVariants.{Add, Subtract, Multiply, Divide, Remainder, Below, AtMost, Equal, NotEqual}
 use Rattle.task_lang.specs.declared.code.Expr.{Expr}
-use Rattle.task_lang.specs.declared.code.Expr.TheVariants.{One, Two}
-use Rattle.job_words.specs.Faults.{both, made, checked}
+use Rattle.task_lang.specs.declared.code.Expr.TheVariants.{One}
+use Rattle.job_words.specs.Faults.{both, made}
 use Rattle.job_words.specs.Words.{
   Word,
   Words,

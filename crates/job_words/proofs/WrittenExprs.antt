@@ -40,16 +40,14 @@ use Rattle.std.specs.Prelude.{if◌then◌else◌, not, ◌||◌, ◌==◌}
 use Rattle.std.specs.List.{list_all}
 use Rattle.std.specs.Option.{option_map}
 use Rattle.std.specs.Fmt.{decimal, signed_decimal}
-use Rattle.std.specs.Str.{bytes_eq}
 use Rattle.std.specs.Str.Parse.{AllDigits}
 use Rattle.std.proofs.lemmas.Int.{ints}
 use Rattle.std.proofs.lemmas.Fmt.{decimal_is_IsNumeral}
 use Rattle.std.proofs.lemmas.Str.Parse.{digit_from_value}
 use Rattle.std.proofs.lemmas.Grind.{common_steps}
 use Rattle.text_lines.specs.declared.refusal.Code.{Code}
-use Rattle.text_lines.specs.Number.{number_of}
 use Rattle.text_lines.proofs.NumbersLemmas.{numbers_law}
-use Rattle.task_lang.specs.Names.{is_digit, is_in_name, is_name, is_reserved, is_free, are_names}
+use Rattle.task_lang.specs.Names.{is_digit, is_in_name, is_reserved, is_free, are_names}
 use Rattle.task_lang.specs.declared.code.Index.{Index}
 use Rattle.task_lang.specs.declared.code.Index.TheVariants as index
 use Rattle.task_lang.specs.declared.code.Cell.{Cell}
@@ -59,7 +57,7 @@ use Rattle.task_lang.specs.declared.code.Operator.{Operator}
 use Rattle.task_lang.specs.declared.code.Expr.{Expr}
 use Rattle.task_lang.specs.declared.code.Expr.TheVariants.{One, Two}
 use Rattle.job_words.specs.Faults.{both, made}
-use Rattle.job_words.specs.Words.{Word, Words, begins_number, numbered, or_bad_number, declared_at, name_at, index_word, index_of}
+use Rattle.job_words.specs.Words.{Word, begins_number, numbered, or_bad_number, name_at, index_word, index_of}
 use Rattle.job_words.specs.Exprs.{
   Names,
   at_end,

@@ -34,8 +34,7 @@ use Rattle.std.proofs.lemmas.Slice.Eq.{bytes_eq-Decides}
 use Rattle.std.proofs.lemmas.Grind.{common_steps}
 use Rattle.text_lines.specs.declared.refusal.Code.{Code}
 use Rattle.text_lines.specs.declared.refusal.Code.TheVariants.{Reserved, BadName}
-use Rattle.task_lang.specs.Names.{is_lower, is_digit, begins_lower, is_name, is_reserved, is_free, is_among, are_names}
-use Rattle.task_lang.specs.declared.code.Index.{Index}
+use Rattle.task_lang.specs.Names.{is_lower, is_digit, is_name, is_reserved, is_free, is_among, are_names}
 use Rattle.task_lang.specs.declared.code.Index.TheVariants as index
 use Rattle.task_lang.specs.declared.code.Operator.{Operator}
 use Rattle.task_lang.specs.declared.code.Operator.TheVariants.{
@@ -52,7 +51,7 @@ use Rattle.task_lang.specs.declared.code.Operator.TheVariants.{
 use Rattle.job_words.specs.declared.lines.Keyword.{Keyword}
 use Rattle.job_words.specs.declared.lines.Keyword.TheVariants.{Let, Put, Print, Spawn, Sync, Stop, If, Else, While, End}
 use Rattle.job_words.specs.Faults.{both, made}
-use Rattle.job_words.specs.Words.{Word, begins_number, named, numbered, place_from, or_unknown, declared_at, name_at, index_word, index_of}
+use Rattle.job_words.specs.Words.{Word, begins_number, named, place_from, or_unknown, declared_at, name_at, index_word, index_of}
 use Rattle.job_words.specs.Exprs.{operator_word, operator_of}
 use Rattle.job_words.specs.Lines.{keyword_of}
 use Rattle.job_words.proofs.SaidLemmas.{same-word}

@@ -1,5 +1,5 @@
 -- Written lines of a body are read as themselves.
-use Rattle.std.proofs.Common.{◌≡◌, ℕ, ◌<◌, Bool, true, false, List, [], ◌∷◌, length, Option, Some, None, Result, Ok, Err, refl, sym, ap, ◌∙◌, codes, zero-add}
+use Rattle.std.proofs.Common.{◌≡◌, ℕ, ◌<◌, Bool, true, false, List, [], ◌∷◌, length, Option, Some, Result, Ok, refl, ap, ◌∙◌, codes, zero-add}
 use Rattle.std.specs.Prelude.{unwrap_or}
 use Rattle.text_lines.specs.declared.refusal.Code.{Code}
 use Rattle.task_lang.specs.Names.{are_names}
@@ -10,8 +10,8 @@ use Rattle.task_lang.specs.declared.code.Action.TheVariants as action
 use Rattle.task_lang.specs.declared.code.Line.{Line}
 use Rattle.task_lang.specs.declared.code.Line.TheVariants as line
 use Rattle.job_words.specs.Faults.{both, made}
-use Rattle.job_words.specs.Words.{Word, Words, named, place_from, declared_at, name_at}
-use Rattle.job_words.specs.Exprs.{Names, cell_word, cell_of, expr_words, expr_of}
+use Rattle.job_words.specs.Words.{Word, place_from, name_at}
+use Rattle.job_words.specs.Exprs.{Names, expr_words, expr_of}
 use Rattle.job_words.specs.Lines.{
   keyword_of,
   line_words,

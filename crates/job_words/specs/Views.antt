@@ -2,7 +2,7 @@
 use Rattle.std.specs.Prelude.{ℕ, List, map}
 use Rattle.std.specs.Borrow.{Bor}
 use Rattle.job_words.specs.declared.exprs.Scope.{Scope}
-use Rattle.job_words.specs.Words.{Word, Words}
+use Rattle.job_words.specs.Words.{Words}
 use Rattle.job_words.specs.Exprs.{Names}
 
 abbrev pub lent : List (Bor (List ℕ)) → Words

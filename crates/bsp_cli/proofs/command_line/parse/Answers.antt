@@ -1,4 +1,4 @@
-use Rattle.std.proofs.Common.{◌≡◌, ◌∙◌, ap, map, sym}
+use Rattle.std.proofs.Common.{◌∙◌, ap, map, sym}
 use Rattle.clap.specs.Words.{App, fault_of, is_simple, is_simple_and_free, subcommand_of}
 use Rattle.bsp_cli.specs.CommandLine.{asked_by}
 use Rattle.bsp_cli.proofs.Parsed.{free-program, simple-program}

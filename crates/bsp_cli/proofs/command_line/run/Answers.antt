@@ -1,8 +1,5 @@
-use Rattle.std.proofs.Common.{◌≡◌, inl, inr, ap, map, List, [], ℕ, refl}
-use Rattle.std.specs.Prelude.{◌⊎◌}
-use Rattle.clap.specs.Words.{HasKind, Kinds}
-use Rattle.bsp_cli.specs.CommandLine.{asked_in, refused_by}
-use Rattle.bsp_cli.specs.Texts.{Tells}
+use Rattle.std.proofs.Common.{◌≡◌, inl, inr, ap, []}
+use Rattle.clap.specs.Words.{HasKind}
 use Rattle.bsp_cli.proofs.Refusals.{no-memory, refused-kind}
 use Rattle.bsp_cli.proofs.command_line.run.Goals as goal
 

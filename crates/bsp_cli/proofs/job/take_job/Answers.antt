@@ -1,4 +1,4 @@
-use Rattle.std.proofs.Common.{◌≡◌, ℕ, ◌<◌, List, length, Option, Some, None, Err}
+use Rattle.std.proofs.Common.{Option, Some, None}
 use Rattle.std.specs.Prelude.{IfSome}
 use Rattle.bsp_cli.proofs.TooLong.{long-refused}
 use Rattle.bsp_cli.proofs.job.take_job.Goals as goal

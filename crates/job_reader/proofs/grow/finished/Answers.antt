@@ -1,4 +1,4 @@
-use Rattle.std.proofs.Common.{◌≡◌, ◌∙◌, ap, sym}
+use Rattle.std.proofs.Common.{◌≡◌, ◌∙◌, ap}
 use Rattle.job_words.specs.Views.{lent}
 use Rattle.task_lang.specs.BodyValue.{BodyValue, body_value}
 use Rattle.job_reader.proofs.OpenLemmas.{body-ended, if-some}

@@ -1,4 +1,4 @@
-use Rattle.std.proofs.Common.{◌≡◌, ◌≤◌, ℕ, List, ◌++◌, ◌∙◌, ap, sym, arith, take, length, []}
+use Rattle.std.proofs.Common.{◌≤◌, ℕ, List, ◌++◌, ◌∙◌, ap, sym, arith, take, length}
 use Rattle.std.specs.List.{filter_map}
 use Rattle.text_lines.specs.Text.{lines_of, words_of}
 use Rattle.job_words.specs.Words.{Word}

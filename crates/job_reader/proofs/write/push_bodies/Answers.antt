@@ -1,4 +1,4 @@
-use Rattle.std.proofs.Common.{◌∙◌, ℕ, ℤ, List, ◌++◌, ap, sym, map}
+use Rattle.std.proofs.Common.{◌∙◌, ℤ, List, ◌++◌, ap, sym, map}
 use Rattle.task_lang.specs.BodyValue.{BodyValue}
 use Rattle.job_words.specs.Words.{Word}
 use Rattle.job_reader.specs.Trees.{body_tree}

@@ -1,4 +1,4 @@
-use Rattle.std.proofs.Common.{◌≡◌, ◌∙◌, ℕ, ℤ, List, ◌++◌, ap, map}
+use Rattle.std.proofs.Common.{◌∙◌, ℕ, ℤ, List, ◌++◌, ap, map}
 use Rattle.task_lang.specs.declared.code.Line.{Line}
 use Rattle.task_lang.specs.BodyValue.{BodyValue}
 use Rattle.job_words.specs.Words.{Word}

@@ -1,4 +1,4 @@
-use Rattle.std.proofs.Common.{◌∙◌, sym, ap, Some, None, arith}
+use Rattle.std.proofs.Common.{Some, None}
 use Rattle.job_words.proofs.CellLemmas.{cell-closes, cell-split, cell-none}
 use Rattle.job_words.proofs.exprs.cell_parts.Goals as goal
 

@@ -1,4 +1,4 @@
-use Rattle.std.proofs.Common.{◌∙◌, sym, ap, Some, arith}
+use Rattle.std.proofs.Common.{◌∙◌, sym, ap, Some}
 use Rattle.job_words.proofs.CellLemmas.{index-opens, index-goes-on, index-closes, index-none}
 use Rattle.job_words.proofs.exprs.index_part.Goals as goal
 

@@ -1,4 +1,4 @@
-use Rattle.std.proofs.Common.{◌≡◌, ◌∙◌, sym, ap, List, ℕ, None, ◌∷◌, []}
+use Rattle.std.proofs.Common.{◌∙◌, sym, ap, List, ℕ, ◌∷◌, []}
 use Rattle.std.specs.Borrow.{Bor}
 use Rattle.job_words.specs.Views.{lent}
 use Rattle.job_words.specs.Words.{place_from}

@@ -1,4 +1,4 @@
-use Rattle.std.proofs.Common.{◌∙◌, ap, sym}
+use Rattle.std.proofs.Common.{◌∙◌, ap}
 use Rattle.job_words.specs.Views.{lent}
 use Rattle.job_reader.specs.Reading.{mentioning}
 use Rattle.job_reader.proofs.LineLemmas.{said-stands, line-refused, line-put}

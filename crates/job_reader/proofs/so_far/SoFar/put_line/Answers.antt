@@ -1,4 +1,4 @@
-use Rattle.std.proofs.Common.{◌∙◌, ap, sym}
+use Rattle.std.proofs.Common.{◌∙◌, sym}
 use Rattle.job_reader.proofs.LineLemmas.{put-ended}
 use Rattle.job_reader.proofs.so_far.SoFar.put_line.Goals as goal
 
