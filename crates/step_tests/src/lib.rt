@@ -1,4 +1,4 @@
-//! Tests of rounds and of jobs on one thread: worked rows, faults, limits, deliveries in any order, refusals.
+//! Tests of landing, of rounds and of jobs on one thread: worked rows, faults, limits, deliveries in any order, refusals.
 #![tactic(auto)]
 
 #[cfg(test)]
@@ -7,6 +7,8 @@ mod faults;
 mod fixtures;
 #[cfg(test)]
 mod hands;
+#[cfg(test)]
+mod landing;
 #[cfg(test)]
 mod limits;
 #[cfg(test)]
