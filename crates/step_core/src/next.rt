@@ -1,5 +1,5 @@
 //! The next live tasks, in path order.
-ghost use Rattle.std.specs.Prelude.{◌≡◌, ◌≤◌, ◌<◌, ◌+◌, [], IfOk, map, length, reverse};
+ghost use Rattle.std.specs.Prelude.{◌≡◌, ◌≤◌, ◌<◌, ◌+◌, [], OnOk, map, length, reverse};
 ghost use Rattle.std.specs.List.{insert};
 ghost use Rattle.std.specs.Vec.{vec_len, vec_capacity};
 ghost use Rattle.task_lang.specs.TaskValue.{TaskValue};
@@ -7,7 +7,7 @@ ghost use Rattle.step_core.specs.PathOrder.{put_in, put_all, in_path_order};
 ghost use Rattle.step_core.specs.SlotParts.{AllSmall, path_in, living_of, living_in, fresh_slot};
 
 use crate::slot::Slot;
-use std::alloc::{AllocError, Global};
+use std::alloc::AllocError;
 use superstep_memory::path::is_before;
 use task_lang::task::{After, Segment, Task};
 
@@ -105,30 +105,34 @@ fn collect_living(slots: &mut Vec<Slot>, living: &mut Vec<Task>)
     }
 }
 
-/// Room for so many tasks, and for as many slots.
-pub(crate) fn rooms_for(alloc: Global, count: usize) -> Result<(Vec<Task>, Vec<Slot>), AllocError>
-    ensures tasks { IfOk result (λ rooms. (rooms.0.items ≡ []) × (count ≤ vec_capacity rooms.0)) }
-    ensures slots { IfOk result (λ rooms. (rooms.1.items ≡ []) × (count ≤ vec_capacity rooms.1)) }
+/// Empties both, and makes room in them for so many tasks and as many slots.
+pub(crate) fn make_room(
+    living: &mut Vec<Task>,
+    spare: &mut Vec<Slot>,
+    count: usize,
+) -> Result<(), AllocError>
+    ensures tasks { OnOk result ((living.new.items ≡ []) × (count ≤ vec_capacity living.new)) }
+    ensures slots { OnOk result ((spare.new.items ≡ []) × (count ≤ vec_capacity spare.new)) }
 {
-    let tasks = Vec::with_capacity(alloc, count)?;
-    let slots = Vec::with_capacity(alloc, count)?;
-    Ok((tasks, slots))
+    living.clear();
+    spare.clear();
+    living.reserve(count)?;
+    spare.reserve(count)?;
+    Ok(())
 }
 
 /// Puts slots for the next live tasks in place of those for the last ones. It takes no memory: there is room in the
 /// other two.
-pub(crate) fn go_on(slots: &mut Vec<Slot>, living: Vec<Task>, next: Vec<Slot>)
-    requires no_task { living.items ≡ [] }
-    requires no_slot { next.items ≡ [] }
-    requires room { length (living_in slots.old.items) ≤ vec_capacity living }
-    requires places { length (living_in slots.old.items) ≤ vec_capacity next }
+pub(crate) fn go_on(slots: &mut Vec<Slot>, living: &mut Vec<Task>, spare: &mut Vec<Slot>)
+    requires no_task { living.old.items ≡ [] }
+    requires no_slot { spare.old.items ≡ [] }
+    requires room { length (living_in slots.old.items) ≤ vec_capacity living.old }
+    requires places { length (living_in slots.old.items) ≤ vec_capacity spare.old }
     ensures { slots.new.items ≡ map fresh_slot (in_path_order path_in (living_in slots.old.items)) }
 {
-    let mut tasks = living;
-    collect_living(slots, &mut tasks);
-    let mut opened = next;
-    while let Some(task) = tasks.pop() {
-        opened.push_reserved(Slot::new(task));
+    collect_living(slots, living);
+    while let Some(task) = living.pop() {
+        spare.push_reserved(Slot::new(task));
     }
-    *slots = opened;
+    std::mem::swap(slots, spare);
 }

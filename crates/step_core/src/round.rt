@@ -11,7 +11,7 @@ ghost use Rattle.step_core.specs.SlotParts.{AllSmall};
 
 use crate::closing::{collect_prints, find_fault, find_missing, land_opening, record_of, too_many};
 use crate::fault::{AcceptFault, CloseFault, Outcome};
-use crate::next::{count_living, go_on, rooms_for};
+use crate::next::{count_living, go_on, make_room};
 use crate::order::{Delivery, Order};
 use crate::reading::{find_place, paths_of, prints_of, records_of};
 use crate::slot::{Blame, Finished, Slot};
@@ -38,6 +38,9 @@ pub struct Round<'j> {
     slots: Vec<Slot>,
     finished: Vec<Finished>,
     fault: Option<Blame>,
+    // Room for a closing, kept from one to the next. What stands in it means nothing.
+    living: Vec<Task>,
+    spare: Vec<Slot>,
 }
 
 impl<'j> Model for Round<'j> {
@@ -127,6 +130,8 @@ impl<'j> Round<'j> {
                 slots,
                 finished: Vec::new(alloc),
                 fault: None,
+                living: Vec::new(alloc),
+                spare: Vec::new(alloc),
             }),
             Err(_) => Err(AllocError),
         }
@@ -315,10 +320,9 @@ impl<'j> Round<'j> {
             self.fault = Some(too_many(alloc));
             return Ok(Outcome::TooMany);
         }
-        let (living, next) = match rooms_for(alloc, count) {
-            Ok(rooms) => rooms,
-            Err(fault) => return Err(CloseFault::Memory(fault)),
-        };
+        if let Err(fault) = make_room(&mut self.living, &mut self.spare, count) {
+            return Err(CloseFault::Memory(fault));
+        }
         let done = finish(
             alloc,
             self.step,
@@ -329,7 +333,7 @@ impl<'j> Round<'j> {
         if let Err(fault) = done {
             return Err(CloseFault::Memory(fault));
         }
-        go_on(&mut self.slots, living, next);
+        go_on(&mut self.slots, &mut self.living, &mut self.spare);
         self.step += 1;
         Ok(Outcome::Landed)
     }

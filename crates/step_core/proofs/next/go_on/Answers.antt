@@ -18,6 +18,6 @@ loop-task-init c =
       room =
           let l : length c.collect_living.new.living.items ≡ length (living_in c.args.slots.now.items) =
           ap length c.collect_living.ensures ∙ length-reverse next ∙ count_in_order path_in (living_in c.args.slots.now.items) in
-          let none : length c.args.next.items ≡ 0 = ap length c.requires.no_slot in
+          let none : length c.args.spare.now.items ≡ 0 = ap length c.requires.no_slot in
           omega (arith, l, none, c.requires.places);
     }

@@ -6,9 +6,9 @@ use Rattle.step_core.proofs.next.go_on.Given as goal
 
 abbrev pub invariant-loop-task : goal.invariant-loop-task
 invariant-loop-task l = record {
-  items : l.opened.items ++ map fresh_slot (reverse l.tasks.items) ≡ map fresh_slot (in_path_order path_in (living_in l.fn.slots.items));
-  room : vec_len l.opened + length l.tasks.items ≤ vec_capacity l.opened;
+  items : l.spare.items ++ map fresh_slot (reverse l.living.items) ≡ map fresh_slot (in_path_order path_in (living_in l.fn.slots.items));
+  room : vec_len l.spare + length l.living.items ≤ vec_capacity l.spare;
 }
 
 abbrev pub decreases-loop-task : goal.decreases-loop-task
-decreases-loop-task l = length l.tasks.items
+decreases-loop-task l = length l.living.items
