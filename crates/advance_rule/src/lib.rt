@@ -1,7 +1,7 @@
 //! Rules that say when a phaser ends: closures, each beside the plan that says what it answers.
 #![tactic(auto)]
 
-ghost use Rattle.std.specs.Prelude.{◌≡◌, ℕ, ◌≤◌};
+ghost use Rattle.std.specs.Prelude.{◌≡◌, ◌≤◌};
 ghost use Rattle.advance_rule.specs.Plan.{count_ends, end_ends, end_ends_at};
 ghost use Rattle.advance_rule.specs.Stored.{Stored, Answers};
 ghost use Rattle.advance_rule.specs.declared.CountPlan.{CountPlan};

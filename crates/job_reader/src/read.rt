@@ -3,7 +3,7 @@ ghost use Rattle.std.specs.Prelude.{◌≡◌, ◌≤◌, ◌<◌, ◌+◌, ◌^
 ghost use Rattle.text_lines.specs.Text.{lines_of, words_of};
 ghost use Rattle.job_words.specs.Words.{Word};
 ghost use Rattle.job_words.specs.Views.{lent};
-ghost use Rattle.job_reader.specs.Trees.{JobTree, job_tree};
+ghost use Rattle.job_reader.specs.Trees.{job_tree};
 ghost use Rattle.job_reader.specs.Above.{Above, nothing};
 ghost use Rattle.job_reader.specs.Reading as spec;
 ghost use Rattle.job_reader.specs.Relates.{IsAt};

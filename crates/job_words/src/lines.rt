@@ -1,5 +1,5 @@
 //! Lines of a body as words.
-ghost use Rattle.std.specs.Prelude.{◌≡◌, ◌≤◌, ◌∷◌, length};
+ghost use Rattle.std.specs.Prelude.{◌≡◌, ◌≤◌, length};
 ghost use Rattle.job_words.specs.Lines as spec;
 ghost use Rattle.job_words.specs.Views.{lent, names_in};
 

@@ -1,10 +1,10 @@
 //! Devices whose failures are counted, and texts read and written whole.
-ghost use Rattle.std.specs.Prelude.{◌≡◌, ℕ, ◌+◌, ◌≤◌, ◌<◌, List, Option, Some, length, IfOk, IfErr, IfSome, IsErrOf, MatchResult, OnOk, is_err, if◌then◌else◌};
-ghost use Rattle.std.specs.Io.KnownBytes.{ReadConsumes, Appends, IsAtEnd, Keeps};
+ghost use Rattle.std.specs.Prelude.{◌≡◌, ℕ, ◌+◌, ◌≤◌, ◌<◌, List, Option, length, IfOk, IfSome, IsErrOf, OnOk, is_err};
+ghost use Rattle.std.specs.Io.KnownBytes.{ReadConsumes, Appends};
 ghost use Rattle.phase_records.specs.Device.{CountsFailure, TakesSome, AppendsBeginning, ReadCause};
 
 use crate::failures::Failures;
-use std::alloc::{AllocError, Global};
+use std::alloc::Global;
 use std::io::{Read, Write};
 
 /// The device failed in this call.

@@ -1,5 +1,4 @@
 //! The calls of a single phaser as data, and what they answer.
-ghost use Rattle.std.specs.Prelude.{◌≡◌};
 
 use thiserror::Error;
 

@@ -1,5 +1,5 @@
 //! The single phaser.
-ghost use Rattle.std.specs.Prelude.{◌≡◌, ◌+◌, ◌≤◌, ◌<◌, ◌^◌, ◌-◌, ◌⊎◌, ◌↔◌, ◌<ℤ◌, ℤ, pos, length, IfOk, IfErr, IsErr, OnErr};
+ghost use Rattle.std.specs.Prelude.{◌≡◌, ◌+◌, ◌≤◌, ◌<◌, ◌^◌, ◌-◌, ◌⊎◌, ◌↔◌, ◌<ℤ◌, ℤ, pos, IfOk, IfErr, IsErr, OnErr};
 ghost use Rattle.advance_rule.specs.Plan.{count_ends};
 ghost use Rattle.advance_rule.specs.Stored.{Answers};
 ghost use Rattle.flat_phaser.specs.Flat.{Flat, shown, registered, unarrived};
@@ -8,7 +8,7 @@ ghost use Rattle.phaser_one.specs.Calls.{opened};
 ghost use Rattle.phaser_one.specs.Calls as spec;
 ghost use Rattle.phaser_word.specs.Phase.{shown_of};
 ghost use Rattle.std.specs.Prelude.{true};
-ghost use Rattle.phaser_one.specs.Seen.{Single, flat_of, Follows, IsSettled, reply_of, reply_of_awaited};
+ghost use Rattle.phaser_one.specs.Seen.{Single, flat_of, Follows, reply_of, reply_of_awaited};
 ghost use Rattle.phaser_one.specs.Runs.{FollowsAll, advance_of};
 ghost use Rattle.std.specs.Prelude.{◌==◌, if◌then◌else◌};
 

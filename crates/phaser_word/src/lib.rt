@@ -1,7 +1,7 @@
 //! The state of one tier of a phaser, and the one 64-bit number that it is packed into.
 #![tactic(auto)]
 
-ghost use Rattle.std.specs.Prelude.{◌≡◌, ℕ, ◌≤◌, IfSome};
+ghost use Rattle.std.specs.Prelude.{◌≡◌, ◌≤◌, IfSome};
 ghost use Rattle.phaser_word.specs.Fields.{Fields, IsLegal};
 ghost use Rattle.phaser_word.specs.Packed.{packed};
 ghost use Rattle.phaser_word.specs.Phase.{next_phase_of, shown_of};

@@ -1,5 +1,5 @@
 //! What one action does.
-ghost use Rattle.std.specs.Prelude.{◌≡◌, ◌≤◌, IfOk, length};
+ghost use Rattle.std.specs.Prelude.{◌≡◌, IfOk};
 ghost use Rattle.task_lang.specs.Meaning as spec;
 ghost use Rattle.task_lang.specs.Views.{setting, doing, turn, plans};
 

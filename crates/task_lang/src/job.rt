@@ -1,5 +1,5 @@
 //! Jobs.
-ghost use Rattle.std.specs.Prelude.{◌≡◌, ◌↔◌, IsSome, IfSome, IsTrue, map, nat_lt, length};
+ghost use Rattle.std.specs.Prelude.{◌≡◌, ◌↔◌, IsSome, IfSome, IsTrue, map, nat_lt};
 ghost use Rattle.std.specs.List.{list_all};
 ghost use Rattle.task_lang.specs.JobValue.{JobValue, job_value};
 ghost use Rattle.task_lang.specs.Names as names;

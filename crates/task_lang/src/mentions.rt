@@ -1,5 +1,5 @@
 //! The locals that lines mention.
-ghost use Rattle.std.specs.Prelude.{◌≡◌, ◌↔◌, ◌++◌, ◌∷◌, [], ◌<◌, IfOk, OnOk, IsTrue, Some, nat_lt};
+ghost use Rattle.std.specs.Prelude.{◌≡◌, ◌↔◌, ◌++◌, ◌<◌, IfOk, OnOk, IsTrue, Some, nat_lt};
 ghost use Rattle.std.specs.List.{list_all};
 ghost use Rattle.task_lang.specs.Mentions as spec;
 

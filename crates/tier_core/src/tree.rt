@@ -1,6 +1,6 @@
 //! The tree of phasers as a pure machine: its words, its tokens and their calls.
 
-ghost use Rattle.std.specs.Prelude.{◌≡◌, ℕ, ◌+◌, ◌≤◌, ◌<◌, ◌++◌, ◌∷◌, [], List, length, true, false, if◌then◌else◌, Ok, Err, IfOk, OnOk, OnErr, IsErr, ◌↔◌, replicate};
+ghost use Rattle.std.specs.Prelude.{◌≡◌, ◌≤◌, ◌<◌, length, true, false, if◌then◌else◌, Ok, Err, IfOk, OnOk, OnErr, IsErr, ◌↔◌, replicate};
 ghost use Rattle.tier_core.specs.Run.{may_call};
 
 use crate::call::{Answer, Call, NotNow, Played, Progress, Step, Turn};
@@ -59,11 +59,11 @@ fn words_of(alloc: Global, count: usize, word: Word) -> Result<Vec<Word>, AllocE
 }
 
 impl Core {
-    ghost use Rattle.tier_core.specs.Machine.{State, IsCore, IsNext, view_at, call_at, is_active, is_due, turn_at, played, opened, with_token};
+    ghost use Rattle.tier_core.specs.Machine.{State, IsCore, IsNext, view_at, turn_at, played, opened, with_token};
     ghost use Rattle.tier_core.specs.Run as spec;
     ghost use Rattle.tier_steps.specs.Tally.{word_at};
     ghost use Rattle.tier_shape.specs.Paths.{IsTiers};
-    ghost use Rattle.tier_core.specs.Run.{may_begin, may_go, may_finish, begun, finish_at, IsCall, after, IsStepOfCalls, AreSteps, answer_to, plan_ends, answers, run, IsFlat};
+    ghost use Rattle.tier_core.specs.Run.{may_begin, may_go, may_finish, finish_at, IsCall, after, IsStepOfCalls, AreSteps, answer_to, plan_ends, answers, run, IsFlat};
     ghost use Rattle.tier_steps.specs.Image.{image, LooksAlike};
     ghost use Rattle.flat_phaser.specs.Flat.{Flat};
 

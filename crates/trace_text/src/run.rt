@@ -1,6 +1,5 @@
 //! Traces run on a phaser.
-ghost use Rattle.std.specs.Prelude.{◌≡◌, ◌≤◌, [], ◌++◌, ℤ, All, IfOk, OnOk, length};
-ghost use Rattle.std.specs.Io.KnownBytes.{Appends};
+ghost use Rattle.std.specs.Prelude.{◌≡◌, ◌≤◌, [], ◌++◌, All, OnOk};
 ghost use Rattle.advance_rule.specs.Plan.{count_ends};
 ghost use Rattle.advance_rule.specs.Stored.{Answers};
 ghost use Rattle.flat_phaser.specs.Flat.{Flat};
@@ -11,7 +10,6 @@ ghost use Rattle.trace_text.specs.Runs.{run_text};
 ghost use Rattle.trace_text.specs.TreeAnswers.{tree_text, tree_after, tree_opened_text};
 ghost use Rattle.trace_text.specs.TreeWords.{InRange};
 ghost use Rattle.trace_text.specs.Parts.{tree_asked};
-ghost use Rattle.phase_records.specs.Device.{AppendsBeginning};
 ghost use Rattle.trace_text.specs.Outcome.{WriteCause, Writes, Moves, ReadsCause, Traces};
 
 use crate::fault::TraceFault;

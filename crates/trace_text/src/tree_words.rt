@@ -1,7 +1,6 @@
 //! Heads and commands of a trace of a tree, from the words of their lines.
-ghost use Rattle.std.specs.Prelude.{◌≡◌, ◌≢◌, ◌∷◌, [], ◌≤◌, ◌<◌, None, Some, Ok, Err, Option, option_copied, MatchOption, MatchResult, IfOk, IfSome, true, false, map};
+ghost use Rattle.std.specs.Prelude.{◌≡◌, ◌≤◌, ◌<◌, None, Some, Ok, Err, Option, MatchOption, MatchResult, IfOk, IfSome, true, false};
 ghost use Rattle.text_lines.specs.Text.{words_of, is_skipped};
-ghost use Rattle.text_lines.specs.Number.{number_of};
 ghost use Rattle.trace_text.specs.TreeWords as spec;
 ghost use Rattle.trace_text.specs.Words.{up_to};
 ghost use Rattle.trace_text.specs.Parts.{call_words_in, tree_words_in, tree_asked};

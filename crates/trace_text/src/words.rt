@@ -1,5 +1,5 @@
 //! Heads and commands of a trace, from the words of their lines.
-ghost use Rattle.std.specs.Prelude.{◌≡◌, ◌∷◌, [], codes, None, Some, Ok, Err, Option, option_copied, option_and_then, MatchOption, MatchResult, IfOk, IfSome, ◌≤◌, true, false};
+ghost use Rattle.std.specs.Prelude.{◌≡◌, ◌∷◌, [], None, Some, Ok, Err, Option, option_copied, MatchOption, MatchResult, IfOk, IfSome, ◌≤◌, true, false};
 ghost use Rattle.text_lines.specs.Text.{words_of, is_skipped};
 ghost use Rattle.text_lines.specs.Number.{number_of};
 ghost use Rattle.trace_text.specs.Words as spec;

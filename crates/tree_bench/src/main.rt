@@ -2,7 +2,7 @@
 //! phase that the root has reached. To be timed.
 #![tactic(auto)]
 
-ghost use Rattle.std.specs.Prelude.{OnOk, OnErr, IfOk};
+ghost use Rattle.std.specs.Prelude.{OnOk, IfOk};
 ghost use Rattle.tier_core.specs.Run.{AreSteps, IsStepOfCalls};
 
 use advance_rule::EndPlan;
