@@ -15,4 +15,3 @@ pub mod SegmentValue
 pub mod TaskValue
 pub mod Tree
 pub mod Views
-pub mod Plain
