@@ -11,3 +11,4 @@ pub mod Runs
 pub mod Segments
 pub mod Unread
 mod Firsts
+pub mod Behind

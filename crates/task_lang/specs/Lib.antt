@@ -15,3 +15,4 @@ pub mod SegmentValue
 pub mod TaskValue
 pub mod Tree
 pub mod Views
+pub mod Lent

@@ -12,7 +12,7 @@ mod limits;
 mod mentions;
 pub mod names;
 mod same;
-mod scene;
+pub mod scene;
 pub mod segment;
 pub mod task;
 mod value;
