@@ -10,5 +10,5 @@ pub mod Reading
 pub mod Runs
 pub mod Segments
 pub mod Unread
-mod Unfolding
 mod Firsts
+pub mod Behind

@@ -15,4 +15,4 @@ pub mod SegmentValue
 pub mod TaskValue
 pub mod Tree
 pub mod Views
-pub mod Plain
+pub mod Lent

@@ -1,5 +1,4 @@
-//! Tests of the task language: values from outside, each call once, the limits at their borders, and segments
-//! of flat code beside those of statement trees.
+//! Tests of the task language: values from outside, each call once, and the limits at their borders.
 #![tactic(auto)]
 
 #[cfg(test)]
@@ -10,5 +9,3 @@ mod fixtures;
 mod jobs;
 #[cfg(test)]
 mod segments;
-#[cfg(test)]
-mod trees;
