@@ -13,7 +13,7 @@ pub both_true : (a b : Bool) → a && b ≡ true → (a ≡ true) × (b ≡ true
 both_true true b e = (refl, e)
 both_true false b e = absurd (let wrong : false ≡ true = e in cc)
 
-and_true : (a b : Bool) → a ≡ true → b ≡ true → a && b ≡ true
+pub and_true : (a b : Bool) → a ≡ true → b ≡ true → a && b ≡ true
 and_true a b e f = ap (λ (x : Bool). x && b) e ∙ f
 
 same_bool : (a b : Bool) → (a ≡ true → b ≡ true) → (b ≡ true → a ≡ true) → a ≡ b

@@ -4,3 +4,4 @@ pub mod Places
 pub mod Alikeness
 pub mod Runs
 pub mod Firsts
+pub mod Coming

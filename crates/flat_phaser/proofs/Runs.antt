@@ -43,7 +43,7 @@ everyone_law phase members =
 pub once_law : ArrivalsCountOnce
 once_law f ends h owner = none_arrived f.phase _ f.members (next_differs f.phase) h owner
 
-not_ended : (step : FlatStep) (f : Flat) → f.ended ≡ false → flat_step step f ≡ taken step f
+pub not_ended : (step : FlatStep) (f : Flat) → f.ended ≡ false → flat_step step f ≡ taken step f
 not_ended step f e = ap (λ (b : Bool). cond b f (taken step f)) e
 
 kept : (step : FlatStep) (f : Flat) → MayTake step f → is_advance step ≡ false

@@ -1,6 +1,7 @@
 -- What the steps of a flat phaser mean to those who use it.
-use Rattle.std.specs.Prelude.{◌≡◌, ℕ, ◌+◌, Bool, true, false, ◌==◌, if◌then◌else◌, List}
-use Rattle.flat_phaser.specs.Flat.{Flat, Member, members_of, arrived_of, everyone_arrived, empty_in}
+use Rattle.std.specs.Prelude.{◌≡◌, ℕ, ◌+◌, Bool, true, false, ◌==◌, if◌then◌else◌, List, [], ◌∷◌}
+use Rattle.phaser_word.specs.Phase.{next_phase_of}
+use Rattle.flat_phaser.specs.Flat.{Flat, Member, members_of, arrived_of, everyone_arrived, unarrived, empty_in}
 use Rattle.flat_phaser.specs.Step.{FlatStep, Join, Arrive, Leave, Advance, Force, flat_step, taken, MayTake, IsFlatRun, flat_run}
 use Rattle.flat_phaser.specs.Alike.{IsAlike, IsSound, MayLeave}
 
@@ -51,3 +52,36 @@ StepsAreTaken = (step : FlatStep) (f : Flat) → MayTake step f → MayLeave ste
 -- Alike stays alike, whichever member each step takes.
 abbrev pub AlikeStaysAlike : Type 0
 AlikeStaysAlike = (step : FlatStep) (f f' g g' : Flat) → IsSound f → IsAlike f g → MayLeave step f f' → MayLeave step g g' → IsAlike f' g' × IsSound f'
+
+-- An advance is due exactly where all members of every owner have arrived.
+pub record TellsDue (f : Flat) : Type 0 where
+  pub due : f.due ≡ true → (owner : ℕ) → arrived_of f.phase owner f.members ≡ members_of owner f.members
+  pub everyone : ((owner : ℕ) → arrived_of f.phase owner f.members ≡ members_of owner f.members) → f.due ≡ true
+
+-- It is so after every arrival and after every departure.
+abbrev pub DueTellsEveryone : Type 0
+DueTellsEveryone =
+    (f : Flat) (owner : ℕ) → f.ended ≡ false → MayTake (Arrive owner) f
+    → TellsDue (flat_step (Arrive owner) f) × TellsDue (flat_step (Leave owner) f)
+
+-- the advance may come, and takes the phase that follows the one before
+pub record BringsAdvance (ends : Bool) (before after : Flat) : Type 0 where
+  pub may : MayTake (Advance ends) after
+  pub next : (flat_step (Advance ends) after).phase ≡ next_phase_of before.phase
+  pub end : (flat_step (Advance ends) after).ended ≡ ends
+
+-- Where the last member that hasn't arrived arrives or leaves, the advance comes.
+abbrev pub TheLastBringsTheAdvance : Type 0
+TheLastBringsTheAdvance =
+    (f : Flat) (owner : ℕ) (ends : Bool) → f.ended ≡ false → unarrived f ≡ 1 → MayTake (Arrive owner) f
+    → BringsAdvance ends f (flat_step (Arrive owner) f) × BringsAdvance ends f (flat_step (Leave owner) f)
+
+-- One member that has joined is the last that hasn't arrived, so that what these laws ask for is found.
+pub record IsLast (f : Flat) : Type 0 where
+  pub going : f.ended ≡ false
+  pub one : unarrived f ≡ 1
+  pub awaited : MayTake (Arrive 0) f
+  pub reached : IsFlatRun (Join 0 1 ∷ []) (empty_in 0)
+
+abbrev pub OneMemberIsLast : Type 0
+OneMemberIsLast = IsLast (flat_run (Join 0 1 ∷ []) (empty_in 0))

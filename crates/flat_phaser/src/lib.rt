@@ -11,6 +11,9 @@ ghost use Rattle.flat_phaser.specs.Laws.{
   EveryoneIsEachOwner,
   ArrivalsCountOnce,
   NoArrivalIsLost,
+  DueTellsEveryone,
+  TheLastBringsTheAdvance,
+  OneMemberIsLast,
   StepsAreTaken,
   AlikeStaysAlike,
 };
@@ -246,4 +249,19 @@ pub fn steps_are_taken()
 /// Flat phasers that are alike stay alike under every step, whichever member each step takes.
 pub fn alike_stays_alike()
     ensures { AlikeStaysAlike }
+{}
+
+/// After an arrival or a departure an advance is due exactly where all members of every owner have arrived.
+pub fn due_tells_everyone()
+    ensures { DueTellsEveryone }
+{}
+
+/// Where the last member that has not arrived arrives or leaves, the advance comes, into the next phase.
+pub fn the_last_brings_the_advance()
+    ensures { TheLastBringsTheAdvance }
+{}
+
+/// A phaser of one member is one to which these laws apply.
+pub fn one_member_is_last()
+    ensures { OneMemberIsLast }
 {}
