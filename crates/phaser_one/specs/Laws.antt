@@ -1,12 +1,13 @@
 -- What a single phaser promises, in the words of those who use it.
-use Rattle.std.specs.Prelude.{◌≡◌, ◌⊎◌, ◌≤◌, true, false}
+use Rattle.std.specs.Prelude.{◌≡◌, ◌≢◌, ◌⊎◌, ◌≤◌, ◌<◌, ◌+◌, ℕ, true, false, pos, negsuc}
 use Rattle.phaser_word.specs.Fields.{Fields}
 use Rattle.phaser_word.specs.Phase.{next_phase_of}
 use Rattle.advance_rule.specs.declared.CountPlan.{CountPlan}
 use Rattle.advance_rule.specs.Plan.{count_ends}
 use Rattle.flat_phaser.specs.Flat.{Flat, registered, unarrived, everyone_arrived}
+use Rattle.phaser_word.specs.Phase.{shown_of}
 use Rattle.flat_phaser.specs.Alike.{IsAlike}
-use Rattle.phaser_one.specs.Calls.{Call, called, after}
+use Rattle.phaser_one.specs.Calls.{Call, Bulk, Arrive, Leave, Await, Number, Waiting, Refused, Full, NobodyUnarrived, Negative, answer, called, after}
 use Rattle.phaser_one.specs.Seen.{flat_of}
 
 -- a call advances: everyone who was then registered has arrived, and the phase is the next one
@@ -43,3 +44,33 @@ pub record IsCounted (w : Fields) : Type 0 where
 -- Every word with no more unarrived than parties stands for a flat phaser.
 abbrev pub WordsAreSeen : Type 0
 WordsAreSeen = (w : Fields) → w.unarrived ≤ w.parties → IsCounted w
+
+-- Waiting for the end of a phase is over at once for a negative number, after the end, and for another phase than the current one; else it goes on.
+pub record AwaitTells (f : Flat) : Type 0 where
+  pub negative : (n : ℕ) → answer (Await (negsuc n)) f ≡ Number (negsuc n)
+  pub ended : f.ended ≡ true → (phase : ℕ) → answer (Await (pos phase)) f ≡ Number (shown_of f.phase true)
+  pub other : f.ended ≡ false → (phase : ℕ) → phase ≢ f.phase → answer (Await (pos phase)) f ≡ Number (pos f.phase)
+  pub current : f.ended ≡ false → answer (Await (pos f.phase)) f ≡ Waiting
+
+abbrev pub AwaitsAreTold : Type 0
+AwaitsAreTold = (f : Flat) → AwaitTells f
+
+-- Registering below zero is refused, also after the end, and changes nothing; no room is a refusal only before the end.
+pub record BulkTells (plan : CountPlan) (f : Flat) : Type 0 where
+  pub negative : (n : ℕ) → answer (Bulk (negsuc n)) f ≡ Refused Negative
+  pub kept : (n : ℕ) → f.due ≡ false → after plan (Bulk (negsuc n)) f ≡ f
+  pub ended : f.ended ≡ true → (count : ℕ) → answer (Bulk (pos count)) f ≡ Number (shown_of f.phase true)
+  pub full : f.ended ≡ false → (count : ℕ) → 65535 < registered f + count → answer (Bulk (pos count)) f ≡ Refused Full
+  pub room : f.ended ≡ false → (count : ℕ) → registered f + count ≤ 65535 → answer (Bulk (pos count)) f ≡ Number (pos f.phase)
+
+abbrev pub RegistrationsAreTold : Type 0
+RegistrationsAreTold = (plan : CountPlan) (f : Flat) → BulkTells plan f
+
+-- Arriving and leaving answer the phase where somebody hasn't arrived, and are refused where nobody is left; after the end they answer it.
+pub record ArriveTells (call : Call) (f : Flat) : Type 0 where
+  pub ended : f.ended ≡ true → answer call f ≡ Number (shown_of f.phase true)
+  pub nobody : f.ended ≡ false → unarrived f ≡ 0 → answer call f ≡ Refused NobodyUnarrived
+  pub somebody : f.ended ≡ false → 0 < unarrived f → answer call f ≡ Number (pos f.phase)
+
+abbrev pub ArrivalsAreTold : Type 0
+ArrivalsAreTold = (f : Flat) → ArriveTells Arrive f × ArriveTells Leave f

@@ -1,5 +1,13 @@
 //! What a single phaser promises, in the words of those who use it.
-ghost use Rattle.phaser_one.specs.Laws.{PhaseMovesByOne, EndedStays, NotAllArrived, WordsAreSeen};
+ghost use Rattle.phaser_one.specs.Laws.{
+  PhaseMovesByOne,
+  EndedStays,
+  NotAllArrived,
+  WordsAreSeen,
+  AwaitsAreTold,
+  RegistrationsAreTold,
+  ArrivalsAreTold,
+};
 
 /// While a phaser hasn't ended its phase takes one step at each advance, which comes only where everyone
 /// registered has arrived, and moves at no other time.
@@ -20,4 +28,19 @@ pub fn not_all_arrived()
 /// Every word with no more unarrived than parties stands for a flat phaser.
 pub fn words_are_seen()
     ensures { WordsAreSeen }
+{}
+
+/// What waiting for the end of a phase answers: a negative number, the end, another phase, or that it goes on.
+pub fn awaits_are_told()
+    ensures { AwaitsAreTold }
+{}
+
+/// When registering several is refused, and what it answers else.
+pub fn registrations_are_told()
+    ensures { RegistrationsAreTold }
+{}
+
+/// When an arrival or a departure is refused, and what it answers else.
+pub fn arrivals_are_told()
+    ensures { ArrivalsAreTold }
 {}

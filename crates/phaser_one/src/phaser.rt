@@ -1,5 +1,5 @@
 //! The single phaser.
-ghost use Rattle.std.specs.Prelude.{◌≡◌, ◌+◌, ◌≤◌, ◌<◌, ◌^◌, ◌-◌, ◌⊎◌, ◌↔◌, ◌<ℤ◌, ℤ, pos, IfOk, IfErr, IsErr, OnErr};
+ghost use Rattle.std.specs.Prelude.{◌≡◌, ◌≢◌, ◌+◌, ◌≤◌, ◌<◌, ◌^◌, ◌-◌, ◌⊎◌, ◌↔◌, ◌<ℤ◌, ℤ, pos, IfOk, IfErr, IsErr, OnErr};
 ghost use Rattle.advance_rule.specs.Plan.{count_ends};
 ghost use Rattle.advance_rule.specs.Stored.{Answers};
 ghost use Rattle.flat_phaser.specs.Flat.{Flat, shown, registered, unarrived};
@@ -102,10 +102,13 @@ impl<F: Fn(u32, u32) -> bool> PhaserOne<F> {
 
     /// Arrives with one party, and answers the arrival phase, or the phase shown once ended. The last to
     /// arrive brings the next phase. Refused with `NobodyUnarrived` exactly where nobody is unarrived and
-    /// it has not ended.
+    /// it has not ended. Where the phase moves, whether it has ended is what the closure answered of the phase
+    /// before and of the parties.
     pub fn arrive(&mut self) -> Result<i32, OneFault>
         requires rule { Answers (F.pre self.old.rule.closure) (F.post self.old.rule.closure) (count_ends self.old.rule.plan) }
         ensures flat { Follows self.old.rule.plan spec.Arrive self.old.word self.new.word (reply_of result) }
+        ensures called { self.new.word.phase ≢ self.old.word.phase
+            → F.post self.old.rule.closure self.old.word.phase self.new.word.parties self.new.word.ended }
         ensures rule { self.new.rule ≡ self.old.rule }
     {
         let Stepped { word, shown } = arrived(&self.rule, self.word)?;
@@ -118,6 +121,8 @@ impl<F: Fn(u32, u32) -> bool> PhaserOne<F> {
     pub fn arrive_and_deregister(&mut self) -> Result<i32, OneFault>
         requires rule { Answers (F.pre self.old.rule.closure) (F.post self.old.rule.closure) (count_ends self.old.rule.plan) }
         ensures flat { Follows self.old.rule.plan spec.Leave self.old.word self.new.word (reply_of result) }
+        ensures called { self.new.word.phase ≢ self.old.word.phase
+            → F.post self.old.rule.closure self.old.word.phase self.new.word.parties self.new.word.ended }
         ensures rule { self.new.rule ≡ self.old.rule }
     {
         let Stepped { word, shown } = left(&self.rule, self.word)?;

@@ -1,5 +1,5 @@
 //! What each call does to the word of a single phaser.
-ghost use Rattle.std.specs.Prelude.{◌≡◌, ◌+◌, ◌≤◌, ◌<◌, ◌^◌, pos, true, IfOk, MatchResult};
+ghost use Rattle.std.specs.Prelude.{◌≡◌, ◌≢◌, ◌+◌, ◌≤◌, ◌<◌, ◌^◌, pos, true, IfOk, MatchResult};
 ghost use Rattle.advance_rule.specs.Plan.{count_ends};
 ghost use Rattle.advance_rule.specs.Stored.{Answers};
 ghost use Rattle.phaser_word.specs.Phase.{shown_of};
@@ -29,7 +29,8 @@ fn settle<F: Fn(u32, u32) -> bool>(
     requires parties { parties ≤ 65535 }
     requires phase { phase ≤ 2147483647 }
     requires rule { Answers (F.pre rule.now.closure) (F.post rule.now.closure) (count_ends rule.now.plan) }
-    ensures { IsSettled rule.now.plan phase parties unarrived result }
+    ensures settled { IsSettled rule.now.plan phase parties unarrived result }
+    ensures called { result.phase ≢ phase → F.post rule.now.closure phase parties result.ended }
 {
     if unarrived == 0 {
         return Word {
@@ -87,6 +88,7 @@ pub(crate) fn arrived<F: Fn(u32, u32) -> bool>(
     ensures flat { MatchResult result
         (λ s. Follows rule.now.plan spec.Arrive word s.word (spec.Number s.shown))
         (λ e. Follows rule.now.plan spec.Arrive word word (spec.Refused e)) }
+    ensures called { IfOk result (λ s. s.word.phase ≢ word.phase → F.post rule.now.closure word.phase s.word.parties s.word.ended) }
     ensures counted { IfOk result (λ s. s.word.unarrived ≤ s.word.parties) }
 {
     let shown = word.shown();
@@ -116,6 +118,7 @@ pub(crate) fn left<F: Fn(u32, u32) -> bool>(
     ensures flat { MatchResult result
         (λ s. Follows rule.now.plan spec.Leave word s.word (spec.Number s.shown))
         (λ e. Follows rule.now.plan spec.Leave word word (spec.Refused e)) }
+    ensures called { IfOk result (λ s. s.word.phase ≢ word.phase → F.post rule.now.closure word.phase s.word.parties s.word.ended) }
     ensures counted { IfOk result (λ s. s.word.unarrived ≤ s.word.parties) }
 {
     let shown = word.shown();

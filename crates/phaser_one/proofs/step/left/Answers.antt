@@ -20,4 +20,4 @@ returns-clause-flat g c =
     let small : c.args.word.phase ≤ 2147483647 = (let legal : c.word.inside.phase ≤ 2147483647 = c.word.invariant.phase in omega arith) in
     let shown : to_z w32 (of_z w32 c.shown-shown.result) ≡ shown_of c.args.word.phase c.args.word.ended = same_shown c.shown-shown.result c.args.word.phase c.args.word.ended c.shown-shown.ensures small in
     let P : Fields → Type 0 = λ w. IsSettled c.args.rule.now.plan w.phase (w.parties - 1) (w.unarrived - 1) c.settle-word.result in
-    leave_follows c.args.rule.now.plan c.args.word c.settle-word.result _ c.requires.counted ended (omega arith) shown (subst P c.word.view_is c.settle-word.ensures)
+    leave_follows c.args.rule.now.plan c.args.word c.settle-word.result _ c.requires.counted ended (omega arith) shown (subst P c.word.view_is c.settle-word.ensures.settled)
