@@ -61,9 +61,9 @@ tells members f = record {
 
 pub due_law : DueTellsEveryone
 due_law f owner going waited = (
-      rw (not_ended (Arrive owner) f going) (tells (mark_one owner f.phase f.members) f),
-      rw (not_ended (Leave owner) f going) (tells (drop_one owner f.phase f.members) f),
-    )
+  rw (not_ended (Arrive owner) f going) (tells (mark_one owner f.phase f.members) f),
+  rw (not_ended (Leave owner) f going) (tells (drop_one owner f.phase f.members) f),
+)
 
 brings : (ends : Bool) (members : List Member) (f : Flat) → f.ended ≡ false → everyone_arrived f.phase members ≡ true → BringsAdvance ends f (with_members members f)
 brings ends members f going all =
@@ -72,9 +72,9 @@ brings ends members f going all =
 
 pub last_law : TheLastBringsTheAdvance
 last_law f owner ends going one waited = (
-      rw (not_ended (Arrive owner) f going) (brings ends (mark_one owner f.phase f.members) f going (last_marked f.phase owner f.members waited one)),
-      rw (not_ended (Leave owner) f going) (brings ends (drop_one owner f.phase f.members) f going (last_dropped f.phase owner f.members waited one)),
-    )
+  rw (not_ended (Arrive owner) f going) (brings ends (mark_one owner f.phase f.members) f going (last_marked f.phase owner f.members waited one)),
+  rw (not_ended (Leave owner) f going) (brings ends (drop_one owner f.phase f.members) f going (last_dropped f.phase owner f.members waited one)),
+)
 
 pub one_is_last : OneMemberIsLast
 one_is_last = record { going = refl; one = refl; awaited = omega arith; reached = (λ going. tt, tt) }

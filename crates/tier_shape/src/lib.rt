@@ -214,11 +214,18 @@ impl Shape {
         ensures told { IfOk result (λ shape. shape_told text.now ≡ Ok shape) }
         ensures refused { IfErr result (λ fault. (fault_number fault ≡ None → ⊥) → shape_told text.now ≡ Err fault) }
     {
-        read_shape(alloc, text.as_bytes())
+        Self::from_width_bytes(alloc, text.as_bytes())
     }
 
     /// The shape that a text of widths says, by its bytes; as [`Shape::from_widths`].
     pub fn from_width_bytes(alloc: Global, text: &[u8]) -> Result<Self, ShapeFault>
+        ensures bad_text { IsErrOf result ShapeFault.BadText ↔ IsBadText text.now }
+        ensures too_deep { IsErrOf result ShapeFault.TooDeep ↔ IsDeepText text.now }
+        ensures too_many { IsErrOf result ShapeFault.TooManyTiers ↔ IsWideText text.now }
+        ensures no_tier { IsErrOf result ShapeFault.NoTier → ⊥ }
+        ensures not_earlier { IsErrOf result ShapeFault.ParentNotEarlier → ⊥ }
+        ensures memory { (e : AllocError) → IsErrOf result (ShapeFault.Memory e) → IsGoodText text.now }
+        ensures ok { IfOk result (λ shape. IsTreeText text.now shape × IsTiers shape) }
         ensures told { IfOk result (λ shape. shape_told text.now ≡ Ok shape) }
         ensures refused { IfErr result (λ fault. (fault_number fault ≡ None → ⊥) → shape_told text.now ≡ Err fault) }
     {
