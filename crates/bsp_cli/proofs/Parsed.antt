@@ -3,7 +3,7 @@ use Rattle.std.proofs.Common.{◌≡◌, true, refl}
 use Rattle.clap.specs.Words.{is_simple_and_free, is_simple}
 use Rattle.clap.proofs.OnLiterals.{clap_on_literals}
 use Rattle.bsp_cli.specs.CommandLine.{program}
-use Rattle.bsp_cli.specs.Laws.{EachNameAsks, EachNameRefuses}
+use Rattle.bsp_cli.specs.Laws.{EachNameAsks, EachNameHelps, EachNameRefuses}
 
 pub free-program : is_simple_and_free program ≡ true
 unfolding clap_on_literals
@@ -34,4 +34,19 @@ words-refused name = record {
   many = refl;
   workers = refl;
   tree = refl;
+  twice = refl;
+  same = refl;
+}
+
+pub words-help : EachNameHelps
+unfolding clap_on_literals
+words-help name = record {
+  long = refl;
+  short = refl;
+  trace = refl;
+  trace_long = refl;
+  check = refl;
+  check_long = refl;
+  run = refl;
+  run_long = refl;
 }

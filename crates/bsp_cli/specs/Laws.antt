@@ -2,6 +2,7 @@
 use Rattle.std.specs.Prelude.{◌≡◌, ℕ, true, List, [], ◌∷◌, codes}
 use Rattle.bsp_cli.specs.CommandLine.{asked_in, refused_by}
 use Rattle.bsp_cli.specs.Did.{are_refused}
+use Rattle.clap.specs.declared.error.kind.ErrorKind.TheVariants.{DisplayHelp}
 use Rattle.bsp_cli.specs.declared.asked.Asked.{Asked}
 use Rattle.bsp_cli.specs.declared.asked.Asked.TheVariants.{Trace, Check, Run}
 
@@ -30,6 +31,25 @@ pub record WordsAreRefused (name : List ℕ) : Type 0 where
   pub many : AreRefused (name ∷ codes "run" ∷ codes "--limit" ∷ codes "1000001" ∷ [])
   pub workers : AreRefused (name ∷ codes "run" ∷ codes "--workers" ∷ codes "2" ∷ [])
   pub tree : AreRefused (name ∷ codes "run" ∷ codes "--tree" ∷ codes "flat" ∷ [])
+  pub twice : AreRefused (name ∷ codes "run" ∷ codes "--limit" ∷ codes "3" ∷ codes "--limit" ∷ codes "4" ∷ [])
+  pub same : AreRefused (name ∷ codes "run" ∷ codes "--limit" ∷ codes "3" ∷ codes "--limit" ∷ codes "3" ∷ [])
+
+-- words that ask for help
+abbrev pub AskForHelp : List (List ℕ) → Type 0
+AskForHelp words = refused_by words ≡ DisplayHelp ∷ []
+
+pub record WordsAskForHelp (name : List ℕ) : Type 0 where
+  pub long : AskForHelp (name ∷ codes "--help" ∷ [])
+  pub short : AskForHelp (name ∷ codes "-h" ∷ [])
+  pub trace : AskForHelp (name ∷ codes "trace" ∷ codes "-h" ∷ [])
+  pub trace_long : AskForHelp (name ∷ codes "trace" ∷ codes "--help" ∷ [])
+  pub check : AskForHelp (name ∷ codes "check" ∷ codes "-h" ∷ [])
+  pub check_long : AskForHelp (name ∷ codes "check" ∷ codes "--help" ∷ [])
+  pub run : AskForHelp (name ∷ codes "run" ∷ codes "-h" ∷ [])
+  pub run_long : AskForHelp (name ∷ codes "run" ∷ codes "--help" ∷ [])
+
+abbrev pub EachNameHelps : Type 0
+EachNameHelps = (name : List ℕ) → WordsAskForHelp name
 
 abbrev pub EachNameAsks : Type 0
 EachNameAsks = (name : List ℕ) → WordsAsk name

@@ -141,6 +141,7 @@ pub fn run<'a, S: AsStr, R: CountedRead, W: CountedWrite, E: CountedWrite>(
     ensures refuses { are_refused (refused_by (map S.text words.entry.now)) ≡ true
         → (result ≡ COMMAND_LINE_REFUSED) ⊎ (result ≡ OUT_OF_MEMORY) }
     ensures untouched { refused_by (map S.text words.entry.now) ≢ [] → reader.new ≡ reader.old }
+    ensures nothing_written { refused_by (map S.text words.entry.now) ≢ [] → result ≡ OUT_OF_MEMORY → writer.new ≡ writer.old }
     ensures status { (result ≤ 6) ⊎ (result ≡ DEVICE_FAILED) }
     ensures silent { result ≤ 3 → errors.new ≡ errors.old }
     ensures command_line_refused { result ≡ COMMAND_LINE_REFUSED → (reader.new ≡ reader.old) × (writer.new ≡ writer.old) }

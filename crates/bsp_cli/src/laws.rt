@@ -1,5 +1,5 @@
 //! Laws on the words of a command line. Each function does nothing: its contract is the law.
-ghost use Rattle.bsp_cli.specs.Laws.{EachNameAsks, EachNameRefuses};
+ghost use Rattle.bsp_cli.specs.Laws.{EachNameAsks, EachNameHelps, EachNameRefuses};
 
 /// Which words ask for what: `trace`, `check`, and `run` with its limits, behind any name of the program.
 pub fn words_ask()
@@ -10,4 +10,9 @@ pub fn words_ask()
 /// options that `run` doesn't have.
 pub fn words_are_refused()
     ensures { EachNameRefuses }
+{}
+
+/// Words that ask for help: `--help` and `-h`, alone and behind each subcommand.
+pub fn words_help()
+    ensures { EachNameHelps }
 {}

@@ -10,7 +10,7 @@ mod trace;
 
 pub use asked::Asked;
 pub use command_line::run;
-pub use laws::{words_are_refused, words_ask};
+pub use laws::{words_are_refused, words_ask, words_help};
 
 /// Statuses that the program ends with (own); 0 is for what was done.
 pub mod status {
