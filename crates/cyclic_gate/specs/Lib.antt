@@ -5,3 +5,5 @@ pub mod Seen
 pub mod Outcomes
 pub mod History
 pub mod Ledger
+pub mod Laws
+pub mod Wakers
