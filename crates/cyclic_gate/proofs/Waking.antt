@@ -96,7 +96,7 @@ told_later : (fails : Option ℕ) (ns : List Note) (m : Machine) (c i q : ℕ) �
 told_later fails [] m c i q waits right = refl
 told_later fails (n ∷ ns) m c i q waits right =
     rw right.0 (read_on fails c i q n.call m (answer fails n.call m) (first_end ns) (end_among fails ns (after fails n.call m)) refl waits.same (one_call fails n.call m c i q waits)
-        (λ next. told_later fails ns (after fails n.call m) c i q next right.1))
+    (λ next. told_later fails ns (after fails n.call m) c i q next right.1))
 
 abbrev index_in : Answer → ℕ
 index_in (Waiting i) = i
@@ -116,7 +116,7 @@ arrival fails c i p g ws false false true false e2 e3 e4 e = let no : false ≡ 
 arrival fails c i p g ws false false false b4 e2 e3 e4 e =
     let index : index_of p (length ws) ≡ i = ap index_in (rw (e2, e3) at e) in
     let last : Contains (indexed p 0 (ws ++ c ∷ [])) (c, index_of p (length ws)) =
-        rw (indexed-append p 0 (length ws) ws c (omega arith)) (Contains-push (indexed p 0 ws) (c, index_of p (length ws))) in
+    rw (indexed-append p 0 (length ws) ws c (omega arith)) (Contains-push (indexed p 0 ws) (c, index_of p (length ws))) in
     rw (e2, e3) (record { told = rw (sym index) last; here = is_in-push c ws; same = refl })
 
 -- notes are right behind those that are

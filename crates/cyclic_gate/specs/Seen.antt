@@ -7,6 +7,8 @@ use Rattle.cyclic_gate.specs.declared.call.Awaited.{Awaited}
 use Rattle.cyclic_gate.specs.declared.call.Awaited.TheVariants.{Waits, Tripped, ActionFailed, Broken}
 use Rattle.cyclic_gate.specs.declared.call.BarrierFault.{BarrierFault}
 use Rattle.cyclic_gate.specs.declared.call.BarrierFault.TheVariants.{NoParty, AlreadyWaiting, NotWaiting, TooMany, Memory}
+use Rattle.cyclic_gate.specs.declared.gate.GateFault.{GateFault}
+use Rattle.cyclic_gate.specs.declared.gate.GateFault.TheVariants as gate
 
 -- a barrier with its action
 pub record Core (F : Type 0) : Type 0 where
@@ -39,3 +41,17 @@ Ran post (Waits index) = Unit {0}
 Ran post (Tripped all) = post false
 Ran post (ActionFailed others) = post true
 Ran post Broken = Unit {0}
+
+-- the turn that a caller was given: its index, or 0 where it was the last
+abbrev pub GivesTurn : ℕ → Answer → Type 0
+GivesTurn index (Waiting i) = index ≡ i
+GivesTurn index (Trips all) = index ≡ 0
+GivesTurn index _ = ⊥
+
+-- Why a caller got no turn. Broken may come to one that waited too, and memory may run out.
+abbrev pub GivesNoTurn : GateFault → Answer → Type 0
+GivesNoTurn gate.Broken a = Unit {0}
+GivesNoTurn gate.ActionFailed (Fails others) = Unit {0}
+GivesNoTurn gate.ActionFailed _ = ⊥
+GivesNoTurn gate.AlreadyWaiting a = a ≡ Already
+GivesNoTurn gate.Memory a = Unit {0}

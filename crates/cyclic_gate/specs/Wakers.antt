@@ -60,5 +60,5 @@ LateWakersAreTold =
     → AreRight fails (before ++ note (Await caller) (Waiting index) ∷ later) (fresh parties)
     → answer fails (Await caller) (left_of parties fails before) ≡ Waiting index
     → IsTold fails caller index (left_of parties fails before).generation
-        (first_end (drop (length before + 1) (before ++ note (Await caller) (Waiting index) ∷ later)))
-        (end_among fails later (after fails (Await caller) (left_of parties fails before)))
+    (first_end (drop (length before + 1) (before ++ note (Await caller) (Waiting index) ∷ later)))
+    (end_among fails later (after fails (Await caller) (left_of parties fails before)))
