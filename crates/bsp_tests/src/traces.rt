@@ -91,7 +91,7 @@ fn refuses_texts_by_line_and_code(rt: HostRuntime) -> Result<(), Fail> {
     let rows = [
         ("", "refused line 1 code 3\n"),
         ("# only\n\n", "refused line 3 code 3\n"),
-        ("barrier 2\n", "refused line 1 code 3\n"),
+        ("gate 2\n", "refused line 1 code 3\n"),
         ("show\n", "refused line 1 code 3\n"),
         ("phaser\n", "refused line 1 code 7\n"),
         ("phaser x\n", "refused line 1 code 6\n"),
