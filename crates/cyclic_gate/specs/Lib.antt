@@ -1,5 +1,6 @@
 pub mod Machine
 pub mod Steps
+pub mod Found
 pub mod Runs
 pub mod Seen
 pub mod Outcomes

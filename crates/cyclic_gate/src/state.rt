@@ -1,14 +1,15 @@
 //! A barrier without its action: each call is one step.
-ghost use Rattle.std.specs.Prelude.{◌≡◌, ◌⊎◌, ◌↔◌, true, ◌<◌, ◌≤◌, ◌+◌, ◌++◌, ◌∷◌, [], length, ◌<ℤ◌, pos, IfOk, IfErr, MatchResult};
+ghost use Rattle.std.specs.Prelude.{◌≡◌, ◌⊎◌, ◌↔◌, true, ◌<◌, ◌≤◌, ◌+◌, ◌++◌, ◌∷◌, [], length, ◌<ℤ◌, pos, IfOk, IfErr, OnOk, OnErr, MatchResult, false};
 ghost use Rattle.advance_rule.specs.Action.{AnswersAction};
 ghost use Rattle.cyclic_gate.specs.Machine.{Machine, machine, fresh};
-ghost use Rattle.cyclic_gate.specs.Steps.{answer, after, indexed, Absent, Breaks, next_generation};
+ghost use Rattle.cyclic_gate.specs.Steps.{answer, after, indexed, is_in, joined, Absent, Breaks, next_generation};
 ghost use Rattle.cyclic_gate.specs.Seen.{answer_of, IsRefusal, Ran};
 ghost use Rattle.cyclic_gate.specs.declared.call.Call.TheVariants.{Await, Abandon, BreakOff, Reset};
 
 use crate::call::{Awaited, BarrierFault, MOST_PARTIES};
 use advance_rule::StoredAction;
 use std::alloc::{AllocError, Global};
+use std::collections::HashSet;
 use std::marker::Model;
 use std::mem;
 
@@ -19,17 +20,20 @@ pub struct BarrierState {
     parties: u32,
     generation: u64,
     waiting: Vec<u32>,
+    // the same callers, to be found at once
+    callers: HashSet<u32>,
     broken: bool,
 }
 
 impl Model for BarrierState {
     ghost use Rattle.cyclic_gate.specs.Machine.{Machine, machine, IsBarrier};
+    ghost use Rattle.cyclic_gate.specs.Found.{AreFound};
 
     ghost Value = { Machine };
 
     ghost view = { λ s. machine s.parties s.generation s.waiting.items s.broken };
 
-    ghost invariant = { λ s. IsBarrier (machine s.parties s.generation s.waiting.items s.broken) };
+    ghost invariant = { λ s. IsBarrier (machine s.parties s.generation s.waiting.items s.broken) × AreFound s.callers s.waiting.items };
 }
 
 // The generation after this one.
@@ -79,6 +83,7 @@ impl BarrierState {
                 parties,
                 generation: 0,
                 waiting: Vec::new(alloc),
+                callers: HashSet::new(alloc),
                 broken: false,
             }),
             Err(_) if parties < 1 => Err(BarrierFault::NoParty),
@@ -116,6 +121,28 @@ impl BarrierState {
         self.broken
     }
 
+    // Whether this caller waits.
+    fn is_waiting(&self, caller: u32) -> bool
+        ensures { result ≡ is_in caller self.now.waiting }
+    {
+        self.callers.contains(&caller)
+    }
+
+    // One more caller waits.
+    fn join(&mut self, caller: u32) -> Result<(), AllocError>
+        requires room { length self.old.waiting + 1 < self.old.parties }
+        requires whole { self.old.broken ≡ false }
+        ensures ok { OnOk result (self.new ≡ joined caller self.old) }
+        ensures err { OnErr result (self.new ≡ self.old) }
+    {
+        self.waiting.reserve(1)?;
+        if self.callers.insert(caller).is_err() {
+            return Err(AllocError);
+        }
+        self.waiting.push_reserved(caller);
+        Ok(())
+    }
+
     /// Arrives as this caller (Java SE 21, `CyclicBarrier.await`). The last to arrive runs the action.
     /// Refused with `AlreadyWaiting` exactly where the caller waits (own).
     pub fn await_step<F: Fn(u64) -> bool>(
@@ -135,12 +162,12 @@ impl BarrierState {
         if self.broken {
             return Ok(Awaited::Broken);
         }
-        if self.waiting.contains(&caller) {
+        if self.is_waiting(caller) {
             return Err(BarrierFault::AlreadyWaiting);
         }
         let others = self.waiting.len() as u32;
         if others + 1 < self.parties {
-            return match self.waiting.push(caller) {
+            return match self.join(caller) {
                 Ok(()) => Ok(Awaited::Waits(self.parties - 1 - others)),
                 Err(_) => Err(BarrierFault::Memory),
             };
@@ -153,6 +180,7 @@ impl BarrierState {
             return Ok(Awaited::ActionFailed(self.break_off()));
         }
         self.waiting.clear();
+        self.callers.clear();
         self.generation = generation_after(self.generation);
         Ok(Awaited::Tripped(list))
     }
@@ -168,11 +196,12 @@ impl BarrierState {
             (λ l. self.new ≡ after None (Abandon caller) self.old)
             (λ e. self.new ≡ self.old) }
     {
-        if !self.waiting.contains(&caller) {
+        if !self.is_waiting(caller) {
             return Err(BarrierFault::NotWaiting);
         }
-        self.waiting.retain(|other| *other != caller);
-        Ok(self.break_off())
+        let mut others = self.break_off();
+        others.retain(|other| *other != caller);
+        Ok(others)
     }
 
     /// Breaks the barrier, and answers those who get Broken, in order of arrival (own).
@@ -181,6 +210,7 @@ impl BarrierState {
         ensures state { self.new ≡ after None BreakOff self.old }
     {
         self.broken = true;
+        self.callers.clear();
         let alloc = *self.waiting.allocator();
         mem::replace(&mut self.waiting, Vec::new(alloc))
     }
@@ -193,6 +223,7 @@ impl BarrierState {
     {
         self.broken = false;
         self.generation = generation_after(self.generation);
+        self.callers.clear();
         let alloc = *self.waiting.allocator();
         mem::replace(&mut self.waiting, Vec::new(alloc))
     }
