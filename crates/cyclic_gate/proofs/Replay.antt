@@ -1,6 +1,6 @@
-use Rattle.std.proofs.Common.{drop, get_or, length, drop-cons, ◌+◌, ◌<◌, arith, nat_lt, ◌||◌, ◌≡◌, ℕ, Bool, true, false, if◌then◌else◌, Option, List, [], ◌∷◌, ◌++◌, refl, ap, sym, ◌∙◌, subst}
+use Rattle.std.proofs.Common.{◌<◌, arith, nat_lt, ◌||◌, ◌≡◌, ℕ, Bool, true, false, if◌then◌else◌, Option, List, [], ◌∷◌, ◌++◌, refl, ap, sym, ◌∙◌, subst}
 use Rattle.cyclic_gate.specs.Machine.{Machine, machine, fresh}
-use Rattle.cyclic_gate.specs.Steps.{Answer, Waiting, Trips, Fails, IsBroken, Breaks, Already, Absent, is_in, is_full_by_one, answer, after, broken_off, renewed, joined, others}
+use Rattle.cyclic_gate.specs.Steps.{is_in, is_full_by_one, answer, after, broken_off, renewed, joined}
 use Rattle.advance_rule.specs.Action.{fails_at}
 use Rattle.cyclic_gate.specs.Runs.{after_all, AfterSome}
 use Rattle.cyclic_gate.specs.History.{outcome_of, note, calls_of, AreRight}
@@ -9,7 +9,6 @@ use Rattle.cyclic_gate.specs.declared.call.Call.{Call}
 use Rattle.cyclic_gate.specs.declared.call.Call.TheVariants.{Await, Abandon, BreakOff, Reset}
 use Rattle.cyclic_gate.specs.declared.ledger.Note.{Note}
 use Rattle.cyclic_gate.specs.declared.ledger.Outcome.{Outcome}
-use Rattle.cyclic_gate.specs.declared.ledger.Outcome.TheVariants.{GoesOn, Tripped, Broken}
 use Rattle.std.proofs.lemmas.Bool.Decides.{nat_tests}
 
 replayed-append : (fails : Option ℕ) (ns : List Note) (n : Note) (m : Machine) → after_all fails (calls_of (ns ++ n ∷ [])) m ≡ after fails n.call (after_all fails (calls_of ns) m)

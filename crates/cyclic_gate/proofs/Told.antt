@@ -1,8 +1,8 @@
-use Rattle.std.proofs.Common.{◌≡◌, ℕ, ◌+◌, ◌-◌, ◌<◌, ◌≤◌, ◌==◌, Bool, true, false, if◌then◌else◌, Option, List, [], ◌∷◌, ◌++◌, length, refl, ap, sym, ◌∙◌, arith, subst}
+use Rattle.std.proofs.Common.{◌≡◌, ℕ, ◌+◌, ◌==◌, Bool, true, false, if◌then◌else◌, Option, List, [], ◌∷◌, ◌++◌, length, refl, ap, sym, ◌∙◌, arith}
 use Rattle.std.proofs.lemmas.Bool.Decides.{nat_tests}
 use Rattle.advance_rule.specs.Action.{fails_at}
 use Rattle.cyclic_gate.specs.Machine.{Machine, machine, fresh}
-use Rattle.cyclic_gate.specs.Steps.{Answer, Waiting, Trips, Fails, IsBroken, Breaks, Already, Absent, is_in, others, indexed, index_of, answer, after}
+use Rattle.cyclic_gate.specs.Steps.{Answer, Breaks, Absent, is_in, others, indexed, index_of, answer, after}
 use Rattle.cyclic_gate.specs.Laws.{callers_of, told_after, EndsTold, RunEndsTold, EndsNameTheTold}
 use Rattle.cyclic_gate.proofs.Indexed.{indexed-append}
 use Rattle.cyclic_gate.proofs.Trips.{callers_of-indexed}

@@ -1,8 +1,8 @@
-use Rattle.std.proofs.Common.{◌≡◌, ℕ, zero, suc, ◌+◌, ◌-◌, ◌<◌, ◌≤◌, ◌==◌, Bool, true, false, not, ◌||◌, eqb, nat_lt, if◌then◌else◌, Option, List, [], ◌∷◌, ◌++◌, length, filter, refl, ap, sym, ◌∙◌, arith, subst, length-append}
+use Rattle.std.proofs.Common.{◌≡◌, ℕ, ◌+◌, ◌-◌, ◌<◌, ◌≤◌, ◌==◌, Bool, true, false, nat_lt, if◌then◌else◌, Option, List, [], ◌∷◌, ◌++◌, length, refl, ap, sym, ◌∙◌, arith, subst, length-append}
 use Rattle.std.proofs.lemmas.Bool.Decides.{nat_tests}
 use Rattle.advance_rule.specs.Action.{fails_at}
 use Rattle.cyclic_gate.specs.Machine.{Machine, machine, fresh}
-use Rattle.cyclic_gate.specs.Steps.{Answer, Waiting, Trips, Fails, IsBroken, Breaks, Already, Absent, is_in, others, indexed, index_of, answer, after}
+use Rattle.cyclic_gate.specs.Steps.{Answer, Breaks, Absent, is_in, others, indexed, answer, after}
 use Rattle.cyclic_gate.specs.Runs.{answers}
 use Rattle.cyclic_gate.specs.Laws.{times, callers_of, indices_of, GivesEachOnce, IsRightTrip, AllRight, TripsGiveEachOnce}
 use Rattle.cyclic_gate.specs.declared.call.Call.{Call}

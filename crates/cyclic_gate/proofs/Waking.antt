@@ -1,4 +1,4 @@
-use Rattle.std.proofs.Common.{◌≡◌, ◌⊎◌, inl, inr, ℕ, ◌+◌, ◌-◌, ◌<◌, ◌≤◌, ◌==◌, Bool, true, false, not, ◌||◌, eqb, if◌then◌else◌, Option, None, Some, List, [], ◌∷◌, ◌++◌, length, filter, drop, refl, ap, sym, ◌∙◌, arith}
+use Rattle.std.proofs.Common.{◌≡◌, ◌⊎◌, inl, inr, ℕ, ◌+◌, ◌==◌, Bool, true, false, ◌||◌, eqb, if◌then◌else◌, Option, Some, List, [], ◌∷◌, ◌++◌, length, refl, ap, sym, arith}
 use Rattle.std.proofs.Math.Seq.{drop-append-add}
 use Rattle.std.proofs.lemmas.Bool.Decides.{nat_tests}
 use Rattle.std.proofs.lemmas.List.Elements.{Contains-append_left, Contains-push}
@@ -9,13 +9,12 @@ use Rattle.cyclic_gate.specs.Steps.{Answer, Waiting, Trips, Fails, IsBroken, Bre
 use Rattle.cyclic_gate.specs.Runs.{after_all}
 use Rattle.cyclic_gate.specs.History.{outcome_of, note, calls_of, AreRight, first_end}
 use Rattle.cyclic_gate.specs.Outcomes.{end_or}
-use Rattle.cyclic_gate.specs.Wakers.{is_end, End, end_among, GivesIndex, GivesBroken, IsTold, left_of, LateWakersAreTold}
+use Rattle.cyclic_gate.specs.Wakers.{is_end, End, end_among, IsTold, left_of, LateWakersAreTold}
 use Rattle.cyclic_gate.proofs.Indexed.{indexed-append}
 use Rattle.cyclic_gate.specs.declared.call.Call.{Call}
 use Rattle.cyclic_gate.specs.declared.call.Call.TheVariants.{Await, Abandon, BreakOff, Reset}
 use Rattle.cyclic_gate.specs.declared.ledger.Note.{Note}
 use Rattle.cyclic_gate.specs.declared.ledger.Outcome.{Outcome}
-use Rattle.cyclic_gate.specs.declared.ledger.Outcome.TheVariants.{GoesOn, Tripped, Broken}
 
 -- who stands in a list stands in it with one more behind
 is_in-append : (c : ℕ) (ws : List ℕ) (d : ℕ) → is_in c ws ≡ true → is_in c (ws ++ d ∷ []) ≡ true

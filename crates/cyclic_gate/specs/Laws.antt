@@ -1,10 +1,10 @@
 -- What a barrier promises over whole runs, in the words of those who use it (Java SE 21, `CyclicBarrier`).
 use Rattle.std.specs.Prelude.{◌≡◌, ℕ, ◌+◌, ◌<◌, ◌≤◌, ◌==◌, nat_lt, if◌then◌else◌, List, [], ◌∷◌, ◌++◌, Option}
 use Rattle.cyclic_gate.specs.Machine.{Machine, fresh}
-use Rattle.cyclic_gate.specs.Steps.{Answer, Waiting, Trips, Fails, IsBroken, Breaks, Already, Absent, answer, after, others}
+use Rattle.cyclic_gate.specs.Steps.{Answer, Waiting, Trips, Fails, Breaks, answer, after, others}
 use Rattle.cyclic_gate.specs.Runs.{answers}
 use Rattle.cyclic_gate.specs.declared.call.Call.{Call}
-use Rattle.cyclic_gate.specs.declared.call.Call.TheVariants.{Await, Abandon, BreakOff, Reset}
+use Rattle.cyclic_gate.specs.declared.call.Call.TheVariants.{Await, Abandon}
 
 -- how often a number stands in a list
 abbrev pub times : ℕ → List ℕ → ℕ

@@ -1,5 +1,5 @@
 -- A barrier beside the history of its calls (own).
-use Rattle.std.specs.Prelude.{◌≡◌, ℕ, Bool, true, ◌||◌, nat_lt, if◌then◌else◌, List, [], ◌∷◌, ◌++◌, Option}
+use Rattle.std.specs.Prelude.{◌≡◌, ℕ, true, ◌||◌, nat_lt, if◌then◌else◌, List, [], ◌∷◌, ◌++◌, Option}
 use Rattle.cyclic_gate.specs.Machine.{Machine, fresh}
 use Rattle.cyclic_gate.specs.Steps.{answer, after}
 use Rattle.cyclic_gate.specs.Runs.{after_all}

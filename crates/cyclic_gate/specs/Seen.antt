@@ -2,7 +2,7 @@
 use Rattle.std.specs.Prelude.{◌≡◌, ℕ, Bool, true, false, Option}
 use Rattle.advance_rule.specs.Stored.{Stored}
 use Rattle.cyclic_gate.specs.Machine.{Machine}
-use Rattle.cyclic_gate.specs.Steps.{Answer, Waiting, Trips, Fails, IsBroken, Breaks, Already, Absent}
+use Rattle.cyclic_gate.specs.Steps.{Answer, Waiting, Trips, Fails, IsBroken, Already, Absent}
 use Rattle.cyclic_gate.specs.declared.call.Awaited.{Awaited}
 use Rattle.cyclic_gate.specs.declared.call.Awaited.TheVariants.{Waits, Tripped, ActionFailed, Broken}
 use Rattle.cyclic_gate.specs.declared.call.BarrierFault.{BarrierFault}

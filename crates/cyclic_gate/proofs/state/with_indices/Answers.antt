@@ -1,4 +1,4 @@
-use Rattle.std.proofs.Common.{◌≡◌, ℕ, ◌+◌, ◌-◌, ◌<◌, ◌≤◌, List, [], ◌∷◌, ◌++◌, length, get_or, ap, sym, ◌∙◌, arith}
+use Rattle.std.proofs.Common.{ℕ, ◌-◌, List, [], ◌∷◌, ◌++◌, get_or, ap, sym, ◌∙◌, arith}
 use Rattle.cyclic_gate.proofs.Indexed.{indexed_more, indexed_last}
 use Rattle.cyclic_gate.proofs.state.with_indices.Goals as goal
 

@@ -1,11 +1,9 @@
-use Rattle.std.proofs.Common.{◌≡◌, ℕ, false, ◌+◌, ◌<◌, ◌≤◌, Option, List, [], ◌∷◌, ◌++◌, refl, ap, sym, ◌∙◌, arith}
-use Rattle.cyclic_gate.specs.Machine.{Machine}
-use Rattle.cyclic_gate.specs.Steps.{Answer, answer, after}
+use Rattle.std.proofs.Common.{List, [], ◌∷◌, ◌++◌, ap, sym, ◌∙◌, arith}
 use Rattle.cyclic_gate.specs.History.{outcome_of}
 use Rattle.cyclic_gate.specs.declared.ledger.Note.{Note}
 use Rattle.cyclic_gate.specs.declared.ledger.Outcome.TheVariants.{Broken}
-use Rattle.cyclic_gate.specs.declared.call.Call.TheVariants.{Abandon, BreakOff, Reset}
-use Rattle.cyclic_gate.proofs.Replay.{replay_noted, has_place, broken_place, place_left}
+use Rattle.cyclic_gate.specs.declared.call.Call.TheVariants.{Abandon}
+use Rattle.cyclic_gate.proofs.Replay.{replay_noted, has_place}
 use Rattle.cyclic_gate.proofs.ledger.Ledger.abandon.Goals as goal
 
 pub invariant_of-self-in-Ok-abandon : goal.invariant_of-self-in-Ok-abandon

@@ -1,6 +1,5 @@
-use Rattle.std.proofs.Common.{◌≡◌, ℕ, ◌+◌, ◌<◌, ◌≤◌, Option, List, [], ◌∷◌, ◌++◌, ap, sym, ◌∙◌, arith}
-use Rattle.cyclic_gate.specs.Machine.{Machine}
-use Rattle.cyclic_gate.specs.Steps.{Answer, answer, after}
+use Rattle.std.proofs.Common.{◌≡◌, ℕ, Option, List, [], ◌∷◌, ◌++◌, ap, sym, ◌∙◌, arith}
+use Rattle.cyclic_gate.specs.Steps.{answer, after}
 use Rattle.cyclic_gate.specs.History.{outcome_of}
 use Rattle.cyclic_gate.specs.Ledger.{Book}
 use Rattle.cyclic_gate.specs.declared.ledger.Note.{Note}

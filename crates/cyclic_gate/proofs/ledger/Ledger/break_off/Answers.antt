@@ -1,11 +1,8 @@
-use Rattle.std.proofs.Common.{◌≡◌, ℕ, false, ◌+◌, ◌<◌, ◌≤◌, Option, List, [], ◌∷◌, ◌++◌, refl, ap, sym, ◌∙◌, arith}
+use Rattle.std.proofs.Common.{refl, ap, sym}
 use Rattle.cyclic_gate.specs.Machine.{Machine}
-use Rattle.cyclic_gate.specs.Steps.{Answer, answer, after}
-use Rattle.cyclic_gate.specs.History.{outcome_of}
-use Rattle.cyclic_gate.specs.declared.ledger.Note.{Note}
 use Rattle.cyclic_gate.specs.declared.ledger.Outcome.TheVariants.{Broken}
-use Rattle.cyclic_gate.specs.declared.call.Call.TheVariants.{Abandon, BreakOff, Reset}
-use Rattle.cyclic_gate.proofs.Replay.{replay_noted, has_place, broken_place, place_left}
+use Rattle.cyclic_gate.specs.declared.call.Call.TheVariants.{BreakOff}
+use Rattle.cyclic_gate.proofs.Replay.{replay_noted, broken_place, place_left}
 use Rattle.cyclic_gate.proofs.ledger.Ledger.break_off.Goals as goal
 
 pub push_reserved-requires : goal.push_reserved-requires

@@ -1,11 +1,8 @@
-use Rattle.std.proofs.Common.{◌≡◌, ℕ, false, ◌+◌, ◌<◌, ◌≤◌, Option, List, [], ◌∷◌, ◌++◌, refl, ap, sym, ◌∙◌, arith}
-use Rattle.cyclic_gate.specs.Machine.{Machine}
-use Rattle.cyclic_gate.specs.Steps.{Answer, answer, after}
-use Rattle.cyclic_gate.specs.History.{outcome_of}
+use Rattle.std.proofs.Common.{List, [], ◌∷◌, ◌++◌, refl, ap, ◌∙◌, arith}
 use Rattle.cyclic_gate.specs.declared.ledger.Note.{Note}
 use Rattle.cyclic_gate.specs.declared.ledger.Outcome.TheVariants.{Broken}
-use Rattle.cyclic_gate.specs.declared.call.Call.TheVariants.{Abandon, BreakOff, Reset}
-use Rattle.cyclic_gate.proofs.Replay.{replay_noted, has_place, broken_place, place_left}
+use Rattle.cyclic_gate.specs.declared.call.Call.TheVariants.{Reset}
+use Rattle.cyclic_gate.proofs.Replay.{replay_noted, has_place}
 use Rattle.cyclic_gate.proofs.ledger.Ledger.reset.Goals as goal
 
 pub invariant_of-self-2 : goal.invariant_of-self-2
