@@ -1,4 +1,5 @@
-//! Rules that say when a phaser ends: closures, each beside the plan that says what it answers.
+//! Rules that say when a phaser ends or the action of a barrier fails: closures, each beside the plan that
+//! says what it answers.
 #![tactic(auto)]
 
 ghost use Rattle.std.specs.Prelude.{◌≡◌, ◌≤◌};
@@ -8,6 +9,10 @@ ghost use Rattle.advance_rule.specs.declared.CountPlan.{CountPlan};
 ghost use Rattle.advance_rule.specs.declared.EndPlan.{EndPlan};
 
 use std::marker::Model;
+
+mod action;
+
+pub use action::StoredAction;
 
 /// When a phaser ends at an advance: with fewer registered parties than `least`, or at the end of
 /// phase `at` (own; Java SE 21's default for `Phaser.onAdvance` is `least` 1 and no `at`).

@@ -10,7 +10,7 @@ use row::{Row, row_of};
 use std::alloc::{AllocError, Global};
 use std::fs;
 
-const TRACES: [&str; 5] = ["end", "first", "phases", "plan", "refusals"];
+const TRACES: [&str; 6] = ["barrier", "end", "first", "phases", "plan", "refusals"];
 
 const JOBS: [&str; 5] = ["breadth", "halves", "prefix", "sort", "swap"];
 

@@ -9,7 +9,8 @@ use Rattle.text_lines.specs.Text.{words_of, is_skipped}
 use Rattle.flat_phaser.proofs.Everyone.{either}
 use Rattle.trace_text.specs.Words.{Word, command_of}
 use Rattle.trace_text.specs.TreeWords.{tree_command_of, brings_token}
-use Rattle.trace_text.specs.Trace.{Head, OfPhaser, OfTree, Asked, AsksPhaser, AsksTree, ◌>>=◌, at, counted, tokens_with, commands_from, brings_none, head_of, below, asked_from}
+use Rattle.trace_text.specs.BarrierWords.{barrier_command_of}
+use Rattle.trace_text.specs.Trace.{Head, OfPhaser, OfTree, OfBarrier, Asked, AsksPhaser, AsksTree, AsksBarrier, ◌>>=◌, at, counted, tokens_with, commands_from, brings_none, head_of, below, asked_from}
 use Rattle.trace_text.specs.Laws.{kept, SaysCommands, SaysAsked, SayAsked, LinesSayWhatIsAsked}
 
 -- an Ok of two steps comes from an Ok of each
@@ -216,11 +217,16 @@ below_said words (OfTree h) line ls asked e b =
     let cs = bound (commands_from tree_command_of brings_token line 0 0 ls) (λ commands. Ok (AsksTree h commands)) asked b in
     let is : ◌≡◌ {A = Asked} (AsksTree h cs.0) asked = cc in
     rw (← is) (e, all_said tree_command_of brings_token line ls cs.0 cs.1)
+below_said words (OfBarrier h) line ls asked e b =
+    let cs = bound (commands_from barrier_command_of brings_none line 0 0 ls) (λ commands. Ok (AsksBarrier h commands)) asked b in
+    let is : ◌≡◌ {A = Asked} (AsksBarrier h cs.0) asked = cc in
+    rw (← is) (e, all_said barrier_command_of brings_none line ls cs.0 cs.1)
 
 below_told : (words : List Word) (line : ℕ) (ls : List (List ℕ)) (asked : Asked) → SaysAsked words (kept ls) asked
     → (at line (head_of words) >>= λ head. below head (line + 1) ls) ≡ Ok asked
 below_told words line ls (AsksPhaser h cs) s = let told = all_told command_of brings_none (line + 1) ls cs s.1 in rw (s.0, told) refl
 below_told words line ls (AsksTree h cs) s = let told = all_told tree_command_of brings_token (line + 1) ls cs s.1 in rw (s.0, told) refl
+below_told words line ls (AsksBarrier h cs) s = let told = all_told barrier_command_of brings_none (line + 1) ls cs s.1 in rw (s.0, told) refl
 
 -- and the head above them
 pub asked_said : (line : ℕ) (ls : List (List ℕ)) (asked : Asked) → asked_from line ls ≡ Ok asked → SayAsked (kept ls) asked

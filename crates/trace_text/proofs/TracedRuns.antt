@@ -10,7 +10,10 @@ use Rattle.trace_text.specs.declared.words.PhaserCommand.{PhaserCommand}
 use Rattle.trace_text.specs.declared.tree_words.TreeCommand.{TreeCommand}
 use Rattle.trace_text.specs.TreeWords.{TreeAsked}
 use Rattle.trace_text.specs.TreeAnswers.{tree_opened_text}
-use Rattle.trace_text.specs.Trace.{Asked, AsksPhaser, AsksTree, asked_of}
+use Rattle.trace_text.specs.declared.barrier_words.BarrierCommand.{BarrierCommand}
+use Rattle.trace_text.specs.declared.barrier_words.BarrierHead.{BarrierHead}
+use Rattle.trace_text.specs.BarrierAnswers.{barrier_opened_text}
+use Rattle.trace_text.specs.Trace.{Asked, AsksPhaser, AsksTree, AsksBarrier, asked_of}
 use Rattle.advance_rule.specs.declared.CountPlan.{CountPlan}
 use Rattle.phaser_one.specs.Calls.{opened}
 use Rattle.trace_text.specs.Runs.{run_text}
@@ -53,6 +56,11 @@ pub tree_output : (old new : Option (List ℕ)) (result : Result (Unit {0}) Trac
     → Writes old new result (tree_opened_text h cs) → Writes old new result (output_of (AsksTree h cs))
 unfolding output_of
 tree_output old new result h cs w = w
+
+pub barrier_output : (old new : Option (List ℕ)) (result : Result (Unit {0}) TraceFault) (h : BarrierHead) (cs : List BarrierCommand)
+    → Writes old new result (barrier_opened_text h cs) → Writes old new result (output_of (AsksBarrier h cs))
+unfolding output_of
+barrier_output old new result h cs w = w
 
 -- so many parties that a phaser was made of
 few_parties : (n : ℕ) (parties : ℤ) → pos n ≡ parties → ((parties <ℤ pos 0) ⊎ (pos 65535 <ℤ parties) → ⊥) → nat_le n 65535 ≡ true

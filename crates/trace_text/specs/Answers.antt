@@ -14,8 +14,9 @@ use Rattle.trace_text.specs.declared.words.PhaserCommand.{PhaserCommand}
 use Rattle.trace_text.specs.declared.words.PhaserCommand.TheVariants.{Call, Show}
 use Rattle.trace_text.specs.Lines.{advance_line}
 use Rattle.trace_text.specs.Runs.{run_text}
-use Rattle.trace_text.specs.Trace.{Asked, AsksPhaser, AsksTree}
+use Rattle.trace_text.specs.Trace.{Asked, AsksPhaser, AsksTree, AsksBarrier}
 use Rattle.trace_text.specs.TreeAnswers.{tree_opened_text}
+use Rattle.trace_text.specs.BarrierAnswers.{barrier_opened_text}
 
 abbrev pub fault_text : OneFault → List ℕ
 fault_text TooMany = codes "refused 1 TooMany\n"
@@ -55,3 +56,4 @@ opened_text plan commands phase (pos n) =
 unfoldable pub output_of : Asked → List ℕ
 output_of (AsksPhaser head commands) = opened_text head.plan commands head.phase head.parties
 output_of (AsksTree head commands) = tree_opened_text head commands
+output_of (AsksBarrier head commands) = barrier_opened_text head commands

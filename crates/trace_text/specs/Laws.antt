@@ -8,7 +8,8 @@ use Rattle.trace_text.specs.declared.words.PhaserCommand.{PhaserCommand}
 use Rattle.trace_text.specs.declared.words.PhaserCommand.TheVariants.{Call, Show}
 use Rattle.trace_text.specs.Words.{Word, command_of}
 use Rattle.trace_text.specs.TreeWords.{tree_command_of, brings_token}
-use Rattle.trace_text.specs.Trace.{OfPhaser, OfTree, Asked, AsksPhaser, AsksTree, head_of, brings_none, asked_from}
+use Rattle.trace_text.specs.BarrierWords.{barrier_command_of}
+use Rattle.trace_text.specs.Trace.{OfPhaser, OfTree, OfBarrier, Asked, AsksPhaser, AsksTree, AsksBarrier, head_of, brings_none, asked_from}
 use Rattle.text_lines.specs.declared.refusal.Code.{Code}
 
 -- the lines that aren't skipped, as their words
@@ -25,6 +26,7 @@ pub record SaysCommands {C : Type 0} (says : List Word → Result C Code) (bring
 abbrev pub SaysAsked : List Word → List (List Word) → Asked → Type 0
 SaysAsked head rest (AsksPhaser h commands) = (head_of head ≡ Ok (OfPhaser h)) × SaysCommands command_of brings_none rest commands
 SaysAsked head rest (AsksTree h commands) = (head_of head ≡ Ok (OfTree h)) × SaysCommands tree_command_of brings_token rest commands
+SaysAsked head rest (AsksBarrier h commands) = (head_of head ≡ Ok (OfBarrier h)) × SaysCommands barrier_command_of brings_none rest commands
 
 -- The lines that aren't skipped are a head and commands, in this order.
 pub record SayAsked (lines : List (List Word)) (asked : Asked) : Type 0 where

@@ -1,10 +1,12 @@
 pub mod Words
 pub mod TreeWords
+pub mod BarrierWords
 pub mod Parts
 pub mod Trace
 pub mod Lines
 pub mod Runs
 pub mod TreeAnswers
+pub mod BarrierAnswers
 pub mod Answers
 pub mod Gives
 pub mod Views

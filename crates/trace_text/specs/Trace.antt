@@ -8,6 +8,9 @@ use Rattle.text_lines.specs.Text.{lines_of, words_of, is_skipped, bad_byte_line}
 use Rattle.trace_text.specs.declared.words.PhaserCommand.{PhaserCommand}
 use Rattle.trace_text.specs.declared.words.PhaserHead.{PhaserHead}
 use Rattle.trace_text.specs.declared.tree_words.TreeCommand.{TreeCommand}
+use Rattle.trace_text.specs.declared.barrier_words.BarrierCommand.{BarrierCommand}
+use Rattle.trace_text.specs.declared.barrier_words.BarrierHead.{BarrierHead}
+use Rattle.trace_text.specs.BarrierWords.{barrier_head_words, barrier_numbered, barrier_command_of}
 use Rattle.trace_text.specs.Words.{Word, head_words, numbered, command_of}
 use Rattle.trace_text.specs.TreeWords.{TreeAsked, tree_head_words, tree_numbered, tree_command_of, brings_token, made}
 
@@ -21,25 +24,28 @@ abbrev pub at : {A : Type 0} → ℕ → Result A Code → Result A Refusal
 at line (Ok x) = Ok x
 at line (Err code) = Err (record { line = line; code = code })
 
--- what a head asks for: a phaser or a tree
+-- what a head asks for: a phaser, a tree or a barrier
 pub data Head : Type 0 where
   OfPhaser : PhaserHead → Head
   OfTree : TreeAsked → Head
+  OfBarrier : BarrierHead → Head
 
 abbrev pub head_of : List Word → Result Head Code
 head_of [] = Err BadHeader
 head_of (w ∷ ws) =
     if bytes_eq w (codes "phaser") then made OfPhaser (numbered (head_words ws))
     else if bytes_eq w (codes "tree") then made OfTree (tree_numbered (tree_head_words ws))
+    else if bytes_eq w (codes "barrier") then made OfBarrier (barrier_numbered (barrier_head_words ws))
     else Err BadHeader
 
 -- a head, and the commands below it
 pub data Asked : Type 0 where
   AsksPhaser : PhaserHead → List PhaserCommand → Asked
   AsksTree : TreeAsked → List TreeCommand → Asked
+  AsksBarrier : BarrierHead → List BarrierCommand → Asked
 
--- no command of a phaser brings a token in
-abbrev pub brings_none : PhaserCommand → Bool
+-- no command of a phaser or of a barrier brings a token in
+abbrev pub brings_none : {C : Type 0} → C → Bool
 brings_none c = false
 
 -- at most 4096 commands, of which at most 256 bring a token in, behind so many of each
@@ -62,6 +68,7 @@ commands_from says brings line count tokens (l ∷ ls) =
 abbrev pub below : Head → ℕ → List (List ℕ) → Result Asked Refusal
 below (OfPhaser head) line ls = commands_from command_of brings_none line 0 0 ls >>= λ cs. Ok (AsksPhaser head cs)
 below (OfTree head) line ls = commands_from tree_command_of brings_token line 0 0 ls >>= λ cs. Ok (AsksTree head cs)
+below (OfBarrier head) line ls = commands_from barrier_command_of brings_none line 0 0 ls >>= λ cs. Ok (AsksBarrier head cs)
 
 -- the head and the commands of the lines from this number on
 abbrev pub asked_from : ℕ → List (List ℕ) → Result Asked Refusal

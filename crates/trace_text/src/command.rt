@@ -2,10 +2,12 @@
 ghost use Rattle.std.specs.Prelude.{◌≡◌, ℕ, Bool, List, Ok, Err, Result, IfOk, IfSome, MatchOption, MatchResult, ⊤, true, false};
 ghost use Rattle.text_lines.specs.declared.refusal.Code.{Code};
 ghost use Rattle.text_lines.specs.Text.{words_of, is_skipped};
+ghost use Rattle.trace_text.specs.BarrierWords.{barrier_command_of};
 ghost use Rattle.trace_text.specs.Trace.{brings_none};
 ghost use Rattle.trace_text.specs.TreeWords.{tree_command_of, brings_token, InRange};
 ghost use Rattle.trace_text.specs.Words.{command_of};
 
+use crate::barrier_words::{BarrierCommand, read_barrier_command};
 use crate::tree_words::{TreeCommand, read_tree_command};
 use crate::words::{PhaserCommand, read_command};
 use text_lines::Code;
@@ -43,6 +45,22 @@ impl Command for PhaserCommand {
 
     fn read(line: &[u8]) -> Result<Option<Self>, Code> {
         read_command(line)
+    }
+
+    fn brings_token(self) -> bool {
+        false
+    }
+}
+
+impl Command for BarrierCommand {
+    ghost says = { barrier_command_of };
+
+    ghost brings = { brings_none };
+
+    ghost fits = { λ _. ⊤ };
+
+    fn read(line: &[u8]) -> Result<Option<Self>, Code> {
+        read_barrier_command(line)
     }
 
     fn brings_token(self) -> bool {

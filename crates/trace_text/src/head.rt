@@ -4,6 +4,7 @@ ghost use Rattle.text_lines.specs.Text.{words_of, is_skipped};
 ghost use Rattle.trace_text.specs.Trace as spec;
 ghost use Rattle.trace_text.specs.Views.{head_in, first_phase};
 
+use crate::barrier_words::{BarrierHead, read_barrier_head};
 use crate::tree_words::{TreeHead, read_tree_head};
 use crate::words::{PhaserHead, read_phaser_head};
 use text_lines::{Code, first_word};
@@ -15,6 +16,8 @@ pub enum Head<'a> {
     Phaser(PhaserHead),
     /// A tree of phasers.
     Tree(TreeHead<'a>),
+    /// A barrier.
+    Barrier(BarrierHead),
 }
 
 /// The head of a line, or none where the line is skipped.
@@ -37,6 +40,12 @@ pub(crate) fn read_head(line: &[u8]) -> Result<Option<Head<'_>>, Code>
     if word == b"tree".as_slice() {
         return match read_tree_head(rest) {
             Ok(head) => Ok(Some(Head::Tree(head))),
+            Err(code) => Err(code),
+        };
+    }
+    if word == b"barrier".as_slice() {
+        return match read_barrier_head(rest) {
+            Ok(head) => Ok(Some(Head::Barrier(head))),
             Err(code) => Err(code),
         };
     }

@@ -1,6 +1,9 @@
-//! Traces of phasers: calls as lines of text in, answers as lines of text out.
+//! Traces of phasers, trees of phasers and barriers: calls as lines of text in, answers as lines of text out.
 #![tactic(auto)]
 
+mod barrier;
+mod barrier_print;
+mod barrier_words;
 mod command;
 mod fault;
 mod head;
@@ -13,6 +16,7 @@ mod tree_print;
 mod tree_words;
 mod words;
 
+pub use barrier_words::{BarrierCommand, BarrierHead};
 pub use fault::TraceFault;
 pub use head::Head;
 pub use laws::{commands_are_spelled, lines_say_what_is_asked};

@@ -1,10 +1,12 @@
-//! Traces run on a phaser.
+//! Traces run on a phaser, a tree of phasers or a barrier.
 ghost use Rattle.std.specs.Prelude.{◌≡◌, ◌≤◌, [], ◌++◌, All, OnOk};
 ghost use Rattle.advance_rule.specs.Plan.{count_ends};
+ghost use Rattle.advance_rule.specs.Action.{AnswersAction};
 ghost use Rattle.advance_rule.specs.Stored.{Answers};
 ghost use Rattle.flat_phaser.specs.Flat.{Flat};
 ghost use Rattle.flat_phaser.specs.Alike.{IsAlike};
 ghost use Rattle.phaser_one.specs.Seen.{flat_of};
+ghost use Rattle.trace_text.specs.BarrierAnswers.{barrier_text, barrier_after, barrier_opened_text};
 ghost use Rattle.trace_text.specs.Answers.{command_text, command_after, opened_text};
 ghost use Rattle.trace_text.specs.Runs.{run_text};
 ghost use Rattle.trace_text.specs.TreeAnswers.{tree_text, tree_after, tree_opened_text};
@@ -12,6 +14,9 @@ ghost use Rattle.trace_text.specs.TreeWords.{InRange};
 ghost use Rattle.trace_text.specs.Parts.{tree_asked};
 ghost use Rattle.trace_text.specs.Outcome.{WriteCause, Writes, Moves, ReadsCause, Traces};
 
+use crate::barrier::push_barrier_command;
+use crate::barrier_print::barrier_fault_line;
+use crate::barrier_words::{BarrierCommand, BarrierHead};
 use crate::fault::TraceFault;
 use crate::print::{fault_line, push_advance, push_reply, push_show};
 use crate::trace::{Trace, read_trace};
@@ -19,7 +24,8 @@ use crate::tree::push_tree_command;
 use crate::tree_print::shape_fault_line;
 use crate::tree_words::{TreeCommand, TreeHead};
 use crate::words::{PhaserCommand, PhaserHead};
-use advance_rule::StoredCount;
+use advance_rule::{StoredAction, StoredCount};
+use cyclic_gate::BarrierCore;
 use phase_records::{CountedRead, CountedWrite, ReadFault, read_all, write_all};
 use phaser_one::PhaserOne;
 use std::alloc::{AllocError, Global};
@@ -210,6 +216,72 @@ fn run_tree<W: CountedWrite>(
     }
 }
 
+// Does a command of a barrier, and writes what waits to be written where it is a piece.
+fn run_barrier_command<F: Fn(u64) -> bool, W: CountedWrite>(
+    writer: &mut W,
+    out: &mut Vec<u8>,
+    core: &mut BarrierCore<F>,
+    command: BarrierCommand,
+) -> Result<(), TraceFault>
+    requires { AnswersAction (F.pre core.old.action.closure) (F.post core.old.action.closure) core.old.action.plan }
+    ensures moves { Moves (W.contents writer.old) (W.contents writer.new) out.old.items out.new.items result (barrier_text core.old.action.plan command core.old.barrier) }
+    ensures after { OnOk result (core.new.barrier ≡ barrier_after core.old.action.plan command core.old.barrier) }
+    ensures action { core.new.action ≡ core.old.action }
+    ensures failures { WriteCause (W.failures writer.old) (W.failures writer.new) result }
+{
+    if push_barrier_command(out, core, command).is_err() {
+        return Err(TraceFault::Memory);
+    }
+    if out.len() < PIECE {
+        return Ok(());
+    }
+    flush(writer, out)
+}
+
+// Does the commands of a barrier in turn.
+fn run_barrier_commands<F: Fn(u64) -> bool, W: CountedWrite>(
+    alloc: Global,
+    writer: &mut W,
+    core: &mut BarrierCore<F>,
+    commands: &[BarrierCommand],
+) -> Result<(), TraceFault>
+    requires { AnswersAction (F.pre core.old.action.closure) (F.post core.old.action.closure) core.old.action.plan }
+    ensures writes { Writes (W.contents writer.old) (W.contents writer.new) result
+        (run_text (barrier_text core.old.action.plan) (barrier_after core.old.action.plan) commands.now core.old.barrier) }
+    ensures failures { WriteCause (W.failures writer.old) (W.failures writer.new) result }
+{
+    let mut lines = Vec::new(alloc);
+    for command in commands {
+        match run_barrier_command(writer, &mut lines, core, *command) {
+            Ok(()) => {}
+            Err(fault) => return Err(fault),
+        }
+    }
+    flush(writer, &mut lines)
+}
+
+// Runs the commands on the barrier of a head.
+fn run_barrier<F: Fn(u64) -> bool + Drop, W: CountedWrite>(
+    alloc: Global,
+    writer: &mut W,
+    head: BarrierHead,
+    action: StoredAction<F>,
+    commands: &[BarrierCommand],
+) -> Result<(), TraceFault>
+    requires answers { AnswersAction (F.pre action.closure) (F.post action.closure) action.plan }
+    requires plan { action.plan ≡ head.fails }
+    ensures writes { Writes (W.contents writer.old) (W.contents writer.new) result (barrier_opened_text head commands.now) }
+    ensures failures { WriteCause (W.failures writer.old) (W.failures writer.new) result }
+{
+    match BarrierCore::new(alloc, head.parties, action) {
+        Ok(mut core) => run_barrier_commands(alloc, writer, &mut core, commands),
+        Err(fault) => match write_all(writer, barrier_fault_line(fault).as_bytes()) {
+            Ok(()) => Ok(()),
+            Err(_) => Err(TraceFault::Write),
+        },
+    }
+}
+
 /// Reads a trace to the reader's end, and writes what it prints. The whole text is checked before
 /// anything is written.
 pub fn run_trace<R: CountedRead, W: CountedWrite>(
@@ -241,5 +313,10 @@ pub fn run_trace<R: CountedRead, W: CountedWrite>(
             run_opened(alloc, writer, head, rule, &commands)
         }
         Trace::Tree(head, commands) => run_tree(alloc, writer, head, &commands),
+        Trace::Barrier(head, commands) => {
+            let fails = head.fails;
+            let action = StoredAction::new(|generation: u64| fails == Some(generation), fails);
+            run_barrier(alloc, writer, head, action, &commands)
+        }
     }
 }

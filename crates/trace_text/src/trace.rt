@@ -5,6 +5,7 @@ ghost use Rattle.trace_text.specs.Trace as spec;
 ghost use Rattle.trace_text.specs.Gives.{Gives};
 ghost use Rattle.trace_text.specs.Views.{asked, head_in, first_phase, opening_phase, commands_fit};
 
+use crate::barrier_words::{BarrierCommand, BarrierHead};
 use crate::command::Command;
 use crate::fault::TraceFault;
 use crate::head::{Head, read_head};
@@ -18,6 +19,7 @@ use text_lines::{Code, Refusal, bad_byte_line, split_line};
 pub(crate) enum Trace<'a> {
     Phaser(PhaserHead, Vec<PhaserCommand>),
     Tree(TreeHead<'a>, Vec<TreeCommand>),
+    Barrier(BarrierHead, Vec<BarrierCommand>),
 }
 
 // The head, the number of the line after it, and the text from there on.
@@ -110,5 +112,6 @@ pub(crate) fn read_trace(alloc: Global, text: &[u8]) -> Result<Trace<'_>, TraceF
     match head {
         Head::Phaser(head) => Ok(Trace::Phaser(head, read_commands(alloc, rest, line)?)),
         Head::Tree(head) => Ok(Trace::Tree(head, read_commands(alloc, rest, line)?)),
+        Head::Barrier(head) => Ok(Trace::Barrier(head, read_commands(alloc, rest, line)?)),
     }
 }

@@ -170,8 +170,8 @@ fn call_numbers(words: &CallWords<'_>) -> Option<TokenCall>
     }
 }
 
-// The number that makes up the rest of a line.
-fn one_number(line: &[u8]) -> Result<u32, Code>
+/// The number that makes up the rest of a line.
+pub(crate) fn one_number(line: &[u8]) -> Result<u32, Code>
     ensures { result ≡ spec.one_number (words_of line.now) }
 {
     let word = only_word(line).ok_or(Code::BadLine)?;

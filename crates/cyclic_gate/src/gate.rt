@@ -1,0 +1,193 @@
+//! The barrier under a lock, where threads wait.
+ghost use Rattle.std.specs.Prelude.{◌≡◌, ◌⊎◌, ◌↔◌, ◌<◌, ◌≤◌, ◌<ℤ◌, pos, IfOk, IfErr, MatchResult};
+ghost use Rattle.advance_rule.specs.Action.{AnswersAction};
+ghost use Rattle.cyclic_gate.specs.Steps.{answer, Breaks};
+ghost use Rattle.cyclic_gate.specs.Runs.{AfterSome};
+ghost use Rattle.cyclic_gate.specs.Seen.{Gate, GivesTurn, GivesNoTurn, IsRefusal};
+ghost use Rattle.cyclic_gate.specs.declared.call.Call.TheVariants.{Await, Abandon, BreakOff, Reset};
+
+use crate::call::{Awaited, BarrierFault};
+use crate::ledger::{Ledger, Outcome};
+use advance_rule::StoredAction;
+use std::alloc::{AllocError, Global};
+use std::marker::Model;
+use std::sync::{Condvar, Mutex, Wait};
+use thiserror::Error;
+
+/// Why a caller was given no turn.
+#[derive(Clone, Copy, Debug, PartialEq, Eq, Error)]
+pub enum GateFault {
+    /// The barrier was broken, or was broken while the caller waited.
+    #[error("the barrier is broken")]
+    Broken,
+    /// The caller was the last, and the action failed.
+    #[error("the action failed")]
+    ActionFailed,
+    /// The caller waits already, in another thread.
+    #[error("the caller waits already")]
+    AlreadyWaiting,
+    /// There was no memory, and nothing changed.
+    #[error("out of memory")]
+    Memory,
+}
+
+// What a caller is told whose wait ended so.
+fn turn_after(end: Outcome, index: u32, parties: u32) -> Result<u32, GateFault>
+    ensures ok { IfOk result (λ i. (i ≡ index) × (i < parties) × (end ≡ Outcome.Tripped)) }
+    ensures broken { IfErr result (λ e. (e ≡ GateFault.Broken) × ((end ≡ Outcome.Tripped) → parties ≤ index)) }
+{
+    match end {
+        Outcome::Tripped if index < parties => Ok(index),
+        _ => Err(GateFault::Broken),
+    }
+}
+
+/// A cyclic barrier at which threads wait (Java SE 21, `CyclicBarrier`).
+///
+/// The barrier lies under one lock, beside the history of its calls; the action stands beside the lock,
+/// and runs while the lock is held: it must not call the gate. No contract can say what the barrier was
+/// when a call took the lock; so they say that some list of calls leaves a barrier that answers so.
+#[derive(Drop)]
+pub struct CyclicGate<F: Fn(u64) -> bool> {
+    alloc: Global,
+    action: StoredAction<F>,
+    parties: u32,
+    ledger: Mutex<Ledger>,
+    ended: Condvar,
+}
+
+impl<F: Fn(u64) -> bool> Model for CyclicGate<F> {
+    ghost use Rattle.std.specs.Prelude.{◌<◌, ◌≤◌};
+    ghost use Rattle.cyclic_gate.specs.Seen.{Gate};
+
+    ghost Value = { Gate F };
+
+    ghost view = { λ g. record { action = g.action; parties = g.parties } };
+
+    ghost invariant = { λ g. (0 < g.parties) × (g.parties ≤ 65535) };
+}
+
+impl<F: Fn(u64) -> bool> CyclicGate<F> {
+    /// A gate where so many parties meet, in generation 0, where nobody waits. Refused with `NoParty`
+    /// below 1 and with `TooMany` above 65535 (own).
+    pub fn new(alloc: Global, parties: i64, action: StoredAction<F>) -> Result<Self, BarrierFault>
+    where
+        F: Drop,
+        ensures parties { IfOk result (λ gate. pos gate.parties ≡ parties) }
+        ensures action { IfOk result (λ gate. gate.action ≡ action) }
+        ensures no_party { (result ≡ Err BarrierFault.NoParty) ↔ (parties <ℤ pos 1) }
+        ensures too_many { (result ≡ Err BarrierFault.TooMany) ↔ (pos 65535 <ℤ parties) }
+        ensures fault { IfErr result (λ e. (e ≡ BarrierFault.NoParty) ⊎ ((e ≡ BarrierFault.TooMany) ⊎ (e ≡ BarrierFault.Memory))) }
+    {
+        match Ledger::new(alloc, parties, action.fails()) {
+            Ok(ledger) => {
+                let parties = ledger.parties();
+                Ok(CyclicGate {
+                    alloc,
+                    action,
+                    parties,
+                    ledger: Mutex::new(ledger),
+                    ended: Condvar::new(),
+                })
+            }
+            Err(fault) => Err(fault),
+        }
+    }
+
+    /// How many parties meet, from 1 to 65535 (Java SE 21, `CyclicBarrier.getParties`).
+    pub fn parties(&self) -> u32
+        ensures answer { result ≡ self.now.parties }
+        ensures range { (0 < result) × (result ≤ 65535) }
+    {
+        self.parties
+    }
+
+    /// Waits as this caller until all parties have come, and answers its arrival index: parties - 1 for
+    /// the first, 0 for the last, which runs the action (Java SE 21, `CyclicBarrier.await`). It answers
+    /// `Broken` where the barrier is broken, or was broken while the caller waited; `ActionFailed` where
+    /// the caller ran the action and it failed; `AlreadyWaiting` where the caller waits (own).
+    ///
+    /// A ledger of other parties or of another action, and an index that isn't below the parties, can't
+    /// come; they would be answered as `Broken`.
+    pub fn await_turn<R: Wait>(&self, rt: &R, caller: u32) -> Result<u32, GateFault>
+        requires rule { AnswersAction (F.pre self.now.action.closure) (F.post self.now.action.closure) self.now.action.plan }
+        ensures below { IfOk result (λ i. i < self.now.parties) }
+        ensures turn { AfterSome self.now.parties self.now.action.plan (λ m. MatchResult result
+            (λ i. GivesTurn i (answer self.now.action.plan (Await caller) m))
+            (λ e. GivesNoTurn e (answer self.now.action.plan (Await caller) m))) }
+    {
+        let mut ledger = self.ledger.lock(rt);
+        if !ledger.is_of(self.parties, self.action.fails()) {
+            return Err(GateFault::Broken);
+        }
+        match ledger.await_step(&self.action, caller) {
+            Ok(Awaited::Waits(index)) => {
+                let place = ledger.noted();
+                let ledger = self.ended.wait_while(rt, ledger, |ledger| {
+                    ledger.end_since(place) == Outcome::GoesOn
+                });
+                turn_after(ledger.end_since(place), index, self.parties)
+            }
+            Ok(Awaited::Tripped(_)) => {
+                self.ended.notify_all();
+                Ok(0)
+            }
+            Ok(Awaited::ActionFailed(_)) => {
+                self.ended.notify_all();
+                Err(GateFault::ActionFailed)
+            }
+            Ok(Awaited::Broken) => Err(GateFault::Broken),
+            Err(BarrierFault::AlreadyWaiting) => Err(GateFault::AlreadyWaiting),
+            Err(BarrierFault::Memory) => Err(GateFault::Memory),
+            Err(_) => Err(GateFault::Broken),
+        }
+    }
+
+    /// Takes a waiting caller away, which breaks the barrier, and answers the others, who get Broken, in
+    /// order of arrival; the caller's own `await_turn` answers Broken too (own; it stands for an interrupt
+    /// or a time limit of Java's `await`). Refused with `NotWaiting` where the caller doesn't wait.
+    pub fn abandon<R: Wait>(&self, rt: &R, caller: u32) -> Result<Vec<u32>, BarrierFault>
+        ensures answer { AfterSome self.now.parties self.now.action.plan (λ m. MatchResult result
+            (λ l. answer self.now.action.plan (Abandon caller) m ≡ Breaks l.items)
+            (λ e. IsRefusal e (answer self.now.action.plan (Abandon caller) m))) }
+    {
+        let mut ledger = self.ledger.lock(rt);
+        if !ledger.is_of(self.parties, self.action.fails()) {
+            return Err(BarrierFault::NotWaiting);
+        }
+        let others = ledger.abandon(caller)?;
+        self.ended.notify_all();
+        Ok(others)
+    }
+
+    /// Breaks the barrier, and answers those who get Broken, in order of arrival (own). It needs no memory.
+    pub fn break_off<R: Wait>(&self, rt: &R) -> Vec<u32>
+        ensures answer { AfterSome self.now.parties self.now.action.plan (λ m.
+            answer self.now.action.plan BreakOff m ≡ Breaks result.items) }
+    {
+        let mut ledger = self.ledger.lock(rt);
+        if !ledger.is_of(self.parties, self.action.fails()) {
+            return Vec::new(self.alloc);
+        }
+        let callers = ledger.break_off();
+        self.ended.notify_all();
+        callers
+    }
+
+    /// Begins the next generation, unbroken, and answers those who get Broken, in order of arrival (Java
+    /// SE 21, `CyclicBarrier.reset`).
+    pub fn reset<R: Wait>(&self, rt: &R) -> Result<Vec<u32>, AllocError>
+        ensures answer { AfterSome self.now.parties self.now.action.plan (λ m. IfOk result (λ l.
+            answer self.now.action.plan Reset m ≡ Breaks l.items)) }
+    {
+        let mut ledger = self.ledger.lock(rt);
+        if !ledger.is_of(self.parties, self.action.fails()) {
+            return Ok(Vec::new(self.alloc));
+        }
+        let Ok(callers) = ledger.reset() else {
+            return Err(AllocError);
+        };
+        self.ended.notify_all();
+        Ok(callers)
+    }
+}

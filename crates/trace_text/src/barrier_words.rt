@@ -1,0 +1,153 @@
+//! Heads and commands of a trace of a barrier, from the words of their lines.
+ghost use Rattle.std.specs.Prelude.{◌≡◌, None, Some, Ok, Err, option_copied, MatchOption, MatchResult, true, false};
+ghost use Rattle.text_lines.specs.Text.{words_of, is_skipped};
+ghost use Rattle.text_lines.specs.Number.{number_of};
+ghost use Rattle.trace_text.specs.BarrierWords as spec;
+ghost use Rattle.trace_text.specs.Parts.{barrier_words_in};
+
+use crate::tree_words::one_number;
+use crate::words::take_behind;
+use cyclic_gate::Call;
+use text_lines::{Code, first_word, number, split_word};
+
+/// A command of a trace of a barrier.
+#[derive(Clone, Copy, Debug, PartialEq, Eq)]
+pub enum BarrierCommand {
+    /// A call of the barrier.
+    Call(Call),
+    /// The barrier's numbers.
+    Show,
+}
+
+/// The head of a trace of a barrier: what barrier it makes.
+#[derive(Clone, Copy, Debug, PartialEq, Eq)]
+pub struct BarrierHead {
+    /// How many parties meet.
+    pub parties: i64,
+    /// The generation in which the action fails.
+    pub fails: Option<u64>,
+}
+
+// What the first word of a command asks for.
+#[derive(Clone, Copy)]
+enum Form {
+    // a caller behind it, who arrives
+    Await,
+    // a caller behind it, who leaves early
+    Abandon,
+    // a command alone
+    Alone(BarrierCommand),
+}
+
+// What this word asks for, if it begins a command.
+fn form_of(word: &[u8]) -> Option<Form>
+    ensures { result ≡ spec.barrier_form_of word.now }
+{
+    if word == b"await".as_slice() {
+        Some(Form::Await)
+    } else if word == b"abandon".as_slice() {
+        Some(Form::Abandon)
+    } else if word == b"break".as_slice() {
+        Some(Form::Alone(BarrierCommand::Call(Call::BreakOff)))
+    } else if word == b"reset".as_slice() {
+        Some(Form::Alone(BarrierCommand::Call(Call::Reset)))
+    } else if word == b"show".as_slice() {
+        Some(Form::Alone(BarrierCommand::Show))
+    } else {
+        None
+    }
+}
+
+// The command of this form, with what follows its first word.
+fn formed(form: Form, rest: &[u8]) -> Result<BarrierCommand, Code>
+    ensures { result ≡ spec.barrier_formed (Some form) (words_of rest.now) }
+{
+    match form {
+        Form::Await => Ok(BarrierCommand::Call(Call::Await(one_number(rest)?))),
+        Form::Abandon => Ok(BarrierCommand::Call(Call::Abandon(one_number(rest)?))),
+        Form::Alone(command) => match split_word(rest) {
+            None => Ok(command),
+            Some(_) => Err(Code::BadLine),
+        },
+    }
+}
+
+/// The command of a line, or none where the line is skipped.
+pub(crate) fn read_barrier_command(line: &[u8]) -> Result<Option<BarrierCommand>, Code>
+    ensures { MatchResult result
+        (λ o. MatchOption o (is_skipped (words_of line.now) ≡ true)
+        (λ c. (is_skipped (words_of line.now) ≡ false) × (spec.barrier_command_of (words_of line.now) ≡ Ok c)))
+        (λ e. (is_skipped (words_of line.now) ≡ false) × (spec.barrier_command_of (words_of line.now) ≡ Err e)) }
+{
+    let Some((word, rest)) = first_word(line) else {
+        return Ok(None);
+    };
+    let Some(form) = form_of(word) else {
+        return Err(Code::UnknownLine);
+    };
+    match formed(form, rest) {
+        Ok(command) => Ok(Some(command)),
+        Err(code) => Err(code),
+    }
+}
+
+// A head in words.
+#[derive(Clone, Copy)]
+struct BarrierHeadWords<'a> {
+    parties: &'a [u8],
+    fails: Option<&'a [u8]>,
+}
+
+// The head in words that follows its first word.
+fn barrier_head_words(line: &[u8]) -> Option<BarrierHeadWords<'_>>
+    ensures { MatchOption result
+        (spec.barrier_head_words (words_of line.now) ≡ None)
+        (λ h. spec.barrier_head_words (words_of line.now) ≡ Some (barrier_words_in h)) }
+{
+    let (parties, rest) = split_word(line)?;
+    let (fails, rest) = take_behind(b"fails", rest)?;
+    if split_word(rest).is_some() {
+        return None;
+    }
+    Some(BarrierHeadWords { parties, fails })
+}
+
+// A generation.
+fn generation(word: &[u8]) -> Option<u64>
+    ensures { result ≡ spec.not_below_zero (number_of word.now) }
+{
+    let n = number(word)?;
+    u64::try_from(n).ok()
+}
+
+// A generation, if it is there.
+fn generation_if(word: Option<&[u8]>) -> Option<Option<u64>>
+    ensures { result ≡ spec.generation_if (option_copied word.entry) }
+{
+    match word {
+        None => Some(None),
+        Some(word) => generation(word).map(Some),
+    }
+}
+
+// The head that its words give.
+fn head_numbers(words: &BarrierHeadWords<'_>) -> Option<BarrierHead>
+    ensures { result ≡ spec.barrier_head_numbers (barrier_words_in words.now) }
+{
+    let parties = number(words.parties)?;
+    let fails = generation_if(words.fails)?;
+    Some(BarrierHead { parties, fails })
+}
+
+/// The head that follows the first word of a line.
+pub(crate) fn read_barrier_head(line: &[u8]) -> Result<BarrierHead, Code>
+    ensures { result ≡ spec.barrier_numbered (spec.barrier_head_words (words_of line.now)) }
+{
+    let Some(words) = barrier_head_words(line) else {
+        return Err(Code::BadLine);
+    };
+    match head_numbers(&words) {
+        Some(head) => Ok(head),
+        None => Err(Code::BadNumber),
+    }
+}
