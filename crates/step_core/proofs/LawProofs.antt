@@ -40,9 +40,9 @@ use Rattle.step_core.specs.Laws.{
   JobsEnd,
   RecordsTally,
 }
-use Rattle.step_core.proofs.Rounds.{taken, set_is_with, here}
+use Rattle.step_core.proofs.Rounds.{taken, set_is_with, here, tasks_stay}
 use Rattle.step_core.proofs.Closed.{all_delivered}
-use Rattle.step_core.proofs.Whole.{always_told, tasks_stay}
+use Rattle.step_core.proofs.Runs.{always_told}
 
 -- ---- deliveries in any order
 

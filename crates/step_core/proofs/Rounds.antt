@@ -130,27 +130,6 @@ taken_at r job step place q path s w g b =
     subst (λ x. IsRound (with_slots r (slice_set r.slots q x))) (sym b.put)
     (taken r b.round b.run q s path g at (here r job step place q path g b.same_job b.same_step b.same_place b.known))
 
--- a segment that is done where its task stands
-pub record DoneAt (r : RoundValue) (p : ℕ) (s m w : SlotValue) (t : TaskValue) (a : List (List ℕ × List ℤ)) (g : SegmentValue) : Type 0 where
-  pub round : IsRound r
-  pub below : p < length r.slots
-  pub slot : s ≡ get_or r.slots p s
-  pub again : m ≡ get_or r.slots p m
-  pub task : t ≡ s.task
-  pub arrays : a ≡ r.arrays
-  pub means : meant (plans r.job.bodies) g ≡ segment_of (plans r.job.bodies) (task_of (plans r.job.bodies) t) a r.step
-  pub put : w ≡ record { task = m.task; done = Some g }
-
-pub done_at : (r : RoundValue) (p : ℕ) (s m w : SlotValue) (t : TaskValue) (a : List (List ℕ × List ℤ)) (g : SegmentValue)
-    → DoneAt r p s m w t a g → IsRound (with_slots r (slice_set r.slots p w))
-done_at r p s m w t a g d =
-    let at = slot_at r.slots p m d.below d.again in
-    let same : s ≡ m = some_is _ _ (sym (slot_at r.slots p s d.below d.slot) ∙ at) in
-    let task : t ≡ m.task = d.task ∙ ap (λ (x : SlotValue). x.task) same in
-    subst (λ x. IsRound (with_slots r (slice_set r.slots p x))) (sym d.put)
-    (kept r d.round p m g at
-    (d.means ∙ (λ i. segment_of (plans r.job.bodies) (task_of (plans r.job.bodies) (task i)) (d.arrays i) r.step)))
-
 -- the slot of its place is for its task
 pub for_task : (r : RoundValue) (job : JobValue) (step place q : ℕ) (path : List ℕ) (s : SlotValue) (g : SegmentValue) → IsRound r → status_in r ≡ None
     → job ≡ r.job → step ≡ r.step → place ≡ q → slice_get r.slots q ≡ Some s
@@ -225,3 +204,9 @@ live_left rest after path s e h = ap (λ ss. is_live ss path) e ∙ ap (λ b. b 
 pub slot_paths : (ps : List Plan) (ss : List SlotValue) → map slot_path ss ≡ map (λ (t : Task). t.path) (map task_in (slots_of ps ss))
 slot_paths ps [] = refl
 slot_paths ps (s ∷ ss) = ap (λ xs. s.task.path ∷ xs) (slot_paths ps ss)
+
+-- a delivery leaves the tasks
+pub tasks_stay : (ps : List Plan) (ss : List SlotValue) (p : ℕ) (g : SegmentValue) → map task_in (slots_of ps (with_segment ss p g)) ≡ map task_in (slots_of ps ss)
+tasks_stay ps [] p g = refl
+tasks_stay ps (s ∷ ss) zero g = refl
+tasks_stay ps (s ∷ ss) (suc p) g = ap (λ (ts : List Task). task_of ps s.task ∷ ts) (tasks_stay ps ss p g)

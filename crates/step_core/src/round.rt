@@ -24,7 +24,6 @@ use superstep_memory::arrays::Arrays;
 use superstep_memory::path::Path;
 use task_lang::body::Body;
 use task_lang::job::{Job, Start};
-use task_lang::segment::segment;
 use task_lang::task::Task;
 
 /// The supersteps of a job so far, and what was delivered of the next. Its type keeps that its arrays, prints, records,
@@ -112,7 +111,6 @@ impl<'j> Round<'j> {
     ghost use Rattle.step_core.specs.SlotParts.{path_of, IsPlaceOf};
     ghost use Rattle.step_core.specs.RoundValue.{IsRound, Opens, state_of, status_in, slots_in};
     ghost use Rattle.step_core.specs.Taking.{Refuses, Takes, with_delivery, NotClosed, outcome_of, IsOrderOf, IsOrderAt, is_live};
-    ghost use Rattle.step_core.specs.Along.{HasTaken};
 
     /// A round of this job with this limit of supersteps, before the first of them.
     pub fn new(alloc: Global, job: &'j Job, limit: u32) -> Result<Self, AllocError>
@@ -197,13 +195,6 @@ impl<'j> Round<'j> {
         }))
     }
 
-    /// How many tasks live.
-    pub(crate) fn count(&self) -> usize
-        ensures { result ≡ length self.now.slots }
-    {
-        self.slots.len()
-    }
-
     /// What the segment of the live task at this place needs.
     pub(crate) fn order_at(&self, alloc: Global, place: usize) -> Result<Order<'j>, AllocError>
         requires running { status_in self.now ≡ None }
@@ -214,17 +205,6 @@ impl<'j> Round<'j> {
         let task = self.slots[place].task().copy(alloc)?;
         let arrays = Arc::try_clone(&self.opening)?;
         Ok(Order::new(self.job, self.step, place, task, arrays))
-    }
-
-    /// Does the segment of the live task at this place and keeps it; one that was delivered before is replaced.
-    pub(crate) fn do_at(&mut self, alloc: Global, place: usize) -> Result<(), AllocError>
-        requires { place < length self.old.slots }
-        ensures { OnOk result (HasTaken self.old self.new place) }
-    {
-        let task = self.slots[place].task();
-        let done = segment(alloc, self.job, task, &self.opening, self.step)?;
-        self.slots[place].put(done);
-        Ok(())
     }
 
     /// What the segment of the live task of this path needs, the opening arrays and the step included; `None` where no
