@@ -1,5 +1,5 @@
 -- What a round does with what was delivered.
-use Rattle.std.proofs.Common.{◌≡◌, ℕ, List, [], ◌∷◌, ◌++◌, map, length, Option, Some, None, refl, sym, ap, ◌∙◌, arith, append_assoc}
+use Rattle.std.proofs.Common.{◌≡◌, ℕ, zero, suc, ◌<◌, slice_get, get_or, List, [], ◌∷◌, ◌++◌, map, length, Option, Some, None, refl, sym, ap, ◌∙◌, arith, append_assoc}
 use Rattle.std.specs.Prelude.{ℤ}
 use Rattle.superstep_memory.specs.Landing.{landed, joined, written}
 use Rattle.superstep_memory.proofs.Landed.{landed_written, landed_none}
@@ -70,3 +70,12 @@ living_last rest front s e = ap living_in e ∙ living_in_append front (s ∷ []
 pub paths_mapped : (ps : List Plan) (ts : List TaskValue) → map path_in ts ≡ map (λ (t : Task). t.path) (map (task_of ps) ts)
 paths_mapped ps [] = refl
 paths_mapped ps (t ∷ ts) = ap (λ (xs : List (List ℕ)). t.path ∷ xs) (paths_mapped ps ts)
+
+pub paths_counted : (ps : List Plan) (ts : List TaskValue) → length ts ≡ length (map (λ (t : Task). t.path) (map (task_of ps) ts))
+paths_counted ps [] = refl
+paths_counted ps (t ∷ ts) = ap suc (paths_counted ps ts)
+
+pub path_got : (ts : List TaskValue) (n : ℕ) (t : TaskValue) → n < length ts → t ≡ get_or ts n t → slice_get (map path_in ts) n ≡ Some t.path
+path_got [] n t lt e = absurd (omega arith)
+path_got (x ∷ ts) zero t lt e = ap (λ (y : TaskValue). Some y.path) (sym e)
+path_got (x ∷ ts) (suc n) t lt e = path_got ts n t (omega arith) e

@@ -1,10 +1,10 @@
 -- What holds of rounds and of jobs.
-use Rattle.std.proofs.Common.{◌≡◌, ℕ, zero, suc, ◌+◌, ◌-◌, ◌≤◌, ◌<◌, Bool, true, false, nat_lt, nat_le, List, [], ◌∷◌, ◌++◌, length, Option, Some, None, is_some, slice_get, refl, sym, ap, ◌∙◌, subst, arith, append_assoc}
+use Rattle.std.proofs.Common.{◌≡◌, ℕ, zero, suc, ◌+◌, ◌-◌, ◌≤◌, ◌<◌, Bool, true, false, nat_lt, nat_le, List, [], ◌∷◌, ◌++◌, length, map, ℤ, Option, Some, None, is_some, slice_get, refl, sym, ap, ◌∙◌, subst, arith, append_assoc}
 use Rattle.std.specs.Prelude.{if◌then◌else◌}
 use Rattle.std.proofs.lemmas.List.{append-nil}
 use Rattle.superstep_memory.specs.Paths.{path_lt}
 use Rattle.phase_records.specs.Status.{Status, Limit}
-use Rattle.task_lang.specs.Meaning.{Task, After, Synced, Stopped, Faulted, Segment}
+use Rattle.task_lang.specs.Meaning.{Task, After, Synced, Stopped, Faulted, Segment, segment_of}
 use Rattle.task_lang.specs.Views.{plans}
 use Rattle.step_core.specs.Program.{Program, program_of}
 use Rattle.step_core.specs.PathOrder.{put_in, in_path_order}
@@ -39,10 +39,17 @@ use Rattle.step_core.specs.Laws.{
   LongerLimitsOnlyAdd,
   JobsEnd,
   RecordsTally,
+  NextLiveSyncedOrSpawned,
+  paths_on,
 }
-use Rattle.step_core.proofs.Rounds.{taken, set_is_with, here}
+use Rattle.step_core.proofs.Rounds.{taken, set_is_with, here, tasks_stay}
 use Rattle.step_core.proofs.Closed.{all_delivered}
-use Rattle.step_core.proofs.Whole.{always_told, tasks_stay}
+use Rattle.step_core.proofs.Runs.{always_told}
+use Rattle.step_core.proofs.InOrder.{put_all_mapped}
+use Rattle.std.proofs.lemmas.List.{map-append}
+use Rattle.task_lang.proofs.AllSegments.{stays-the-same-task}
+use Rattle.step_core.specs.OrderValue.{spawned_paths, is_synced}
+use Rattle.step_core.specs.Superstep.{live_paths}
 
 -- ---- deliveries in any order
 
@@ -242,3 +249,36 @@ closed_tallies st ss None e h = by (nat_lt 4096 (length (next_live ss))) h
 pub records-tally : RecordsTally
 records-tally p st h =
     closed_tallies st (segments p st.arrays st.step st.live) (first_fault (segments p st.arrays st.step st.live)) refl h
+
+living_paths : (p : Program) (a : List (List ℕ × List ℤ)) (n : ℕ) (ts : List Task) → map (λ (t : Task). t.path) (living_on (segments p a n ts)) ≡ paths_on (segments p a n ts)
+living_paths p a n [] = refl
+living_paths p a n (t ∷ ts) =
+    let g = segment_of p.plans t a n in
+    map-append (λ (t : Task). t.path) (synced g.after ++ g.spawns) (living_on (segments p a n ts))
+    ∙ (λ i. (map-append (λ (t : Task). t.path) (synced g.after) g.spawns i) ++ living_paths p a n ts i)
+    ∙ ap (λ (xs : List (List ℕ)). (xs ++ spawned_paths g) ++ paths_on (segments p a n ts)) (by g.after (λ u e. (stays-the-same-task p.plans t u a n e).0))
+  where
+    by : (x : After) → ((u : Task) → x ≡ Synced u → u.path ≡ t.path) → map (λ (t : Task). t.path) (synced x) ≡ (if is_synced x then t.path ∷ [] else [])
+    by (Synced u) h = ap (λ (q : List ℕ). q ∷ []) (h u refl)
+    by Stopped h = refl
+    by (Faulted f) h = refl
+
+pub next-live-synced-or-spawned : NextLiveSyncedOrSpawned
+next-live-synced-or-spawned p st = by (first_fault ss)
+  where
+    ss : List (List ℕ × Segment)
+    ss = segments p st.arrays st.step st.live
+
+    all : live_paths (gone_on st ss (next_live ss)) ≡ in_path_order (λ (path : List ℕ). path) (paths_on ss)
+    all =
+        put_all_mapped (λ (t : Task). t.path) (λ (path : List ℕ). path) (λ (t : Task). t.path) (λ t. refl) (living_on ss) []
+        ∙ ap (in_path_order (λ (path : List ℕ). path)) (living_paths p st.arrays st.step st.live)
+
+    by : (o : Option (ℕ × List ℕ)) → (closed st ss o).fault ≡ None → live_paths (closed st ss o) ≡ in_path_order (λ (path : List ℕ). path) (paths_on ss)
+    by (Some f) h = cc
+    by None h = many (nat_lt 4096 (length (next_live ss))) h
+      where
+        many : (b : Bool) → (if b then ended_by st (7, []) else gone_on st ss (next_live ss)).fault ≡ None
+            → live_paths (if b then ended_by st (7, []) else gone_on st ss (next_live ss)) ≡ in_path_order (λ (path : List ℕ). path) (paths_on ss)
+        many true h = cc
+        many false h = all

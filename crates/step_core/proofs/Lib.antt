@@ -3,7 +3,8 @@ pub mod Deeds
 pub mod Runs
 pub mod Rounds
 pub mod Closed
-pub mod Whole
 pub mod LawProofs
 pub mod Apart
 pub mod Landings
+pub mod InPlace
+pub mod Course

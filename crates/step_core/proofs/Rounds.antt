@@ -1,8 +1,9 @@
 -- What a round's orders and deliveries are.
-use Rattle.std.proofs.Common.{◌≡◌, ℕ, zero, suc, ◌+◌, ◌≤◌, ◌<◌, true, false, List, [], ◌∷◌, map, length, Some, None, slice_get, slice_set, drop, add-one, get_or, refl, sym, ap, ◌∙◌, subst, arith}
+use Rattle.std.proofs.Common.{◌≡◌, ℕ, zero, suc, ◌+◌, ◌≤◌, ◌<◌, true, false, List, [], ◌∷◌, map, length, Option, Some, None, slice_get, slice_set, drop, add-one, get_or, refl, sym, ap, ◌∙◌, subst, arith}
 use Rattle.std.specs.Prelude.{ℤ, is_some, ◌||◌}
+use Rattle.std.specs.Option.{option_map}
 use Rattle.std.specs.Str.{bytes_eq}
-use Rattle.step_core.specs.SlotParts.{IsPlaceOf, IsPath, slot_path}
+use Rattle.step_core.specs.SlotParts.{IsPlaceOf, IsPath, slot_path, fresh_slot}
 use Rattle.std.proofs.lemmas.List.{length-set}
 use Rattle.task_lang.specs.JobValue.{JobValue}
 use Rattle.task_lang.specs.TaskValue.{TaskValue}
@@ -13,9 +14,10 @@ use Rattle.step_core.specs.Program.{program_of}
 use Rattle.step_core.specs.Superstep.{State}
 use Rattle.step_core.specs.JobMeaning.{state_at, status}
 use Rattle.step_core.specs.SlotValue.{SlotValue}
-use Rattle.step_core.specs.Slots.{slots_of, task_in, with_segment}
+use Rattle.step_core.specs.Slots.{Slot, slot_of, slots_of, task_in, fresh, with_segment, missing_in, one_missing, first_missing, or_missing}
 use Rattle.step_core.specs.OrderValue.{order_value, IsOrder, deed_of, deed_at, DeliveryValue, IsDelivery}
-use Rattle.step_core.specs.Taking.{IsFor, IsOrdered, is_done, is_live, Takes}
+use Rattle.step_core.specs.Taking.{IsFor, IsOrdered, is_done, is_live, Takes, task_at}
+use Rattle.step_core.specs.Laws.{MissingTells, OrdersAreOwn}
 use Rattle.step_core.specs.RoundValue.{RoundValue, IsRound, AllFit, state_of, status_in, with_slots}
 use Rattle.step_core.proofs.Runs.{going_on}
 
@@ -130,27 +132,6 @@ taken_at r job step place q path s w g b =
     subst (λ x. IsRound (with_slots r (slice_set r.slots q x))) (sym b.put)
     (taken r b.round b.run q s path g at (here r job step place q path g b.same_job b.same_step b.same_place b.known))
 
--- a segment that is done where its task stands
-pub record DoneAt (r : RoundValue) (p : ℕ) (s m w : SlotValue) (t : TaskValue) (a : List (List ℕ × List ℤ)) (g : SegmentValue) : Type 0 where
-  pub round : IsRound r
-  pub below : p < length r.slots
-  pub slot : s ≡ get_or r.slots p s
-  pub again : m ≡ get_or r.slots p m
-  pub task : t ≡ s.task
-  pub arrays : a ≡ r.arrays
-  pub means : meant (plans r.job.bodies) g ≡ segment_of (plans r.job.bodies) (task_of (plans r.job.bodies) t) a r.step
-  pub put : w ≡ record { task = m.task; done = Some g }
-
-pub done_at : (r : RoundValue) (p : ℕ) (s m w : SlotValue) (t : TaskValue) (a : List (List ℕ × List ℤ)) (g : SegmentValue)
-    → DoneAt r p s m w t a g → IsRound (with_slots r (slice_set r.slots p w))
-done_at r p s m w t a g d =
-    let at = slot_at r.slots p m d.below d.again in
-    let same : s ≡ m = some_is _ _ (sym (slot_at r.slots p s d.below d.slot) ∙ at) in
-    let task : t ≡ m.task = d.task ∙ ap (λ (x : SlotValue). x.task) same in
-    subst (λ x. IsRound (with_slots r (slice_set r.slots p x))) (sym d.put)
-    (kept r d.round p m g at
-    (d.means ∙ (λ i. segment_of (plans r.job.bodies) (task_of (plans r.job.bodies) (task i)) (d.arrays i) r.step)))
-
 -- the slot of its place is for its task
 pub for_task : (r : RoundValue) (job : JobValue) (step place q : ℕ) (path : List ℕ) (s : SlotValue) (g : SegmentValue) → IsRound r → status_in r ≡ None
     → job ≡ r.job → step ≡ r.step → place ≡ q → slice_get r.slots q ≡ Some s
@@ -225,3 +206,91 @@ live_left rest after path s e h = ap (λ ss. is_live ss path) e ∙ ap (λ b. b 
 pub slot_paths : (ps : List Plan) (ss : List SlotValue) → map slot_path ss ≡ map (λ (t : Task). t.path) (map task_in (slots_of ps ss))
 slot_paths ps [] = refl
 slot_paths ps (s ∷ ss) = ap (λ xs. s.task.path ∷ xs) (slot_paths ps ss)
+
+-- a delivery leaves the tasks
+pub tasks_stay : (ps : List Plan) (ss : List SlotValue) (p : ℕ) (g : SegmentValue) → map task_in (slots_of ps (with_segment ss p g)) ≡ map task_in (slots_of ps ss)
+tasks_stay ps [] p g = refl
+tasks_stay ps (s ∷ ss) zero g = refl
+tasks_stay ps (s ∷ ss) (suc p) g = ap (λ (ts : List Task). task_of ps s.task ∷ ts) (tasks_stay ps ss p g)
+
+-- what is known at a place stands there
+pub place_there : (r : RoundValue) → IsRound r → status_in r ≡ None → (p : ℕ) (x : List ℕ × Segment) → deed_at (program_of r.job) r.step p ≡ Some x → p < length r.slots
+place_there r h run p x d =
+    let e = running r h run in
+    let k : deed_of (program_of r.job) (state_of r) (slice_get (state_of r).live p) ≡ Some x = ap (λ (s : State). deed_of (program_of r.job) s (slice_get s.live p)) e ∙ d in
+    by r.slots p k
+  where
+    by : (ss : List SlotValue) (p : ℕ) → deed_of (program_of r.job) (state_of r) (slice_get (map task_in (slots_of (plans r.job.bodies) ss)) p) ≡ Some x → p < length ss
+    by [] p h = cc
+    by (s ∷ ss) zero h = omega arith
+    by (s ∷ ss) (suc p) h = let l = by ss p h in omega (arith, l)
+
+-- a task the fewer is missing
+pub one_fewer : (ss : List SlotValue) (p : ℕ) (s w : SlotValue) → slice_get ss p ≡ Some s → is_some s.done ≡ false → is_some w.done ≡ true
+    → missing_in (slice_set ss p w) + 1 ≡ missing_in ss
+one_fewer [] p s w at none some = cc
+one_fewer (x ∷ ss) zero s w at none some =
+    let k : x ≡ s = cc in
+    let a : one_missing w.done ≡ 0 = there w.done some in
+    let b : one_missing x.done ≡ 1 = ap (λ (y : SlotValue). one_missing y.done) k ∙ gone s.done none in
+    omega (arith, a, b)
+  where
+    there : (o : Option SegmentValue) → is_some o ≡ true → one_missing o ≡ 0
+    there None h = cc
+    there (Some g) h = refl
+
+    gone : (o : Option SegmentValue) → is_some o ≡ false → one_missing o ≡ 1
+    gone None h = refl
+    gone (Some g) h = cc
+one_fewer (x ∷ ss) (suc p) s w at none some = let l = one_fewer ss p s w at none some in omega (arith, l)
+
+pub all_missing : (ts : List TaskValue) → missing_in (map fresh_slot ts) ≡ length ts
+all_missing [] = refl
+all_missing (t ∷ ts) = let l = all_missing ts in omega (arith, l)
+
+-- slots of which none has a delivery
+pub fresh_missing : (ps : List Plan) (ss : List SlotValue) (ts : List Task) → slots_of ps ss ≡ map fresh ts → missing_in ss ≡ length ss
+fresh_missing ps [] ts h = refl
+fresh_missing ps (s ∷ ss) [] h = cc
+fresh_missing ps (s ∷ ss) (t ∷ ts) h =
+    let first : slot_of ps s ≡ fresh t = cc in
+    let rest : slots_of ps ss ≡ map fresh ts = cc in
+    let l = fresh_missing ps ss ts rest in
+    let k : one_missing s.done ≡ 1 = by s.done (ap (λ (x : Slot). x.done) first) in
+    omega (arith, l, k)
+  where
+    by : (o : Option SegmentValue) → option_map (meant ps) o ≡ None → one_missing o ≡ 1
+    by None e = refl
+    by (Some g) e = cc
+
+pub task_there : (ss : List SlotValue) (p : ℕ) (s : SlotValue) (t : TaskValue) → slice_get ss p ≡ Some s → t ≡ s.task → option_map task_at (slice_get ss p) ≡ Some t
+task_there ss p s t at e = ap (option_map task_at) at ∙ ap Some (sym e)
+
+none_first : (ps : List Plan) (ss : List SlotValue) → missing_in ss ≡ 0 → first_missing (slots_of ps ss) ≡ None
+none_first ps [] h = refl
+none_first ps (s ∷ ss) h = by s.done (omega arith) (none_first ps ss (omega arith))
+  where
+    by : (o : Option SegmentValue) → one_missing o ≡ 0 → first_missing (slots_of ps ss) ≡ None
+        → or_missing (option_map (meant ps) o) s.task.path (first_missing (slots_of ps ss)) ≡ None
+    by None z m = absurd (omega arith)
+    by (Some g) z m = m
+
+zero_missing : (ps : List Plan) (ss : List SlotValue) → first_missing (slots_of ps ss) ≡ None → missing_in ss ≡ 0
+zero_missing ps [] h = refl
+zero_missing ps (s ∷ ss) h = by s.done (λ m. zero_missing ps ss m) h
+  where
+    by : (o : Option SegmentValue) → (first_missing (slots_of ps ss) ≡ None → missing_in ss ≡ 0)
+        → or_missing (option_map (meant ps) o) s.task.path (first_missing (slots_of ps ss)) ≡ None → one_missing o + missing_in ss ≡ 0
+    by None more m = cc
+    by (Some g) more m = let l = more m in omega (arith, l)
+
+-- nothing is missing where no first one is
+pub missing-tells : MissingTells
+missing-tells r = (none_first (plans r.job.bodies) r.slots, zero_missing (plans r.job.bodies) r.slots)
+
+-- an order of the round's job and step is one of its own
+pub orders-are-own : OrdersAreOwn
+orders-are-own r o h run known job step =
+    let e = running r h run in
+    let at : state_at (program_of o.job) o.step ≡ state_of r = (λ i. state_at (program_of (job i)) (step i)) ∙ sym e in
+    (ap (λ (x : State). slice_get x.live o.place) (sym at) ∙ known.task, known.arrays ∙ ap (λ (x : State). x.arrays) at)

@@ -5,7 +5,7 @@ use Rattle.phase_records.specs.Status.{Status, Limit}
 use Rattle.task_lang.specs.Meaning.{Task, Segment}
 use Rattle.step_core.specs.Program.{Program}
 use Rattle.step_core.specs.Superstep.{State, superstep, closed, ended_by, gone_on, segments, first_fault, next_live}
-use Rattle.step_core.specs.JobMeaning.{state_at, so_far, status, status_of, unless_ended}
+use Rattle.step_core.specs.JobMeaning.{state_at, so_far, status, status_of, unless_ended, told, report_of}
 
 -- one superstep goes on to the next step, or faults where it is
 pub step_moves : (st : State) (ss : List (List ℕ × Segment)) (f : Option (ℕ × List ℕ)) → ((closed st ss f).fault ≡ None) → (closed st ss f).step ≡ st.step + 1
@@ -91,3 +91,11 @@ ended_is_last p limit n s h = by (status limit (so_far p limit limit)) refl
     by : (o : Option Status) → status limit (so_far p limit limit) ≡ o → so_far p limit n ≡ so_far p limit limit
     by None e = absurd (ends_in_time p limit e)
     by (Some t) e = let f : limit + n ≡ n + limit = omega arith in meet limit n f t e
+
+-- a job has a report
+pub always_told : (p : Program) (limit : ℕ) → report_of p limit ≡ None → ⊥
+always_told p limit h = by (status limit (so_far p limit limit)) refl h
+  where
+    by : (o : Option Status) → status limit (so_far p limit limit) ≡ o → told (so_far p limit limit) o ≡ None → ⊥
+    by None e q = ends_in_time p limit e
+    by (Some s) e q = cc

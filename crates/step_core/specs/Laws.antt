@@ -1,5 +1,5 @@
 -- What holds of rounds and of jobs (own).
-use Rattle.std.specs.Prelude.{◌≡◌, ℕ, ◌+◌, ◌≤◌, pos, true, false, IsTrue, is_some, List, [], ◌∷◌, ◌++◌, length, Some, None}
+use Rattle.std.specs.Prelude.{◌≡◌, ◌↔◌, if◌then◌else◌, slice_get, ℕ, ◌+◌, ◌≤◌, pos, true, false, IsTrue, is_some, List, [], ◌∷◌, ◌++◌, length, Some, None}
 use Rattle.std.specs.List.{Contains}
 use Rattle.superstep_memory.specs.declared.arrays.Put.{Put}
 use Rattle.superstep_memory.specs.Cells.{cell_at}
@@ -9,8 +9,9 @@ use Rattle.task_lang.specs.Meaning.{Task, Segment, segment_of}
 use Rattle.step_core.specs.Program.{Program}
 use Rattle.step_core.specs.Superstep.{State, superstep, segments, record_of, live_paths}
 use Rattle.step_core.specs.JobMeaning.{so_far, report_of}
-use Rattle.step_core.specs.Slots.{delivered, first_missing}
-use Rattle.step_core.specs.OrderValue.{DeliveryValue, IsDelivery}
+use Rattle.step_core.specs.Slots.{delivered, first_missing, missing_in}
+use Rattle.step_core.specs.OrderValue.{OrderValue, IsOrder, ordered_task, DeliveryValue, IsDelivery, has_synced, spawned_paths}
+use Rattle.step_core.specs.PathOrder.{in_path_order}
 use Rattle.step_core.specs.RoundValue.{RoundValue, IsRound, state_of, status_in, slots_in}
 use Rattle.step_core.specs.Taking.{Takes, with_delivery}
 
@@ -87,3 +88,28 @@ OthersKeepTheirValues =
     (p : Program) (st : State) (array index : ℕ)
     → ((u : Task) → Contains st.live u → has_put (deed p st u).puts array index ≡ false)
     → cell_at (superstep p st).arrays array (pos index) ≡ cell_at st.arrays array (pos index)
+
+-- Nothing is missing exactly where closing answers no missing path.
+abbrev pub MissingTells : Type 0
+MissingTells = (r : RoundValue) → (missing_in r.slots ≡ 0) ↔ (first_missing (slots_in r) ≡ None)
+
+-- While a round's job runs, an order of the same job and step is one of its own: it has the task at its place, and the arrays.
+abbrev pub OrdersAreOwn : Type 0
+OrdersAreOwn =
+    (r : RoundValue) (o : OrderValue) → IsRound r → status_in r ≡ None → IsOrder o → o.job ≡ r.job → o.step ≡ r.step
+    → (slice_get (state_of r).live o.place ≡ Some (ordered_task o)) × (o.arrays ≡ r.arrays)
+
+-- the path of a task, if it synced
+abbrev pub synced_path : List ℕ × Segment → List (List ℕ)
+synced_path s = if has_synced s.1 then s.0 ∷ [] else []
+
+-- the paths of the tasks that synced and of those that were spawned
+abbrev pub paths_on : List (List ℕ × Segment) → List (List ℕ)
+paths_on [] = []
+paths_on (s ∷ ss) = (synced_path s ++ spawned_paths s.1) ++ paths_on ss
+
+-- The next live paths are those of the tasks that synced and of the spawned ones, in path order.
+abbrev pub NextLiveSyncedOrSpawned : Type 0
+NextLiveSyncedOrSpawned =
+    (p : Program) (st : State) → (superstep p st).fault ≡ None
+    → live_paths (superstep p st) ≡ in_path_order (λ (path : List ℕ). path) (paths_on (segments p st.arrays st.step st.live))

@@ -1,4 +1,3 @@
-pub mod Along
 pub mod FinishedValue
 pub mod JobMeaning
 pub mod Laws
@@ -11,3 +10,6 @@ pub mod Slots
 pub mod Superstep
 pub mod RoundValue
 pub mod Taking
+pub mod DeedValue
+pub mod InPlace
+pub mod Course

@@ -1,5 +1,6 @@
 -- What an order and a delivery are (own).
 use Rattle.std.specs.Prelude.{◌≡◌, ℕ, ℤ, Bool, true, false, List, Option, Some, None, slice_get, map}
+use Rattle.std.specs.Borrow.{Bor}
 use Rattle.task_lang.specs.JobValue.{JobValue}
 use Rattle.task_lang.specs.TaskValue.{TaskValue}
 use Rattle.task_lang.specs.SegmentValue.{SegmentValue}
@@ -78,3 +79,7 @@ has_synced g = is_synced g.after
 -- the paths of the tasks that were spawned, in order
 abbrev pub spawned_paths : Segment → List (List ℕ)
 spawned_paths g = map (λ t. t.path) g.spawns
+
+-- a path as it is lent
+abbrev pub now_of : Bor (List ℕ) → List ℕ
+now_of b = b.now

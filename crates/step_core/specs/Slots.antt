@@ -1,5 +1,5 @@
 -- Live tasks with what was delivered for them (own).
-use Rattle.std.specs.Prelude.{ℕ, zero, suc, List, [], ◌∷◌, ◌++◌, map, Option, Some, None}
+use Rattle.std.specs.Prelude.{ℕ, zero, suc, ◌+◌, List, [], ◌∷◌, ◌++◌, map, Option, Some, None}
 use Rattle.std.specs.Option.{option_map}
 use Rattle.phase_records.specs.PrintValue.{PrintValue}
 use Rattle.phase_records.specs.declared.record.PhaseRecord.{PhaseRecord}
@@ -45,6 +45,15 @@ or_missing (Some g) path rest = rest
 abbrev pub first_missing : List Slot → Option (List ℕ)
 first_missing [] = None
 first_missing (s ∷ ss) = or_missing s.done s.task.path (first_missing ss)
+
+abbrev pub one_missing : Option SegmentValue → ℕ
+one_missing None = 1
+one_missing (Some g) = 0
+
+-- for how many tasks nothing was delivered
+abbrev pub missing_in : List SlotValue → ℕ
+missing_in [] = 0
+missing_in (s ∷ ss) = one_missing s.done + missing_in ss
 
 -- the segment of the task at this place was delivered
 abbrev pub with_segment : List SlotValue → ℕ → SegmentValue → List SlotValue

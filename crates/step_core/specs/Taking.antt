@@ -1,6 +1,8 @@
 -- What a round takes and refuses (own).
 use Rattle.std.specs.Prelude.{◌≡◌, ℕ, nat_lt, if◌then◌else◌, is_some, ◌||◌, List, [], ◌∷◌, length, Bool, true, false, Option, Some, None, slice_get}
+use Rattle.std.specs.Option.{option_map}
 use Rattle.std.specs.Str.{bytes_eq}
+use Rattle.task_lang.specs.TaskValue.{TaskValue}
 use Rattle.task_lang.specs.Meaning.{Segment}
 use Rattle.step_core.specs.declared.fault.AcceptFault.{AcceptFault}
 use Rattle.step_core.specs.declared.fault.AcceptFault.TheVariants as accept
@@ -32,6 +34,12 @@ abbrev pub Refuses : AcceptFault → RoundValue → DeliveryValue → Type 0
 Refuses accept.WrongStep r d = d.step ≡ r.step → ⊥
 Refuses accept.Stranger r d = (d.step ≡ r.step) × (IsOrdered r d → ⊥)
 Refuses accept.Double r d = (d.step ≡ r.step) × IsOrdered r d × (is_done (slice_get r.slots d.place) ≡ true)
+
+-- it is refused since its task has one already
+abbrev pub IsDouble : AcceptFault → Type 0
+IsDouble accept.WrongStep = ⊥
+IsDouble accept.Stranger = ⊥
+IsDouble accept.Double = Unit {0}
 
 -- when it is taken
 pub record Takes (r : RoundValue) (d : DeliveryValue) : Type 0 where
@@ -71,11 +79,15 @@ abbrev pub is_live : List SlotValue → List ℕ → Bool
 is_live [] path = false
 is_live (s ∷ ss) path = bytes_eq s.task.path path || is_live ss path
 
--- an order of this round for the task of this path
+abbrev pub task_at : SlotValue → TaskValue
+task_at s = s.task
+
+-- an order of this round for the task of this path, at its place
 pub record IsOrderOf (r : RoundValue) (p : List ℕ) (o : OrderValue) : Type 0 where
   pub job : o.job ≡ r.job
   pub step : o.step ≡ r.step
   pub path : o.task.path ≡ p
+  pub task : option_map task_at (slice_get r.slots o.place) ≡ Some o.task
   pub arrays : o.arrays ≡ r.arrays
 
 -- an order of this round for the task at this place

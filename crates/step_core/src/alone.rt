@@ -1,46 +1,199 @@
-//! A job on one thread.
-ghost use Rattle.std.specs.Prelude.{◌≡◌, ◌≤◌, None, Some, IfOk, OnOk};
+//! A job on one thread: its tasks stand in one list, in path order, and are changed in place.
+ghost use Rattle.std.specs.Prelude.{◌≡◌, ◌≤◌, ◌+◌, ◌++◌, ◌∷◌, ◌^◌, ◌<◌, [], ◌↔◌, true, Some, IsTrue, IfOk, OnOk, map, length};
+ghost use Rattle.superstep_memory.specs.Landing.{written};
+ghost use Rattle.superstep_memory.specs.Paths.{is_rising};
+ghost use Rattle.phase_records.specs.StatusSeen.{status_seen};
+ghost use Rattle.task_lang.specs.Views.{plans, task_of};
 ghost use Rattle.step_core.specs.Program.{program_of};
-ghost use Rattle.step_core.specs.Superstep.{superstep};
-ghost use Rattle.step_core.specs.JobMeaning.{report_of};
-ghost use Rattle.step_core.specs.RoundValue.{Opens, AllFresh, state_of, status_in};
-ghost use Rattle.step_core.specs.Along.{IsAtEnd};
+ghost use Rattle.step_core.specs.PathOrder.{in_path_order};
+ghost use Rattle.step_core.specs.SlotParts.{path_in};
+ghost use Rattle.step_core.specs.InPlace.{living_with, left_in, spawned_in};
+ghost use Rattle.step_core.specs.JobMeaning.{start_tasks, opening, report_of};
+ghost use Rattle.step_core.specs.Course.{course_state, HasTakenOne, left_by};
 
-use crate::fault::CloseFault;
-use crate::round::Round;
-use phase_records::Report;
+use crate::closing::too_many;
+use crate::in_place::{Deed, do_all, record_deeds};
+use crate::next::regroup;
+use crate::slot::Blame;
+use phase_records::{JobStatus, PhaseRecord, Print, Report};
+use smallvec::SmallVec;
 use std::alloc::{AllocError, Global};
-use task_lang::job::Job;
+use superstep_memory::arrays::Arrays;
+use superstep_memory::landing::write_puts;
+use task_lang::body::Body;
+use task_lang::job::{Job, Start};
+use task_lang::scene::Work;
+use task_lang::task::Task;
 
-// Does each live task's segment, by path, and closes the round.
-fn run_superstep(alloc: Global, round: &mut Round<'_>) -> Result<(), AllocError>
-    requires running { status_in round.old ≡ None }
-    requires none_yet { AllFresh round.old.slots }
-    ensures { OnOk result (Opens round.new round.old.job round.old.limit
-        (superstep (program_of round.old.job) (state_of round.old))) }
+// A job between two supersteps, its live tasks in path order.
+#[derive(Drop)]
+struct Course {
+    step: u32,
+    arrays: Arrays,
+    tasks: Vec<Task>,
+    prints: Vec<Print>,
+    records: Vec<PhaseRecord>,
+}
+
+// Room for a superstep, kept from one to the next. What stands in it between two means nothing.
+#[derive(Drop)]
+struct Room {
+    work: Work,
+    deeds: Vec<Deed>,
+    living: Vec<Task>,
+}
+
+// The tasks of the start lines.
+fn start_all(alloc: Global, bodies: &[Body], starts: &[Start]) -> Result<Vec<Task>, AllocError>
+    requires { length starts.now ≤ 4096 }
+    ensures { IfOk result (λ tasks. map (task_of (plans bodies.now)) tasks.items ≡ start_tasks (plans bodies.now) 0 starts.now) }
 {
-    let count = round.count();
-    let mut place = 0;
-    while place < count {
-        round.do_at(alloc, place)?;
-        place += 1;
+    let mut tasks = Vec::new(alloc);
+    let mut number: u16 = 0;
+    let mut rest = starts;
+    while let Some((start, after)) = rest.split_first() {
+        let path = SmallVec::from_slice(alloc, &[number])?;
+        let task = Task::start(alloc, bodies, path, start.body, start.arg)?;
+        tasks.push(task)?;
+        number += 1;
+        rest = after;
     }
-    match round.close_round(alloc) {
-        Ok(_) => Ok(()),
-        Err(CloseFault::Missing(_)) => unreachable!(),
-        Err(CloseFault::Memory(fault)) => Err(fault),
+    Ok(tasks)
+}
+
+// No room yet.
+fn no_room(alloc: Global) -> Room {
+    Room {
+        work: Work {
+            locals: Vec::new(alloc),
+            puts: Vec::new(alloc),
+            prints: Vec::new(alloc),
+            spawns: Vec::new(alloc),
+        },
+        deeds: Vec::new(alloc),
+        living: Vec::new(alloc),
     }
 }
 
-// Takes supersteps until the job ends.
-fn run_round(alloc: Global, round: &mut Round<'_>) -> Result<(), AllocError>
-    requires none_yet { round.old.fault ≡ None → AllFresh round.old.slots }
-    ensures { OnOk result (IsAtEnd round.old round.new) }
+// Whether the same tasks live on.
+fn all_stay(told: PhaseRecord) -> bool
+    ensures { IsTrue result ↔ ((told.left ≡ 0) × (told.spawned ≡ 0)) }
 {
-    while !round.has_ended() {
-        run_superstep(alloc, round)?;
+    told.left == 0 && told.spawned == 0
+}
+
+// The tasks that live on in place of these. Only where tasks came or left they are moved.
+fn renew(
+    tasks: &mut Vec<Task>,
+    deeds: &mut Vec<Deed>,
+    living: &mut Vec<Task>,
+    told: PhaseRecord,
+) -> Result<(), AllocError>
+    requires same { length tasks.old.items ≡ length deeds.old.items }
+    requires left { told.left ≡ left_in deeds.old.items }
+    requires spawned { told.spawned ≡ spawned_in deeds.old.items }
+    requires count { length (living_with tasks.old.items deeds.old.items) + told.left ≡ told.parties }
+    requires rising { is_rising (map path_in tasks.old.items) ≡ true }
+    ensures { OnOk result (tasks.new.items ≡ in_path_order path_in (living_with tasks.old.items deeds.old.items)) }
+{
+    if all_stay(told) {
+        return Ok(());
     }
+    let count = (told.parties - told.left) as usize;
+    regroup(tasks, deeds, living, count)
+}
+
+// Records what the tasks did, lands the log, and goes on to the next live tasks.
+fn go_on(course: &mut Course, room: &mut Room, told: PhaseRecord) -> Result<(), AllocError>
+    requires same { length course.old.tasks.items ≡ length room.old.deeds.items }
+    requires left { told.left ≡ left_in room.old.deeds.items }
+    requires spawned { told.spawned ≡ spawned_in room.old.deeds.items }
+    requires count { length (living_with course.old.tasks.items room.old.deeds.items) + told.left ≡ told.parties }
+    requires rising { is_rising (map path_in course.old.tasks.items) ≡ true }
+    requires below { course.old.step + 1 < 2 ^ 32 }
+    ensures step { OnOk result (course.new.step ≡ course.old.step + 1) }
+    ensures arrays { OnOk result (course.new.arrays ≡ written room.old.work.puts.items course.old.arrays) }
+    ensures tasks { OnOk result (course.new.tasks.items
+        ≡ in_path_order path_in (living_with course.old.tasks.items room.old.deeds.items)) }
+    ensures prints { OnOk result (course.new.prints.items ≡ course.old.prints.items) }
+    ensures records { OnOk result (course.new.records.items ≡ course.old.records.items ++ told ∷ []) }
+{
+    course.records.push(told)?;
+    write_puts(&mut course.arrays, &room.work.puts);
+    renew(&mut course.tasks, &mut room.deeds, &mut room.living, told)?;
+    course.step += 1;
     Ok(())
+}
+
+// Takes one superstep, or tells the fault that ends the job in it.
+fn take_superstep(
+    alloc: Global,
+    job: &Job,
+    course: &mut Course,
+    room: &mut Room,
+) -> Result<Option<Blame>, AllocError>
+    requires few { length course.old.tasks.items ≤ 4096 }
+    requires rising { is_rising (map path_in course.old.tasks.items) ≡ true }
+    requires below { course.old.step + 1 < 2 ^ 32 }
+    ensures { IfOk result (λ fault. HasTakenOne (program_of job.now) fault course.old course.new) }
+{
+    let printed = course.prints.len();
+    room.work.puts.clear();
+    room.deeds.clear();
+    let fault = do_all(
+        alloc,
+        job,
+        &course.arrays,
+        course.step,
+        &mut course.tasks,
+        &mut room.work,
+        &mut room.deeds,
+        &mut course.prints,
+    )?;
+    match fault {
+        Some(blame) => {
+            course.prints.truncate(printed);
+            Ok(Some(blame))
+        }
+        None => {
+            let told = record_deeds(course.step, &room.deeds);
+            if told.parties - told.left > 4096 {
+                course.prints.truncate(printed);
+                return Ok(Some(too_many(alloc)));
+            }
+            go_on(course, room, told)?;
+            Ok(None)
+        }
+    }
+}
+
+// Takes supersteps until the job ends, and tells how it did.
+fn run_on(
+    alloc: Global,
+    job: &Job,
+    limit: u32,
+    course: &mut Course,
+) -> Result<JobStatus, AllocError>
+    requires start { course_state (program_of job.now) course.old ≡ opening (program_of job.now) }
+    requires few { length course.old.tasks.items ≤ 4096 }
+    ensures { IfOk result (λ s. report_of (program_of job.now) limit ≡ Some (left_by course.new (status_seen s))) }
+{
+    let mut room = no_room(alloc);
+    while course.step < limit {
+        if course.tasks.is_empty() {
+            return Ok(JobStatus::Ended(course.step));
+        }
+        let fault = take_superstep(alloc, job, course, &mut room)?;
+        match fault {
+            Some(blame) => return Ok(blame.status(course.step)),
+            None => {}
+        }
+    }
+    if course.tasks.is_empty() {
+        Ok(JobStatus::Ended(course.step))
+    } else {
+        Ok(JobStatus::Limit(course.step))
+    }
 }
 
 /// What a job leaves, within this limit of supersteps: each superstep's tasks one after another, by path.
@@ -48,10 +201,25 @@ pub fn run_alone(alloc: Global, job: &Job, limit: u32) -> Result<Report, AllocEr
     requires { 1 ≤ limit }
     ensures { IfOk result (λ report. report_of (program_of job.now) limit ≡ Some report) }
 {
-    let mut round = Round::new(alloc, job, limit)?;
-    run_round(alloc, &mut round)?;
-    match round.report(alloc)? {
-        Some(report) => Ok(report),
-        None => unreachable!(),
-    }
+    let mut course = Course {
+        step: 0,
+        arrays: job.arrays().copy(alloc)?,
+        tasks: start_all(alloc, job.bodies(), job.starts())?,
+        prints: Vec::new(alloc),
+        records: Vec::new(alloc),
+    };
+    let status = run_on(alloc, job, limit, &mut course)?;
+    let Course {
+        step: _,
+        arrays,
+        tasks: _,
+        prints,
+        records,
+    } = course;
+    Ok(Report {
+        prints,
+        records,
+        arrays,
+        status,
+    })
 }

@@ -58,8 +58,8 @@ pub(crate) fn too_many(alloc: Global) -> Blame
     }
 }
 
-// Puts prints of a task behind what is there.
-fn push_prints(
+/// Puts prints of a task behind what is there.
+pub(crate) fn push_prints(
     prints: &mut Vec<Print>,
     step: u32,
     task: &Task,

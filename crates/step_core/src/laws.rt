@@ -1,6 +1,7 @@
 //! Laws on rounds and on what jobs mean. Each function does nothing: its contract is the law.
 ghost use Rattle.step_core.specs.Laws.{DeliveryOrderIsFree, LongerLimitsOnlyAdd, JobsEnd, RecordsTally, LivePathsRise};
 ghost use Rattle.step_core.specs.Laws.{LaterPathWins, OthersKeepTheirValues};
+ghost use Rattle.step_core.specs.Laws.{MissingTells, OrdersAreOwn, NextLiveSyncedOrSpawned};
 
 /// What a superstep does doesn't depend on the order in which deliveries come.
 pub fn delivery_order_is_free()
@@ -35,4 +36,19 @@ pub fn later_path_wins()
 /// A cell to which no task puts keeps its value.
 pub fn others_keep_their_values()
     ensures { OthersKeepTheirValues }
+{}
+
+/// Nothing is missing exactly where closing a round doesn't answer `Missing`.
+pub fn missing_tells()
+    ensures { MissingTells }
+{}
+
+/// While a round's job runs, an order of the same job and step is one of its own.
+pub fn orders_are_own()
+    ensures { OrdersAreOwn }
+{}
+
+/// The next live paths are those of the tasks that synced and of the spawned ones, in path order.
+pub fn next_live_synced_or_spawned()
+    ensures { NextLiveSyncedOrSpawned }
 {}

@@ -4,6 +4,7 @@
 mod alone;
 mod closing;
 mod fault;
+mod in_place;
 pub mod laws;
 mod next;
 mod order;

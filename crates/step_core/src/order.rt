@@ -1,5 +1,7 @@
 //! Orders and deliveries.
-ghost use Rattle.std.specs.Prelude.{◌≡◌, IfOk, map};
+ghost use Rattle.std.specs.Prelude.{◌≡◌, IfOk, map, slice_get};
+ghost use Rattle.std.specs.Option.{option_map};
+ghost use Rattle.step_core.specs.OrderValue.{now_of};
 ghost use Rattle.step_core.specs.SlotParts.{path_of, path_in};
 
 use crate::slot::task_path;
@@ -67,6 +69,14 @@ fn paths_of(alloc: Global, tasks: &[Task]) -> Result<Vec<Path>, AllocError>
     Ok(paths)
 }
 
+// The path of the task at this place.
+fn path_at(tasks: &[Task], place: usize) -> Option<&[u16]>
+    ensures { option_map now_of result ≡ slice_get (map path_in tasks.now) place }
+{
+    let task = tasks.get(place)?;
+    Some(task.path.as_slice())
+}
+
 impl<'j> Order<'j> {
     ghost use Rattle.std.specs.Prelude.{◌≡◌};
     ghost use Rattle.step_core.specs.OrderValue.{order_value, IsOrder};
@@ -108,11 +118,12 @@ impl<'j> Order<'j> {
 }
 
 impl<'j> Delivery<'j> {
-    ghost use Rattle.std.specs.Prelude.{◌≡◌, IfOk, map};
+    ghost use Rattle.std.specs.Prelude.{◌≡◌, IfOk, map, length, slice_get};
+    ghost use Rattle.std.specs.Option.{option_map};
     ghost use Rattle.task_lang.specs.Meaning.{segment_of};
     ghost use Rattle.task_lang.specs.Views.{plans};
     ghost use Rattle.step_core.specs.SlotParts.{path_of};
-    ghost use Rattle.step_core.specs.OrderValue.{IsDelivery, ordered_task, delivered_segment, has_synced, spawned_paths};
+    ghost use Rattle.step_core.specs.OrderValue.{IsDelivery, ordered_task, delivered_segment, has_synced, spawned_paths, now_of};
 
     /// Does the segment of an order.
     pub fn of(alloc: Global, order: Order<'j>) -> Result<Self, AllocError>
@@ -154,6 +165,22 @@ impl<'j> Delivery<'j> {
         ensures { IfOk result (λ paths. map path_of paths.items ≡ spawned_paths (delivered_segment self.now)) }
     {
         paths_of(alloc, &self.segment.spawns)
+    }
+
+    /// How many tasks were spawned. It takes no memory.
+    #[tactic(auto, using(crate::proofs::Deeds::paths_counted))]
+    pub fn spawn_count(&self) -> usize
+        ensures { result ≡ length (spawned_paths (delivered_segment self.now)) }
+    {
+        self.segment.spawns.len()
+    }
+
+    /// The path of the spawned task of this number, from 0, in order. It takes no memory.
+    #[tactic(auto, using(crate::proofs::Deeds::paths_mapped))]
+    pub fn spawn_path(&self, number: usize) -> Option<&[u16]>
+        ensures { option_map now_of result ≡ slice_get (spawned_paths (delivered_segment self.now)) number }
+    {
+        path_at(&self.segment.spawns, number)
     }
 
     /// Whether its task synced. It takes no memory.

@@ -1,5 +1,6 @@
 //! What is read of a round.
 ghost use Rattle.std.specs.Prelude.{◌≡◌, ◌≤◌, ◌++◌, length, false, IfOk, OnOk, MatchOption, map};
+ghost use Rattle.std.specs.Arc.{arc_value};
 ghost use Rattle.step_core.specs.Slots.{all_prints, all_told};
 ghost use Rattle.step_core.specs.SlotParts.{path_of, slot_path, IsPlaceOf};
 ghost use Rattle.step_core.specs.Taking.{is_live};
@@ -8,6 +9,8 @@ use crate::slot::{Finished, Slot, task_path};
 use phase_records::{PhaseRecord, Print};
 use smallvec::SmallVec;
 use std::alloc::{AllocError, Global};
+use std::sync::Arc;
+use superstep_memory::arrays::Arrays;
 use superstep_memory::path::{Path, is_before};
 
 /// The live paths, in order.
@@ -112,4 +115,31 @@ pub(crate) fn records_of(
         rest = after;
     }
     Ok(records)
+}
+
+/// What was printed, superstep by superstep, moved together.
+pub(crate) fn join_prints(
+    alloc: Global,
+    finished: Vec<Finished>,
+) -> Result<Vec<Print>, AllocError>
+    ensures { IfOk result (λ prints. prints.items ≡ all_prints finished.items) }
+{
+    let mut rest = finished;
+    rest.reverse();
+    let mut prints = Vec::new(alloc);
+    while let Some(one) = rest.pop() {
+        let mut more = one.prints;
+        prints.append(&mut more)?;
+    }
+    Ok(prints)
+}
+
+/// The arrays: themselves where nobody else has them, else a copy.
+pub(crate) fn own_arrays(alloc: Global, shared: Arc<Arrays>) -> Result<Arrays, AllocError>
+    ensures { IfOk result (λ arrays. arrays ≡ arc_value shared) }
+{
+    match Arc::try_unwrap(shared) {
+        Ok(arrays) => Ok(arrays),
+        Err(shared) => shared.copy(alloc),
+    }
 }

@@ -13,7 +13,7 @@ use crate::closing::{collect_prints, find_fault, find_missing, land_opening, rec
 use crate::fault::{AcceptFault, CloseFault, Outcome};
 use crate::next::{count_living, go_on, make_room};
 use crate::order::{Delivery, Order};
-use crate::reading::{find_place, paths_of, prints_of, records_of};
+use crate::reading::{find_place, join_prints, own_arrays, paths_of, prints_of, records_of};
 use crate::slot::{Blame, Finished, Slot};
 use phase_records::{JobStatus, Report};
 use smallvec::SmallVec;
@@ -24,7 +24,6 @@ use superstep_memory::arrays::Arrays;
 use superstep_memory::path::Path;
 use task_lang::body::Body;
 use task_lang::job::{Job, Start};
-use task_lang::segment::segment;
 use task_lang::task::Task;
 
 /// The supersteps of a job so far, and what was delivered of the next. Its type keeps that its arrays, prints, records,
@@ -36,6 +35,8 @@ pub struct Round<'j> {
     step: u32,
     opening: Arc<Arrays>,
     slots: Vec<Slot>,
+    // How many of the slots have no delivery.
+    missing: usize,
     finished: Vec<Finished>,
     fault: Option<Blame>,
     // Room for a closing, kept from one to the next. What stands in it means nothing.
@@ -51,7 +52,11 @@ impl<'j> Model for Round<'j> {
 
     ghost view = { λ r. whole r.job.now r.limit r.step (arc_value r.opening) r.slots.items r.finished.items r.fault };
 
-    ghost invariant = { λ r. IsRound (whole r.job.now r.limit r.step (arc_value r.opening) r.slots.items r.finished.items r.fault) };
+    ghost use Rattle.std.specs.Prelude.{◌≡◌};
+    ghost use Rattle.step_core.specs.Slots.{missing_in};
+
+    ghost invariant = { λ r. IsRound (whole r.job.now r.limit r.step (arc_value r.opening) r.slots.items r.finished.items r.fault)
+        × (r.missing ≡ missing_in r.slots.items) };
 }
 
 // Slots for the start lines.
@@ -101,18 +106,17 @@ fn finish(
 }
 
 impl<'j> Round<'j> {
-    ghost use Rattle.std.specs.Prelude.{◌≡◌, ◌≤◌, ◌<◌, ◌↔◌, None, Some, IsTrue, IfOk, OnOk, IfErr, OnErr, MatchOption, is_some, true, false, length, map};
+    ghost use Rattle.std.specs.Prelude.{◌≡◌, ◌≤◌, ◌<◌, ◌↔◌, None, Some, IsTrue, IfOk, OnOk, IfErr, OnErr, MatchOption, is_some, true, false, length, map, slice_get};
     ghost use Rattle.std.specs.Option.{option_map};
     ghost use Rattle.superstep_memory.specs.Paths.{is_rising};
     ghost use Rattle.phase_records.specs.StatusSeen.{status_seen};
     ghost use Rattle.step_core.specs.Program.{program_of};
     ghost use Rattle.step_core.specs.JobMeaning.{opening, report_in};
     ghost use Rattle.step_core.specs.Superstep.{superstep, live_paths};
-    ghost use Rattle.step_core.specs.Slots.{delivered, first_missing};
+    ghost use Rattle.step_core.specs.Slots.{delivered, first_missing, missing_in};
     ghost use Rattle.step_core.specs.SlotParts.{path_of, IsPlaceOf};
     ghost use Rattle.step_core.specs.RoundValue.{IsRound, Opens, state_of, status_in, slots_in};
-    ghost use Rattle.step_core.specs.Taking.{Refuses, Takes, with_delivery, NotClosed, outcome_of, IsOrderOf, IsOrderAt, is_live};
-    ghost use Rattle.step_core.specs.Along.{HasTaken};
+    ghost use Rattle.step_core.specs.Taking.{Refuses, Takes, IsDouble, with_delivery, NotClosed, outcome_of, IsOrderOf, IsOrderAt, is_live, task_at};
 
     /// A round of this job with this limit of supersteps, before the first of them.
     pub fn new(alloc: Global, job: &'j Job, limit: u32) -> Result<Self, AllocError>
@@ -120,6 +124,7 @@ impl<'j> Round<'j> {
         ensures { IfOk result (λ r. Opens r job.now limit (opening (program_of job.now))) }
     {
         let slots = start_slots(alloc, job.bodies(), job.starts())?;
+        let missing = slots.len();
         let arrays = job.arrays().copy(alloc)?;
         match Arc::new(alloc, arrays) {
             Ok(opening) => Ok(Round {
@@ -128,6 +133,7 @@ impl<'j> Round<'j> {
                 step: 0,
                 opening,
                 slots,
+                missing,
                 finished: Vec::new(alloc),
                 fault: None,
                 living: Vec::new(alloc),
@@ -137,8 +143,8 @@ impl<'j> Round<'j> {
         }
     }
 
-    /// Whether the job has ended.
-    pub(crate) fn has_ended(&self) -> bool
+    /// Whether the job has ended. It takes no memory.
+    pub fn has_ended(&self) -> bool
         ensures ended { result ≡ is_some (status_in self.now) }
         ensures round { IsRound self.now }
     {
@@ -197,11 +203,33 @@ impl<'j> Round<'j> {
         }))
     }
 
-    /// How many tasks live.
-    pub(crate) fn count(&self) -> usize
-        ensures { result ≡ length self.now.slots }
+    /// What the job leaves, once it has ended. The round is used up.
+    pub fn into_report(self, alloc: Global) -> Result<Option<Report>, AllocError>
+        ensures { IfOk result (λ report. report ≡ report_in self.entry.limit (state_of self.entry)) }
     {
-        self.slots.len()
+        let Some(status) = self.status() else {
+            return Ok(None);
+        };
+        let Round {
+            opening, finished, ..
+        } = self;
+        let records = records_of(alloc, &finished)?;
+        let prints = join_prints(alloc, finished)?;
+        let arrays = own_arrays(alloc, opening)?;
+        Ok(Some(Report {
+            prints,
+            records,
+            arrays,
+            status,
+        }))
+    }
+
+    /// For how many live tasks nothing was delivered yet: none exactly where closing doesn't answer `Missing`. It takes no
+    /// memory.
+    pub fn missing(&self) -> usize
+        ensures { result ≡ missing_in self.now.slots }
+    {
+        self.missing
     }
 
     /// What the segment of the live task at this place needs.
@@ -210,21 +238,11 @@ impl<'j> Round<'j> {
         requires place { place < length self.now.slots }
         ensures order { IfOk result (λ o. IsOrderAt self.now place o) }
         ensures path { IfOk result (λ o. IsPlaceOf self.now.slots o.task.path place) }
+        ensures task { IfOk result (λ o. option_map task_at (slice_get self.now.slots place) ≡ Some o.task) }
     {
         let task = self.slots[place].task().copy(alloc)?;
         let arrays = Arc::try_clone(&self.opening)?;
         Ok(Order::new(self.job, self.step, place, task, arrays))
-    }
-
-    /// Does the segment of the live task at this place and keeps it; one that was delivered before is replaced.
-    pub(crate) fn do_at(&mut self, alloc: Global, place: usize) -> Result<(), AllocError>
-        requires { place < length self.old.slots }
-        ensures { OnOk result (HasTaken self.old self.new place) }
-    {
-        let task = self.slots[place].task();
-        let done = segment(alloc, self.job, task, &self.opening, self.step)?;
-        self.slots[place].put(done);
-        Ok(())
     }
 
     /// What the segment of the live task of this path needs, the opening arrays and the step included; `None` where no
@@ -272,28 +290,28 @@ impl<'j> Round<'j> {
     }
 
     /// Takes a delivery of an order of this round, or refuses to and changes nothing: it is of another step; its order
-    /// isn't one of this round; its task has one already. The caller knows that it is of this job.
+    /// isn't one of this round; its task has one already. The caller knows that it is of this job: then an order of this step
+    /// is one of this round.
     pub fn accept_known(&mut self, delivery: Delivery<'j>) -> Result<(), AcceptFault>
         requires running { status_in self.old ≡ None }
         requires job { delivery.job ≡ self.old.job }
         ensures taken { OnOk result (Takes self.old delivery.entry) }
         ensures added { OnOk result (self.new ≡ with_delivery self.old delivery.entry) }
         ensures refused { IfErr result (λ fault. Refuses fault self.old delivery.entry) }
+        ensures own { delivery.entry.step ≡ self.old.step → IfErr result IsDouble }
         ensures unchanged { OnErr result (self.new ≡ self.old) }
     {
         if delivery.step() != self.step {
             return Err(AcceptFault::WrongStep);
         }
         let place = delivery.place();
-        if place >= self.slots.len() {
-            return Err(AcceptFault::Stranger);
-        }
         let _known = delivery.path();
         if self.slots[place].is_done() {
             return Err(AcceptFault::Double);
         }
         let segment = delivery.into_segment();
         self.slots[place].put(segment);
+        self.missing -= 1;
         Ok(())
     }
 
@@ -334,6 +352,7 @@ impl<'j> Round<'j> {
             return Err(CloseFault::Memory(fault));
         }
         go_on(&mut self.slots, &mut self.living, &mut self.spare);
+        self.missing = self.slots.len();
         self.step += 1;
         Ok(Outcome::Landed)
     }

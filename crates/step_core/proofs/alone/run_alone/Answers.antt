@@ -1,7 +1,10 @@
-use Rattle.step_core.proofs.Whole.{is_told}
+use Rattle.std.proofs.Common.{subst, List, length, ◌≤◌, sym}
+use Rattle.task_lang.specs.Views.{plans}
+use Rattle.task_lang.specs.declared.job.Start.{Start}
+use Rattle.step_core.proofs.Course.{starts_few}
 use Rattle.step_core.proofs.alone.run_alone.Goals as goal
 
-pub unreachable-requires : goal.unreachable-requires
-unreachable-requires c =
-    is_told c.in_ok-round.round c.run_round.new.round c.args.job.now c.args.limit c.in_ok-run_round.ensures c.in_ok-round.ensures.job
-    c.in_ok-round.ensures.limit _ c.in_ok-report.ensures c.in-None.is
+pub run_on-requires-clause-few : goal.run_on-requires-clause-few
+run_on-requires-clause-few c =
+    starts_few (plans c.bodies.result.now) c.in_ok-start_all.field-0.items c.starts.result.now c.in_ok-start_all.ensures
+    (subst (λ (ss : List Start). length ss ≤ 4096) (sym c.starts.ensures) c.bodies.ensures.kept.few_starts)

@@ -18,8 +18,8 @@ returns-clause-live c =
 
 pub returns-clause-rising : goal.returns-clause-rising
 returns-clause-rising c =
-    ap (λ (r : RoundValue). is_rising (live_paths (state_of r))) (sym c.self.view_is) ∙ reached_rises _ c.self.invariant
+    ap (λ (r : RoundValue). is_rising (live_paths (state_of r))) (sym c.self.view_is) ∙ reached_rises _ c.self.invariant.0
 
 pub returns-in_err-paths-clause-rising : goal.returns-in_err-paths-clause-rising
 returns-in_err-paths-clause-rising c =
-    ap (λ (r : RoundValue). is_rising (live_paths (state_of r))) (sym c.self.view_is) ∙ reached_rises _ c.self.invariant
+    ap (λ (r : RoundValue). is_rising (live_paths (state_of r))) (sym c.self.view_is) ∙ reached_rises _ c.self.invariant.0

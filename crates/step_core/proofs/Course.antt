@@ -1,0 +1,220 @@
+-- One superstep of a job on one thread.
+use Rattle.std.proofs.Common.{◌≡◌, ◌==◌, ℕ, suc, ◌+◌, ◌≤◌, ◌<◌, Bool, true, false, nat_lt, nat_le, List, [], ◌∷◌, ◌++◌, map, length, take, Option, Some, None, refl, sym, ap, ◌∙◌, subst, arith, append-nil}
+use Rattle.std.specs.Prelude.{ℤ, if◌then◌else◌}
+use Rattle.std.proofs.lemmas.List.{length-map}
+use Rattle.superstep_memory.specs.declared.arrays.Put.{Put}
+use Rattle.superstep_memory.specs.Landing.{landed, joined, written}
+use Rattle.superstep_memory.specs.Paths.{is_rising}
+use Rattle.superstep_memory.proofs.Landed.{landed_written, landed_none}
+use Rattle.phase_records.specs.PrintValue.{PrintValue}
+use Rattle.phase_records.specs.declared.record.PhaseRecord.{PhaseRecord}
+use Rattle.phase_records.specs.Status.{Status, Fault, Ended, Limit}
+use Rattle.task_lang.specs.TaskValue.{TaskValue}
+use Rattle.task_lang.specs.Meaning.{Plan, Task, Segment}
+use Rattle.task_lang.specs.declared.job.Start.{Start}
+use Rattle.task_lang.specs.Views.{task_of}
+use Rattle.step_core.specs.DeedValue.{DeedValue}
+use Rattle.step_core.specs.Program.{Program}
+use Rattle.step_core.specs.PathOrder.{in_path_order}
+use Rattle.step_core.specs.SlotParts.{path_in}
+use Rattle.step_core.specs.Superstep.{State, superstep, closed, ended_by, gone_on, first_fault, next_live, living_on, log_of, prints_of, record_of, live_paths}
+use Rattle.step_core.specs.JobMeaning.{so_far, status, status_of, start_tasks, told, report_of}
+use Rattle.step_core.specs.InPlace.{AllDone, deeds_of, IsAllDone, Told, living_with, left_in, spawned_in, AllFew, told_in}
+use Rattle.step_core.specs.Course.{course_state, HasFaulted, HasGone, left_by}
+use Rattle.step_core.specs.declared.alone.Course.{Course}
+use Rattle.step_core.proofs.InOrder.{put_all_mapped, count_in_order}
+use Rattle.step_core.proofs.InPlace.{no_fault, living_told, counted, all_few, paths_kept}
+use Rattle.step_core.proofs.Runs.{goes, ended_is_last}
+use Rattle.step_core.proofs.Deeds.{paths_mapped}
+use Rattle.step_core.proofs.Apart.{live-paths-rise}
+
+-- what these tasks do
+abbrev pub deeds_in : Program → Course → List (List ℕ × Segment)
+deeds_in p c = deeds_of p c.arrays c.step c.tasks.items
+
+none_faults : (p : Program) (us : List TaskValue) (ds : List DeedValue) (ss : List (List ℕ × Segment)) → AllDone p.plans us ds ss → first_fault ss ≡ None
+none_faults p us ds ss h = ap first_fault (sym (append-nil ss)) ∙ no_fault p.plans us ds ss [] h
+
+-- the next live tasks as they stand in memory
+next_told : (p : Program) (us : List TaskValue) (ds : List DeedValue) (ss : List (List ℕ × Segment)) → AllDone p.plans us ds ss
+    → map (task_of p.plans) (in_path_order path_in (living_with us ds)) ≡ next_live ss
+next_told p us ds ss h =
+    put_all_mapped path_in (λ (t : Task). t.path) (task_of p.plans) (λ t. refl) (living_with us ds) []
+    ∙ ap (in_path_order (λ (t : Task). t.path)) (living_told p.plans us ds ss h)
+
+next_count : (p : Program) (us : List TaskValue) (ds : List DeedValue) (ss : List (List ℕ × Segment)) → AllDone p.plans us ds ss
+    → length (next_live ss) ≡ length (living_with us ds)
+next_count p us ds ss h =
+    ap length (sym (next_told p us ds ss h))
+    ∙ length-map (in_path_order path_in (living_with us ds)) (task_of p.plans)
+    ∙ count_in_order path_in (living_with us ds)
+
+-- a fault ends the job
+pub by_fault : (p : Program) (c : Course) (f : ℕ × List ℕ) → first_fault (deeds_in p c) ≡ Some f → superstep p (course_state p c) ≡ ended_by (course_state p c) f
+by_fault p c f h = ap (closed (course_state p c) (deeds_in p c)) h
+
+chosen : (b : Bool) (x y : State) → b ≡ true → (if b then x else y) ≡ x
+chosen true x y h = refl
+chosen false x y h = cc
+
+other : (b : Bool) (x y : State) → b ≡ false → (if b then x else y) ≡ y
+other true x y h = cc
+other false x y h = refl
+
+-- too many tasks end it
+pub by_many : (p : Program) (c : Course) (us : List TaskValue) (ds : List DeedValue) → AllDone p.plans us ds (deeds_in p c) → 4096 < length (living_with us ds)
+    → superstep p (course_state p c) ≡ ended_by (course_state p c) (7, [])
+by_many p c us ds h lt =
+    let l = next_count p us ds (deeds_in p c) h in
+    let b : nat_lt 4096 (length (next_live (deeds_in p c))) ≡ true = grind arith in
+    ap (closed (course_state p c) (deeds_in p c)) (none_faults p us ds (deeds_in p c) h)
+    ∙ chosen _ (ended_by (course_state p c) (7, [])) (gone_on (course_state p c) (deeds_in p c) (next_live (deeds_in p c))) b
+
+-- the record that was made is that of the segments
+pub record_told : (p : Program) (c : Course) (us : List TaskValue) (ds : List DeedValue) → AllDone p.plans us ds (deeds_in p c)
+    → told_in c.step ds ≡ record_of c.step (deeds_in p c)
+record_told p c us ds h =
+    let k = counted p.plans us ds (deeds_in p c) h in
+    λ i. record { phase = c.step; parties = k.deeds i + k.born i; left = k.stopped i; spawned = k.born i }
+
+-- or it goes on
+pub by_landing : (p : Program) (old new : Course) (puts : List Put) (us : List TaskValue) (ds : List DeedValue) (after : List PrintValue) (told : PhaseRecord)
+    → IsAllDone p.plans (deeds_in p old) old.step puts us ds old.prints.items after → length (living_with us ds) ≤ 4096
+    → told ≡ told_in old.step ds
+    → new.step ≡ old.step + 1 → new.arrays ≡ written puts old.arrays → new.tasks.items ≡ in_path_order path_in (living_with us ds)
+    → new.prints.items ≡ after → new.records.items ≡ old.records.items ++ told ∷ [] → HasGone p old new
+by_landing p old new puts us ds after told h le et es ea ek ep er =
+    let ss = deeds_in p old in
+    let l = next_count p us ds ss h.done in
+    let b : nat_lt 4096 (length (next_live ss)) ≡ false = grind arith in
+    let lands : new.arrays ≡ landed (joined (map log_of ss)) old.arrays =
+    ea ∙ sym (landed_none (written puts old.arrays)) ∙ sym (landed_written puts [] old.arrays)
+    ∙ ap (λ (xs : List Put). landed xs old.arrays) (append-nil puts ∙ h.log) in
+    let live : map (task_of p.plans) new.tasks.items ≡ next_live ss = ap (map (task_of p.plans)) ek ∙ next_told p us ds ss h.done in
+    let records : new.records.items ≡ old.records.items ++ record_of old.step ss ∷ [] =
+    er ∙ ap (λ (r : PhaseRecord). old.records.items ++ r ∷ []) (et ∙ record_told p old us ds h.done) in
+    let prints : new.prints.items ≡ old.prints.items ++ prints_of old.step ss = ep ∙ h.shown in
+    record {
+      state =
+          (λ i. record { step = es i; arrays = lands i; live = live i; prints = prints i; records = records i; fault = None })
+          ∙ sym (ap (closed (course_state p old) ss) (none_faults p us ds ss h.done)
+          ∙ other _ (ended_by (course_state p old) (7, [])) (gone_on (course_state p old) ss (next_live ss)) b);
+      step = es;
+      few = let c = ap length ek ∙ count_in_order path_in (living_with us ds) in omega (arith, c, le);
+    }
+
+take_front : (xs ys : List PrintValue) → take (length xs) (xs ++ ys) ≡ xs
+take_front [] ys = refl
+take_front (x ∷ xs) ys = ap (λ zs. x ∷ zs) (take_front xs ys)
+
+-- what was printed in the superstep goes
+pub cut_off : (n : ℕ) (xs all ys more : List PrintValue) → ys ≡ take n all → n ≡ length xs → all ≡ xs ++ more → ys ≡ xs
+cut_off n xs all ys more h e a = h ∙ (λ i. take (e i) (a i)) ∙ take_front xs more
+
+-- where no fault was told all tasks did their segments
+pub did : (p : Program) (old : Course) (o : Option (ℕ × List ℕ)) (puts : List Put) (us : List TaskValue) (ds : List DeedValue) (after : List PrintValue)
+    → Told p.plans (deeds_in p old) old.step o puts us ds old.prints.items after → o ≡ None
+    → IsAllDone p.plans (deeds_in p old) old.step puts us ds old.prints.items after
+did p old o puts us ds after h e = subst (λ x. Told p.plans (deeds_in p old) old.step x puts us ds old.prints.items after) e h
+
+-- and the numbers fit
+pub record Fits (old : Course) (us : List TaskValue) (ds : List DeedValue) : Type 0 where
+  pub few : length ds ≤ 4096
+  pub small : AllFew ds
+  pub same : length us ≡ length ds
+  pub living : length (living_with us ds) + left_in ds ≡ length ds + spawned_in ds
+  pub rising : is_rising (map path_in us) ≡ true
+
+pub fits : (p : Program) (old : Course) (us : List TaskValue) (ds : List DeedValue) → AllDone p.plans us ds (deeds_in p old)
+    → length old.tasks.items ≤ 4096 → is_rising (map path_in old.tasks.items) ≡ true → Fits old us ds
+fits p old us ds h le r =
+    let k = counted p.plans us ds (deeds_in p old) h in
+    let e = paths_kept p old.arrays old.step old.tasks.items us ds h in
+    let l : length us ≡ length old.tasks.items = sym (length-map us path_in) ∙ ap length e ∙ length-map old.tasks.items path_in in
+    let s = k.tasks in
+    record {
+      few = omega (arith, l, s, le);
+      small = all_few p old.arrays old.step old.tasks.items us ds h;
+      same = k.tasks;
+      living = k.living;
+      rising = ap is_rising e ∙ r;
+    }
+
+-- ---- supersteps one after another
+
+-- the job ends in the state in which this is told
+ended_at : (p : Program) (limit n : ℕ) (st : State) (s : Status) → st ≡ so_far p limit n → status limit st ≡ Some s → report_of p limit ≡ told st (Some s)
+ended_at p limit n st s e h =
+    let last : so_far p limit n ≡ so_far p limit limit = ended_is_last p limit n s (ap (status limit) (sym e) ∙ h) in
+    ap (λ (x : State). told x (status limit x)) (sym (e ∙ last)) ∙ ap (told st) h
+
+pub at_end : (p : Program) (limit n : ℕ) (c : Course) (s : Status) → course_state p c ≡ so_far p limit n → status limit (course_state p c) ≡ Some s
+    → report_of p limit ≡ Some (left_by c s)
+at_end p limit n c s e h = ended_at p limit n (course_state p c) s e h
+
+pub is_running : (p : Program) (limit : ℕ) (c : Course) → 0 < length c.tasks.items → c.step < limit → status limit (course_state p c) ≡ None
+is_running p limit c some lt = by c.tasks.items some
+  where
+    late : (b : Bool) → b ≡ false → (if b then Some (Limit c.step) else None) ≡ None
+    late true h = cc
+    late false h = refl
+
+    by : (ts : List TaskValue) → 0 < length ts → status_of limit c.step None (map (task_of p.plans) ts) ≡ None
+    by [] h = absurd (omega arith)
+    by (t ∷ ts) h = let b : nat_le limit c.step ≡ false = grind arith in late (nat_le limit c.step) b
+
+pub is_over : (p : Program) (limit : ℕ) (c : Course) → length c.tasks.items ≡ 0 → status limit (course_state p c) ≡ Some (Ended c.step)
+is_over p limit c none = by c.tasks.items none
+  where
+    by : (ts : List TaskValue) → length ts ≡ 0 → status_of limit c.step None (map (task_of p.plans) ts) ≡ Some (Ended c.step)
+    by [] h = refl
+    by (t ∷ ts) h = absurd (omega arith)
+
+pub is_late : (p : Program) (limit : ℕ) (c : Course) → 0 < length c.tasks.items → limit ≤ c.step → status limit (course_state p c) ≡ Some (Limit c.step)
+is_late p limit c some le = by c.tasks.items some
+  where
+    late : (b : Bool) → b ≡ true → (if b then Some (Limit c.step) else None) ≡ Some (Limit c.step)
+    late true h = refl
+    late false h = cc
+
+    by : (ts : List TaskValue) → 0 < length ts → status_of limit c.step None (map (task_of p.plans) ts) ≡ Some (Limit c.step)
+    by [] h = absurd (omega arith)
+    by (t ∷ ts) h = let b : nat_le limit c.step ≡ true = grind arith in late (nat_le limit c.step) b
+
+abbrev pub Reached : Program → ℕ → State → Type 0
+Reached p limit st = (n : ℕ) × (st ≡ so_far p limit n)
+
+-- one superstep more
+pub reached_more : (p : Program) (limit : ℕ) (st next : State) → Reached p limit st → status limit st ≡ None → next ≡ superstep p st → Reached p limit next
+reached_more p limit st next r run e = (
+  suc r.0,
+  e ∙ ap (superstep p) r.1
+      ∙ sym (goes (status limit (so_far p limit r.0)) (so_far p limit r.0) (superstep p (so_far p limit r.0)) (ap (status limit) (sym r.1) ∙ run)),
+)
+
+-- a fault ends the job, and what came before it is left
+pub at_fault : (p : Program) (limit : ℕ) (old new : Course) (f : ℕ × List ℕ) → Reached p limit (course_state p old) → status limit (course_state p old) ≡ None
+    → HasFaulted p f old new → report_of p limit ≡ Some (left_by new (Fault f.0 new.step f.1))
+at_fault p limit old new f r run h =
+    let st = course_state p old in
+    let more = reached_more p limit st (ended_by st f) r run (sym h.fault) in
+    ended_at p limit more.0 (ended_by st f) (Fault f.0 st.step f.1) more.1 refl
+    ∙ sym (λ i. Some (record { prints = h.prints i; records = h.records i; arrays = h.arrays i; status = Fault f.0 (h.step i) f.1 }))
+
+-- live paths rise
+pub rises : (p : Program) (limit : ℕ) (c : Course) → Reached p limit (course_state p c) → is_rising (map path_in c.tasks.items) ≡ true
+rises p limit c r =
+    ap is_rising (paths_mapped p.plans c.tasks.items) ∙ ap (λ (x : State). is_rising (live_paths x)) r.1 ∙ live-paths-rise p limit r.0
+
+pub starts_few : (ps : List Plan) (ts : List TaskValue) (starts : List Start) → map (task_of ps) ts ≡ start_tasks ps 0 starts → length starts ≤ 4096 → length ts ≤ 4096
+starts_few ps ts starts e le = let l : length ts ≡ length starts = sym (length-map ts (task_of ps)) ∙ ap length e ∙ count 0 starts in omega (arith, l, le)
+  where
+    count : (n : ℕ) (ss : List Start) → length (start_tasks ps n ss) ≡ length ss
+    count n [] = refl
+    count n (s ∷ ss) = ap suc (count (suc n) ss)
+
+pub none_there : (n : ℕ) (b : Bool) → b ≡ (n == 0) → b ≡ true → n ≡ 0
+none_there n b h t = grind arith
+
+pub some_there : (n : ℕ) (b : Bool) → b ≡ (n == 0) → b ≡ false → 0 < n
+some_there n b h t = grind arith

@@ -1,0 +1,311 @@
+-- What live tasks did in their places.
+use Rattle.std.proofs.Common.{◌≡◌, ℕ, zero, suc, ◌+◌, ◌≤◌, ◌<◌, Bool, true, false, List, [], ◌∷◌, ◌++◌, map, length, Option, Some, None, slice_get, slice_set, get_or, refl, sym, ap, ◌∙◌, subst, arith, append_assoc, append-nil}
+use Rattle.std.specs.Prelude.{ℤ, if◌then◌else◌, ◌&&◌}
+use Rattle.std.proofs.lemmas.List.{length-map, length-append}
+use Rattle.superstep_memory.specs.Paths.{path_lt, is_rising}
+use Rattle.superstep_memory.proofs.PathOrder.{rising_rest, lt_asym}
+use Rattle.task_lang.proofs.AllSegments.{numbers-its-spawns}
+use Rattle.step_core.specs.PathOrder.{put_in, in_path_order}
+use Rattle.step_core.specs.SlotParts.{path_in}
+use Rattle.superstep_memory.specs.declared.arrays.Put.{Put}
+use Rattle.superstep_memory.specs.Landing.{joined}
+use Rattle.phase_records.specs.PrintValue.{PrintValue}
+use Rattle.task_lang.specs.TaskValue.{TaskValue}
+use Rattle.task_lang.specs.Meaning.{Plan, Task, After, Segment, Synced, Stopped, Faulted, segment_of}
+use Rattle.task_lang.specs.Views.{task_of}
+use Rattle.step_core.specs.DeedValue.{DeedValue}
+use Rattle.step_core.specs.Program.{Program}
+use Rattle.step_core.specs.Superstep.{segments, first_fault, or_later, log_of, print_of, prints_of, living_on, synced, stopped, left, spawned}
+use Rattle.step_core.specs.InPlace.{end_of, IsDeed, ToldOne, AllDone, deeds_of, IsAllDone, Told, kept, living_with, one_left, left_in, spawned_in, AllFew}
+
+-- the first tasks are done, and the others stand as they were
+pub record IsUnderWay (p : Program) (arrays : List (List ℕ × List ℤ)) (step : ℕ) (olds : List TaskValue) (place : ℕ) (puts : List Put) (tasks : List TaskValue) (ds : List DeedValue) (before after : List PrintValue) : Type 0 where
+  pub us : List TaskValue
+  pub rest : List TaskValue
+  pub front : List (List ℕ × Segment)
+  pub cut : tasks ≡ us ++ rest
+  pub count : length us ≡ place
+  pub all : deeds_of p arrays step olds ≡ front ++ deeds_of p arrays step rest
+  pub log : puts ≡ joined (map log_of front)
+  pub shown : after ≡ before ++ prints_of step front
+  pub done : AllDone p.plans us ds front
+
+pub none_done : (p : Program) (arrays : List (List ℕ × List ℤ)) (step : ℕ) (olds : List TaskValue) (puts : List Put) (ds : List DeedValue) (before : List PrintValue)
+    → puts ≡ [] → ds ≡ [] → IsUnderWay p arrays step olds 0 puts olds ds before before
+none_done p arrays step olds puts ds before e f = record {
+  us = [];
+  rest = olds;
+  front = [];
+  cut = refl;
+  count = refl;
+  all = refl;
+  log = e;
+  shown = sym (append-nil before);
+  done = subst (λ (x : List DeedValue). AllDone p.plans [] x []) (sym f) tt;
+}
+
+done_more : (ps : List Plan) (us : List TaskValue) (ds : List DeedValue) (ss : List (List ℕ × Segment)) (u : TaskValue) (d : DeedValue) (s : List ℕ × Segment)
+    → AllDone ps us ds ss → u.path ≡ s.0 → IsDeed ps u d s.1 → AllDone ps (us ++ u ∷ []) (ds ++ d ∷ []) (ss ++ s ∷ [])
+done_more ps [] [] [] u d s h e i = (e, i, tt)
+done_more ps [] [] (x ∷ ss) u d s h e i = absurd h
+done_more ps [] (x ∷ ds) ss u d s h e i = absurd h
+done_more ps (x ∷ us) [] ss u d s h e i = absurd h
+done_more ps (x ∷ us) (y ∷ ds) [] u d s h e i = absurd h
+done_more ps (x ∷ us) (y ∷ ds) (z ∷ ss) u d s h e i = (h.0, h.1, done_more ps us ds ss u d s h.2 e i)
+
+joined_more : (ss : List (List ℕ × Segment)) (s : List ℕ × Segment) → joined (map log_of (ss ++ s ∷ [])) ≡ joined (map log_of ss) ++ s.1.puts
+joined_more [] s = append-nil s.1.puts
+joined_more (x ∷ ss) s = ap (λ (ps : List Put). x.1.puts ++ ps) (joined_more ss s) ∙ sym (append_assoc x.1.puts (joined (map log_of ss)) s.1.puts)
+
+prints_more : (step : ℕ) (ss : List (List ℕ × Segment)) (s : List ℕ × Segment) → prints_of step (ss ++ s ∷ []) ≡ prints_of step ss ++ map (print_of step s.0) s.1.prints
+prints_more step [] s = append-nil (map (print_of step s.0) s.1.prints)
+prints_more step (x ∷ ss) s =
+    ap (λ (ps : List PrintValue). map (print_of step x.0) x.1.prints ++ ps) (prints_more step ss s)
+    ∙ sym (append_assoc (map (print_of step x.0) x.1.prints) (prints_of step ss) (map (print_of step s.0) s.1.prints))
+
+set_at : (us rest : List TaskValue) (t u : TaskValue) → slice_set (us ++ t ∷ rest) (length us) u ≡ us ++ u ∷ rest
+set_at [] rest t u = refl
+set_at (x ∷ us) rest t u = ap (λ (ts : List TaskValue). x ∷ ts) (set_at us rest t u)
+
+get_at : (us rest : List TaskValue) (t d : TaskValue) → get_or (us ++ t ∷ rest) (length us) d ≡ t
+get_at [] rest t d = refl
+get_at (x ∷ us) rest t d = get_at us rest t d
+
+-- where a task stands that is still to be done
+record IsNext (rest : List TaskValue) (t : TaskValue) : Type 0 where
+  pub behind : List TaskValue
+  pub is : rest ≡ t ∷ behind
+
+next_is : (us rest tasks : List TaskValue) (place : ℕ) (t : TaskValue) → tasks ≡ us ++ rest → length us ≡ place → place < length tasks → t ≡ get_or tasks place t → IsNext rest t
+next_is us [] tasks place t e c lt g =
+    let l : length tasks ≡ length us = ap length e ∙ ap length (append-nil us) in absurd (omega (arith, l))
+next_is us (x ∷ rest) tasks place t e c lt g =
+    let is : t ≡ x = g ∙ (λ i. get_or (e i) (sym c i) t) ∙ get_at us rest x t in
+    record { behind = rest; is = λ i. sym is i ∷ rest }
+
+-- one task more is done
+pub one_more : (p : Program) (arrays : List (List ℕ × List ℤ)) (step : ℕ) (olds : List TaskValue) (place : ℕ) (puts qs : List Put) (tasks : List TaskValue) (ds es : List DeedValue) (before after shown : List PrintValue) (t u : TaskValue)
+    → IsUnderWay p arrays step olds place puts tasks ds before after → place < length tasks → t ≡ get_or tasks place t
+    → ToldOne p.plans (segment_of p.plans (task_of p.plans t) arrays step) step None t u puts qs ds es after shown
+    → IsUnderWay p arrays step olds (place + 1) qs (slice_set tasks place u) es before shown
+one_more p arrays step olds place puts qs tasks ds es before after shown t u h lt g told =
+    let n = next_is h.us h.rest tasks place t h.cut h.count lt g in
+    let s : List ℕ × Segment = (t.path, segment_of p.plans (task_of p.plans t) arrays step) in
+    let d = told.3.0 in
+    let whole : tasks ≡ h.us ++ t ∷ n.behind = h.cut ∙ ap (λ (ts : List TaskValue). h.us ++ ts) n.is in
+    record {
+      us = h.us ++ u ∷ [];
+      rest = n.behind;
+      front = h.front ++ s ∷ [];
+      cut = (λ i. slice_set (whole i) (sym h.count i) u) ∙ set_at h.us n.behind t u ∙ sym (append_assoc h.us (u ∷ []) n.behind);
+      count = more h.us u ∙ ap suc h.count ∙ omega arith;
+      all = h.all ∙ ap (λ (ts : List TaskValue). h.front ++ deeds_of p arrays step ts) n.is
+          ∙ sym (append_assoc h.front (s ∷ []) (deeds_of p arrays step n.behind));
+      log = told.0 ∙ ap (λ (ps : List Put). ps ++ s.1.puts) h.log ∙ sym (joined_more h.front s);
+      shown = told.1 ∙ ap (λ (ps : List PrintValue). ps ++ map (print_of step t.path) s.1.prints) h.shown
+          ∙ append_assoc before (prints_of step h.front) (map (print_of step t.path) s.1.prints)
+          ∙ ap (λ (ps : List PrintValue). before ++ ps) (sym (prints_more step h.front s));
+      done = subst (λ (x : List DeedValue). AllDone p.plans (h.us ++ u ∷ []) x (h.front ++ s ∷ [])) (sym told.3.1)
+          (done_more p.plans h.us ds h.front u d s h.done told.2 told.3.2);
+    }
+  where
+    more : (xs : List TaskValue) (x : TaskValue) → length (xs ++ x ∷ []) ≡ suc (length xs)
+    more [] x = refl
+    more (y ∷ xs) x = ap suc (more xs x)
+
+-- all are done
+pub all_done : (p : Program) (arrays : List (List ℕ × List ℤ)) (step : ℕ) (olds : List TaskValue) (place : ℕ) (puts : List Put) (tasks : List TaskValue) (ds : List DeedValue) (before after : List PrintValue)
+    → IsUnderWay p arrays step olds place puts tasks ds before after → length tasks ≤ place
+    → IsAllDone p.plans (deeds_of p arrays step olds) step puts tasks ds before after
+all_done p arrays step olds place puts tasks ds before after h le = by h.rest h.cut h.all
+  where
+    by : (rest : List TaskValue) → tasks ≡ h.us ++ rest → deeds_of p arrays step olds ≡ h.front ++ deeds_of p arrays step rest
+        → IsAllDone p.plans (deeds_of p arrays step olds) step puts tasks ds before after
+    by [] cut all =
+        let front : deeds_of p arrays step olds ≡ h.front = all ∙ append-nil h.front in
+        let us : tasks ≡ h.us = cut ∙ append-nil h.us in
+        record {
+          log = h.log ∙ ap (λ (ss : List (List ℕ × Segment)). joined (map log_of ss)) (sym front);
+          shown = h.shown ∙ ap (λ (ss : List (List ℕ × Segment)). before ++ prints_of step ss) (sym front);
+          done = subst (λ (xs : List TaskValue). AllDone p.plans xs ds (deeds_of p arrays step olds)) (sym us)
+              (subst (AllDone p.plans h.us ds) (sym front) h.done);
+        }
+    by (t ∷ rest) cut all =
+        let l = longer h.us rest t in
+        let m : length tasks ≡ length (h.us ++ t ∷ rest) = ap length cut in
+        let c = h.count in
+        absurd (omega (arith, l, m, c, le))
+      where
+        longer : (xs ys : List TaskValue) (y : TaskValue) → length xs < length (xs ++ y ∷ ys)
+        longer [] ys y = omega arith
+        longer (x ∷ xs) ys y = let l = longer xs ys y in omega (arith, l)
+
+-- who did something didn't fault
+pub no_fault : (ps : List Plan) (us : List TaskValue) (ds : List DeedValue) (ss more : List (List ℕ × Segment)) → AllDone ps us ds ss → first_fault (ss ++ more) ≡ first_fault more
+no_fault ps [] [] [] more h = refl
+no_fault ps [] [] (s ∷ ss) more h = absurd h
+no_fault ps [] (d ∷ ds) ss more h = absurd h
+no_fault ps (u ∷ us) [] ss more h = absurd h
+no_fault ps (u ∷ us) (d ∷ ds) [] more h = absurd h
+no_fault ps (u ∷ us) (d ∷ ds) (s ∷ ss) more h =
+    ap (or_later (first_fault (ss ++ more)) s.0) h.1.1 ∙ by d.synced (no_fault ps us ds ss more h.2)
+  where
+    by : (b : Bool) → first_fault (ss ++ more) ≡ first_fault more → or_later (first_fault (ss ++ more)) s.0 (end_of ps b u) ≡ first_fault more
+    by true e = e
+    by false e = e
+
+later_fault : (path : List ℕ) (g : Segment) (rest : List (List ℕ × Segment)) (f : ℕ × List ℕ) → first_fault ((path, g) ∷ []) ≡ Some f → first_fault ((path, g) ∷ rest) ≡ Some f
+later_fault path g rest f h = by g.after h
+  where
+    by : (a : After) → or_later None path a ≡ Some f → or_later (first_fault rest) path a ≡ Some f
+    by (Synced t) e = cc
+    by Stopped e = cc
+    by (Faulted x) e = e
+
+-- the next task faults
+pub one_faults : (p : Program) (arrays : List (List ℕ × List ℤ)) (step : ℕ) (olds : List TaskValue) (place : ℕ) (puts qs : List Put) (tasks : List TaskValue) (ds es : List DeedValue) (before after shown : List PrintValue) (t u : TaskValue) (f : ℕ × List ℕ)
+    → IsUnderWay p arrays step olds place puts tasks ds before after → place < length tasks → t ≡ get_or tasks place t
+    → ToldOne p.plans (segment_of p.plans (task_of p.plans t) arrays step) step (Some f) t u puts qs ds es after shown
+    → (first_fault (deeds_of p arrays step olds) ≡ Some f) × ((more : List PrintValue) × (shown ≡ before ++ more))
+one_faults p arrays step olds place puts qs tasks ds es before after shown t u f h lt g told =
+    let n = next_is h.us h.rest tasks place t h.cut h.count lt g in (
+      ap first_fault h.all ∙ no_fault p.plans h.us ds h.front (deeds_of p arrays step h.rest) h.done
+          ∙ ap (λ (ts : List TaskValue). first_fault (deeds_of p arrays step ts)) n.is
+          ∙ later_fault t.path (segment_of p.plans (task_of p.plans t) arrays step) (deeds_of p arrays step n.behind) f told.1,
+      (prints_of step h.front, told.0 ∙ h.shown),
+    )
+
+living_append : (ts us : List TaskValue) (ds es : List DeedValue) → length ts ≡ length ds → living_with (ts ++ us) (ds ++ es) ≡ living_with ts ds ++ living_with us es
+living_append [] us [] es h = refl
+living_append [] us (d ∷ ds) es h = absurd (omega arith)
+living_append (t ∷ ts) us [] es h = absurd (omega arith)
+living_append (t ∷ ts) us (d ∷ ds) es h =
+    ap (λ (xs : List TaskValue). (kept d.synced t ++ d.spawns) ++ xs) (living_append ts us ds es (omega arith))
+    ∙ sym (append_assoc (kept d.synced t ++ d.spawns) (living_with ts ds) (living_with us es))
+
+-- the last task and its deed
+pub living_last : (ts us : List TaskValue) (t : TaskValue) (ds es : List DeedValue) (d : DeedValue) → ts ≡ us ++ t ∷ [] → ds ≡ es ++ d ∷ [] → length ts ≡ length ds
+    → living_with ts ds ≡ living_with us es ++ (kept d.synced t ++ d.spawns)
+living_last ts us t ds es d e f h =
+    let l : length ts ≡ length us + 1 = ap length e ∙ more us t in
+    let m : length ds ≡ length es + 1 = ap length f ∙ more es d in
+    (λ i. living_with (e i) (f i)) ∙ living_append us (t ∷ []) es (d ∷ []) (omega (arith, l, m, h))
+    ∙ ap (λ (xs : List TaskValue). living_with us es ++ xs) (append-nil (kept d.synced t ++ d.spawns))
+  where
+    more : {A : Type 0} (xs : List A) (x : A) → length (xs ++ x ∷ []) ≡ length xs + 1
+    more [] x = refl
+    more (y ∷ xs) x = let l = more xs x in omega (arith, l)
+
+map_append : {A B : Type 0} (f : A → B) (xs ys : List A) → map f (xs ++ ys) ≡ map f xs ++ map f ys
+map_append f [] ys = refl
+map_append f (x ∷ xs) ys = ap (λ zs. f x ∷ zs) (map_append f xs ys)
+
+-- the tasks that live on are those of the segments
+pub living_told : (ps : List Plan) (us : List TaskValue) (ds : List DeedValue) (ss : List (List ℕ × Segment)) → AllDone ps us ds ss → map (task_of ps) (living_with us ds) ≡ living_on ss
+living_told ps [] [] [] h = refl
+living_told ps [] [] (s ∷ ss) h = absurd h
+living_told ps [] (d ∷ ds) ss h = absurd h
+living_told ps (u ∷ us) [] ss h = absurd h
+living_told ps (u ∷ us) (d ∷ ds) [] h = absurd h
+living_told ps (u ∷ us) (d ∷ ds) (s ∷ ss) h =
+    map_append (task_of ps) (kept d.synced u ++ d.spawns) (living_with us ds)
+    ∙ (λ i. (map_append (task_of ps) (kept d.synced u) d.spawns i) ++ living_told ps us ds ss h.2 i)
+    ∙ (λ i. (map (task_of ps) (kept d.synced u) ++ h.1.0 i) ++ living_on ss)
+    ∙ ap (λ (xs : List Task). (xs ++ s.1.spawns) ++ living_on ss) (by d.synced ∙ ap synced (sym h.1.1))
+  where
+    by : (b : Bool) → map (task_of ps) (kept b u) ≡ synced (end_of ps b u)
+    by true = refl
+    by false = refl
+
+-- what is counted of segments
+pub record IsCounted (us : List TaskValue) (ds : List DeedValue) (ss : List (List ℕ × Segment)) : Type 0 where
+  pub tasks : length us ≡ length ds
+  pub deeds : length ds ≡ length ss
+  pub stopped : left_in ds ≡ left ss
+  pub born : spawned_in ds ≡ spawned ss
+  pub living : length (living_with us ds) + left_in ds ≡ length ds + spawned_in ds
+
+counted_one : (ps : List Plan) (u : TaskValue) (d : DeedValue) (s : List ℕ × Segment) (us : List TaskValue) (ds : List DeedValue) (ss : List (List ℕ × Segment))
+    → IsDeed ps u d s.1 → IsCounted us ds ss → IsCounted (u ∷ us) (d ∷ ds) (s ∷ ss)
+counted_one ps u d s us ds ss h c = record {
+  tasks = ap suc c.tasks;
+  deeds = ap suc c.deeds;
+  stopped = (λ i. (by d.synced ∙ ap stopped (sym h.1)) i + c.stopped i);
+  born = (λ i. (sym (length-map d.spawns (task_of ps)) ∙ ap length h.0) i + c.born i);
+  living =
+      let a = length-append (kept d.synced u ++ d.spawns) (living_with us ds) in
+      let b = length-append (kept d.synced u) d.spawns in
+      let k = one d.synced in
+      let l = c.living in
+      omega (arith, a, b, k, l);
+}
+  where
+    by : (b : Bool) → one_left b ≡ stopped (end_of ps b u)
+    by true = refl
+    by false = refl
+
+    one : (b : Bool) → length (kept b u) + one_left b ≡ 1
+    one true = refl
+    one false = refl
+
+pub counted : (ps : List Plan) (us : List TaskValue) (ds : List DeedValue) (ss : List (List ℕ × Segment)) → AllDone ps us ds ss → IsCounted us ds ss
+counted ps [] [] [] h = record { tasks = refl; deeds = refl; stopped = refl; born = refl; living = refl }
+counted ps [] [] (s ∷ ss) h = absurd h
+counted ps [] (d ∷ ds) ss h = absurd h
+counted ps (u ∷ us) [] ss h = absurd h
+counted ps (u ∷ us) (d ∷ ds) [] h = absurd h
+counted ps (u ∷ us) (d ∷ ds) (s ∷ ss) h = counted_one ps u d s us ds ss h.1 (counted ps us ds ss h.2)
+
+-- nobody spawned over eight tasks
+pub all_few : (p : Program) (arrays : List (List ℕ × List ℤ)) (step : ℕ) (olds us : List TaskValue) (ds : List DeedValue) → AllDone p.plans us ds (deeds_of p arrays step olds) → AllFew ds
+all_few p arrays step olds us [] h = tt
+all_few p arrays step [] [] (d ∷ ds) h = absurd h
+all_few p arrays step [] (u ∷ us) (d ∷ ds) h = absurd h
+all_few p arrays step (t ∷ olds) [] (d ∷ ds) h = absurd h
+all_few p arrays step (t ∷ olds) (u ∷ us) (d ∷ ds) h =
+    let few = (numbers-its-spawns p.plans (task_of p.plans t) arrays step).0 in
+    let l : length d.spawns ≡ length (segment_of p.plans (task_of p.plans t) arrays step).spawns = sym (length-map d.spawns (task_of p.plans)) ∙ ap length h.1.0 in
+    (omega (arith, few, l), all_few p arrays step olds us ds h.2)
+
+-- tasks keep their paths
+pub paths_kept : (p : Program) (arrays : List (List ℕ × List ℤ)) (step : ℕ) (olds us : List TaskValue) (ds : List DeedValue) → AllDone p.plans us ds (deeds_of p arrays step olds) → map path_in us ≡ map path_in olds
+paths_kept p arrays step [] [] ds h = refl
+paths_kept p arrays step [] (u ∷ us) [] h = absurd h
+paths_kept p arrays step [] (u ∷ us) (d ∷ ds) h = absurd h
+paths_kept p arrays step (t ∷ olds) [] [] h = absurd h
+paths_kept p arrays step (t ∷ olds) [] (d ∷ ds) h = absurd h
+paths_kept p arrays step (t ∷ olds) (u ∷ us) [] h = absurd h
+paths_kept p arrays step (t ∷ olds) (u ∷ us) (d ∷ ds) h = λ i. h.0 i ∷ paths_kept p arrays step olds us ds h.2 i
+
+-- where nobody stopped and nobody was spawned the same tasks live on
+pub all_stay : (us : List TaskValue) (ds : List DeedValue) → length us ≡ length ds → left_in ds ≡ 0 → spawned_in ds ≡ 0 → living_with us ds ≡ us
+all_stay [] [] l a b = refl
+all_stay [] (d ∷ ds) l a b = absurd (omega arith)
+all_stay (u ∷ us) [] l a b = absurd (omega arith)
+all_stay (u ∷ us) (d ∷ ds) l a b =
+    let none : length d.spawns ≡ 0 = omega arith in
+    let left : one_left d.synced ≡ 0 = omega arith in
+    (λ i. (stays d.synced left i ++ no_spawns d.spawns none i) ++ all_stay us ds (omega arith) (omega arith) (omega arith) i)
+  where
+    stays : (b : Bool) → one_left b ≡ 0 → kept b u ≡ u ∷ []
+    stays true h = refl
+    stays false h = cc
+
+    no_spawns : (ts : List TaskValue) → length ts ≡ 0 → ts ≡ []
+    no_spawns [] h = refl
+    no_spawns (t ∷ ts) h = absurd (omega arith)
+
+not_before : (t u : TaskValue) → path_lt t.path u.path ≡ true → path_lt u.path t.path ≡ false
+not_before t u h = lt_asym t.path u.path h
+
+-- what rises stands in path order
+pub rising_stays : (ts : List TaskValue) → is_rising (map path_in ts) ≡ true → in_path_order path_in ts ≡ ts
+rising_stays [] h = refl
+rising_stays (t ∷ []) h = refl
+rising_stays (t ∷ u ∷ ts) h =
+    ap (put_in path_in t) (rising_stays (u ∷ ts) (rising_rest t.path (map path_in (u ∷ ts)) h))
+    ∙ ap (λ b. if b then u ∷ put_in path_in t ts else t ∷ u ∷ ts) (not_before t u (first (path_lt t.path u.path) h))
+  where
+    first : (b : Bool) → (b && is_rising (u.path ∷ map path_in ts)) ≡ true → b ≡ true
+    first true e = refl
+    first false e = cc

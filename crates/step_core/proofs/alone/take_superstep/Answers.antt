@@ -1,0 +1,87 @@
+use Rattle.std.proofs.Common.{◌∙◌, sym, ap, subst, arith, refl, List, length, ◌≤◌, ◌<◌}
+use Rattle.phase_records.specs.declared.record.PhaseRecord.{PhaseRecord}
+use Rattle.step_core.specs.DeedValue.{DeedValue}
+use Rattle.step_core.specs.Program.{program_of}
+use Rattle.step_core.specs.Superstep.{ended_by}
+use Rattle.step_core.specs.Course.{course_state}
+use Rattle.step_core.specs.InPlace.{AllFew, told_in}
+use Rattle.step_core.proofs.Course.{by_fault, by_many, by_landing, cut_off, did, fits}
+use Rattle.step_core.proofs.alone.take_superstep.Goals as goal
+
+pub record_deeds-told-requires-clause-few : goal.record_deeds-told-requires-clause-few
+record_deeds-told-requires-clause-few c =
+    let p = program_of c.args.job.now in
+    let h = did p c.args.course.now c.in_ok-fault.fault c.do_all.new.work.puts.items c.do_all.new.tasks.items c.do_all.new.deeds.items c.do_all.new.prints.items c.in_ok-fault.ensures c.in-None.is in
+    let f = fits p c.args.course.now c.do_all.new.tasks.items c.do_all.new.deeds.items h.done c.requires.few c.requires.rising in
+    subst (λ (ds : List DeedValue). length ds ≤ 4096) (sym c.deref.ensures.value) f.few
+
+pub record_deeds-told-requires-clause-small : goal.record_deeds-told-requires-clause-small
+record_deeds-told-requires-clause-small c =
+    let p = program_of c.args.job.now in
+    let h = did p c.args.course.now c.in_ok-fault.fault c.do_all.new.work.puts.items c.do_all.new.tasks.items c.do_all.new.deeds.items c.do_all.new.prints.items c.in_ok-fault.ensures c.in-None.is in
+    let f = fits p c.args.course.now c.do_all.new.tasks.items c.do_all.new.deeds.items h.done c.requires.few c.requires.rising in
+    subst AllFew (sym c.deref.ensures.value) f.small
+
+pub overflow_sub-told : goal.overflow_sub-told
+overflow_sub-told c =
+    let p = program_of c.args.job.now in
+    let h = did p c.args.course.now c.in_ok-fault.fault c.do_all.new.work.puts.items c.do_all.new.tasks.items c.do_all.new.deeds.items c.do_all.new.prints.items c.in_ok-fault.ensures c.in-None.is in
+    let f = fits p c.args.course.now c.do_all.new.tasks.items c.do_all.new.deeds.items h.done c.requires.few c.requires.rising in
+    let e = c.record_deeds-told.ensures ∙ ap (told_in c.args.course.now.step) c.deref.ensures.value in
+    let l = ap (λ (r : PhaseRecord). r.left) e in
+    let m = ap (λ (r : PhaseRecord). r.parties) e in
+    omega (arith, l, m, f.living)
+
+pub returns-then-told-gt4096 : goal.returns-then-told-gt4096
+returns-then-told-gt4096 c =
+    let p = program_of c.args.job.now in
+    let us = c.do_all.new.tasks.items in
+    let ds = c.do_all.new.deeds.items in
+    let h = did p c.args.course.now c.in_ok-fault.fault c.do_all.new.work.puts.items us ds c.do_all.new.prints.items c.in_ok-fault.ensures c.in-None.is in
+    let f = fits p c.args.course.now us ds h.done c.requires.few c.requires.rising in
+    let e = c.record_deeds-told.ensures ∙ ap (told_in c.args.course.now.step) c.deref.ensures.value in
+    let l = ap (λ (r : PhaseRecord). r.left) e in
+    let m = ap (λ (r : PhaseRecord). r.parties) e in
+    record {
+      fault = by_many p c.args.course.now us ds h.done (omega (arith, l, m, f.living, c.if-told-gt4096.true)) ∙ ap (ended_by (course_state p c.args.course.now)) (sym c.too_many.ensures);
+      step = refl;
+      arrays = refl;
+      prints = cut_off c.len-printed.result c.args.course.now.prints.items c.do_all.new.prints.items _ _ c.truncate-then-told-gt4096.ensures.items (omega (arith, c.len-printed.ensures, c.args.course.now.prints.ok.0)) h.shown;
+      records = refl;
+    }
+
+pub go_on-requires-clause-same : goal.go_on-requires-clause-same
+go_on-requires-clause-same c =
+    let p = program_of c.args.job.now in
+    let h = did p c.args.course.now c.in_ok-fault.fault c.do_all.new.work.puts.items c.do_all.new.tasks.items c.do_all.new.deeds.items c.do_all.new.prints.items c.in_ok-fault.ensures c.in-None.is in
+    (fits p c.args.course.now c.do_all.new.tasks.items c.do_all.new.deeds.items h.done c.requires.few c.requires.rising).same
+
+pub go_on-requires-clause-count : goal.go_on-requires-clause-count
+go_on-requires-clause-count c =
+    let p = program_of c.args.job.now in
+    let h = did p c.args.course.now c.in_ok-fault.fault c.do_all.new.work.puts.items c.do_all.new.tasks.items c.do_all.new.deeds.items c.do_all.new.prints.items c.in_ok-fault.ensures c.in-None.is in
+    let f = fits p c.args.course.now c.do_all.new.tasks.items c.do_all.new.deeds.items h.done c.requires.few c.requires.rising in
+    let e = c.record_deeds-told.ensures ∙ ap (told_in c.args.course.now.step) c.deref.ensures.value in
+    let l = ap (λ (r : PhaseRecord). r.left) e in
+    let m = ap (λ (r : PhaseRecord). r.parties) e in
+    omega (arith, l, m, f.living)
+
+pub go_on-requires-clause-rising : goal.go_on-requires-clause-rising
+go_on-requires-clause-rising c =
+    let p = program_of c.args.job.now in
+    let h = did p c.args.course.now c.in_ok-fault.fault c.do_all.new.work.puts.items c.do_all.new.tasks.items c.do_all.new.deeds.items c.do_all.new.prints.items c.in_ok-fault.ensures c.in-None.is in
+    (fits p c.args.course.now c.do_all.new.tasks.items c.do_all.new.deeds.items h.done c.requires.few c.requires.rising).rising
+
+pub returns-in_ok-go_on-in-None : goal.returns-in_ok-go_on-in-None
+returns-in_ok-go_on-in-None c =
+    let p = program_of c.args.job.now in
+    let us = c.do_all.new.tasks.items in
+    let ds = c.do_all.new.deeds.items in
+    let h = did p c.args.course.now c.in_ok-fault.fault c.do_all.new.work.puts.items us ds c.do_all.new.prints.items c.in_ok-fault.ensures c.in-None.is in
+    let f = fits p c.args.course.now us ds h.done c.requires.few c.requires.rising in
+    let e = c.record_deeds-told.ensures ∙ ap (told_in c.args.course.now.step) c.deref.ensures.value in
+    let l = ap (λ (r : PhaseRecord). r.left) e in
+    let m = ap (λ (r : PhaseRecord). r.parties) e in
+    let g = c.in_ok-go_on-in-None.ensures in
+    by_landing p c.args.course.now c.go_on.new.course c.do_all.new.work.puts.items us ds c.do_all.new.prints.items c.record_deeds-told.result
+    h (omega (arith, l, m, f.living, c.if-told-gt4096.false)) e g.step g.arrays g.tasks g.prints g.records

@@ -1,0 +1,7 @@
+-- What a task did in its place: whether it goes on, and the tasks that it spawned.
+use Rattle.std.specs.Prelude.{Bool, List}
+use Rattle.task_lang.specs.TaskValue.{TaskValue}
+
+pub record DeedValue : Type 0 where
+  pub synced : Bool
+  pub spawns : List TaskValue

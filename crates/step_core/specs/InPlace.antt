@@ -1,0 +1,95 @@
+-- What live tasks did in their places (own).
+use Rattle.std.specs.Prelude.{◌≡◌, ◌≤◌, ℕ, ◌+◌, ℤ, Bool, true, false, List, [], ◌∷◌, ◌++◌, map, length, Option, Some, None}
+use Rattle.superstep_memory.specs.declared.arrays.Put.{Put}
+use Rattle.superstep_memory.specs.Landing.{joined}
+use Rattle.phase_records.specs.PrintValue.{PrintValue}
+use Rattle.phase_records.specs.declared.record.PhaseRecord.{PhaseRecord}
+use Rattle.task_lang.specs.declared.scene.Work.{Work}
+use Rattle.task_lang.specs.declared.scene.Ending.{Ending}
+use Rattle.task_lang.specs.declared.scene.Ending.TheVariants as ending
+use Rattle.task_lang.specs.declared.fault.Fault.{Fault}
+use Rattle.task_lang.specs.TaskValue.{TaskValue}
+use Rattle.task_lang.specs.Meaning.{Plan, Task, Segment, After, Synced, Stopped, faulted}
+use Rattle.task_lang.specs.Lent.{HasAdded}
+use Rattle.task_lang.specs.Views.{task_of}
+use Rattle.step_core.specs.DeedValue.{DeedValue}
+use Rattle.step_core.specs.Program.{Program}
+use Rattle.step_core.specs.Superstep.{segments, first_fault, log_of, print_of, prints_of}
+
+-- A task's segment ended so: its puts came behind the log, its prints and spawns stand in the buffers, and where it
+-- synced the task goes on as the segment says.
+abbrev pub IsDone : List Plan → Ending → TaskValue → TaskValue → Work → Work → Segment → Type 0
+IsDone ps (ending.Fault f) t u old new g = (g ≡ faulted f) × (u.path ≡ t.path)
+IsDone ps ending.Stopped t u old new g = HasAdded ps old new g × (g.after ≡ Stopped) × (u.path ≡ t.path)
+IsDone ps (ending.Synced place) t u old new g = HasAdded ps old new g × (g.after ≡ Synced (task_of ps u)) × (u.path ≡ t.path)
+
+-- how the segment of this task ended, as it stands now
+abbrev pub end_of : List Plan → Bool → TaskValue → After
+end_of ps true u = Synced (task_of ps u)
+end_of ps false u = Stopped
+
+-- this deed, and this task as it goes on, are what the segment says
+abbrev pub IsDeed : List Plan → TaskValue → DeedValue → Segment → Type 0
+IsDeed ps u d g = (map (task_of ps) d.spawns ≡ g.spawns) × (g.after ≡ end_of ps d.synced u)
+
+-- nobody faulted: the puts, prints and the deed came behind the others'; or the fault is told
+abbrev pub ToldOne : List Plan → Segment → ℕ → Option (ℕ × List ℕ) → TaskValue → TaskValue → List Put → List Put → List DeedValue → List DeedValue → List PrintValue → List PrintValue → Type 0
+ToldOne ps g step (Some f) t u puts qs ds es before after =
+    (after ≡ before) × (first_fault ((t.path, g) ∷ []) ≡ Some f)
+ToldOne ps g step None t u puts qs ds es before after =
+    (qs ≡ puts ++ g.puts) × (after ≡ before ++ map (print_of step t.path) g.prints) × (u.path ≡ t.path)
+    × ((d : DeedValue) × (es ≡ ds ++ d ∷ []) × IsDeed ps u d g)
+
+-- these deeds, and these tasks as they go on, are what the segments say, one by one
+abbrev pub AllDone : List Plan → List TaskValue → List DeedValue → List (List ℕ × Segment) → Type 0
+AllDone ps [] [] [] = Unit {0}
+AllDone ps (u ∷ us) (d ∷ ds) (s ∷ ss) = (u.path ≡ s.0) × IsDeed ps u d s.1 × AllDone ps us ds ss
+AllDone ps us ds ss = ⊥
+
+-- what these tasks do, each segment with the path of its task
+abbrev pub deeds_of : Program → List (List ℕ × List ℤ) → ℕ → List TaskValue → List (List ℕ × Segment)
+deeds_of p arrays step ts = segments p arrays step (map (task_of p.plans) ts)
+
+-- nobody faulted: the log, the prints, the deeds and the tasks are what the segments say
+pub record IsAllDone (ps : List Plan) (ss : List (List ℕ × Segment)) (step : ℕ) (puts : List Put) (us : List TaskValue) (ds : List DeedValue) (before after : List PrintValue) : Type 0 where
+  pub log : puts ≡ joined (map log_of ss)
+  pub shown : after ≡ before ++ prints_of step ss
+  pub done : AllDone ps us ds ss
+
+-- all that the tasks did, or the first fault, by path; what was printed before stays in front
+abbrev pub Told : List Plan → List (List ℕ × Segment) → ℕ → Option (ℕ × List ℕ) → List Put → List TaskValue → List DeedValue → List PrintValue → List PrintValue → Type 0
+Told ps ss step (Some f) puts us ds before after = (first_fault ss ≡ Some f) × ((more : List PrintValue) × (after ≡ before ++ more))
+Told ps ss step None puts us ds before after = IsAllDone ps ss step puts us ds before after
+
+abbrev pub kept : Bool → TaskValue → List TaskValue
+kept true t = t ∷ []
+kept false t = []
+
+-- the tasks that go on, and those that they spawned
+abbrev pub living_with : List TaskValue → List DeedValue → List TaskValue
+living_with ts [] = []
+living_with [] (d ∷ ds) = []
+living_with (t ∷ ts) (d ∷ ds) = (kept d.synced t ++ d.spawns) ++ living_with ts ds
+
+abbrev pub one_left : Bool → ℕ
+one_left true = 0
+one_left false = 1
+
+-- how many stopped
+abbrev pub left_in : List DeedValue → ℕ
+left_in [] = 0
+left_in (d ∷ ds) = one_left d.synced + left_in ds
+
+-- how many were spawned
+abbrev pub spawned_in : List DeedValue → ℕ
+spawned_in [] = 0
+spawned_in (d ∷ ds) = length d.spawns + spawned_in ds
+
+-- nobody spawned over eight tasks
+abbrev pub AllFew : List DeedValue → Type 0
+AllFew [] = Unit {0}
+AllFew (d ∷ ds) = (length d.spawns ≤ 8) × AllFew ds
+
+-- the record of a superstep in which tasks did this
+abbrev pub told_in : ℕ → List DeedValue → PhaseRecord
+told_in step ds = record { phase = step; parties = length ds + spawned_in ds; left = left_in ds; spawned = spawned_in ds }

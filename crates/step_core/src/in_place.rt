@@ -1,0 +1,161 @@
+//! What live tasks do in a superstep, each in its place.
+ghost use Rattle.std.specs.Prelude.{◌≡◌, ◌≤◌, ◌++◌, ◌∷◌, [], IfOk, OnOk, length};
+ghost use Rattle.task_lang.specs.Meaning.{segment_of};
+ghost use Rattle.task_lang.specs.Views.{plans, task_of};
+ghost use Rattle.step_core.specs.Program.{program_of};
+ghost use Rattle.step_core.specs.InPlace.{IsDone, ToldOne, Told, deeds_of, told_in, AllFew};
+
+use crate::closing::push_prints;
+use crate::slot::{Blame, task_path};
+use phase_records::{PhaseRecord, Print};
+use std::alloc::{AllocError, Global};
+use std::marker::Model;
+use superstep_memory::arrays::Arrays;
+use task_lang::job::Job;
+use task_lang::scene::{Ending, Work};
+use task_lang::segment::segment_into;
+use task_lang::task::Task;
+
+/// What a task did: whether it goes on, and the tasks that it spawned.
+#[derive(Drop)]
+pub(crate) struct Deed {
+    pub(crate) synced: bool,
+    pub(crate) spawns: Vec<Task>,
+}
+
+impl Model for Deed {
+    ghost use Rattle.step_core.specs.DeedValue.{DeedValue};
+
+    ghost Value = { DeedValue };
+
+    ghost view = { λ d. record { synced = d.synced; spawns = d.spawns.items } };
+}
+
+// Does the task's segment: its puts come behind those in the log, its prints and spawns replace what stood in their
+// buffers, and the task itself goes on where it synced. After a fault the task means nothing but its path.
+fn do_task(
+    alloc: Global,
+    job: &Job,
+    arrays: &Arrays,
+    step: u32,
+    task: &mut Task,
+    work: &mut Work,
+) -> Result<Ending, AllocError>
+    ensures { IfOk result (λ e. let ps = plans job.now.bodies in
+        IsDone ps e task.old task.new work.old work.new (segment_of ps (task_of ps task.old) arrays.now step)) }
+{
+    work.prints.clear();
+    work.spawns.clear();
+    std::mem::swap(&mut work.locals, &mut task.locals);
+    let ending = segment_into(alloc, job, task, arrays, step, work)?;
+    std::mem::swap(&mut work.locals, &mut task.locals);
+    if let Ending::Synced(place) = ending {
+        task.place = place;
+        task.spawned += work.spawns.len() as u16;
+    }
+    Ok(ending)
+}
+
+// Keeps what a task did.
+fn keep(
+    alloc: Global,
+    synced: bool,
+    work: &mut Work,
+    deeds: &mut Vec<Deed>,
+) -> Result<(), AllocError>
+    ensures deeds { OnOk result (deeds.new.items
+        ≡ deeds.old.items ++ record { synced = synced; spawns = work.old.spawns.items } ∷ []) }
+    ensures puts { OnOk result (work.new.puts.items ≡ work.old.puts.items) }
+{
+    let spawns = std::mem::replace(&mut work.spawns, Vec::new(alloc));
+    deeds.push(Deed { synced, spawns })?;
+    Ok(())
+}
+
+// Does a task's segment, and keeps what it did behind what others did, or tells its fault.
+fn do_one(
+    alloc: Global,
+    job: &Job,
+    arrays: &Arrays,
+    step: u32,
+    task: &mut Task,
+    work: &mut Work,
+    deeds: &mut Vec<Deed>,
+    prints: &mut Vec<Print>,
+) -> Result<Option<Blame>, AllocError>
+    ensures { IfOk result (λ fault. let ps = plans job.now.bodies in
+        ToldOne ps (segment_of ps (task_of ps task.old) arrays.now step) step fault task.old task.new
+        work.old.puts.items work.new.puts.items deeds.old.items deeds.new.items prints.old.items prints.new.items) }
+{
+    match do_task(alloc, job, arrays, step, task, work)? {
+        Ending::Synced(_) => {
+            push_prints(prints, step, task, &work.prints)?;
+            keep(alloc, true, work, deeds)?;
+            Ok(None)
+        }
+        Ending::Stopped => {
+            push_prints(prints, step, task, &work.prints)?;
+            keep(alloc, false, work, deeds)?;
+            Ok(None)
+        }
+        Ending::Fault(fault) => {
+            let code = fault.code();
+            let path = task_path(task);
+            Ok(Some(Blame { code, path }))
+        }
+    }
+}
+
+/// Does the segments of tasks, one after another: all their puts stand in one log then. Or tells the first fault.
+pub(crate) fn do_all(
+    alloc: Global,
+    job: &Job,
+    arrays: &Arrays,
+    step: u32,
+    tasks: &mut Vec<Task>,
+    work: &mut Work,
+    deeds: &mut Vec<Deed>,
+    prints: &mut Vec<Print>,
+) -> Result<Option<Blame>, AllocError>
+    requires none_put { work.old.puts.items ≡ [] }
+    requires none_done { deeds.old.items ≡ [] }
+    ensures { IfOk result (λ fault. Told (plans job.now.bodies) (deeds_of (program_of job.now) arrays.now step tasks.old.items) step
+        fault work.new.puts.items tasks.new.items deeds.new.items prints.old.items prints.new.items) }
+{
+    let mut place = 0;
+    while place < tasks.len() {
+        let task = &mut tasks[place];
+        let told = do_one(alloc, job, arrays, step, task, work, deeds, prints)?;
+        match told {
+            Some(blame) => return Ok(Some(blame)),
+            None => place += 1,
+        }
+    }
+    Ok(None)
+}
+
+/// The record of a superstep in which tasks did this.
+pub(crate) fn record_deeds(step: u32, deeds: &[Deed]) -> PhaseRecord
+    requires few { length deeds.now ≤ 4096 }
+    requires small { AllFew deeds.now }
+    ensures { result ≡ told_in step deeds.now }
+{
+    let mut count: u32 = 0;
+    let mut left: u32 = 0;
+    let mut spawned: u32 = 0;
+    let mut rest = deeds;
+    while let Some((deed, after)) = rest.split_first() {
+        count += 1;
+        if !deed.synced {
+            left += 1;
+        }
+        spawned += deed.spawns.len() as u32;
+        rest = after;
+    }
+    PhaseRecord {
+        phase: step,
+        parties: count + spawned,
+        left,
+        spawned,
+    }
+}
