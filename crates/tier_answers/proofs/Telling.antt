@@ -28,7 +28,7 @@ use Rattle.tier_core.specs.declared.call.Progress.TheVariants.{Idle, Begun, Seek
 use Rattle.tier_core.specs.declared.call.Step.{Step}
 use Rattle.tier_core.specs.declared.call.Step.TheVariants.{Begin, Go, Finish}
 use Rattle.tier_core.specs.declared.call.Turn.{Turn}
-use Rattle.tier_core.specs.Turn.{end_shown, is_refusing, lags, polled, first_turn, turn, claimed_by, climb_turn, own_kind}
+use Rattle.tier_core.specs.Turn.{end_shown, is_refusing, lags, polled, first_turn, turn, claimed_by, climb_turn, errand_place, own_kind}
 use Rattle.tier_core.specs.Machine.{State, IsCore, BegunFits, CallFits, view_at, call_at, is_active, is_due, turn_at, played}
 use Rattle.tier_core.specs.Run.{may_begin, may_go, may_finish, begun, finish_at, plan_ends, after, is_idle, may_call, IsCall, IsStepOfCalls, AreSteps}
 use Rattle.tier_core.proofs.Turns.{by_test, not_both}
@@ -246,7 +246,7 @@ turn_tells s i c past (Owing own) core h is active fits knows =
     let fit : ErrandFits s.parents (root_phase s.words) (view_at s.views i) (Climbing fits.0 fits.1) =
     subst (λ (x : Errand). ErrandFits s.parents (root_phase s.words) (view_at s.views i) x) fits.2 (fits_at s i core h).errand in
     let within : fits.0 < length s.words = subst (λ (n : ℕ). fits.0 < n) (sym core.tally.long) fit.1 in
-    subst (λ (x : Errand). Goal s i c past (climb_turn s.parents s.words own v x)) (sym fits.2)
+    subst (λ (x : Errand). Goal s i c past (climb_turn s.parents own (word_at s.words (errand_place s.parents x)) v x)) (sym fits.2)
     (pass_tells s i c past own fits.0 fits.1 (Climb fits.1) (Owing own) (Done v.phase) core
     (climb_passer s i c past fits.0 fits.1 h within fit.0 knows)
     (λ _ r _. done_later i c v.phase (at s r) past knows)
