@@ -19,10 +19,10 @@ use Rattle.tier_shape.specs.Parents.{IsShape}
 use Rattle.tier_steps.specs.declared.kind.Kind.TheVariants.{Look, Glance, Refuse, Join, Arrive, Leave, Advance, Claim, Climb, Refresh}
 use Rattle.tier_steps.specs.declared.kind.Kind.{Kind}
 use Rattle.tier_steps.specs.Step.{CanPass, CanClimb, Admits, Refuses, IsFree, IsDue, opening, added, owed, looked, moved, dropped, given_up, passed, is_going_back, refused, view_after}
-use Rattle.tier_core.specs.Turn.{Call, Progress, Played, GoesOn, Done, Held, Full, Idle, Begun, ToSeek, Settling, ToGiveBack, Passing, Owing, Due, Refreshing, Turn, turn, turn_by, place, pass_turn, finish_turn, first_turn, seek_turn, settle_turn, give_back_turn, climb_turn, last_look, claimed_by, lags, has_no_room, is_refusing, is_claimable, refusal, is_refusal, cause_of, end_shown, giving_back, settling, unless_claimed, goes_on, told, own_kind, errand_place}
+use Rattle.tier_core.specs.Turn.{Call, Progress, Played, GoesOn, Done, Passed, Waiting, Held, Full, AlreadyArrived, Ended, MustAdvance, IsInRange, Idle, Begun, ToSeek, Settling, ToGiveBack, Passing, Owing, Due, Refreshing, Turn, turn, turn_by, place, pass_turn, finish_turn, first_turn, seek_turn, settle_turn, give_back_turn, climb_turn, last_look, claimed_by, lags, has_no_room, is_refusing, is_claimable, refusal, is_refusal, cause_of, polled, end_shown, giving_back, settling, unless_claimed, goes_on, told, own_kind, errand_place}
 use Rattle.tier_core.specs.Machine.{IsWanted, BegunFits, CallFits, IsNext, TurnsAreSteps, is_going, OneWordIsEnough}
 use Rattle.tier_core.specs.declared.call.Call.TheVariants as call
-use Rattle.tier_steps.proofs.Legal.{legal_empty}
+use Rattle.tier_steps.proofs.Legal.{legal_empty, passed_legal}
 use Rattle.tier_steps.proofs.Advance.{ancestor_within}
 use Rattle.tier_steps.proofs.KindLaw.{mine}
 use Rattle.tier_steps.proofs.Pass.{owed_is, only_here, stands, resting_late, absent_current, waiting_open, unarrived_is_current, climbing_late}
@@ -607,3 +607,100 @@ one_word_is_enough ps ws front v back p ends shape tally going fits =
       next = subst (λ (n : ℕ). IsNext ps ws v (turn_by ps ends (word_at ws (place ps p v)) p v).kind n (turn_by ps ends (word_at ws (place ps p v)) p v).next)
           here may;
     }
+
+-- an advance that a turn asks for is of a phase and parties that fit a word
+refusal_range : (a : Played) → is_refusal a ≡ true → IsInRange a
+refusal_range GoesOn e = not_both false e refl
+refusal_range (Done phase) e = not_both false e refl
+refusal_range (Passed phase) e = not_both false e refl
+refusal_range Waiting e = not_both false e refl
+refusal_range (Held phase why) e = tt
+refusal_range (Full parties) e = tt
+refusal_range (AlreadyArrived phase) e = not_both false e refl
+refusal_range (Ended number) e = tt
+refusal_range (MustAdvance phase parties) e = not_both false e refl
+
+unless_range : (claimed : ℕ) (a : Played) → IsInRange a → IsInRange (unless_claimed claimed a)
+unless_range zero a h = h
+unless_range (suc claimed) a h = tt
+
+by_played : (b : Bool) (x y : Played) → IsInRange x → IsInRange y → IsInRange (cond b x y)
+by_played true x y f g = f
+by_played false x y f g = g
+
+pass_first_range : (root : Fields) (v : View) → IsInRange (first_turn call.Arrive root root v).answer
+pass_first_range root v =
+    by_played root.ended (end_shown root) (cond (eqb (looked root v).arrived v.size) (AlreadyArrived (looked root v).phase) GoesOn) tt
+    (by_played (eqb (looked root v).arrived v.size) (AlreadyArrived (looked root v).phase) GoesOn tt tt)
+
+first_range : (c : Call) (root own : Fields) (v : View) → IsInRange (first_turn c root own v).answer
+first_range (call.Join tier size) root own v = by_played root.ended (end_shown root) GoesOn tt tt
+first_range call.Arrive root own v = pass_first_range root v
+first_range call.Leave root own v = pass_first_range root v
+first_range call.Poll root own v =
+    by_played root.ended (end_shown root) (cond (eqb (looked root v).arrived v.size) Waiting (cond (lags own (looked root v)) GoesOn
+    (polled (not (eqb (looked root v).phase v.phase)) (looked root v).phase))) tt
+    (by_played (eqb (looked root v).arrived v.size) Waiting (cond (lags own (looked root v)) GoesOn
+    (polled (not (eqb (looked root v).phase v.phase)) (looked root v).phase)) tt
+    (by_played (lags own (looked root v)) GoesOn (polled (not (eqb (looked root v).phase v.phase)) (looked root v).phase) tt
+    (by_played (not (eqb (looked root v).phase v.phase)) (Passed (looked root v).phase) (Done (looked root v).phase) tt tt)))
+first_range call.Force root own v = tt
+
+seek_range : (tier k size t : ℕ) (w : Fields) (v : View) → IsInRange (seek_turn tier k size t w v).answer
+seek_range tier k size t w v =
+    let over : Turn = record { kind = Look; tier = 0; next = giving_back k (end_shown w); answer = unless_claimed k (end_shown w) } in
+    let back : Turn = record {
+      kind = Refuse tier k size;
+      tier = t;
+      next = giving_back k (refusal t (added k size) (refused t w v).phase w);
+      answer = unless_claimed k (refusal t (added k size) (refused t w v).phase w);
+    } in
+    let claim : Turn = record { kind = Claim tier k size; tier = t; next = ToSeek tier size; answer = GoesOn } in
+    let join : Turn = record { kind = Join tier k size; tier = t; next = settling k; answer = unless_claimed k (Done w.phase) } in
+    by_cond (λ r. IsInRange r.answer) w.ended over (cond (is_refusing (added k size) w) back (cond (is_claimable t w) claim join))
+    (λ _. unless_range k (end_shown w) tt)
+    (λ _. by_cond (λ r. IsInRange r.answer) (is_refusing (added k size) w) back (cond (is_claimable t w) claim join)
+    (λ _. unless_range k (refusal t (added k size) (refused t w v).phase w)
+    (refusal_range (refusal t (added k size) (refused t w v).phase w) (refusal_is t (added k size) (refused t w v).phase w)))
+    (λ _. by_cond (λ r. IsInRange r.answer) (is_claimable t w) claim join (λ _. tt) (λ _. unless_range k (Done w.phase) tt)))
+
+pass_range : (ps : List ℕ) (own : Trip) (t : ℕ) (trip : Trip) (kind : Kind) (here : Progress) (over : Played) (w : Fields) (v : View)
+    → IsInRange over → v.phase ≤ 2147483647 → IsLegal w → IsInRange (pass_turn ps own t trip kind here over w v).answer
+pass_range ps own t trip kind here over w v last phase legal =
+    let wait : Turn = record { kind = Refresh; tier = t; next = here; answer = GoesOn } in
+    let goes : Turn = record {
+      kind = kind;
+      tier = t;
+      next = goes_on own (owed (parent_of ps t) t trip w);
+      answer = told v.phase (passed t trip w).parties (owed (parent_of ps t) t trip w);
+    } in
+    by_cond (λ r. IsInRange r.answer) w.ended (last_look over) (cond (lags w v) wait goes) (λ _. last)
+    (λ _. by_cond (λ r. IsInRange r.answer) (lags w v) wait goes (λ _. tt)
+    (λ _. owed_is (λ e. IsInRange (told v.phase (passed t trip w).parties e)) (parent_of ps t) t trip w tt
+    (λ _. (phase, (passed_legal t trip w legal).parties)) (λ _ _. tt)))
+
+pub turn_range : (ps : List ℕ) (ws : List Fields) (front : List View) (v : View) (back : List View) (p : Progress) → Tallies ps ws (front ++ v ∷ back)
+    → CallFits ps p v → IsInRange (turn ps ws p v).answer
+turn_range ps ws front v back Idle tally fits = tt
+turn_range ps ws front v back (Begun c) tally fits = first_range c (word_at ws 0) (word_at ws v.tier) v
+turn_range ps ws front v back (ToSeek tier size) tally fits =
+    seek_range tier (claimed_by v.errand) size (ancestor ps tier (claimed_by v.errand)) (word_at ws (ancestor ps tier (claimed_by v.errand))) v
+turn_range ps ws front v back Settling tally fits =
+    subst (λ (e : Errand). IsInRange (settle_turn ps v e).answer) (sym fits.3) (unless_range fits.1 (Done v.phase) tt)
+turn_range ps ws front v back (ToGiveBack answer) tally fits =
+    subst (λ (e : Errand). IsInRange (give_back_turn ps answer e).answer) (sym fits.3) (unless_range fits.1 answer (refusal_range answer fits.4))
+turn_range ps ws front v back (Passing trip) tally fits =
+    let current = unarrived_is_current ps (root_phase ws) (word_at ws 0).ended v (mine ps ws front back v tally) fits.1 in
+    let legal = (tally.legal 0 tally.some).phase in
+    pass_range ps trip v.tier trip (own_kind trip) (Passing trip) (end_shown (word_at ws v.tier)) (word_at ws v.tier) v tt (omega arith)
+    (tally.legal v.tier (own_seat ps ws front back v tally fits.1))
+turn_range ps ws front v back (Owing own) tally fits =
+    let fit : ErrandFits ps (root_phase ws) v (Climbing fits.0 fits.1) =
+    subst (λ (x : Errand). ErrandFits ps (root_phase ws) v x) fits.2 (mine ps ws front back v tally).errand in
+    let current : v.phase ≡ root_phase ws = fit.0 in
+    let legal = (tally.legal 0 tally.some).phase in
+    subst (λ (e : Errand). IsInRange (climb_turn ps own (word_at ws (errand_place ps e)) v e).answer) (sym fits.2)
+    (pass_range ps own fits.0 fits.1 (Climb fits.1) (Owing own) (Done v.phase) (word_at ws fits.0) v tt (omega arith)
+    (tally.legal fits.0 (subst (λ (n : ℕ). fits.0 < n) (sym tally.long) fit.1)))
+turn_range ps ws front v back (Due own) tally fits = tt
+turn_range ps ws front v back (Refreshing has_moved) tally fits = by_played has_moved (Passed v.phase) (Done v.phase) tt tt
