@@ -22,3 +22,5 @@ pub mod Start
 pub mod Ready
 pub mod Path
 pub mod Joined
+pub mod Owners
+pub mod Awaits

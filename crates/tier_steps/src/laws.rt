@@ -5,9 +5,9 @@ ghost use Rattle.tier_steps.specs.Laws.{KindsKeepTally, KindsAreFlat};
 ghost use Rattle.tier_steps.specs.Told.{TallyIsTold};
 ghost use Rattle.tier_steps.specs.Known.{TallyIsKnown, StepsAreRunnable, SeatsKeepTally, RegroupingKeepsTally};
 ghost use Rattle.tier_steps.specs.Path.{AncestorsAreOnThePath, ClaimsAreListed, PathsFall};
-ghost use Rattle.tier_steps.specs.Seats.{SeatsAreFlat, JoinedSeatsTally, NewSeatsTally};
+ghost use Rattle.tier_steps.specs.Seats.{SeatsAreFlat, JoinedSeatsTally, JoinedSeatsLookTheSame, NewSeatsTally, NewSeatsLookTheSame};
 ghost use Rattle.tier_steps.specs.Start.{StartTallies, NewTokensTally, NewTokensAreUnseen};
-ghost use Rattle.tier_steps.specs.Due.{AdvancesAreDue, QuietIsNotDue, MembersAreSizes, UnarrivedHoldTheRoot, PhasesStay};
+ghost use Rattle.tier_steps.specs.Due.{AdvancesAreDue, QuietIsNotDue, QuietTreesAwaitSomebody, MembersAreSizes, UnarrivedHoldTheRoot, PhasesStay};
 
 /// Each kind of step keeps the tally, by the word that it changes and the stepping token's view alone.
 pub fn kinds_keep_tally()
@@ -55,6 +55,16 @@ pub fn new_seats_tally()
     ensures { NewSeatsTally }
 {}
 
+/// Seats that are joined change nothing of the flat phaser that the tree stands for but whose the members are.
+pub fn joined_seats_look_the_same()
+    ensures { JoinedSeatsLookTheSame }
+{}
+
+/// Nor does a seat that comes in.
+pub fn new_seats_look_the_same()
+    ensures { NewSeatsLookTheSame }
+{}
+
 /// Views may be regrouped where no sum changes.
 pub fn regrouping_keeps_tally()
     ensures { RegroupingKeepsTally }
@@ -84,6 +94,11 @@ pub fn advances_are_due()
 /// Where no token has an errand no advance is due.
 pub fn quiet_is_not_due()
     ensures { QuietIsNotDue }
+{}
+
+/// Where a tree goes on, no token has an errand and there is a member, some member hasn't arrived.
+pub fn quiet_trees_await_somebody()
+    ensures { QuietTreesAwaitSomebody }
 {}
 
 /// The members of the flat phaser that a tree stands for are as many as the tokens have.
