@@ -3,6 +3,7 @@ pub mod Planning
 pub mod Holding
 pub mod Counting
 pub mod Ending
+pub mod Along
 pub mod Memory
 pub mod Seeking
 pub mod Going
@@ -15,3 +16,4 @@ pub mod Members
 pub mod Opens
 pub mod Answering
 pub mod Rounding
+pub mod Entering

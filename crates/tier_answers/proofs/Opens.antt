@@ -33,10 +33,10 @@ use Rattle.tier_core.specs.declared.call.Step.TheVariants.{Begin, Go}
 use Rattle.tier_core.specs.declared.call.Turn.{Turn}
 use Rattle.tier_core.specs.Turn.{end_shown, claimed_by, is_refusing, is_claimable, has_no_room, refusal, giving_back, settling, unless_claimed, seek_turn, settle_turn, turn}
 use Rattle.tier_core.specs.Machine.{State, IsCore, view_at, call_at, is_active, turn_at, played}
-use Rattle.tier_core.specs.Run.{may_begin, may_go, is_idle, begun, after, run}
+use Rattle.tier_core.specs.Run.{may_begin, may_go, is_idle, begun, after}
 use Rattle.tier_core.proofs.Turns.{by_test, not_both}
 use Rattle.tier_core.proofs.Runs.{begun_core}
-use Rattle.tier_answers.specs.Moments.{Moment, own_turn, moments}
+use Rattle.tier_answers.specs.Moments.{Moment, Takes, own_turn, run_of, moments}
 use Rattle.tier_answers.specs.Calls.{IsSeated, moves_root}
 use Rattle.tier_answers.specs.Fresh.{IsFreshWord, last_answer, IsJoined, JoinsAreDoneAlone, NewTreesAreFresh, NewTokensKeepItFresh, AwaitedTiersWait}
 use Rattle.tier_answers.proofs.Framing.{others_stay}
@@ -44,7 +44,7 @@ use Rattle.tier_answers.proofs.Holding.{split, fits_at, awaited_late, parties_ar
 use Rattle.tier_answers.proofs.Ending.{at}
 use Rattle.tier_answers.proofs.Memory.{by_turn}
 use Rattle.tier_answers.proofs.Seeking.{unclaimed, own_claims, joined_phase}
-use Rattle.tier_answers.proofs.Telling.{core_after}
+use Rattle.tier_answers.proofs.Along.{core_after}
 use Rattle.tier_answers.proofs.Ranks.{Within, some_left, turn_lowers}
 use Rattle.tier_answers.proofs.Short.{moved_left}
 use Rattle.tier_answers.proofs.Stepping.{Gone, gone, fitting, only_advances_move}
@@ -378,7 +378,7 @@ over old s i tier size ms is e =
 -- it is over after as many steps as are left
 runs_out : (n : ℕ) (old s : State) (i tier size : ℕ) (ms : List Moment) → Joining old s i tier size ms
     → Within s.parents s.words (call_at s.calls i) (view_at s.views i) n
-    → IsJoined old (run (replicate n (Go i)) s) i tier size (moments i (replicate n (Go i)) s ms)
+    → IsJoined old (run_of (replicate n (Takes (Go i))) s) i tier size (moments i (replicate n (Takes (Go i))) s ms)
 runs_out zero old s i tier size ms is left = over old s i tier size ms is
     (idle_is (call_at s.calls i) (λ going. absurd
     (let a = some_left s.parents s.words (call_at s.calls i) (view_at s.views i) 0 going (is.core.calls i is.known) left in omega arith)))
@@ -391,8 +391,8 @@ runs_out (suc n) old s i tier size ms is left = ⊎_elim
     ∙ ap (λ b. cond b (at s (turn_at s i) ∷ []) []) may in
     let kept = runs_out n old s i tier size ms is
     (subst (λ (p : Progress). Within s.parents s.words p (view_at s.views i) n) (sym rest) tt) in
-    subst (λ (x : State). IsJoined old (run (replicate n (Go i)) x) i tier size (moments i (replicate n (Go i)) x (own_turn i s (Go i) ++ ms))) (sym here)
-    (subst (λ (xs : List Moment). IsJoined old (run (replicate n (Go i)) s) i tier size (moments i (replicate n (Go i)) s (xs ++ ms))) (sym none) kept))
+    subst (λ (x : State). IsJoined old (run_of (replicate n (Takes (Go i))) x) i tier size (moments i (replicate n (Takes (Go i))) x (own_turn i s (Go i) ++ ms))) (sym here)
+    (subst (λ (xs : List Moment). IsJoined old (run_of (replicate n (Takes (Go i))) s) i tier size (moments i (replicate n (Takes (Go i))) s (xs ++ ms))) (sym none) kept))
     (λ (e : is_idle (call_at s.calls i) ≡ false).
     let next = step_goes old s i tier size ms (call_at s.calls i) is refl e is.stands in
     let g = gone s i (call_at s.calls i) is.core is.known refl next.0 in
@@ -437,7 +437,7 @@ joins_are_done_alone s i tier size tiers core fresh h none seat some room =
       some = some;
       stands = subst (λ (p : Progress). Stands tier size (root_phase s.words) [] p (view_at s.views i)) (sym call_is) refl;
     } in
-    subst (λ (x : State). IsJoined s (run (replicate 14 (Go i)) x) i tier size (moments i (replicate 14 (Go i)) x [])) (sym here)
+    subst (λ (x : State). IsJoined s (run_of (replicate 14 (Takes (Go i))) x) i tier size (moments i (replicate 14 (Takes (Go i))) x [])) (sym here)
     (runs_out 14 s (begun s i (call.Join tier size)) i tier size [] start
     (moved_left s (begun s i (call.Join tier size)) i 14 (Begun (call.Join tier size)) (view_at s.views i) call_is refl refl (omega arith)))
 

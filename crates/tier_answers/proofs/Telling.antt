@@ -42,6 +42,7 @@ use Rattle.tier_answers.proofs.Planning.{known_active, known_due}
 use Rattle.tier_answers.proofs.Holding.{fits_at}
 use Rattle.tier_answers.proofs.Counting.{members_owned, arrived_own, looked_is, looked_empty}
 use Rattle.tier_answers.proofs.Ending.{at, ended_stays, forced}
+use Rattle.tier_answers.proofs.Along.{Carries, OfToken, of_token, along_call}
 use Rattle.tier_answers.proofs.Memory.{any_here, PollTells, call_of, Remembers, Good, Goal, no_last, done_later, poll_later, polled_tells}
 use Rattle.tier_answers.proofs.Seeking.{ended_there, seek_tells, settle_tells, give_back_tells}
 use Rattle.tier_answers.proofs.Going.{pass_tells, own_passer, climb_passer}
@@ -281,96 +282,16 @@ last_tells s i c past ends (Due own) due knows = record {
 }
 last_tells s i c past ends (Refreshing has_moved) due knows = not_both false due refl
 
--- what is true of a call and its moments so far
-pub record Story (s : State) (i : ℕ) (c : Call) (past : List Moment) : Type 0 where
-  pub core : IsCore s
-  pub known : i < length s.views
-  pub knows : Remembers i c past (call_at s.calls i) (view_at s.views i)
-  pub told : LatestTells i c past
+-- what is true of a call and its moments so far: it remembers what it has to, and the latest moment tells
+abbrev Story : ℕ → Call → List Moment → Progress → View → Type 0
+Story i c past p v = Remembers i c past p v × LatestTells i c past
 
-pub story_goes : (s : State) (i : ℕ) (c : Call) (past : List Moment) (r : Turn) → Story s i c past → MayPlay s i r → Good s i c past r
-    → Story (played s i r) i c (at s r ∷ past)
-story_goes s i c past r story may good =
-    let v' : View = stepped_view s.parents s.words r.kind r.tier (view_at s.views i) in
-    record {
-      core = played_core s i r story.core story.known may;
-      known = subst (λ (n : ℕ). i < n) (sym (length-set s.views i (stepped_view s.parents s.words r.kind r.tier (view_at s.views i)))) story.known;
-      knows = subst (λ (p : Progress). Remembers i c (at s r ∷ past) p (view_at (played s i r).views i))
-          (sym (get_or-set_same s.calls i r.next Idle (let l = story.core.long in let k = story.known in omega arith)))
-          (subst (λ (v : View). Remembers i c (at s r ∷ past) r.next v)
-          (sym (get_or-set_same s.views i (stepped_view s.parents s.words r.kind r.tier (view_at s.views i)) (new_view 0) story.known)) good.keeps);
-      told = good.told;
-    }
-
-pub story_stays : (s s' : State) (i : ℕ) (c : Call) (past : List Moment) → Story s i c past → IsCore s' → IsUntouched i s s' → Story s' i c past
-story_stays s s' i c past story core same = record {
-  core = core;
-  known = subst (λ (n : ℕ). i < n) (sym same.tokens) story.known;
-  knows = subst (λ (p : Progress). Remembers i c past p (view_at s'.views i)) (sym same.call)
-      (subst (λ (v : View). Remembers i c past (call_at s.calls i) v) (sym same.view) story.knows);
-  told = story.told;
-}
-
--- one step of a run
-abbrev pub StoryAfter : State → ℕ → Call → List Moment → Step → Type 0
-StoryAfter s i c past x = Story (after s x) i c (own_turn i s x ++ past)
-
-story_step : (s : State) (i : ℕ) (c : Call) (past : List Moment) (x : Step) → Story s i c past → IsCore (after s x) → IsOfCall i x → StoryAfter s i c past x
-story_step s i c past (Begin j d) story core other = story_stays s (after s (Begin j d)) i c past story core (others_stay s (Begin j d) i other)
-story_step s i c past (Go j) story core other =
-    let m : Moment = at s (turn_at s j) in
-    by_test (λ b. Story (after s (Go j)) i c (cond b (cond (may_go s j) (m ∷ []) []) [] ++ past)) (eqb j i)
-    (λ e. let q = eqb-true j i e in
-    by_test (λ b. b ≡ may_go s j → Story (cond b (played s j (turn_at s j)) s) i c (cond b (m ∷ []) [] ++ past)) (may_go s j)
-    (λ may _. let a = known_active s j may in
-    let here = subst (λ (n : ℕ). Story s n c past) (sym q) story in
-    let can = turn_may s j story.core a.0 a.1 in
-    subst (λ (n : ℕ). Story (played s j (turn_at s j)) n c (m ∷ past)) q
-    (story_goes s j c past (turn_at s j) here can
-    (turn_tells s j c past (call_at s.calls j) story.core a.0 refl a.1 (story.core.calls j a.0) here.knows can)))
-    (λ _ _. story) refl)
-    (λ n. story_stays s (after s (Go j)) i c past story core (others_stay s (Go j) i (λ q. eqb-false j i n (sym q))))
-story_step s i c past (Finish j) story core other =
-    let m : Moment = at s (finish_at s j (plan_ends s)) in
-    by_test (λ b. Story (after s (Finish j)) i c (cond b (cond (may_finish s j) (m ∷ []) []) [] ++ past)) (eqb j i)
-    (λ e. let q = eqb-true j i e in
-    by_test (λ b. b ≡ may_finish s j → Story (cond b (played s j (finish_at s j (plan_ends s))) s) i c (cond b (m ∷ []) [] ++ past)) (may_finish s j)
-    (λ may _. let a = known_due s j may in
-    let here = subst (λ (n : ℕ). Story s n c past) (sym q) story in
-    let can = finish_may s j (plan_ends s) story.core a.0 a.1 in
-    subst (λ (n : ℕ). Story (played s j (finish_at s j (plan_ends s))) n c (m ∷ past)) q
-    (story_goes s j c past (finish_at s j (plan_ends s)) here can
-    (last_tells s j c past (plan_ends s) (call_at s.calls j) a.1 here.knows)))
-    (λ _ _. story) refl)
-    (λ n. story_stays s (after s (Finish j)) i c past story core (others_stay s (Finish j) i (λ q. eqb-false j i n (sym q))))
-
-pub core_after : (s : State) (x : Step) → IsCore s → IsStepOfCalls x → IsCore (after s x)
-core_after s x core is = (step_moves s x (flat_of s) core is record {
-  phase = refl;
-  ended = refl;
-  going = λ _. record { phase = refl; ended = refl; due = refl; members = λ _. refl; arrived = λ _. refl };
-}).2
-
-stories : (steps : List Step) (s : State) (i : ℕ) (c : Call) (past : List Moment) → Story s i c past → AreSteps steps → AreOfCall i steps
-    → LatestTells i c (moments i steps s past)
-stories [] s i c past story are own = story.told
-stories (x ∷ xs) s i c past story are own =
-    stories xs (after s x) i c (own_turn i s x ++ past) (story_step s i c past x story (core_after s x story.core are.0) own.0) are.1 own.1
-
-pub begun_known : (s : State) (i : ℕ) (c : Call) → may_begin s i c ≡ true → i < length s.views
-begun_known s i c may =
-    ltb-true i (length s.views) (both_true (ltb i (length s.views)) (is_idle (call_at s.calls i) && may_call (length s.parents) c (view_at s.views i)) may).0
-
-pub begun_story : (s : State) (i : ℕ) (c : Call) → IsCore s → IsCall c → may_begin s i c ≡ true → Story (begun s i c) i c []
-begun_story s i c core is may =
-    let h = begun_known s i c may in
-    record {
-      core = begun_core s i c core is may;
-      known = h;
-      knows = subst (λ (p : Progress). Remembers i c [] p (view_at s.views i))
-          (sym (get_or-set_same s.calls i (Begun c) Idle (let l = core.long in omega arith))) refl;
-      told = tt;
-    }
+stories : (i : ℕ) (c : Call) → Carries i (OfToken i (Story i c))
+stories i c = of_token i (Story i c)
+    (λ s past core h active may here.
+    let good = turn_tells s i c past (call_at s.calls i) core h refl active (core.calls i h) here.0 may in (good.keeps, good.told))
+    (λ s past core h due may here.
+    let good = last_tells s i c past (plan_ends s) (call_at s.calls i) due here.0 in (good.keeps, good.told))
 
 pub answers_tell : AnswersTell
-answers_tell s i c steps core is may are own = stories steps (begun s i c) i c [] (begun_story s i c core is may) are own
+answers_tell s i c events core is may are own = (along_call i c (Story i c) (stories i c) events s core is may (refl, tt) are own).holds.1

@@ -7,3 +7,4 @@ pub mod Count
 pub mod Calls
 pub mod Fresh
 pub mod Rounds
+pub mod Tokens

@@ -20,11 +20,10 @@ use Rattle.tier_core.specs.declared.call.Cause.TheVariants as cause
 use Rattle.tier_core.specs.declared.call.Played.{Played}
 use Rattle.tier_core.specs.declared.call.Played.TheVariants.{GoesOn, Done, Passed, Waiting, Held, Full, AlreadyArrived, Ended, MustAdvance}
 use Rattle.tier_core.specs.declared.call.Progress.TheVariants.{Idle, Begun}
-use Rattle.tier_core.specs.declared.call.Step.{Step}
 use Rattle.tier_core.specs.Turn.{giving_back}
 use Rattle.tier_core.specs.Machine.{State, IsCore, view_at, call_at, is_active, is_due, played}
-use Rattle.tier_core.specs.Run.{may_begin, begun, IsCall, AreSteps}
-use Rattle.tier_answers.specs.Moments.{Moment, flat_at, flat_after, moments, AreOfCall}
+use Rattle.tier_core.specs.Run.{may_begin, begun, IsCall}
+use Rattle.tier_answers.specs.Moments.{Moment, Event, flat_at, flat_after, moments, AreEvents, AreOfCall}
 
 -- how many members the token has at a moment, and how many of them have arrived in a phase
 abbrev pub members_at : ℕ → Moment → ℕ
@@ -184,8 +183,8 @@ abbrev pub LatestTells : ℕ → Call → List Moment → Type 0
 LatestTells token c [] = Unit {0}
 LatestTells token c (m ∷ past) = IsTold token c m past
 
--- Each answer of a call tells what the table says, whatever other tokens do between its steps.
+-- Each answer of a call tells what the table says, whatever other tokens do between its steps, and whatever tokens come in.
 abbrev pub AnswersTell : Type 0
 AnswersTell =
-    (s : State) (token : ℕ) (c : Call) (steps : List Step) → IsCore s → IsCall c → may_begin s token c ≡ true → AreSteps steps
-    → AreOfCall token steps → LatestTells token c (moments token steps (begun s token c) [])
+    (s : State) (token : ℕ) (c : Call) (events : List Event) → IsCore s → IsCall c → may_begin s token c ≡ true → AreEvents events
+    → AreOfCall token events → LatestTells token c (moments token events (begun s token c) [])

@@ -2,6 +2,7 @@
 //! is the contract of a function without parameters that does nothing.
 
 ghost use Rattle.tier_answers.specs.Frame.{TurnsChangeTheirOwn, OthersStay};
+ghost use Rattle.tier_answers.specs.Tokens.{TokensEnterUnseen};
 ghost use Rattle.tier_answers.specs.Plan.{AdvancesArePlanned, TheLastOneAdvances, QuietTreesWait};
 ghost use Rattle.tier_answers.specs.Rounds.{AdvancesBeginThePhase, AwaitedTokensStay};
 ghost use Rattle.tier_answers.specs.Hold.{AwaitedTokensHold, NobodyMustAdvance, AdvancesAreAlone, MembersAreTheTokens, PartiesAreFew};
@@ -14,6 +15,12 @@ pub fn turns_change_their_own()
 /// A step of a token changes nothing of what any other token knows, or of its call.
 pub fn others_stay()
     ensures { OthersStay }
+{}
+
+/// A token that comes in has no members, and changes nothing else: neither the flat phaser that the tree
+/// stands for, nor a word, nor what any other token knows or does, nor who is awaited.
+pub fn tokens_enter_unseen()
+    ensures { TokensEnterUnseen }
 {}
 
 /// The root advances only once everyone has arrived, and ends the tree exactly if the plan says so of the

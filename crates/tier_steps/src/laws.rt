@@ -6,7 +6,7 @@ ghost use Rattle.tier_steps.specs.Told.{TallyIsTold};
 ghost use Rattle.tier_steps.specs.Known.{TallyIsKnown, StepsAreRunnable, SeatsKeepTally, RegroupingKeepsTally};
 ghost use Rattle.tier_steps.specs.Path.{AncestorsAreOnThePath, ClaimsAreListed, PathsFall};
 ghost use Rattle.tier_steps.specs.Seats.{SeatsAreFlat, JoinedSeatsTally, JoinedSeatsLookTheSame, NewSeatsTally, NewSeatsLookTheSame};
-ghost use Rattle.tier_steps.specs.Start.{StartTallies, NewTokensTally, NewTokensAreUnseen};
+ghost use Rattle.tier_steps.specs.Start.{StartTallies, EmptyTreesHaveNoMembers, NewTokensTally, NewTokensAreUnseen};
 ghost use Rattle.tier_steps.specs.Due.{AdvancesAreDue, QuietIsNotDue, QuietTreesAwaitSomebody, MembersAreSizes, UnarrivedHoldTheRoot, PhasesStay};
 
 /// Each kind of step keeps the tally, by the word that it changes and the stepping token's view alone.
@@ -73,6 +73,11 @@ pub fn regrouping_keeps_tally()
 /// A tree of empty tiers with one token tallies, and stands for the flat phaser without members.
 pub fn start_tallies()
     ensures { StartTallies }
+{}
+
+/// A tree of empty tiers without tokens is the flat phaser without members.
+pub fn empty_trees_have_no_members()
+    ensures { EmptyTreesHaveNoMembers }
 {}
 
 /// A token without members may come in.
