@@ -17,3 +17,4 @@ pub mod Opens
 pub mod Answering
 pub mod Rounding
 pub mod Entering
+pub mod Once

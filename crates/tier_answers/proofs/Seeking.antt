@@ -135,14 +135,16 @@ refuses s i past tier k size t r a core h due why within seen kind here next e =
     let word : refusing (at s r) ≡ word_at s.words t = ap (word_at s.words) here in
     let all : (view_at s.views i).arrived ≡ (view_at s.views i).size = (let b = (fits_at s i core h).within in let d = due.none in omega arith) in
     let now = seen_now s i tier k size t past r kind here all why.0 seen in
-    let heldby : (c : Cause) → a ≡ Held p c → IsCause i p (at s r) c → RefusalTells i (call.Join tier size) (at s r ∷ past) a =
-    λ c q is. subst (λ (x : Played). RefusalTells i (call.Join tier size) (at s r ∷ past) x) (sym q) (
+    let heldby : has_no_room (added k size) w ≡ false → (c : Cause) → a ≡ Held p c → IsCause i p (at s r) c
+    → RefusalTells i (call.Join tier size) (at s r ∷ past) a =
+    λ fitting c q is. subst (λ (x : Played). RefusalTells i (call.Join tier size) (at s r ∷ past) x) (sym q) (
       now,
       any_here (IsHeldBy i (call.Join tier size) p c) (at s r) past record {
         tier = tier;
         claimed = k;
         size = size;
         refusal = record { call = refl; kind = kind; next = next ∙ ap (giving_back k) q };
+        room = subst (λ (x : Fields). x.parties + added k size ≤ 65535) (sym word) (ltb-false 65535 (w.parties + added k size) fitting);
         cause = is;
       },
     ) in
@@ -168,16 +170,16 @@ refuses s i past tier k size t r a core h due why within seen kind here next e =
     q ∙ ap (λ b. Held p (cond b (cond (eqb t 0) cause.Advancing (cond (eqb w.phase p) cause.AllArrived cause.Lagging)) cause.BeingOpened))
     (eq-eqb w.unarrived 0 z) in
     ⊎_elim
-    (λ (root : t ≡ 0). heldby cause.Advancing
+    (λ (root : t ≡ 0). heldby room cause.Advancing
     (q0 ∙ ap (λ b. Held p (cond b cause.Advancing (cond (eqb w.phase p) cause.AllArrived cause.Lagging))) (eq-eqb t 0 root))
     (here ∙ root, ap (λ (x : Fields). x.unarrived) word ∙ z))
     (λ (n : t ≢ 0).
     let q1 : a ≡ Held p (cond (eqb w.phase p) cause.AllArrived cause.Lagging) =
     q0 ∙ ap (λ b. Held p (cond b cause.Advancing (cond (eqb w.phase p) cause.AllArrived cause.Lagging))) (ne_eqb t 0 n) in
     ⊎_elim
-    (λ (same : w.phase ≡ p). heldby cause.AllArrived (q1 ∙ ap (λ b. Held p (cond b cause.AllArrived cause.Lagging)) (eq-eqb w.phase p same))
+    (λ (same : w.phase ≡ p). heldby room cause.AllArrived (q1 ∙ ap (λ b. Held p (cond b cause.AllArrived cause.Lagging)) (eq-eqb w.phase p same))
     (below n z, ap (λ (x : Fields). x.phase) word ∙ same))
-    (λ (other : w.phase ≢ p). heldby cause.Lagging (q1 ∙ ap (λ b. Held p (cond b cause.AllArrived cause.Lagging)) (ne_eqb w.phase p other))
+    (λ (other : w.phase ≢ p). heldby room cause.Lagging (q1 ∙ ap (λ b. Held p (cond b cause.AllArrived cause.Lagging)) (ne_eqb w.phase p other))
     (below n z, λ x. other (sym (ap (λ (y : Fields). y.phase) word) ∙ x)))
     (cases_eq w.phase p))
     (cases_eq t 0))
@@ -185,7 +187,7 @@ refuses s i past tier k size t r a core h due why within seen kind here next e =
     let opened : is_being_opened w ≡ true = ⊎_elim
     (λ (m : 65535 < w.parties + added k size). absurd (let b = ltb-false 65535 (w.parties + added k size) room in omega arith))
     (λ x. ⊎_elim (λ (z : w.unarrived ≡ 0). absurd (n z)) (λ (o : is_being_opened w ≡ true). o) x) why.1 in
-    heldby cause.BeingOpened
+    heldby room cause.BeingOpened
     (q ∙ ap (λ b. Held p (cond b (cond (eqb t 0) cause.Advancing (cond (eqb w.phase p) cause.AllArrived cause.Lagging)) cause.BeingOpened))
     (ne_eqb w.unarrived 0 n)) (
       ap is_being_opened word ∙ opened,

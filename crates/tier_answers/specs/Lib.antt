@@ -7,4 +7,5 @@ pub mod Count
 pub mod Calls
 pub mod Fresh
 pub mod Rounds
+pub mod Once
 pub mod Tokens

@@ -1,5 +1,5 @@
 -- What each answer of a call tells, in the words of the flat phaser at the moments of the call (own).
-use Rattle.std.specs.Prelude.{◌≡◌, ◌≢◌, ◌↔◌, ℕ, ◌+◌, ◌<◌, ◌==◌, Bool, true, false, if◌then◌else◌, Option, Some, None, List, [], ◌∷◌, length, ℤ}
+use Rattle.std.specs.Prelude.{◌≡◌, ◌≢◌, ◌↔◌, ℕ, ◌+◌, ◌<◌, ◌≤◌, ◌==◌, Bool, true, false, if◌then◌else◌, Option, Some, None, List, [], ◌∷◌, length, ℤ}
 use Rattle.std.specs.List.{Any}
 use Rattle.phaser_word.specs.Phase.{next_phase_of}
 use Rattle.phaser_word.specs.Fields.{Fields}
@@ -112,6 +112,8 @@ pub record IsHeldBy (token : ℕ) (c : Call) (now : ℕ) (why : Cause) (m : Mome
   pub claimed : ℕ
   pub size : ℕ
   pub refusal : IsRefusal c tier claimed size (Held now why) m
+  -- there was room: want of room is told first
+  pub room : (refusing m).parties + added claimed size ≤ 65535
   pub cause : IsCause token now m why
 
 -- the word had so many parties, and with those that were to be added they are too many
