@@ -158,11 +158,17 @@ pub begun_known : (s : State) (i : ℕ) (c : Call) → may_begin s i c ≡ true 
 begun_known s i c may =
     ltb-true i (length s.views) (both_true (ltb i (length s.views)) (is_idle (call_at s.calls i) && may_call (length s.parents) c (view_at s.views i)) may).0
 
+-- where a call begins
+pub begun_own : (i : ℕ) (Q : List Moment → Progress → View → Type 0) (s : State) (c : Call) → IsCore s → may_begin s i c ≡ true
+    → Q [] (Begun c) (view_at s.views i) → OfToken i Q (begun s i c) []
+begun_own i Q s c core may here =
+    subst (λ (p : Progress). Q [] p (view_at s.views i))
+    (sym (get_or-set_same s.calls i (Begun c) Idle (let l = core.long in let h = begun_known s i c may in omega arith))) here
+
 -- from the begin of a call
 pub along_call : (i : ℕ) (c : Call) (Q : List Moment → Progress → View → Type 0) → Carries i (OfToken i Q) → (events : List Event) (s : State)
     → IsCore s → IsCall c → may_begin s i c ≡ true → Q [] (Begun c) (view_at s.views i) → AreEvents events → AreOfCall i events
     → Left i (OfToken i Q) (run_of events (begun s i c)) (moments i events (begun s i c) [])
 along_call i c Q carries events s core is may here are own =
     along i (OfToken i Q) carries events (begun s i c) [] (begun_core s i c core is may) (begun_known s i c may)
-    (subst (λ (p : Progress). Q [] p (view_at s.views i))
-    (sym (get_or-set_same s.calls i (Begun c) Idle (let l = core.long in let h = begun_known s i c may in omega arith))) here) are own
+    (begun_own i Q s c core may here) are own

@@ -18,3 +18,5 @@ pub mod Answering
 pub mod Rounding
 pub mod Entering
 pub mod Once
+pub mod Ended
+pub mod Waiting

@@ -42,7 +42,7 @@ use Rattle.tier_answers.proofs.Planning.{known_active, known_due}
 use Rattle.tier_answers.proofs.Holding.{fits_at}
 use Rattle.tier_answers.proofs.Counting.{members_owned, arrived_own, looked_is, looked_empty}
 use Rattle.tier_answers.proofs.Ending.{at, ended_stays, forced}
-use Rattle.tier_answers.proofs.Along.{Carries, OfToken, of_token, along_call}
+use Rattle.tier_answers.proofs.Along.{Carries, OfToken, of_token, begun_own, along_call}
 use Rattle.tier_answers.proofs.Memory.{any_here, PollTells, call_of, Remembers, Good, Goal, no_last, done_later, poll_later, polled_tells}
 use Rattle.tier_answers.proofs.Seeking.{ended_there, seek_tells, settle_tells, give_back_tells}
 use Rattle.tier_answers.proofs.Going.{pass_tells, own_passer, climb_passer}
@@ -283,15 +283,18 @@ last_tells s i c past ends (Due own) due knows = record {
 last_tells s i c past ends (Refreshing has_moved) due knows = not_both false due refl
 
 -- what is true of a call and its moments so far: it remembers what it has to, and the latest moment tells
-abbrev Story : ℕ → Call → List Moment → Progress → View → Type 0
+abbrev pub Story : ℕ → Call → List Moment → Progress → View → Type 0
 Story i c past p v = Remembers i c past p v × LatestTells i c past
 
-stories : (i : ℕ) (c : Call) → Carries i (OfToken i (Story i c))
+pub stories : (i : ℕ) (c : Call) → Carries i (OfToken i (Story i c))
 stories i c = of_token i (Story i c)
     (λ s past core h active may here.
     let good = turn_tells s i c past (call_at s.calls i) core h refl active (core.calls i h) here.0 may in (good.keeps, good.told))
     (λ s past core h due may here.
     let good = last_tells s i c past (plan_ends s) (call_at s.calls i) due here.0 in (good.keeps, good.told))
+
+pub begun_story : (s : State) (i : ℕ) (c : Call) → IsCore s → may_begin s i c ≡ true → OfToken i (Story i c) (begun s i c) []
+begun_story s i c core may = begun_own i (Story i c) s c core may (refl, tt)
 
 pub answers_tell : AnswersTell
 answers_tell s i c events core is may are own = (along_call i c (Story i c) (stories i c) events s core is may (refl, tt) are own).holds.1

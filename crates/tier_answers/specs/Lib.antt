@@ -9,3 +9,5 @@ pub mod Fresh
 pub mod Rounds
 pub mod Once
 pub mod Tokens
+pub mod Ended
+pub mod Waits

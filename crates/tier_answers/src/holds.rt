@@ -5,6 +5,7 @@ ghost use Rattle.tier_answers.specs.Frame.{TurnsChangeTheirOwn, OthersStay};
 ghost use Rattle.tier_answers.specs.Tokens.{TokensEnterUnseen};
 ghost use Rattle.tier_answers.specs.Plan.{AdvancesArePlanned, TheLastOneAdvances, QuietTreesWait};
 ghost use Rattle.tier_answers.specs.Rounds.{AdvancesBeginThePhase, AwaitedTokensStay};
+ghost use Rattle.tier_answers.specs.Waits.{TheRootWaits, AdvancesAreAwaited};
 ghost use Rattle.tier_answers.specs.Hold.{AwaitedTokensHold, NobodyMustAdvance, AdvancesAreAlone, MembersAreTheTokens, PartiesAreFew};
 
 /// A turn of a token changes what this token knows, how far its call has come, and the word of one tier.
@@ -32,6 +33,18 @@ pub fn advances_are_planned()
 /// A token that was told to advance finds the advance due, unless the tree has ended since.
 pub fn the_last_one_advances()
     ensures { TheLastOneAdvances }
+{}
+
+/// While a token has to advance the root, no step of another token changes the root's phase or its parties;
+/// the end by force doesn't either.
+pub fn the_root_waits()
+    ensures { TheRootWaits }
+{}
+
+/// Until a token takes the advance that it was told to take, the root is in the phase and has the parties
+/// that it was told, whatever others do.
+pub fn advances_are_awaited()
+    ensures { AdvancesAreAwaited }
 {}
 
 /// Where no token is on its way no advance is due.
