@@ -16,7 +16,8 @@ use Rattle.tier_core.specs.Turn.{giving_back, settling, unless_claimed, polled}
 use Rattle.tier_core.specs.Machine.{State, view_at, is_active}
 use Rattle.tier_core.proofs.Places.{MayPlay}
 use Rattle.tier_answers.specs.Moments.{Moment, flat_at}
-use Rattle.tier_answers.specs.Told.{IsAwaiting, HasPassed, HasEnded, IsHeldBy, IsFullWith, sees_root, last_seen, IsDoneIn, Tells, is_last, IsTold}
+use Rattle.tier_steps.specs.Marks.{sees_root}
+use Rattle.tier_answers.specs.Told.{IsAwaiting, HasPassed, HasEnded, IsHeldBy, IsFullWith, last_seen, IsDoneIn, Tells, is_last, IsTold}
 use Rattle.tier_answers.proofs.Ending.{at}
 
 pub any_here : {X : Type 0} (P : X → Type 0) (x : X) (xs : List X) → P x → Any P (x ∷ xs)

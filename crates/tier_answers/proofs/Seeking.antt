@@ -32,7 +32,8 @@ use Rattle.tier_core.proofs.Turns.{not_both}
 use Rattle.tier_core.proofs.Places.{MayPlay}
 use Rattle.tier_answers.specs.Frame.{flat_of}
 use Rattle.tier_answers.specs.Moments.{Moment}
-use Rattle.tier_answers.specs.Told.{IsCounted, HasEnded, refusing, IsClaimedByAnother, IsFullyArrived, IsCause, IsHeldBy, IsFullWith, sees_root, last_seen, IsDoneIn}
+use Rattle.tier_steps.specs.Marks.{sees_root}
+use Rattle.tier_answers.specs.Told.{IsCounted, HasEnded, refusing, IsClaimedByAnother, IsFullyArrived, IsCause, IsHeldBy, IsFullWith, last_seen, IsDoneIn}
 use Rattle.tier_answers.proofs.Holding.{fits_at}
 use Rattle.tier_answers.proofs.Counting.{looked_empty}
 use Rattle.tier_answers.proofs.Ending.{at, ended_stays}

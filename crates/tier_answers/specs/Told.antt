@@ -12,6 +12,7 @@ use Rattle.tier_steps.specs.Word.{is_being_opened}
 use Rattle.tier_steps.specs.View.{claim_share}
 use Rattle.tier_steps.specs.Tally.{word_at}
 use Rattle.tier_steps.specs.Step.{added}
+use Rattle.tier_steps.specs.Marks.{sees_root}
 use Rattle.tier_steps.specs.Image.{label}
 use Rattle.tier_core.specs.declared.call.Call.{Call}
 use Rattle.tier_core.specs.declared.call.Call.TheVariants as call
@@ -125,22 +126,7 @@ pub record IsFullWith (c : Call) (parties : ℕ) (m : Moment) : Type 0 where
   pub here : (refusing m).parties ≡ parties
   pub many : 65535 < parties + added claimed size
 
--- whether a step looks at the root, and the phase at the last such step
-abbrev pub sees_root : ℕ → Kind → Bool
-sees_root t Look = true
-sees_root t Glance = false
-sees_root t (Refuse tier claimed size) = t == 0
-sees_root t (Join tier claimed size) = false
-sees_root t Arrive = false
-sees_root t Leave = false
-sees_root t (Advance ends) = false
-sees_root t Force = false
-sees_root t (Claim tier claimed size) = false
-sees_root t (Settle tier claimed size) = false
-sees_root t (SettleBack tier claimed size) = false
-sees_root t (Climb trip) = false
-sees_root t Refresh = false
-
+-- the phase at the last step that looked at the root
 abbrev pub last_seen : List Moment → ℕ
 last_seen [] = 0
 last_seen (m ∷ past) = if sees_root m.turn.tier m.turn.kind then (flat_at m).phase else last_seen past

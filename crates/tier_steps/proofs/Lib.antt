@@ -24,3 +24,4 @@ pub mod Path
 pub mod Joined
 pub mod Owners
 pub mod Awaits
+pub mod Marks

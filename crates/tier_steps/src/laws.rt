@@ -7,11 +7,18 @@ ghost use Rattle.tier_steps.specs.Known.{TallyIsKnown, StepsAreRunnable, SeatsKe
 ghost use Rattle.tier_steps.specs.Path.{AncestorsAreOnThePath, ClaimsAreListed, PathsFall};
 ghost use Rattle.tier_steps.specs.Seats.{SeatsAreFlat, JoinedSeatsTally, JoinedSeatsLookTheSame, NewSeatsTally, NewSeatsLookTheSame};
 ghost use Rattle.tier_steps.specs.Start.{StartTallies, EmptyTreesHaveNoMembers, NewTokensTally, NewTokensAreUnseen};
+ghost use Rattle.tier_steps.specs.Marks.{MarksAreTold};
 ghost use Rattle.tier_steps.specs.Due.{AdvancesAreDue, QuietIsNotDue, QuietTreesAwaitSomebody, MembersAreSizes, UnarrivedHoldTheRoot, PhasesStay};
 
 /// Each kind of step keeps the tally, by the word that it changes and the stepping token's view alone.
 pub fn kinds_keep_tally()
     ensures { KindsKeepTally }
+{}
+
+/// A token has led from the advance that it takes to its next look at the root, and its note is the tier and
+/// the word of its last refusal.
+pub fn marks_are_told()
+    ensures { MarksAreTold }
 {}
 
 /// Each kind of step is the flat step of its label: the flat phaser that the tree stands for may take it,
