@@ -188,7 +188,7 @@ passing_label i Refresh f e going = not_both false e refl
 
 -- a party that passes leaves the flat phaser in its phase, and doesn't end it
 pub stays_open : (s : State) (i : ℕ) (r : Turn) → IsCore s → i < length s.views → MayPlay s i r → is_passing r.kind ≡ true
-    → (flat_of s).ended ≡ false → ((flat_after i (at s r)).phase ≡ (flat_of s).phase) × ((flat_after i (at s r)).ended ≡ false)
+    → (flat_of s).ended ≡ false → ((flat_after (at i s r)).phase ≡ (flat_of s).phase) × ((flat_after (at i s r)).ended ≡ false)
 stays_open s i r core h may passing going =
     let alike = turned_flat s i r core h may in
     let same = passing_label i r.kind (flat_of s) passing going in

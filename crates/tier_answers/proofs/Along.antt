@@ -21,18 +21,18 @@ use Rattle.tier_core.proofs.Places.{MayPlay, turn_may}
 use Rattle.tier_core.proofs.Runs.{finish_may, step_moves, begun_core}
 use Rattle.tier_core.proofs.Opening.{token_core}
 use Rattle.tier_answers.specs.Frame.{flat_of}
-use Rattle.tier_answers.specs.Moments.{Moment, Event, Takes, Enters, own_turn, state_then, run_of, moments, AreEvents, IsOfCall, AreOfCall}
+use Rattle.tier_answers.specs.Moments.{Moment, Event, Takes, Enters, state_then, run_of, AreEvents, IsOfCall, AreOfCall}
 use Rattle.tier_answers.proofs.Framing.{after_either, turned}
 use Rattle.tier_answers.proofs.Planning.{known_active, known_due}
-use Rattle.tier_answers.proofs.Ending.{at}
+use Rattle.tier_answers.proofs.Ending.{at, own_imaged, imaged}
 
 -- what is kept by the call's own steps, by others' steps and calls, and by a token that comes in
 pub record Carries (i : ℕ) (P : State → List Moment → Type 0) : Type 0 where
   pub goes : (s : State) (past : List Moment) → IsCore s → i < length s.views → is_active (call_at s.calls i) ≡ true → MayPlay s i (turn_at s i)
-      → P s past → P (played s i (turn_at s i)) (at s (turn_at s i) ∷ past)
+      → P s past → P (played s i (turn_at s i)) (at i s (turn_at s i) ∷ past)
   pub ends : (s : State) (past : List Moment) → IsCore s → i < length s.views → is_due (call_at s.calls i) ≡ true
       → MayPlay s i (finish_at s i (plan_ends s))
-      → P s past → P (played s i (finish_at s i (plan_ends s))) (at s (finish_at s i (plan_ends s)) ∷ past)
+      → P s past → P (played s i (finish_at s i (plan_ends s))) (at i s (finish_at s i (plan_ends s)) ∷ past)
   pub others : (s : State) (past : List Moment) (j : ℕ) (r : Turn) → IsCore s → i < length s.views → j < length s.views → i ≢ j → MayPlay s j r
       → P s past → P (played s j r) past
   pub begins : (s : State) (past : List Moment) (j : ℕ) (d : Call) → IsCore s → i < length s.views → i ≢ j → P s past → P (begun s j d) past
@@ -74,22 +74,22 @@ one_more s = length-append s.views (new_view (word_at s.words 0).phase ∷ [])
 
 -- a turn of some token, where it may be taken
 turn_step : (i : ℕ) (P : State → List Moment → Type 0) (s : State) (past : List Moment) (j : ℕ) (r : Turn) (may : Bool) → P s past
-    → (may ≡ true → j ≡ i → P (played s j r) (at s r ∷ past)) → (may ≡ true → j ≢ i → P (played s j r) past)
-    → P (cond may (played s j r) s) (cond (eqb j i) (cond may (at s r ∷ []) []) [] ++ past)
+    → (may ≡ true → j ≡ i → P (played s j r) (at j s r ∷ past)) → (may ≡ true → j ≢ i → P (played s j r) past)
+    → P (cond may (played s j r) s) (cond (eqb j i) (cond may (at j s r ∷ []) []) [] ++ past)
 turn_step i P s past j r may here own other =
-    by_test (λ g. P (cond g (played s j r) s) (cond (eqb j i) (cond g (at s r ∷ []) []) [] ++ past)) may
-    (λ e. by_test (λ b. P (played s j r) (cond b (at s r ∷ []) [] ++ past)) (eqb j i)
+    by_test (λ g. P (cond g (played s j r) s) (cond (eqb j i) (cond g (at j s r ∷ []) []) [] ++ past)) may
+    (λ e. by_test (λ b. P (played s j r) (cond b (at j s r ∷ []) [] ++ past)) (eqb j i)
     (λ q. own e (eqb-true j i q)) (λ n. other e (eqb-false j i n)))
     (λ _. by_test (λ b. P s (cond b [] [] ++ past)) (eqb j i) (λ _. here) (λ _. here))
 
 one_step : (i : ℕ) (P : State → List Moment → Type 0) → Carries i P → (s : State) (past : List Moment) (x : Step) → IsCore s → i < length s.views
-    → IsOfCall i x → P s past → P (after s x) (own_turn i s x ++ past)
+    → IsOfCall i x → P s past → P (after s x) (own_imaged i s x ++ past)
 one_step i P carries s past (Begin j d) core h other here =
     after_either (λ x. P x past) (may_begin s j d) s (begun s j d) (λ _. carries.begins s past j d core h other here) here
 one_step i P carries s past (Go j) core h other here =
     turn_step i P s past j (turn_at s j) (may_go s j) here
     (λ may e. let a = known_active s j may in
-    subst (λ (n : ℕ). P (played s n (turn_at s n)) (at s (turn_at s n) ∷ past)) (sym e)
+    subst (λ (n : ℕ). P (played s n (turn_at s n)) (at n s (turn_at s n) ∷ past)) (sym e)
     (carries.goes s past core h (subst (λ (n : ℕ). is_active (call_at s.calls n) ≡ true) e a.1)
     (subst (λ (n : ℕ). MayPlay s n (turn_at s n)) e (turn_may s j core a.0 a.1)) here))
     (λ may n. let a = known_active s j may in
@@ -97,7 +97,7 @@ one_step i P carries s past (Go j) core h other here =
 one_step i P carries s past (Finish j) core h other here =
     turn_step i P s past j (finish_at s j (plan_ends s)) (may_finish s j) here
     (λ may e. let a = known_due s j may in
-    subst (λ (n : ℕ). P (played s n (finish_at s n (plan_ends s))) (at s (finish_at s n (plan_ends s)) ∷ past)) (sym e)
+    subst (λ (n : ℕ). P (played s n (finish_at s n (plan_ends s))) (at n s (finish_at s n (plan_ends s)) ∷ past)) (sym e)
     (carries.ends s past core h (subst (λ (n : ℕ). is_due (call_at s.calls n) ≡ true) e a.1)
     (subst (λ (n : ℕ). MayPlay s n (finish_at s n (plan_ends s))) e (finish_may s j (plan_ends s) core a.0 a.1)) here))
     (λ may n. let a = known_due s j may in
@@ -110,10 +110,10 @@ pub record Left (i : ℕ) (P : State → List Moment → Type 0) (s : State) (ms
   pub holds : P s ms
 
 pub along : (i : ℕ) (P : State → List Moment → Type 0) → Carries i P → (events : List Event) (s : State) (past : List Moment) → IsCore s
-    → i < length s.views → P s past → AreEvents events → AreOfCall i events → Left i P (run_of events s) (moments i events s past)
+    → i < length s.views → P s past → AreEvents events → AreOfCall i events → Left i P (run_of events s) (imaged i events s past)
 along i P carries [] s past core h here are own = record { core = core; known = h; holds = here }
 along i P carries (Takes x ∷ events) s past core h here are own =
-    along i P carries events (after s x) (own_turn i s x ++ past) (core_after s x core are.0)
+    along i P carries events (after s x) (own_imaged i s x ++ past) (core_after s x core are.0)
     (subst (λ (n : ℕ). i < n) (sym (tokens_stay s x)) h) (one_step i P carries s past x core h own.0 here) are.1 own.1
 along i P carries (Enters ∷ events) s past core h here are own =
     along i P carries events (with_token s) past (token_core s core) (let a = one_more s in omega arith)
@@ -125,14 +125,14 @@ OfToken i Q s past = Q past (call_at s.calls i) (view_at s.views i)
 
 abbrev pub TurnKeeps : ℕ → (List Moment → Progress → View → Type 0) → State → List Moment → Turn → Type 0
 TurnKeeps i Q s past r =
-    MayPlay s i r → OfToken i Q s past → Q (at s r ∷ past) r.next (stepped_view s.parents s.words r.kind r.tier (view_at s.views i))
+    MayPlay s i r → OfToken i Q s past → Q (at i s r ∷ past) r.next (stepped_view s.parents s.words r.kind r.tier (view_at s.views i))
 
 played_own : (i : ℕ) (Q : List Moment → Progress → View → Type 0) (s : State) (past : List Moment) (r : Turn) → IsCore s → i < length s.views
-    → Q (at s r ∷ past) r.next (stepped_view s.parents s.words r.kind r.tier (view_at s.views i)) → OfToken i Q (played s i r) (at s r ∷ past)
+    → Q (at i s r ∷ past) r.next (stepped_view s.parents s.words r.kind r.tier (view_at s.views i)) → OfToken i Q (played s i r) (at i s r ∷ past)
 played_own i Q s past r core h here =
-    subst (λ (p : Progress). Q (at s r ∷ past) p (view_at (played s i r).views i))
+    subst (λ (p : Progress). Q (at i s r ∷ past) p (view_at (played s i r).views i))
     (sym (get_or-set_same s.calls i r.next Idle (let l = core.long in omega arith)))
-    (subst (λ (v : View). Q (at s r ∷ past) r.next v)
+    (subst (λ (v : View). Q (at i s r ∷ past) r.next v)
     (sym (get_or-set_same s.views i (stepped_view s.parents s.words r.kind r.tier (view_at s.views i)) (new_view 0) h)) here)
 
 same_own : (i : ℕ) (Q : List Moment → Progress → View → Type 0) (s s' : State) (past : List Moment) → call_at s'.calls i ≡ call_at s.calls i
@@ -168,7 +168,7 @@ begun_own i Q s c core may here =
 -- from the begin of a call
 pub along_call : (i : ℕ) (c : Call) (Q : List Moment → Progress → View → Type 0) → Carries i (OfToken i Q) → (events : List Event) (s : State)
     → IsCore s → IsCall c → may_begin s i c ≡ true → Q [] (Begun c) (view_at s.views i) → AreEvents events → AreOfCall i events
-    → Left i (OfToken i Q) (run_of events (begun s i c)) (moments i events (begun s i c) [])
+    → Left i (OfToken i Q) (run_of events (begun s i c)) (imaged i events (begun s i c) [])
 along_call i c Q carries events s core is may here are own =
     along i (OfToken i Q) carries events (begun s i c) [] (begun_core s i c core is may) (begun_known s i c may)
     (begun_own i Q s c core may here) are own

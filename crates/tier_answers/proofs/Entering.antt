@@ -19,7 +19,7 @@ last_one [] y d i h = ap (λ k. get_or (y ∷ []) k d) h
 last_one (x ∷ xs) y d zero h = absurd (omega arith)
 last_one (x ∷ xs) y d (suc i) h = last_one xs y d i (omega arith)
 
-same_flat : (s : State) → flat_of (with_token s) ≡ flat_of s
+pub same_flat : (s : State) → flat_of (with_token s) ≡ flat_of s
 same_flat s = new_tokens_are_unseen s.words s.views (word_at s.words 0).phase
 
 -- the new token isn't awaited

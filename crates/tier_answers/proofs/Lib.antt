@@ -7,6 +7,8 @@ pub mod Along
 pub mod Memory
 pub mod Seeking
 pub mod Going
+pub mod Entering
+pub mod Reached
 pub mod Telling
 pub mod Ranks
 pub mod Short
@@ -16,7 +18,6 @@ pub mod Members
 pub mod Opens
 pub mod Answering
 pub mod Rounding
-pub mod Entering
 pub mod Once
 pub mod Ended
 pub mod Waiting

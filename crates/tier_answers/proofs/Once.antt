@@ -35,8 +35,11 @@ use Rattle.tier_answers.specs.Moments.{Moment, Event, moments, AreEvents, AreOfC
 use Rattle.tier_answers.specs.Told.{refusing}
 use Rattle.tier_answers.specs.Calls.{IsSeated}
 use Rattle.tier_answers.specs.Once.{is_counting, times_counted, counts_when_done, CountsAs, LatestCounts, CallsCountOnce, view_after_turn, SeatsAs, LatestSeats, JoinsSeatWhereAsked, IsNotedAt, NotesAs, LatestNotes, RefusalsAreNoted}
-use Rattle.tier_answers.proofs.Ending.{at}
+use Rattle.tier_answers.proofs.Ending.{at, imaged}
 use Rattle.tier_answers.proofs.Memory.{any_here, any_later, call_of, by_turn}
+use Rattle.tier_answers.specs.Frame.{flat_of}
+use Rattle.tier_core.proofs.Runs.{begun_core}
+use Rattle.tier_answers.proofs.Reached.{Alikes, Tells_, reached, alike_itself, carried, any_alike}
 use Rattle.tier_answers.proofs.Along.{Carries, OfToken, TurnKeeps, of_token, along_call}
 
 -- what a turn answers, of a call that has counted so often
@@ -66,18 +69,18 @@ Keeps c past (Refreshing has_moved) v = (c ≡ call.Poll) × (times_counted past
 
 -- a turn that answers so, and after which the call remembers what it has to
 record Fits (s : State) (i : ℕ) (c : Call) (past : List Moment) (r : Turn) : Type 0 where
-  says : Says c r.answer (stepped_view s.parents s.words r.kind r.tier (view_at s.views i)) (at s r ∷ past)
-  keeps : Keeps c (at s r ∷ past) r.next (stepped_view s.parents s.words r.kind r.tier (view_at s.views i))
+  says : Says c r.answer (stepped_view s.parents s.words r.kind r.tier (view_at s.views i)) (at i s r ∷ past)
+  keeps : Keeps c (at i s r ∷ past) r.next (stepped_view s.parents s.words r.kind r.tier (view_at s.views i))
 
 -- the count after one more moment
-same_count : (s : State) (past : List Moment) (r : Turn) (n : ℕ) → is_counting r.kind ≡ false → times_counted past ≡ n → times_counted (at s r ∷ past) ≡ n
-same_count s past r n quiet e =
-    let a = count_cons (λ (m : Moment). is_counting m.turn.kind) (at s r) past in
+same_count : (i : ℕ) (s : State) (past : List Moment) (r : Turn) (n : ℕ) → is_counting r.kind ≡ false → times_counted past ≡ n → times_counted (at i s r ∷ past) ≡ n
+same_count i s past r n quiet e =
+    let a = count_cons (λ (m : Moment). is_counting m.turn.kind) (at i s r) past in
     let b : cond {A = ℕ} (is_counting r.kind) 1 0 ≡ 0 = ap (λ x. cond {A = ℕ} x 1 0) quiet in omega arith
 
-one_count : (s : State) (past : List Moment) (r : Turn) → is_counting r.kind ≡ true → times_counted past ≡ 0 → times_counted (at s r ∷ past) ≡ 1
-one_count s past r counts e =
-    let a = count_cons (λ (m : Moment). is_counting m.turn.kind) (at s r) past in
+one_count : (i : ℕ) (s : State) (past : List Moment) (r : Turn) → is_counting r.kind ≡ true → times_counted past ≡ 0 → times_counted (at i s r ∷ past) ≡ 1
+one_count i s past r counts e =
+    let a = count_cons (λ (m : Moment). is_counting m.turn.kind) (at i s r) past in
     let b : cond {A = ℕ} (is_counting r.kind) 1 0 ≡ 1 = ap (λ x. cond {A = ℕ} x 1 0) counts in omega arith
 
 seats_no : (c : Call) (a : Played) (v : View) → ((tier size : ℕ) → SeatsAs tier size a v) → Seats c a v
@@ -95,28 +98,28 @@ done_once : (trip : Trip) → counts_when_done (call_of trip) ≡ 1
 done_once Arrival = refl
 done_once Departure = refl
 
-goes_on_once : (s : State) (i : ℕ) (c : Call) (past : List Moment) (r : Turn) → r.answer ≡ GoesOn → times_counted (at s r ∷ past) ≤ 1
-    → Says c r.answer (stepped_view s.parents s.words r.kind r.tier (view_at s.views i)) (at s r ∷ past)
+goes_on_once : (s : State) (i : ℕ) (c : Call) (past : List Moment) (r : Turn) → r.answer ≡ GoesOn → times_counted (at i s r ∷ past) ≤ 1
+    → Says c r.answer (stepped_view s.parents s.words r.kind r.tier (view_at s.views i)) (at i s r ∷ past)
 goes_on_once s i c past r e few =
     let v' : View = stepped_view s.parents s.words r.kind r.tier (view_at s.views i) in
-    subst (λ (a : Played). Says c a (stepped_view s.parents s.words r.kind r.tier (view_at s.views i)) (at s r ∷ past)) (sym e)
+    subst (λ (a : Played). Says c a (stepped_view s.parents s.words r.kind r.tier (view_at s.views i)) (at i s r ∷ past)) (sym e)
     (record { counts = few; seats = seats_no c GoesOn v' (λ _ _. tt); notes = tt })
 
 -- a refusal that is answered, or kept until the claimed tiers are given back
 refused_fits : (s : State) (i : ℕ) (c : Call) (past : List Moment) (r : Turn) (claimed : ℕ) (a : Played) → is_refusal a ≡ true
-    → r.next ≡ giving_back claimed a → r.answer ≡ unless_claimed claimed a → times_counted (at s r ∷ past) ≡ 0
+    → r.next ≡ giving_back claimed a → r.answer ≡ unless_claimed claimed a → times_counted (at i s r ∷ past) ≡ 0
     → (stepped_view s.parents s.words r.kind r.tier (view_at s.views i)).size ≡ 0
-    → NotesAs a (stepped_view s.parents s.words r.kind r.tier (view_at s.views i)) (at s r ∷ past) → Fits s i c past r
+    → NotesAs a (stepped_view s.parents s.words r.kind r.tier (view_at s.views i)) (at i s r ∷ past) → Fits s i c past r
 refused_fits s i c past r zero a is next answer none size notes = record {
-  says = subst (λ (x : Played). Says c x (stepped_view s.parents s.words r.kind r.tier (view_at s.views i)) (at s r ∷ past)) (sym answer) (record {
+  says = subst (λ (x : Played). Says c x (stepped_view s.parents s.words r.kind r.tier (view_at s.views i)) (at i s r ∷ past)) (sym answer) (record {
     counts = refuses_nothing a is;
     seats = seats_no c a (stepped_view s.parents s.words r.kind r.tier (view_at s.views i)) (λ tier many. refuses_all a is tier many);
     notes = notes;
   });
-  keeps = subst (λ (x : Progress). Keeps c (at s r ∷ past) x (stepped_view s.parents s.words r.kind r.tier (view_at s.views i))) (sym next) tt;
+  keeps = subst (λ (x : Progress). Keeps c (at i s r ∷ past) x (stepped_view s.parents s.words r.kind r.tier (view_at s.views i))) (sym next) tt;
 }
   where
-    refuses_nothing : (b : Played) → is_refusal b ≡ true → CountsAs c b (times_counted (at s r ∷ past))
+    refuses_nothing : (b : Played) → is_refusal b ≡ true → CountsAs c b (times_counted (at i s r ∷ past))
     refuses_nothing GoesOn e = not_both false e refl
     refuses_nothing (Done phase) e = not_both false e refl
     refuses_nothing (Passed phase) e = not_both false e refl
@@ -139,23 +142,23 @@ refused_fits s i c past r zero a is next answer none size notes = record {
     refuses_all (MustAdvance phase parties) e tier many = not_both false e refl
 refused_fits s i c past r (suc claimed) a is next answer none size notes = record {
   says = goes_on_once s i c past r answer (omega arith);
-  keeps = subst (λ (x : Progress). Keeps c (at s r ∷ past) x (stepped_view s.parents s.words r.kind r.tier (view_at s.views i))) (sym next)
+  keeps = subst (λ (x : Progress). Keeps c (at i s r ∷ past) x (stepped_view s.parents s.words r.kind r.tier (view_at s.views i))) (sym next)
       (none, size, notes);
 }
 
 -- a join that is answered to be done, or kept until the claimed tiers are settled
 joined_fits : (s : State) (i : ℕ) (past : List Moment) (tier size : ℕ) (r : Turn) (claimed phase : ℕ) → r.next ≡ settling claimed
-    → r.answer ≡ unless_claimed claimed (Done phase) → times_counted (at s r ∷ past) ≡ 1
+    → r.answer ≡ unless_claimed claimed (Done phase) → times_counted (at i s r ∷ past) ≡ 1
     → IsSeated tier size phase (stepped_view s.parents s.words r.kind r.tier (view_at s.views i)) → Fits s i (call.Join tier size) past r
 joined_fits s i past tier size r zero phase next answer one seated = record {
-  says = subst (λ (x : Played). Says (call.Join tier size) x (stepped_view s.parents s.words r.kind r.tier (view_at s.views i)) (at s r ∷ past)) (sym answer)
+  says = subst (λ (x : Played). Says (call.Join tier size) x (stepped_view s.parents s.words r.kind r.tier (view_at s.views i)) (at i s r ∷ past)) (sym answer)
       (record { counts = one; seats = seated; notes = tt });
-  keeps = subst (λ (x : Progress). Keeps (call.Join tier size) (at s r ∷ past) x (stepped_view s.parents s.words r.kind r.tier (view_at s.views i)))
+  keeps = subst (λ (x : Progress). Keeps (call.Join tier size) (at i s r ∷ past) x (stepped_view s.parents s.words r.kind r.tier (view_at s.views i)))
       (sym next) tt;
 }
 joined_fits s i past tier size r (suc claimed) phase next answer one seated = record {
   says = goes_on_once s i (call.Join tier size) past r answer (omega arith);
-  keeps = subst (λ (x : Progress). Keeps (call.Join tier size) (at s r ∷ past) x (stepped_view s.parents s.words r.kind r.tier (view_at s.views i)))
+  keeps = subst (λ (x : Progress). Keeps (call.Join tier size) (at i s r ∷ past) x (stepped_view s.parents s.words r.kind r.tier (view_at s.views i)))
       (sym next) (one, (tier, size, refl, record { tier = seated.tier; size = seated.size; phase = refl; arrived = seated.arrived }));
 }
 
@@ -213,29 +216,29 @@ seek_fits s i past tier size k t none before =
     let claim : Turn = record { kind = Claim tier k size; tier = t; next = ToSeek tier size; answer = GoesOn } in
     let join : Turn = record { kind = Join tier k size; tier = t; next = settling k; answer = unless_claimed k (Done w.phase) } in
     by_turn (Fits s i (call.Join tier size) past) w.ended over (cond (is_refusing (added k size) w) back (cond (is_claimable t w) claim join))
-    (λ _. refused_fits s i (call.Join tier size) past over k (end_shown w) refl refl refl (same_count s past over 0 refl before)
+    (λ _. refused_fits s i (call.Join tier size) past over k (end_shown w) refl refl refl (same_count i s past over 0 refl before)
     (looked_size (word_at s.words 0) v ∙ none) tt)
     (λ _. by_turn (Fits s i (call.Join tier size) past) (is_refusing (added k size) w) back (cond (is_claimable t w) claim join)
     (λ _. let is = refusal_is t (added k size) (refused t w v).phase w in
-    refused_fits s i (call.Join tier size) past back k a is refl refl (same_count s past back 0 refl before) (refused_size t w v ∙ none)
-    (notes_refusal a (refused t w v) (at s back ∷ past) is
-    (any_here (IsNotedAt (refused t w v)) (at s back) past (record { tier = tier; claimed = k; size = size; kind = refl; note = note_is t w v }))))
+    refused_fits s i (call.Join tier size) past back k a is refl refl (same_count i s past back 0 refl before) (refused_size t w v ∙ none)
+    (notes_refusal a (refused t w v) (at i s back ∷ past) is
+    (any_here (IsNotedAt (refused t w v)) (at i s back) past (record { tier = tier; claimed = k; size = size; kind = refl; note = note_is t w v }))))
     (λ _. by_turn (Fits s i (call.Join tier size) past) (is_claimable t w) claim join
-    (λ _. let zero_ = same_count s past claim 0 refl before in
+    (λ _. let zero_ = same_count i s past claim 0 refl before in
     record { says = goes_on_once s i (call.Join tier size) past claim refl (omega arith); keeps = (refl, zero_) })
-    (λ _. joined_fits s i past tier size join k w.phase refl refl (one_count s past join refl before)
+    (λ _. joined_fits s i past tier size join k w.phase refl refl (one_count i s past join refl before)
     (record { tier = refl; size = refl; phase = refl; arrived = refl }))))
 
 -- the first step of each call
 over_fits : (s : State) (i : ℕ) (c : Call) (past : List Moment) (kind : Kind) (t : ℕ) (a : Played) → is_counting kind ≡ false → times_counted past ≡ 0
     → ((times : ℕ) → times ≡ 0 → CountsAs c a times) → Seats c a (stepped_view s.parents s.words kind t (view_at s.views i))
-    → NotesAs a (stepped_view s.parents s.words kind t (view_at s.views i)) (at s (record { kind = kind; tier = t; next = Idle; answer = a }) ∷ past)
+    → NotesAs a (stepped_view s.parents s.words kind t (view_at s.views i)) (at i s (record { kind = kind; tier = t; next = Idle; answer = a }) ∷ past)
     → Fits s i c past (record { kind = kind; tier = t; next = Idle; answer = a })
 over_fits s i c past kind t a quiet before counts seats notes =
     let r : Turn = record { kind = kind; tier = t; next = Idle; answer = a } in
     record {
       says = record {
-        counts = counts (times_counted (at s r ∷ past)) (same_count s past r 0 quiet before);
+        counts = counts (times_counted (at i s r ∷ past)) (same_count i s past r 0 quiet before);
         seats = seats;
         notes = notes;
       };
@@ -264,7 +267,7 @@ pass_first_fits s i past trip before =
     (λ _. by_test (λ b. Fits s i c past (make (cond b Idle (Passing trip)) (cond b (AlreadyArrived (looked w v).phase) GoesOn))) all
     (λ _. over_fits s i c past Look 0 (AlreadyArrived (looked w v).phase) refl before (λ _ e. e)
     (seats_pass trip (AlreadyArrived (looked w v).phase) (looked w v)) tt)
-    (λ _. let n = same_count s past (make (Passing trip) GoesOn) 0 refl before in
+    (λ _. let n = same_count i s past (make (Passing trip) GoesOn) 0 refl before in
     record { says = goes_on_once s i c past (make (Passing trip) GoesOn) refl (omega arith); keeps = (refl, n) }))
 
 polled_counts : (has_moved : Bool) (phase times : ℕ) → times ≡ 0 → CountsAs call.Poll (polled has_moved phase) times
@@ -291,10 +294,10 @@ poll_first_fits s i past before =
     (λ _. by_test (λ b. Fits s i call.Poll past (make (cond b Idle (cond lag (Refreshing f) Idle)) (cond b Waiting (cond lag GoesOn (polled f p))))) all
     (λ _. over_fits s i call.Poll past Look 0 Waiting refl before (λ _ e. e) tt tt)
     (λ _. by_test (λ b. Fits s i call.Poll past (make (cond b (Refreshing f) Idle) (cond b GoesOn (polled f p)))) lag
-    (λ _. let n = same_count s past (make (Refreshing f) GoesOn) 0 refl before in
+    (λ _. let n = same_count i s past (make (Refreshing f) GoesOn) 0 refl before in
     record { says = goes_on_once s i call.Poll past (make (Refreshing f) GoesOn) refl (omega arith); keeps = (refl, n) })
     (λ _. over_fits s i call.Poll past Look 0 (polled f p) refl before (polled_counts f p) tt
-    (polled_notes f p (looked w v) (at s (make Idle (polled f p)) ∷ past)))))
+    (polled_notes f p (looked w v) (at i s (make Idle (polled f p)) ∷ past)))))
 
 join_first_fits : (s : State) (i : ℕ) (past : List Moment) (tier size : ℕ) → times_counted past ≡ 0 → (view_at s.views i).size ≡ 0
     → Fits s i (call.Join tier size) past
@@ -309,9 +312,9 @@ join_first_fits s i past tier size before none =
     (cond x Idle (ToSeek tier size)) (cond x (end_shown w) GoesOn))) w.ended
     (λ _. over_fits s i (call.Join tier size) past Look 0 (end_shown w) refl before (λ _ e. e) (looked_size w v ∙ none) tt)
     (λ _. by_test (λ x. Fits s i (call.Join tier size) past (make (cond x (Refuse 0 0 size) Look) (ToSeek tier size) GoesOn)) b
-    (λ _. let n = same_count s past (make (Refuse 0 0 size) (ToSeek tier size) GoesOn) 0 refl before in
+    (λ _. let n = same_count i s past (make (Refuse 0 0 size) (ToSeek tier size) GoesOn) 0 refl before in
     record { says = goes_on_once s i c past (make (Refuse 0 0 size) (ToSeek tier size) GoesOn) refl (omega arith); keeps = (refl, n) })
-    (λ _. let n = same_count s past (make Look (ToSeek tier size) GoesOn) 0 refl before in
+    (λ _. let n = same_count i s past (make Look (ToSeek tier size) GoesOn) 0 refl before in
     record { says = goes_on_once s i c past (make Look (ToSeek tier size) GoesOn) refl (omega arith); keeps = (refl, n) }))
 
 first_fits : (s : State) (i : ℕ) (past : List Moment) (c : Call) → times_counted past ≡ 0 → BegunFits s.parents c (view_at s.views i)
@@ -327,7 +330,7 @@ pass_fits : (s : State) (i : ℕ) (c : Call) (past : List Moment) (own : Trip) (
     → (known : (j : Trip) × (c ≡ call_of j))
     → Fits s i c past (last_look over)
     → Fits s i c past (record { kind = Refresh; tier = t; next = here; answer = GoesOn })
-    → ((next : Progress) (a : Played) → times_counted (at s (record { kind = kind; tier = t; next = next; answer = a }) ∷ past) ≡ 1)
+    → ((next : Progress) (a : Played) → times_counted (at i s (record { kind = kind; tier = t; next = next; answer = a }) ∷ past) ≡ 1)
     → Fits s i c past (pass_turn s.parents own t trip kind here over (word_at s.words t) (view_at s.views i))
 pass_fits s i c past own t trip kind here over known at_end waits once =
     let w : Fields = word_at s.words t in
@@ -382,30 +385,30 @@ turn_fits s i c past Settling active fits keeps =
     let seat : IsSeated keeps.1.0 keeps.1.1 v.phase v = keeps.1.3 in
     subst (λ (x : Call). Fits s i x past (settle_turn s.parents v v.errand)) (sym keeps.1.2)
     (subst (λ (e : Errand). Fits s i (call.Join keeps.1.0 keeps.1.1) past (settle_turn s.parents v e)) (sym fits.3)
-    (joined_fits s i past keeps.1.0 keeps.1.1 r fits.1 v.phase refl refl (same_count s past r 1 refl keeps.0)
+    (joined_fits s i past keeps.1.0 keeps.1.1 r fits.1 v.phase refl refl (same_count i s past r 1 refl keeps.0)
     (record { tier = seat.tier; size = seat.size; phase = refl; arrived = seat.arrived })))
 turn_fits s i c past (ToGiveBack a) active fits keeps =
     let v : View = view_at s.views i in
     let r : Turn = give_back_turn s.parents a (Opening fits.0 (suc fits.1) GoingBack fits.2) in
     subst (λ (e : Errand). Fits s i c past (give_back_turn s.parents a e)) (sym fits.3)
-    (refused_fits s i c past r fits.1 a fits.4 refl refl (same_count s past r 0 refl keeps.0) keeps.1
-    (notes_later a v (stepped_view s.parents s.words r.kind r.tier v) (at s r) past refl keeps.2))
+    (refused_fits s i c past r fits.1 a fits.4 refl refl (same_count i s past r 0 refl keeps.0) keeps.1
+    (notes_later a v (stepped_view s.parents s.words r.kind r.tier v) (at i s r) past refl keeps.2))
 turn_fits s i c past (Passing trip) active fits keeps =
     let v : View = view_at s.views i in
     let wait : Turn = record { kind = Refresh; tier = v.tier; next = Passing trip; answer = GoesOn } in
-    let n = same_count s past wait 0 refl keeps.1 in
+    let n = same_count i s past wait 0 refl keeps.1 in
     let a : Played = end_shown (word_at s.words v.tier) in
     pass_fits s i c past trip v.tier trip (own_kind trip) (Passing trip) (end_shown (word_at s.words v.tier)) (trip, keeps.0)
     (over_fits s i c past Look 0 (end_shown (word_at s.words v.tier)) refl keeps.1 (λ _ e. e)
     (subst (λ (x : Call). Seats x a (looked (word_at s.words 0) v)) (sym keeps.0) (seats_pass trip a (looked (word_at s.words 0) v))) tt)
     (record { says = goes_on_once s i c past wait refl (omega arith); keeps = (keeps.0, n) })
-    (λ next b. one_count s past (record { kind = own_kind trip; tier = v.tier; next = next; answer = b }) (own_counts trip) keeps.1)
+    (λ next b. one_count i s past (record { kind = own_kind trip; tier = v.tier; next = next; answer = b }) (own_counts trip) keeps.1)
 turn_fits s i c past (Owing own) active fits keeps =
     let v : View = view_at s.views i in
     let t : ℕ = fits.0 in
     let wait : Turn = record { kind = Refresh; tier = t; next = Owing own; answer = GoesOn } in
-    let n = same_count s past wait 1 refl keeps.1 in
-    let m = same_count s past (last_look (Done v.phase)) 1 refl keeps.1 in
+    let n = same_count i s past wait 1 refl keeps.1 in
+    let m = same_count i s past (last_look (Done v.phase)) 1 refl keeps.1 in
     let v0 : View = looked (word_at s.words 0) v in
     subst (λ (x : Errand). Fits s i c past (climb_turn s.parents own (word_at s.words (errand_place s.parents x)) v x)) (sym fits.2)
     (pass_fits s i c past own fits.0 fits.1 (Climb fits.1) (Owing own) (Done v.phase) keeps.0
@@ -418,7 +421,7 @@ turn_fits s i c past (Owing own) active fits keeps =
       keeps = tt;
     })
     (record { says = goes_on_once s i c past wait refl (omega arith); keeps = (keeps.0, n) })
-    (λ next b. same_count s past (record { kind = Climb fits.1; tier = fits.0; next = next; answer = b }) 1 refl keeps.1))
+    (λ next b. same_count i s past (record { kind = Climb fits.1; tier = fits.0; next = next; answer = b }) 1 refl keeps.1))
 turn_fits s i c past (Refreshing has_moved) active fits keeps =
     let v : View = view_at s.views i in
     let w : Fields = word_at s.words v.tier in
@@ -426,9 +429,9 @@ turn_fits s i c past (Refreshing has_moved) active fits keeps =
     (by_test (λ b. Fits s i call.Poll past (record { kind = cond b Refresh Glance; tier = v.tier; next = Idle; answer = polled has_moved v.phase }))
     (lags w v)
     (λ _. over_fits s i call.Poll past Refresh v.tier (polled has_moved v.phase) refl keeps.1 (polled_counts has_moved v.phase) tt
-    (polled_notes has_moved v.phase v (at s (record { kind = Refresh; tier = v.tier; next = Idle; answer = polled has_moved v.phase }) ∷ past)))
+    (polled_notes has_moved v.phase v (at i s (record { kind = Refresh; tier = v.tier; next = Idle; answer = polled has_moved v.phase }) ∷ past)))
     (λ _. over_fits s i call.Poll past Glance v.tier (polled has_moved v.phase) refl keeps.1 (polled_counts has_moved v.phase) tt
-    (polled_notes has_moved v.phase v (at s (record { kind = Glance; tier = v.tier; next = Idle; answer = polled has_moved v.phase }) ∷ past))))
+    (polled_notes has_moved v.phase v (at i s (record { kind = Glance; tier = v.tier; next = Idle; answer = polled has_moved v.phase }) ∷ past))))
 
 finish_quiet : (ends b : Bool) → is_counting (cond b Look (Advance ends)) ≡ false
 finish_quiet ends true = refl
@@ -450,7 +453,7 @@ last_fits s i c past ends (Due own) due keeps =
     let phase : ℕ = (view_at s.views i).phase in
     record {
       says = record {
-        counts = same_count s past (finish_at s i ends) 1 (finish_quiet ends (word_at s.words 0).ended) keeps.1
+        counts = same_count i s past (finish_at s i ends) 1 (finish_quiet ends (word_at s.words 0).ended) keeps.1
             ∙ sym (ap counts_when_done keeps.0.1 ∙ done_once keeps.0.0);
         seats = subst (λ (x : Call). Seats x (Done phase) v') (sym keeps.0.1) (seats_pass keeps.0.0 (Done phase) v');
         notes = tt;
@@ -468,10 +471,10 @@ abbrev Story : ℕ → Call → List Moment → Progress → View → Type 0
 Story i c past p v = Keeps c past p v × LatestSays i c past
 
 told_after : (s : State) (i : ℕ) (c : Call) (past : List Moment) (r : Turn) → i < length s.views → Fits s i c past r
-    → Keeps c (at s r ∷ past) r.next (stepped_view s.parents s.words r.kind r.tier (view_at s.views i)) × LatestSays i c (at s r ∷ past)
+    → Keeps c (at i s r ∷ past) r.next (stepped_view s.parents s.words r.kind r.tier (view_at s.views i)) × LatestSays i c (at i s r ∷ past)
 told_after s i c past r h fits = (
   fits.keeps,
-  subst (λ (v : View). Says c r.answer v (at s r ∷ past))
+  subst (λ (v : View). Says c r.answer v (at i s r ∷ past))
       (sym (get_or-set_same s.views i (stepped_view s.parents s.words r.kind r.tier (view_at s.views i)) (new_view 0) h)) fits.says,
 )
 
@@ -483,29 +486,77 @@ stories i c = of_token i (Story i c)
     told_after s i c past (finish_at s i (plan_ends s)) h (last_fits s i c past (plan_ends s) (call_at s.calls i) due here.0))
 
 says : (s : State) (i : ℕ) (c : Call) (events : List Event) → IsCore s → IsCall c → may_begin s i c ≡ true → AreEvents events → AreOfCall i events
-    → LatestSays i c (moments i events (begun s i c) [])
+    → LatestSays i c (imaged i events (begun s i c) [])
 says s i c events core is may are own = (along_call i c (Story i c) (stories i c) events s core is may ((refl, refl), tt) are own).holds.1
 
 latest_counts : (i : ℕ) (c : Call) (ms : List Moment) → LatestSays i c ms → LatestCounts c ms
 latest_counts i c [] h = tt
 latest_counts i c (m ∷ past) h = h.counts
 
+-- beside the flat phasers that the labels reach
+images : (s : State) (i : ℕ) (c : Call) (events : List Event) → IsCore s → IsCall c → may_begin s i c ≡ true → AreEvents events
+    → Alikes (moments i events (begun s i c) (flat_of s) []) (imaged i events (begun s i c) [])
+images s i c events core is may are = reached i events (begun s i c) (flat_of s) [] [] (begun_core s i c core is may) are (alike_itself (flat_of s)) tt
+
+times_alike : (ms ns : List Moment) → Alikes ms ns → times_counted ms ≡ times_counted ns
+times_alike [] [] h = refl
+times_alike [] (n ∷ ns) h = absurd h
+times_alike (m ∷ ms) [] h = absurd h
+times_alike (m ∷ ms) (n ∷ ns) h =
+    let a = count_cons (λ (x : Moment). is_counting x.turn.kind) m ms in
+    let b = count_cons (λ (x : Moment). is_counting x.turn.kind) n ns in
+    let c : cond {A = ℕ} (is_counting m.turn.kind) 1 0 ≡ cond {A = ℕ} (is_counting n.turn.kind) 1 0 =
+    ap (λ (x : Moment). cond {A = ℕ} (is_counting x.turn.kind) 1 0) h.0.is in
+    let d = times_alike ms ns h.1 in omega arith
+
+counts_alike : (c : Call) (ms ns : List Moment) → Alikes ms ns → LatestCounts c ns → LatestCounts c ms
+counts_alike c [] [] h t = tt
+counts_alike c [] (n ∷ ns) h t = absurd h
+counts_alike c (m ∷ ms) [] h t = absurd h
+counts_alike c (m ∷ ms) (n ∷ ns) h t =
+    carried (λ (x : Moment). CountsAs c x.turn.answer (times_counted (m ∷ ms))) m n h.0
+    (subst (λ (k : ℕ). CountsAs c n.turn.answer k) (sym (times_alike (m ∷ ms) (n ∷ ns) h)) t)
+
 pub calls_count_once : CallsCountOnce
 calls_count_once s i c events core is may are own =
-    latest_counts i c (moments i events (begun s i c) []) (says s i c events core is may are own)
+    counts_alike c (moments i events (begun s i c) (flat_of s) []) (imaged i events (begun s i c) []) (images s i c events core is may are)
+    (latest_counts i c (imaged i events (begun s i c) []) (says s i c events core is may are own))
 
-latest_seats : (i tier size : ℕ) (ms : List Moment) → LatestSays i (call.Join tier size) ms → LatestSeats i tier size ms
-latest_seats i tier size [] h = tt
-latest_seats i tier size (m ∷ past) h = h.seats
+latest_seats : (i tier size : ℕ) (ms ns : List Moment) → Alikes ms ns → LatestSays i (call.Join tier size) ns → LatestSeats i tier size ms
+latest_seats i tier size [] [] h t = tt
+latest_seats i tier size [] (n ∷ ns) h t = absurd h
+latest_seats i tier size (m ∷ ms) [] h t = absurd h
+latest_seats i tier size (m ∷ ms) (n ∷ ns) h t =
+    carried (λ (x : Moment). SeatsAs tier size x.turn.answer (view_after_turn i x)) m n h.0 t.seats
 
 pub joins_seat_where_asked : JoinsSeatWhereAsked
 joins_seat_where_asked s i tier size events core is may are own =
-    latest_seats i tier size (moments i events (begun s i (call.Join tier size)) []) (says s i (call.Join tier size) events core is may are own)
+    latest_seats i tier size (moments i events (begun s i (call.Join tier size)) (flat_of s) []) (imaged i events (begun s i (call.Join tier size)) [])
+    (images s i (call.Join tier size) events core is may are) (says s i (call.Join tier size) events core is may are own)
 
-latest_notes : (i : ℕ) (c : Call) (ms : List Moment) → LatestSays i c ms → LatestNotes i ms
-latest_notes i c [] h = tt
-latest_notes i c (m ∷ past) h = h.notes
+noted : (v : View) → Tells_ (IsNotedAt v) (IsNotedAt v)
+noted v n f g before afterwards is = record { tier = is.tier; claimed = is.claimed; size = is.size; kind = is.kind; note = is.note }
+
+notes_alike : (a : Played) (v : View) (ms ns : List Moment) → Alikes ms ns → NotesAs a v ns → NotesAs a v ms
+notes_alike GoesOn v ms ns h t = tt
+notes_alike (Done phase) v ms ns h t = tt
+notes_alike (Passed phase) v ms ns h t = tt
+notes_alike Waiting v ms ns h t = tt
+notes_alike (Held phase why) v ms ns h t = any_alike (IsNotedAt v) (IsNotedAt v) (noted v) ms ns h t
+notes_alike (Full parties) v ms ns h t = any_alike (IsNotedAt v) (IsNotedAt v) (noted v) ms ns h t
+notes_alike (AlreadyArrived phase) v ms ns h t = tt
+notes_alike (Ended number) v ms ns h t = tt
+notes_alike (MustAdvance phase parties) v ms ns h t = tt
+
+latest_notes : (i : ℕ) (c : Call) (ms ns : List Moment) → Alikes ms ns → LatestSays i c ns → LatestNotes i ms
+latest_notes i c [] [] h t = tt
+latest_notes i c [] (n ∷ ns) h t = absurd h
+latest_notes i c (m ∷ ms) [] h t = absurd h
+latest_notes i c (m ∷ ms) (n ∷ ns) h t =
+    carried (λ (x : Moment). NotesAs x.turn.answer (view_after_turn i x) (m ∷ ms)) m n h.0
+    (notes_alike n.turn.answer (view_after_turn i n) (m ∷ ms) (n ∷ ns) h t.notes)
 
 pub refusals_are_noted : RefusalsAreNoted
 refusals_are_noted s i c events core is may are own =
-    latest_notes i c (moments i events (begun s i c) []) (says s i c events core is may are own)
+    latest_notes i c (moments i events (begun s i c) (flat_of s) []) (imaged i events (begun s i c) []) (images s i c events core is may are)
+    (says s i c events core is may are own)

@@ -19,11 +19,13 @@ use Rattle.tier_core.specs.Run.{is_idle, may_begin, may_go, may_finish, begun, f
 use Rattle.tier_core.proofs.Turns.{by_test, not_both}
 use Rattle.tier_core.proofs.Places.{MayPlay, played_core, turn_may}
 use Rattle.tier_core.proofs.Runs.{finish_may, begun_core}
-use Rattle.tier_answers.specs.Moments.{Moment, run_of}
+use Rattle.tier_answers.specs.Moments.{Moment, run_of, moments}
 use Rattle.tier_answers.specs.Count.{most_steps, IsShort, CallsAreShort}
 use Rattle.tier_answers.proofs.Framing.{others_stay, turned, after_either}
 use Rattle.tier_answers.proofs.Planning.{known_active, known_due}
-use Rattle.tier_answers.proofs.Ending.{at}
+use Rattle.tier_answers.proofs.Ending.{at, imaged}
+use Rattle.tier_answers.specs.Frame.{flat_of}
+use Rattle.tier_answers.proofs.Reached.{as_many, reached, alike_itself}
 use Rattle.tier_answers.proofs.Along.{Carries, along, view_stays, call_stays, begun_known}
 use Rattle.tier_answers.proofs.Ranks.{Within, some_left, Lowers, turn_lowers, left_stays}
 
@@ -76,7 +78,7 @@ moved_left s s' i n p v call view same left =
     (subst (λ (x : View). Within s.parents s'.words p x n) (sym view) left))
 
 course_goes : (s : State) (i : ℕ) (c : Call) (past : List Moment) (r : Turn) → IsCore s → i < length s.views → (course : Course i c s past)
-    → MayPlay s i r → is_idle (call_at s.calls i) ≡ false → Lowers s i course.rest r → Course i c (played s i r) (at s r ∷ past)
+    → MayPlay s i r → is_idle (call_at s.calls i) ≡ false → Lowers s i course.rest r → Course i c (played s i r) (at i s r ∷ past)
 course_goes s i c past r core h course may going lowers =
     let some = some_left s.parents s.words (call_at s.calls i) (view_at s.views i) course.rest going (core.calls i h) course.left in
     record {
@@ -135,6 +137,9 @@ calls_are_short s i c events tiers core is may are own =
       count = omega arith;
     }) are own in
     let s' : State = run_of events (begun s i c) in
+    let many : length (moments i events (begun s i c) (flat_of s) []) ≡ length (imaged i events (begun s i c) []) =
+    as_many (moments i events (begun s i c) (flat_of s) []) (imaged i events (begun s i c) [])
+    (reached i events (begun s i c) (flat_of s) [] [] (begun_core s i c core is may) are (alike_itself (flat_of s)) tt) in
     record {
       few = (let a = end.holds.count in omega arith);
       sixteen = (let a = end.holds.count in let b = most c in omega arith);

@@ -35,13 +35,14 @@ use Rattle.tier_core.proofs.Turns.{by_test, not_both}
 use Rattle.tier_core.proofs.Places.{MayPlay, played_core, turn_may}
 use Rattle.tier_core.proofs.Runs.{finish_may, begun_core, step_moves}
 use Rattle.tier_answers.specs.Frame.{flat_of, IsUntouched}
-use Rattle.tier_answers.specs.Moments.{Moment, flat_at, own_turn, moments, IsOfCall, AreOfCall}
+use Rattle.tier_answers.specs.Moments.{Moment, flat_at, IsOfCall, AreOfCall, moments}
 use Rattle.tier_answers.specs.Told.{IsAwaiting, AreAllHere, HasPassed, HasEnded, Tells, LatestTells, AnswersTell}
 use Rattle.tier_answers.proofs.Framing.{others_stay}
 use Rattle.tier_answers.proofs.Planning.{known_active, known_due}
 use Rattle.tier_answers.proofs.Holding.{fits_at}
 use Rattle.tier_answers.proofs.Counting.{members_owned, arrived_own, looked_is, looked_empty}
-use Rattle.tier_answers.proofs.Ending.{at, ended_stays, forced}
+use Rattle.tier_answers.proofs.Ending.{at, ended_stays, forced, imaged}
+use Rattle.tier_answers.proofs.Reached.{reached, latest_alike}
 use Rattle.tier_answers.proofs.Along.{Carries, OfToken, of_token, begun_own, along_call}
 use Rattle.tier_answers.proofs.Memory.{any_here, PollTells, call_of, Remembers, Good, Goal, no_last, done_later, poll_later, polled_tells}
 use Rattle.tier_answers.proofs.Seeking.{ended_there, seek_tells, settle_tells, give_back_tells}
@@ -64,22 +65,22 @@ poll_seen : (s : State) (i : ℕ) (past : List Moment) (r : Turn) → IsCore s �
     → (word_at s.words 0).ended ≡ false → 0 < (view_at s.views i).size
     → eqb (looked (word_at s.words 0) (view_at s.views i)).arrived (view_at s.views i).size ≡ false
     → PollTells i (not (eqb (looked (word_at s.words 0) (view_at s.views i)).phase (view_at s.views i).phase))
-    (looked (word_at s.words 0) (view_at s.views i)).phase (at s r ∷ past)
+    (looked (word_at s.words 0) (view_at s.views i)).phase (at i s r ∷ past)
 poll_seen s i past r core h is going some e =
     let w : Fields = word_at s.words 0 in
     let v : View = view_at s.views i in
     let fits = fits_at s i core h in
-    looked_is (λ p a. a ≢ v.size → PollTells i (not (eqb p v.phase)) p (at s r ∷ past)) w v going
-    (λ all other _. subst (λ (b : Bool). PollTells i (not b) w.phase (at s r ∷ past)) (sym (ne_eqb w.phase v.phase (λ q. other (sym q))))
-    (any_here (HasPassed i w.phase) (at s r) past record {
+    looked_is (λ p a. a ≢ v.size → PollTells i (not (eqb p v.phase)) p (at i s r ∷ past)) w v going
+    (λ all other _. subst (λ (b : Bool). PollTells i (not b) w.phase (at i s r ∷ past)) (sym (ne_eqb w.phase v.phase (λ q. other (sym q))))
+    (any_here (HasPassed i w.phase) (at i s r) past record {
       look = record { first = is; going = going; phase = refl };
       next = ⊎_elim (λ (q : v.phase ≡ w.phase). absurd (other q)) (λ q. sym q.0) (fits.current some);
       all = all_arrived s i v.phase core h refl all;
     }))
     (λ _ n. let less : v.arrived < v.size = (let a = fits.within in omega arith) in
     let current = unarrived_is_current s.parents w.phase w.ended v fits less in
-    subst (λ (b : Bool). PollTells i (not b) v.phase (at s r ∷ past)) (sym (eq-eqb v.phase v.phase refl))
-    (any_here (IsAwaiting i v.phase) (at s r) past record {
+    subst (λ (b : Bool). PollTells i (not b) v.phase (at i s r ∷ past)) (sym (eq-eqb v.phase v.phase refl))
+    (any_here (IsAwaiting i v.phase) (at i s r) past record {
       look = record { first = is; going = going; phase = sym current };
       some = (let a = arrived_own s i core h in let b = members_owned s i core h in omega arith);
     }))
@@ -106,7 +107,7 @@ pass_first s i past trip core h is some =
     (cond b (end_shown w) (cond (eqb (looked w v).arrived v.size) (AlreadyArrived (looked w v).phase) GoesOn)))) w.ended
     (λ e may. record {
       told = record {
-        tells = any_here (HasEnded i (shown_of w.phase true)) (at s (make Idle (end_shown w))) past (ended_stays s i (make Idle (end_shown w)) core h may e);
+        tells = any_here (HasEnded i (shown_of w.phase true)) (at i s (make Idle (end_shown w))) past (ended_stays s i (make Idle (end_shown w)) core h may e);
         ends = λ _. refl;
       };
       keeps = tt;
@@ -116,7 +117,7 @@ pass_first s i past trip core h is some =
     (λ e may. let f = first_all w v going some e in
     record {
       told = record {
-        tells = any_here (AreAllHere i c (looked w v).phase) (at s (make Idle (AlreadyArrived (looked w v).phase))) past record {
+        tells = any_here (AreAllHere i c (looked w v).phase) (at i s (make Idle (AlreadyArrived (looked w v).phase))) past record {
           look = record { first = is; going = going; phase = sym f.0 };
           all = all_arrived s i (looked w v).phase core h (f.1 ∙ sym f.0) f.2;
         };
@@ -141,7 +142,7 @@ poll_first s i past core h is some =
     (cond b (end_shown w) (cond (eqb (looked w v).arrived v.size) Waiting (cond lag GoesOn (polled f p)))))) w.ended
     (λ e may. record {
       told = record {
-        tells = any_here (HasEnded i (shown_of w.phase true)) (at s (make Idle (end_shown w))) past (ended_stays s i (make Idle (end_shown w)) core h may e);
+        tells = any_here (HasEnded i (shown_of w.phase true)) (at i s (make Idle (end_shown w))) past (ended_stays s i (make Idle (end_shown w)) core h may e);
         ends = λ _. refl;
       };
       keeps = tt;
@@ -151,7 +152,7 @@ poll_first s i past core h is some =
     (λ e may. let g = first_all w v going some e in
     record {
       told = record {
-        tells = any_here (λ n. AreAllHere i call.Poll (flat_at n).phase n) (at s (make Idle Waiting)) past record {
+        tells = any_here (λ n. AreAllHere i call.Poll (flat_at n).phase n) (at i s (make Idle Waiting)) past record {
           look = record { first = is; going = going; phase = refl };
           all = all_arrived s i w.phase core h g.1 g.2;
         };
@@ -166,7 +167,7 @@ poll_first s i past core h is some =
     })
     (λ _ may. record {
       told = record {
-        tells = polled_tells i (at s (make Idle (polled f p))) past f p (poll_seen s i past (make Idle (polled f p)) core h is going some e);
+        tells = polled_tells i (at i s (make Idle (polled f p))) past f p (poll_seen s i past (make Idle (polled f p)) core h is going some e);
         ends = λ _. refl;
       };
       keeps = tt;
@@ -189,7 +190,7 @@ join_first s i past tier size core h none =
       answer = cond x (end_shown w) GoesOn;
     }) w.ended
     (λ e may. record {
-      told = record { tells = any_here (HasEnded i (shown_of w.phase true)) (at s over) past (ended_stays s i over core h may e); ends = λ _. refl };
+      told = record { tells = any_here (HasEnded i (shown_of w.phase true)) (at i s over) past (ended_stays s i over core h may e); ends = λ _. refl };
       keeps = tt;
     })
     (λ going. by_test (λ x. Goal s i c past record { kind = cond x (Refuse 0 0 size) Look; tier = 0; next = ToSeek tier size; answer = GoesOn }) b
@@ -207,7 +208,7 @@ first_tells s i past call.Force core h is fits = λ may.
     let w : Fields = word_at s.words 0 in
     let r : Turn = record { kind = Force; tier = 0; next = Idle; answer = end_shown w } in
     record {
-      told = record { tells = any_here (HasEnded i (shown_of w.phase true)) (at s r) past (forced s i r core h may refl); ends = λ _. refl };
+      told = record { tells = any_here (HasEnded i (shown_of w.phase true)) (at i s r) past (forced s i r core h may refl); ends = λ _. refl };
       keeps = tt;
     }
 
@@ -240,7 +241,7 @@ turn_tells s i c past (Passing trip) core h is active fits knows =
     subst (λ (x : Call). Goal s i x past (turn s.parents s.words (Passing trip) v)) (sym knows)
     (pass_tells s i (call_of trip) past trip v.tier trip (own_kind trip) (Passing trip) (end_shown (word_at s.words v.tier)) core
     (own_passer s i past trip h within current)
-    (λ e r may. any_here (HasEnded i (shown_of (word_at s.words v.tier).phase true)) (at s r) past (ended_there s i v.tier r core h may within e))
+    (λ e r may. any_here (HasEnded i (shown_of (word_at s.words v.tier).phase true)) (at i s r) past (ended_there s i v.tier r core h may within e))
     (λ m. refl) refl)
 turn_tells s i c past (Owing own) core h is active fits knows =
     let v : View = view_at s.views i in
@@ -250,17 +251,17 @@ turn_tells s i c past (Owing own) core h is active fits knows =
     subst (λ (x : Errand). Goal s i c past (climb_turn s.parents own (word_at s.words (errand_place s.parents x)) v x)) (sym fits.2)
     (pass_tells s i c past own fits.0 fits.1 (Climb fits.1) (Owing own) (Done v.phase) core
     (climb_passer s i c past fits.0 fits.1 h within fit.0 knows)
-    (λ _ r _. done_later i c v.phase (at s r) past knows)
+    (λ _ r _. done_later i c v.phase (at i s r) past knows)
     (λ m. done_later i c v.phase m past knows) refl)
 turn_tells s i c past (Refreshing has_moved) core h is active fits knows =
     let v : View = view_at s.views i in
     let r : Turn = turn s.parents s.words (Refreshing has_moved) v in
     λ may. record {
       told = record {
-        tells = subst (λ (x : Call). Tells i x (at s (turn s.parents s.words (Refreshing has_moved) (view_at s.views i))) past (polled has_moved v.phase))
+        tells = subst (λ (x : Call). Tells i x (at i s (turn s.parents s.words (Refreshing has_moved) (view_at s.views i))) past (polled has_moved v.phase))
             (sym knows.0)
-            (polled_tells i (at s (turn s.parents s.words (Refreshing has_moved) (view_at s.views i))) past has_moved v.phase
-            (poll_later i has_moved v.phase (at s (turn s.parents s.words (Refreshing has_moved) (view_at s.views i))) past knows.1));
+            (polled_tells i (at i s (turn s.parents s.words (Refreshing has_moved) (view_at s.views i))) past has_moved v.phase
+            (poll_later i has_moved v.phase (at i s (turn s.parents s.words (Refreshing has_moved) (view_at s.views i))) past knows.1));
         ends = λ _. refl;
       };
       keeps = tt;
@@ -277,7 +278,7 @@ last_tells s i c past ends (ToGiveBack answer) due knows = not_both false due re
 last_tells s i c past ends (Passing trip) due knows = not_both false due refl
 last_tells s i c past ends (Owing own) due knows = not_both false due refl
 last_tells s i c past ends (Due own) due knows = record {
-  told = record { tells = done_later i c (view_at s.views i).phase (at s (finish_at s i ends)) past knows; ends = λ _. refl };
+  told = record { tells = done_later i c (view_at s.views i).phase (at i s (finish_at s i ends)) past knows; ends = λ _. refl };
   keeps = tt;
 }
 last_tells s i c past ends (Refreshing has_moved) due knows = not_both false due refl
@@ -297,4 +298,7 @@ pub begun_story : (s : State) (i : ℕ) (c : Call) → IsCore s → may_begin s 
 begun_story s i c core may = begun_own i (Story i c) s c core may (refl, tt)
 
 pub answers_tell : AnswersTell
-answers_tell s i c events core is may are own = (along_call i c (Story i c) (stories i c) events s core is may (refl, tt) are own).holds.1
+answers_tell s i c events f core is may are own alike =
+    latest_alike i c (moments i events (begun s i c) f []) (imaged i events (begun s i c) [])
+    (reached i events (begun s i c) f [] [] (begun_core s i c core is may) are alike tt)
+    (along_call i c (Story i c) (stories i c) events s core is may (refl, tt) are own).holds.1

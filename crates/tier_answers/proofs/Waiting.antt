@@ -41,7 +41,8 @@ use Rattle.tier_answers.specs.Waits.{HasRoot, TheRootWaits, IsAsTold, LatestIsKe
 use Rattle.tier_answers.proofs.Framing.{after_either}
 use Rattle.tier_answers.proofs.Planning.{known_active, known_due, due_owes}
 use Rattle.tier_answers.proofs.Holding.{part, fits_at, advances_are_alone}
-use Rattle.tier_answers.proofs.Ending.{at}
+use Rattle.tier_answers.proofs.Ending.{at, imaged}
+use Rattle.tier_answers.proofs.Reached.{Alikes, reached, alike_itself}
 use Rattle.tier_answers.proofs.Along.{Carries, OfToken, along, begun_known, call_stays}
 use Rattle.tier_answers.proofs.Telling.{Story, stories, begun_story}
 
@@ -163,8 +164,8 @@ kept i c = record {
       record {
         story = story;
         latest = λ phase parties e.
-            let told : Tells i c (at s (turn_at s i)) past (MustAdvance phase parties) =
-            subst (λ (a : Played). Tells i c (at s (turn_at s i)) past a) e story.1.tells in
+            let told : Tells i c (at i s (turn_at s i)) past (MustAdvance phase parties) =
+            subst (λ (a : Played). Tells i c (at i s (turn_at s i)) past a) e story.1.tells in
             record {
               due = ap is_due (get_or-set_same s.calls i (turn_at s i).next Idle (let l = core.long in omega arith)) ∙ told.0;
               root = record { phase = told.1.phase; parties = told.1.root };
@@ -201,7 +202,15 @@ kept i c = record {
   };
 }
 
+latest_moment : (i : ℕ) (s : State) (ms ns : List Moment) → Alikes ms ns → LatestIsKept i s ns → LatestIsKept i s ms
+latest_moment i s [] [] h t = tt
+latest_moment i s [] (n ∷ ns) h t = absurd h
+latest_moment i s (m ∷ ms) [] h t = absurd h
+latest_moment i s (m ∷ ms) (n ∷ ns) h t = λ phase parties e. t phase parties (sym (ap (λ (x : Moment). x.turn.answer) h.0.is) ∙ e)
+
 pub advances_are_awaited : AdvancesAreAwaited
 advances_are_awaited s i c events core is may are own =
+    latest_moment i (run_of events (begun s i c)) (moments i events (begun s i c) (flat_of s) []) (imaged i events (begun s i c) [])
+    (reached i events (begun s i c) (flat_of s) [] [] (begun_core s i c core is may) are (alike_itself (flat_of s)) tt)
     (along i (Kept i c) (kept i c) events (begun s i c) [] (begun_core s i c core is may) (begun_known s i c may)
     (record { story = begun_story s i c core may; latest = tt }) are own).holds.latest

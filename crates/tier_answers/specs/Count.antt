@@ -5,6 +5,7 @@ use Rattle.tier_core.specs.declared.call.Call.{Call}
 use Rattle.tier_core.specs.declared.call.Call.TheVariants as call
 use Rattle.tier_core.specs.Machine.{State, IsCore, call_at}
 use Rattle.tier_core.specs.Run.{is_idle, may_begin, may_go, may_finish, begun, IsCall}
+use Rattle.tier_answers.specs.Frame.{flat_of}
 use Rattle.tier_answers.specs.Moments.{Moment, Event, run_of, moments, AreEvents, AreOfCall}
 
 -- The most steps of each call. On a path of 7 tiers a join looks at the root, goes up by 7 tiers, and settles the 6 below the root or gives
@@ -29,4 +30,4 @@ abbrev pub CallsAreShort : Type 0
 CallsAreShort =
     (s : State) (token : ℕ) (c : Call) (events : List Event) → IsTiers s.parents → IsCore s → IsCall c → may_begin s token c ≡ true
     → AreEvents events → AreOfCall token events
-    → IsShort (run_of events (begun s token c)) token c (moments token events (begun s token c) [])
+    → IsShort (run_of events (begun s token c)) token c (moments token events (begun s token c) (flat_of s) [])

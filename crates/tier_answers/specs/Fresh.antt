@@ -50,7 +50,7 @@ abbrev pub JoinsAreDoneAlone : Type 0
 JoinsAreDoneAlone =
     (s : State) (token tier size : ℕ) → IsTiers s.parents → IsCore s → IsFresh s → token < length s.views → (view_at s.views token).size ≡ 0
     → tier < length s.parents → 0 < size → sum_by (λ v. v.size) s.views + size + length s.parents ≤ 65535
-    → IsJoined s (run_of (join_alone token tier size) s) token tier size (moments token (join_alone token tier size) s [])
+    → IsJoined s (run_of (join_alone token tier size) s) token tier size (moments token (join_alone token tier size) s (flat_of s) [])
 
 -- A new tree is fresh, and stays so when a token comes in.
 abbrev pub NewTreesAreFresh : Type 0

@@ -10,6 +10,7 @@ use Rattle.tier_core.specs.declared.call.Played.{Played}
 use Rattle.tier_core.specs.declared.call.Played.TheVariants.{GoesOn, Done, Passed, Waiting, Held, Full, AlreadyArrived, Ended, MustAdvance}
 use Rattle.tier_core.specs.Machine.{State, IsCore, view_at, played}
 use Rattle.tier_core.specs.Run.{may_begin, begun, IsCall}
+use Rattle.tier_answers.specs.Frame.{flat_of}
 use Rattle.tier_answers.specs.Moments.{Moment, Event, moments, AreEvents, AreOfCall}
 use Rattle.tier_answers.specs.Calls.{IsSeated}
 use Rattle.tier_answers.specs.Told.{refusing}
@@ -60,7 +61,7 @@ LatestCounts c (m ∷ past) = CountsAs c m.turn.answer (times_counted (m ∷ pas
 abbrev pub CallsCountOnce : Type 0
 CallsCountOnce =
     (s : State) (token : ℕ) (c : Call) (events : List Event) → IsCore s → IsCall c → may_begin s token c ≡ true → AreEvents events
-    → AreOfCall token events → LatestCounts c (moments token events (begun s token c) [])
+    → AreOfCall token events → LatestCounts c (moments token events (begun s token c) (flat_of s) [])
 
 -- what the token knows after a moment of its own
 abbrev pub view_after_turn : ℕ → Moment → View
@@ -86,7 +87,7 @@ abbrev pub JoinsSeatWhereAsked : Type 0
 JoinsSeatWhereAsked =
     (s : State) (token tier size : ℕ) (events : List Event) → IsCore s → IsCall (call.Join tier size)
     → may_begin s token (call.Join tier size) ≡ true → AreEvents events → AreOfCall token events
-    → LatestSeats token tier size (moments token events (begun s token (call.Join tier size)) [])
+    → LatestSeats token tier size (moments token events (begun s token (call.Join tier size)) (flat_of s) [])
 
 -- the moment that refused, as the token has noted it: the tier, and the word that it found there
 pub record IsNotedAt (v : View) (m : Moment) : Type 0 where
@@ -115,4 +116,4 @@ LatestNotes token (m ∷ past) = NotesAs m.turn.answer (view_after_turn token m)
 abbrev pub RefusalsAreNoted : Type 0
 RefusalsAreNoted =
     (s : State) (token : ℕ) (c : Call) (events : List Event) → IsCore s → IsCall c → may_begin s token c ≡ true → AreEvents events
-    → AreOfCall token events → LatestNotes token (moments token events (begun s token c) [])
+    → AreOfCall token events → LatestNotes token (moments token events (begun s token c) (flat_of s) [])

@@ -33,4 +33,4 @@ LatestIsKept token s (m ∷ past) = (phase parties : ℕ) → m.turn.answer ≡ 
 abbrev pub AdvancesAreAwaited : Type 0
 AdvancesAreAwaited =
     (s : State) (token : ℕ) (c : Call) (events : List Event) → IsCore s → IsCall c → may_begin s token c ≡ true → AreEvents events
-    → AreOfCall token events → LatestIsKept token (run_of events (begun s token c)) (moments token events (begun s token c) [])
+    → AreOfCall token events → LatestIsKept token (run_of events (begun s token c)) (moments token events (begun s token c) (flat_of s) [])
