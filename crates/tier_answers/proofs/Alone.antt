@@ -27,7 +27,7 @@ use Rattle.tier_core.specs.declared.call.Progress.{Progress}
 use Rattle.tier_core.specs.declared.call.Progress.TheVariants.{Idle, Begun, Seeking as ToSeek, Settling, GivingBack as ToGiveBack, Passing, Owing, Due, Refreshing}
 use Rattle.tier_core.specs.declared.call.Turn.{Turn}
 use Rattle.tier_core.specs.declared.call.Played.TheVariants.{GoesOn, Done}
-use Rattle.tier_core.specs.Turn.{end_shown, is_refusing, is_claimable, refusal, unless_claimed, seek_turn, last_look, goes_on, told, claimed_by, giving_back, settling, settle_turn, give_back_turn, pass_turn, climb_turn, first_turn, lags, own_kind, turn}
+use Rattle.tier_core.specs.Turn.{end_shown, is_refusing, is_claimable, refusal, unless_claimed, seek_turn, last_look, goes_on, told, errand_place, claimed_by, giving_back, settling, settle_turn, give_back_turn, pass_turn, climb_turn, first_turn, lags, own_kind, turn}
 use Rattle.tier_core.specs.Machine.{State, IsCore, view_at, call_at, is_due, turn_at, played}
 use Rattle.tier_core.proofs.Turns.{by_test, not_both}
 use Rattle.tier_core.proofs.Places.{MayPlay, played_core, turn_may}
@@ -143,11 +143,11 @@ pass_due ps own t trip kind here over w v passing stays =
     by_turn_plain PassesIfDue w.ended (last_look over) (cond (lags w v) wait goes) (λ e. not_both false e refl)
     (by_turn_plain PassesIfDue (lags w v) wait goes (λ e. not_both (is_due here) e stays) (λ _. passing))
 
-climb_due : (ps : List ℕ) (ws : List Fields) (own : Trip) (v : View) (e : Errand) → PassesIfDue (climb_turn ps ws own v e)
-climb_due ps ws own v Rest = λ e. not_both false e refl
-climb_due ps ws own v Advancing = λ e. not_both false e refl
-climb_due ps ws own v (Opening tier k stage size) = λ e. not_both false e refl
-climb_due ps ws own v (Climbing t trip) = pass_due ps own t trip (Climb trip) (Owing own) (Done v.phase) (word_at ws t) v refl refl
+climb_due : (ps : List ℕ) (w : Fields) (own : Trip) (v : View) (e : Errand) → PassesIfDue (climb_turn ps own w v e)
+climb_due ps w own v Rest = λ e. not_both false e refl
+climb_due ps w own v Advancing = λ e. not_both false e refl
+climb_due ps w own v (Opening tier k stage size) = λ e. not_both false e refl
+climb_due ps w own v (Climbing t trip) = pass_due ps own t trip (Climb trip) (Owing own) (Done v.phase) w v refl refl
 
 own_passes : (trip : Trip) → is_passing (own_kind trip) ≡ true
 own_passes Arrival = refl
@@ -163,7 +163,7 @@ turn_due ps ws Settling v = settle_due ps v v.errand
 turn_due ps ws (ToGiveBack a) v = give_back_due ps a v.errand
 turn_due ps ws (Passing trip) v =
     pass_due ps trip v.tier trip (own_kind trip) (Passing trip) (end_shown (word_at ws v.tier)) (word_at ws v.tier) v (own_passes trip) refl
-turn_due ps ws (Owing own) v = climb_due ps ws own v v.errand
+turn_due ps ws (Owing own) v = climb_due ps (word_at ws (errand_place ps v.errand)) own v v.errand
 turn_due ps ws (Due trip) v = λ e. not_both false e refl
 turn_due ps ws (Refreshing has_moved) v = λ e. not_both false e refl
 
@@ -188,7 +188,7 @@ passing_label i Refresh f e going = not_both false e refl
 
 -- a party that passes leaves the flat phaser in its phase, and doesn't end it
 pub stays_open : (s : State) (i : ℕ) (r : Turn) → IsCore s → i < length s.views → MayPlay s i r → is_passing r.kind ≡ true
-    → (flat_of s).ended ≡ false → ((flat_after i (at s r)).phase ≡ (flat_of s).phase) × ((flat_after i (at s r)).ended ≡ false)
+    → (flat_of s).ended ≡ false → ((flat_after (at i s r)).phase ≡ (flat_of s).phase) × ((flat_after (at i s r)).ended ≡ false)
 stays_open s i r core h may passing going =
     let alike = turned_flat s i r core h may in
     let same = passing_label i r.kind (flat_of s) passing going in

@@ -41,13 +41,13 @@ pub record Passer (s : State) (i : ℕ) (c : Call) (past : List Moment) (t : ℕ
   pub word : word_after kind t (word_at s.words t) (view_at s.views i) ≡ passed t trip (word_at s.words t)
   pub phase : (stepped_view s.parents s.words kind t (view_at s.views i)).phase ≡ (view_at s.views i).phase
   pub errand : (stepped_view s.parents s.words kind t (view_at s.views i)).errand ≡ owed (parent_of s.parents t) t trip (word_at s.words t)
-  pub done : (r : Turn) → r.kind ≡ kind → IsDoneIn i c (view_at s.views i).phase (at s r ∷ past)
+  pub done : (r : Turn) → r.kind ≡ kind → IsDoneIn i c (view_at s.views i).phase (at i s r ∷ past)
 
 -- the step that makes the root's advance due
 makes_due : (s : State) (i : ℕ) (c : Call) (past : List Moment) (t : ℕ) (trip : Trip) (kind : Kind) (r : Turn) → IsCore s
     → Passer s i c past t trip kind → MayPlay s i r → (word_at s.words t).ended ≡ false → t ≡ 0 → r.kind ≡ kind → r.tier ≡ t
     → owed (parent_of s.parents t) t trip (word_at s.words t) ≡ Advancing
-    → MakesDue i (view_at s.views i).phase (passed t trip (word_at s.words t)).parties (at s r)
+    → MakesDue i (view_at s.views i).phase (passed t trip (word_at s.words t)).parties (at i s r)
 makes_due s i c past t trip kind r core is may going z kind_is tier_is owes =
     let v : View = view_at s.views i in
     let v' : View = stepped_view s.parents s.words r.kind r.tier (view_at s.views i) in
@@ -71,16 +71,17 @@ makes_due s i c past t trip kind r core is may going z kind_is tier_is owes =
     ∙ (phase_passed t trip (word_at s.words t) ∙ (ap (λ n. (word_at s.words n).phase) z ∙ sym is.current)) in
     let ready = owing_is_ready s' i core' known' errand ended in
     record {
+      going = ended;
       due = ready.due;
       phase = phase;
       root = ap (λ (x : Fields). x.parties) root;
-      nobody = subst (λ (n : ℕ). (n ≡ 0) ↔ (registered (flat_after i (at s r)) ≡ 0)) (ap (λ (x : Fields). x.parties) root) ready.nobody;
+      nobody = subst (λ (n : ℕ). (n ≡ 0) ↔ (registered (flat_after (at i s r)) ≡ 0)) (ap (λ (x : Fields). x.parties) root) ready.nobody;
     }
 
 -- a party passes a tier, or the tier is refreshed first, or the tree has ended
 pub pass_tells : (s : State) (i : ℕ) (c : Call) (past : List Moment) (own : Trip) (t : ℕ) (trip : Trip) (kind : Kind) (here : Progress) (over : Played)
     → IsCore s → Passer s i c past t trip kind
-    → ((word_at s.words t).ended ≡ true → (r : Turn) → MayPlay s i r → Tells i c (at s r) past over)
+    → ((word_at s.words t).ended ≡ true → (r : Turn) → MayPlay s i r → Tells i c (at i s r) past over)
     → ((m : Moment) → Remembers i c (m ∷ past) here (view_at s.views i)) → is_active here ≡ true
     → Goal s i c past (pass_turn s.parents own t trip kind here over (word_at s.words t) (view_at s.views i))
 pass_tells s i c past own t trip kind here over core is past_end stays active =
@@ -92,26 +93,26 @@ pass_tells s i c past own t trip kind here over core is past_end stays active =
     by_turn (Goal s i c past) w.ended (last_look over) (cond (lags w v) wait (goes (owed (parent_of s.parents t) t trip w)))
     (λ e may. record { told = record { tells = past_end e (last_look over) may; ends = λ _. refl }; keeps = tt })
     (λ going. by_turn (Goal s i c past) (lags w v) wait (goes (owed (parent_of s.parents t) t trip w))
-    (λ e may. record { told = record { tells = active; ends = λ x. no_last x }; keeps = stays (at s wait) })
+    (λ e may. record { told = record { tells = active; ends = λ x. no_last x }; keeps = stays (at i s wait) })
     (λ e. owed_is (λ x. owed (parent_of s.parents t) t trip w ≡ x → Goal s i c past (goes x)) (parent_of s.parents t) t trip w
     (λ _ may. record { told = record { tells = is.done (goes Rest) refl; ends = λ _. refl }; keeps = tt })
     (λ z owes may. record {
       told = record { tells = (refl, makes_due s i c past t trip kind (goes Advancing) core is may going z refl refl owes); ends = λ x. no_last x };
-      keeps = subst (λ (n : ℕ). IsDoneIn i c n (at s (goes Advancing) ∷ past)) (sym is.phase) (is.done (goes Advancing) refl);
+      keeps = subst (λ (n : ℕ). IsDoneIn i c n (at i s (goes Advancing) ∷ past)) (sym is.phase) (is.done (goes Advancing) refl);
     })
     (λ j _ _ may. record {
       told = record { tells = refl; ends = λ x. no_last x };
-      keeps = subst (λ (n : ℕ). IsDoneIn i c n (at s (goes (Climbing (parent_of s.parents t) j)) ∷ past)) (sym is.phase)
+      keeps = subst (λ (n : ℕ). IsDoneIn i c n (at i s (goes (Climbing (parent_of s.parents t) j)) ∷ past)) (sym is.phase)
           (is.done (goes (Climbing (parent_of s.parents t) j)) refl);
     }) refl))
 
 -- the own step of an arrival and of a departure is the flat step
 own_done : (s : State) (i : ℕ) (past : List Moment) (trip : Trip) (r : Turn) → (view_at s.views i).phase ≡ root_phase s.words
-    → r.kind ≡ own_kind trip → IsDoneIn i (call_of trip) (view_at s.views i).phase (at s r ∷ past)
+    → r.kind ≡ own_kind trip → IsDoneIn i (call_of trip) (view_at s.views i).phase (at i s r ∷ past)
 own_done s i past Arrival r current e =
-    any_here (IsCounted i call.Arrive (view_at s.views i).phase) (at s r) past record { label = ap (label i) e; phase = sym current }
+    any_here (IsCounted i call.Arrive (view_at s.views i).phase) (at i s r) past record { label = ap (label i) e; phase = sym current }
 own_done s i past Departure r current e =
-    any_here (IsCounted i call.Leave (view_at s.views i).phase) (at s r) past record { label = ap (label i) e; phase = sym current }
+    any_here (IsCounted i call.Leave (view_at s.views i).phase) (at i s r) past record { label = ap (label i) e; phase = sym current }
 
 pub own_passer : (s : State) (i : ℕ) (past : List Moment) (trip : Trip) → i < length s.views → (view_at s.views i).tier < length s.words
     → (view_at s.views i).phase ≡ root_phase s.words → Passer s i (call_of trip) past (view_at s.views i).tier trip (own_kind trip)
@@ -144,5 +145,5 @@ climb_passer s i c past t trip h within current done = record {
   word = refl;
   phase = refl;
   errand = refl;
-  done = λ r _. done_later i c (view_at s.views i).phase (at s r) past done;
+  done = λ r _. done_later i c (view_at s.views i).phase (at i s r) past done;
 }

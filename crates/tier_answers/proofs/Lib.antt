@@ -3,9 +3,12 @@ pub mod Planning
 pub mod Holding
 pub mod Counting
 pub mod Ending
+pub mod Along
 pub mod Memory
 pub mod Seeking
 pub mod Going
+pub mod Entering
+pub mod Reached
 pub mod Telling
 pub mod Ranks
 pub mod Short
@@ -15,3 +18,6 @@ pub mod Members
 pub mod Opens
 pub mod Answering
 pub mod Rounding
+pub mod Once
+pub mod Ended
+pub mod Waiting

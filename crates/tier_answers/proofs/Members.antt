@@ -27,7 +27,7 @@ use Rattle.tier_core.specs.declared.call.Progress.{Progress}
 use Rattle.tier_core.specs.declared.call.Progress.TheVariants.{Idle, Begun, Seeking as ToSeek, Settling, GivingBack as ToGiveBack, Passing, Owing, Due, Refreshing}
 use Rattle.tier_core.specs.declared.call.Step.TheVariants.{Finish}
 use Rattle.tier_core.specs.declared.call.Turn.{Turn}
-use Rattle.tier_core.specs.Turn.{end_shown, lags, own_kind, goes_on, told, last_look, pass_turn, climb_turn}
+use Rattle.tier_core.specs.Turn.{end_shown, lags, own_kind, goes_on, told, last_look, pass_turn, climb_turn, errand_place}
 use Rattle.tier_core.specs.Machine.{State, IsCore, view_at, call_at, is_due, turn_at, played}
 use Rattle.tier_core.specs.Run.{may_finish, finish_at, plan_ends, after}
 use Rattle.tier_core.proofs.Turns.{by_test, not_both, looked_size, looked_tier, looked_rests}
@@ -176,7 +176,7 @@ climbs_keep_members s i own core h going e =
       };
       owes = owes;
     })
-    (subst (λ (x : Errand). Gone s i (climb_turn s.parents s.words own v x)) fits.2 (gone s i (Owing own) core h e refl))
+    (subst (λ (x : Errand). Gone s i (climb_turn s.parents own (word_at s.words (errand_place s.parents x)) v x)) fits.2 (gone s i (Owing own) core h e refl))
 
 -- the advance
 pub advances_keep_members : AdvancesKeepMembers

@@ -16,7 +16,8 @@ use Rattle.tier_core.specs.Turn.{giving_back, settling, unless_claimed, polled}
 use Rattle.tier_core.specs.Machine.{State, view_at, is_active}
 use Rattle.tier_core.proofs.Places.{MayPlay}
 use Rattle.tier_answers.specs.Moments.{Moment, flat_at}
-use Rattle.tier_answers.specs.Told.{IsAwaiting, HasPassed, HasEnded, IsHeldBy, IsFullWith, sees_root, last_seen, IsDoneIn, Tells, is_last, IsTold}
+use Rattle.tier_steps.specs.Marks.{sees_root}
+use Rattle.tier_answers.specs.Told.{IsAwaiting, HasPassed, HasEnded, IsHeldBy, IsFullWith, last_seen, IsDoneIn, Tells, is_last, IsTold}
 use Rattle.tier_answers.proofs.Ending.{at}
 
 pub any_here : {X : Type 0} (P : X → Type 0) (x : X) (xs : List X) → P x → Any P (x ∷ xs)
@@ -59,8 +60,8 @@ Remembers token c ms (Refreshing has_moved) v = (c ≡ call.Poll) × PollTells t
 
 -- a turn that tells what it answers, and after which the call remembers what it has to
 pub record Good (s : State) (i : ℕ) (c : Call) (past : List Moment) (r : Turn) : Type 0 where
-  pub told : IsTold i c (at s r) past
-  pub keeps : Remembers i c (at s r ∷ past) r.next (stepped_view s.parents s.words r.kind r.tier (view_at s.views i))
+  pub told : IsTold i c (at i s r) past
+  pub keeps : Remembers i c (at i s r ∷ past) r.next (stepped_view s.parents s.words r.kind r.tier (view_at s.views i))
 
 abbrev pub Goal : State → ℕ → Call → List Moment → Turn → Type 0
 Goal s i c past r = MayPlay s i r → Good s i c past r
@@ -109,39 +110,39 @@ refusal_tells i c m past (MustAdvance phase parties) d = absurd d
 
 -- a turn that answers a refusal, or keeps it until the claimed tiers are given back
 pub refused_good : (s : State) (i : ℕ) (c : Call) (past : List Moment) (r : Turn) (claimed : ℕ) (a : Played) → r.next ≡ giving_back claimed a
-    → r.answer ≡ unless_claimed claimed a → RefusalTells i c (at s r ∷ past) a → Good s i c past r
+    → r.answer ≡ unless_claimed claimed a → RefusalTells i c (at i s r ∷ past) a → Good s i c past r
 refused_good s i c past r zero a next answer d =
     let v : View = stepped_view s.parents s.words r.kind r.tier (view_at s.views i) in
     record {
       told = record {
-        tells = subst (λ (x : Played). Tells i c (at s r) past x) (sym answer) (refusal_tells i c (at s r) past a d);
+        tells = subst (λ (x : Played). Tells i c (at i s r) past x) (sym answer) (refusal_tells i c (at i s r) past a d);
         ends = λ _. next;
       };
-      keeps = subst (λ (x : Progress). Remembers i c (at s r ∷ past) x (stepped_view s.parents s.words r.kind r.tier (view_at s.views i))) (sym next) tt;
+      keeps = subst (λ (x : Progress). Remembers i c (at i s r ∷ past) x (stepped_view s.parents s.words r.kind r.tier (view_at s.views i))) (sym next) tt;
     }
 refused_good s i c past r (suc claimed) a next answer d = record {
   told = record {
-    tells = subst (λ (x : Played). Tells i c (at s r) past x) (sym answer) (ap is_active next);
+    tells = subst (λ (x : Played). Tells i c (at i s r) past x) (sym answer) (ap is_active next);
     ends = λ e. no_last (ap is_last (sym answer) ∙ e);
   };
-  keeps = subst (λ (x : Progress). Remembers i c (at s r ∷ past) x (stepped_view s.parents s.words r.kind r.tier (view_at s.views i))) (sym next) d;
+  keeps = subst (λ (x : Progress). Remembers i c (at i s r ∷ past) x (stepped_view s.parents s.words r.kind r.tier (view_at s.views i))) (sym next) d;
 }
 
 -- a turn that answers that a join is done, or keeps it until the claimed tiers are settled
 pub joined_good : (s : State) (i : ℕ) (c : Call) (past : List Moment) (r : Turn) (claimed p : ℕ) → r.next ≡ settling claimed
     → r.answer ≡ unless_claimed claimed (Done p) → (stepped_view s.parents s.words r.kind r.tier (view_at s.views i)).phase ≡ p
-    → IsDoneIn i c p (at s r ∷ past) → Good s i c past r
+    → IsDoneIn i c p (at i s r ∷ past) → Good s i c past r
 joined_good s i c past r zero p next answer phase d = record {
-  told = record { tells = subst (λ (x : Played). Tells i c (at s r) past x) (sym answer) d; ends = λ _. next };
-  keeps = subst (λ (x : Progress). Remembers i c (at s r ∷ past) x (stepped_view s.parents s.words r.kind r.tier (view_at s.views i))) (sym next) tt;
+  told = record { tells = subst (λ (x : Played). Tells i c (at i s r) past x) (sym answer) d; ends = λ _. next };
+  keeps = subst (λ (x : Progress). Remembers i c (at i s r ∷ past) x (stepped_view s.parents s.words r.kind r.tier (view_at s.views i))) (sym next) tt;
 }
 joined_good s i c past r (suc claimed) p next answer phase d = record {
   told = record {
-    tells = subst (λ (x : Played). Tells i c (at s r) past x) (sym answer) (ap is_active next);
+    tells = subst (λ (x : Played). Tells i c (at i s r) past x) (sym answer) (ap is_active next);
     ends = λ e. no_last (ap is_last (sym answer) ∙ e);
   };
-  keeps = subst (λ (x : Progress). Remembers i c (at s r ∷ past) x (stepped_view s.parents s.words r.kind r.tier (view_at s.views i))) (sym next)
-      (subst (λ (n : ℕ). IsDoneIn i c n (at s r ∷ past)) (sym phase) d);
+  keeps = subst (λ (x : Progress). Remembers i c (at i s r ∷ past) x (stepped_view s.parents s.words r.kind r.tier (view_at s.views i))) (sym next)
+      (subst (λ (n : ℕ). IsDoneIn i c n (at i s r ∷ past)) (sym phase) d);
 }
 
 -- a poll's answer

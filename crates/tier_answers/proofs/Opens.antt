@@ -33,18 +33,20 @@ use Rattle.tier_core.specs.declared.call.Step.TheVariants.{Begin, Go}
 use Rattle.tier_core.specs.declared.call.Turn.{Turn}
 use Rattle.tier_core.specs.Turn.{end_shown, claimed_by, is_refusing, is_claimable, has_no_room, refusal, giving_back, settling, unless_claimed, seek_turn, settle_turn, turn}
 use Rattle.tier_core.specs.Machine.{State, IsCore, view_at, call_at, is_active, turn_at, played}
-use Rattle.tier_core.specs.Run.{may_begin, may_go, is_idle, begun, after, run}
+use Rattle.tier_core.specs.Run.{may_begin, may_go, is_idle, begun, after}
 use Rattle.tier_core.proofs.Turns.{by_test, not_both}
 use Rattle.tier_core.proofs.Runs.{begun_core}
-use Rattle.tier_answers.specs.Moments.{Moment, own_turn, moments}
+use Rattle.tier_answers.specs.Frame.{flat_of}
+use Rattle.tier_answers.specs.Moments.{Moment, Takes, run_of, moments, AreEvents}
 use Rattle.tier_answers.specs.Calls.{IsSeated, moves_root}
-use Rattle.tier_answers.specs.Fresh.{IsFreshWord, last_answer, IsJoined, JoinsAreDoneAlone, NewTreesAreFresh, NewTokensKeepItFresh, AwaitedTiersWait}
+use Rattle.tier_answers.specs.Fresh.{IsFreshWord, join_alone, last_answer, IsJoined, JoinsAreDoneAlone, NewTreesAreFresh, NewTokensKeepItFresh, AwaitedTiersWait}
 use Rattle.tier_answers.proofs.Framing.{others_stay}
 use Rattle.tier_answers.proofs.Holding.{split, fits_at, awaited_late, parties_are_few}
-use Rattle.tier_answers.proofs.Ending.{at}
+use Rattle.tier_answers.proofs.Ending.{at, own_imaged, imaged}
+use Rattle.tier_answers.proofs.Reached.{Alikes, reached, alike_itself}
 use Rattle.tier_answers.proofs.Memory.{by_turn}
 use Rattle.tier_answers.proofs.Seeking.{unclaimed, own_claims, joined_phase}
-use Rattle.tier_answers.proofs.Telling.{core_after}
+use Rattle.tier_answers.proofs.Along.{core_after}
 use Rattle.tier_answers.proofs.Ranks.{Within, some_left, turn_lowers}
 use Rattle.tier_answers.proofs.Short.{moved_left}
 use Rattle.tier_answers.proofs.Stepping.{Gone, gone, fitting, only_advances_move}
@@ -135,8 +137,8 @@ record Joining (old s : State) (i tier size : ℕ) (ms : List Moment) : Type 0 w
 goes : (old s : State) (i tier size : ℕ) (ms : List Moment) (r : Turn) → Joining old s i tier size ms → Gone s i r
     → moves_root (label i r.kind) ≡ false
     → NearlyFresh (root_phase old.words) (word_after r.kind r.tier (word_at s.words r.tier) (view_at s.views i))
-    → Stands tier size (root_phase old.words) (own_turn i s (Go i) ++ ms) r.next (stepped_view s.parents s.words r.kind r.tier (view_at s.views i))
-    → Joining old (after s (Go i)) i tier size (own_turn i s (Go i) ++ ms)
+    → Stands tier size (root_phase old.words) (own_imaged i s (Go i) ++ ms) r.next (stepped_view s.parents s.words r.kind r.tier (view_at s.views i))
+    → Joining old (after s (Go i)) i tier size (own_imaged i s (Go i) ++ ms)
 goes old s i tier size ms r is g quiet word stands =
     let s' : State = after s (Go i) in
     let v' : View = stepped_view s.parents s.words r.kind r.tier (view_at s.views i) in
@@ -168,12 +170,12 @@ goes old s i tier size ms r is g quiet word stands =
           let d = is.sizes in omega arith);
       room = subst (λ (ps : List ℕ). sum_by (λ v. v.size) old.views + size + length ps ≤ 65535) (sym g.parents) is.room;
       some = is.some;
-      stands = subst (λ (p : Progress). Stands tier size now (own_turn i s (Go i) ++ ms) p (view_at s'.views i)) (sym g.call)
-          (subst (λ (x : View). Stands tier size now (own_turn i s (Go i) ++ ms) r.next x) (sym g.view) stands);
+      stands = subst (λ (p : Progress). Stands tier size now (own_imaged i s (Go i) ++ ms) p (view_at s'.views i)) (sym g.call)
+          (subst (λ (x : View). Stands tier size now (own_imaged i s (Go i) ++ ms) r.next x) (sym g.view) stands);
     }
 
 -- the last answer after a step
-answer_is : (s : State) (i : ℕ) (ms : List Moment) (r : Turn) → Gone s i r → last_answer (own_turn i s (Go i) ++ ms) ≡ Some r.answer
+answer_is : (s : State) (i : ℕ) (ms : List Moment) (r : Turn) → Gone s i r → last_answer (own_imaged i s (Go i) ++ ms) ≡ Some r.answer
 answer_is s i ms r g = ap (λ xs. last_answer (xs ++ ms)) g.moment ∙ ap Some g.answer
 
 -- the others rest
@@ -246,7 +248,7 @@ welcomes now more w fresh room = ⊎_elim
 seek_goes : (old s : State) (i tier size k : ℕ) (ms : List Moment) → Joining old s i tier size ms → call_at s.calls i ≡ ToSeek tier size
     → k ≡ claimed_by (view_at s.views i).errand
     → Gone s i (seek_turn tier k size (ancestor s.parents tier k) (word_at s.words (ancestor s.parents tier k)) (view_at s.views i))
-    → Joining old (after s (Go i)) i tier size (own_turn i s (Go i) ++ ms)
+    → Joining old (after s (Go i)) i tier size (own_imaged i s (Go i) ++ ms)
 seek_goes old s i tier size k ms is e q =
     let t : ℕ = ancestor s.parents tier k in
     let w : Fields = word_at s.words t in
@@ -269,7 +271,7 @@ seek_goes old s i tier size k ms is e q =
     } in
     let claim : Turn = record { kind = Claim tier k size; tier = t; next = ToSeek tier size; answer = GoesOn } in
     let join : Turn = record { kind = Join tier k size; tier = t; next = settling k; answer = unless_claimed k (Done w.phase) } in
-    let Q : Turn → Type 0 = λ r. Gone s i r → Joining old (after s (Go i)) i tier size (own_turn i s (Go i) ++ ms) in
+    let Q : Turn → Type 0 = λ r. Gone s i r → Joining old (after s (Go i)) i tier size (own_imaged i s (Go i) ++ ms) in
     by_turn Q w.ended over (cond (is_refusing (added k size) w) no (cond (is_claimable t w) claim join))
     (λ x. not_both w.ended x (still_going s t is.core is.going within))
     (λ _. by_turn Q (is_refusing (added k size) w) no (cond (is_claimable t w) claim join)
@@ -280,7 +282,7 @@ seek_goes old s i tier size k ms is e q =
     let here : w.phase ≡ now = joined_phase s t (added k size) is.core within g.may.needs.1 ∙ is.phase in
     goes old s i tier size ms join is g refl
     (inl (joined_fresh now (added k size) w (added_some k size is.some) here fresh))
-    (seated_by k tier size now (own_turn i s (Go i) ++ ms) (stepped_view s.parents s.words (Join tier k size) t v)
+    (seated_by k tier size now (own_imaged i s (Go i) ++ ms) (stepped_view s.parents s.words (Join tier k size) t v)
     (record { tier = refl; size = refl; phase = here; arrived = refl })
     (answer_is s i ms join g) here))))
 
@@ -288,7 +290,7 @@ seek_goes old s i tier size k ms is e q =
 settle_goes : (old s : State) (i tier size there k many : ℕ) (ms : List Moment) → Joining old s i tier size ms
     → (view_at s.views i).errand ≡ Opening there (suc k) Joined many → IsSeated tier size (root_phase old.words) (view_at s.views i)
     → Gone s i (settle_turn s.parents (view_at s.views i) (Opening there (suc k) Joined many))
-    → Joining old (after s (Go i)) i tier size (own_turn i s (Go i) ++ ms)
+    → Joining old (after s (Go i)) i tier size (own_imaged i s (Go i) ++ ms)
 settle_goes old s i tier size there k many ms is q seated g =
     let v : View = view_at s.views i in
     let now : ℕ = root_phase old.words in
@@ -297,19 +299,19 @@ settle_goes old s i tier size there k many ms is q seated g =
     subst (λ (x : Errand). ErrandFits s.parents (root_phase s.words) (view_at s.views i) x) q (fits_at s i is.core is.known).errand in
     goes old s i tier size ms (settle_turn s.parents (view_at s.views i) (Opening there (suc k) Joined many)) is g refl
     (inl (inr (added_some k many fit.0.some, refl, seated.phase)))
-    (seated_by k tier size now (own_turn i s (Go i) ++ ms)
+    (seated_by k tier size now (own_imaged i s (Go i) ++ ms)
     (stepped_view s.parents s.words (Settle there k many) (ancestor s.parents there k) (view_at s.views i))
     (record { tier = seated.tier; size = seated.size; phase = seated.phase; arrived = seated.arrived })
     (answer_is s i ms (settle_turn s.parents (view_at s.views i) (Opening there (suc k) Joined many)) g) seated.phase)
 
 -- the look
 look_goes : (old s : State) (i tier size : ℕ) (ms : List Moment) → Joining old s i tier size ms → call_at s.calls i ≡ Begun (call.Join tier size)
-    → Joining old (after s (Go i)) i tier size (own_turn i s (Go i) ++ ms)
+    → Joining old (after s (Go i)) i tier size (own_imaged i s (Go i) ++ ms)
 look_goes old s i tier size ms is e =
     let w : Fields = word_at s.words 0 in
     let v : View = view_at s.views i in
     let within : 0 < length s.words = is.core.tally.some in
-    let Q : Turn → Type 0 = λ r. Gone s i r → Joining old (after s (Go i)) i tier size (own_turn i s (Go i) ++ ms) in
+    let Q : Turn → Type 0 = λ r. Gone s i r → Joining old (after s (Go i)) i tier size (own_imaged i s (Go i) ++ ms) in
     let look : Turn = record { kind = Look; tier = 0; next = ToSeek tier size; answer = GoesOn } in
     let no : Turn = record { kind = Refuse 0 0 size; tier = 0; next = ToSeek tier size; answer = GoesOn } in
     by_test (λ x. Q (record {
@@ -328,7 +330,7 @@ look_goes old s i tier size ms is e =
 -- each step of the join
 step_goes : (old s : State) (i tier size : ℕ) (ms : List Moment) (p : Progress) → Joining old s i tier size ms → call_at s.calls i ≡ p → is_idle p ≡ false
     → Stands tier size (root_phase old.words) ms p (view_at s.views i)
-    → (is_active p ≡ true) × Joining old (after s (Go i)) i tier size (own_turn i s (Go i) ++ ms)
+    → (is_active p ≡ true) × Joining old (after s (Go i)) i tier size (own_imaged i s (Go i) ++ ms)
 step_goes old s i tier size ms Idle is e going stands = not_both true refl going
 step_goes old s i tier size ms (Begun c) is e going stands = (refl, look_goes old s i tier size ms is (e ∙ ap Begun stands))
 step_goes old s i tier size ms (ToSeek there many) is e going stands =
@@ -378,7 +380,7 @@ over old s i tier size ms is e =
 -- it is over after as many steps as are left
 runs_out : (n : ℕ) (old s : State) (i tier size : ℕ) (ms : List Moment) → Joining old s i tier size ms
     → Within s.parents s.words (call_at s.calls i) (view_at s.views i) n
-    → IsJoined old (run (replicate n (Go i)) s) i tier size (moments i (replicate n (Go i)) s ms)
+    → IsJoined old (run_of (replicate n (Takes (Go i))) s) i tier size (imaged i (replicate n (Takes (Go i))) s ms)
 runs_out zero old s i tier size ms is left = over old s i tier size ms is
     (idle_is (call_at s.calls i) (λ going. absurd
     (let a = some_left s.parents s.words (call_at s.calls i) (view_at s.views i) 0 going (is.core.calls i is.known) left in omega arith)))
@@ -387,12 +389,12 @@ runs_out (suc n) old s i tier size ms is left = ⊎_elim
     let rest : call_at s.calls i ≡ Idle = idle_is (call_at s.calls i) (λ going. not_both (is_idle (call_at s.calls i)) e going) in
     let may : may_go s i ≡ false = ap (λ p. ltb i (length s.views) && is_active p) rest ∙ and_no (ltb i (length s.views)) in
     let here : after s (Go i) ≡ s = ap (λ b. cond b (played s i (turn_at s i)) s) may in
-    let none : own_turn i s (Go i) ≡ [] = ap (λ b. cond b (cond (may_go s i) (at s (turn_at s i) ∷ []) []) []) (eq-eqb i i refl)
-    ∙ ap (λ b. cond b (at s (turn_at s i) ∷ []) []) may in
+    let none : own_imaged i s (Go i) ≡ [] = ap (λ b. cond b (cond (may_go s i) (at i s (turn_at s i) ∷ []) []) []) (eq-eqb i i refl)
+    ∙ ap (λ b. cond b (at i s (turn_at s i) ∷ []) []) may in
     let kept = runs_out n old s i tier size ms is
     (subst (λ (p : Progress). Within s.parents s.words p (view_at s.views i) n) (sym rest) tt) in
-    subst (λ (x : State). IsJoined old (run (replicate n (Go i)) x) i tier size (moments i (replicate n (Go i)) x (own_turn i s (Go i) ++ ms))) (sym here)
-    (subst (λ (xs : List Moment). IsJoined old (run (replicate n (Go i)) s) i tier size (moments i (replicate n (Go i)) s (xs ++ ms))) (sym none) kept))
+    subst (λ (x : State). IsJoined old (run_of (replicate n (Takes (Go i))) x) i tier size (imaged i (replicate n (Takes (Go i))) x (own_imaged i s (Go i) ++ ms))) (sym here)
+    (subst (λ (xs : List Moment). IsJoined old (run_of (replicate n (Takes (Go i))) s) i tier size (imaged i (replicate n (Takes (Go i))) s (xs ++ ms))) (sym none) kept))
     (λ (e : is_idle (call_at s.calls i) ≡ false).
     let next = step_goes old s i tier size ms (call_at s.calls i) is refl e is.stands in
     let g = gone s i (call_at s.calls i) is.core is.known refl next.0 in
@@ -404,7 +406,7 @@ runs_out (suc n) old s i tier size ms is left = ⊎_elim
     (subst (λ (ws : List Fields). Within s.parents ws r.next (stepped_view s.parents s.words r.kind r.tier (view_at s.views i)) n) (sym g.words)
     (subst (λ (m : ℕ). Within s.parents (words_after s.words r.kind r.tier (view_at s.views i)) r.next
     (stepped_view s.parents s.words r.kind r.tier (view_at s.views i)) m) fewer lower)) in
-    runs_out n old (after s (Go i)) i tier size (own_turn i s (Go i) ++ ms) next.1 left')
+    runs_out n old (after s (Go i)) i tier size (own_imaged i s (Go i) ++ ms) next.1 left')
     (either (is_idle (call_at s.calls i)))
 
 -- the join begins
@@ -414,6 +416,28 @@ may_join s i tier size h idle none seat =
     ap (λ b. b && (is_idle (call_at s.calls i) && (ltb tier (length s.parents) && eqb (view_at s.views i).size 0))) (lt-ltb i (length s.views) h)
     ∙ (ap (λ p. is_idle p && (ltb tier (length s.parents) && eqb (view_at s.views i).size 0)) idle
     ∙ (ap (λ b. b && eqb (view_at s.views i).size 0) (lt-ltb tier (length s.parents) seat) ∙ eq-eqb (view_at s.views i).size 0 none))
+
+goes_are_events : (n i : ℕ) → AreEvents (replicate n (Takes (Go i)))
+goes_are_events zero i = tt
+goes_are_events (suc n) i = (tt, goes_are_events n i)
+
+last_alike : (ms ns : List Moment) → Alikes ms ns → last_answer ms ≡ last_answer ns
+last_alike [] [] h = refl
+last_alike [] (n ∷ ns) h = absurd h
+last_alike (m ∷ ms) [] h = absurd h
+last_alike (m ∷ ms) (n ∷ ns) h = ap (λ (x : Moment). Some x.turn.answer) h.0.is
+
+joined_alike : (old new : State) (i tier size : ℕ) (ms ns : List Moment) → Alikes ms ns → IsJoined old new i tier size ns → IsJoined old new i tier size ms
+joined_alike old new i tier size ms ns h is = record {
+  answer = last_alike ms ns h ∙ is.answer;
+  fresh = is.fresh;
+  core = is.core;
+  phase = is.phase;
+  seated = is.seated;
+  tokens = is.tokens;
+  others = is.others;
+  sizes = is.sizes;
+}
 
 pub joins_are_done_alone : JoinsAreDoneAlone
 joins_are_done_alone s i tier size tiers core fresh h none seat some room =
@@ -437,9 +461,12 @@ joins_are_done_alone s i tier size tiers core fresh h none seat some room =
       some = some;
       stands = subst (λ (p : Progress). Stands tier size (root_phase s.words) [] p (view_at s.views i)) (sym call_is) refl;
     } in
-    subst (λ (x : State). IsJoined s (run (replicate 14 (Go i)) x) i tier size (moments i (replicate 14 (Go i)) x [])) (sym here)
+    joined_alike s (run_of (join_alone i tier size) s) i tier size (moments i (join_alone i tier size) s (flat_of s) [])
+    (imaged i (join_alone i tier size) s [])
+    (reached i (join_alone i tier size) s (flat_of s) [] [] core ((some, omega arith), goes_are_events 14 i) (alike_itself (flat_of s)) tt)
+    (subst (λ (x : State). IsJoined s (run_of (replicate 14 (Takes (Go i))) x) i tier size (imaged i (replicate 14 (Takes (Go i))) x [])) (sym here)
     (runs_out 14 s (begun s i (call.Join tier size)) i tier size [] start
-    (moved_left s (begun s i (call.Join tier size)) i 14 (Begun (call.Join tier size)) (view_at s.views i) call_is refl refl (omega arith)))
+    (moved_left s (begun s i (call.Join tier size)) i 14 (Begun (call.Join tier size)) (view_at s.views i) call_is refl refl (omega arith))))
 
 -- a new tree, and a token that comes in
 pub new_trees_are_fresh : NewTreesAreFresh

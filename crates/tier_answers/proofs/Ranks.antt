@@ -34,7 +34,7 @@ use Rattle.tier_core.specs.declared.call.Played.TheVariants.{GoesOn, Done}
 use Rattle.tier_core.specs.declared.call.Progress.{Progress}
 use Rattle.tier_core.specs.declared.call.Progress.TheVariants.{Idle, Begun, Seeking as ToSeek, Settling, GivingBack as ToGiveBack, Passing, Owing, Due, Refreshing}
 use Rattle.tier_core.specs.declared.call.Turn.{Turn}
-use Rattle.tier_core.specs.Turn.{end_shown, is_refusing, is_claimable, refusal, lags, claimed_by, giving_back, settling, unless_claimed, seek_turn, settle_turn, give_back_turn, own_kind, goes_on, told, last_look, pass_turn, climb_turn, turn}
+use Rattle.tier_core.specs.Turn.{end_shown, is_refusing, is_claimable, refusal, lags, claimed_by, giving_back, settling, unless_claimed, seek_turn, settle_turn, give_back_turn, own_kind, goes_on, told, last_look, pass_turn, climb_turn, errand_place, turn}
 use Rattle.tier_core.specs.Machine.{State, IsCore, CallFits, view_at, is_active}
 use Rattle.tier_core.specs.Run.{is_idle}
 use Rattle.tier_core.proofs.Turns.{not_both, looked_tier, looked_rests, looked_ended, looked_open}
@@ -415,7 +415,7 @@ turn_lowers s i n (Owing own) tiers core h active fits left =
     let fit : ErrandFits s.parents (root_phase s.words) (view_at s.views i) (Climbing fits.0 fits.1) =
     subst (λ (x : Errand). ErrandFits s.parents (root_phase s.words) (view_at s.views i) x) fits.2 (fits_at s i core h).errand in
     let to : climbs_to (view_at s.views i).errand ≡ fits.0 = ap climbs_to fits.2 in
-    subst (λ (x : Errand). Lowers s i n (climb_turn s.parents s.words own v x)) (sym fits.2)
+    subst (λ (x : Errand). Lowers s i n (climb_turn s.parents own (word_at s.words (errand_place s.parents x)) v x)) (sym fits.2)
     (pass_lowers s i n own fits.0 fits.1 (Climb fits.1) (Owing own) (Done v.phase)
     (record {
       within = subst (λ (m : ℕ). fits.0 < m) (sym core.tally.long) fit.1;

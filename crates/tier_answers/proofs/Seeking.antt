@@ -32,7 +32,8 @@ use Rattle.tier_core.proofs.Turns.{not_both}
 use Rattle.tier_core.proofs.Places.{MayPlay}
 use Rattle.tier_answers.specs.Frame.{flat_of}
 use Rattle.tier_answers.specs.Moments.{Moment}
-use Rattle.tier_answers.specs.Told.{IsCounted, HasEnded, refusing, IsClaimedByAnother, IsFullyArrived, IsCause, IsHeldBy, IsFullWith, sees_root, last_seen, IsDoneIn}
+use Rattle.tier_steps.specs.Marks.{sees_root}
+use Rattle.tier_answers.specs.Told.{IsCounted, HasEnded, refusing, IsClaimedByAnother, IsFullyArrived, IsCause, IsHeldBy, IsFullWith, last_seen, IsDoneIn}
 use Rattle.tier_answers.proofs.Holding.{fits_at}
 use Rattle.tier_answers.proofs.Counting.{looked_empty}
 use Rattle.tier_answers.proofs.Ending.{at, ended_stays}
@@ -45,10 +46,10 @@ ended_root s t core h e = ⊎_elim (λ (z : t ≡ 0). z)
 
 -- a call that finds its tier ended
 pub ended_there : (s : State) (i t : ℕ) (r : Turn) → IsCore s → i < length s.views → MayPlay s i r → t < length s.words
-    → (word_at s.words t).ended ≡ true → HasEnded i (shown_of (word_at s.words t).phase true) (at s r)
+    → (word_at s.words t).ended ≡ true → HasEnded i (shown_of (word_at s.words t).phase true) (at i s r)
 ended_there s i t r core h may k e =
     let z = ended_root s t core k e in
-    subst (λ (n : ℕ). HasEnded i (shown_of (word_at s.words n).phase true) (at s r)) (sym z)
+    subst (λ (n : ℕ). HasEnded i (shown_of (word_at s.words n).phase true) (at i s r)) (sym z)
     (ended_stays s i r core h may (ap (λ n. (word_at s.words n).ended) (sym z) ∙ e))
 
 somewhere : (f : View → ℕ) (vs : List View) → 0 < sum_by f vs → (j : ℕ) × (j < length vs) × (0 < f (get_or vs j (new_view 0)))
@@ -112,7 +113,7 @@ opened_by s i tier k size t core h due within e =
 -- the phase at the last look, after a refusal
 seen_now : (s : State) (i tier k size t : ℕ) (past : List Moment) (r : Turn) → r.kind ≡ Refuse tier k size → r.tier ≡ t
     → (view_at s.views i).arrived ≡ (view_at s.views i).size → (word_at s.words t).ended ≡ false → (view_at s.views i).phase ≡ last_seen past
-    → (refused t (word_at s.words t) (view_at s.views i)).phase ≡ last_seen (at s r ∷ past)
+    → (refused t (word_at s.words t) (view_at s.views i)).phase ≡ last_seen (at i s r ∷ past)
 seen_now s i tier k size zero past r kind here all going seen =
     looked_empty (word_at s.words 0) (view_at s.views i) going all
     ∙ sym (ap (λ x. cond (sees_root r.tier x) (flat_of s).phase (last_seen past)) kind
@@ -127,32 +128,34 @@ pub refuses : (s : State) (i : ℕ) (past : List Moment) (tier k size t : ℕ) (
     → IsDue s.parents tier k size t (view_at s.views i) → Refuses (added k size) (word_at s.words t) → t < length s.words
     → (view_at s.views i).phase ≡ last_seen past → r.kind ≡ Refuse tier k size → r.tier ≡ t → r.next ≡ giving_back k a
     → a ≡ refusal t (added k size) (refused t (word_at s.words t) (view_at s.views i)).phase (word_at s.words t)
-    → RefusalTells i (call.Join tier size) (at s r ∷ past) a
+    → RefusalTells i (call.Join tier size) (at i s r ∷ past) a
 refuses s i past tier k size t r a core h due why within seen kind here next e =
     let w : Fields = word_at s.words t in
     let v : View = view_at s.views i in
     let p : ℕ = (refused t (word_at s.words t) (view_at s.views i)).phase in
-    let word : refusing (at s r) ≡ word_at s.words t = ap (word_at s.words) here in
+    let word : refusing (at i s r) ≡ word_at s.words t = ap (word_at s.words) here in
     let all : (view_at s.views i).arrived ≡ (view_at s.views i).size = (let b = (fits_at s i core h).within in let d = due.none in omega arith) in
     let now = seen_now s i tier k size t past r kind here all why.0 seen in
-    let heldby : (c : Cause) → a ≡ Held p c → IsCause i p (at s r) c → RefusalTells i (call.Join tier size) (at s r ∷ past) a =
-    λ c q is. subst (λ (x : Played). RefusalTells i (call.Join tier size) (at s r ∷ past) x) (sym q) (
+    let heldby : has_no_room (added k size) w ≡ false → (c : Cause) → a ≡ Held p c → IsCause i p (at i s r) c
+    → RefusalTells i (call.Join tier size) (at i s r ∷ past) a =
+    λ fitting c q is. subst (λ (x : Played). RefusalTells i (call.Join tier size) (at i s r ∷ past) x) (sym q) (
       now,
-      any_here (IsHeldBy i (call.Join tier size) p c) (at s r) past record {
+      any_here (IsHeldBy i (call.Join tier size) p c) (at i s r) past record {
         tier = tier;
         claimed = k;
         size = size;
         refusal = record { call = refl; kind = kind; next = next ∙ ap (giving_back k) q };
+        room = subst (λ (x : Fields). x.parties + added k size ≤ 65535) (sym word) (ltb-false 65535 (w.parties + added k size) fitting);
         cause = is;
       },
     ) in
-    let below : t ≢ 0 → w.unarrived ≡ 0 → IsFullyArrived (at s r) =
+    let below : t ≢ 0 → w.unarrived ≡ 0 → IsFullyArrived (at i s r) =
     λ n z. record { below = subst (λ (x : ℕ). 0 < x) (sym here) (omega arith); arrived = ap (λ (x : Fields). x.unarrived) word ∙ z } in
     ⊎_elim
     (λ (full : has_no_room (added k size) w ≡ true).
     let q : a ≡ Full w.parties = e ∙ ap (λ b. cond b (Full w.parties) (Held p (cause_of t p w))) full in
-    subst (λ (x : Played). RefusalTells i (call.Join tier size) (at s r ∷ past) x) (sym q)
-    (any_here (IsFullWith (call.Join tier size) w.parties) (at s r) past record {
+    subst (λ (x : Played). RefusalTells i (call.Join tier size) (at i s r ∷ past) x) (sym q)
+    (any_here (IsFullWith (call.Join tier size) w.parties) (at i s r) past record {
       tier = tier;
       claimed = k;
       size = size;
@@ -168,16 +171,16 @@ refuses s i past tier k size t r a core h due why within seen kind here next e =
     q ∙ ap (λ b. Held p (cond b (cond (eqb t 0) cause.Advancing (cond (eqb w.phase p) cause.AllArrived cause.Lagging)) cause.BeingOpened))
     (eq-eqb w.unarrived 0 z) in
     ⊎_elim
-    (λ (root : t ≡ 0). heldby cause.Advancing
+    (λ (root : t ≡ 0). heldby room cause.Advancing
     (q0 ∙ ap (λ b. Held p (cond b cause.Advancing (cond (eqb w.phase p) cause.AllArrived cause.Lagging))) (eq-eqb t 0 root))
     (here ∙ root, ap (λ (x : Fields). x.unarrived) word ∙ z))
     (λ (n : t ≢ 0).
     let q1 : a ≡ Held p (cond (eqb w.phase p) cause.AllArrived cause.Lagging) =
     q0 ∙ ap (λ b. Held p (cond b cause.Advancing (cond (eqb w.phase p) cause.AllArrived cause.Lagging))) (ne_eqb t 0 n) in
     ⊎_elim
-    (λ (same : w.phase ≡ p). heldby cause.AllArrived (q1 ∙ ap (λ b. Held p (cond b cause.AllArrived cause.Lagging)) (eq-eqb w.phase p same))
+    (λ (same : w.phase ≡ p). heldby room cause.AllArrived (q1 ∙ ap (λ b. Held p (cond b cause.AllArrived cause.Lagging)) (eq-eqb w.phase p same))
     (below n z, ap (λ (x : Fields). x.phase) word ∙ same))
-    (λ (other : w.phase ≢ p). heldby cause.Lagging (q1 ∙ ap (λ b. Held p (cond b cause.AllArrived cause.Lagging)) (ne_eqb w.phase p other))
+    (λ (other : w.phase ≢ p). heldby room cause.Lagging (q1 ∙ ap (λ b. Held p (cond b cause.AllArrived cause.Lagging)) (ne_eqb w.phase p other))
     (below n z, λ x. other (sym (ap (λ (y : Fields). y.phase) word) ∙ x)))
     (cases_eq w.phase p))
     (cases_eq t 0))
@@ -185,7 +188,7 @@ refuses s i past tier k size t r a core h due why within seen kind here next e =
     let opened : is_being_opened w ≡ true = ⊎_elim
     (λ (m : 65535 < w.parties + added k size). absurd (let b = ltb-false 65535 (w.parties + added k size) room in omega arith))
     (λ x. ⊎_elim (λ (z : w.unarrived ≡ 0). absurd (n z)) (λ (o : is_being_opened w ≡ true). o) x) why.1 in
-    heldby cause.BeingOpened
+    heldby room cause.BeingOpened
     (q ∙ ap (λ b. Held p (cond b (cond (eqb t 0) cause.Advancing (cond (eqb w.phase p) cause.AllArrived cause.Lagging)) cause.BeingOpened))
     (ne_eqb w.unarrived 0 n)) (
       ap is_being_opened word ∙ opened,
@@ -222,14 +225,14 @@ seek_tells s i past tier k size t core h due within seen =
     let join : Turn = record { kind = Join tier k size; tier = t; next = settling k; answer = unless_claimed k (Done w.phase) } in
     by_turn (Goal s i c past) w.ended over (cond (is_refusing (added k size) w) no (cond (is_claimable t w) claim join))
     (λ e may. refused_good s i c past over k (end_shown w) refl refl
-    (any_here (HasEnded i (shown_of w.phase true)) (at s over) past (ended_there s i t over core h may within e)))
+    (any_here (HasEnded i (shown_of w.phase true)) (at i s over) past (ended_there s i t over core h may within e)))
     (λ going. by_turn (Goal s i c past) (is_refusing (added k size) w) no (cond (is_claimable t w) claim join)
     (λ e may. refused_good s i c past no k (refusal t (added k size) p w) refl refl
     (refuses s i past tier k size t no (refusal t (added k size) p w) core h due may.needs.1 within seen refl refl refl refl))
     (λ kept. by_turn (Goal s i c past) (is_claimable t w) claim join
     (λ e may. record { told = record { tells = refl; ends = λ x. no_last x }; keeps = (refl, seen) })
     (λ e may. joined_good s i c past join k w.phase refl refl refl
-    (any_here (IsCounted i c w.phase) (at s join) past record { label = refl; phase = sym (joined_phase s t (added k size) core within may.needs.1) }))))
+    (any_here (IsCounted i c w.phase) (at i s join) past record { label = refl; phase = sym (joined_phase s t (added k size) core within may.needs.1) }))))
 
 -- a step that settles a claimed tier
 pub settle_tells : (s : State) (i : ℕ) (c : Call) (past : List Moment) (tier k size : ℕ)
@@ -239,7 +242,7 @@ settle_tells s i c past tier k size q done =
     let v : View = view_at s.views i in
     subst (λ (e : Errand). Goal s i c past (settle_turn s.parents (view_at s.views i) e)) (sym q)
     (λ may. let r : Turn = settle_turn s.parents v (Opening tier (suc k) Joined size) in
-    joined_good s i c past (settle_turn s.parents v (Opening tier (suc k) Joined size)) k v.phase refl refl refl (done_later i c v.phase (at s r) past done))
+    joined_good s i c past (settle_turn s.parents v (Opening tier (suc k) Joined size)) k v.phase refl refl refl (done_later i c v.phase (at i s r) past done))
 
 -- a step that gives one back
 pub give_back_tells : (s : State) (i : ℕ) (c : Call) (past : List Moment) (tier k size : ℕ) (a : Played)
@@ -248,4 +251,4 @@ pub give_back_tells : (s : State) (i : ℕ) (c : Call) (past : List Moment) (tie
 give_back_tells s i c past tier k size a q told =
     subst (λ (e : Errand). Goal s i c past (give_back_turn s.parents a e)) (sym q)
     (λ may. let r : Turn = give_back_turn s.parents a (Opening tier (suc k) GoingBack size) in
-    refused_good s i c past (give_back_turn s.parents a (Opening tier (suc k) GoingBack size)) k a refl refl (refusal_later i c (at s r) past a refl told))
+    refused_good s i c past (give_back_turn s.parents a (Opening tier (suc k) GoingBack size)) k a refl refl (refusal_later i c (at i s r) past a refl told))

@@ -39,8 +39,7 @@ use Rattle.tier_answers.specs.Hold.{IsAwaited}
 use Rattle.tier_answers.specs.Calls.{moves_root, OnlyAdvancesMove, view_then, call_then, answer_then, IsPollStep, is_poll, PollsFollowTheRoot}
 use Rattle.tier_answers.proofs.Planning.{known_active, known_due}
 use Rattle.tier_answers.proofs.Holding.{split, fits_at, awaited_late}
-use Rattle.tier_answers.specs.Moments.{own_turn}
-use Rattle.tier_answers.proofs.Ending.{at}
+use Rattle.tier_answers.proofs.Ending.{at, own_imaged}
 use Rattle.tier_answers.proofs.Counting.{looked_is}
 
 -- a step of a call is this turn
@@ -54,7 +53,7 @@ pub record Gone (s : State) (i : ℕ) (r : Turn) : Type 0 where
   pub views : (after s (Go i)).views ≡ set s.views i (stepped_view s.parents s.words r.kind r.tier (view_at s.views i))
   pub parents : (after s (Go i)).parents ≡ s.parents
   pub label : step_label s (Go i) ≡ label i r.kind
-  pub moment : own_turn i s (Go i) ≡ at s (turn_at s i) ∷ []
+  pub moment : own_imaged i s (Go i) ≡ at i s (turn_at s i) ∷ []
 
 both : (a b : Bool) → a ≡ true → b ≡ true → (a && b) ≡ true
 both a b e f = ap (λ x. x && b) e ∙ f
@@ -76,7 +75,7 @@ gone_at s i core h active =
       views = ap (λ (x : State). x.views) here;
       parents = ap (λ (x : State). x.parents) here;
       label = ap (λ b. cond b (label i (turn_at s i).kind) None) may;
-      moment = ap (λ b. cond b (cond (may_go s i) (at s (turn_at s i) ∷ []) []) []) (eq-eqb i i refl) ∙ ap (λ b. cond b (at s (turn_at s i) ∷ []) []) may;
+      moment = ap (λ b. cond b (cond (may_go s i) (at i s (turn_at s i) ∷ []) []) []) (eq-eqb i i refl) ∙ ap (λ b. cond b (at i s (turn_at s i) ∷ []) []) may;
     }
 
 -- by how far the call has come

@@ -28,20 +28,22 @@ use Rattle.tier_core.specs.declared.call.Progress.TheVariants.{Idle, Begun, Seek
 use Rattle.tier_core.specs.declared.call.Step.{Step}
 use Rattle.tier_core.specs.declared.call.Step.TheVariants.{Begin, Go, Finish}
 use Rattle.tier_core.specs.declared.call.Turn.{Turn}
-use Rattle.tier_core.specs.Turn.{end_shown, is_refusing, lags, polled, first_turn, turn, claimed_by, climb_turn, own_kind}
+use Rattle.tier_core.specs.Turn.{end_shown, is_refusing, lags, polled, first_turn, turn, claimed_by, climb_turn, errand_place, own_kind}
 use Rattle.tier_core.specs.Machine.{State, IsCore, BegunFits, CallFits, view_at, call_at, is_active, is_due, turn_at, played}
 use Rattle.tier_core.specs.Run.{may_begin, may_go, may_finish, begun, finish_at, plan_ends, after, is_idle, may_call, IsCall, IsStepOfCalls, AreSteps}
 use Rattle.tier_core.proofs.Turns.{by_test, not_both}
 use Rattle.tier_core.proofs.Places.{MayPlay, played_core, turn_may}
 use Rattle.tier_core.proofs.Runs.{finish_may, begun_core, step_moves}
 use Rattle.tier_answers.specs.Frame.{flat_of, IsUntouched}
-use Rattle.tier_answers.specs.Moments.{Moment, flat_at, own_turn, moments, IsOfCall, AreOfCall}
+use Rattle.tier_answers.specs.Moments.{Moment, flat_at, IsOfCall, AreOfCall, moments}
 use Rattle.tier_answers.specs.Told.{IsAwaiting, AreAllHere, HasPassed, HasEnded, Tells, LatestTells, AnswersTell}
 use Rattle.tier_answers.proofs.Framing.{others_stay}
 use Rattle.tier_answers.proofs.Planning.{known_active, known_due}
 use Rattle.tier_answers.proofs.Holding.{fits_at}
 use Rattle.tier_answers.proofs.Counting.{members_owned, arrived_own, looked_is, looked_empty}
-use Rattle.tier_answers.proofs.Ending.{at, ended_stays, forced}
+use Rattle.tier_answers.proofs.Ending.{at, ended_stays, forced, imaged}
+use Rattle.tier_answers.proofs.Reached.{reached, latest_alike}
+use Rattle.tier_answers.proofs.Along.{Carries, OfToken, of_token, begun_own, along_call}
 use Rattle.tier_answers.proofs.Memory.{any_here, PollTells, call_of, Remembers, Good, Goal, no_last, done_later, poll_later, polled_tells}
 use Rattle.tier_answers.proofs.Seeking.{ended_there, seek_tells, settle_tells, give_back_tells}
 use Rattle.tier_answers.proofs.Going.{pass_tells, own_passer, climb_passer}
@@ -63,22 +65,22 @@ poll_seen : (s : State) (i : ℕ) (past : List Moment) (r : Turn) → IsCore s �
     → (word_at s.words 0).ended ≡ false → 0 < (view_at s.views i).size
     → eqb (looked (word_at s.words 0) (view_at s.views i)).arrived (view_at s.views i).size ≡ false
     → PollTells i (not (eqb (looked (word_at s.words 0) (view_at s.views i)).phase (view_at s.views i).phase))
-    (looked (word_at s.words 0) (view_at s.views i)).phase (at s r ∷ past)
+    (looked (word_at s.words 0) (view_at s.views i)).phase (at i s r ∷ past)
 poll_seen s i past r core h is going some e =
     let w : Fields = word_at s.words 0 in
     let v : View = view_at s.views i in
     let fits = fits_at s i core h in
-    looked_is (λ p a. a ≢ v.size → PollTells i (not (eqb p v.phase)) p (at s r ∷ past)) w v going
-    (λ all other _. subst (λ (b : Bool). PollTells i (not b) w.phase (at s r ∷ past)) (sym (ne_eqb w.phase v.phase (λ q. other (sym q))))
-    (any_here (HasPassed i w.phase) (at s r) past record {
+    looked_is (λ p a. a ≢ v.size → PollTells i (not (eqb p v.phase)) p (at i s r ∷ past)) w v going
+    (λ all other _. subst (λ (b : Bool). PollTells i (not b) w.phase (at i s r ∷ past)) (sym (ne_eqb w.phase v.phase (λ q. other (sym q))))
+    (any_here (HasPassed i w.phase) (at i s r) past record {
       look = record { first = is; going = going; phase = refl };
       next = ⊎_elim (λ (q : v.phase ≡ w.phase). absurd (other q)) (λ q. sym q.0) (fits.current some);
       all = all_arrived s i v.phase core h refl all;
     }))
     (λ _ n. let less : v.arrived < v.size = (let a = fits.within in omega arith) in
     let current = unarrived_is_current s.parents w.phase w.ended v fits less in
-    subst (λ (b : Bool). PollTells i (not b) v.phase (at s r ∷ past)) (sym (eq-eqb v.phase v.phase refl))
-    (any_here (IsAwaiting i v.phase) (at s r) past record {
+    subst (λ (b : Bool). PollTells i (not b) v.phase (at i s r ∷ past)) (sym (eq-eqb v.phase v.phase refl))
+    (any_here (IsAwaiting i v.phase) (at i s r) past record {
       look = record { first = is; going = going; phase = sym current };
       some = (let a = arrived_own s i core h in let b = members_owned s i core h in omega arith);
     }))
@@ -105,7 +107,7 @@ pass_first s i past trip core h is some =
     (cond b (end_shown w) (cond (eqb (looked w v).arrived v.size) (AlreadyArrived (looked w v).phase) GoesOn)))) w.ended
     (λ e may. record {
       told = record {
-        tells = any_here (HasEnded i (shown_of w.phase true)) (at s (make Idle (end_shown w))) past (ended_stays s i (make Idle (end_shown w)) core h may e);
+        tells = any_here (HasEnded i (shown_of w.phase true)) (at i s (make Idle (end_shown w))) past (ended_stays s i (make Idle (end_shown w)) core h may e);
         ends = λ _. refl;
       };
       keeps = tt;
@@ -115,7 +117,7 @@ pass_first s i past trip core h is some =
     (λ e may. let f = first_all w v going some e in
     record {
       told = record {
-        tells = any_here (AreAllHere i c (looked w v).phase) (at s (make Idle (AlreadyArrived (looked w v).phase))) past record {
+        tells = any_here (AreAllHere i c (looked w v).phase) (at i s (make Idle (AlreadyArrived (looked w v).phase))) past record {
           look = record { first = is; going = going; phase = sym f.0 };
           all = all_arrived s i (looked w v).phase core h (f.1 ∙ sym f.0) f.2;
         };
@@ -140,7 +142,7 @@ poll_first s i past core h is some =
     (cond b (end_shown w) (cond (eqb (looked w v).arrived v.size) Waiting (cond lag GoesOn (polled f p)))))) w.ended
     (λ e may. record {
       told = record {
-        tells = any_here (HasEnded i (shown_of w.phase true)) (at s (make Idle (end_shown w))) past (ended_stays s i (make Idle (end_shown w)) core h may e);
+        tells = any_here (HasEnded i (shown_of w.phase true)) (at i s (make Idle (end_shown w))) past (ended_stays s i (make Idle (end_shown w)) core h may e);
         ends = λ _. refl;
       };
       keeps = tt;
@@ -150,7 +152,7 @@ poll_first s i past core h is some =
     (λ e may. let g = first_all w v going some e in
     record {
       told = record {
-        tells = any_here (λ n. AreAllHere i call.Poll (flat_at n).phase n) (at s (make Idle Waiting)) past record {
+        tells = any_here (λ n. AreAllHere i call.Poll (flat_at n).phase n) (at i s (make Idle Waiting)) past record {
           look = record { first = is; going = going; phase = refl };
           all = all_arrived s i w.phase core h g.1 g.2;
         };
@@ -165,7 +167,7 @@ poll_first s i past core h is some =
     })
     (λ _ may. record {
       told = record {
-        tells = polled_tells i (at s (make Idle (polled f p))) past f p (poll_seen s i past (make Idle (polled f p)) core h is going some e);
+        tells = polled_tells i (at i s (make Idle (polled f p))) past f p (poll_seen s i past (make Idle (polled f p)) core h is going some e);
         ends = λ _. refl;
       };
       keeps = tt;
@@ -188,7 +190,7 @@ join_first s i past tier size core h none =
       answer = cond x (end_shown w) GoesOn;
     }) w.ended
     (λ e may. record {
-      told = record { tells = any_here (HasEnded i (shown_of w.phase true)) (at s over) past (ended_stays s i over core h may e); ends = λ _. refl };
+      told = record { tells = any_here (HasEnded i (shown_of w.phase true)) (at i s over) past (ended_stays s i over core h may e); ends = λ _. refl };
       keeps = tt;
     })
     (λ going. by_test (λ x. Goal s i c past record { kind = cond x (Refuse 0 0 size) Look; tier = 0; next = ToSeek tier size; answer = GoesOn }) b
@@ -206,7 +208,7 @@ first_tells s i past call.Force core h is fits = λ may.
     let w : Fields = word_at s.words 0 in
     let r : Turn = record { kind = Force; tier = 0; next = Idle; answer = end_shown w } in
     record {
-      told = record { tells = any_here (HasEnded i (shown_of w.phase true)) (at s r) past (forced s i r core h may refl); ends = λ _. refl };
+      told = record { tells = any_here (HasEnded i (shown_of w.phase true)) (at i s r) past (forced s i r core h may refl); ends = λ _. refl };
       keeps = tt;
     }
 
@@ -239,27 +241,27 @@ turn_tells s i c past (Passing trip) core h is active fits knows =
     subst (λ (x : Call). Goal s i x past (turn s.parents s.words (Passing trip) v)) (sym knows)
     (pass_tells s i (call_of trip) past trip v.tier trip (own_kind trip) (Passing trip) (end_shown (word_at s.words v.tier)) core
     (own_passer s i past trip h within current)
-    (λ e r may. any_here (HasEnded i (shown_of (word_at s.words v.tier).phase true)) (at s r) past (ended_there s i v.tier r core h may within e))
+    (λ e r may. any_here (HasEnded i (shown_of (word_at s.words v.tier).phase true)) (at i s r) past (ended_there s i v.tier r core h may within e))
     (λ m. refl) refl)
 turn_tells s i c past (Owing own) core h is active fits knows =
     let v : View = view_at s.views i in
     let fit : ErrandFits s.parents (root_phase s.words) (view_at s.views i) (Climbing fits.0 fits.1) =
     subst (λ (x : Errand). ErrandFits s.parents (root_phase s.words) (view_at s.views i) x) fits.2 (fits_at s i core h).errand in
     let within : fits.0 < length s.words = subst (λ (n : ℕ). fits.0 < n) (sym core.tally.long) fit.1 in
-    subst (λ (x : Errand). Goal s i c past (climb_turn s.parents s.words own v x)) (sym fits.2)
+    subst (λ (x : Errand). Goal s i c past (climb_turn s.parents own (word_at s.words (errand_place s.parents x)) v x)) (sym fits.2)
     (pass_tells s i c past own fits.0 fits.1 (Climb fits.1) (Owing own) (Done v.phase) core
     (climb_passer s i c past fits.0 fits.1 h within fit.0 knows)
-    (λ _ r _. done_later i c v.phase (at s r) past knows)
+    (λ _ r _. done_later i c v.phase (at i s r) past knows)
     (λ m. done_later i c v.phase m past knows) refl)
 turn_tells s i c past (Refreshing has_moved) core h is active fits knows =
     let v : View = view_at s.views i in
     let r : Turn = turn s.parents s.words (Refreshing has_moved) v in
     λ may. record {
       told = record {
-        tells = subst (λ (x : Call). Tells i x (at s (turn s.parents s.words (Refreshing has_moved) (view_at s.views i))) past (polled has_moved v.phase))
+        tells = subst (λ (x : Call). Tells i x (at i s (turn s.parents s.words (Refreshing has_moved) (view_at s.views i))) past (polled has_moved v.phase))
             (sym knows.0)
-            (polled_tells i (at s (turn s.parents s.words (Refreshing has_moved) (view_at s.views i))) past has_moved v.phase
-            (poll_later i has_moved v.phase (at s (turn s.parents s.words (Refreshing has_moved) (view_at s.views i))) past knows.1));
+            (polled_tells i (at i s (turn s.parents s.words (Refreshing has_moved) (view_at s.views i))) past has_moved v.phase
+            (poll_later i has_moved v.phase (at i s (turn s.parents s.words (Refreshing has_moved) (view_at s.views i))) past knows.1));
         ends = λ _. refl;
       };
       keeps = tt;
@@ -276,101 +278,27 @@ last_tells s i c past ends (ToGiveBack answer) due knows = not_both false due re
 last_tells s i c past ends (Passing trip) due knows = not_both false due refl
 last_tells s i c past ends (Owing own) due knows = not_both false due refl
 last_tells s i c past ends (Due own) due knows = record {
-  told = record { tells = done_later i c (view_at s.views i).phase (at s (finish_at s i ends)) past knows; ends = λ _. refl };
+  told = record { tells = done_later i c (view_at s.views i).phase (at i s (finish_at s i ends)) past knows; ends = λ _. refl };
   keeps = tt;
 }
 last_tells s i c past ends (Refreshing has_moved) due knows = not_both false due refl
 
--- what is true of a call and its moments so far
-pub record Story (s : State) (i : ℕ) (c : Call) (past : List Moment) : Type 0 where
-  pub core : IsCore s
-  pub known : i < length s.views
-  pub knows : Remembers i c past (call_at s.calls i) (view_at s.views i)
-  pub told : LatestTells i c past
+-- what is true of a call and its moments so far: it remembers what it has to, and the latest moment tells
+abbrev pub Story : ℕ → Call → List Moment → Progress → View → Type 0
+Story i c past p v = Remembers i c past p v × LatestTells i c past
 
-pub story_goes : (s : State) (i : ℕ) (c : Call) (past : List Moment) (r : Turn) → Story s i c past → MayPlay s i r → Good s i c past r
-    → Story (played s i r) i c (at s r ∷ past)
-story_goes s i c past r story may good =
-    let v' : View = stepped_view s.parents s.words r.kind r.tier (view_at s.views i) in
-    record {
-      core = played_core s i r story.core story.known may;
-      known = subst (λ (n : ℕ). i < n) (sym (length-set s.views i (stepped_view s.parents s.words r.kind r.tier (view_at s.views i)))) story.known;
-      knows = subst (λ (p : Progress). Remembers i c (at s r ∷ past) p (view_at (played s i r).views i))
-          (sym (get_or-set_same s.calls i r.next Idle (let l = story.core.long in let k = story.known in omega arith)))
-          (subst (λ (v : View). Remembers i c (at s r ∷ past) r.next v)
-          (sym (get_or-set_same s.views i (stepped_view s.parents s.words r.kind r.tier (view_at s.views i)) (new_view 0) story.known)) good.keeps);
-      told = good.told;
-    }
+pub stories : (i : ℕ) (c : Call) → Carries i (OfToken i (Story i c))
+stories i c = of_token i (Story i c)
+    (λ s past core h active may here.
+    let good = turn_tells s i c past (call_at s.calls i) core h refl active (core.calls i h) here.0 may in (good.keeps, good.told))
+    (λ s past core h due may here.
+    let good = last_tells s i c past (plan_ends s) (call_at s.calls i) due here.0 in (good.keeps, good.told))
 
-pub story_stays : (s s' : State) (i : ℕ) (c : Call) (past : List Moment) → Story s i c past → IsCore s' → IsUntouched i s s' → Story s' i c past
-story_stays s s' i c past story core same = record {
-  core = core;
-  known = subst (λ (n : ℕ). i < n) (sym same.tokens) story.known;
-  knows = subst (λ (p : Progress). Remembers i c past p (view_at s'.views i)) (sym same.call)
-      (subst (λ (v : View). Remembers i c past (call_at s.calls i) v) (sym same.view) story.knows);
-  told = story.told;
-}
-
--- one step of a run
-abbrev pub StoryAfter : State → ℕ → Call → List Moment → Step → Type 0
-StoryAfter s i c past x = Story (after s x) i c (own_turn i s x ++ past)
-
-story_step : (s : State) (i : ℕ) (c : Call) (past : List Moment) (x : Step) → Story s i c past → IsCore (after s x) → IsOfCall i x → StoryAfter s i c past x
-story_step s i c past (Begin j d) story core other = story_stays s (after s (Begin j d)) i c past story core (others_stay s (Begin j d) i other)
-story_step s i c past (Go j) story core other =
-    let m : Moment = at s (turn_at s j) in
-    by_test (λ b. Story (after s (Go j)) i c (cond b (cond (may_go s j) (m ∷ []) []) [] ++ past)) (eqb j i)
-    (λ e. let q = eqb-true j i e in
-    by_test (λ b. b ≡ may_go s j → Story (cond b (played s j (turn_at s j)) s) i c (cond b (m ∷ []) [] ++ past)) (may_go s j)
-    (λ may _. let a = known_active s j may in
-    let here = subst (λ (n : ℕ). Story s n c past) (sym q) story in
-    let can = turn_may s j story.core a.0 a.1 in
-    subst (λ (n : ℕ). Story (played s j (turn_at s j)) n c (m ∷ past)) q
-    (story_goes s j c past (turn_at s j) here can
-    (turn_tells s j c past (call_at s.calls j) story.core a.0 refl a.1 (story.core.calls j a.0) here.knows can)))
-    (λ _ _. story) refl)
-    (λ n. story_stays s (after s (Go j)) i c past story core (others_stay s (Go j) i (λ q. eqb-false j i n (sym q))))
-story_step s i c past (Finish j) story core other =
-    let m : Moment = at s (finish_at s j (plan_ends s)) in
-    by_test (λ b. Story (after s (Finish j)) i c (cond b (cond (may_finish s j) (m ∷ []) []) [] ++ past)) (eqb j i)
-    (λ e. let q = eqb-true j i e in
-    by_test (λ b. b ≡ may_finish s j → Story (cond b (played s j (finish_at s j (plan_ends s))) s) i c (cond b (m ∷ []) [] ++ past)) (may_finish s j)
-    (λ may _. let a = known_due s j may in
-    let here = subst (λ (n : ℕ). Story s n c past) (sym q) story in
-    let can = finish_may s j (plan_ends s) story.core a.0 a.1 in
-    subst (λ (n : ℕ). Story (played s j (finish_at s j (plan_ends s))) n c (m ∷ past)) q
-    (story_goes s j c past (finish_at s j (plan_ends s)) here can
-    (last_tells s j c past (plan_ends s) (call_at s.calls j) a.1 here.knows)))
-    (λ _ _. story) refl)
-    (λ n. story_stays s (after s (Finish j)) i c past story core (others_stay s (Finish j) i (λ q. eqb-false j i n (sym q))))
-
-pub core_after : (s : State) (x : Step) → IsCore s → IsStepOfCalls x → IsCore (after s x)
-core_after s x core is = (step_moves s x (flat_of s) core is record {
-  phase = refl;
-  ended = refl;
-  going = λ _. record { phase = refl; ended = refl; due = refl; members = λ _. refl; arrived = λ _. refl };
-}).2
-
-stories : (steps : List Step) (s : State) (i : ℕ) (c : Call) (past : List Moment) → Story s i c past → AreSteps steps → AreOfCall i steps
-    → LatestTells i c (moments i steps s past)
-stories [] s i c past story are own = story.told
-stories (x ∷ xs) s i c past story are own =
-    stories xs (after s x) i c (own_turn i s x ++ past) (story_step s i c past x story (core_after s x story.core are.0) own.0) are.1 own.1
-
-pub begun_known : (s : State) (i : ℕ) (c : Call) → may_begin s i c ≡ true → i < length s.views
-begun_known s i c may =
-    ltb-true i (length s.views) (both_true (ltb i (length s.views)) (is_idle (call_at s.calls i) && may_call (length s.parents) c (view_at s.views i)) may).0
-
-pub begun_story : (s : State) (i : ℕ) (c : Call) → IsCore s → IsCall c → may_begin s i c ≡ true → Story (begun s i c) i c []
-begun_story s i c core is may =
-    let h = begun_known s i c may in
-    record {
-      core = begun_core s i c core is may;
-      known = h;
-      knows = subst (λ (p : Progress). Remembers i c [] p (view_at s.views i))
-          (sym (get_or-set_same s.calls i (Begun c) Idle (let l = core.long in omega arith))) refl;
-      told = tt;
-    }
+pub begun_story : (s : State) (i : ℕ) (c : Call) → IsCore s → may_begin s i c ≡ true → OfToken i (Story i c) (begun s i c) []
+begun_story s i c core may = begun_own i (Story i c) s c core may (refl, tt)
 
 pub answers_tell : AnswersTell
-answers_tell s i c steps core is may are own = stories steps (begun s i c) i c [] (begun_story s i c core is may) are own
+answers_tell s i c events f core is may are own alike =
+    latest_alike i c (moments i events (begun s i c) f []) (imaged i events (begun s i c) [])
+    (reached i events (begun s i c) f [] [] (begun_core s i c core is may) are alike tt)
+    (along_call i c (Story i c) (stories i c) events s core is may (refl, tt) are own).holds.1

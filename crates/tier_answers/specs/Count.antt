@@ -3,10 +3,10 @@ use Rattle.std.specs.Prelude.{◌≡◌, ℕ, ◌<◌, ◌≤◌, ◌||◌, true
 use Rattle.tier_shape.specs.Paths.{IsTiers}
 use Rattle.tier_core.specs.declared.call.Call.{Call}
 use Rattle.tier_core.specs.declared.call.Call.TheVariants as call
-use Rattle.tier_core.specs.declared.call.Step.{Step}
 use Rattle.tier_core.specs.Machine.{State, IsCore, call_at}
-use Rattle.tier_core.specs.Run.{is_idle, may_begin, may_go, may_finish, begun, run, IsCall, AreSteps}
-use Rattle.tier_answers.specs.Moments.{Moment, moments, AreOfCall}
+use Rattle.tier_core.specs.Run.{is_idle, may_begin, may_go, may_finish, begun, IsCall}
+use Rattle.tier_answers.specs.Frame.{flat_of}
+use Rattle.tier_answers.specs.Moments.{Moment, Event, run_of, moments, AreEvents, AreOfCall}
 
 -- The most steps of each call. On a path of 7 tiers a join looks at the root, goes up by 7 tiers, and settles the 6 below the root or gives
 -- them back; an arrival or a departure looks, refreshes each of these 6, passes all 7, and advances the root.
@@ -25,8 +25,9 @@ pub record IsShort (s : State) (token : ℕ) (c : Call) (ms : List Moment) : Typ
   pub goes_on : is_idle (call_at s.calls token) ≡ false → length ms < most_steps c
   pub may : is_idle (call_at s.calls token) ≡ false → (may_go s token || may_finish s token) ≡ true
 
--- Each call has its answer after so many steps of its own, whatever other tokens do between them.
+-- Each call has its answer after so many steps of its own, whatever other tokens do between them, and whatever tokens come in.
 abbrev pub CallsAreShort : Type 0
 CallsAreShort =
-    (s : State) (token : ℕ) (c : Call) (steps : List Step) → IsTiers s.parents → IsCore s → IsCall c → may_begin s token c ≡ true → AreSteps steps
-    → AreOfCall token steps → IsShort (run steps (begun s token c)) token c (moments token steps (begun s token c) [])
+    (s : State) (token : ℕ) (c : Call) (events : List Event) → IsTiers s.parents → IsCore s → IsCall c → may_begin s token c ≡ true
+    → AreEvents events → AreOfCall token events
+    → IsShort (run_of events (begun s token c)) token c (moments token events (begun s token c) (flat_of s) [])

@@ -9,12 +9,10 @@ use Rattle.tier_core.specs.declared.call.Call.TheVariants as call
 use Rattle.tier_core.specs.declared.call.Played.{Played}
 use Rattle.tier_core.specs.declared.call.Played.TheVariants.{Done}
 use Rattle.tier_core.specs.declared.call.Progress.TheVariants.{Idle}
-use Rattle.tier_core.specs.declared.call.Step.{Step}
 use Rattle.tier_core.specs.declared.call.Step.TheVariants.{Begin, Go}
 use Rattle.tier_core.specs.Machine.{State, IsCore, view_at, call_at, opened, with_token}
-use Rattle.tier_core.specs.Run.{run}
 use Rattle.tier_answers.specs.Frame.{flat_of}
-use Rattle.tier_answers.specs.Moments.{Moment, moments}
+use Rattle.tier_answers.specs.Moments.{Moment, Event, Takes, run_of, moments}
 use Rattle.tier_answers.specs.Calls.{IsSeated}
 use Rattle.tier_answers.specs.Hold.{IsAwaited}
 
@@ -29,8 +27,8 @@ pub record IsFresh (s : State) : Type 0 where
   pub idle : (token : ℕ) → token < length s.views → call_at s.calls token ≡ Idle
 
 -- a join by one token alone: it begins, and takes up to 14 steps
-abbrev pub join_alone : ℕ → ℕ → ℕ → List Step
-join_alone token tier size = Begin token (call.Join tier size) ∷ replicate 14 (Go token)
+abbrev pub join_alone : ℕ → ℕ → ℕ → List Event
+join_alone token tier size = Takes (Begin token (call.Join tier size)) ∷ replicate 14 (Takes (Go token))
 
 abbrev pub last_answer : List Moment → Option Played
 last_answer [] = None
@@ -52,7 +50,7 @@ abbrev pub JoinsAreDoneAlone : Type 0
 JoinsAreDoneAlone =
     (s : State) (token tier size : ℕ) → IsTiers s.parents → IsCore s → IsFresh s → token < length s.views → (view_at s.views token).size ≡ 0
     → tier < length s.parents → 0 < size → sum_by (λ v. v.size) s.views + size + length s.parents ≤ 65535
-    → IsJoined s (run (join_alone token tier size) s) token tier size (moments token (join_alone token tier size) s [])
+    → IsJoined s (run_of (join_alone token tier size) s) token tier size (moments token (join_alone token tier size) s (flat_of s) [])
 
 -- A new tree is fresh, and stays so when a token comes in.
 abbrev pub NewTreesAreFresh : Type 0

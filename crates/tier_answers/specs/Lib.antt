@@ -7,3 +7,7 @@ pub mod Count
 pub mod Calls
 pub mod Fresh
 pub mod Rounds
+pub mod Once
+pub mod Tokens
+pub mod Ended
+pub mod Waits

@@ -6,33 +6,62 @@ use Rattle.tier_core.specs.declared.call.Answer.TheVariants as answer
 use Rattle.tier_core.specs.declared.call.Played.{Played}
 use Rattle.tier_core.specs.declared.call.Step.{Step}
 use Rattle.tier_core.specs.declared.call.Step.TheVariants.{Begin, Go, Finish}
-use Rattle.tier_core.specs.Machine.{State, turn_at, played}
-use Rattle.tier_core.specs.Run.{may_go, may_finish, finish_at, plan_ends, after, answer_to}
-use Rattle.tier_answers.specs.Frame.{flat_of, actor}
+use Rattle.tier_core.specs.Machine.{State, turn_at, with_token}
+use Rattle.tier_core.specs.Run.{may_go, may_finish, finish_at, plan_ends, after, answer_to, step_label, IsStepOfCalls}
+use Rattle.tier_steps.specs.Image.{label, labelled}
+use Rattle.tier_answers.specs.Frame.{actor}
 
--- a state, and the turn that the token took there
+-- a state, the turn that the token took there, and the flat phaser that the labels had reached before it and after it
 pub record Moment : Type 0 where
   pub state : State
   pub turn : Turn
+  pub before : Flat
+  pub afterwards : Flat
 
--- the flat phaser before that turn, and after it
 abbrev pub flat_at : Moment → Flat
-flat_at m = flat_of m.state
+flat_at m = m.before
 
-abbrev pub flat_after : ℕ → Moment → Flat
-flat_after token m = flat_of (played m.state token m.turn)
+abbrev pub flat_after : Moment → Flat
+flat_after m = m.afterwards
+
+-- a turn, beside the flat phaser that takes the flat step of its label
+abbrev pub moment_of : ℕ → State → Flat → Turn → Moment
+moment_of token s f turn = record { state = s; turn = turn; before = f; afterwards = labelled (label token turn.kind) f }
 
 -- the moment that a step of a run is, where it is a turn of this token
-abbrev pub own_turn : ℕ → State → Step → List Moment
-own_turn token s (Begin other c) = []
-own_turn token s (Go other) = if other == token then (if may_go s other then record { state = s; turn = turn_at s other } ∷ [] else []) else []
-own_turn token s (Finish other) =
-    if other == token then (if may_finish s other then record { state = s; turn = finish_at s other (plan_ends s) } ∷ [] else []) else []
+abbrev pub own_turn : ℕ → State → Flat → Step → List Moment
+own_turn token s f (Begin other c) = []
+own_turn token s f (Go other) =
+    if other == token then (if may_go s other then moment_of other s f (turn_at s other) ∷ [] else []) else []
+own_turn token s f (Finish other) =
+    if other == token then (if may_finish s other then moment_of other s f (finish_at s other (plan_ends s)) ∷ [] else []) else []
 
--- the moments of a run before those that are given, the latest first
-abbrev pub moments : ℕ → List Step → State → List Moment → List Moment
-moments token [] s past = past
-moments token (x ∷ xs) s past = moments token xs (after s x) (own_turn token s x ++ past)
+-- what comes next in a run: a step of some token, or a further token
+pub data Event : Type 0 where
+  Takes : Step → Event
+  Enters : Event
+
+abbrev pub state_then : State → Event → State
+state_then s (Takes step) = after s step
+state_then s Enters = with_token s
+
+abbrev pub run_of : List Event → State → State
+run_of [] s = s
+run_of (event ∷ events) s = run_of events (state_then s event)
+
+-- The moments of a run before those that are given, the latest first, beside a flat phaser that takes the labels of all steps; a token that
+-- comes in has none.
+abbrev pub moments : ℕ → List Event → State → Flat → List Moment → List Moment
+moments token [] s f past = past
+moments token (Takes step ∷ events) s f past =
+    moments token events (after s step) (labelled (step_label s step) f) (own_turn token s f step ++ past)
+moments token (Enters ∷ events) s f past = moments token events (with_token s) f past
+
+-- the caller's condition of each step
+abbrev pub AreEvents : List Event → Type 0
+AreEvents [] = Unit {0}
+AreEvents (Takes step ∷ events) = IsStepOfCalls step × AreEvents events
+AreEvents (Enters ∷ events) = AreEvents events
 
 -- steps during which the token begins no other call
 abbrev pub IsOfCall : ℕ → Step → Type 0
@@ -40,12 +69,13 @@ IsOfCall token (Begin other c) = token ≢ other
 IsOfCall token (Go other) = Unit {0}
 IsOfCall token (Finish other) = Unit {0}
 
-abbrev pub AreOfCall : ℕ → List Step → Type 0
+abbrev pub AreOfCall : ℕ → List Event → Type 0
 AreOfCall token [] = Unit {0}
-AreOfCall token (x ∷ xs) = IsOfCall token x × AreOfCall token xs
+AreOfCall token (Takes step ∷ events) = IsOfCall token step × AreOfCall token events
+AreOfCall token (Enters ∷ events) = AreOfCall token events
 
 -- What a step of the token answers in a run is what its moment answers.
 abbrev pub MomentsAreAnswers : Type 0
 MomentsAreAnswers =
-    (s : State) (step : Step) (played : Played) → answer_to s step ≡ answer.Played played
-    → (m : Moment) × (own_turn (actor step) s step ≡ m ∷ []) × (m.state ≡ s) × (m.turn.answer ≡ played)
+    (s : State) (f : Flat) (step : Step) (played : Played) → answer_to s step ≡ answer.Played played
+    → (m : Moment) × (own_turn (actor step) s f step ≡ m ∷ []) × (m.state ≡ s) × (m.before ≡ f) × (m.turn.answer ≡ played)

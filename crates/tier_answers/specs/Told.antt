@@ -1,18 +1,19 @@
 -- What each answer of a call tells, in the words of the flat phaser at the moments of the call (own).
-use Rattle.std.specs.Prelude.{◌≡◌, ◌≢◌, ◌↔◌, ℕ, ◌+◌, ◌<◌, ◌==◌, Bool, true, false, if◌then◌else◌, Option, Some, None, List, [], ◌∷◌, length, ℤ}
+use Rattle.std.specs.Prelude.{◌≡◌, ◌≢◌, ◌↔◌, ℕ, ◌+◌, ◌<◌, ◌≤◌, ◌==◌, Bool, true, false, if◌then◌else◌, Option, Some, None, List, [], ◌∷◌, length, ℤ}
 use Rattle.std.specs.List.{Any}
 use Rattle.phaser_word.specs.Phase.{next_phase_of}
 use Rattle.phaser_word.specs.Fields.{Fields}
 use Rattle.flat_phaser.specs.declared.FlatStep.{FlatStep}
 use Rattle.flat_phaser.specs.declared.FlatStep.TheVariants as flat
-use Rattle.flat_phaser.specs.Flat.{members_of, arrived_of, registered, shown}
+use Rattle.flat_phaser.specs.Flat.{Flat, members_of, arrived_of, registered, shown}
 use Rattle.tier_steps.specs.declared.kind.Kind.{Kind}
 use Rattle.tier_steps.specs.declared.kind.Kind.TheVariants.{Look, Glance, Refuse, Join, Arrive, Leave, Advance, Force, Claim, Settle, SettleBack, Climb, Refresh}
 use Rattle.tier_steps.specs.Word.{is_being_opened}
 use Rattle.tier_steps.specs.View.{claim_share}
 use Rattle.tier_steps.specs.Tally.{word_at}
 use Rattle.tier_steps.specs.Step.{added}
-use Rattle.tier_steps.specs.Image.{label}
+use Rattle.tier_steps.specs.Marks.{sees_root}
+use Rattle.tier_steps.specs.Image.{label, LooksAlike}
 use Rattle.tier_core.specs.declared.call.Call.{Call}
 use Rattle.tier_core.specs.declared.call.Call.TheVariants as call
 use Rattle.tier_core.specs.declared.call.Cause.{Cause}
@@ -20,11 +21,11 @@ use Rattle.tier_core.specs.declared.call.Cause.TheVariants as cause
 use Rattle.tier_core.specs.declared.call.Played.{Played}
 use Rattle.tier_core.specs.declared.call.Played.TheVariants.{GoesOn, Done, Passed, Waiting, Held, Full, AlreadyArrived, Ended, MustAdvance}
 use Rattle.tier_core.specs.declared.call.Progress.TheVariants.{Idle, Begun}
-use Rattle.tier_core.specs.declared.call.Step.{Step}
 use Rattle.tier_core.specs.Turn.{giving_back}
 use Rattle.tier_core.specs.Machine.{State, IsCore, view_at, call_at, is_active, is_due, played}
-use Rattle.tier_core.specs.Run.{may_begin, begun, IsCall, AreSteps}
-use Rattle.tier_answers.specs.Moments.{Moment, flat_at, flat_after, moments, AreOfCall}
+use Rattle.tier_answers.specs.Frame.{flat_of}
+use Rattle.tier_core.specs.Run.{may_begin, begun, IsCall}
+use Rattle.tier_answers.specs.Moments.{Moment, Event, flat_at, flat_after, moments, AreEvents, AreOfCall}
 
 -- how many members the token has at a moment, and how many of them have arrived in a phase
 abbrev pub members_at : ℕ → Moment → ℕ
@@ -62,23 +63,25 @@ pub record AreAllHere (token : ℕ) (c : Call) (now : ℕ) (m : Moment) : Type 0
   pub look : IsFirstLook token c now m
   pub all : arrived_at token now m ≡ members_at token m
 
--- at that look the phase was the next after the token's own, in which all its members had arrived
+-- at that look the phase was the next after the token's own, in which all its members had arrived: so says the tree, since a flat phaser
+-- tells nobody who arrived in a phase before
 pub record HasPassed (token : ℕ) (now : ℕ) (m : Moment) : Type 0 where
   pub look : IsFirstLook token call.Poll now m
   pub next : now ≡ next_phase_of (view_at m.state.views token).phase
-  pub all : arrived_at token (view_at m.state.views token).phase m ≡ members_at token m
+  pub all : arrived_of (view_at m.state.views token).phase token (flat_of m.state).members ≡ members_of token (flat_of m.state).members
 
 -- after a step the flat phaser had ended, and this is the phase that it showed
 pub record HasEnded (token : ℕ) (number : ℤ) (m : Moment) : Type 0 where
-  pub ended : (flat_after token m).ended ≡ true
-  pub shows : shown (flat_after token m) ≡ number
+  pub ended : (flat_after m).ended ≡ true
+  pub shows : shown (flat_after m) ≡ number
 
 -- the step that makes the advance due in this phase, and leaves so many parties at the root: none exactly where there is no member
 pub record MakesDue (token : ℕ) (now parties : ℕ) (m : Moment) : Type 0 where
-  pub due : (flat_after token m).due ≡ true
-  pub phase : (flat_after token m).phase ≡ now
+  pub going : (flat_after m).ended ≡ false
+  pub due : (flat_after m).due ≡ true
+  pub phase : (flat_after m).phase ≡ now
   pub root : (word_at (played m.state token m.turn).words 0).parties ≡ parties
-  pub nobody : (parties ≡ 0) ↔ (registered (flat_after token m) ≡ 0)
+  pub nobody : (parties ≡ 0) ↔ (registered (flat_after m) ≡ 0)
 
 -- the step that refuses a join: the call answers so at once, or once the tiers that it has claimed are given back
 pub record IsRefusal (c : Call) (tier claimed size : ℕ) (answer : Played) (m : Moment) : Type 0 where
@@ -113,6 +116,8 @@ pub record IsHeldBy (token : ℕ) (c : Call) (now : ℕ) (why : Cause) (m : Mome
   pub claimed : ℕ
   pub size : ℕ
   pub refusal : IsRefusal c tier claimed size (Held now why) m
+  -- there was room: want of room is told first
+  pub room : (refusing m).parties + added claimed size ≤ 65535
   pub cause : IsCause token now m why
 
 -- the word had so many parties, and with those that were to be added they are too many
@@ -124,22 +129,7 @@ pub record IsFullWith (c : Call) (parties : ℕ) (m : Moment) : Type 0 where
   pub here : (refusing m).parties ≡ parties
   pub many : 65535 < parties + added claimed size
 
--- whether a step looks at the root, and the phase at the last such step
-abbrev pub sees_root : ℕ → Kind → Bool
-sees_root t Look = true
-sees_root t Glance = false
-sees_root t (Refuse tier claimed size) = t == 0
-sees_root t (Join tier claimed size) = false
-sees_root t Arrive = false
-sees_root t Leave = false
-sees_root t (Advance ends) = false
-sees_root t Force = false
-sees_root t (Claim tier claimed size) = false
-sees_root t (Settle tier claimed size) = false
-sees_root t (SettleBack tier claimed size) = false
-sees_root t (Climb trip) = false
-sees_root t Refresh = false
-
+-- the phase at the last step that looked at the root
 abbrev pub last_seen : List Moment → ℕ
 last_seen [] = 0
 last_seen (m ∷ past) = if sees_root m.turn.tier m.turn.kind then (flat_at m).phase else last_seen past
@@ -184,8 +174,10 @@ abbrev pub LatestTells : ℕ → Call → List Moment → Type 0
 LatestTells token c [] = Unit {0}
 LatestTells token c (m ∷ past) = IsTold token c m past
 
--- Each answer of a call tells what the table says, whatever other tokens do between its steps.
+-- Each answer of a call tells what the table says of the flat phaser that the labels reach from any that looks like the tree before the call,
+-- whatever other tokens do between its steps, and whatever tokens come in.
 abbrev pub AnswersTell : Type 0
 AnswersTell =
-    (s : State) (token : ℕ) (c : Call) (steps : List Step) → IsCore s → IsCall c → may_begin s token c ≡ true → AreSteps steps
-    → AreOfCall token steps → LatestTells token c (moments token steps (begun s token c) [])
+    (s : State) (token : ℕ) (c : Call) (events : List Event) (f : Flat) → IsCore s → IsCall c → may_begin s token c ≡ true
+    → AreEvents events → AreOfCall token events → LooksAlike f (flat_of s)
+    → LatestTells token c (moments token events (begun s token c) f [])

@@ -3,6 +3,7 @@
 
 ghost use Rattle.tier_answers.specs.Moments.{MomentsAreAnswers};
 ghost use Rattle.tier_answers.specs.Told.{AnswersTell};
+ghost use Rattle.tier_answers.specs.Once.{CallsCountOnce, JoinsSeatWhereAsked, RefusalsAreNoted};
 ghost use Rattle.tier_answers.specs.Count.{CallsAreShort};
 
 /// What a run answers to a step of a token is the answer of the moment that the step is.
@@ -14,6 +15,23 @@ pub fn moments_are_answers()
 /// do between the steps of the call.
 pub fn answers_tell()
     ensures { AnswersTell }
+{}
+
+/// A call counts once where it is done or has to advance the root, and not at all where it answers
+/// otherwise: an arrival, a departure or a join that answers that the tree has ended has changed no members.
+pub fn calls_count_once()
+    ensures { CallsCountOnce }
+{}
+
+/// A join that is done has its members at the tier that was asked for, unarrived in the phase that it
+/// answers; one that is refused, or finds that the tree has ended, leaves its token without members.
+pub fn joins_seat_where_asked()
+    ensures { JoinsSeatWhereAsked }
+{}
+
+/// A join that is held off or finds no room has noted the tier and the word that refused it.
+pub fn refusals_are_noted()
+    ensures { RefusalsAreNoted }
 {}
 
 /// A call has its answer after at most 16 steps, whatever other tokens do between them: a join after 14, an

@@ -1,8 +1,27 @@
 //! What the steps of each call do to their token. Each law is the contract of a function without parameters
 //! that does nothing.
 
+ghost use Rattle.tier_answers.specs.Ended.{TokensBeginCalls, EndedTreesTurnCallsAway, ForceEndsTheTree};
 ghost use Rattle.tier_answers.specs.Calls.{OnlyAdvancesMove, PollsFollowTheRoot, PassesBeginWithALook, PassesCount, ClimbsKeepMembers, AdvancesKeepMembers};
 ghost use Rattle.tier_answers.specs.Calls.{JoinsBeginWithALook, JoinsSeatAtOnce, OpenTiersAdmit, SettlingKeepsMembers};
+
+/// A token begins a call exactly where it exists, is in no call, and has what the call is for: an arrival, a
+/// departure and a poll want a member, a join wants a token without members and a tier that exists, and
+/// anybody may end the tree.
+pub fn tokens_begin_calls()
+    ensures { TokensBeginCalls }
+{}
+
+/// A call that takes its first step on a tree that has ended answers so, with the phase that the tree shows,
+/// and changes nothing of it.
+pub fn ended_trees_turn_calls_away()
+    ensures { EndedTreesTurnCallsAway }
+{}
+
+/// The end by force ends the tree at its one step, in the phase that it is in, and changes no members.
+pub fn force_ends_the_tree()
+    ensures { ForceEndsTheTree }
+{}
 
 /// Only an advance and the end by force change the phase of the tree and whether it has ended, and a tier
 /// that is in the root's phase stays there until the advance.

@@ -2,8 +2,10 @@
 //! is the contract of a function without parameters that does nothing.
 
 ghost use Rattle.tier_answers.specs.Frame.{TurnsChangeTheirOwn, OthersStay};
+ghost use Rattle.tier_answers.specs.Tokens.{TokensEnterUnseen};
 ghost use Rattle.tier_answers.specs.Plan.{AdvancesArePlanned, TheLastOneAdvances, QuietTreesWait};
 ghost use Rattle.tier_answers.specs.Rounds.{AdvancesBeginThePhase, AwaitedTokensStay};
+ghost use Rattle.tier_answers.specs.Waits.{TheRootWaits, AdvancesAreAwaited};
 ghost use Rattle.tier_answers.specs.Hold.{AwaitedTokensHold, NobodyMustAdvance, AdvancesAreAlone, MembersAreTheTokens, PartiesAreFew};
 
 /// A turn of a token changes what this token knows, how far its call has come, and the word of one tier.
@@ -16,6 +18,12 @@ pub fn others_stay()
     ensures { OthersStay }
 {}
 
+/// A token that comes in has no members, and changes nothing else: neither the flat phaser that the tree
+/// stands for, nor a word, nor what any other token knows or does, nor who is awaited.
+pub fn tokens_enter_unseen()
+    ensures { TokensEnterUnseen }
+{}
+
 /// The root advances only once everyone has arrived, and ends the tree exactly if the plan says so of the
 /// phase that passes and of whether there is no member left.
 pub fn advances_are_planned()
@@ -25,6 +33,18 @@ pub fn advances_are_planned()
 /// A token that was told to advance finds the advance due, unless the tree has ended since.
 pub fn the_last_one_advances()
     ensures { TheLastOneAdvances }
+{}
+
+/// While a token has to advance the root, no step of another token changes the root's phase or its parties;
+/// the end by force doesn't either.
+pub fn the_root_waits()
+    ensures { TheRootWaits }
+{}
+
+/// Until a token takes the advance that it was told to take, the root is in the phase and has the parties
+/// that it was told, whatever others do.
+pub fn advances_are_awaited()
+    ensures { AdvancesAreAwaited }
 {}
 
 /// Where no token is on its way no advance is due.

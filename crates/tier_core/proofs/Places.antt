@@ -11,12 +11,12 @@ use Rattle.tier_steps.specs.Tally.{blank, word_at, Tallies}
 use Rattle.tier_steps.specs.Step.{word_after, view_after, IsRunnable}
 use Rattle.tier_steps.specs.Laws.{IsStep, words_after, stepped_view}
 use Rattle.tier_steps.specs.Image.{image, label, labelled, IsAllowedLabel, LooksAlike}
-use Rattle.tier_core.specs.Turn.{Progress, Idle, Turn}
+use Rattle.tier_core.specs.Turn.{Progress, Idle, Turn, IsInRange}
 use Rattle.tier_core.specs.Machine.{State, IsCore, IsNext, CallFits, view_at, call_at, is_active, turn_at, played}
 use Rattle.tier_steps.proofs.KindLaw.{kinds_keep_tally}
 use Rattle.tier_steps.proofs.FlatLaw.{kinds_are_flat}
 use Rattle.tier_steps.proofs.Known.{tally_is_known, steps_are_runnable}
-use Rattle.tier_core.proofs.Turns.{turns_are_steps}
+use Rattle.tier_core.proofs.Turns.{turns_are_steps, turn_range}
 
 pub around : {X : Type 0} (xs : List X) (i : ℕ) (d : X) → i < length xs → xs ≡ take i xs ++ get_or xs i d ∷ drop (suc i) xs
 around [] i d h = absurd (omega arith)
@@ -96,6 +96,12 @@ pub turn_may : (s : State) (i : ℕ) → IsCore s → i < length s.views → is_
 turn_may s i core h active =
     turns_are_steps s.parents s.words (take i s.views) (view_at s.views i) (drop (suc i) s.views) (call_at s.calls i) core.shape
     (subst (λ (vs : List View). Tallies s.parents s.words vs) (around s.views i (new_view 0) h) core.tally) active (core.calls i h)
+
+-- and asks for an advance in numbers that fit a word
+pub turn_ranges : (s : State) (i : ℕ) → IsCore s → i < length s.views → IsInRange (turn_at s i).answer
+turn_ranges s i core h =
+    turn_range s.parents s.words (take i s.views) (view_at s.views i) (drop (suc i) s.views) (call_at s.calls i)
+    (subst (λ (vs : List View). Tallies s.parents s.words vs) (around s.views i (new_view 0) h) core.tally) (core.calls i h)
 
 -- What the code read of a state is what is there, and what it wrote is the turn.
 pub record IsRead (old inside : State) (i k : ℕ) (r : Turn) (w : Fields) (v : View) : Type 0 where

@@ -3,9 +3,10 @@ use Rattle.std.proofs.Common.{◌≡◌, ◌≢◌, ℕ, ◌<◌, ⊎_elim, Bool
 use Rattle.std.specs.Prelude.{◌&&◌}
 use Rattle.std.proofs.lemmas.List.{get_or-set_same, get_or-set_other}
 use Rattle.std.proofs.lemmas.Bool.{cases_eq, ltb-true, eqb-true}
-use Rattle.std.specs.Prelude.{Option}
+use Rattle.std.specs.Prelude.{Option, Some, ◌++◌}
 use Rattle.flat_phaser.specs.Flat.{Flat}
 use Rattle.flat_phaser.specs.declared.FlatStep.{FlatStep}
+use Rattle.flat_phaser.specs.Step.{flat_run, IsFlatRun}
 use Rattle.flat_phaser.proofs.Everyone.{both_true}
 use Rattle.tier_steps.specs.declared.view.View.{View}
 use Rattle.tier_steps.specs.declared.view.Errand.TheVariants.{Rest, Advancing}
@@ -15,7 +16,7 @@ use Rattle.tier_steps.specs.Step.{dropped}
 use Rattle.tier_steps.specs.Image.{image, label, labelled, IsAllowedLabel, LooksAlike}
 use Rattle.tier_core.specs.Turn.{Call, Progress, Idle, Begun, ToSeek, Settling, ToGiveBack, Passing, Owing, Due, Refreshing, Turn}
 use Rattle.tier_core.specs.Machine.{State, IsCore, IsNext, CallFits, BegunFits, view_at, call_at, is_active, is_due, turn_at, played}
-use Rattle.tier_core.specs.Run.{Step, Begin, Go, Finish, is_idle, may_call, may_begin, may_go, may_finish, begun, finish_at, plan_ends, after, step_label, IsCall, IsStepOfCalls, TheTreeIsFlat}
+use Rattle.tier_core.specs.Run.{Step, Begin, Go, Finish, is_idle, may_call, may_begin, may_go, may_finish, begun, finish_at, plan_ends, after, run, step_label, listed, labels, IsCall, IsStepOfCalls, TheTreeIsFlat}
 use Rattle.tier_core.specs.declared.call.Call.TheVariants as call
 use Rattle.tier_core.proofs.Turns.{by_test, not_both, looked_ended}
 use Rattle.tier_core.proofs.Places.{MayPlay, played_core, played_flat, turn_may}
@@ -112,9 +113,23 @@ step_moves s (Finish i) f core is alike =
     plays s i (finish_at s i (plan_ends s)) f core alike h (finish_may s i (plan_ends s) core h a.1))
     (λ _. (tt, alike, core))
 
+-- a run that begins with a label, or with a step that has none
+label_run : (l : Option FlatStep) (steps : List FlatStep) (f : Flat) → IsAllowedLabel l f → IsFlatRun steps (labelled l f) → IsFlatRun (listed l ++ steps) f
+label_run None steps f may rest = rest
+label_run (Some step) steps f may rest = (may, rest)
+
+label_leaves : (l : Option FlatStep) (steps : List FlatStep) (f : Flat) → flat_run (listed l ++ steps) f ≡ flat_run steps (labelled l f)
+label_leaves None steps f = refl
+label_leaves (Some step) steps f = refl
+
 pub the_tree_is_flat : TheTreeIsFlat
 the_tree_is_flat s [] f core are alike = record { allowed = tt; alike = alike; core = core }
 the_tree_is_flat s (x ∷ xs) f core are alike =
     let one = step_moves s x f core are.0 alike in
     let rest = the_tree_is_flat (after s x) xs (labelled (step_label s x) f) one.2 are.1 one.1 in
-    record { allowed = (one.0, rest.allowed); alike = rest.alike; core = rest.core }
+    record {
+      allowed = label_run (step_label s x) (labels xs (after s x)) f one.0 rest.allowed;
+      alike = subst (λ (g : Flat). LooksAlike g (image (run (x ∷ xs) s).words (run (x ∷ xs) s).views))
+          (sym (label_leaves (step_label s x) (labels xs (after s x)) f)) rest.alike;
+      core = rest.core;
+    }

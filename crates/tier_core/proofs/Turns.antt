@@ -1,26 +1,28 @@
 -- Each turn of a call is a step that its token may take, and keeps what the call keeps of its view.
-use Rattle.std.proofs.Common.{◌≡◌, ◌≢◌, ℕ, zero, suc, ◌+◌, ◌<◌, ◌⊎◌, inl, inr, ⊎_elim, Bool, true, false, cond, eqb, ltb, List, ◌∷◌, ◌++◌, length, refl, sym, ◌∙◌, ap, subst, arith, Some, None}
+use Rattle.std.proofs.Common.{◌≡◌, ◌≢◌, ℕ, zero, suc, ◌+◌, ◌<◌, ◌≤◌, ◌⊎◌, inl, inr, ⊎_elim, Bool, true, false, cond, eqb, ltb, List, ◌∷◌, ◌++◌, length, refl, sym, ◌∙◌, ap, subst, arith, Some, None}
 use Rattle.std.specs.Prelude.{◌&&◌, ◌||◌, not}
-use Rattle.std.proofs.lemmas.Bool.{cases_eq, eq-eqb, ne_eqb, eqb-true, eqb-false, lt-ltb, ltb-true, ltb-false}
+use Rattle.std.proofs.Math.ListN.{get_or-eq_default}
+use Rattle.std.proofs.lemmas.Bool.{cases_eq, cases_lt, eq-eqb, ne_eqb, eqb-true, eqb-false, lt-ltb, ltb-true, ltb-false}
 use Rattle.flat_phaser.proofs.Everyone.{either, both_true}
 use Rattle.phaser_word.specs.Fields.{Fields, IsLegal}
 use Rattle.tier_steps.specs.Word.{is_being_opened}
 use Rattle.tier_steps.specs.declared.view.View.{View}
 use Rattle.tier_steps.specs.declared.view.Errand.{Errand}
-use Rattle.tier_steps.specs.declared.view.Errand.TheVariants.{Rest, Opening, Climbing}
+use Rattle.tier_steps.specs.declared.view.Errand.TheVariants.{Rest, Opening, Climbing, Advancing}
 use Rattle.tier_steps.specs.declared.view.Stage.TheVariants.{Seeking, Joined, GoingBack}
 use Rattle.tier_steps.specs.declared.view.Trip.{Trip}
 use Rattle.tier_steps.specs.declared.view.Trip.TheVariants.{Arrival, Departure}
 use Rattle.tier_shape.specs.Parents.{parent_of}
 use Rattle.tier_steps.specs.View.{ancestor, absent}
-use Rattle.tier_steps.specs.Tally.{word_at, root_phase, Tallies, ViewFits, ErrandFits, KeepsUp}
+use Rattle.tier_steps.specs.Tally.{blank, word_at, root_phase, Tallies, ViewFits, ErrandFits, KeepsUp}
 use Rattle.tier_shape.specs.Parents.{IsShape}
-use Rattle.tier_steps.specs.declared.kind.Kind.TheVariants.{Look, Glance, Refuse, Join, Arrive, Leave, Claim, Climb, Refresh}
+use Rattle.tier_steps.specs.declared.kind.Kind.TheVariants.{Look, Glance, Refuse, Join, Arrive, Leave, Advance, Claim, Climb, Refresh}
+use Rattle.tier_steps.specs.declared.kind.Kind.{Kind}
 use Rattle.tier_steps.specs.Step.{CanPass, CanClimb, Admits, Refuses, IsFree, IsDue, opening, added, owed, looked, moved, dropped, given_up, passed, is_going_back, refused, view_after}
-use Rattle.tier_core.specs.Turn.{Call, Played, GoesOn, Done, Idle, Begun, ToSeek, Settling, ToGiveBack, Passing, Owing, Due, Refreshing, Turn, turn, first_turn, seek_turn, settle_turn, give_back_turn, climb_turn, last_look, claimed_by, lags, has_no_room, is_refusing, is_claimable, refusal, end_shown, giving_back, settling, unless_claimed, goes_on, told, own_kind}
-use Rattle.tier_core.specs.Machine.{IsWanted, BegunFits, CallFits, IsNext, TurnsAreSteps}
+use Rattle.tier_core.specs.Turn.{Call, Progress, Played, GoesOn, Done, Passed, Waiting, Held, Full, AlreadyArrived, Ended, MustAdvance, IsInRange, Idle, Begun, ToSeek, Settling, ToGiveBack, Passing, Owing, Due, Refreshing, Turn, turn, turn_by, place, pass_turn, finish_turn, first_turn, seek_turn, settle_turn, give_back_turn, climb_turn, last_look, claimed_by, lags, has_no_room, is_refusing, is_claimable, refusal, is_refusal, cause_of, polled, end_shown, giving_back, settling, unless_claimed, goes_on, told, own_kind, errand_place}
+use Rattle.tier_core.specs.Machine.{IsWanted, BegunFits, CallFits, IsNext, TurnsAreSteps, is_going, OneWordIsEnough}
 use Rattle.tier_core.specs.declared.call.Call.TheVariants as call
-use Rattle.tier_steps.proofs.Legal.{legal_empty}
+use Rattle.tier_steps.proofs.Legal.{legal_empty, passed_legal}
 use Rattle.tier_steps.proofs.Advance.{ancestor_within}
 use Rattle.tier_steps.proofs.KindLaw.{mine}
 use Rattle.tier_steps.proofs.Pass.{owed_is, only_here, stands, resting_late, absent_current, waiting_open, unarrived_is_current, climbing_late}
@@ -225,9 +227,12 @@ settles ps tier zero size v e = e
 settles ps tier (suc claimed) size v e = (tier, claimed, size, e)
 
 gives_back : (ps : List ℕ) (tier claimed size : ℕ) (answer : Played) (v : View) → v.errand ≡ opening tier claimed GoingBack size
-    → CallFits ps (giving_back claimed answer) v
-gives_back ps tier zero size answer v e = e
-gives_back ps tier (suc claimed) size answer v e = (tier, claimed, size, e)
+    → is_refusal answer ≡ true → CallFits ps (giving_back claimed answer) v
+gives_back ps tier zero size answer v e refused = e
+gives_back ps tier (suc claimed) size answer v e refused = (tier, claimed, size, e, refused)
+
+pub refusal_is : (t more phase : ℕ) (w : Fields) → is_refusal (refusal t more phase w) ≡ true
+refusal_is t more phase w = by_test (λ b. is_refusal (cond b (Full w.parties) (Held phase (cause_of t phase w))) ≡ true) (has_no_room more w) (λ _. refl) (λ _. refl)
 
 dropped_path : (tier claimed size : ℕ) → dropped (opening tier claimed Seeking size) ≡ opening tier claimed GoingBack size
 dropped_path tier zero size = refl
@@ -293,7 +298,7 @@ seek ps ws front back v tier claimed size t tally h due =
       needs = refl;
       keeps = gives_back ps tier claimed size (end_shown (word_at ws t)) (looked (word_at ws 0) v)
           (looked_ended (word_at ws 0) v (ap (λ k. (word_at ws k).ended) (sym (is_root ps ws (front ++ v ∷ back) t tally h e)) ∙ e)
-          ∙ (ap dropped due.errand ∙ dropped_path tier claimed size));
+          ∙ (ap dropped due.errand ∙ dropped_path tier claimed size)) refl;
     })
     (λ going. by_cond (Goes ps ws v) (is_refusing (added claimed size) (word_at ws t))
     (record {
@@ -309,7 +314,8 @@ seek ps ws front back v tier claimed size t tally h due =
       needs = (due, refuses (added claimed size) (word_at ws t) going e);
       keeps = gives_back ps tier claimed size (refusal t (added claimed size) (refused t (word_at ws t) v).phase (word_at ws t))
           (refused t (word_at ws t) v)
-          (refused_errand t (word_at ws t) v going ∙ (ap given_up due.errand ∙ given_up_path tier claimed size));
+          (refused_errand t (word_at ws t) v going ∙ (ap given_up due.errand ∙ given_up_path tier claimed size))
+          (refusal_is t (added claimed size) (refused t (word_at ws t) v).phase (word_at ws t));
     })
     (λ kept. by_cond (Goes ps ws v) (is_claimable t (word_at ws t))
     (record { kind = Claim tier claimed size; tier = t; next = ToSeek tier size; answer = GoesOn })
@@ -339,15 +345,16 @@ settle ps ws front back v tier claimed size shape tally q =
     })
 
 give_back : (ps : List ℕ) (ws : List Fields) (front back : List View) (v : View) (tier claimed size : ℕ) (answer : Played) → IsShape ps
-    → Tallies ps ws (front ++ v ∷ back) → v.errand ≡ Opening tier (suc claimed) GoingBack size → Goes ps ws v (give_back_turn ps answer v.errand)
-give_back ps ws front back v tier claimed size answer shape tally q =
+    → Tallies ps ws (front ++ v ∷ back) → v.errand ≡ Opening tier (suc claimed) GoingBack size → is_refusal answer ≡ true
+    → Goes ps ws v (give_back_turn ps answer v.errand)
+give_back ps ws front back v tier claimed size answer shape tally q is =
     let fit : ErrandFits ps (root_phase ws) v (Opening tier (suc claimed) GoingBack size) =
     subst (λ (x : Errand). ErrandFits ps (root_phase ws) v x) q (mine ps ws front back v tally).errand in
     let seat : tier < length ps = fit.0.seat in
     subst (λ (x : Errand). Goes ps ws v (give_back_turn ps answer x)) (sym q) (record {
       within = subst (λ (n : ℕ). ancestor ps tier claimed < n) (sym tally.long) (ancestor_within ps tier claimed shape seat);
       needs = (refl, q);
-      keeps = gives_back ps tier claimed size answer (record v { errand = opening tier claimed GoingBack size }) refl;
+      keeps = gives_back ps tier claimed size answer (record v { errand = opening tier claimed GoingBack size }) refl is;
     })
 
 -- a tier that counts the token late and doesn't lag behind it is in its phase
@@ -441,7 +448,7 @@ climb_pass ps ws front back v t trip tally h current q going kept =
 
 -- a step of a climb
 climb : (ps : List ℕ) (ws : List Fields) (front back : List View) (v : View) (own : Trip) (t : ℕ) (trip : Trip) → Tallies ps ws (front ++ v ∷ back)
-    → v.errand ≡ Climbing t trip → Goes ps ws v (climb_turn ps ws own v (Climbing t trip))
+    → v.errand ≡ Climbing t trip → Goes ps ws v (climb_turn ps own (word_at ws t) v (Climbing t trip))
 climb ps ws front back v own t trip tally q =
     let fit : ErrandFits ps (root_phase ws) v (Climbing t trip) =
     subst (λ (x : Errand). ErrandFits ps (root_phase ws) v x) q (mine ps ws front back v tally).errand in
@@ -501,9 +508,199 @@ turns_are_steps ps ws front v back (ToSeek tier size) shape tally active fits =
     (record { here = refl; errand = fits.0; none = fits.1.none; some = fits.1.some; few = fits.1.few; seat = fits.1.seat })
 turns_are_steps ps ws front v back Settling shape tally active fits = settle ps ws front back v fits.0 fits.1 fits.2 shape tally fits.3
 turns_are_steps ps ws front v back (ToGiveBack answer) shape tally active fits =
-    give_back ps ws front back v fits.0 fits.1 fits.2 answer shape tally fits.3
+    give_back ps ws front back v fits.0 fits.1 fits.2 answer shape tally fits.3 fits.4
 turns_are_steps ps ws front v back (Passing trip) shape tally active fits = pass ps ws front back v trip tally fits.0 fits.1
 turns_are_steps ps ws front v back (Owing own) shape tally active fits =
-    subst (λ (x : Errand). Goes ps ws v (climb_turn ps ws own v x)) (sym fits.2) (climb ps ws front back v own fits.0 fits.1 tally fits.2)
+    subst (λ (x : Errand). Goes ps ws v (climb_turn ps own (word_at ws (errand_place ps x)) v x)) (sym fits.2) (climb ps ws front back v own fits.0 fits.1 tally fits.2)
 turns_are_steps ps ws front v back (Refreshing has_moved) shape tally active fits =
     refresh ps ws v (own_seat ps ws front back v tally fits.1) fits.0 fits.1 fits.2
+
+-- a turn is at the tier of its call, where the word that it sees is the root's if it has ended
+abbrev AtPlace : Turn → ℕ → Fields → Type 0
+AtPlace r t w = (w.ended ≡ true → t ≡ 0) → r.tier ≡ t
+
+-- a look at the root that has ended, or a turn at this tier
+at_place : (t : ℕ) (w : Fields) (x y : Turn) → x.tier ≡ 0 → y.tier ≡ t → AtPlace (cond w.ended x y) t w
+at_place t w x y over here =
+    by_test (λ b. (b ≡ true → t ≡ 0) → (cond b x y).tier ≡ t) w.ended (λ _ root. over ∙ sym (root refl)) (λ _ _. here)
+
+seek_place : (tier k size t : ℕ) (w : Fields) (v : View) → AtPlace (seek_turn tier k size t w v) t w
+seek_place tier k size t w v =
+    let back : Turn = record {
+      kind = Refuse tier k size;
+      tier = t;
+      next = giving_back k (refusal t (added k size) (refused t w v).phase w);
+      answer = unless_claimed k (refusal t (added k size) (refused t w v).phase w);
+    } in
+    let claim : Turn = record { kind = Claim tier k size; tier = t; next = ToSeek tier size; answer = GoesOn } in
+    let join : Turn = record { kind = Join tier k size; tier = t; next = settling k; answer = unless_claimed k (Done w.phase) } in
+    at_place t w (record { kind = Look; tier = 0; next = giving_back k (end_shown w); answer = unless_claimed k (end_shown w) })
+    (cond (is_refusing (added k size) w) back (cond (is_claimable t w) claim join)) refl
+    (by_cond (λ r. r.tier ≡ t) (is_refusing (added k size) w) back (cond (is_claimable t w) claim join) (λ _. refl)
+    (λ _. by_cond (λ r. r.tier ≡ t) (is_claimable t w) claim join (λ _. refl) (λ _. refl)))
+
+pass_place : (ps : List ℕ) (own : Trip) (t : ℕ) (trip : Trip) (kind : Kind) (here : Progress) (over : Played) (w : Fields) (v : View)
+    → AtPlace (pass_turn ps own t trip kind here over w v) t w
+pass_place ps own t trip kind here over w v =
+    let wait : Turn = record { kind = Refresh; tier = t; next = here; answer = GoesOn } in
+    let goes : Turn = record {
+      kind = kind;
+      tier = t;
+      next = goes_on own (owed (parent_of ps t) t trip w);
+      answer = told v.phase (passed t trip w).parties (owed (parent_of ps t) t trip w);
+    } in
+    at_place t w (last_look over) (cond (lags w v) wait goes) refl (by_cond (λ r. r.tier ≡ t) (lags w v) wait goes (λ _. refl) (λ _. refl))
+
+turn_place : (ps : List ℕ) (ends : Bool) (w : Fields) (p : Progress) (v : View) → is_going p ≡ true → CallFits ps p v
+    → AtPlace (turn_by ps ends w p v) (place ps p v) w
+turn_place ps ends w Idle v going fits = not_both false going refl
+turn_place ps ends w (Begun c) v going fits = not_both false going refl
+turn_place ps ends w (ToSeek tier size) v going fits = seek_place tier (claimed_by v.errand) size (ancestor ps tier (claimed_by v.errand)) w v
+turn_place ps ends w Settling v going fits =
+    subst (λ (e : Errand). AtPlace (settle_turn ps v e) (errand_place ps e) w) (sym fits.3) (λ _. refl)
+turn_place ps ends w (ToGiveBack answer) v going fits =
+    subst (λ (e : Errand). AtPlace (give_back_turn ps answer e) (errand_place ps e) w) (sym fits.3) (λ _. refl)
+turn_place ps ends w (Passing trip) v going fits = pass_place ps trip v.tier trip (own_kind trip) (Passing trip) (end_shown w) w v
+turn_place ps ends w (Owing own) v going fits =
+    subst (λ (e : Errand). AtPlace (climb_turn ps own w v e) (errand_place ps e) w) (sym fits.2)
+    (pass_place ps own fits.0 fits.1 (Climb fits.1) (Owing own) (Done v.phase) w v)
+turn_place ps ends w (Due own) v going fits = λ _. refl
+turn_place ps ends w (Refreshing has_moved) v going fits = λ _. refl
+
+-- the advance, or the look that stands for it
+pub finish_next : (ps : List ℕ) (ws : List Fields) (v : View) (ends : Bool) → 0 < length ws → v.errand ≡ Advancing
+    → Goes ps ws v (finish_turn ends (word_at ws 0) v)
+finish_next ps ws v ends some owes =
+    by_test (λ b. IsNext ps ws v (cond b Look (Advance ends)) 0 Idle) (word_at ws 0).ended
+    (λ ended. record { within = some; needs = refl; keeps = looked_ended (word_at ws 0) v ended ∙ ap dropped owes })
+    (λ going. record { within = some; needs = (refl, record { errand = owes; going = going }); keeps = refl })
+
+-- a step known by one word is a step that its token may take
+turn_goes : (ps : List ℕ) (ws : List Fields) (front : List View) (v : View) (back : List View) (p : Progress) (ends : Bool)
+    → IsShape ps → Tallies ps ws (front ++ v ∷ back) → is_going p ≡ true → CallFits ps p v → Goes ps ws v (turn_by ps ends (word_at ws (place ps p v)) p v)
+turn_goes ps ws front v back Idle ends shape tally going fits = not_both false going refl
+turn_goes ps ws front v back (Begun c) ends shape tally going fits = not_both false going refl
+turn_goes ps ws front v back (ToSeek tier size) ends shape tally going fits = turns_are_steps ps ws front v back (ToSeek tier size) shape tally refl fits
+turn_goes ps ws front v back Settling ends shape tally going fits = turns_are_steps ps ws front v back Settling shape tally refl fits
+turn_goes ps ws front v back (ToGiveBack answer) ends shape tally going fits =
+    turns_are_steps ps ws front v back (ToGiveBack answer) shape tally refl fits
+turn_goes ps ws front v back (Passing trip) ends shape tally going fits = turns_are_steps ps ws front v back (Passing trip) shape tally refl fits
+turn_goes ps ws front v back (Owing own) ends shape tally going fits = turns_are_steps ps ws front v back (Owing own) shape tally refl fits
+turn_goes ps ws front v back (Due own) ends shape tally going fits = finish_next ps ws v ends tally.some fits
+turn_goes ps ws front v back (Refreshing has_moved) ends shape tally going fits =
+    turns_are_steps ps ws front v back (Refreshing has_moved) shape tally refl fits
+
+-- a tier at which nobody is has the word of no tier, which hasn't ended
+ended_is_root : (ps : List ℕ) (ws : List Fields) (vs : List View) (t : ℕ) → Tallies ps ws vs → (word_at ws t).ended ≡ true → t ≡ 0
+ended_is_root ps ws vs t tally e = ⊎_elim
+    (λ (h : t < length ws). is_root ps ws vs t tally h e)
+    (λ (past : length ws ≤ t). not_both (word_at ws t).ended e (ap (λ (w : Fields). w.ended) (get_or-eq_default ws blank past)))
+    (cases_lt t (length ws))
+
+pub one_word_is_enough : OneWordIsEnough
+one_word_is_enough ps ws front v back p ends shape tally going fits =
+    let t : ℕ = place ps p v in
+    let here = turn_place ps ends (word_at ws (place ps p v)) p v going fits (ended_is_root ps ws (front ++ v ∷ back) (place ps p v) tally) in
+    let may = turn_goes ps ws front v back p ends shape tally going fits in
+    record {
+      here = here;
+      next = subst (λ (n : ℕ). IsNext ps ws v (turn_by ps ends (word_at ws (place ps p v)) p v).kind n (turn_by ps ends (word_at ws (place ps p v)) p v).next)
+          here may;
+    }
+
+-- an advance that a turn asks for is of a phase and parties that fit a word
+refusal_range : (a : Played) → is_refusal a ≡ true → IsInRange a
+refusal_range GoesOn e = not_both false e refl
+refusal_range (Done phase) e = not_both false e refl
+refusal_range (Passed phase) e = not_both false e refl
+refusal_range Waiting e = not_both false e refl
+refusal_range (Held phase why) e = tt
+refusal_range (Full parties) e = tt
+refusal_range (AlreadyArrived phase) e = not_both false e refl
+refusal_range (Ended number) e = tt
+refusal_range (MustAdvance phase parties) e = not_both false e refl
+
+unless_range : (claimed : ℕ) (a : Played) → IsInRange a → IsInRange (unless_claimed claimed a)
+unless_range zero a h = h
+unless_range (suc claimed) a h = tt
+
+by_played : (b : Bool) (x y : Played) → IsInRange x → IsInRange y → IsInRange (cond b x y)
+by_played true x y f g = f
+by_played false x y f g = g
+
+pass_first_range : (root : Fields) (v : View) → IsInRange (first_turn call.Arrive root root v).answer
+pass_first_range root v =
+    by_played root.ended (end_shown root) (cond (eqb (looked root v).arrived v.size) (AlreadyArrived (looked root v).phase) GoesOn) tt
+    (by_played (eqb (looked root v).arrived v.size) (AlreadyArrived (looked root v).phase) GoesOn tt tt)
+
+first_range : (c : Call) (root own : Fields) (v : View) → IsInRange (first_turn c root own v).answer
+first_range (call.Join tier size) root own v = by_played root.ended (end_shown root) GoesOn tt tt
+first_range call.Arrive root own v = pass_first_range root v
+first_range call.Leave root own v = pass_first_range root v
+first_range call.Poll root own v =
+    by_played root.ended (end_shown root) (cond (eqb (looked root v).arrived v.size) Waiting (cond (lags own (looked root v)) GoesOn
+    (polled (not (eqb (looked root v).phase v.phase)) (looked root v).phase))) tt
+    (by_played (eqb (looked root v).arrived v.size) Waiting (cond (lags own (looked root v)) GoesOn
+    (polled (not (eqb (looked root v).phase v.phase)) (looked root v).phase)) tt
+    (by_played (lags own (looked root v)) GoesOn (polled (not (eqb (looked root v).phase v.phase)) (looked root v).phase) tt
+    (by_played (not (eqb (looked root v).phase v.phase)) (Passed (looked root v).phase) (Done (looked root v).phase) tt tt)))
+first_range call.Force root own v = tt
+
+seek_range : (tier k size t : ℕ) (w : Fields) (v : View) → IsInRange (seek_turn tier k size t w v).answer
+seek_range tier k size t w v =
+    let over : Turn = record { kind = Look; tier = 0; next = giving_back k (end_shown w); answer = unless_claimed k (end_shown w) } in
+    let back : Turn = record {
+      kind = Refuse tier k size;
+      tier = t;
+      next = giving_back k (refusal t (added k size) (refused t w v).phase w);
+      answer = unless_claimed k (refusal t (added k size) (refused t w v).phase w);
+    } in
+    let claim : Turn = record { kind = Claim tier k size; tier = t; next = ToSeek tier size; answer = GoesOn } in
+    let join : Turn = record { kind = Join tier k size; tier = t; next = settling k; answer = unless_claimed k (Done w.phase) } in
+    by_cond (λ r. IsInRange r.answer) w.ended over (cond (is_refusing (added k size) w) back (cond (is_claimable t w) claim join))
+    (λ _. unless_range k (end_shown w) tt)
+    (λ _. by_cond (λ r. IsInRange r.answer) (is_refusing (added k size) w) back (cond (is_claimable t w) claim join)
+    (λ _. unless_range k (refusal t (added k size) (refused t w v).phase w)
+    (refusal_range (refusal t (added k size) (refused t w v).phase w) (refusal_is t (added k size) (refused t w v).phase w)))
+    (λ _. by_cond (λ r. IsInRange r.answer) (is_claimable t w) claim join (λ _. tt) (λ _. unless_range k (Done w.phase) tt)))
+
+pass_range : (ps : List ℕ) (own : Trip) (t : ℕ) (trip : Trip) (kind : Kind) (here : Progress) (over : Played) (w : Fields) (v : View)
+    → IsInRange over → v.phase ≤ 2147483647 → IsLegal w → IsInRange (pass_turn ps own t trip kind here over w v).answer
+pass_range ps own t trip kind here over w v last phase legal =
+    let wait : Turn = record { kind = Refresh; tier = t; next = here; answer = GoesOn } in
+    let goes : Turn = record {
+      kind = kind;
+      tier = t;
+      next = goes_on own (owed (parent_of ps t) t trip w);
+      answer = told v.phase (passed t trip w).parties (owed (parent_of ps t) t trip w);
+    } in
+    by_cond (λ r. IsInRange r.answer) w.ended (last_look over) (cond (lags w v) wait goes) (λ _. last)
+    (λ _. by_cond (λ r. IsInRange r.answer) (lags w v) wait goes (λ _. tt)
+    (λ _. owed_is (λ e. IsInRange (told v.phase (passed t trip w).parties e)) (parent_of ps t) t trip w tt
+    (λ _. (phase, (passed_legal t trip w legal).parties)) (λ _ _. tt)))
+
+pub turn_range : (ps : List ℕ) (ws : List Fields) (front : List View) (v : View) (back : List View) (p : Progress) → Tallies ps ws (front ++ v ∷ back)
+    → CallFits ps p v → IsInRange (turn ps ws p v).answer
+turn_range ps ws front v back Idle tally fits = tt
+turn_range ps ws front v back (Begun c) tally fits = first_range c (word_at ws 0) (word_at ws v.tier) v
+turn_range ps ws front v back (ToSeek tier size) tally fits =
+    seek_range tier (claimed_by v.errand) size (ancestor ps tier (claimed_by v.errand)) (word_at ws (ancestor ps tier (claimed_by v.errand))) v
+turn_range ps ws front v back Settling tally fits =
+    subst (λ (e : Errand). IsInRange (settle_turn ps v e).answer) (sym fits.3) (unless_range fits.1 (Done v.phase) tt)
+turn_range ps ws front v back (ToGiveBack answer) tally fits =
+    subst (λ (e : Errand). IsInRange (give_back_turn ps answer e).answer) (sym fits.3) (unless_range fits.1 answer (refusal_range answer fits.4))
+turn_range ps ws front v back (Passing trip) tally fits =
+    let current = unarrived_is_current ps (root_phase ws) (word_at ws 0).ended v (mine ps ws front back v tally) fits.1 in
+    let legal = (tally.legal 0 tally.some).phase in
+    pass_range ps trip v.tier trip (own_kind trip) (Passing trip) (end_shown (word_at ws v.tier)) (word_at ws v.tier) v tt (omega arith)
+    (tally.legal v.tier (own_seat ps ws front back v tally fits.1))
+turn_range ps ws front v back (Owing own) tally fits =
+    let fit : ErrandFits ps (root_phase ws) v (Climbing fits.0 fits.1) =
+    subst (λ (x : Errand). ErrandFits ps (root_phase ws) v x) fits.2 (mine ps ws front back v tally).errand in
+    let current : v.phase ≡ root_phase ws = fit.0 in
+    let legal = (tally.legal 0 tally.some).phase in
+    subst (λ (e : Errand). IsInRange (climb_turn ps own (word_at ws (errand_place ps e)) v e).answer) (sym fits.2)
+    (pass_range ps own fits.0 fits.1 (Climb fits.1) (Owing own) (Done v.phase) (word_at ws fits.0) v tt (omega arith)
+    (tally.legal fits.0 (subst (λ (n : ℕ). fits.0 < n) (sym tally.long) fit.1)))
+turn_range ps ws front v back (Due own) tally fits = tt
+turn_range ps ws front v back (Refreshing has_moved) tally fits = by_played has_moved (Passed v.phase) (Done v.phase) tt tt

@@ -13,7 +13,7 @@ use Rattle.tier_steps.specs.declared.kind.Kind.{Kind}
 use Rattle.tier_steps.specs.Step.{Needs, opening}
 use Rattle.tier_steps.specs.Laws.{words_after, stepped_view}
 use Rattle.tier_steps.specs.Start.{empty_words}
-use Rattle.tier_core.specs.Turn.{Call, Progress, Idle, Begun, ToSeek, Settling, ToGiveBack, Passing, Owing, Due, Refreshing, Turn, turn, claimed_by}
+use Rattle.tier_core.specs.Turn.{Call, Progress, Idle, Begun, ToSeek, Settling, ToGiveBack, Passing, Owing, Due, Refreshing, Turn, turn, turn_by, place, claimed_by, is_refusal}
 use Rattle.tier_core.specs.declared.call.Call.TheVariants as call
 
 pub record State : Type 0 where
@@ -51,7 +51,7 @@ CallFits parents Idle v = v.errand ≡ Rest
 CallFits parents (Begun c) v = (v.errand ≡ Rest) × BegunFits parents c v
 CallFits parents (ToSeek tier size) v = (v.errand ≡ opening tier (claimed_by v.errand) Seeking size) × IsWanted parents tier size v
 CallFits parents Settling v = (tier : ℕ) × (claimed : ℕ) × (size : ℕ) × (v.errand ≡ Opening tier (suc claimed) Joined size)
-CallFits parents (ToGiveBack answer) v = (tier : ℕ) × (claimed : ℕ) × (size : ℕ) × (v.errand ≡ Opening tier (suc claimed) GoingBack size)
+CallFits parents (ToGiveBack answer) v = (tier : ℕ) × (claimed : ℕ) × (size : ℕ) × (v.errand ≡ Opening tier (suc claimed) GoingBack size) × (is_refusal answer ≡ true)
 CallFits parents (Passing trip) v = (v.errand ≡ Rest) × (v.arrived < v.size)
 CallFits parents (Owing own) v = (t : ℕ) × (trip : Trip) × (v.errand ≡ Climbing t trip)
 CallFits parents (Due own) v = v.errand ≡ Advancing
@@ -92,6 +92,30 @@ TurnsAreSteps =
     (parents : List ℕ) (words : List Fields) (front : List View) (v : View) (back : List View) (progress : Progress)
     → IsShape parents → Tallies parents words (front ++ v ∷ back) → is_active progress ≡ true → CallFits parents progress v
     → IsNext parents words v (turn parents words progress v).kind (turn parents words progress v).tier (turn parents words progress v).next
+
+-- the calls that have looked at the root and have a step to take
+abbrev pub is_going : Progress → Bool
+is_going Idle = false
+is_going (Begun c) = false
+is_going (ToSeek tier size) = true
+is_going Settling = true
+is_going (ToGiveBack answer) = true
+is_going (Passing trip) = true
+is_going (Owing own) = true
+is_going (Due own) = true
+is_going (Refreshing moved) = true
+
+-- a step at the place of its call, which its token may take there
+pub record IsNextBy (parents : List ℕ) (words : List Fields) (v : View) (t : ℕ) (r : Turn) : Type 0 where
+  pub here : r.tier ≡ t
+  pub next : IsNext parents words v r.kind t r.next
+
+-- Each step of a call that has looked at the root is known by the word of one tier, at which it is taken, and by its token's view.
+abbrev pub OneWordIsEnough : Type 0
+OneWordIsEnough =
+    (parents : List ℕ) (words : List Fields) (front : List View) (v : View) (back : List View) (progress : Progress) (ends : Bool)
+    → IsShape parents → Tallies parents words (front ++ v ∷ back) → is_going progress ≡ true → CallFits parents progress v
+    → IsNextBy parents words v (place parents progress v) (turn_by parents ends (word_at words (place parents progress v)) progress v)
 
 -- what is true of every state: the tally holds, and each call fits its token's view
 pub record IsCore (s : State) : Type 0 where

@@ -4,13 +4,14 @@ pub use Rattle.tier_core.specs.declared.call.Step.TheVariants.{Begin, Go, Finish
 pub use Rattle.tier_core.specs.declared.call.Answer.{Answer}
 use Rattle.tier_core.specs.declared.call.Answer.TheVariants as answer
 use Rattle.tier_core.specs.declared.call.Call.TheVariants as call
-use Rattle.std.specs.Prelude.{ℕ, ◌<◌, ◌≤◌, Bool, true, false, ◌==◌, nat_lt, ◌&&◌, if◌then◌else◌, Option, None, List, [], ◌∷◌, length, slice_set}
+use Rattle.std.specs.Prelude.{ℕ, ◌<◌, ◌≤◌, Bool, true, false, ◌==◌, nat_lt, ◌&&◌, if◌then◌else◌, Option, None, Some, List, [], ◌∷◌, ◌++◌, length, slice_set}
 use Rattle.advance_rule.specs.Plan.{end_ends}
 use Rattle.flat_phaser.specs.Flat.{Flat}
 use Rattle.flat_phaser.specs.declared.FlatStep.{FlatStep}
+use Rattle.flat_phaser.specs.Step.{flat_run, IsFlatRun}
 use Rattle.tier_steps.specs.declared.view.View.{View}
 use Rattle.tier_steps.specs.Tally.{word_at}
-use Rattle.tier_steps.specs.Image.{image, label, labelled, IsAllowedLabel, LooksAlike}
+use Rattle.tier_steps.specs.Image.{image, label, LooksAlike}
 use Rattle.tier_core.specs.Turn.{Call, Progress, Idle, Begun, ToSeek, Settling, ToGiveBack, Passing, Owing, Due, Refreshing, Turn, finish_turn}
 use Rattle.tier_core.specs.Machine.{State, IsCore, view_at, call_at, is_active, is_due, turn_at, played}
 
@@ -81,18 +82,14 @@ step_label s (Begin token c) = None
 step_label s (Go token) = if may_go s token then label token (turn_at s token).kind else None
 step_label s (Finish token) = if may_finish s token then label token (finish_at s token (plan_ends s)).kind else None
 
-abbrev pub labels : List Step → State → List (Option FlatStep)
+abbrev pub listed : Option FlatStep → List FlatStep
+listed None = []
+listed (Some step) = step ∷ []
+
+-- the flat steps that a run is
+abbrev pub labels : List Step → State → List FlatStep
 labels [] s = []
-labels (x ∷ xs) s = step_label s x ∷ labels xs (after s x)
-
--- a flat run by labels, and that the flat phaser may take each of them
-abbrev pub flat_run : List (Option FlatStep) → Flat → Flat
-flat_run [] f = f
-flat_run (x ∷ xs) f = flat_run xs (labelled x f)
-
-abbrev pub IsFlatRun : List (Option FlatStep) → Flat → Type 0
-IsFlatRun [] f = Unit {0}
-IsFlatRun (x ∷ xs) f = IsAllowedLabel x f × IsFlatRun xs (labelled x f)
+labels (x ∷ xs) s = listed (step_label s x) ++ labels xs (after s x)
 
 -- the caller's condition: a join is of 1 to 65535 members
 abbrev pub IsCall : Call → Type 0

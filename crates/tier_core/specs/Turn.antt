@@ -8,7 +8,7 @@ pub use Rattle.tier_core.specs.declared.call.Played.TheVariants.{GoesOn, Done, P
 pub use Rattle.tier_core.specs.declared.call.Progress.{Progress}
 pub use Rattle.tier_core.specs.declared.call.Progress.TheVariants.{Idle, Begun, Seeking as ToSeek, Settling, GivingBack as ToGiveBack, Passing, Owing, Due, Refreshing}
 pub use Rattle.tier_core.specs.declared.call.Turn.{Turn}
-use Rattle.std.specs.Prelude.{ℕ, zero, suc, ◌+◌, Bool, true, ◌==◌, nat_lt, not, ◌&&◌, ◌||◌, if◌then◌else◌, List}
+use Rattle.std.specs.Prelude.{ℕ, zero, suc, ◌+◌, ◌≤◌, Bool, true, false, ◌==◌, nat_lt, not, ◌&&◌, ◌||◌, if◌then◌else◌, List}
 use Rattle.phaser_word.specs.Phase.{shown_of}
 use Rattle.phaser_word.specs.Fields.{Fields}
 use Rattle.tier_steps.specs.Word.{is_being_opened}
@@ -50,6 +50,18 @@ cause_of t phase w =
 
 abbrev pub refusal : ℕ → ℕ → ℕ → Fields → Played
 refusal t more phase w = if has_no_room more w then Full w.parties else Held phase (cause_of t phase w)
+
+-- what a join answers that isn't taken
+abbrev pub is_refusal : Played → Bool
+is_refusal GoesOn = false
+is_refusal (Done phase) = false
+is_refusal (Passed phase) = false
+is_refusal Waiting = false
+is_refusal (Held phase why) = true
+is_refusal (Full parties) = true
+is_refusal (AlreadyArrived phase) = false
+is_refusal (Ended number) = true
+is_refusal (MustAdvance phase parties) = false
 
 -- A call that has claimed tiers doesn't end at its join or its refusal: it goes on with these tiers.
 abbrev pub unless_claimed : ℕ → Played → Played
@@ -145,16 +157,27 @@ pass_turn parents own t trip kind here over w v =
     })
 
 -- the climb of such a call, which has counted in the phase of its own step
-abbrev pub climb_turn : List ℕ → List Fields → Trip → View → Errand → Turn
-climb_turn parents words own v (Climbing t trip) =
-    pass_turn parents own t trip (Climb trip) (Owing own) (Done v.phase) (word_at words t) v
-climb_turn parents words own v Rest = last_look GoesOn
-climb_turn parents words own v Advancing = last_look GoesOn
-climb_turn parents words own v (Opening tier claimed stage size) = last_look GoesOn
+abbrev pub climb_turn : List ℕ → Trip → Fields → View → Errand → Turn
+climb_turn parents own w v (Climbing t trip) = pass_turn parents own t trip (Climb trip) (Owing own) (Done v.phase) w v
+climb_turn parents own w v Rest = last_look GoesOn
+climb_turn parents own w v Advancing = last_look GoesOn
+climb_turn parents own w v (Opening tier claimed stage size) = last_look GoesOn
 
 -- a poll's answer after its look at the root: whether that look moved the token into the next phase
 abbrev pub polled : Bool → ℕ → Played
 polled moved phase = if moved then Passed phase else Done phase
+
+-- an advance is asked for in a phase and with parties that fit a word
+abbrev pub IsInRange : Played → Type 0
+IsInRange GoesOn = Unit {0}
+IsInRange (Done phase) = Unit {0}
+IsInRange (Passed phase) = Unit {0}
+IsInRange Waiting = Unit {0}
+IsInRange (Held phase why) = Unit {0}
+IsInRange (Full parties) = Unit {0}
+IsInRange (AlreadyArrived phase) = Unit {0}
+IsInRange (Ended number) = Unit {0}
+IsInRange (MustAdvance phase parties) = (phase ≤ 2147483647) × (parties ≤ 65535)
 
 -- the first step of each call, where `root` is the root's word and `own` that of the token's tier
 abbrev pub first_turn : Call → Fields → Fields → View → Turn
@@ -186,27 +209,55 @@ first_turn call.Poll root own v = record {
 }
 first_turn call.Force root own v = record { kind = Force; tier = 0; next = Idle; answer = end_shown root }
 
--- the next step of a call, wherever it stands
-abbrev pub turn : List ℕ → List Fields → Progress → View → Turn
-turn parents words Idle v = last_look GoesOn
-turn parents words (Begun c) v = first_turn c (word_at words 0) (word_at words v.tier) v
-turn parents words (ToSeek tier size) v =
-    let claimed : ℕ = claimed_by v.errand in
-    let t : ℕ = ancestor parents tier claimed in
-    seek_turn tier claimed size t (word_at words t) v
-turn parents words Settling v = settle_turn parents v v.errand
-turn parents words (ToGiveBack answer) v = give_back_turn parents answer v.errand
-turn parents words (Passing trip) v =
-    pass_turn parents trip v.tier trip (own_kind trip) (Passing trip) (end_shown (word_at words v.tier)) (word_at words v.tier) v
-turn parents words (Owing own) v = climb_turn parents words own v v.errand
-turn parents words (Due trip) v = last_look GoesOn
-turn parents words (Refreshing moved) v = record {
-  kind = (if lags (word_at words v.tier) v then Refresh else Glance);
+-- the advance, or a look where the root has ended
+abbrev pub finish_turn : Bool → Fields → View → Turn
+finish_turn ends root v = record { kind = (if root.ended then Look else Advance ends); tier = 0; next = Idle; answer = Done v.phase }
+
+-- the tier that an errand leads to next: the one it climbs to, or the highest that it has claimed
+abbrev pub errand_place : List ℕ → Errand → ℕ
+errand_place parents Rest = 0
+errand_place parents Advancing = 0
+errand_place parents (Climbing t trip) = t
+errand_place parents (Opening tier zero stage size) = 0
+errand_place parents (Opening tier (suc claimed) stage size) = ancestor parents tier claimed
+
+-- the tier at which a call that has looked at the root takes its next step
+abbrev pub place : List ℕ → Progress → View → ℕ
+place parents Idle v = 0
+place parents (Begun c) v = 0
+place parents (ToSeek tier size) v = ancestor parents tier (claimed_by v.errand)
+place parents Settling v = errand_place parents v.errand
+place parents (ToGiveBack answer) v = errand_place parents v.errand
+place parents (Passing trip) v = v.tier
+place parents (Owing own) v = errand_place parents v.errand
+place parents (Due own) v = 0
+place parents (Refreshing moved) v = v.tier
+
+-- The next step of a call that has looked at the root, by the word of the tier where it is taken; an advance ends the tree if `ends` says so.
+abbrev pub turn_by : List ℕ → Bool → Fields → Progress → View → Turn
+turn_by parents ends w Idle v = last_look GoesOn
+turn_by parents ends w (Begun c) v = last_look GoesOn
+turn_by parents ends w (ToSeek tier size) v = seek_turn tier (claimed_by v.errand) size (ancestor parents tier (claimed_by v.errand)) w v
+turn_by parents ends w Settling v = settle_turn parents v v.errand
+turn_by parents ends w (ToGiveBack answer) v = give_back_turn parents answer v.errand
+turn_by parents ends w (Passing trip) v = pass_turn parents trip v.tier trip (own_kind trip) (Passing trip) (end_shown w) w v
+turn_by parents ends w (Owing own) v = climb_turn parents own w v v.errand
+turn_by parents ends w (Due own) v = finish_turn ends w v
+turn_by parents ends w (Refreshing moved) v = record {
+  kind = (if lags w v then Refresh else Glance);
   tier = v.tier;
   next = Idle;
   answer = polled moved v.phase;
 }
 
--- the advance, or a look where the root has ended
-abbrev pub finish_turn : Bool → Fields → View → Turn
-finish_turn ends root v = record { kind = (if root.ended then Look else Advance ends); tier = 0; next = Idle; answer = Done v.phase }
+-- The next step of a call, wherever it stands: the first by the root's word and that of the token's tier, each other by one word.
+abbrev pub turn : List ℕ → List Fields → Progress → View → Turn
+turn parents words Idle v = last_look GoesOn
+turn parents words (Begun c) v = first_turn c (word_at words 0) (word_at words v.tier) v
+turn parents words (ToSeek tier size) v = turn_by parents false (word_at words (place parents (ToSeek tier size) v)) (ToSeek tier size) v
+turn parents words Settling v = turn_by parents false (word_at words (place parents Settling v)) Settling v
+turn parents words (ToGiveBack answer) v = turn_by parents false (word_at words (place parents (ToGiveBack answer) v)) (ToGiveBack answer) v
+turn parents words (Passing trip) v = turn_by parents false (word_at words (place parents (Passing trip) v)) (Passing trip) v
+turn parents words (Owing own) v = turn_by parents false (word_at words (place parents (Owing own) v)) (Owing own) v
+turn parents words (Due own) v = last_look GoesOn
+turn parents words (Refreshing moved) v = turn_by parents false (word_at words (place parents (Refreshing moved) v)) (Refreshing moved) v

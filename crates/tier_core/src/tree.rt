@@ -61,6 +61,7 @@ fn words_of(alloc: Global, count: usize, word: Word) -> Result<Vec<Word>, AllocE
 impl Core {
     ghost use Rattle.tier_core.specs.Machine.{State, IsCore, IsNext, view_at, turn_at, played, opened, with_token};
     ghost use Rattle.tier_core.specs.Run as spec;
+    ghost use Rattle.tier_core.specs.Turn.{IsInRange};
     ghost use Rattle.tier_steps.specs.Tally.{word_at};
     ghost use Rattle.tier_shape.specs.Paths.{IsTiers};
     ghost use Rattle.tier_core.specs.Run.{may_begin, may_go, may_finish, finish_at, IsCall, after, IsStepOfCalls, AreSteps, answer_to, plan_ends, answers, run, IsFlat};
@@ -170,10 +171,11 @@ impl Core {
     }
 
     /// Takes exactly one step of the token's call. A token that is unknown, in no call, or has to advance
-    /// the root can't go now.
+    /// the root can't go now. `MustAdvance` tells a phase up to 2147483647 and up to 65535 parties.
     pub fn go(&mut self, token: usize) -> Result<Played, NotNow>
         ensures not_now { IsErr result ↔ (may_go self.old token ≡ false) }
         ensures answer { IfOk result (λ a. a ≡ (turn_at self.old token).answer) }
+        ensures range { IfOk result IsInRange }
         ensures after { self.new ≡ after self.old (spec.Go token) }
     {
         if !self.may_go(token) {

@@ -1,6 +1,6 @@
 //! The next step of a call in code: what a token looks at, and the kind of step that it picks.
 
-ghost use Rattle.std.specs.Prelude.{◌≡◌, ℕ, List};
+ghost use Rattle.std.specs.Prelude.{◌≡◌, ℕ, Bool, List};
 ghost use Rattle.tier_core.specs.declared.call.Call.TheVariants as call;
 ghost use Rattle.tier_core.specs.Turn as spec;
 ghost use Rattle.phaser_word.specs.Fields.{Fields};
@@ -26,9 +26,14 @@ ghost use Rattle.tier_core.specs.Turn.{
   goes_on,
   told,
   pass_turn,
+  own_kind,
   climb_turn,
   polled,
   first_turn,
+  claimed_by,
+  errand_place,
+  place,
+  turn_by,
   turn,
   finish_turn,
   last_look,
@@ -429,10 +434,53 @@ fn first(call: Call, root: Word, own: Word, view: View) -> Turn
     }
 }
 
-/// The next step of a climb.
-fn climb(shape: &Shape, words: &[Word], own: Trip, view: View) -> Turn
+/// How many tiers an errand has claimed.
+fn claims(errand: Errand) -> u16
+    ensures { result ≡ claimed_by errand }
+{
+    match errand {
+        Errand::Opening { claimed, .. } => claimed,
+        Errand::Rest | Errand::Climbing { .. } | Errand::Advancing => 0,
+    }
+}
+
+/// The tier that an errand leads to next.
+fn errand_tier(shape: &Shape, errand: Errand) -> u16
     requires { IsShape shape.now }
-    ensures { result ≡ climb_turn shape.now words.now own view view.errand }
+    ensures { result ≡ errand_place shape.now errand }
+{
+    match errand {
+        Errand::Rest | Errand::Advancing => 0,
+        Errand::Climbing { tier, .. } => tier,
+        Errand::Opening { tier, claimed, .. } => {
+            if claimed == 0 {
+                0
+            } else {
+                far_above(shape, tier, claimed - 1)
+            }
+        }
+    }
+}
+
+/// The tier at which a call that has looked at the root takes its next step (own).
+pub fn tier_of(shape: &Shape, progress: Progress, view: &View) -> u16
+    requires { IsShape shape.now }
+    ensures { result ≡ place shape.now progress view.now }
+{
+    match progress {
+        Progress::Idle | Progress::Begun(_) | Progress::Due(_) => 0,
+        Progress::Seeking { tier, .. } => far_above(shape, tier, claims(view.errand)),
+        Progress::Passing(_) | Progress::Refreshing(_) => view.tier,
+        Progress::Settling | Progress::GivingBack(_) | Progress::Owing(_) => {
+            errand_tier(shape, view.errand)
+        }
+    }
+}
+
+/// The next step of a climb.
+fn climb(shape: &Shape, own: Trip, word: Word, view: View) -> Turn
+    requires { IsShape shape.now }
+    ensures { result ≡ climb_turn shape.now own word view view.errand }
 {
     let Errand::Climbing { tier, trip } = view.errand else {
         return look_last(Played::GoesOn);
@@ -443,15 +491,14 @@ fn climb(shape: &Shape, words: &[Word], own: Trip, view: View) -> Turn
         next: Progress::Owing(own),
         answer: Played::Done(view.phase),
     };
-    pass(shape, own, tier, trip, step, word_of(words, tier), view)
+    pass(shape, own, tier, trip, step, word, view)
 }
 
 /// The own step of an arrival or a departure.
-fn pass_own(shape: &Shape, words: &[Word], trip: Trip, view: View) -> Turn
+fn pass_own(shape: &Shape, trip: Trip, word: Word, view: View) -> Turn
     requires { IsShape shape.now }
-    ensures { result ≡ turn shape.now words.now (spec.Passing trip) view }
+    ensures { result ≡ pass_turn shape.now trip view.tier trip (own_kind trip) (spec.Passing trip) (end_shown word) word view }
 {
-    let word = word_of(words, view.tier);
     let kind = match trip {
         Trip::Arrival => Kind::Arrive,
         Trip::Departure => Kind::Leave,
@@ -465,24 +512,11 @@ fn pass_own(shape: &Shape, words: &[Word], trip: Trip, view: View) -> Turn
     pass(shape, trip, view.tier, trip, step, word, view)
 }
 
-/// The next step of a join that looks for its tier.
-fn seek_on(shape: &Shape, words: &[Word], tier: u16, size: u32, view: View) -> Turn
-    requires { IsShape shape.now }
-    ensures { result ≡ turn shape.now words.now (spec.ToSeek tier size) view }
-{
-    let claimed = match view.errand {
-        Errand::Opening { claimed, .. } => claimed,
-        Errand::Rest | Errand::Climbing { .. } | Errand::Advancing => 0,
-    };
-    let at = far_above(shape, tier, claimed);
-    seek(tier, claimed, size, at, word_of(words, at), view)
-}
-
 /// The second step of a poll.
-fn refresh(words: &[Word], moved: bool, view: View) -> Turn
-    ensures { (parents : List ℕ) → result ≡ turn parents words.now (spec.Refreshing moved) view }
+fn refresh(moved: bool, word: Word, view: View) -> Turn
+    ensures { (parents : List ℕ) (ends : Bool) → result ≡ turn_by parents ends word (spec.Refreshing moved) view }
 {
-    let kind = if is_behind(word_of(words, view.tier), &view) {
+    let kind = if is_behind(word, &view) {
         Kind::Refresh
     } else {
         Kind::Glance
@@ -495,6 +529,28 @@ fn refresh(words: &[Word], moved: bool, view: View) -> Turn
     }
 }
 
+/// The next step of a call that has looked at the root, by the word of the tier at which it takes it; an
+/// advance ends the tree if `ends` says so (own). Before that look, and in no call, it is a look.
+pub fn turn_here(shape: &Shape, ends: bool, word: Word, progress: Progress, view: View) -> Turn
+    requires { IsShape shape.now }
+    ensures { result ≡ turn_by shape.now ends word progress view }
+{
+    match progress {
+        Progress::Idle | Progress::Begun(_) => look_last(Played::GoesOn),
+        Progress::Seeking { tier, size } => {
+            let claimed = claims(view.errand);
+            let at = far_above(shape, tier, claimed);
+            seek(tier, claimed, size, at, word, view)
+        }
+        Progress::Settling => settle(shape, view),
+        Progress::GivingBack(answer) => give_back(shape, answer, view),
+        Progress::Passing(trip) => pass_own(shape, trip, word, view),
+        Progress::Owing(own) => climb(shape, own, word, view),
+        Progress::Due(_) => last_turn(ends, word, view),
+        Progress::Refreshing(moved) => refresh(moved, word, view),
+    }
+}
+
 /// The next step of a call, wherever it stands.
 pub fn next_turn(shape: &Shape, words: &[Word], progress: Progress, view: View) -> Turn
     requires { IsShape shape.now }
@@ -503,12 +559,15 @@ pub fn next_turn(shape: &Shape, words: &[Word], progress: Progress, view: View) 
     match progress {
         Progress::Idle | Progress::Due(_) => look_last(Played::GoesOn),
         Progress::Begun(call) => first(call, word_of(words, 0), word_of(words, view.tier), view),
-        Progress::Seeking { tier, size } => seek_on(shape, words, tier, size, view),
-        Progress::Settling => settle(shape, view),
-        Progress::GivingBack(answer) => give_back(shape, answer, view),
-        Progress::Passing(trip) => pass_own(shape, words, trip, view),
-        Progress::Owing(own) => climb(shape, words, own, view),
-        Progress::Refreshing(moved) => refresh(words, moved, view),
+        Progress::Seeking { .. }
+        | Progress::Settling
+        | Progress::GivingBack(_)
+        | Progress::Passing(_)
+        | Progress::Owing(_)
+        | Progress::Refreshing(_) => {
+            let word = word_of(words, tier_of(shape, progress, &view));
+            turn_here(shape, false, word, progress, view)
+        }
     }
 }
 

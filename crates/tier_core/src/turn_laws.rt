@@ -1,11 +1,17 @@
 //! What is proved of the turns of calls.
 
-ghost use Rattle.tier_core.specs.Machine.{TurnsAreSteps};
+ghost use Rattle.tier_core.specs.Machine.{TurnsAreSteps, OneWordIsEnough};
 ghost use Rattle.tier_core.specs.Run.{TheTreeIsFlat};
 
 /// Each turn of a call is a step that its token may take, and the call goes on as its view says.
 pub fn turns_are_steps()
     ensures { TurnsAreSteps }
+{}
+
+/// Each turn of a call that has looked at the root is known by the word of one tier and by its token's view,
+/// and is taken at that tier.
+pub fn one_word_is_enough()
+    ensures { OneWordIsEnough }
 {}
 
 /// The tree is flat: whatever the steps of whatever tokens, on whatever tree, they are the run of one flat

@@ -1,10 +1,10 @@
 -- The test for a leaf says what a leaf is.
-use Rattle.std.proofs.Common.{◌≡◌, ℕ, ◌==◌, ◌||◌, ◌↔◌, not, nat_lt, IsTrue, Bool, true, false, List, length, get_or, refl, arith, inl, inr, subst, sym, ◌∙◌}
+use Rattle.std.proofs.Common.{◌≡◌, ℕ, ◌-◌, ◌<◌, ◌≢◌, ⊎_elim, ◌==◌, ◌||◌, ◌↔◌, not, nat_lt, IsTrue, Bool, true, false, List, length, get_or, refl, arith, inl, inr, subst, sym, ◌∙◌}
 use Rattle.std.proofs.lemmas.Bool.{and_parts, and_from, cases_eq, or_cases, or_left, or_right, ltb-true, lt-ltb, eq-eqb, eqb-true, ne_eqb, not-true, not_from_false, both_ways, false_from_ne_true, false≢true}
 use Rattle.std.proofs.lemmas.List.{get_or_default}
 use Rattle.std.specs.List.{Contains}
-use Rattle.tier_shape.specs.Parents.{parent_of}
-use Rattle.tier_shape.specs.Leaves.{IsLeaf, is_leaf_of, leaves_of, IsLeavesOf}
+use Rattle.tier_shape.specs.Parents.{parent_of, IsShape}
+use Rattle.tier_shape.specs.Leaves.{IsLeaf, is_leaf_of, leaves_of, IsLeavesOf, TreesHaveALeaf}
 use Rattle.tier_shape.proofs.Kept.{kept, kept_rise, contains_kept, all_pass, each_passes}
 
 pub leaf_passes : (ps : List ℕ) (tier : ℕ) → IsLeaf ps tier → is_leaf_of ps tier ≡ true
@@ -47,3 +47,20 @@ leaves_right ps = record {
   );
   rising = kept_rise (is_leaf_of ps) (length ps) 0;
 }
+
+-- no tier comes after the last, and a parent comes before
+last_leaf : (ps : List ℕ) → IsShape ps → IsLeaf ps (length ps - 1)
+last_leaf ps shape = record {
+  within = (let some = shape.some in omega arith);
+  childless = λ other below apart child. elim (cases_eq other 0) [
+    | inl root ↦ absurd (
+        let here : parent_of ps other ≡ 0 = subst (λ (t : ℕ). parent_of ps t ≡ 0) (sym root) shape.root in
+        apart (root ∙ (sym here ∙ child)))
+    | inr up ↦ absurd (let earlier = shape.earlier other (omega arith) below in omega arith)
+  ];
+}
+
+pub trees_have_a_leaf : TreesHaveALeaf
+trees_have_a_leaf ps shape =
+    let found = ((leaves_right ps).exact (length ps - 1)).1 (last_leaf ps shape) in
+    (last_leaf ps shape, (let within = found.1 in omega arith))

@@ -1,8 +1,8 @@
 -- The leaves of a tree of tiers (own).
-use Rattle.std.specs.Prelude.{◌≢◌, ℕ, ◌<◌, ◌↔◌, ◌==◌, Bool, ◌&&◌, ◌||◌, not, nat_lt, List, length, filter, Contains}
+use Rattle.std.specs.Prelude.{◌≢◌, ℕ, ◌-◌, ◌<◌, ◌↔◌, ◌==◌, Bool, ◌&&◌, ◌||◌, not, nat_lt, List, length, filter, Contains}
 use Rattle.std.specs.List.{list_all, range_with_len}
 use Rattle.std.specs.List.Sorted.{IsStrictlyIncreasing}
-use Rattle.tier_shape.specs.Parents.{parent_of}
+use Rattle.tier_shape.specs.Parents.{parent_of, IsShape}
 
 -- a leaf: a tier that is no other tier's parent
 pub record IsLeaf (parents : List ℕ) (tier : ℕ) : Type 0 where
@@ -25,3 +25,7 @@ pub record IsLeavesOf (parents : List ℕ) (leaves : List ℕ) : Type 0 where
 
 abbrev pub LeavesAreChildless : Type 0
 LeavesAreChildless = (parents : List ℕ) → IsLeavesOf parents (leaves_of parents)
+
+-- A tree has a leaf: its last tier is one.
+abbrev pub TreesHaveALeaf : Type 0
+TreesHaveALeaf = (parents : List ℕ) → IsShape parents → IsLeaf parents (length parents - 1) × (0 < length (leaves_of parents))

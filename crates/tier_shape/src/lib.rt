@@ -6,7 +6,7 @@ ghost use Rattle.std.specs.Prelude.{IfErr, IfOk, IsErrOf, IsTrue, MatchResult};
 ghost use Rattle.tier_shape.specs.Parents.{parent_of, IsShape};
 ghost use Rattle.tier_shape.specs.Paths.{path_of, IsTiers, IsTooDeep, PathsGoUp};
 ghost use Rattle.tier_shape.specs.Faults.{fault_number, fault_name, IsRefusedText};
-ghost use Rattle.tier_shape.specs.Leaves.{IsLeaf, is_leaf_of, leaves_of, LeavesAreChildless};
+ghost use Rattle.tier_shape.specs.Leaves.{IsLeaf, is_leaf_of, leaves_of, LeavesAreChildless, TreesHaveALeaf};
 ghost use Rattle.tier_shape.specs.Widths.{IsBadText, IsDeepText, IsWideText, IsTreeText, IsGoodText};
 ghost use Rattle.tier_shape.specs.Widths.{TextsSayOneTree, TreesHaveTheirLevels, LeavesAreTheLastLevel, TextsSayShapes};
 ghost use Rattle.tier_shape.specs.Told.{shape_told, TextsAreTold};
@@ -322,4 +322,9 @@ pub fn texts_say_shapes()
 /// The leaves are exactly the tiers without a child, and they rise.
 pub fn leaves_are_childless()
     ensures { LeavesAreChildless }
+{}
+
+/// A tree has a leaf: its last tier is one.
+pub fn trees_have_a_leaf()
+    ensures { TreesHaveALeaf }
 {}

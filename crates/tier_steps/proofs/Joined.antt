@@ -48,7 +48,7 @@ two_apart : (g : List View → ℕ) (front : List (List View)) (x : List View) (
 two_apart g front x middle y back =
     sum_around g front (middle ++ y ∷ back) x ∙ ap (λ k. sum_by g front + g x + k) (sum_around g middle back y)
 
-joined_sum : (f : View → ℕ) (front : List (List View)) (x : List View) (middle : List (List View)) (y : List View) (back : List (List View))
+pub joined_sum : (f : View → ℕ) (front : List (List View)) (x : List View) (middle : List (List View)) (y : List View) (back : List (List View))
     → sum_by f (seated_views (front ++ (x ++ y) ∷ (middle ++ [] ∷ back))) ≡ sum_by f (seated_views (front ++ x ∷ (middle ++ y ∷ back)))
 joined_sum f front x middle y back =
     let a = seats_sum f (front ++ (x ++ y) ∷ (middle ++ [] ∷ back)) in
@@ -102,7 +102,7 @@ joined_seats_tally ps ws front x middle y back tally =
     (joined_all (ViewFits ps (root_phase ws) (word_at ws 0).ended) front x middle y back
     (by_seat (ViewFits ps (root_phase ws) (word_at ws 0).ended) old tally.fits)))
 
-seats_append : (front back : List (List View)) → seated_views (front ++ back) ≡ seated_views front ++ seated_views back
+pub seats_append : (front back : List (List View)) → seated_views (front ++ back) ≡ seated_views front ++ seated_views back
 seats_append [] back = refl
 seats_append (x ∷ front) back = ap (λ ys. x ++ ys) (seats_append front back) ∙ sym (append_assoc x (seated_views front) (seated_views back))
 

@@ -22,3 +22,6 @@ pub mod Start
 pub mod Ready
 pub mod Path
 pub mod Joined
+pub mod Owners
+pub mod Awaits
+pub mod Marks

@@ -146,7 +146,7 @@ advances_are_due ps ws front v back t ends step =
       );
     }
 
-resting : (vs : List View) → AllByRecursion (λ v. v.errand ≡ Rest) vs → some_climbing vs ≡ false
+pub resting : (vs : List View) → AllByRecursion (λ v. v.errand ≡ Rest) vs → some_climbing vs ≡ false
 resting [] h = refl
 resting (v ∷ vs) h = ap (λ e. cond (is_climbing e) true (some_climbing vs)) h.0 ∙ resting vs h.1
 

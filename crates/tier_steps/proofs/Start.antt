@@ -7,7 +7,7 @@ use Rattle.tier_steps.specs.Word.{Fields, IsLegal, is_being_opened, late}
 use Rattle.tier_steps.specs.View.{View, new_view, party_share, late_share, claim_share, advance_share}
 use Rattle.tier_steps.specs.Tally.{word_at, root_phase, ViewFits, bit, is_zero, Tallies}
 use Rattle.std.proofs.lemmas.List.{length-replicate}
-use Rattle.tier_steps.specs.Start.{empty_word, empty_words, StartTallies, NewTokensTally, NewTokensAreUnseen}
+use Rattle.tier_steps.specs.Start.{empty_word, empty_words, StartTallies, EmptyTreesHaveNoMembers, NewTokensTally, NewTokensAreUnseen}
 use Rattle.tier_steps.proofs.Balance.{sum_around}
 use Rattle.tier_steps.proofs.Due.{children_none}
 use Rattle.tier_steps.proofs.Quiet.{resting_absent, Absent}
@@ -103,6 +103,14 @@ image_at ws p e = ap (λ (w : Fields). record {
   members = all_members 0 (new_view p ∷ []);
   due = cond w.ended false (true && false);
 }) e
+
+pub empty_trees_have_no_members : EmptyTreesHaveNoMembers
+empty_trees_have_no_members ps p shape = ap (λ (w : Fields). record {
+  phase = w.phase;
+  ended = w.ended;
+  members = [];
+  due = cond w.ended false (true && false);
+}) (at_replicate (length ps) 0 (empty_word p) shape.some)
 
 pub start_tallies : StartTallies
 start_tallies ps p shape legal =

@@ -1,7 +1,7 @@
 -- When the flat phaser that a tree stands for is due, and what holds the root where it is (own).
 use Rattle.std.specs.Prelude.{◌≡◌, ◌≢◌, ◌↔◌, ℕ, ◌<◌, Bool, true, false, List, ◌∷◌, ◌++◌, length, sum_by}
 use Rattle.std.specs.List.{AllByRecursion}
-use Rattle.flat_phaser.specs.Flat.{everyone_arrived, registered}
+use Rattle.flat_phaser.specs.Flat.{everyone_arrived, registered, unarrived}
 use Rattle.tier_steps.specs.Word.{Fields}
 use Rattle.tier_steps.specs.View.{View, Rest, late_share}
 use Rattle.tier_steps.specs.Tally.{word_at, root_phase, Tallies, IsShape}
@@ -24,6 +24,12 @@ AdvancesAreDue =
 -- Where no token has an errand nothing is due.
 abbrev pub QuietIsNotDue : Type 0
 QuietIsNotDue = (words : List Fields) (views : List View) → AllByRecursion (λ v. v.errand ≡ Rest) views → (image words views).due ≡ false
+
+-- It isn't due since it waits: a tree that goes on, in which no token has an errand and there is a member, has one that hasn't arrived.
+abbrev pub QuietTreesAwaitSomebody : Type 0
+QuietTreesAwaitSomebody =
+    (parents : List ℕ) (words : List Fields) (views : List View) → IsShape parents → Tallies parents words views → (word_at words 0).ended ≡ false
+    → AllByRecursion (λ v. v.errand ≡ Rest) views → 0 < registered (image words views) → 0 < unarrived (image words views)
 
 -- The members of the image are as many as the tokens have.
 abbrev pub MembersAreSizes : Type 0

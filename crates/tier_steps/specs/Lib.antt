@@ -10,3 +10,4 @@ pub mod Start
 pub mod Due
 pub mod Path
 pub mod Seats
+pub mod Marks

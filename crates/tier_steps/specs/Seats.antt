@@ -1,5 +1,5 @@
 -- Seats that hold lists of views: a step by a seat with one view is a flat step, two seats may be joined, and a new one may come in (own).
-use Rattle.std.specs.Prelude.{ℕ, ◌<◌, List, [], ◌∷◌, ◌++◌, length}
+use Rattle.std.specs.Prelude.{◌≡◌, ℕ, ◌<◌, Bool, Option, List, [], ◌∷◌, ◌++◌, length, count_by}
 use Rattle.flat_phaser.specs.Flat.{Flat}
 use Rattle.tier_steps.specs.Word.{Fields}
 use Rattle.tier_steps.specs.View.{View, new_view}
@@ -35,3 +35,22 @@ NewSeatsTally =
     (parents : List ℕ) (words : List Fields) (front back : List (List View)) (phase : ℕ)
     → Tallies parents words (seated_views (front ++ back))
     → Tallies parents words (seated_views (front ++ (new_view phase ∷ []) ∷ back))
+
+-- two flat phasers that differ only in whose their members are, and in which order: each mark is as often in both
+pub record IsSameButOwners (f g : Flat) : Type 0 where
+  pub phase : f.phase ≡ g.phase
+  pub ended : f.ended ≡ g.ended
+  pub due : f.due ≡ g.due
+  pub marks : (test : Option ℕ → Bool) → count_by (λ m. test m.mark) f.members ≡ count_by (λ m. test m.mark) g.members
+
+-- Neither changes more of the image than whose the members are.
+abbrev pub JoinedSeatsLookTheSame : Type 0
+JoinedSeatsLookTheSame =
+    (words : List Fields) (front : List (List View)) (x : List View) (middle : List (List View)) (y : List View) (back : List (List View))
+    → IsSameButOwners (image words (seated_views (front ++ x ∷ (middle ++ y ∷ back))))
+    (image words (seated_views (front ++ (x ++ y) ∷ (middle ++ [] ∷ back))))
+
+abbrev pub NewSeatsLookTheSame : Type 0
+NewSeatsLookTheSame =
+    (words : List Fields) (front back : List (List View)) (phase : ℕ)
+    → IsSameButOwners (image words (seated_views (front ++ back))) (image words (seated_views (front ++ (new_view phase ∷ []) ∷ back)))

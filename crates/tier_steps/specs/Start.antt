@@ -20,6 +20,10 @@ StartTallies =
     → Tallies parents (empty_words parents phase) (new_view phase ∷ [])
     × LooksAlike (empty_in phase) (image (empty_words parents phase) (new_view phase ∷ []))
 
+-- Before any token comes in it stands for the flat phaser without members itself.
+abbrev pub EmptyTreesHaveNoMembers : Type 0
+EmptyTreesHaveNoMembers = (parents : List ℕ) (phase : ℕ) → IsShape parents → image (empty_words parents phase) [] ≡ empty_in phase
+
 -- A token without members may come in anywhere.
 abbrev pub NewTokensTally : Type 0
 NewTokensTally =

@@ -5,13 +5,20 @@ ghost use Rattle.tier_steps.specs.Laws.{KindsKeepTally, KindsAreFlat};
 ghost use Rattle.tier_steps.specs.Told.{TallyIsTold};
 ghost use Rattle.tier_steps.specs.Known.{TallyIsKnown, StepsAreRunnable, SeatsKeepTally, RegroupingKeepsTally};
 ghost use Rattle.tier_steps.specs.Path.{AncestorsAreOnThePath, ClaimsAreListed, PathsFall};
-ghost use Rattle.tier_steps.specs.Seats.{SeatsAreFlat, JoinedSeatsTally, NewSeatsTally};
-ghost use Rattle.tier_steps.specs.Start.{StartTallies, NewTokensTally, NewTokensAreUnseen};
-ghost use Rattle.tier_steps.specs.Due.{AdvancesAreDue, QuietIsNotDue, MembersAreSizes, UnarrivedHoldTheRoot, PhasesStay};
+ghost use Rattle.tier_steps.specs.Seats.{SeatsAreFlat, JoinedSeatsTally, JoinedSeatsLookTheSame, NewSeatsTally, NewSeatsLookTheSame};
+ghost use Rattle.tier_steps.specs.Start.{StartTallies, EmptyTreesHaveNoMembers, NewTokensTally, NewTokensAreUnseen};
+ghost use Rattle.tier_steps.specs.Marks.{MarksAreTold};
+ghost use Rattle.tier_steps.specs.Due.{AdvancesAreDue, QuietIsNotDue, QuietTreesAwaitSomebody, MembersAreSizes, UnarrivedHoldTheRoot, PhasesStay};
 
 /// Each kind of step keeps the tally, by the word that it changes and the stepping token's view alone.
 pub fn kinds_keep_tally()
     ensures { KindsKeepTally }
+{}
+
+/// A token has led from the advance that it takes to its next look at the root, and its note is the tier and
+/// the word of its last refusal.
+pub fn marks_are_told()
+    ensures { MarksAreTold }
 {}
 
 /// Each kind of step is the flat step of its label: the flat phaser that the tree stands for may take it,
@@ -55,6 +62,16 @@ pub fn new_seats_tally()
     ensures { NewSeatsTally }
 {}
 
+/// Seats that are joined change nothing of the flat phaser that the tree stands for but whose the members are.
+pub fn joined_seats_look_the_same()
+    ensures { JoinedSeatsLookTheSame }
+{}
+
+/// Nor does a seat that comes in.
+pub fn new_seats_look_the_same()
+    ensures { NewSeatsLookTheSame }
+{}
+
 /// Views may be regrouped where no sum changes.
 pub fn regrouping_keeps_tally()
     ensures { RegroupingKeepsTally }
@@ -63,6 +80,11 @@ pub fn regrouping_keeps_tally()
 /// A tree of empty tiers with one token tallies, and stands for the flat phaser without members.
 pub fn start_tallies()
     ensures { StartTallies }
+{}
+
+/// A tree of empty tiers without tokens is the flat phaser without members.
+pub fn empty_trees_have_no_members()
+    ensures { EmptyTreesHaveNoMembers }
 {}
 
 /// A token without members may come in.
@@ -84,6 +106,11 @@ pub fn advances_are_due()
 /// Where no token has an errand no advance is due.
 pub fn quiet_is_not_due()
     ensures { QuietIsNotDue }
+{}
+
+/// Where a tree goes on, no token has an errand and there is a member, some member hasn't arrived.
+pub fn quiet_trees_await_somebody()
+    ensures { QuietTreesAwaitSomebody }
 {}
 
 /// The members of the flat phaser that a tree stands for are as many as the tokens have.

@@ -1,0 +1,57 @@
+-- What a step leaves of a token's two marks: that it led the last advance, and what refused its join (own).
+use Rattle.std.specs.Prelude.{◌≡◌, ℕ, ◌==◌, Bool, true, false, Some, None, List}
+use Rattle.tier_steps.specs.Word.{Fields}
+use Rattle.tier_steps.specs.View.{View}
+use Rattle.tier_steps.specs.Tally.{word_at}
+use Rattle.tier_steps.specs.Step.{Kind, Look, Glance, Refuse, Join, Arrive, Leave, Advance, Force, Claim, Settle, SettleBack, Climb, Refresh, is_going_back}
+use Rattle.tier_steps.specs.Due.{is_advance}
+use Rattle.tier_steps.specs.Laws.{stepped_view}
+
+-- whether a step at a tier looks at the root
+abbrev pub sees_root : ℕ → Kind → Bool
+sees_root t Look = true
+sees_root t Glance = false
+sees_root t (Refuse tier claimed size) = t == 0
+sees_root t (Join tier claimed size) = false
+sees_root t Arrive = false
+sees_root t Leave = false
+sees_root t (Advance ends) = false
+sees_root t Force = false
+sees_root t (Claim tier claimed size) = false
+sees_root t (Settle tier claimed size) = false
+sees_root t (SettleBack tier claimed size) = false
+sees_root t (Climb trip) = false
+sees_root t Refresh = false
+
+abbrev pub is_refusal : Kind → Bool
+is_refusal Look = false
+is_refusal Glance = false
+is_refusal (Refuse tier claimed size) = true
+is_refusal (Join tier claimed size) = false
+is_refusal Arrive = false
+is_refusal Leave = false
+is_refusal (Advance ends) = false
+is_refusal Force = false
+is_refusal (Claim tier claimed size) = false
+is_refusal (Settle tier claimed size) = false
+is_refusal (SettleBack tier claimed size) = false
+is_refusal (Climb trip) = false
+is_refusal Refresh = false
+
+-- A token has led from the advance that it takes to its next look at the root.
+pub record LedIsTold (t : ℕ) (kind : Kind) (old new : View) : Type 0 where
+  pub advance : is_advance kind ≡ true → new.led ≡ true
+  pub look : sees_root t kind ≡ true → new.led ≡ false
+  pub other : is_advance kind ≡ false → sees_root t kind ≡ false → new.led ≡ old.led
+
+-- A refusal is noted by its tier and the word found there, until the next look at the root that isn't taken on the way back from it.
+pub record NoteIsTold (t : ℕ) (w : Fields) (kind : Kind) (old new : View) : Type 0 where
+  pub refused : is_refusal kind ≡ true → new.note ≡ Some (t, w)
+  pub look : sees_root t kind ≡ true → is_refusal kind ≡ false → is_going_back old.errand ≡ false → new.note ≡ None
+  pub back : is_refusal kind ≡ false → is_going_back old.errand ≡ true → new.note ≡ old.note
+  pub other : is_refusal kind ≡ false → sees_root t kind ≡ false → new.note ≡ old.note
+
+abbrev pub MarksAreTold : Type 0
+MarksAreTold =
+    (parents : List ℕ) (words : List Fields) (v : View) (t : ℕ) (kind : Kind)
+    → LedIsTold t kind v (stepped_view parents words kind t v) × NoteIsTold t (word_at words t) kind v (stepped_view parents words kind t v)
