@@ -182,3 +182,130 @@ fn a_text_is_read_by_at_most_1048577_reads(rt: HostRuntime) -> Result<(), Fail> 
     }
     Ok(())
 }
+
+// Gives a byte a read, fails at one read, and goes on giving behind it.
+#[derive(Drop)]
+struct Stumbling<'a> {
+    rest: &'a [u8],
+    before: usize,
+}
+
+impl Read for Stumbling<'_> {
+    fn read(&mut self, buffer: &mut [u8]) -> io::Result<usize> {
+        if self.before == 0 {
+            self.before = usize::MAX;
+            return Err(io::ErrorKind::Other.into());
+        }
+        self.before -= 1;
+        match (self.rest, buffer.is_empty()) {
+            ([first, rest @ ..], false) => {
+                buffer[0] = *first;
+                self.rest = rest;
+                Ok(1)
+            }
+            _ => Ok(0),
+        }
+    }
+}
+
+#[test]
+fn a_reader_that_fails_once_has_failed(rt: HostRuntime) -> Result<(), Fail> {
+    for (word, text) in [("trace", TRACE), ("check", SWAP), ("run", SWAP)] {
+        for before in 0..text.len() + 1 {
+            let input = Stumbling {
+                rest: text.as_bytes(),
+                before,
+            };
+            let left = run_on(rt.alloc(), &["bsp", word], input);
+            assert_eq!(rt; left.status, 8, "{before}");
+            assert!(rt; left.out.is_empty(), "{before}");
+        }
+    }
+    Ok(())
+}
+
+// Takes all bytes but those of one write, which fails.
+#[derive(Drop)]
+struct Skipping<'a> {
+    taken: &'a mut Vec<u8>,
+    before: usize,
+}
+
+impl Write for Skipping<'_> {
+    fn write(&mut self, bytes: &[u8]) -> io::Result<usize> {
+        if self.before == 0 {
+            self.before = usize::MAX;
+            return Err(io::ErrorKind::Other.into());
+        }
+        self.before -= 1;
+        if self.taken.extend_from_slice(&bytes[..1]).is_err() {
+            return Err(io::ErrorKind::Other.into());
+        }
+        Ok(1)
+    }
+
+    fn flush(&mut self) -> io::Result<()> {
+        Ok(())
+    }
+}
+
+#[test]
+fn a_writer_that_fails_once_has_failed(rt: HostRuntime) -> Result<(), Fail> {
+    for (word, text) in [("trace", TRACE), ("check", SWAP), ("run", SWAP)] {
+        let whole = run_text(rt.alloc(), &["bsp", word], text);
+        for before in 0..whole.out.len() {
+            let mut taken = Vec::new(rt.alloc());
+            let mut errors = Vec::new(rt.alloc());
+            let mut reader = Reader::new(text.as_bytes());
+            let mut writer = Writer::new(Skipping {
+                taken: &mut taken,
+                before,
+            });
+            let mut error_writer = Writer::new(&mut errors);
+            let words = ["bsp", word];
+            let status = run(
+                rt.alloc(),
+                &words,
+                &mut reader,
+                &mut writer,
+                &mut error_writer,
+            );
+            assert_eq!(rt; status, 8, "{before}");
+            assert_eq!(rt; Some(taken.as_slice()), whole.out.get(..before), "{before}");
+        }
+    }
+    Ok(())
+}
+
+// A failing standard error leaves the statuses as they are.
+#[test]
+fn a_writer_of_errors_that_fails_leaves_each_status(rt: HostRuntime) -> Result<(), Fail> {
+    let rows: [(&[&str], usize, u8); 2] = [
+        (&["bsp", "walk"], usize::MAX, 5),
+        (&["bsp", "check"], 0, 8),
+    ];
+    for (words, room, want) in rows {
+        let mut taken = Vec::new(rt.alloc());
+        let mut out = Vec::new(rt.alloc());
+        let mut reader = Reader::new(Dripping {
+            rest: SWAP.as_bytes(),
+            room,
+        });
+        let mut writer = Writer::new(&mut out);
+        let mut error_writer = Writer::new(Filling {
+            taken: &mut taken,
+            room: 4,
+            fails: true,
+        });
+        let status = run(
+            rt.alloc(),
+            words,
+            &mut reader,
+            &mut writer,
+            &mut error_writer,
+        );
+        assert_eq!(rt; status, want);
+        assert_eq!(rt; taken.len(), 4);
+    }
+    Ok(())
+}

@@ -37,6 +37,7 @@ use Rattle.std.specs.Borrow.{Bor}
 use Rattle.std.specs.declared.alloc.Global.{Global}
 use Rattle.std.specs.List.{filter_map}
 use Rattle.std.specs.Str.{bytes_eq}
+pub use Rattle.text_lines.specs.Reading.{◌>>=◌, refused, at, unless_bad}
 use Rattle.text_lines.specs.declared.refusal.Code.{Code}
 use Rattle.text_lines.specs.declared.refusal.Code.TheVariants.{
   TooLong,
@@ -66,19 +67,6 @@ use Rattle.job_reader.specs.declared.outer.Outer.{Outer}
 use Rattle.job_reader.specs.declared.outer.Outer.TheVariants as outer
 use Rattle.job_reader.specs.Trees.{JobTree, array_names, body_names}
 use Rattle.job_reader.specs.Above.{Inside, Above, nothing, can_else, begun, statements_behind, grown, ended}
-
-infixl 10 ◌>>=◌
-abbrev pub ◌>>=◌ : {A B E : Type 0} → Result A E → (A → Result B E) → Result B E
-(Ok x) >>= f = f x
-(Err e) >>= f = Err e
-
--- a refusal of this line
-abbrev pub refused : {A : Type 0} → ℕ → Code → Result A Refusal
-refused line code = Err (record { line = line; code = code })
-
-abbrev pub at : {A : Type 0} → ℕ → Result A Code → Result A Refusal
-at line (Ok x) = Ok x
-at line (Err code) = refused line code
 
 -- the first line
 abbrev pub is_header : Words → Bool
@@ -271,10 +259,6 @@ read_from bodies line (l ∷ ls) =
     if is_skipped (words_of l) then read_from bodies (line + 1) ls
     else if is_header (words_of l) then read_lines bodies (line + 1) nothing ls
     else refused line BadHeader
-
-abbrev pub unless_bad : Option ℕ → Result JobTree Refusal → Result JobTree Refusal
-unless_bad None read = read
-unless_bad (Some line) read = refused line BadByte
 
 -- What a text says: its length is looked at first, then its bytes, then line by line.
 unfoldable pub job_in : List ℕ → Result JobTree Refusal

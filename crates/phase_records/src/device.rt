@@ -1,7 +1,7 @@
 //! Devices whose failures are counted, and texts read and written whole.
 ghost use Rattle.std.specs.Prelude.{◌≡◌, ℕ, ◌+◌, ◌≤◌, ◌<◌, List, Option, length, IfOk, IfSome, IsErrOf, OnOk, is_err};
 ghost use Rattle.std.specs.Io.KnownBytes.{ReadConsumes, Appends};
-ghost use Rattle.phase_records.specs.Device.{CountsFailure, TakesSome, AppendsBeginning, ReadCause};
+ghost use Rattle.phase_records.specs.Device.{CountsFailure, TakesSome, AppendsBeginning, ReadCause, BlamesReader};
 
 use crate::failures::Failures;
 use std::alloc::Global;
@@ -67,13 +67,8 @@ impl<R: Read> CountedRead for Reader<R> {
     ghost failures = { λ r. r.failures.count };
 
     fn read_some(&mut self, buffer: &mut [u8]) -> Result<usize, DeviceFailed> {
-        match self.inner.read(buffer) {
-            Ok(n) => Ok(n),
-            Err(_) => {
-                self.failures.note();
-                Err(DeviceFailed)
-            }
-        }
+        let answer = self.inner.read(buffer);
+        self.failures.told(answer)
     }
 }
 
@@ -103,13 +98,8 @@ impl<W: Write> CountedWrite for Writer<W> {
     ghost failures = { λ w. w.failures.count };
 
     fn write_some(&mut self, bytes: &[u8]) -> Result<usize, DeviceFailed> {
-        match self.inner.write(bytes) {
-            Ok(n) if n > 0 => Ok(n),
-            _ => {
-                self.failures.note();
-                Err(DeviceFailed)
-            }
-        }
+        let answer = self.inner.write(bytes);
+        self.failures.told_of_write(answer)
     }
 }
 
@@ -124,11 +114,39 @@ pub enum ReadFault {
     Memory,
 }
 
-/// Reads to the end of the reader.
+// Why a text is not read for which there is no memory: what is still to come is looked at as well, since that the text is
+// too long comes first. So many bytes may come.
+fn without_memory<R: CountedRead>(reader: &mut R, room: usize) -> ReadFault
+    requires { room ≤ MOST_BYTES }
+    ensures too_long { result ≡ ReadFault.TooLong → IfSome (R.remaining reader.old) (λ bytes. room < length bytes) }
+    ensures memory { result ≡ ReadFault.Memory → IfSome (R.remaining reader.old) (λ bytes. length bytes ≤ room) }
+    ensures failures { BlamesReader (R.failures reader.old) (R.failures reader.new) result }
+{
+    let mut buffer = [0u8; 8192];
+    let mut left = room;
+    for _ in 0..room + 1 {
+        let n = match reader.read_some(&mut buffer) {
+            Ok(n) => n,
+            Err(DeviceFailed) => return ReadFault::Read,
+        };
+        if n == 0 {
+            return ReadFault::Memory;
+        }
+        if left < n {
+            return ReadFault::TooLong;
+        }
+        left -= n;
+    }
+    ReadFault::TooLong
+}
+
+/// Reads to the end of the reader. A text over 1048576 bytes is refused by that, also where there is no memory for it;
+/// it makes at most 1048577 reads.
 pub fn read_all<R: CountedRead>(alloc: Global, reader: &mut R) -> Result<Vec<u8>, ReadFault>
     ensures text { IfOk result (λ text. IfSome (R.remaining reader.old) (λ bytes. text.items ≡ bytes)) }
     ensures short { IfOk result (λ text. length text.items ≤ MOST_BYTES) }
     ensures too_long { IsErrOf result ReadFault.TooLong → IfSome (R.remaining reader.old) (λ bytes. MOST_BYTES < length bytes) }
+    ensures memory { IsErrOf result ReadFault.Memory → IfSome (R.remaining reader.old) (λ bytes. length bytes ≤ MOST_BYTES) }
     ensures failures { ReadCause (R.failures reader.old) (R.failures reader.new) result }
 {
     let mut text = Vec::new(alloc);
@@ -145,7 +163,8 @@ pub fn read_all<R: CountedRead>(alloc: Global, reader: &mut R) -> Result<Vec<u8>
             return Err(ReadFault::TooLong);
         }
         if text.extend_from_slice(&buffer[..n]).is_err() {
-            return Err(ReadFault::Memory);
+            let room = MOST_BYTES - text.len() - n;
+            return Err(without_memory(reader, room));
         }
     }
     Err(ReadFault::TooLong)

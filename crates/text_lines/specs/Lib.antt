@@ -2,3 +2,4 @@ pub mod Text
 pub mod Number
 pub mod Refusals
 pub mod Laws
+pub mod Reading

@@ -2,8 +2,9 @@
 use Rattle.std.specs.Prelude.{ℕ, ◌+◌, Bool, false, not, ◌&&◌, ◌||◌, nat_lt, if◌then◌else◌, List, [], ◌∷◌, ◌++◌, length, Option, None, Some, Result, Ok, Err, codes}
 use Rattle.std.specs.Str.{bytes_eq}
 use Rattle.text_lines.specs.declared.refusal.Code.{Code}
-use Rattle.text_lines.specs.declared.refusal.Code.TheVariants.{TooLong, BadByte, BadHeader, TooMany}
+use Rattle.text_lines.specs.declared.refusal.Code.TheVariants.{TooLong, BadHeader, TooMany}
 use Rattle.text_lines.specs.declared.refusal.Refusal.{Refusal}
+pub use Rattle.text_lines.specs.Reading.{◌>>=◌, at, unless_bad}
 use Rattle.text_lines.specs.Text.{lines_of, words_of, is_skipped, bad_byte_line}
 use Rattle.trace_text.specs.declared.words.PhaserCommand.{PhaserCommand}
 use Rattle.trace_text.specs.declared.words.PhaserHead.{PhaserHead}
@@ -13,16 +14,6 @@ use Rattle.trace_text.specs.declared.barrier_words.BarrierHead.{BarrierHead}
 use Rattle.trace_text.specs.BarrierWords.{barrier_head_words, barrier_numbered, barrier_command_of}
 use Rattle.trace_text.specs.Words.{Word, head_words, numbered, command_of}
 use Rattle.trace_text.specs.TreeWords.{TreeAsked, tree_head_words, tree_numbered, tree_command_of, brings_token, made}
-
-infixl 10 ◌>>=◌
-abbrev pub ◌>>=◌ : {A B E : Type 0} → Result A E → (A → Result B E) → Result B E
-(Ok x) >>= f = f x
-(Err e) >>= f = Err e
-
--- a refusal of this line
-abbrev pub at : {A : Type 0} → ℕ → Result A Code → Result A Refusal
-at line (Ok x) = Ok x
-at line (Err code) = Err (record { line = line; code = code })
 
 -- what a head asks for: a phaser, a tree or a barrier
 pub data Head : Type 0 where
@@ -76,10 +67,6 @@ asked_from line [] = Err (record { line = line; code = BadHeader })
 asked_from line (l ∷ ls) =
     if is_skipped (words_of l) then asked_from (line + 1) ls
     else at line (head_of (words_of l)) >>= λ head. below head (line + 1) ls
-
-abbrev pub unless_bad : Option ℕ → Result Asked Refusal → Result Asked Refusal
-unless_bad None read = read
-unless_bad (Some line) read = Err (record { line = line; code = BadByte })
 
 -- What a text asks for: its length is looked at first, then its bytes, then line by line.
 unfoldable pub asked_of : List ℕ → Result Asked Refusal
