@@ -3,7 +3,7 @@ use Rattle.std.proofs.Common.{◌≡◌, true, refl}
 use Rattle.clap.specs.Words.{is_simple_and_free, is_simple}
 use Rattle.clap.proofs.OnLiterals.{clap_on_literals}
 use Rattle.bsp_cli.specs.CommandLine.{program}
-use Rattle.bsp_cli.specs.Laws.{EachNameAsks, EachNameHelps, EachNameRefuses}
+use Rattle.bsp_cli.specs.Laws.{EachNameAsks, EachNameHelps, EachNameRefuses, EachNameTellsVersion}
 
 pub free-program : is_simple_and_free program ≡ true
 unfolding clap_on_literals
@@ -49,4 +49,11 @@ words-help name = record {
   check_long = refl;
   run = refl;
   run_long = refl;
+}
+
+pub words-version : EachNameTellsVersion
+unfolding clap_on_literals
+words-version name = record {
+  long = refl;
+  short = refl;
 }

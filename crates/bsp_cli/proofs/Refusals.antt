@@ -45,7 +45,10 @@ among (x ∷ xs) k e (inr h) = among xs k (then-true (is_refusal x) (list_all is
 no-help : (k : ErrorKind) → is_refusal k ≡ true → k ≢ kinds.DisplayHelp
 no-help k e same = let bad : false ≡ true = subst (λ (y : ErrorKind). is_refusal y ≡ true) same e in cc
 
--- words that are refused aren't a call for help
-pub refused-kind : (ks : Kinds) (k : ErrorKind) → are_refused ks ≡ true → IsAmong k ks → k ≢ kinds.DisplayHelp
+no-version : (k : ErrorKind) → is_refusal k ≡ true → k ≢ kinds.DisplayVersion
+no-version k e same = let bad : false ≡ true = subst (λ (y : ErrorKind). is_refusal y ≡ true) same e in cc
+
+-- words that are refused are a call neither for help nor for the version
+pub refused-kind : (ks : Kinds) (k : ErrorKind) → are_refused ks ≡ true → IsAmong k ks → (k ≢ kinds.DisplayHelp) × (k ≢ kinds.DisplayVersion)
 refused-kind [] k e h = absurd h
-refused-kind (x ∷ xs) k e h = no-help k (among (x ∷ xs) k e h)
+refused-kind (x ∷ xs) k e h = let refusal : is_refusal k ≡ true = among (x ∷ xs) k e h in (no-help k refusal, no-version k refusal)

@@ -29,7 +29,7 @@ abbrev pub program : App
 program =
     with_subcommand
     (with_subcommand
-    (with_subcommand (record bare { top = record bare.top { subcommand_required = true } }) (new_app (codes "trace")).top)
+    (with_subcommand (record bare { top = record bare.top { subcommand_required = true; has_version = true } }) (new_app (codes "trace")).top)
     (new_app (codes "check")).top)
     run_app.top
 

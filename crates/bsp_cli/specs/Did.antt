@@ -46,9 +46,10 @@ pub record Did (a : Asked) (input old new : Option (List ℕ)) (told : List ℕ 
   pub memory : status ≡ 6 → RunsOut a input old new
   pub failed : status ≡ 8 → Keeps old new ⊎ IfSome input (λ bytes. Begins a bytes old new)
 
--- words that are refused: neither taken nor a call for help
+-- words that are refused: neither taken nor a call for help or for the version
 abbrev pub is_refusal : ErrorKind → Bool
 is_refusal kinds.DisplayHelp = false
+is_refusal kinds.DisplayVersion = false
 is_refusal kind = true
 
 abbrev pub are_refused : Kinds → Bool

@@ -2,7 +2,7 @@
 use Rattle.std.specs.Prelude.{◌≡◌, ℕ, true, List, [], ◌∷◌, codes}
 use Rattle.bsp_cli.specs.CommandLine.{asked_in, refused_by}
 use Rattle.bsp_cli.specs.Did.{are_refused}
-use Rattle.clap.specs.declared.error.kind.ErrorKind.TheVariants.{DisplayHelp}
+use Rattle.clap.specs.declared.error.kind.ErrorKind.TheVariants.{DisplayHelp, DisplayVersion}
 use Rattle.bsp_cli.specs.declared.asked.Asked.{Asked}
 use Rattle.bsp_cli.specs.declared.asked.Asked.TheVariants.{Trace, Check, Run}
 
@@ -47,6 +47,17 @@ pub record WordsAskForHelp (name : List ℕ) : Type 0 where
   pub check_long : AskForHelp (name ∷ codes "check" ∷ codes "--help" ∷ [])
   pub run : AskForHelp (name ∷ codes "run" ∷ codes "-h" ∷ [])
   pub run_long : AskForHelp (name ∷ codes "run" ∷ codes "--help" ∷ [])
+
+-- words that ask for the version
+abbrev pub AskForVersion : List (List ℕ) → Type 0
+AskForVersion words = refused_by words ≡ DisplayVersion ∷ []
+
+pub record WordsAskForVersion (name : List ℕ) : Type 0 where
+  pub long : AskForVersion (name ∷ codes "--version" ∷ [])
+  pub short : AskForVersion (name ∷ codes "-V" ∷ [])
+
+abbrev pub EachNameTellsVersion : Type 0
+EachNameTellsVersion = (name : List ℕ) → WordsAskForVersion name
 
 abbrev pub EachNameHelps : Type 0
 EachNameHelps = (name : List ℕ) → WordsAskForHelp name

@@ -19,6 +19,9 @@ pub enum Asked {
     Run(u32),
 }
 
+/// The version of the program, which `--version` prints.
+const VERSION: &str = "0.1.0";
+
 /// The most supersteps of a job, where no limit is given.
 const MOST_STEPS: u32 = 1_000_000;
 
@@ -95,6 +98,7 @@ pub(crate) fn parser<'a>(alloc: Global) -> Result<Command<'a>, Error>
     Ok(
         Command::new(alloc, "bsp")
             .about("Phasers and bulk-synchronous jobs, from standard input to standard output")
+            .version(VERSION)
             .subcommand_required(true)
             .subcommand(trace)?
             .subcommand(check)?

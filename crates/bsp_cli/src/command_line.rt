@@ -30,7 +30,7 @@ fn parse<'a, S: AsStr>(alloc: Global, words: &'a [S]) -> Result<Asked, Error>
     Ok(asked_for(&matches))
 }
 
-// What a command line that isn't taken gets: its help, or a refusal.
+// What a command line that isn't taken gets: help, the version, or a refusal.
 fn answer_error<W: CountedWrite, E: CountedWrite>(
     alloc: Global,
     writer: &mut W,
@@ -40,7 +40,8 @@ fn answer_error<W: CountedWrite, E: CountedWrite>(
     ensures status { (result ≡ 0) ⊎ (result ≡ COMMAND_LINE_REFUSED) ⊎ (result ≡ OUT_OF_MEMORY) ⊎ (result ≡ DEVICE_FAILED) }
     ensures memory { kind_of error.now ≡ kinds.OutOfMemory → result ≡ OUT_OF_MEMORY }
     ensures help { kind_of error.now ≡ kinds.DisplayHelp → result ≢ COMMAND_LINE_REFUSED }
-    ensures refuses { kind_of error.now ≢ kinds.DisplayHelp → (result ≡ COMMAND_LINE_REFUSED) ⊎ (result ≡ OUT_OF_MEMORY) }
+    ensures version { kind_of error.now ≡ kinds.DisplayVersion → result ≢ COMMAND_LINE_REFUSED }
+    ensures refuses { kind_of error.now ≢ kinds.DisplayHelp → kind_of error.now ≢ kinds.DisplayVersion → (result ≡ COMMAND_LINE_REFUSED) ⊎ (result ≡ OUT_OF_MEMORY) }
     ensures silent { result ≡ 0 → errors.new ≡ errors.old }
     ensures refused { result ≡ COMMAND_LINE_REFUSED → writer.new ≡ writer.old }
     ensures out { result ≡ OUT_OF_MEMORY → writer.new ≡ writer.old }
@@ -54,7 +55,7 @@ fn answer_error<W: CountedWrite, E: CountedWrite>(
     ensures worked { result ≢ DEVICE_FAILED → W.failures writer.new ≡ W.failures writer.old }
 {
     match error.kind() {
-        ErrorKind::DisplayHelp => match error.to_string(alloc) {
+        ErrorKind::DisplayHelp | ErrorKind::DisplayVersion => match error.to_string(alloc) {
             Ok(text) => match write_all(writer, text.as_bytes()) {
                 Ok(()) => 0,
                 Err(_) => tell(errors, CommandFault::Write),
@@ -137,6 +138,8 @@ pub fn run<'a, S: AsStr, R: CountedRead, W: CountedWrite, E: CountedWrite>(
         (Tells (E.contents errors.old) (E.contents errors.new) (E.failures errors.old) (E.failures errors.new)) result }
     ensures taken { refused_by (map S.text words.entry.now) ≡ [] → result ≢ COMMAND_LINE_REFUSED }
     ensures helps { refused_by (map S.text words.entry.now) ≡ kinds.DisplayHelp ∷ []
+        → (reader.new ≡ reader.old) × ((result ≡ 0) ⊎ (result ≡ OUT_OF_MEMORY) ⊎ (result ≡ DEVICE_FAILED)) }
+    ensures tells_version { refused_by (map S.text words.entry.now) ≡ kinds.DisplayVersion ∷ []
         → (reader.new ≡ reader.old) × ((result ≡ 0) ⊎ (result ≡ OUT_OF_MEMORY) ⊎ (result ≡ DEVICE_FAILED)) }
     ensures refuses { are_refused (refused_by (map S.text words.entry.now)) ≡ true
         → (result ≡ COMMAND_LINE_REFUSED) ⊎ (result ≡ OUT_OF_MEMORY) }

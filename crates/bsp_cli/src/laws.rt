@@ -1,5 +1,5 @@
 //! Laws on the words of a command line. Each function does nothing: its contract is the law.
-ghost use Rattle.bsp_cli.specs.Laws.{EachNameAsks, EachNameHelps, EachNameRefuses};
+ghost use Rattle.bsp_cli.specs.Laws.{EachNameAsks, EachNameHelps, EachNameRefuses, EachNameTellsVersion};
 
 /// Which words ask for what: `trace`, `check`, and `run` with its limits, behind any name of the program.
 pub fn words_ask()
@@ -15,4 +15,9 @@ pub fn words_are_refused()
 /// Words that ask for help: `--help` and `-h`, alone and behind each subcommand.
 pub fn words_help()
     ensures { EachNameHelps }
+{}
+
+/// Words that ask for the version: `--version` and `-V`.
+pub fn words_tell_the_version()
+    ensures { EachNameTellsVersion }
 {}

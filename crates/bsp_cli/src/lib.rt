@@ -6,11 +6,13 @@ mod command_line;
 mod fault;
 mod job;
 mod laws;
+mod program;
 mod trace;
 
 pub use asked::Asked;
 pub use command_line::run;
-pub use laws::{words_are_refused, words_ask, words_help};
+pub use laws::{words_are_refused, words_ask, words_help, words_tell_the_version};
+pub use program::run_program;
 
 /// Statuses that the program ends with (own); 0 is for what was done.
 pub mod status {

@@ -14,9 +14,12 @@ returns-clause-app c =
     let run_is : app_of c.in_ok-run.run' ≡ run_app =
     c.in_ok-run.ensures.shape c.limit_option.ensures.local
     ∙ ap₂ with_rule (ap app_of_fields c.after_help.ensures ∙ (ap app_of_fields c.about-3.ensures ∙ c.new-3.ensures.app)) c.limit_option.ensures.rule in
-    let bare_is : app_of c.subcommand_required.result ≡ record bare { top = record bare.top { subcommand_required = true } } =
+    let versioned : app_of c.version.result ≡ record bare { top = record bare.top { has_version = true } } =
+    ap app_of_fields c.version.ensures
+    ∙ ap (λ (a : App). record a { top = record a.top { has_version = true } }) (ap app_of_fields c.about-4.ensures ∙ c.new-4.ensures.app) in
+    let bare_is : app_of c.subcommand_required.result ≡ record bare { top = record bare.top { subcommand_required = true; has_version = true } } =
     ap app_of_fields c.subcommand_required.ensures
-    ∙ ap (λ (a : App). record a { top = record a.top { subcommand_required = true } }) (ap app_of_fields c.about-4.ensures ∙ c.new-4.ensures.app) in
+    ∙ ap (λ (a : App). record a { top = record a.top { subcommand_required = true } }) versioned in
     let first = c.in_ok-subcommand.ensures.shape (rw c.after_help-trace.ensures (rw c.about.ensures c.new.ensures.local))
     ∙ ap₂ with_subcommand bare_is (ap top trace_is) in
     let second = c.in_ok-subcommand-2.ensures.shape (rw c.after_help-check.ensures (rw c.about-2.ensures c.new-2.ensures.local))

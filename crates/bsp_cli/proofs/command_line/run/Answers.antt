@@ -17,5 +17,5 @@ pub returns-in-Err-clause-refuses : goal.returns-in-Err-clause-refuses
 returns-in-Err-clause-refuses g c = λ refused.
     elim c.in-Err.ensures.err [
       | inl memory ↦ inr (c.answer_error.ensures.memory memory)
-      | inr among ↦ c.answer_error.ensures.refuses (refused-kind _ _ refused among)
+      | inr among ↦ let kind = refused-kind _ _ refused among in c.answer_error.ensures.refuses kind.0 kind.1
     ]

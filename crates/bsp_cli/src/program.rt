@@ -1,0 +1,53 @@
+//! The program, from the words that the system hands over to its status.
+ghost use Rattle.std.specs.Prelude.{◌≡◌, ◌≢◌, ◌≤◌, ◌⊎◌, codes};
+ghost use Rattle.bsp_cli.specs.Texts.{Tells};
+
+use crate::command_line::run;
+use crate::status::{COMMAND_LINE_REFUSED, DEVICE_FAILED, OUT_OF_MEMORY};
+use phase_records::{CountedWrite, Reader, write_all};
+use std::io::Input;
+use std::{env, io};
+
+// Ends before the words of the command line could be looked at.
+fn stopped<E: CountedWrite>(errors: &mut E, kind: io::ErrorKind) -> u8
+    ensures status { (result ≡ COMMAND_LINE_REFUSED) ⊎ (result ≡ OUT_OF_MEMORY) }
+    ensures tells_refused_command_line { result ≡ COMMAND_LINE_REFUSED
+        → Tells (E.contents errors.old) (E.contents errors.new) (E.failures errors.old) (E.failures errors.new) (codes "command line refused\n") }
+    ensures tells_memory { result ≡ OUT_OF_MEMORY
+        → Tells (E.contents errors.old) (E.contents errors.new) (E.failures errors.old) (E.failures errors.new) (codes "out of memory\n") }
+{
+    if kind == io::ErrorKind::OutOfMemory {
+        let _ = write_all(errors, b"out of memory\n");
+        return OUT_OF_MEMORY;
+    }
+    let _ = write_all(errors, b"command line refused\n");
+    COMMAND_LINE_REFUSED
+}
+
+/// Does what the command line of this process asks for, as [`run`] says: reads standard input, prints to `writer`, tells
+/// what went wrong to `errors`, and answers the status that the process ends with. Words that aren't text are refused.
+pub fn run_program<T: env::Env + AllocGlobal + Input, W: CountedWrite, E: CountedWrite>(
+    rt: &T,
+    writer: &mut W,
+    errors: &mut E,
+) -> u8
+    ensures status { (result ≤ 6) ⊎ (result ≡ DEVICE_FAILED) }
+    ensures silent { result ≤ 3 → errors.new ≡ errors.old }
+    ensures command_line_refused { result ≡ COMMAND_LINE_REFUSED → writer.new ≡ writer.old }
+    ensures tells_refused_command_line { result ≡ COMMAND_LINE_REFUSED
+        → Tells (E.contents errors.old) (E.contents errors.new) (E.failures errors.old) (E.failures errors.new) (codes "command line refused\n") }
+    ensures tells_memory { result ≡ OUT_OF_MEMORY
+        → Tells (E.contents errors.old) (E.contents errors.new) (E.failures errors.old) (E.failures errors.new) (codes "out of memory\n") }
+    ensures tells_failure { result ≡ DEVICE_FAILED
+        → Tells (E.contents errors.old) (E.contents errors.new) (E.failures errors.old) (E.failures errors.new) (codes "read or write failed\n") }
+{
+    let words = match env::args(rt) {
+        Ok(words) => words,
+        Err(error) => return stopped(errors, error.kind()),
+    };
+    let Ok(words) = words.collect::<Vec<String>>(rt.alloc()) else {
+        return stopped(errors, io::ErrorKind::OutOfMemory);
+    };
+    let mut reader = Reader::new(rt.reader());
+    run(rt.alloc(), words.as_slice(), &mut reader, writer, errors)
+}
