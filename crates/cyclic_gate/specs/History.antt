@@ -1,5 +1,5 @@
 -- The history of a barrier's calls (own).
-use Rattle.std.specs.Prelude.{◌≡◌, ℕ, Bool, true, false, List, [], ◌∷◌, Option}
+use Rattle.std.specs.Prelude.{◌≡◌, ℕ, List, [], ◌∷◌, Option}
 use Rattle.cyclic_gate.specs.Machine.{Machine}
 use Rattle.cyclic_gate.specs.Steps.{Answer, Waiting, Trips, Fails, IsBroken, Breaks, Already, Absent, answer, after}
 use Rattle.cyclic_gate.specs.Outcomes.{end_or}
@@ -17,16 +17,6 @@ outcome_of IsBroken = GoesOn
 outcome_of (Breaks callers) = Broken
 outcome_of Already = GoesOn
 outcome_of Absent = GoesOn
-
--- whether a call with this answer is noted: the others change nothing
-abbrev pub is_noted : Answer → Bool
-is_noted (Waiting index) = true
-is_noted (Trips all) = true
-is_noted (Fails others) = true
-is_noted IsBroken = false
-is_noted (Breaks callers) = true
-is_noted Already = false
-is_noted Absent = false
 
 abbrev pub note : Call → Answer → Note
 note call a = record { call = call; outcome = outcome_of a }

@@ -1,9 +1,9 @@
 -- A barrier beside the history of its calls (own).
 use Rattle.std.specs.Prelude.{◌≡◌, ℕ, true, ◌||◌, nat_lt, if◌then◌else◌, List, [], ◌∷◌, ◌++◌, Option}
 use Rattle.cyclic_gate.specs.Machine.{Machine, fresh}
-use Rattle.cyclic_gate.specs.Steps.{answer, after}
+use Rattle.cyclic_gate.specs.Steps.{answer, after, is_change}
 use Rattle.cyclic_gate.specs.Runs.{after_all}
-use Rattle.cyclic_gate.specs.History.{is_noted, note, calls_of, AreRight}
+use Rattle.cyclic_gate.specs.History.{note, calls_of, AreRight}
 use Rattle.cyclic_gate.specs.declared.call.Call.{Call}
 use Rattle.cyclic_gate.specs.declared.ledger.Note.{Note}
 
@@ -29,4 +29,4 @@ HasPlace barrier len room = (barrier.broken || nat_lt len room) ≡ true
 abbrev pub booked : Call → Book → Book
 booked call b =
     book b.fails (after b.fails call b.barrier)
-    (if is_noted (answer b.fails call b.barrier) then b.history ++ note call (answer b.fails call b.barrier) ∷ [] else b.history)
+    (if is_change (answer b.fails call b.barrier) then b.history ++ note call (answer b.fails call b.barrier) ∷ [] else b.history)

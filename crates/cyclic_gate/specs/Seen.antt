@@ -2,7 +2,7 @@
 use Rattle.std.specs.Prelude.{◌≡◌, ℕ, Bool, true, false, Option}
 use Rattle.advance_rule.specs.Stored.{Stored}
 use Rattle.cyclic_gate.specs.Machine.{Machine}
-use Rattle.cyclic_gate.specs.Steps.{Answer, Waiting, Trips, Fails, IsBroken, Already, Absent}
+use Rattle.cyclic_gate.specs.Steps.{Answer, Waiting, Trips, Fails, IsBroken, Already, Absent, is_change}
 use Rattle.cyclic_gate.specs.declared.call.Awaited.{Awaited}
 use Rattle.cyclic_gate.specs.declared.call.Awaited.TheVariants.{Waits, Tripped, ActionFailed, Broken}
 use Rattle.cyclic_gate.specs.declared.call.BarrierFault.{BarrierFault}
@@ -27,11 +27,11 @@ answer_of (Tripped all) = Trips all.items
 answer_of (ActionFailed others) = Fails others.items
 answer_of Broken = IsBroken
 
--- a fault of a call is the refusal that the machine answers; want of memory is no answer of the machine
+-- A fault of a call is the refusal that the machine answers. Memory may run out only in a call that would change something.
 abbrev pub IsRefusal : BarrierFault → Answer → Type 0
 IsRefusal AlreadyWaiting a = a ≡ Already
 IsRefusal NotWaiting a = a ≡ Absent
-IsRefusal Memory a = Unit {0}
+IsRefusal Memory a = is_change a ≡ true
 IsRefusal NoParty a = ⊥
 IsRefusal TooMany a = ⊥
 
@@ -54,4 +54,4 @@ GivesNoTurn gate.Broken a = Unit {0}
 GivesNoTurn gate.ActionFailed (Fails others) = Unit {0}
 GivesNoTurn gate.ActionFailed _ = ⊥
 GivesNoTurn gate.AlreadyWaiting a = a ≡ Already
-GivesNoTurn gate.Memory a = Unit {0}
+GivesNoTurn gate.Memory a = is_change a ≡ true

@@ -16,6 +16,16 @@ pub data Answer : Type 0 where
   Already : Answer
   Absent : Answer
 
+-- whether a call with this answer changes the barrier
+abbrev pub is_change : Answer → Bool
+is_change (Waiting index) = true
+is_change (Trips all) = true
+is_change (Fails others) = true
+is_change IsBroken = false
+is_change (Breaks callers) = true
+is_change Already = false
+is_change Absent = false
+
 abbrev pub is_in : ℕ → List ℕ → Bool
 is_in caller callers = list_any (λ x. eqb x caller) callers
 

@@ -2,10 +2,10 @@
 ghost use Rattle.std.specs.Prelude.{◌≡◌, ◌⊎◌, ◌↔◌, ◌<◌, ◌≤◌, if◌then◌else◌, true, false, [], drop, length, ◌<ℤ◌, pos, IfOk, IfErr, IsTrue, MatchOption, MatchResult};
 ghost use Rattle.advance_rule.specs.Action.{AnswersAction};
 ghost use Rattle.cyclic_gate.specs.Machine.{fresh};
-ghost use Rattle.cyclic_gate.specs.Steps.{answer, after, Absent, Breaks};
+ghost use Rattle.cyclic_gate.specs.Steps.{answer, after, is_change, Absent, Breaks};
 ghost use Rattle.cyclic_gate.specs.Runs.{AfterSome};
 ghost use Rattle.cyclic_gate.specs.Seen.{answer_of, IsRefusal, Ran};
-ghost use Rattle.cyclic_gate.specs.History.{first_end, is_noted, outcome_of};
+ghost use Rattle.cyclic_gate.specs.History.{first_end, outcome_of};
 ghost use Rattle.cyclic_gate.specs.Ledger.{Book, book, booked};
 ghost use Rattle.cyclic_gate.specs.declared.call.Call.TheVariants.{Await, Abandon, BreakOff, Reset};
 
@@ -61,8 +61,8 @@ impl Awaited {
     // What the arrival did to the generation; nothing is to be noted where the barrier was broken before.
     fn outcome(&self) -> Option<Outcome>
         ensures { MatchOption result
-            (is_noted (answer_of self.now) ≡ false)
-            (λ o. (is_noted (answer_of self.now) ≡ true) × (o ≡ outcome_of (answer_of self.now))) }
+            (is_change (answer_of self.now) ≡ false)
+            (λ o. (is_change (answer_of self.now) ≡ true) × (o ≡ outcome_of (answer_of self.now))) }
     {
         match self {
             Awaited::Waits(_) => Some(Outcome::GoesOn),
@@ -156,6 +156,9 @@ impl Ledger {
         if self.state.is_broken() {
             return Ok(Awaited::Broken);
         }
+        if self.state.is_waiting(caller) {
+            return Err(BarrierFault::AlreadyWaiting);
+        }
         match self.history.reserve(2) {
             Ok(()) => {}
             Err(_) => return Err(BarrierFault::Memory),
@@ -182,6 +185,9 @@ impl Ledger {
             (λ e. IsRefusal e (answer self.old.fails (Abandon caller) self.old.barrier)) }
         ensures book { MatchResult result (λ l. self.new ≡ booked (Abandon caller) self.old) (λ e. self.new ≡ self.old) }
     {
+        if !self.state.is_waiting(caller) {
+            return Err(BarrierFault::NotWaiting);
+        }
         match self.history.reserve(2) {
             Ok(()) => {}
             Err(_) => return Err(BarrierFault::Memory),

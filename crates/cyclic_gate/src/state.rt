@@ -121,8 +121,8 @@ impl BarrierState {
         self.broken
     }
 
-    // Whether this caller waits.
-    fn is_waiting(&self, caller: u32) -> bool
+    /// Whether this caller waits.
+    pub fn is_waiting(&self, caller: u32) -> bool
         ensures { result ≡ is_in caller self.now.waiting }
     {
         self.callers.contains(&caller)
