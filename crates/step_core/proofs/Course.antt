@@ -15,7 +15,7 @@ use Rattle.task_lang.specs.declared.job.Start.{Start}
 use Rattle.task_lang.specs.Views.{task_of}
 use Rattle.step_core.specs.DeedValue.{DeedValue}
 use Rattle.step_core.specs.Program.{Program}
-use Rattle.step_core.specs.PathOrder.{in_path_order}
+use Rattle.superstep_memory.specs.PathOrder.{in_path_order}
 use Rattle.step_core.specs.SlotParts.{path_in}
 use Rattle.step_core.specs.Superstep.{State, superstep, closed, ended_by, gone_on, first_fault, next_live, living_on, log_of, prints_of, record_of, live_paths}
 use Rattle.step_core.specs.JobMeaning.{so_far, status, status_of, start_tasks, told, report_of}

@@ -5,7 +5,7 @@ use Rattle.std.proofs.lemmas.List.{length-map, length-append}
 use Rattle.superstep_memory.specs.Paths.{path_lt, is_rising}
 use Rattle.superstep_memory.proofs.PathOrder.{rising_rest, lt_asym}
 use Rattle.task_lang.proofs.AllSegments.{numbers-its-spawns}
-use Rattle.step_core.specs.PathOrder.{put_in, in_path_order}
+use Rattle.superstep_memory.specs.PathOrder.{put_in, in_path_order}
 use Rattle.step_core.specs.SlotParts.{path_in}
 use Rattle.superstep_memory.specs.declared.arrays.Put.{Put}
 use Rattle.superstep_memory.specs.Landing.{joined}
@@ -294,18 +294,3 @@ all_stay (u ∷ us) (d ∷ ds) l a b =
     no_spawns : (ts : List TaskValue) → length ts ≡ 0 → ts ≡ []
     no_spawns [] h = refl
     no_spawns (t ∷ ts) h = absurd (omega arith)
-
-not_before : (t u : TaskValue) → path_lt t.path u.path ≡ true → path_lt u.path t.path ≡ false
-not_before t u h = lt_asym t.path u.path h
-
--- what rises stands in path order
-pub rising_stays : (ts : List TaskValue) → is_rising (map path_in ts) ≡ true → in_path_order path_in ts ≡ ts
-rising_stays [] h = refl
-rising_stays (t ∷ []) h = refl
-rising_stays (t ∷ u ∷ ts) h =
-    ap (put_in path_in t) (rising_stays (u ∷ ts) (rising_rest t.path (map path_in (u ∷ ts)) h))
-    ∙ ap (λ b. if b then u ∷ put_in path_in t ts else t ∷ u ∷ ts) (not_before t u (first (path_lt t.path u.path) h))
-  where
-    first : (b : Bool) → (b && is_rising (u.path ∷ map path_in ts)) ≡ true → b ≡ true
-    first true e = refl
-    first false e = cc

@@ -5,7 +5,7 @@ ghost use Rattle.superstep_memory.specs.Paths.{is_rising};
 ghost use Rattle.phase_records.specs.StatusSeen.{status_seen};
 ghost use Rattle.task_lang.specs.Views.{plans, task_of};
 ghost use Rattle.step_core.specs.Program.{program_of};
-ghost use Rattle.step_core.specs.PathOrder.{in_path_order};
+ghost use Rattle.superstep_memory.specs.PathOrder.{in_path_order};
 ghost use Rattle.step_core.specs.SlotParts.{path_in};
 ghost use Rattle.step_core.specs.InPlace.{living_with, left_in, spawned_in};
 ghost use Rattle.step_core.specs.JobMeaning.{start_tasks, opening, report_of};

@@ -73,10 +73,3 @@ landed_one p ps xs = arrays_hit p ps 0 p.array xs (omega arith)
 pub landed_written : (ps qs : List Put) (xs : List (List ℕ × List ℤ)) → landed (ps ++ qs) xs ≡ landed qs (written ps xs)
 landed_written [] qs xs = refl
 landed_written (p ∷ ps) qs xs = landed_one p (ps ++ qs) xs ∙ landed_written ps qs (with_cell xs p)
-
-pub land_first : (e : SmallVec ℕ × Vec Put Global) (es : List (SmallVec ℕ × Vec Put Global)) (a b : List (List ℕ × List ℤ)) → b ≡ written e.1.items a → landed (joined (logs (e ∷ es))) a ≡ landed (joined (logs es)) b
-land_first e es a b h = landed_written e.1.items (joined (logs es)) a ∙ ap (λ x. landed (joined (logs es)) x) (sym h)
-
-pub land_last : (es : List (SmallVec ℕ × Vec Put Global)) (a : List (List ℕ × List ℤ)) → length es ≡ 0 → landed (joined (logs es)) a ≡ a
-land_last [] a h = landed_none a
-land_last (e ∷ es) a h = absurd (omega arith)
