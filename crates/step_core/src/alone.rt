@@ -12,7 +12,7 @@ ghost use Rattle.step_core.specs.JobMeaning.{start_tasks, opening, report_of};
 ghost use Rattle.step_core.specs.Course.{course_state, HasTakenOne, left_by};
 
 use crate::closing::too_many;
-use crate::in_place::{Deed, do_all, record_deeds};
+use crate::in_place::{Deed, StepScene, do_all, record_deeds};
 use crate::next::regroup;
 use crate::slot::Blame;
 use phase_records::{JobStatus, PhaseRecord, Print, Report};
@@ -140,11 +140,14 @@ fn take_superstep(
     let printed = course.prints.len();
     room.work.puts.clear();
     room.deeds.clear();
+    let scene = StepScene {
+        job,
+        arrays: &course.arrays,
+        step: course.step,
+    };
     let fault = do_all(
         alloc,
-        job,
-        &course.arrays,
-        course.step,
+        &scene,
         &mut course.tasks,
         &mut room.work,
         &mut room.deeds,
