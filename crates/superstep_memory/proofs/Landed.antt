@@ -1,13 +1,9 @@
 -- Landing at once is writing one put after another.
-use Rattle.std.proofs.Common.{◌≡◌, ℕ, zero, suc, ◌+◌, ◌<◌, ◌≤◌, Bool, true, false, ◌==◌, ◌&&◌, List, [], ◌∷◌, ◌++◌, length, Option, Some, None, slice_set, refl, sym, ap, ◌∙◌, subst, arith}
+use Rattle.std.proofs.Common.{◌≡◌, ℕ, zero, suc, ◌+◌, ◌<◌, ◌≤◌, Bool, true, false, ◌==◌, ◌&&◌, List, [], ◌∷◌, ◌++◌, Option, Some, None, slice_set, refl, sym, ap, ◌∙◌, subst, arith}
 use Rattle.std.specs.Prelude.{ℤ, if◌then◌else◌, unwrap_or}
 use Rattle.superstep_memory.specs.declared.arrays.Put.{Put}
 use Rattle.superstep_memory.specs.Cells.{with_place, with_cell}
-use Rattle.std.specs.Prelude.{Vec}
-use Rattle.std.specs.declared.alloc.Global.{Global}
-use Rattle.smallvec.specs.SmallVec.{SmallVec}
-use Rattle.superstep_memory.specs.Logs.{logs}
-use Rattle.superstep_memory.specs.Landing.{joined, or_else, hit, last_put, landed_cells, landed_from, landed, written}
+use Rattle.superstep_memory.specs.Landing.{or_else, hit, last_put, landed_cells, landed_from, landed, written}
 
 -- one cell, with the put in front of the others
 one_hit : (o : Option ℤ) (b : Bool) (x v : ℤ) → unwrap_or (or_else o (if b then Some x else None)) v ≡ unwrap_or o (if b then x else v)

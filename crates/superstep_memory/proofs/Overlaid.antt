@@ -1,12 +1,12 @@
 -- The last put so far, noted for each cell and then written, is landing.
-use Rattle.std.proofs.Common.{◌≡◌, ℕ, zero, suc, ◌+◌, ◌<◌, ◌≤◌, List, [], ◌∷◌, ◌++◌, length, Option, Some, None, slice_set, slice_get, get_or, drop, append_assoc, refl, sym, ap, ◌∙◌, subst, arith}
+use Rattle.std.proofs.Common.{◌≡◌, ℕ, zero, suc, ◌+◌, ◌<◌, ◌≤◌, List, [], ◌∷◌, ◌++◌, length, Option, Some, None, slice_set, slice_get, get_or, drop, append_assoc, refl, sym, ap, ◌∙◌, arith}
 use Rattle.std.specs.Prelude.{ℤ, unwrap_or, replicate}
 use Rattle.std.proofs.lemmas.List.{length-set}
 use Rattle.superstep_memory.specs.declared.arrays.Put.{Put}
-use Rattle.superstep_memory.specs.Cells.{with_place, with_cell}
-use Rattle.superstep_memory.specs.Landing.{joined, landed, written}
+use Rattle.superstep_memory.specs.Cells.{with_place}
+use Rattle.superstep_memory.specs.Landing.{landed, written}
 use Rattle.superstep_memory.specs.Latest.{blank, with_mark, noted, noted_all, cells_over, over, HasShape, over_at, with_one}
-use Rattle.superstep_memory.proofs.Landed.{landed_one, landed_none, landed_written}
+use Rattle.superstep_memory.proofs.Landed.{landed_none, landed_written}
 
 blank_cells : (vs : List ℤ) → cells_over (replicate (length vs) None) vs ≡ vs
 blank_cells [] = refl

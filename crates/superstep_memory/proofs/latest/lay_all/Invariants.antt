@@ -1,4 +1,4 @@
-use Rattle.std.proofs.Common.{◌≡◌, ◌≤◌, ◌+◌, ◌^◌, length}
+use Rattle.std.proofs.Common.{◌≡◌, ◌+◌, length}
 use Rattle.superstep_memory.specs.Latest.{over}
 use Rattle.superstep_memory.proofs.Overlaid.{rest_over}
 use Rattle.superstep_memory.proofs.latest.lay_all.Given as goal

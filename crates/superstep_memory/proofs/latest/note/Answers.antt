@@ -1,4 +1,4 @@
-use Rattle.std.proofs.Common.{◌∙◌, sym, ap, arith}
+use Rattle.std.proofs.Common.{◌∙◌, ap, arith}
 use Rattle.std.proofs.lemmas.Int.{ints}
 use Rattle.superstep_memory.specs.Latest.{with_mark}
 use Rattle.superstep_memory.proofs.Overlaid.{mark_there, no_mark}
