@@ -1,5 +1,4 @@
 use Rattle.std.proofs.Common.{◌∙◌, sym, ap}
-use Rattle.task_lang.specs.TaskValue.{TaskValue}
 use Rattle.superstep_memory.specs.PathOrder.{in_path_order}
 use Rattle.step_core.specs.SlotParts.{path_in}
 use Rattle.superstep_memory.proofs.Merged.{rising_stays}

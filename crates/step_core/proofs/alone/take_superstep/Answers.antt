@@ -6,7 +6,7 @@ use Rattle.step_core.specs.Program.{program_of}
 use Rattle.step_core.specs.Superstep.{ended_by}
 use Rattle.step_core.specs.Course.{course_state}
 use Rattle.step_core.specs.InPlace.{AllFew, told_in}
-use Rattle.step_core.proofs.Course.{by_fault, by_many, by_landing, cut_off, did, fits}
+use Rattle.step_core.proofs.Course.{by_many, by_landing, cut_off, did, fits}
 use Rattle.step_core.proofs.alone.take_superstep.Goals as goal
 
 pub record_deeds-told-requires-clause-few : goal.record_deeds-told-requires-clause-few

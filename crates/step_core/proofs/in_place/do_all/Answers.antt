@@ -1,4 +1,4 @@
-use Rattle.std.proofs.Common.{◌∙◌, ap, sym, subst, Option, Some, None, ℕ, ◌<◌, List, length, arith}
+use Rattle.std.proofs.Common.{subst, Option, ℕ, ◌<◌, List, length, arith}
 use Rattle.task_lang.specs.Meaning.{segment_of}
 use Rattle.task_lang.specs.Views.{plans, task_of}
 use Rattle.step_core.specs.Program.{program_of}

@@ -1,7 +1,5 @@
 use Rattle.std.proofs.Common.{◌-◌, length}
-use Rattle.task_lang.specs.Views.{plans}
 use Rattle.step_core.specs.Program.{program_of}
-use Rattle.step_core.specs.InPlace.{deeds_of}
 use Rattle.step_core.proofs.InPlace.{IsUnderWay}
 use Rattle.step_core.proofs.in_place.do_all.Given as goal
 

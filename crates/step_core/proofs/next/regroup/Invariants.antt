@@ -1,4 +1,4 @@
-use Rattle.std.proofs.Common.{◌≡◌, ◌≤◌, ◌+◌, ◌++◌, length, reverse}
+use Rattle.std.proofs.Common.{◌≡◌, ◌++◌, length, reverse}
 use Rattle.superstep_memory.specs.PathOrder.{in_path_order}
 use Rattle.step_core.specs.SlotParts.{path_in}
 use Rattle.step_core.specs.InPlace.{living_with}
