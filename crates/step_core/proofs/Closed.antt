@@ -11,7 +11,7 @@ use Rattle.task_lang.specs.Meaning.{Plan, Task, Segment, segment_of}
 use Rattle.task_lang.specs.Views.{plans, task_of, meant}
 use Rattle.task_lang.proofs.AllSegments.{numbers-its-spawns}
 use Rattle.step_core.specs.Program.{Program, program_of}
-use Rattle.step_core.specs.PathOrder.{in_path_order}
+use Rattle.superstep_memory.specs.PathOrder.{in_path_order}
 use Rattle.step_core.specs.Superstep.{State, superstep, closed, closed_by, ended_by, gone_on, segments, first_fault, next_live, log_of, prints_of, record_of}
 use Rattle.smallvec.specs.SmallVec.{SmallVec}
 use Rattle.task_lang.specs.JobValue.{JobValue}

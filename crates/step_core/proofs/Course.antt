@@ -1,6 +1,6 @@
 -- One superstep of a job on one thread.
 use Rattle.std.proofs.Common.{◌≡◌, ◌==◌, ℕ, suc, ◌+◌, ◌≤◌, ◌<◌, Bool, true, false, nat_lt, nat_le, List, [], ◌∷◌, ◌++◌, map, length, take, Option, Some, None, refl, sym, ap, ◌∙◌, subst, arith, append-nil}
-use Rattle.std.specs.Prelude.{ℤ, if◌then◌else◌}
+use Rattle.std.specs.Prelude.{if◌then◌else◌}
 use Rattle.std.proofs.lemmas.List.{length-map}
 use Rattle.superstep_memory.specs.declared.arrays.Put.{Put}
 use Rattle.superstep_memory.specs.Landing.{landed, joined, written}
@@ -15,9 +15,9 @@ use Rattle.task_lang.specs.declared.job.Start.{Start}
 use Rattle.task_lang.specs.Views.{task_of}
 use Rattle.step_core.specs.DeedValue.{DeedValue}
 use Rattle.step_core.specs.Program.{Program}
-use Rattle.step_core.specs.PathOrder.{in_path_order}
+use Rattle.superstep_memory.specs.PathOrder.{in_path_order}
 use Rattle.step_core.specs.SlotParts.{path_in}
-use Rattle.step_core.specs.Superstep.{State, superstep, closed, ended_by, gone_on, first_fault, next_live, living_on, log_of, prints_of, record_of, live_paths}
+use Rattle.step_core.specs.Superstep.{State, superstep, closed, ended_by, gone_on, first_fault, next_live, log_of, prints_of, record_of, live_paths}
 use Rattle.step_core.specs.JobMeaning.{so_far, status, status_of, start_tasks, told, report_of}
 use Rattle.step_core.specs.InPlace.{AllDone, deeds_of, IsAllDone, Told, living_with, left_in, spawned_in, AllFew, told_in}
 use Rattle.step_core.specs.Course.{course_state, HasFaulted, HasGone, left_by}

@@ -1,11 +1,8 @@
 -- What live tasks did in their places.
-use Rattle.std.proofs.Common.{◌≡◌, ℕ, zero, suc, ◌+◌, ◌≤◌, ◌<◌, Bool, true, false, List, [], ◌∷◌, ◌++◌, map, length, Option, Some, None, slice_get, slice_set, get_or, refl, sym, ap, ◌∙◌, subst, arith, append_assoc, append-nil}
-use Rattle.std.specs.Prelude.{ℤ, if◌then◌else◌, ◌&&◌}
+use Rattle.std.proofs.Common.{◌≡◌, ℕ, suc, ◌+◌, ◌≤◌, ◌<◌, Bool, true, false, List, [], ◌∷◌, ◌++◌, map, length, Some, None, slice_set, get_or, refl, sym, ap, ◌∙◌, subst, arith, append_assoc, append-nil}
+use Rattle.std.specs.Prelude.{ℤ}
 use Rattle.std.proofs.lemmas.List.{length-map, length-append}
-use Rattle.superstep_memory.specs.Paths.{path_lt, is_rising}
-use Rattle.superstep_memory.proofs.PathOrder.{rising_rest, lt_asym}
 use Rattle.task_lang.proofs.AllSegments.{numbers-its-spawns}
-use Rattle.step_core.specs.PathOrder.{put_in, in_path_order}
 use Rattle.step_core.specs.SlotParts.{path_in}
 use Rattle.superstep_memory.specs.declared.arrays.Put.{Put}
 use Rattle.superstep_memory.specs.Landing.{joined}
@@ -15,8 +12,8 @@ use Rattle.task_lang.specs.Meaning.{Plan, Task, After, Segment, Synced, Stopped,
 use Rattle.task_lang.specs.Views.{task_of}
 use Rattle.step_core.specs.DeedValue.{DeedValue}
 use Rattle.step_core.specs.Program.{Program}
-use Rattle.step_core.specs.Superstep.{segments, first_fault, or_later, log_of, print_of, prints_of, living_on, synced, stopped, left, spawned}
-use Rattle.step_core.specs.InPlace.{end_of, IsDeed, ToldOne, AllDone, deeds_of, IsAllDone, Told, kept, living_with, one_left, left_in, spawned_in, AllFew}
+use Rattle.step_core.specs.Superstep.{first_fault, or_later, log_of, print_of, prints_of, living_on, synced, stopped, left, spawned}
+use Rattle.step_core.specs.InPlace.{end_of, IsDeed, ToldOne, AllDone, deeds_of, IsAllDone, kept, living_with, one_left, left_in, spawned_in, AllFew}
 
 -- the first tasks are done, and the others stand as they were
 pub record IsUnderWay (p : Program) (arrays : List (List ℕ × List ℤ)) (step : ℕ) (olds : List TaskValue) (place : ℕ) (puts : List Put) (tasks : List TaskValue) (ds : List DeedValue) (before after : List PrintValue) : Type 0 where
@@ -294,18 +291,3 @@ all_stay (u ∷ us) (d ∷ ds) l a b =
     no_spawns : (ts : List TaskValue) → length ts ≡ 0 → ts ≡ []
     no_spawns [] h = refl
     no_spawns (t ∷ ts) h = absurd (omega arith)
-
-not_before : (t u : TaskValue) → path_lt t.path u.path ≡ true → path_lt u.path t.path ≡ false
-not_before t u h = lt_asym t.path u.path h
-
--- what rises stands in path order
-pub rising_stays : (ts : List TaskValue) → is_rising (map path_in ts) ≡ true → in_path_order path_in ts ≡ ts
-rising_stays [] h = refl
-rising_stays (t ∷ []) h = refl
-rising_stays (t ∷ u ∷ ts) h =
-    ap (put_in path_in t) (rising_stays (u ∷ ts) (rising_rest t.path (map path_in (u ∷ ts)) h))
-    ∙ ap (λ b. if b then u ∷ put_in path_in t ts else t ∷ u ∷ ts) (not_before t u (first (path_lt t.path u.path) h))
-  where
-    first : (b : Bool) → (b && is_rising (u.path ∷ map path_in ts)) ≡ true → b ≡ true
-    first true e = refl
-    first false e = cc

@@ -7,7 +7,7 @@ use Rattle.phase_records.specs.Status.{Status, Limit}
 use Rattle.task_lang.specs.Meaning.{Task, After, Synced, Stopped, Faulted, Segment, segment_of}
 use Rattle.task_lang.specs.Views.{plans}
 use Rattle.step_core.specs.Program.{Program, program_of}
-use Rattle.step_core.specs.PathOrder.{put_in, in_path_order}
+use Rattle.superstep_memory.specs.PathOrder.{put_in, in_path_order}
 use Rattle.step_core.specs.Superstep.{
   State,
   superstep,

@@ -7,9 +7,8 @@ use Rattle.phase_records.specs.declared.record.PhaseRecord.{PhaseRecord}
 use Rattle.task_lang.specs.declared.scene.Work.{Work}
 use Rattle.task_lang.specs.declared.scene.Ending.{Ending}
 use Rattle.task_lang.specs.declared.scene.Ending.TheVariants as ending
-use Rattle.task_lang.specs.declared.fault.Fault.{Fault}
 use Rattle.task_lang.specs.TaskValue.{TaskValue}
-use Rattle.task_lang.specs.Meaning.{Plan, Task, Segment, After, Synced, Stopped, faulted}
+use Rattle.task_lang.specs.Meaning.{Plan, Segment, After, Synced, Stopped, faulted}
 use Rattle.task_lang.specs.Lent.{HasAdded}
 use Rattle.task_lang.specs.Views.{task_of}
 use Rattle.step_core.specs.DeedValue.{DeedValue}

@@ -11,7 +11,7 @@ use Rattle.step_core.specs.Superstep.{State, superstep, segments, record_of, liv
 use Rattle.step_core.specs.JobMeaning.{so_far, report_of}
 use Rattle.step_core.specs.Slots.{delivered, first_missing, missing_in}
 use Rattle.step_core.specs.OrderValue.{OrderValue, IsOrder, ordered_task, DeliveryValue, IsDelivery, has_synced, spawned_paths}
-use Rattle.step_core.specs.PathOrder.{in_path_order}
+use Rattle.superstep_memory.specs.PathOrder.{in_path_order}
 use Rattle.step_core.specs.RoundValue.{RoundValue, IsRound, state_of, status_in, slots_in}
 use Rattle.step_core.specs.Taking.{Takes, with_delivery}
 

@@ -2,7 +2,6 @@ pub mod FinishedValue
 pub mod JobMeaning
 pub mod Laws
 pub mod OrderValue
-pub mod PathOrder
 pub mod Program
 pub mod SlotParts
 pub mod SlotValue

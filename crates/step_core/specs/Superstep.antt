@@ -22,7 +22,7 @@ use Rattle.phase_records.specs.declared.record.PhaseRecord.{PhaseRecord}
 use Rattle.task_lang.specs.FaultCode.{code_of}
 use Rattle.task_lang.specs.Meaning.{Task, After, Synced, Stopped, Faulted, Segment, segment_of}
 use Rattle.step_core.specs.Program.{Program}
-use Rattle.step_core.specs.PathOrder.{in_path_order}
+use Rattle.superstep_memory.specs.PathOrder.{in_path_order}
 
 -- a job between two supersteps: how many were taken, the arrays, the live tasks in path order, what was printed and
 -- recorded, and the fault that ended it, if one did, with the path of its task

@@ -5,14 +5,14 @@ ghost use Rattle.superstep_memory.specs.Paths.{is_rising};
 ghost use Rattle.phase_records.specs.StatusSeen.{status_seen};
 ghost use Rattle.task_lang.specs.Views.{plans, task_of};
 ghost use Rattle.step_core.specs.Program.{program_of};
-ghost use Rattle.step_core.specs.PathOrder.{in_path_order};
+ghost use Rattle.superstep_memory.specs.PathOrder.{in_path_order};
 ghost use Rattle.step_core.specs.SlotParts.{path_in};
 ghost use Rattle.step_core.specs.InPlace.{living_with, left_in, spawned_in};
 ghost use Rattle.step_core.specs.JobMeaning.{start_tasks, opening, report_of};
 ghost use Rattle.step_core.specs.Course.{course_state, HasTakenOne, left_by};
 
 use crate::closing::too_many;
-use crate::in_place::{Deed, do_all, record_deeds};
+use crate::in_place::{Deed, StepScene, do_all, record_deeds};
 use crate::next::regroup;
 use crate::slot::Blame;
 use phase_records::{JobStatus, PhaseRecord, Print, Report};
@@ -140,11 +140,14 @@ fn take_superstep(
     let printed = course.prints.len();
     room.work.puts.clear();
     room.deeds.clear();
+    let scene = StepScene {
+        job,
+        arrays: &course.arrays,
+        step: course.step,
+    };
     let fault = do_all(
         alloc,
-        job,
-        &course.arrays,
-        course.step,
+        &scene,
         &mut course.tasks,
         &mut room.work,
         &mut room.deeds,

@@ -16,6 +16,14 @@ use task_lang::scene::{Ending, Work};
 use task_lang::segment::segment_into;
 use task_lang::task::Task;
 
+/// What all tasks read in a superstep: the job, the arrays as it began, and the step.
+#[derive(Clone, Copy)]
+pub(crate) struct StepScene<'a> {
+    pub(crate) job: &'a Job,
+    pub(crate) arrays: &'a Arrays,
+    pub(crate) step: u32,
+}
+
 /// What a task did: whether it goes on, and the tasks that it spawned.
 #[derive(Drop)]
 pub(crate) struct Deed {
@@ -35,19 +43,17 @@ impl Model for Deed {
 // buffers, and the task itself goes on where it synced. After a fault the task means nothing but its path.
 fn do_task(
     alloc: Global,
-    job: &Job,
-    arrays: &Arrays,
-    step: u32,
+    scene: &StepScene<'_>,
     task: &mut Task,
     work: &mut Work,
 ) -> Result<Ending, AllocError>
-    ensures { IfOk result (λ e. let ps = plans job.now.bodies in
-        IsDone ps e task.old task.new work.old work.new (segment_of ps (task_of ps task.old) arrays.now step)) }
+    ensures { IfOk result (λ e. let ps = plans scene.now.job.now.bodies in
+        IsDone ps e task.old task.new work.old work.new (segment_of ps (task_of ps task.old) scene.now.arrays.now scene.now.step)) }
 {
     work.prints.clear();
     work.spawns.clear();
     std::mem::swap(&mut work.locals, &mut task.locals);
-    let ending = segment_into(alloc, job, task, arrays, step, work)?;
+    let ending = segment_into(alloc, scene.job, task, scene.arrays, scene.step, work)?;
     std::mem::swap(&mut work.locals, &mut task.locals);
     if let Ending::Synced(place) = ending {
         task.place = place;
@@ -75,26 +81,24 @@ fn keep(
 // Does a task's segment, and keeps what it did behind what others did, or tells its fault.
 fn do_one(
     alloc: Global,
-    job: &Job,
-    arrays: &Arrays,
-    step: u32,
+    scene: &StepScene<'_>,
     task: &mut Task,
     work: &mut Work,
     deeds: &mut Vec<Deed>,
     prints: &mut Vec<Print>,
 ) -> Result<Option<Blame>, AllocError>
-    ensures { IfOk result (λ fault. let ps = plans job.now.bodies in
-        ToldOne ps (segment_of ps (task_of ps task.old) arrays.now step) step fault task.old task.new
+    ensures { IfOk result (λ fault. let ps = plans scene.now.job.now.bodies in
+        ToldOne ps (segment_of ps (task_of ps task.old) scene.now.arrays.now scene.now.step) scene.now.step fault task.old task.new
         work.old.puts.items work.new.puts.items deeds.old.items deeds.new.items prints.old.items prints.new.items) }
 {
-    match do_task(alloc, job, arrays, step, task, work)? {
+    match do_task(alloc, scene, task, work)? {
         Ending::Synced(_) => {
-            push_prints(prints, step, task, &work.prints)?;
+            push_prints(prints, scene.step, task, &work.prints)?;
             keep(alloc, true, work, deeds)?;
             Ok(None)
         }
         Ending::Stopped => {
-            push_prints(prints, step, task, &work.prints)?;
+            push_prints(prints, scene.step, task, &work.prints)?;
             keep(alloc, false, work, deeds)?;
             Ok(None)
         }
@@ -109,9 +113,7 @@ fn do_one(
 /// Does the segments of tasks, one after another: all their puts stand in one log then. Or tells the first fault.
 pub(crate) fn do_all(
     alloc: Global,
-    job: &Job,
-    arrays: &Arrays,
-    step: u32,
+    scene: &StepScene<'_>,
     tasks: &mut Vec<Task>,
     work: &mut Work,
     deeds: &mut Vec<Deed>,
@@ -119,13 +121,13 @@ pub(crate) fn do_all(
 ) -> Result<Option<Blame>, AllocError>
     requires none_put { work.old.puts.items ≡ [] }
     requires none_done { deeds.old.items ≡ [] }
-    ensures { IfOk result (λ fault. Told (plans job.now.bodies) (deeds_of (program_of job.now) arrays.now step tasks.old.items) step
+    ensures { IfOk result (λ fault. Told (plans scene.now.job.now.bodies) (deeds_of (program_of scene.now.job.now) scene.now.arrays.now scene.now.step tasks.old.items) scene.now.step
         fault work.new.puts.items tasks.new.items deeds.new.items prints.old.items prints.new.items) }
 {
     let mut place = 0;
     while place < tasks.len() {
         let task = &mut tasks[place];
-        let told = do_one(alloc, job, arrays, step, task, work, deeds, prints)?;
+        let told = do_one(alloc, scene, task, work, deeds, prints)?;
         match told {
             Some(blame) => return Ok(Some(blame)),
             None => place += 1,

@@ -3,7 +3,7 @@ ghost use Rattle.std.specs.Prelude.{◌≡◌, ◌≤◌, ◌<◌, ◌+◌, ◌+
 ghost use Rattle.std.specs.List.{insert};
 ghost use Rattle.std.specs.Vec.{vec_len, vec_capacity};
 ghost use Rattle.task_lang.specs.TaskValue.{TaskValue};
-ghost use Rattle.step_core.specs.PathOrder.{put_in, put_all, in_path_order};
+ghost use Rattle.superstep_memory.specs.PathOrder.{put_in, put_all, in_path_order};
 ghost use Rattle.step_core.specs.SlotParts.{AllSmall, path_in, living_of, living_in, fresh_slot};
 ghost use Rattle.step_core.specs.InPlace.{kept, living_with};
 

@@ -118,10 +118,7 @@ pub(crate) fn records_of(
 }
 
 /// What was printed, superstep by superstep, moved together.
-pub(crate) fn join_prints(
-    alloc: Global,
-    finished: Vec<Finished>,
-) -> Result<Vec<Print>, AllocError>
+pub(crate) fn join_prints(alloc: Global, finished: Vec<Finished>) -> Result<Vec<Print>, AllocError>
     ensures { IfOk result (λ prints. prints.items ≡ all_prints finished.items) }
 {
     let mut rest = finished;

@@ -211,7 +211,9 @@ impl<'j> Round<'j> {
             return Ok(None);
         };
         let Round {
-            opening, finished, ..
+            opening,
+            finished,
+            ..
         } = self;
         let records = records_of(alloc, &finished)?;
         let prints = join_prints(alloc, finished)?;

@@ -1,4 +1,4 @@
-//! Tests of landing and of rounds: deliveries in any order, and refusals.
+//! Tests of arrays, of landing and of rounds: deliveries in any order, and refusals.
 #![tactic(auto)]
 
 #[cfg(test)]
@@ -7,5 +7,7 @@ mod fixtures;
 mod hands;
 #[cfg(test)]
 mod landing;
+#[cfg(test)]
+mod memory;
 #[cfg(test)]
 mod rounds;

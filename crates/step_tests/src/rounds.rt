@@ -171,3 +171,50 @@ fn a_late_delivery_is_refused(rt: HostRuntime) -> Result<(), Fail> {
     );
     Ok(())
 }
+
+// What the round of a job of two tasks says while their deliveries come: how many are missing, and what the first task
+// did before it was handed in.
+fn told_before(alloc: Global, job: &Job) -> Result<bool, AllocError> {
+    let mut round = Round::new(alloc, job, 5)?;
+    if round.has_ended() || round.missing() != 2 {
+        return Ok(false);
+    }
+    let Some(order) = round.order(alloc, &[0])? else {
+        return Ok(false);
+    };
+    let delivery = Delivery::of(alloc, order)?;
+    let spawned = delivery.spawn_count() == 1 && delivery.spawn_path(1).is_none();
+    let path = delivery.spawn_path(0) == Some([0, 0].as_slice());
+    if !spawned || !path || !delivery.synced() {
+        return Ok(false);
+    }
+    if round.status().is_some() || round.accept(delivery).is_err() {
+        return Ok(false);
+    }
+    Ok(round.missing() == 1)
+}
+
+#[test]
+fn a_round_tells_what_is_missing(rt: HostRuntime) -> Result<(), Fail> {
+    let alloc = rt.alloc();
+    let two = job_of(alloc, TWO)?;
+    assert!(rt; told_before(alloc, &two)?);
+    Ok(())
+}
+
+#[test]
+fn a_report_by_value_is_the_report(rt: HostRuntime) -> Result<(), Fail> {
+    let alloc = rt.alloc();
+    let two = job_of(alloc, TWO)?;
+    let mut round = Round::new(alloc, &two, 1)?;
+    for number in [1, 0] {
+        deliver(alloc, &mut round, &[number])?;
+    }
+    assert!(rt; round.missing() == 0);
+    close(alloc, &mut round)?;
+    assert!(rt; round.has_ended());
+    let want = round.report(alloc)?.ok_or("a report")?;
+    let got = round.into_report(alloc)?.ok_or("a report")?;
+    assert!(rt; report_text(alloc, &want)? == report_text(alloc, &got)?);
+    Ok(())
+}

@@ -1,13 +1,9 @@
 -- Landing at once is writing one put after another.
-use Rattle.std.proofs.Common.{◌≡◌, ℕ, zero, suc, ◌+◌, ◌<◌, ◌≤◌, Bool, true, false, ◌==◌, ◌&&◌, List, [], ◌∷◌, ◌++◌, length, Option, Some, None, slice_set, refl, sym, ap, ◌∙◌, subst, arith}
+use Rattle.std.proofs.Common.{◌≡◌, ℕ, zero, suc, ◌+◌, ◌<◌, ◌≤◌, Bool, true, false, ◌==◌, ◌&&◌, List, [], ◌∷◌, ◌++◌, Option, Some, None, slice_set, refl, sym, ap, ◌∙◌, subst, arith}
 use Rattle.std.specs.Prelude.{ℤ, if◌then◌else◌, unwrap_or}
 use Rattle.superstep_memory.specs.declared.arrays.Put.{Put}
 use Rattle.superstep_memory.specs.Cells.{with_place, with_cell}
-use Rattle.std.specs.Prelude.{Vec}
-use Rattle.std.specs.declared.alloc.Global.{Global}
-use Rattle.smallvec.specs.SmallVec.{SmallVec}
-use Rattle.superstep_memory.specs.Logs.{logs}
-use Rattle.superstep_memory.specs.Landing.{joined, or_else, hit, last_put, landed_cells, landed_from, landed, written}
+use Rattle.superstep_memory.specs.Landing.{or_else, hit, last_put, landed_cells, landed_from, landed, written}
 
 -- one cell, with the put in front of the others
 one_hit : (o : Option ℤ) (b : Bool) (x v : ℤ) → unwrap_or (or_else o (if b then Some x else None)) v ≡ unwrap_or o (if b then x else v)
@@ -73,10 +69,3 @@ landed_one p ps xs = arrays_hit p ps 0 p.array xs (omega arith)
 pub landed_written : (ps qs : List Put) (xs : List (List ℕ × List ℤ)) → landed (ps ++ qs) xs ≡ landed qs (written ps xs)
 landed_written [] qs xs = refl
 landed_written (p ∷ ps) qs xs = landed_one p (ps ++ qs) xs ∙ landed_written ps qs (with_cell xs p)
-
-pub land_first : (e : SmallVec ℕ × Vec Put Global) (es : List (SmallVec ℕ × Vec Put Global)) (a b : List (List ℕ × List ℤ)) → b ≡ written e.1.items a → landed (joined (logs (e ∷ es))) a ≡ landed (joined (logs es)) b
-land_first e es a b h = landed_written e.1.items (joined (logs es)) a ∙ ap (λ x. landed (joined (logs es)) x) (sym h)
-
-pub land_last : (es : List (SmallVec ℕ × Vec Put Global)) (a : List (List ℕ × List ℤ)) → length es ≡ 0 → landed (joined (logs es)) a ≡ a
-land_last [] a h = landed_none a
-land_last (e ∷ es) a h = absurd (omega arith)

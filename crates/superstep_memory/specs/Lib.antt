@@ -5,3 +5,6 @@ pub mod ArraysView
 pub mod Landing
 pub mod Logs
 pub mod Laws
+pub mod PathOrder
+pub mod Latest
+pub mod Runs

@@ -21,7 +21,7 @@ ghost use Rattle.std.specs.Prelude.{
 };
 ghost use Rattle.std.specs.Option.{option_map};
 ghost use Rattle.superstep_memory.specs.Seen.{seen};
-ghost use Rattle.superstep_memory.specs.Cells.{cell_at, place_at, is_cell, with_cell, are_distinct, IsNew};
+ghost use Rattle.superstep_memory.specs.Cells.{cell_at, place_at, is_cell, with_cell, with_place, are_distinct, IsNew};
 
 use indexmap::IndexMap;
 use std::alloc::{AllocError, Global};
@@ -145,10 +145,17 @@ impl Arrays {
     pub fn write(&mut self, put: Put)
         ensures { self.new ≡ with_cell self.old put }
     {
-        if let Some(cells) = self.by_name.get_index_mut(usize::from(put.array)) {
-            let index = put.index as usize;
+        self.write_at(usize::from(put.array), put.index as usize, put.value);
+    }
+
+    /// Writes a value into the cell of this number of the array at this place, if there is one.
+    #[inline(always)]
+    pub(crate) fn write_at(&mut self, array: usize, index: usize, value: i64)
+        ensures { self.new ≡ with_place self.old array index value }
+    {
+        if let Some(cells) = self.by_name.get_index_mut(array) {
             if index < cells.len() {
-                cells[index] = put.value;
+                cells[index] = value;
             }
         }
     }

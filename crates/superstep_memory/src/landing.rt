@@ -1,15 +1,21 @@
 //! How the puts of a superstep land.
-ghost use Rattle.std.specs.Prelude.{◌≡◌, None, OnOk, OnErr, IfErr};
+ghost use Rattle.std.specs.Prelude.{◌≡◌, None, IfOk, OnOk, OnErr, IfErr};
 ghost use Rattle.std.specs.Option.{option_map};
 ghost use Rattle.superstep_memory.specs.Landing.{landed, joined, outside_in, first_outside, written};
+ghost use Rattle.superstep_memory.specs.Latest.{noted_all};
 ghost use Rattle.superstep_memory.specs.Paths.{is_rising};
 ghost use Rattle.superstep_memory.specs.Logs.{logs, paths, refusal, fault_number, Tells};
+ghost use Rattle.superstep_memory.specs.Runs.{lent_logs};
 
 use crate::arrays::{Arrays, Put, PutLog};
+use crate::latest::{Marks, lay_all, no_marks, note_all};
 use crate::path::{Path, is_before};
 use smallvec::SmallVec;
 use std::alloc::{AllocError, Global};
 use thiserror::Error;
+
+/// The path of a task, and its puts.
+pub type Entry = (Path, PutLog);
 
 /// Why puts don't land (own). The arrays are then as they were.
 #[derive(Debug, Drop, Error)]
@@ -39,8 +45,8 @@ impl LandFault {
 }
 
 // Whether the paths rise.
-fn are_rising(entries: &[(Path, PutLog)]) -> bool
-    ensures { result ≡ is_rising (paths (logs entries.now)) }
+pub(crate) fn are_rising(entries: &[&Entry]) -> bool
+    ensures { result ≡ is_rising (paths (lent_logs entries.now)) }
 {
     let Some((mut last, mut rest)) = entries.split_first() else {
         return true;
@@ -70,15 +76,16 @@ fn first_outside_in(arrays: &Arrays, puts: &[Put]) -> Option<usize>
 }
 
 // The first path with a put to no cell, and the place of that put.
-fn find_outside<'a>(arrays: &Arrays, entries: &'a [(Path, PutLog)]) -> Option<(&'a Path, usize)>
-    ensures { option_map (λ found. (found.0.now.items, found.1)) result ≡ first_outside arrays.now (logs entries.now) }
+fn find_outside<'a>(arrays: &Arrays, entries: &[&'a Entry]) -> Option<(&'a Path, usize)>
+    ensures { option_map (λ found. (found.0.now.items, found.1)) result ≡ first_outside arrays.now (lent_logs entries.now) }
 {
-    let mut rest = entries;
-    while let Some((entry, after)) = rest.split_first() {
+    let mut number = 0;
+    while number < entries.len() {
+        let entry = entries[number];
         if let Some(place) = first_outside_in(arrays, &entry.1) {
             return Some((&entry.0, place));
         }
-        rest = after;
+        number += 1;
     }
     None
 }
@@ -94,15 +101,61 @@ pub fn write_puts(arrays: &mut Arrays, puts: &[Put])
     }
 }
 
-/// Lands puts in the order of these entries; one to no cell is left out.
-#[tactic(auto, using(crate::proofs::Landed::land_first, crate::proofs::Landed::land_last))]
-pub fn land_all(arrays: &mut Arrays, entries: &[(Path, PutLog)])
-    ensures { arrays.new ≡ landed (joined (logs entries.now)) arrays.old }
+// Notes the puts of these entries, one after another.
+fn note_entries(marks: &mut Vec<Marks>, entries: &[&Entry])
+    ensures { marks.new.items ≡ noted_all (joined (lent_logs entries.now)) marks.old.items }
 {
+    let mut number = 0;
+    while number < entries.len() {
+        let entry = entries[number];
+        note_all(marks, &entry.1);
+        number += 1;
+    }
+}
+
+/// The entries as they are lent.
+pub(crate) fn lend(alloc: Global, entries: &[Entry]) -> Result<Vec<&Entry>, AllocError>
+    ensures { IfOk result (λ lent. lent_logs lent.items ≡ logs entries.now) }
+{
+    let mut lent = Vec::new(alloc);
     let mut rest = entries;
     while let Some((entry, after)) = rest.split_first() {
-        write_puts(arrays, &entry.1);
+        lent.push(entry)?;
         rest = after;
+    }
+    Ok(lent)
+}
+
+/// Lands these entries, as `land` does. All refusals are decided first; then the last put to each cell is found, and then the
+/// arrays are written.
+#[tactic(auto, using(crate::proofs::Overlaid::overlaid))]
+pub(crate) fn land_lent(
+    alloc: Global,
+    arrays: &mut Arrays,
+    entries: &[&Entry],
+) -> Result<(), LandFault>
+    ensures allowed { OnOk result (refusal arrays.old (lent_logs entries.now) ≡ None) }
+    ensures lands { OnOk result (arrays.new ≡ landed (joined (lent_logs entries.now)) arrays.old) }
+    ensures refused { IfErr result (λ fault. Tells fault (refusal arrays.old (lent_logs entries.now))) }
+    ensures unchanged { OnErr result (arrays.new ≡ arrays.old) }
+{
+    if !are_rising(entries) {
+        return Err(LandFault::NotInOrder);
+    }
+    if let Some((path, place)) = find_outside(arrays, entries) {
+        return match SmallVec::from_slice(alloc, path.as_slice()) {
+            Ok(path) => Err(LandFault::OutOfRange(path, place)),
+            Err(fault) => Err(LandFault::Memory(fault)),
+        };
+    }
+    match no_marks(alloc, arrays) {
+        Ok(blank) => {
+            let mut marks = blank;
+            note_entries(&mut marks, entries);
+            lay_all(arrays, &marks);
+            Ok(())
+        }
+        Err(fault) => Err(LandFault::Memory(fault)),
     }
 }
 
@@ -115,15 +168,8 @@ pub fn land(alloc: Global, arrays: &mut Arrays, entries: &[(Path, PutLog)]) -> R
     ensures refused { IfErr result (λ fault. Tells fault (refusal arrays.old (logs entries.now))) }
     ensures unchanged { OnErr result (arrays.new ≡ arrays.old) }
 {
-    if !are_rising(entries) {
-        return Err(LandFault::NotInOrder);
+    match lend(alloc, entries) {
+        Ok(lent) => land_lent(alloc, arrays, &lent),
+        Err(fault) => Err(LandFault::Memory(fault)),
     }
-    if let Some((path, place)) = find_outside(arrays, entries) {
-        return match SmallVec::from_slice(alloc, path.as_slice()) {
-            Ok(path) => Err(LandFault::OutOfRange(path, place)),
-            Err(fault) => Err(LandFault::Memory(fault)),
-        };
-    }
-    land_all(arrays, entries);
-    Ok(())
 }

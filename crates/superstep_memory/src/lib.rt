@@ -3,7 +3,7 @@
 
 pub mod arrays;
 pub mod landing;
+mod latest;
 pub mod laws;
 pub mod path;
-#[cfg(test)]
-mod tests;
+pub mod runs;

@@ -1,11 +1,12 @@
-use Rattle.std.proofs.Common.{◌∙◌, sym, ap, subst, arith, refl, List, length, ◌≤◌, ◌<◌}
+use Rattle.std.proofs.Common.{◌∙◌, sym, ap, subst, arith, refl, ℕ, List, length, ◌≤◌}
+use Rattle.std.specs.Prelude.{ℤ}
 use Rattle.phase_records.specs.declared.record.PhaseRecord.{PhaseRecord}
 use Rattle.step_core.specs.DeedValue.{DeedValue}
 use Rattle.step_core.specs.Program.{program_of}
 use Rattle.step_core.specs.Superstep.{ended_by}
 use Rattle.step_core.specs.Course.{course_state}
 use Rattle.step_core.specs.InPlace.{AllFew, told_in}
-use Rattle.step_core.proofs.Course.{by_fault, by_many, by_landing, cut_off, did, fits}
+use Rattle.step_core.proofs.Course.{by_many, by_landing, cut_off, did, fits}
 use Rattle.step_core.proofs.alone.take_superstep.Goals as goal
 
 pub record_deeds-told-requires-clause-few : goal.record_deeds-told-requires-clause-few
@@ -45,9 +46,9 @@ returns-then-told-gt4096 c =
     record {
       fault = by_many p c.args.course.now us ds h.done (omega (arith, l, m, f.living, c.if-told-gt4096.true)) ∙ ap (ended_by (course_state p c.args.course.now)) (sym c.too_many.ensures);
       step = refl;
-      arrays = refl;
+      arrays = refl {A = List (List ℕ × List ℤ)};
       prints = cut_off c.len-printed.result c.args.course.now.prints.items c.do_all.new.prints.items _ _ c.truncate-then-told-gt4096.ensures.items (omega (arith, c.len-printed.ensures, c.args.course.now.prints.ok.0)) h.shown;
-      records = refl;
+      records = refl {A = List PhaseRecord};
     }
 
 pub go_on-requires-clause-same : goal.go_on-requires-clause-same

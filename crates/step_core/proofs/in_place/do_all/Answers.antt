@@ -1,4 +1,4 @@
-use Rattle.std.proofs.Common.{◌∙◌, ap, sym, subst, Option, Some, None, ℕ, ◌<◌, List, length, arith}
+use Rattle.std.proofs.Common.{subst, Option, ℕ, ◌<◌, List, length, arith}
 use Rattle.task_lang.specs.Meaning.{segment_of}
 use Rattle.task_lang.specs.Views.{plans, task_of}
 use Rattle.step_core.specs.Program.{program_of}
@@ -8,26 +8,26 @@ use Rattle.step_core.proofs.in_place.do_all.Goals as goal
 
 pub returns-in-Some : goal.returns-in-Some
 returns-in-Some c =
-    let ps = plans c.args.job.now.bodies in
+    let ps = plans c.args.scene.now.job.now.bodies in
     let t = c.index_mut-task.result.now in
     let below : c.loop-place.place < length c.loop-place.tasks.items = omega (arith, c.loop-place-test.true, c.len.ensures) in
-    one_faults (program_of c.args.job.now) c.args.arrays.now c.args.step c.args.tasks.now.items c.loop-place.place
+    one_faults (program_of c.args.scene.now.job.now) c.args.scene.now.arrays.now c.args.scene.now.step c.args.tasks.now.items c.loop-place.place
     c.loop-place.work.puts.items c.do_one.new.work.puts.items c.loop-place.tasks.items c.loop-place.deeds.items c.do_one.new.deeds.items
     c.args.prints.now.items c.loop-place.prints.items c.do_one.new.prints.items t c.do_one.new.task c.in-Some.blame
     c.loop-place.invariant below c.index_mut-task.ensures.value
-    (subst (λ (o : Option (ℕ × List ℕ)). ToldOne ps (segment_of ps (task_of ps t) c.args.arrays.now c.args.step) c.args.step o t c.do_one.new.task
+    (subst (λ (o : Option (ℕ × List ℕ)). ToldOne ps (segment_of ps (task_of ps t) c.args.scene.now.arrays.now c.args.scene.now.step) c.args.scene.now.step o t c.do_one.new.task
     c.loop-place.work.puts.items c.do_one.new.work.puts.items c.loop-place.deeds.items c.do_one.new.deeds.items
     c.loop-place.prints.items c.do_one.new.prints.items) c.in-Some.is c.in_ok-told.ensures)
 
 pub loop-place-preserved : goal.loop-place-preserved
 loop-place-preserved c =
-    let ps = plans c.args.job.now.bodies in
+    let ps = plans c.args.scene.now.job.now.bodies in
     let t = c.index_mut-task.result.now in
     let below : c.loop-place.place < length c.loop-place.tasks.items = omega (arith, c.loop-place-test.true, c.len.ensures) in
-    one_more (program_of c.args.job.now) c.args.arrays.now c.args.step c.args.tasks.now.items c.loop-place.place
+    one_more (program_of c.args.scene.now.job.now) c.args.scene.now.arrays.now c.args.scene.now.step c.args.tasks.now.items c.loop-place.place
     c.loop-place.work.puts.items c.do_one.new.work.puts.items c.loop-place.tasks.items c.loop-place.deeds.items c.do_one.new.deeds.items
     c.args.prints.now.items c.loop-place.prints.items c.do_one.new.prints.items t c.do_one.new.task
     c.loop-place.invariant below c.index_mut-task.ensures.value
-    (subst (λ (o : Option (ℕ × List ℕ)). ToldOne ps (segment_of ps (task_of ps t) c.args.arrays.now c.args.step) c.args.step o t c.do_one.new.task
+    (subst (λ (o : Option (ℕ × List ℕ)). ToldOne ps (segment_of ps (task_of ps t) c.args.scene.now.arrays.now c.args.scene.now.step) c.args.scene.now.step o t c.do_one.new.task
     c.loop-place.work.puts.items c.do_one.new.work.puts.items c.loop-place.deeds.items c.do_one.new.deeds.items
     c.loop-place.prints.items c.do_one.new.prints.items) c.in-None.is c.in_ok-told.ensures)

@@ -1,13 +1,11 @@
 use Rattle.std.proofs.Common.{◌-◌, length}
-use Rattle.task_lang.specs.Views.{plans}
 use Rattle.step_core.specs.Program.{program_of}
-use Rattle.step_core.specs.InPlace.{deeds_of}
 use Rattle.step_core.proofs.InPlace.{IsUnderWay}
 use Rattle.step_core.proofs.in_place.do_all.Given as goal
 
 abbrev pub invariant-loop-place : goal.invariant-loop-place
 invariant-loop-place l =
-    IsUnderWay (program_of l.job) l.arrays l.step l.fn.tasks.items l.place l.work.puts.items l.tasks.items l.deeds.items l.fn.prints.items l.prints.items
+    IsUnderWay (program_of l.scene.job.now) l.scene.arrays.now l.scene.step l.fn.tasks.items l.place l.work.puts.items l.tasks.items l.deeds.items l.fn.prints.items l.prints.items
 
 abbrev pub decreases-loop-place : goal.decreases-loop-place
 decreases-loop-place l = length l.tasks.items - l.place

@@ -2,7 +2,7 @@ use Rattle.std.proofs.Common.{◌≡◌, ◌∙◌, ◌++◌, List, map, ap, ari
 use Rattle.std.proofs.lemmas.List.{reverse-reverse, length-reverse}
 use Rattle.task_lang.specs.TaskValue.{TaskValue}
 use Rattle.step_core.specs.SlotValue.{SlotValue}
-use Rattle.step_core.specs.PathOrder.{in_path_order}
+use Rattle.superstep_memory.specs.PathOrder.{in_path_order}
 use Rattle.step_core.specs.SlotParts.{path_in, living_in, fresh_slot}
 use Rattle.step_core.proofs.InOrder.{count_in_order}
 use Rattle.step_core.proofs.next.go_on.Goals as goal

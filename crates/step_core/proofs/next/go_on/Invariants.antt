@@ -1,6 +1,6 @@
 use Rattle.std.proofs.Common.{◌≡◌, ◌≤◌, ◌+◌, ◌++◌, map, length, reverse}
 use Rattle.std.specs.Vec.{vec_len, vec_capacity}
-use Rattle.step_core.specs.PathOrder.{in_path_order}
+use Rattle.superstep_memory.specs.PathOrder.{in_path_order}
 use Rattle.step_core.specs.SlotParts.{path_in, living_in, fresh_slot}
 use Rattle.step_core.proofs.next.go_on.Given as goal
 

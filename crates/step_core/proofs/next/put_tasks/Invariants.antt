@@ -1,6 +1,6 @@
 use Rattle.std.proofs.Common.{◌≡◌, ◌+◌, length, reverse}
 use Rattle.std.specs.Vec.{vec_len, vec_capacity}
-use Rattle.step_core.specs.PathOrder.{put_all}
+use Rattle.superstep_memory.specs.PathOrder.{put_all}
 use Rattle.step_core.specs.SlotParts.{path_in}
 use Rattle.step_core.proofs.next.put_tasks.Given as goal
 

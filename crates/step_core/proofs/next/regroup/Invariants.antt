@@ -1,5 +1,5 @@
-use Rattle.std.proofs.Common.{◌≡◌, ◌≤◌, ◌+◌, ◌++◌, length, reverse}
-use Rattle.step_core.specs.PathOrder.{in_path_order}
+use Rattle.std.proofs.Common.{◌≡◌, ◌++◌, length, reverse}
+use Rattle.superstep_memory.specs.PathOrder.{in_path_order}
 use Rattle.step_core.specs.SlotParts.{path_in}
 use Rattle.step_core.specs.InPlace.{living_with}
 use Rattle.step_core.proofs.next.regroup.Given as goal

@@ -34,27 +34,26 @@ invariant_of-self c =
     let there = place_there r c.self.invariant.0 (ap status_in c.self.view_is ∙ c.requires.running) c.place-place.result _
     (here r c.args.delivery.job c.args.delivery.step c.args.delivery.place c.place-place.result c.args.delivery.path c.args.delivery.segment
     (c.requires.job ∙ ap (λ (x : RoundValue). x.job) (sym c.self.view_is)) (sym c.step.ensures ∙ c.if-step-self.false) (sym c.place-place.ensures)
-    c.path-known.ensures.known) in
-    (
+    c.path-known.ensures.known) in (
       taken_at
-    (whole c.self.inside.job.now c.self.inside.limit c.self.inside.step (arc_value c.self.inside.opening) c.self.inside.slots.items
-    c.self.inside.finished.items c.self.inside.fault)
-    c.args.delivery.job c.args.delivery.step c.args.delivery.place c.place-place.result c.args.delivery.path c.index_mut.result.now _
-    c.args.delivery.segment
-    record {
-      round = c.self.invariant.0;
-      run = ap status_in c.self.view_is ∙ c.requires.running;
-      same_job = c.requires.job ∙ ap (λ (x : RoundValue). x.job) (sym c.self.view_is);
-      same_step = sym c.step.ensures ∙ c.if-step-self.false;
-      same_place = sym c.place-place.ensures;
-      below = there;
-      slot = c.index_mut.ensures.value;
-      put = c.put.ensures ∙ ap (λ (g : SegmentValue). record { task = c.index_mut.result.now.task; done = Some g }) c.into_segment-segment.ensures.same;
-      known = c.path-known.ensures.known;
-    },
+          (whole c.self.inside.job.now c.self.inside.limit c.self.inside.step (arc_value c.self.inside.opening) c.self.inside.slots.items
+          c.self.inside.finished.items c.self.inside.fault)
+          c.args.delivery.job c.args.delivery.step c.args.delivery.place c.place-place.result c.args.delivery.path c.index_mut.result.now _
+          c.args.delivery.segment
+          record {
+            round = c.self.invariant.0;
+            run = ap status_in c.self.view_is ∙ c.requires.running;
+            same_job = c.requires.job ∙ ap (λ (x : RoundValue). x.job) (sym c.self.view_is);
+            same_step = sym c.step.ensures ∙ c.if-step-self.false;
+            same_place = sym c.place-place.ensures;
+            below = there;
+            slot = c.index_mut.ensures.value;
+            put = c.put.ensures ∙ ap (λ (g : SegmentValue). record { task = c.index_mut.result.now.task; done = Some g }) c.into_segment-segment.ensures.same;
+            known = c.path-known.ensures.known;
+          },
       (let fewer = one_fewer c.self.inside.slots.items c.place-place.result c.index.result.now c.put.new.self
-      (slot_at _ _ _ there c.index.ensures) (sym c.is_done.ensures ∙ c.if-is_done.false) (ap (λ (x : SlotValue). is_some x.done) c.put.ensures) in
-      omega (arith, fewer, c.self.invariant.1)),
+          (slot_at _ _ _ there c.index.ensures) (sym c.is_done.ensures ∙ c.if-is_done.false) (ap (λ (x : SlotValue). is_some x.done) c.put.ensures) in
+          omega (arith, fewer, c.self.invariant.1)),
     )
 
 pub returns-clause-taken : goal.returns-clause-taken

@@ -3,7 +3,7 @@ use Rattle.std.specs.Arc.{arc_value}
 use Rattle.std.proofs.lemmas.List.{length-map}
 use Rattle.superstep_memory.specs.Landing.{landed, joined}
 use Rattle.task_lang.specs.Views.{plans}
-use Rattle.step_core.specs.PathOrder.{in_path_order}
+use Rattle.superstep_memory.specs.PathOrder.{in_path_order}
 use Rattle.step_core.specs.Superstep.{log_of, first_fault}
 use Rattle.step_core.specs.SlotValue.{SlotValue}
 use Rattle.step_core.specs.Slots.{slots_of, delivered, told_by, missing_in}

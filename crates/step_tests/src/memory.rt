@@ -1,8 +1,9 @@
-//! Tests: each call once, and the order of paths.
-use crate::arrays::{Arrays, Put};
-use crate::path::is_before;
+//! Arrays and paths: each call once, and the order of paths.
 use std::alloc::{AllocError, Global};
+use std::process::Abort;
 use std::test::Fail;
+use superstep_memory::arrays::{Arrays, Put};
+use superstep_memory::path::is_before;
 
 // Arrays `a` with two cells and `b` with one.
 fn two(alloc: Global, last: i64) -> Result<Arrays, AllocError> {
