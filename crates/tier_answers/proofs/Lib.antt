@@ -21,3 +21,4 @@ pub mod Rounding
 pub mod Once
 pub mod Ended
 pub mod Waiting
+pub mod Driven

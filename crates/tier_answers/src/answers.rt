@@ -3,6 +3,7 @@
 
 ghost use Rattle.tier_answers.specs.Moments.{MomentsAreAnswers};
 ghost use Rattle.tier_answers.specs.Told.{AnswersTell};
+ghost use Rattle.tier_answers.specs.Driven.{RunsAnswerAsTheFlatPhaser};
 ghost use Rattle.tier_answers.specs.Once.{CallsCountOnce, JoinsSeatWhereAsked, RefusalsAreNoted};
 ghost use Rattle.tier_answers.specs.Count.{CallsAreShort};
 
@@ -15,6 +16,13 @@ pub fn moments_are_answers()
 /// do between the steps of the call.
 pub fn answers_tell()
     ensures { AnswersTell }
+{}
+
+/// The answers of a run are those of one flat phaser: the labels of its steps are a run of any that looks
+/// like the tree before it, and each answer of each call tells what the table of answers says of the flat
+/// phasers that these labels reach.
+pub fn runs_answer_as_the_flat_phaser()
+    ensures { RunsAnswerAsTheFlatPhaser }
 {}
 
 /// A call counts once where it is done or has to advance the root, and not at all where it answers
