@@ -22,3 +22,4 @@ pub mod Once
 pub mod Ended
 pub mod Waiting
 pub mod Driven
+pub mod Sixteen

@@ -36,7 +36,7 @@ pub record Course (i : ℕ) (c : Call) (s : State) (past : List Moment) : Type 0
   pub left : Within s.parents s.words (call_at s.calls i) (view_at s.views i) rest
   pub count : length past + rest ≤ most_steps c
 
-active_going : (p : Progress) → is_active p ≡ true → is_idle p ≡ false
+pub active_going : (p : Progress) → is_active p ≡ true → is_idle p ≡ false
 active_going Idle e = not_both false e refl
 active_going (Begun c) e = refl
 active_going (ToSeek tier size) e = refl
@@ -119,7 +119,7 @@ courses i c = record {
   };
 }
 
-most : (c : Call) → most_steps c ≤ 16
+pub most : (c : Call) → most_steps c ≤ 16
 most (call.Join tier size) = omega arith
 most call.Arrive = omega arith
 most call.Leave = omega arith

@@ -5,7 +5,7 @@ ghost use Rattle.tier_answers.specs.Moments.{MomentsAreAnswers};
 ghost use Rattle.tier_answers.specs.Told.{AnswersTell};
 ghost use Rattle.tier_answers.specs.Driven.{RunsAnswerAsTheFlatPhaser};
 ghost use Rattle.tier_answers.specs.Once.{CallsCountOnce, JoinsSeatWhereAsked, RefusalsAreNoted};
-ghost use Rattle.tier_answers.specs.Count.{CallsAreShort};
+ghost use Rattle.tier_answers.specs.Count.{CallsAreShort, SixteenStepsAreEnough};
 
 /// What a run answers to a step of a token is the answer of the moment that the step is.
 pub fn moments_are_answers()
@@ -46,4 +46,9 @@ pub fn refusals_are_noted()
 /// arrival or a departure after 15, a poll after 2, and an end by force after 1.
 pub fn calls_are_short()
     ensures { CallsAreShort }
+{}
+
+/// Wherever a call stands, 16 steps of its token alone are enough for its answer.
+pub fn sixteen_steps_are_enough()
+    ensures { SixteenStepsAreEnough }
 {}
