@@ -137,36 +137,3 @@ impl<F: Fn(u32, u32) -> bool> StoredAdvance<F> {
         (self.closure)(phase, count)
     }
 }
-
-#[cfg(test)]
-mod tests {
-    use super::*;
-
-    #[test]
-    fn keeps_a_closure_with_a_limit(rt: HostRuntime) {
-        let limit = 3u32;
-        let plan = CountPlan {
-            least: limit,
-            at: None,
-        };
-        let rule = StoredCount::new(|_phase: u32, count: u32| count < limit, plan);
-        assert!(rt; rule.call(0, 2));
-        assert!(rt; !rule.call(0, 3));
-        assert_eq!(rt; rule.plan(), plan);
-    }
-
-    #[test]
-    fn keeps_a_closure_that_ends_when_empty(rt: HostRuntime) {
-        let last = 7u32;
-        let plan = EndPlan {
-            when_empty: true,
-            at: Some(last),
-        };
-        let rule = StoredAdvance::new(|phase: u32, count: u32| count == 0 || phase == last, plan);
-        assert!(rt; rule.call(0, 0));
-        assert!(rt; !rule.call(0, 1));
-        assert!(rt; rule.call(7, 1));
-        assert_eq!(rt; rule.plan(), plan);
-        assert!(rt; plan.ends(7, false));
-    }
-}

@@ -6,7 +6,7 @@ ghost use Rattle.bsp_cli.specs.Ends.{TakesJob, Checks, Reports, Runs, ReadCause,
 
 use crate::fault::CommandFault;
 use crate::status::{LIMIT_REACHED, TASK_FAULT};
-use job_reader::{Code, ReadJobFault, Refusal, WriteJobFault, read_job, write_job};
+use job_reader::{Code, ReadJobFault, Refusal, read_job, write_job};
 use phase_records::{
     CountedRead, CountedWrite, JobStatus, ReadFault, Report, WriteFault, read_all, write_report,
 };
@@ -51,8 +51,8 @@ pub(crate) fn check<R: CountedRead, W: CountedWrite>(
     };
     match write_job(alloc, &job, writer) {
         Ok(()) => Ok(()),
-        Err(WriteJobFault::Write) => Err(CommandFault::Write),
-        Err(WriteJobFault::Memory) => Err(CommandFault::Memory),
+        Err(WriteFault::Write) => Err(CommandFault::Write),
+        Err(WriteFault::Memory) => Err(CommandFault::Memory),
     }
 }
 

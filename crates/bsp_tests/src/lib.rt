@@ -1,19 +1,19 @@
-//! Tests that cross crates: worked rows through the program's `run`, devices that fail, and phasers
-//! beside the plain flat phaser.
+//! Tests that need Rust: devices that fail, fronts of a text, help, the makers of words and shapes, and phasers beside
+//! the plain flat phaser. What a row can say stands in `examples/rows.txt`.
 #![tactic(auto)]
 
 #[cfg(test)]
 mod devices;
 #[cfg(test)]
+mod help;
+#[cfg(test)]
 mod interleaved;
 #[cfg(test)]
 mod jobs;
 #[cfg(test)]
+mod parts;
+#[cfg(test)]
 mod single;
-#[cfg(test)]
-mod traces;
-#[cfg(test)]
-mod trees;
 
 #[cfg(test)]
 mod runs {

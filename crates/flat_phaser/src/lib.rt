@@ -247,35 +247,3 @@ pub fn steps_are_taken()
 pub fn alike_stays_alike()
     ensures { AlikeStaysAlike }
 {}
-
-#[cfg(test)]
-mod tests {
-    use super::*;
-    use std::test::Fail;
-
-    #[test]
-    fn advances_when_everyone_has_arrived(rt: HostRuntime) -> Result<(), Fail> {
-        let mut flat = FlatPhaser::new(rt.alloc(), 0);
-        let rows = [
-            (FlatStep::Join(7, 2), Some(0), 2, 2, false),
-            (FlatStep::Join(8, 1), Some(0), 3, 3, false),
-            (FlatStep::Advance(false), None, 3, 3, false),
-            (FlatStep::Arrive(7), Some(0), 3, 2, false),
-            (FlatStep::Arrive(8), Some(0), 3, 1, false),
-            (FlatStep::Arrive(8), None, 3, 1, false),
-            (FlatStep::Leave(7), Some(0), 2, 0, true),
-            (FlatStep::Advance(false), Some(0), 2, 2, false),
-            (FlatStep::Force, Some(1), 2, 2, false),
-            (FlatStep::Leave(9), Some(1), 2, 2, false),
-        ];
-        for (step, answer, registered, unarrived, due) in rows {
-            assert_eq!(rt; flat.step(rt.alloc(), step)?, answer, "at {step:?}");
-            assert_eq!(rt; flat.registered(), registered, "at {step:?}");
-            assert_eq!(rt; flat.unarrived(), unarrived, "at {step:?}");
-            assert_eq!(rt; flat.is_due(), due, "at {step:?}");
-        }
-        assert_eq!(rt; flat.phase(), 1);
-        assert!(rt; flat.ended());
-        Ok(())
-    }
-}

@@ -3,7 +3,6 @@ pub mod Gives
 pub mod Grammar
 pub mod Laws
 pub mod Legal
-pub mod Outcome
 pub mod Reading
 pub mod Relates
 pub mod Trees

@@ -11,15 +11,6 @@ pub enum ReadJobFault {
     Memory,
 }
 
-/// Why a job was not written to its end.
-#[derive(Clone, Copy, Debug, PartialEq, Eq)]
-pub enum WriteJobFault {
-    /// The writer failed, and a beginning of the text went out.
-    Write,
-    /// There was no memory, and nothing went out.
-    Memory,
-}
-
 /// Why a line was not read.
 #[derive(Clone, Copy, Debug, PartialEq, Eq)]
 pub(crate) enum LineFault {

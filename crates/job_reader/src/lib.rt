@@ -12,7 +12,7 @@ mod so_far;
 mod state;
 mod write;
 
-pub use fault::{ReadJobFault, WriteJobFault};
+pub use fault::ReadJobFault;
 pub use laws::{each_text_is_read_or_refused, read_texts_are_jobs};
 pub use read::read_job;
 pub use text_lines::{Code, Refusal};

@@ -4,11 +4,10 @@ ghost use Rattle.std.specs.Fmt.{signed_decimal};
 ghost use Rattle.job_reader.specs.Trees.{body_tree, job_tree};
 ghost use Rattle.job_reader.specs.Grammar as spec;
 ghost use Rattle.job_reader.specs.Grammar.{spaced, line_text, text_of};
-ghost use Rattle.job_reader.specs.Outcome.{WritesJob, WriteCause};
+ghost use Rattle.phase_records.specs.Written.{WritesText, WriteCause};
 
-use crate::fault::WriteJobFault;
 use crate::push::{Writing, push_body_name, push_code, push_number};
-use phase_records::{CountedWrite, write_all};
+use phase_records::{CountedWrite, WriteFault, write_all};
 use std::alloc::{AllocError, Global};
 use superstep_memory::arrays::Arrays;
 use task_lang::body::Body;
@@ -143,15 +142,15 @@ pub fn write_job<W: CountedWrite>(
     alloc: Global,
     job: &Job,
     writer: &mut W,
-) -> Result<(), WriteJobFault>
-    ensures writes { WritesJob (W.contents writer.old) (W.contents writer.new) result (spec.canonical_text (job_tree job.now)) }
-    ensures failures { WriteCause result (W.failures writer.old) (W.failures writer.new) }
+) -> Result<(), WriteFault>
+    ensures writes { WritesText (W.contents writer.old) (W.contents writer.new) result (spec.canonical_text (job_tree job.now)) }
+    ensures failures { WriteCause (W.failures writer.old) (W.failures writer.new) result }
 {
     let Ok(text) = canonical(alloc, job) else {
-        return Err(WriteJobFault::Memory);
+        return Err(WriteFault::Memory);
     };
     match write_all(writer, &text) {
         Ok(()) => Ok(()),
-        Err(_) => Err(WriteJobFault::Write),
+        Err(_) => Err(WriteFault::Write),
     }
 }

@@ -1,8 +1,6 @@
-//! Tests of landing, of rounds and of jobs on one thread: worked rows, faults, limits, deliveries in any order, refusals.
+//! Tests of landing and of rounds: deliveries in any order, and refusals.
 #![tactic(auto)]
 
-#[cfg(test)]
-mod faults;
 #[cfg(test)]
 mod fixtures;
 #[cfg(test)]
@@ -10,8 +8,4 @@ mod hands;
 #[cfg(test)]
 mod landing;
 #[cfg(test)]
-mod limits;
-#[cfg(test)]
 mod rounds;
-#[cfg(test)]
-mod rows;

@@ -1,5 +1,5 @@
 -- A word that is no number's text has no number.
-use Rattle.std.proofs.Common.{◌≡◌, ◌≢◌, ℕ, ◌<◌, ◌^◌, Bool, true, false, ◌&&◌, List, None, Some, Result, Ok, Err, ℤ, pos, negsuc, FitsSigned, w64, to_z, of_z, sym, ◌∙◌, refl, ap, arith, if◌then◌else◌}
+use Rattle.std.proofs.Common.{◌≡◌, ◌≢◌, ◌↔◌, ℕ, ◌<◌, ◌^◌, Bool, true, false, ◌&&◌, List, None, Some, Result, Ok, Err, ℤ, pos, negsuc, FitsSigned, w64, to_z, of_z, sym, ◌∙◌, refl, ap, arith, if◌then◌else◌}
 use Rattle.std.proofs.lemmas.Int.{ints}
 use Rattle.std.specs.Int.Signed.{mag}
 use Rattle.std.proofs.lemmas.Grind.{common_steps}
@@ -44,13 +44,12 @@ none_other word text m t h ne n f same =
 pub none_not_text : (word : List ℕ) → (IsUtf8 word → ⊥) → (n : ℤ) → FitsSigned w64 n → word ≢ signed_decimal n
 none_not_text word h n f same = h (rw same (IsUtf8-from_ascii (signed_decimal n) (IsAscii-signed n (mag_of n f))))
 
--- a text that `==` tells from a word is another
-pub printed_other : (m : ℤ) (text bytes word : List ℕ) (same : Bool) → FitsSigned w64 m → text ≡ signed_decimal (to_z w64 (of_z w64 m)) → bytes ≡ text
-    → same ≡ bytes_eq bytes word → same ≡ false → signed_decimal m ≢ word
-printed_other m text bytes word same f t b e n w =
+-- a word that a test tells from a number's text is another
+pub not_written : (same : Bool) (m : ℤ) (word : List ℕ) → FitsSigned w64 m → (same ≡ true) ↔ (word ≡ signed_decimal (to_z w64 (of_z w64 m)))
+    → same ≡ false → signed_decimal m ≢ word
+not_written same m word f tells fails w =
     let back : to_z w64 (of_z w64 m) ≡ m = omega (arith, ints, f) in
-    let whole : bytes ≡ word = b ∙ t ∙ ap signed_decimal back ∙ w in
-    let yes : same ≡ true = e ∙ (bytes_eq-Decides bytes word).1 whole in
+    let holds : same ≡ true = tells.1 (sym w ∙ ap signed_decimal (sym back)) in
     cc
 
 same_number : (a b : ℤ) → ((a ≡ b → ⊥) → ⊥) → a ≡ b

@@ -1,5 +1,5 @@
 //! Numbers as words.
-ghost use Rattle.std.specs.Prelude.{◌≡◌, ◌≢◌, ℤ, IfSome, IfNone, FitsSigned};
+ghost use Rattle.std.specs.Prelude.{◌≡◌, ◌≢◌, ◌↔◌, true, ℤ, IfSome, IfNone, FitsSigned};
 ghost use Rattle.std.specs.Fmt.{signed_decimal};
 ghost use Rattle.std.specs.Int.{w64};
 ghost use Rattle.text_lines.specs.Number.{number_of};
@@ -20,9 +20,12 @@ pub fn number(word: &[u8]) -> Option<i64>
         Ok(n) => n,
         Err(_) => return None,
     };
-    if Buffer::new().format(n).as_bytes() == word {
-        Some(n)
-    } else {
-        None
-    }
+    if is_text_of(n, word) { Some(n) } else { None }
+}
+
+// Whether a word is the decimal text of a number.
+fn is_text_of(n: i64, word: &[u8]) -> bool
+    ensures { (result ≡ true) ↔ (word.now ≡ signed_decimal n) }
+{
+    Buffer::new().format(n).as_bytes() == word
 }

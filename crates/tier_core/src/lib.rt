@@ -8,7 +8,5 @@
 
 pub mod call;
 pub mod tree;
-#[cfg(test)]
-mod tree_rows;
 pub mod turn;
 pub mod turn_laws;

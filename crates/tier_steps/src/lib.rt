@@ -9,7 +9,5 @@
 
 pub mod kind;
 pub mod laws;
-#[cfg(test)]
-mod rows;
 pub mod step;
 pub mod view;
