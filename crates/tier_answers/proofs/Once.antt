@@ -35,11 +35,11 @@ use Rattle.tier_answers.specs.Moments.{Moment, Event, moments, AreEvents, AreOfC
 use Rattle.tier_answers.specs.Told.{refusing}
 use Rattle.tier_answers.specs.Calls.{IsSeated}
 use Rattle.tier_answers.specs.Once.{is_counting, times_counted, counts_when_done, CountsAs, LatestCounts, CallsCountOnce, view_after_turn, SeatsAs, LatestSeats, JoinsSeatWhereAsked, IsNotedAt, NotesAs, LatestNotes, RefusalsAreNoted}
-use Rattle.tier_answers.proofs.Ending.{at, imaged}
+use Rattle.tier_answers.proofs.Ending.{alike_itself, at, imaged}
 use Rattle.tier_answers.proofs.Memory.{any_here, any_later, call_of, by_turn}
 use Rattle.tier_answers.specs.Frame.{flat_of}
 use Rattle.tier_core.proofs.Runs.{begun_core}
-use Rattle.tier_answers.proofs.Reached.{Alikes, Tells_, reached, alike_itself, carried, any_alike}
+use Rattle.tier_answers.proofs.Reached.{Alikes, Tells_, reached, carried, any_alike}
 use Rattle.tier_answers.proofs.Along.{Carries, OfToken, TurnKeeps, of_token, along_call}
 
 -- what a turn answers, of a call that has counted so often

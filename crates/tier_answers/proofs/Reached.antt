@@ -91,13 +91,6 @@ reached i (Enters ∷ events) s f past past' core are alike h =
     reached i events (with_token s) f past past' (token_core s core) are
     (subst (λ (g : Flat). LooksAlike f g) (sym (same_flat s)) alike) h
 
-pub alike_itself : (f : Flat) → LooksAlike f f
-alike_itself f = record {
-  phase = refl;
-  ended = refl;
-  going = λ _. record { phase = refl; ended = refl; due = refl; members = λ _. refl; arrived = λ _. refl };
-}
-
 -- what is said of a moment by its state and turn is said of it beside other flat phasers
 pub carried : (P : Moment → Type 0) (m n : Moment) → (a : Alike m n) → P (beside n a.before_ a.after_) → P m
 carried P m n a h = subst P (sym a.is) h

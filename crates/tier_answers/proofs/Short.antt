@@ -23,9 +23,9 @@ use Rattle.tier_answers.specs.Moments.{Moment, run_of, moments}
 use Rattle.tier_answers.specs.Count.{most_steps, IsShort, CallsAreShort}
 use Rattle.tier_answers.proofs.Framing.{others_stay, turned, after_either}
 use Rattle.tier_answers.proofs.Planning.{known_active, known_due}
-use Rattle.tier_answers.proofs.Ending.{at, imaged}
+use Rattle.tier_answers.proofs.Ending.{alike_itself, at, imaged}
 use Rattle.tier_answers.specs.Frame.{flat_of}
-use Rattle.tier_answers.proofs.Reached.{as_many, reached, alike_itself}
+use Rattle.tier_answers.proofs.Reached.{as_many, reached}
 use Rattle.tier_answers.proofs.Along.{Carries, along, view_stays, call_stays, begun_known}
 use Rattle.tier_answers.proofs.Ranks.{Within, some_left, Lowers, turn_lowers, left_stays}
 

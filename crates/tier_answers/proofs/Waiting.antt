@@ -32,17 +32,17 @@ use Rattle.tier_core.specs.Machine.{State, IsCore, view_at, call_at, is_due, tur
 use Rattle.tier_core.specs.Run.{may_begin, may_go, may_finish, begun, finish_at, plan_ends, after, IsCall, IsStepOfCalls}
 use Rattle.tier_core.proofs.Turns.{not_both}
 use Rattle.tier_core.proofs.Places.{MayPlay, turn_may}
-use Rattle.tier_core.proofs.Runs.{finish_may, begun_core}
+use Rattle.tier_core.proofs.Runs.{due_advances, finish_may, begun_core}
 use Rattle.tier_answers.specs.Frame.{flat_of}
 use Rattle.tier_answers.specs.Hold.{IsStill}
 use Rattle.tier_answers.specs.Moments.{Moment, Event, run_of, moments, AreEvents, AreOfCall}
 use Rattle.tier_answers.specs.Told.{MakesDue, Tells}
 use Rattle.tier_answers.specs.Waits.{HasRoot, TheRootWaits, IsAsTold, LatestIsKept, AdvancesAreAwaited}
 use Rattle.tier_answers.proofs.Framing.{after_either}
-use Rattle.tier_answers.proofs.Planning.{known_active, known_due, due_owes}
+use Rattle.tier_answers.proofs.Planning.{known_active, known_due}
 use Rattle.tier_answers.proofs.Holding.{part, fits_at, advances_are_alone}
-use Rattle.tier_answers.proofs.Ending.{at, imaged}
-use Rattle.tier_answers.proofs.Reached.{Alikes, reached, alike_itself}
+use Rattle.tier_answers.proofs.Ending.{alike_itself, at, imaged}
+use Rattle.tier_answers.proofs.Reached.{Alikes, reached}
 use Rattle.tier_answers.proofs.Along.{Carries, OfToken, along, begun_known, call_stays}
 use Rattle.tier_answers.proofs.Telling.{Story, stories, begun_story}
 
@@ -126,7 +126,7 @@ has_root : (s s' : State) (phase parties : ℕ) → KeepsRoot (word_at s.words 0
 has_root s s' phase parties kept is = record { phase = kept.phase ∙ is.phase; parties = kept.parties ∙ is.parties }
 
 owes_at : (s : State) (i : ℕ) → IsCore s → i < length s.views → is_due (call_at s.calls i) ≡ true → (view_at s.views i).errand ≡ Advancing
-owes_at s i core h due = due_owes s.parents (call_at s.calls i) (view_at s.views i) due (core.calls i h)
+owes_at s i core h due = due_advances s.parents (call_at s.calls i) (view_at s.views i) due (core.calls i h)
 
 pub the_root_waits : TheRootWaits
 the_root_waits s (Begin j c) i phase parties core is may n root =

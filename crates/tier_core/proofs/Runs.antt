@@ -18,7 +18,7 @@ use Rattle.tier_core.specs.Turn.{Call, Progress, Idle, Begun, ToSeek, Settling, 
 use Rattle.tier_core.specs.Machine.{State, IsCore, IsNext, CallFits, BegunFits, view_at, call_at, is_active, is_due, turn_at, played}
 use Rattle.tier_core.specs.Run.{Step, Begin, Go, Finish, is_idle, may_call, may_begin, may_go, may_finish, begun, finish_at, plan_ends, after, run, step_label, listed, labels, IsCall, IsStepOfCalls, TheTreeIsFlat}
 use Rattle.tier_core.specs.declared.call.Call.TheVariants as call
-use Rattle.tier_core.proofs.Turns.{by_test, not_both, looked_ended}
+use Rattle.tier_core.proofs.Turns.{by_test, not_both, finish_next}
 use Rattle.tier_core.proofs.Places.{MayPlay, played_core, played_flat, turn_may}
 
 -- a token that is idle rests, and one that must advance owes it
@@ -33,7 +33,7 @@ idle_rests ps (Owing own) v e fits = not_both false e refl
 idle_rests ps (Due own) v e fits = not_both false e refl
 idle_rests ps (Refreshing has_moved) v e fits = not_both false e refl
 
-due_advances : (ps : List ℕ) (p : Progress) (v : View) → is_due p ≡ true → CallFits ps p v → v.errand ≡ Advancing
+pub due_advances : (ps : List ℕ) (p : Progress) (v : View) → is_due p ≡ true → CallFits ps p v → v.errand ≡ Advancing
 due_advances ps Idle v e fits = not_both false e refl
 due_advances ps (Begun c) v e fits = not_both false e refl
 due_advances ps (ToSeek tier size) v e fits = not_both false e refl
@@ -77,14 +77,8 @@ begun_core s i c core is e =
 -- an advance
 pub finish_may : (s : State) (i : ℕ) (ends : Bool) → IsCore s → i < length s.views → is_due (call_at s.calls i) ≡ true → MayPlay s i (finish_at s i ends)
 finish_may s i ends core h e =
-    let owes = due_advances s.parents (call_at s.calls i) (view_at s.views i) e (core.calls i h) in
-    by_test (λ b. IsNext s.parents s.words (view_at s.views i) (cond b Look (Advance ends)) 0 Idle) (word_at s.words 0).ended
-    (λ ended. record {
-      within = core.tally.some;
-      needs = refl;
-      keeps = looked_ended (word_at s.words 0) (view_at s.views i) ended ∙ ap dropped owes;
-    })
-    (λ going. record { within = core.tally.some; needs = (refl, record { errand = owes; going = going }); keeps = refl })
+    finish_next s.parents s.words (view_at s.views i) ends core.tally.some
+    (due_advances s.parents (call_at s.calls i) (view_at s.views i) e (core.calls i h))
 
 -- what one step is
 abbrev pub Moves : Option FlatStep → State → Flat → Type 0
