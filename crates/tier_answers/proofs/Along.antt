@@ -1,5 +1,5 @@
 -- What is true along a call, whatever other tokens do between its steps, and whatever tokens come in.
-use Rattle.std.proofs.Common.{◌≡◌, ◌≢◌, ℕ, zero, suc, ◌+◌, ◌<◌, Bool, true, false, cond, eqb, ltb, List, [], ◌∷◌, ◌++◌, length, length-set, get_or, refl, sym, subst, arith}
+use Rattle.std.proofs.Common.{◌≡◌, ◌≢◌, ℕ, zero, suc, ◌+◌, ◌<◌, Bool, true, cond, eqb, ltb, List, [], ◌∷◌, ◌++◌, length, length-set, get_or, refl, sym, subst, arith}
 use Rattle.std.specs.Prelude.{◌&&◌}
 use Rattle.flat_phaser.proofs.Everyone.{both_true}
 use Rattle.std.proofs.lemmas.Bool.{eqb-true, eqb-false, ltb-true}
@@ -21,7 +21,7 @@ use Rattle.tier_core.proofs.Places.{MayPlay, turn_may}
 use Rattle.tier_core.proofs.Runs.{finish_may, step_moves, begun_core}
 use Rattle.tier_core.proofs.Opening.{token_core}
 use Rattle.tier_answers.specs.Frame.{flat_of}
-use Rattle.tier_answers.specs.Moments.{Moment, Event, Takes, Enters, state_then, run_of, AreEvents, IsOfCall, AreOfCall}
+use Rattle.tier_answers.specs.Moments.{Moment, Event, Takes, Enters, run_of, AreEvents, IsOfCall, AreOfCall}
 use Rattle.tier_answers.proofs.Framing.{after_either, turned}
 use Rattle.tier_answers.proofs.Planning.{known_active, known_due}
 use Rattle.tier_answers.proofs.Ending.{alike_itself, at, own_imaged, imaged}

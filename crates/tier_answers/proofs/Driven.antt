@@ -1,7 +1,6 @@
 -- The answers of a run are those of the flat phaser.
-use Rattle.std.proofs.Common.{◌≡◌, ℕ, true, List, [], ◌∷◌, ◌++◌, refl, sym, ◌∙◌, ap, subst}
+use Rattle.std.proofs.Common.{◌≡◌, List, [], ◌∷◌, ◌++◌, refl, ◌∙◌, ap, subst}
 use Rattle.std.specs.Prelude.{map}
-use Rattle.flat_phaser.specs.Flat.{Flat}
 use Rattle.flat_phaser.specs.Step.{flat_run}
 use Rattle.tier_core.specs.declared.call.Step.{Step}
 use Rattle.tier_core.specs.declared.call.Step.TheVariants.{Begin}
@@ -9,7 +8,7 @@ use Rattle.tier_core.specs.Machine.{State}
 use Rattle.tier_core.specs.Run.{after, answer_to, answers, run, labels, AreSteps}
 use Rattle.tier_core.proofs.Runs.{the_tree_is_flat}
 use Rattle.tier_answers.specs.Moments.{Takes, AreEvents}
-use Rattle.tier_answers.specs.Driven.{IsDriven, RunsAnswerAsTheFlatPhaser}
+use Rattle.tier_answers.specs.Driven.{RunsAnswerAsTheFlatPhaser}
 use Rattle.tier_answers.proofs.Telling.{answers_tell}
 
 front_steps : (xs ys : List Step) → AreSteps (xs ++ ys) → AreSteps xs

@@ -1,11 +1,10 @@
 -- From the flat phasers that a tree stands for to any that takes the labels of its steps.
-use Rattle.std.proofs.Common.{◌≡◌, ◌≢◌, ℕ, zero, suc, ◌+◌, ◌<◌, ◌⊎◌, inl, inr, ⊎_elim, Bool, true, false, cond, eqb, ltb, List, [], ◌∷◌, ◌++◌, length, get_or, refl, sym, ◌∙◌, ap, subst, arith}
-use Rattle.std.specs.Prelude.{◌↔◌}
+use Rattle.std.proofs.Common.{◌≡◌, ℕ, zero, suc, ◌<◌, ◌⊎◌, inl, inr, ⊎_elim, Bool, true, false, cond, eqb, List, [], ◌∷◌, ◌++◌, length, get_or, refl, sym, ◌∙◌, ap, subst, arith}
 use Rattle.std.specs.List.{Any}
 use Rattle.std.proofs.lemmas.Bool.{eq-eqb}
 use Rattle.phaser_word.specs.Phase.{shown_of}
 use Rattle.flat_phaser.specs.declared.Member.{Member}
-use Rattle.flat_phaser.specs.Flat.{Flat, members_of, arrived_of, registered, shown, is_owned}
+use Rattle.flat_phaser.specs.Flat.{Flat, members_of, arrived_of, is_owned}
 use Rattle.flat_phaser.specs.Alike.{IsAlike}
 use Rattle.flat_phaser.proofs.Counts.{count_cons}
 use Rattle.tier_steps.specs.Marks.{sees_root}
@@ -19,14 +18,14 @@ use Rattle.tier_core.specs.declared.call.Played.TheVariants.{GoesOn, Done, Passe
 use Rattle.tier_core.specs.declared.call.Step.{Step}
 use Rattle.tier_core.specs.declared.call.Step.TheVariants.{Begin, Go, Finish}
 use Rattle.tier_core.specs.declared.call.Turn.{Turn}
-use Rattle.tier_core.specs.Machine.{State, IsCore, turn_at, played, with_token}
+use Rattle.tier_core.specs.Machine.{State, IsCore, turn_at, with_token}
 use Rattle.tier_core.specs.Run.{may_go, may_finish, finish_at, plan_ends, after, step_label}
 use Rattle.tier_core.proofs.Places.{MayPlay, played_flat, turn_may}
 use Rattle.tier_core.proofs.Runs.{finish_may, step_moves}
 use Rattle.tier_core.proofs.Opening.{token_core}
 use Rattle.tier_answers.specs.Frame.{flat_of}
 use Rattle.tier_answers.specs.Moments.{Moment, Event, Takes, Enters, moment_of, own_turn, moments, AreEvents}
-use Rattle.tier_answers.specs.Told.{IsCounted, IsFirstLook, IsAwaiting, AreAllHere, HasPassed, HasEnded, MakesDue, IsCause, IsHeldBy, IsFullWith, last_seen, IsDoneIn, Tells, IsTold, LatestTells, is_last}
+use Rattle.tier_answers.specs.Told.{IsCounted, IsFirstLook, IsAwaiting, AreAllHere, HasPassed, HasEnded, MakesDue, IsCause, IsHeldBy, IsFullWith, last_seen, IsDoneIn, Tells, LatestTells, is_last}
 use Rattle.tier_core.specs.declared.call.Progress.TheVariants.{Idle}
 use Rattle.tier_answers.proofs.Planning.{known_active, known_due}
 use Rattle.tier_answers.proofs.Ending.{at, own_imaged, imaged}

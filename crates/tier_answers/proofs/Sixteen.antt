@@ -1,7 +1,7 @@
 -- Wherever a call stands, 16 steps of its token alone are enough.
-use Rattle.std.proofs.Common.{◌≡◌, ◌≢◌, ℕ, zero, suc, ◌+◌, ◌-◌, ◌<◌, ◌≤◌, ◌⊎◌, inl, inr, ⊎_elim, Bool, true, false, cond, eqb, ltb, List, length, length-set, refl, sym, ◌∙◌, ap, subst, arith}
+use Rattle.std.proofs.Common.{◌≡◌, ◌≢◌, ℕ, zero, suc, ◌-◌, ◌<◌, ◌≤◌, ◌⊎◌, inl, inr, ⊎_elim, Bool, true, false, cond, eqb, ltb, List, length, length-set, refl, sym, ◌∙◌, ap, subst, arith}
 use Rattle.std.specs.Prelude.{◌&&◌, not}
-use Rattle.std.proofs.lemmas.Bool.{cases_eq, cases_lt, and_from, eq-eqb, lt-ltb}
+use Rattle.std.proofs.lemmas.Bool.{cases_eq, cases_lt, and_from, lt-ltb}
 use Rattle.std.proofs.lemmas.List.{get_or-set_same}
 use Rattle.flat_phaser.proofs.Everyone.{either}
 use Rattle.phaser_word.specs.Fields.{Fields}
@@ -10,7 +10,7 @@ use Rattle.tier_shape.specs.Parents.{parent_of}
 use Rattle.tier_steps.specs.Word.{is_being_opened}
 use Rattle.tier_steps.specs.declared.view.View.{View}
 use Rattle.tier_steps.specs.declared.view.Errand.{Errand}
-use Rattle.tier_steps.specs.declared.view.Errand.TheVariants.{Rest, Opening, Climbing, Advancing}
+use Rattle.tier_steps.specs.declared.view.Errand.TheVariants.{Opening, Climbing}
 use Rattle.tier_steps.specs.declared.view.Stage.{Stage}
 use Rattle.tier_steps.specs.declared.view.Stage.TheVariants.{Seeking, Joined, GoingBack}
 use Rattle.tier_steps.specs.declared.view.Trip.{Trip}
@@ -29,7 +29,6 @@ use Rattle.tier_core.specs.declared.call.Played.{Played}
 use Rattle.tier_core.specs.declared.call.Played.TheVariants.{GoesOn, Done, Passed, Waiting, Held, Full, AlreadyArrived, Ended, MustAdvance}
 use Rattle.tier_core.specs.declared.call.Progress.{Progress}
 use Rattle.tier_core.specs.declared.call.Progress.TheVariants.{Idle, Begun, Seeking as ToSeek, Settling, GivingBack as ToGiveBack, Passing, Owing, Due, Refreshing}
-use Rattle.tier_core.specs.declared.call.Step.{Step}
 use Rattle.tier_core.specs.declared.call.Step.TheVariants.{Go, Finish}
 use Rattle.tier_core.specs.declared.call.Turn.{Turn}
 use Rattle.tier_core.specs.Turn.{end_shown, is_refusing, is_claimable, refusal, is_refusal, lags, polled, claimed_by, giving_back, settling, unless_claimed, seek_turn, settle_turn, give_back_turn, own_kind, goes_on, told, last_look, pass_turn, climb_turn, errand_place, first_turn, turn}
@@ -38,11 +37,11 @@ use Rattle.tier_core.specs.Run.{is_idle, may_go, may_finish, finish_at, plan_end
 use Rattle.tier_core.proofs.Turns.{not_both, refusal_is}
 use Rattle.tier_core.proofs.Places.{turn_may, played_core}
 use Rattle.tier_answers.specs.Told.{is_last}
-use Rattle.tier_answers.specs.Count.{going_on, IsAnswered, IsAnsweredWithin, SixteenStepsAreEnough}
+use Rattle.tier_answers.specs.Count.{going_on, IsAnsweredWithin, SixteenStepsAreEnough}
 use Rattle.tier_answers.proofs.Memory.{by_turn}
 use Rattle.tier_answers.proofs.Holding.{part, fits_at}
 use Rattle.tier_answers.proofs.Ranks.{Within, climbs_to, climb_most, shallow, some_left, turn_lowers}
-use Rattle.tier_answers.proofs.Short.{most, moved_left, active_going}
+use Rattle.tier_answers.proofs.Short.{most, moved_left}
 
 -- a turn that doesn't answer its call leaves it going
 abbrev Further : Progress → Played → Type 0

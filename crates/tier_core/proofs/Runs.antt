@@ -1,5 +1,5 @@
 -- Each run is a flat run.
-use Rattle.std.proofs.Common.{◌≡◌, ◌≢◌, ℕ, ◌<◌, ⊎_elim, Bool, true, false, cond, eqb, ltb, List, [], ◌∷◌, length, length-set, set, refl, sym, ◌∙◌, ap, subst, arith, None}
+use Rattle.std.proofs.Common.{◌≡◌, ◌≢◌, ℕ, ◌<◌, ⊎_elim, Bool, true, false, cond, eqb, ltb, List, [], ◌∷◌, length, length-set, set, refl, sym, ◌∙◌, subst, arith, None}
 use Rattle.std.specs.Prelude.{◌&&◌}
 use Rattle.std.proofs.lemmas.List.{get_or-set_same, get_or-set_other}
 use Rattle.std.proofs.lemmas.Bool.{cases_eq, ltb-true, eqb-true}
@@ -10,12 +10,9 @@ use Rattle.flat_phaser.specs.Step.{flat_run, IsFlatRun}
 use Rattle.flat_phaser.proofs.Everyone.{both_true}
 use Rattle.tier_steps.specs.declared.view.View.{View}
 use Rattle.tier_steps.specs.declared.view.Errand.TheVariants.{Rest, Advancing}
-use Rattle.tier_steps.specs.Tally.{word_at}
-use Rattle.tier_steps.specs.declared.kind.Kind.TheVariants.{Look, Advance}
-use Rattle.tier_steps.specs.Step.{dropped}
 use Rattle.tier_steps.specs.Image.{image, label, labelled, IsAllowedLabel, LooksAlike}
 use Rattle.tier_core.specs.Turn.{Call, Progress, Idle, Begun, ToSeek, Settling, ToGiveBack, Passing, Owing, Due, Refreshing, Turn}
-use Rattle.tier_core.specs.Machine.{State, IsCore, IsNext, CallFits, BegunFits, view_at, call_at, is_active, is_due, turn_at, played}
+use Rattle.tier_core.specs.Machine.{State, IsCore, CallFits, BegunFits, view_at, call_at, is_active, is_due, turn_at, played}
 use Rattle.tier_core.specs.Run.{Step, Begin, Go, Finish, is_idle, may_call, may_begin, may_go, may_finish, begun, finish_at, plan_ends, after, run, step_label, listed, labels, IsCall, IsStepOfCalls, TheTreeIsFlat}
 use Rattle.tier_core.specs.declared.call.Call.TheVariants as call
 use Rattle.tier_core.proofs.Turns.{by_test, not_both, finish_next}
