@@ -112,7 +112,7 @@ same_if : (b : Bool) (x y v : View) → b ≡ true → IsSame v x → IsSame v (
 same_if true x y v e h = h
 same_if false x y v e h = not_both false e refl
 
-looked_same : (w : Fields) (v : View) → w.ended ≡ true → IsSame v (looked w v)
+pub looked_same : (w : Fields) (v : View) → w.ended ≡ true → IsSame v (looked w v)
 looked_same w v e =
     let u : View = record v { led = false; note = cond (is_going_back v.errand) v.note None } in
     same_if w.ended (record u { end_seen = Some w.phase; errand = dropped v.errand }) (moved w u) v e
