@@ -1,7 +1,7 @@
 //! What the answers of calls mean, and how many steps a call takes. Each law is the contract of a function
 //! without parameters that does nothing.
 
-ghost use Rattle.tier_answers.specs.Moments.{MomentsAreAnswers};
+ghost use Rattle.tier_answers.specs.Moments.{MomentsAreAnswers, MomentsLookLikeTheTree};
 ghost use Rattle.tier_answers.specs.Told.{AnswersTell};
 ghost use Rattle.tier_answers.specs.Driven.{RunsAnswerAsTheFlatPhaser};
 ghost use Rattle.tier_answers.specs.Once.{CallsCountOnce, JoinsSeatWhereAsked, RefusalsAreNoted};
@@ -10,6 +10,11 @@ ghost use Rattle.tier_answers.specs.Count.{CallsAreShort, SixteenStepsAreEnough}
 /// What a run answers to a step of a token is the answer of the moment that the step is.
 pub fn moments_are_answers()
     ensures { MomentsAreAnswers }
+{}
+
+/// The flat phasers that the labels of a run have reached before and after a turn look like the tree there.
+pub fn moments_look_like_the_tree()
+    ensures { MomentsLookLikeTheTree }
 {}
 
 /// What each answer of a call says of the one flat phaser that the tree stands for, whatever other tokens
