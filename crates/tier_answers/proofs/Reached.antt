@@ -280,7 +280,7 @@ one_like i j false m h = by_test (λ b. AllLike i (cond b [] [])) (eqb j i) (λ 
 
 turn_like : (s : State) (f : Flat) (j : ℕ) (r : Turn) → IsCore s → LooksAlike f (flat_of s) → j < length s.views → MayPlay s j r
     → LooksLikeTheTree j (moment_of j s f r)
-turn_like s f j r core alike h may = record { first = alike; then_ = (played_flat s j r f core h may alike).1 }
+turn_like s f j r core alike h may = record { before = alike; afterwards = (played_flat s j r f core h may alike).1 }
 
 own_like : (i : ℕ) (s : State) (f : Flat) (x : Step) → IsCore s → LooksAlike f (flat_of s) → AllLike i (own_turn i s f x)
 own_like i s f (Begin j c) core alike = tt

@@ -83,8 +83,8 @@ MomentsAreAnswers =
 
 -- the flat phasers of a moment look like the tree before its turn and after it
 pub record LooksLikeTheTree (token : ℕ) (m : Moment) : Type 0 where
-  pub first : LooksAlike m.before (flat_of m.state)
-  pub then_ : LooksAlike m.afterwards (flat_of (played m.state token m.turn))
+  pub before : LooksAlike m.before (flat_of m.state)
+  pub afterwards : LooksAlike m.afterwards (flat_of (played m.state token m.turn))
 
 -- So do those that the labels reach from one that looks like the tree before the run.
 abbrev pub MomentsLookLikeTheTree : Type 0
