@@ -160,8 +160,12 @@ climb_over s i own t trip core within ended owes g =
     let over : w.ended ≡ true = ap (λ n. (word_at s.words n).ended) (sym root) ∙ ended in
     record {
       same = subst (λ (x : View). IsSame v x) (sym g.view) (looked_same w v over);
-      owes = inl (g.answer, ap (λ (x : View). x.errand) g.view
-          ∙ (looked_ended w v over ∙ ap dropped (owes ∙ ap (λ n. Climbing n trip) root)), g.call);
+      owes = inl (
+        g.answer,
+        ap (λ (x : View). x.errand) g.view
+            ∙ (looked_ended w v over ∙ ap dropped (owes ∙ ap (λ n. Climbing n trip) root)),
+        g.call,
+      );
     }
 
 pub climbs_keep_members : ClimbsKeepMembers
@@ -177,7 +181,7 @@ climbs_keep_members s i own core h e =
     subst (λ (x : Errand). Gone s i (climb_turn s.parents own (word_at s.words (errand_place s.parents x)) v x)) fits.2 (gone s i (Owing own) core h e refl) in
     ⊎_elim
     (λ (ended : (word_at s.words fits.0).ended ≡ true). climb_over s i own fits.0 fits.1 core within ended fits.2
-    (subst (λ (x : Turn). Gone s i x) (by_turn (λ x. x ≡ last_look (Done v.phase) ) (word_at s.words fits.0).ended (last_look (Done v.phase))
+    (subst (λ (x : Turn). Gone s i x) (by_turn (λ x. x ≡ last_look (Done v.phase)) (word_at s.words fits.0).ended (last_look (Done v.phase))
     (cond (lags w v) (record { kind = Refresh; tier = fits.0; next = Owing own; answer = GoesOn }) (record {
       kind = Climb fits.1;
       tier = fits.0;
