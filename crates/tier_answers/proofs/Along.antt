@@ -1,5 +1,5 @@
 -- What is true along a call, whatever other tokens do between its steps, and whatever tokens come in.
-use Rattle.std.proofs.Common.{◌≡◌, ◌≢◌, ℕ, zero, suc, ◌+◌, ◌<◌, Bool, true, false, cond, eqb, ltb, List, [], ◌∷◌, ◌++◌, length, length-set, get_or, refl, sym, subst, arith}
+use Rattle.std.proofs.Common.{◌≡◌, ◌≢◌, ℕ, zero, suc, ◌+◌, ◌<◌, Bool, true, cond, eqb, ltb, List, [], ◌∷◌, ◌++◌, length, length-set, get_or, refl, sym, subst, arith}
 use Rattle.std.specs.Prelude.{◌&&◌}
 use Rattle.flat_phaser.proofs.Everyone.{both_true}
 use Rattle.std.proofs.lemmas.Bool.{eqb-true, eqb-false, ltb-true}
@@ -21,10 +21,10 @@ use Rattle.tier_core.proofs.Places.{MayPlay, turn_may}
 use Rattle.tier_core.proofs.Runs.{finish_may, step_moves, begun_core}
 use Rattle.tier_core.proofs.Opening.{token_core}
 use Rattle.tier_answers.specs.Frame.{flat_of}
-use Rattle.tier_answers.specs.Moments.{Moment, Event, Takes, Enters, state_then, run_of, AreEvents, IsOfCall, AreOfCall}
+use Rattle.tier_answers.specs.Moments.{Moment, Event, Takes, Enters, run_of, AreEvents, IsOfCall, AreOfCall}
 use Rattle.tier_answers.proofs.Framing.{after_either, turned}
 use Rattle.tier_answers.proofs.Planning.{known_active, known_due}
-use Rattle.tier_answers.proofs.Ending.{at, own_imaged, imaged}
+use Rattle.tier_answers.proofs.Ending.{alike_itself, at, own_imaged, imaged}
 
 -- what is kept by the call's own steps, by others' steps and calls, and by a token that comes in
 pub record Carries (i : ℕ) (P : State → List Moment → Type 0) : Type 0 where
@@ -39,11 +39,7 @@ pub record Carries (i : ℕ) (P : State → List Moment → Type 0) : Type 0 whe
   pub enters : (s : State) (past : List Moment) → IsCore s → i < length s.views → P s past → P (with_token s) past
 
 pub core_after : (s : State) (x : Step) → IsCore s → IsStepOfCalls x → IsCore (after s x)
-core_after s x core is = (step_moves s x (flat_of s) core is record {
-  phase = refl;
-  ended = refl;
-  going = λ _. record { phase = refl; ended = refl; due = refl; members = λ _. refl; arrived = λ _. refl };
-}).2
+core_after s x core is = (step_moves s x (flat_of s) core is (alike_itself (flat_of s))).2
 
 -- no step takes a token away
 pub tokens_stay : (s : State) (x : Step) → length (after s x).views ≡ length s.views

@@ -1,12 +1,11 @@
 -- Who may begin a call, and what calls do on a tree that has ended.
-use Rattle.std.proofs.Common.{◌≡◌, ◌≢◌, ℕ, zero, suc, ◌-◌, ◌+◌, ◌<◌, Bool, true, false, cond, eqb, ltb, List, [], ◌∷◌, ◌++◌, length, get_or, set, refl, sym, ◌∙◌, ap, subst, arith, Some, None}
+use Rattle.std.proofs.Common.{◌≡◌, ℕ, zero, suc, ◌-◌, ◌<◌, Bool, true, false, cond, eqb, ltb, List, [], ◌∷◌, ◌++◌, length, get_or, set, refl, sym, ◌∙◌, ap, subst, arith, Some, None}
 use Rattle.std.specs.Prelude.{◌&&◌, not, replicate}
 use Rattle.std.proofs.lemmas.Bool.{and_from, eq-eqb, eqb-true, lt-ltb, ltb-true}
 use Rattle.std.proofs.lemmas.List.{get_or-set_same, set-get_or}
 use Rattle.phaser_word.specs.Fields.{Fields}
 use Rattle.phaser_word.specs.Phase.{shown_of}
-use Rattle.flat_phaser.specs.declared.Member.{Member}
-use Rattle.flat_phaser.specs.Flat.{Flat, shown, everyone_arrived}
+use Rattle.flat_phaser.specs.Flat.{everyone_arrived}
 use Rattle.flat_phaser.specs.Step.{newcomers}
 use Rattle.flat_phaser.proofs.Everyone.{both_true}
 use Rattle.tier_steps.specs.declared.view.View.{View}
@@ -26,13 +25,13 @@ use Rattle.tier_core.specs.declared.call.Progress.{Progress}
 use Rattle.tier_core.specs.declared.call.Progress.TheVariants.{Idle, Begun, Seeking as ToSeek, Settling, GivingBack as ToGiveBack, Passing, Owing, Due, Refreshing}
 use Rattle.tier_core.specs.declared.call.Step.TheVariants.{Go}
 use Rattle.tier_core.specs.declared.call.Turn.{Turn}
-use Rattle.tier_core.specs.Turn.{end_shown, is_refusing, lags, polled, first_turn, last_look}
-use Rattle.tier_core.specs.Machine.{State, IsCore, view_at, call_at}
-use Rattle.tier_core.specs.Run.{is_idle, may_call, may_begin, after}
+use Rattle.tier_core.specs.Turn.{end_shown, is_refusing, lags, polled, first_turn}
+use Rattle.tier_core.specs.Machine.{State, view_at, call_at}
+use Rattle.tier_core.specs.Run.{is_idle, may_call, after}
 use Rattle.tier_core.proofs.Turns.{not_both}
 use Rattle.tier_answers.specs.Frame.{flat_of}
-use Rattle.tier_answers.specs.Calls.{view_then, IsSame}
-use Rattle.tier_answers.specs.Ended.{IsFor, MayBegin, TokensBeginCalls, IsTurnedAway, EndedTreesTurnCallsAway, IsForced, ForceEndsTheTree}
+use Rattle.tier_answers.specs.Calls.{IsSame}
+use Rattle.tier_answers.specs.Ended.{IsFor, TokensBeginCalls, EndedTreesTurnCallsAway, ForceEndsTheTree}
 use Rattle.tier_answers.proofs.Stepping.{Gone, gone}
 
 idle_is : (p : Progress) → is_idle p ≡ true → p ≡ Idle
@@ -113,7 +112,7 @@ same_if : (b : Bool) (x y v : View) → b ≡ true → IsSame v x → IsSame v (
 same_if true x y v e h = h
 same_if false x y v e h = not_both false e refl
 
-looked_same : (w : Fields) (v : View) → w.ended ≡ true → IsSame v (looked w v)
+pub looked_same : (w : Fields) (v : View) → w.ended ≡ true → IsSame v (looked w v)
 looked_same w v e =
     let u : View = record v { led = false; note = cond (is_going_back v.errand) v.note None } in
     same_if w.ended (record u { end_seen = Some w.phase; errand = dropped v.errand }) (moved w u) v e

@@ -29,7 +29,7 @@ use Rattle.tier_answers.specs.Told.{HasEnded}
 abbrev pub at : ℕ → State → Turn → Moment
 at i s r = record { state = s; turn = r; before = flat_of s; afterwards = flat_of (played s i r) }
 
-alike_itself : (f : Flat) → LooksAlike f f
+pub alike_itself : (f : Flat) → LooksAlike f f
 alike_itself f = record {
   phase = refl;
   ended = refl;

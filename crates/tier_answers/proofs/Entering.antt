@@ -1,17 +1,16 @@
 -- A token that comes in leaves all else as it was.
-use Rattle.std.proofs.Common.{◌≡◌, ◌≢◌, ℕ, zero, suc, ◌+◌, ◌-◌, ◌<◌, ◌≤◌, ⊎_elim, Bool, true, false, cond, eqb, List, [], ◌∷◌, ◌++◌, length, get_or, refl, sym, ◌∙◌, ap, subst, arith}
+use Rattle.std.proofs.Common.{◌≡◌, ℕ, zero, suc, ◌-◌, ◌<◌, ◌≤◌, ⊎_elim, Bool, true, false, cond, eqb, List, [], ◌∷◌, ◌++◌, length, get_or, refl, sym, ◌∙◌, ap, subst, arith}
 use Rattle.std.proofs.lemmas.Bool.{cases_lt}
 use Rattle.tier_steps.specs.declared.view.View.{View}
-use Rattle.tier_steps.specs.declared.view.Errand.TheVariants.{Rest}
 use Rattle.tier_steps.specs.View.{new_view, absent}
 use Rattle.tier_steps.specs.Tally.{word_at}
 use Rattle.tier_steps.proofs.Start.{new_tokens_are_unseen}
 use Rattle.tier_core.specs.declared.call.Progress.TheVariants.{Idle}
-use Rattle.tier_core.specs.Machine.{State, IsCore, view_at, call_at, with_token}
+use Rattle.tier_core.specs.Machine.{State, IsCore, with_token}
 use Rattle.tier_core.proofs.Opening.{token_core}
 use Rattle.tier_answers.specs.Frame.{flat_of}
 use Rattle.tier_answers.specs.Hold.{IsAwaited}
-use Rattle.tier_answers.specs.Tokens.{HasEntered, TokensEnterUnseen}
+use Rattle.tier_answers.specs.Tokens.{TokensEnterUnseen}
 use Rattle.tier_answers.proofs.Along.{one_more, view_stays, call_stays}
 
 last_one : {X : Type 0} (xs : List X) (y d : X) (i : ℕ) → i ≡ length xs → get_or (xs ++ y ∷ []) i d ≡ y

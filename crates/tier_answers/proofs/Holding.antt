@@ -22,7 +22,7 @@ use Rattle.tier_steps.proofs.Pass.{share_fits, only_here, absent_current, restin
 use Rattle.tier_steps.proofs.Ready.{unarrived_hold_the_root, members_are_sizes}
 use Rattle.tier_core.specs.Machine.{State, IsCore, view_at, call_at, is_due}
 use Rattle.tier_core.proofs.Places.{around}
-use Rattle.tier_answers.proofs.Planning.{due_owes}
+use Rattle.tier_core.proofs.Runs.{due_advances}
 use Rattle.tier_answers.specs.Hold.{IsAwaited, AwaitedTokensHold, AdvancesAreAlone, MembersAreTheTokens, PartiesAreFew}
 
 -- the tally, split at a token
@@ -83,7 +83,7 @@ awaited_tokens_hold s i j core going is h =
     let nobody = nobody_advances s j core going (awaited_field s i core going is) h in
     record {
       errand = nobody;
-      call = not_due (is_due (call_at s.calls j)) (λ e. nobody (due_owes s.parents (call_at s.calls j) (view_at s.views j) e (core.calls j h)));
+      call = not_due (is_due (call_at s.calls j)) (λ e. nobody (due_advances s.parents (call_at s.calls j) (view_at s.views j) e (core.calls j h)));
     }
 
 -- while a token advances, every token has done what it can

@@ -14,10 +14,12 @@ pub mod Ranks
 pub mod Short
 pub mod Alone
 pub mod Stepping
+pub mod Ended
 pub mod Members
 pub mod Opens
 pub mod Answering
 pub mod Rounding
 pub mod Once
-pub mod Ended
 pub mod Waiting
+pub mod Driven
+pub mod Sixteen

@@ -8,7 +8,7 @@ use Rattle.flat_phaser.specs.declared.FlatStep.TheVariants as flat
 use Rattle.flat_phaser.proofs.Everyone.{either}
 use Rattle.tier_steps.specs.declared.view.View.{View}
 use Rattle.tier_steps.specs.declared.view.Errand.{Errand}
-use Rattle.tier_steps.specs.declared.view.Errand.TheVariants.{Opening, Climbing}
+use Rattle.tier_steps.specs.declared.view.Errand.TheVariants.{Rest, Opening, Climbing, Advancing}
 use Rattle.tier_steps.specs.declared.view.Trip.{Trip}
 use Rattle.tier_steps.specs.declared.view.Trip.TheVariants.{Arrival, Departure}
 use Rattle.tier_steps.specs.declared.kind.Kind.{Kind}
@@ -16,7 +16,7 @@ use Rattle.tier_steps.specs.declared.kind.Kind.TheVariants.{Look, Refuse, Join, 
 use Rattle.tier_shape.specs.Parents.{parent_of}
 use Rattle.tier_steps.specs.View.{new_view, ancestor}
 use Rattle.tier_steps.specs.Tally.{word_at, root_phase, ErrandFits}
-use Rattle.tier_steps.specs.Step.{passed, owed, looked}
+use Rattle.tier_steps.specs.Step.{passed, owed, looked, dropped}
 use Rattle.tier_steps.specs.Laws.{stepped_view}
 use Rattle.tier_steps.specs.Image.{label}
 use Rattle.tier_steps.proofs.Pass.{owed_is, unarrived_is_current}
@@ -30,7 +30,7 @@ use Rattle.tier_core.specs.declared.call.Turn.{Turn}
 use Rattle.tier_core.specs.Turn.{end_shown, lags, own_kind, goes_on, told, last_look, pass_turn, climb_turn, errand_place}
 use Rattle.tier_core.specs.Machine.{State, IsCore, view_at, call_at, is_due, turn_at, played}
 use Rattle.tier_core.specs.Run.{may_finish, finish_at, plan_ends, after}
-use Rattle.tier_core.proofs.Turns.{by_test, not_both, looked_size, looked_tier, looked_rests}
+use Rattle.tier_core.proofs.Turns.{by_test, not_both, looked_size, looked_tier, looked_rests, looked_ended}
 use Rattle.tier_answers.specs.Frame.{flat_of}
 use Rattle.tier_answers.specs.Hold.{IsAwaited}
 use Rattle.tier_answers.specs.Calls.{view_then, IsSame, IsLookStep, PassesBeginWithALook, GoesAsOwed, Counts, IsOwnStep, PassesCount, IsClimbStep, ClimbsKeepMembers, AdvancesKeepMembers}
@@ -43,7 +43,8 @@ use Rattle.tier_steps.proofs.Advance.{ancestor_within}
 use Rattle.tier_core.specs.Turn.{claimed_by, is_refusing, is_claimable, has_no_room, refusal, giving_back, settling, unless_claimed, seek_turn, settle_turn, give_back_turn}
 use Rattle.tier_answers.specs.Calls.{IsSeated, IsJoinLook, JoinsBeginWithALook, JoinsSeatAtOnce, IsAdmitted, OpenTiersAdmit, is_settling, SettlingKeepsMembers}
 use Rattle.tier_answers.proofs.Counting.{looked_empty}
-use Rattle.tier_answers.proofs.Seeking.{joined_phase}
+use Rattle.tier_answers.proofs.Seeking.{joined_phase, ended_root}
+use Rattle.tier_answers.proofs.Ended.{looked_same}
 use Rattle.tier_steps.specs.Word.{is_being_opened}
 use Rattle.std.proofs.lemmas.Bool.{ltb-true}
 
@@ -149,15 +150,46 @@ passes_count s i trip core h going e home =
     (λ view owes. record { counts = counted s i trip fits.1 view; owes = owes })
     (gone s i (Passing trip) core h e refl)
 
+-- a climb that finds the root ended
+climb_over : (s : State) (i : ℕ) (own : Trip) (t : ℕ) (trip : Trip) → IsCore s → t < length s.words → (word_at s.words t).ended ≡ true
+    → (view_at s.views i).errand ≡ Climbing t trip → Gone s i (last_look (Done (view_at s.views i).phase)) → IsClimbStep s i own
+climb_over s i own t trip core within ended owes g =
+    let v : View = view_at s.views i in
+    let w : Fields = word_at s.words 0 in
+    let root : t ≡ 0 = ended_root s t core within ended in
+    let over : w.ended ≡ true = ap (λ n. (word_at s.words n).ended) (sym root) ∙ ended in
+    record {
+      same = subst (λ (x : View). IsSame v x) (sym g.view) (looked_same w v over);
+      owes = inl (
+        g.answer,
+        ap (λ (x : View). x.errand) g.view
+            ∙ (looked_ended w v over ∙ ap dropped (owes ∙ ap (λ n. Climbing n trip) root)),
+        g.call,
+      );
+    }
+
 pub climbs_keep_members : ClimbsKeepMembers
-climbs_keep_members s i own core h going e =
+climbs_keep_members s i own core h e =
     let v : View = view_at s.views i in
     let fits = fitting s i (Owing own) core h e in
     let fit : ErrandFits s.parents (root_phase s.words) (view_at s.views i) (Climbing fits.0 fits.1) =
     subst (λ (x : Errand). ErrandFits s.parents (root_phase s.words) (view_at s.views i) x) fits.2 (fits_at s i core h).errand in
     let within : fits.0 < length s.words = subst (λ (n : ℕ). fits.0 < n) (sym core.tally.long) fit.1 in
-    pass_goes s i own fits.0 fits.1 (Climb fits.1) (Owing own) (Done v.phase) (IsClimbStep s i own)
-    (still_going s fits.0 core going within) refl
+    let w : Fields = word_at s.words fits.0 in
+    let r : Turn = pass_turn s.parents own fits.0 fits.1 (Climb fits.1) (Owing own) (Done v.phase) (word_at s.words fits.0) v in
+    let g : Gone s i r =
+    subst (λ (x : Errand). Gone s i (climb_turn s.parents own (word_at s.words (errand_place s.parents x)) v x)) fits.2 (gone s i (Owing own) core h e refl) in
+    ⊎_elim
+    (λ (ended : (word_at s.words fits.0).ended ≡ true). climb_over s i own fits.0 fits.1 core within ended fits.2
+    (subst (λ (x : Turn). Gone s i x) (by_turn (λ x. x ≡ last_look (Done v.phase)) (word_at s.words fits.0).ended (last_look (Done v.phase))
+    (cond (lags w v) (record { kind = Refresh; tier = fits.0; next = Owing own; answer = GoesOn }) (record {
+      kind = Climb fits.1;
+      tier = fits.0;
+      next = goes_on own (owed (parent_of s.parents fits.0) fits.0 fits.1 w);
+      answer = told v.phase (passed fits.0 fits.1 w).parties (owed (parent_of s.parents fits.0) fits.0 fits.1 w);
+    })) (λ _. refl) (λ going. not_both (word_at s.words fits.0).ended ended going)) g))
+    (λ (going : (word_at s.words fits.0).ended ≡ false).
+    pass_goes s i own fits.0 fits.1 (Climb fits.1) (Owing own) (Done v.phase) (IsClimbStep s i own) going refl
     (λ g. record {
       same = record {
         tier = ap (λ (x : View). x.tier) g.view;
@@ -175,29 +207,39 @@ climbs_keep_members s i own core h going e =
         arrived = ap (λ (x : View). x.arrived) view;
       };
       owes = owes;
-    })
-    (subst (λ (x : Errand). Gone s i (climb_turn s.parents own (word_at s.words (errand_place s.parents x)) v x)) fits.2 (gone s i (Owing own) core h e refl))
+    }) g)
+    (either (word_at s.words fits.0).ended)
 
--- the advance
+-- the advance, or the look that stands for it
+finished : (s : State) (i : ℕ) (kind : Kind) → (view_at s.views i).errand ≡ Advancing
+    → ((kind ≡ Look) × ((word_at s.words 0).ended ≡ true)) ⊎ ((ends : Bool) × (kind ≡ Advance ends))
+    → IsSame (view_at s.views i) (stepped_view s.parents s.words kind 0 (view_at s.views i))
+    × ((stepped_view s.parents s.words kind 0 (view_at s.views i)).errand ≡ Rest)
+finished s i kind owes which = ⊎_elim
+    (λ look. subst (λ (k : Kind). IsSame (view_at s.views i) (stepped_view s.parents s.words k 0 (view_at s.views i))
+    × ((stepped_view s.parents s.words k 0 (view_at s.views i)).errand ≡ Rest)) (sym look.0)
+    (looked_same (word_at s.words 0) (view_at s.views i) look.1, looked_ended (word_at s.words 0) (view_at s.views i) look.1 ∙ ap dropped owes))
+    (λ step. subst (λ (k : Kind). IsSame (view_at s.views i) (stepped_view s.parents s.words k 0 (view_at s.views i))
+    × ((stepped_view s.parents s.words k 0 (view_at s.views i)).errand ≡ Rest)) (sym step.1)
+    (record { tier = refl; size = refl; phase = refl; arrived = refl }, refl))
+    which
+
 pub advances_keep_members : AdvancesKeepMembers
-advances_keep_members s i own core h going e =
-    let v : View = view_at s.views i in
+advances_keep_members s i own core h e =
     let r : Turn = finish_at s i (plan_ends s) in
     let may : may_finish s i ≡ true = ap (λ b. b && is_due (call_at s.calls i)) (lt-ltb i (length s.views) h) ∙ ap is_due e in
     let here : after s (Finish i) ≡ played s i (finish_at s i (plan_ends s)) = ap (λ b. cond b (played s i (finish_at s i (plan_ends s))) s) may in
-    let kind : (finish_at s i (plan_ends s)).kind ≡ Advance (plan_ends s) = ap (λ b. cond b Look (Advance (plan_ends s))) going in
-    let view : view_at (after s (Finish i)).views i ≡ stepped_view s.parents s.words (Advance (plan_ends s)) 0 v =
+    let which : ((r.kind ≡ Look) × ((word_at s.words 0).ended ≡ true)) ⊎ ((ends : Bool) × (r.kind ≡ Advance ends)) = ⊎_elim
+    (λ (ended : (word_at s.words 0).ended ≡ true). inl (ap (λ b. cond b Look (Advance (plan_ends s))) ended, ended))
+    (λ (going : (word_at s.words 0).ended ≡ false). inr (plan_ends s, ap (λ b. cond b Look (Advance (plan_ends s))) going))
+    (either (word_at s.words 0).ended) in
+    let did = finished s i (finish_at s i (plan_ends s)).kind (fitting s i (Due own) core h e) which in
+    let view : view_at (after s (Finish i)).views i ≡ stepped_view s.parents s.words r.kind 0 (view_at s.views i) =
     ap (λ (x : State). view_at x.views i) here
-    ∙ (get_or-set_same s.views i (stepped_view s.parents s.words r.kind r.tier (view_at s.views i)) (new_view 0) h
-    ∙ ap (λ k. stepped_view s.parents s.words k 0 (view_at s.views i)) kind) in
+    ∙ get_or-set_same s.views i (stepped_view s.parents s.words r.kind r.tier (view_at s.views i)) (new_view 0) h in
     record {
-      same = record {
-        tier = ap (λ (x : View). x.tier) view;
-        size = ap (λ (x : View). x.size) view;
-        phase = ap (λ (x : View). x.phase) view;
-        arrived = ap (λ (x : View). x.arrived) view;
-      };
-      errand = ap (λ (x : View). x.errand) view;
+      same = subst (λ (x : View). IsSame (view_at s.views i) x) (sym view) did.0;
+      errand = ap (λ (x : View). x.errand) view ∙ did.1;
       call = ap (λ (x : State). call_at x.calls i) here ∙ get_or-set_same s.calls i Idle Idle (let l = core.long in omega arith);
       answer = refl;
     }

@@ -1,5 +1,5 @@
 -- A call counts once, a join seats its members where it was asked to, and a refused one notes what refused it.
-use Rattle.std.proofs.Common.{◌≡◌, ◌≢◌, ℕ, zero, suc, ◌+◌, ◌<◌, ◌≤◌, ⊎_elim, Bool, true, false, cond, eqb, List, [], ◌∷◌, ◌++◌, length, refl, sym, ◌∙◌, ap, subst, arith, Some, None}
+use Rattle.std.proofs.Common.{◌≡◌, ℕ, zero, suc, ◌<◌, ◌≤◌, Bool, true, false, cond, eqb, List, [], ◌∷◌, length, refl, sym, ◌∙◌, ap, subst, arith, Some}
 use Rattle.std.specs.Prelude.{◌&&◌, not}
 use Rattle.std.specs.List.{Any}
 use Rattle.std.proofs.lemmas.List.{get_or-set_same}
@@ -7,16 +7,16 @@ use Rattle.flat_phaser.proofs.Counts.{count_cons}
 use Rattle.phaser_word.specs.Fields.{Fields}
 use Rattle.tier_steps.specs.declared.view.View.{View}
 use Rattle.tier_steps.specs.declared.view.Errand.{Errand}
-use Rattle.tier_steps.specs.declared.view.Errand.TheVariants.{Rest, Opening, Climbing, Advancing}
-use Rattle.tier_steps.specs.declared.view.Stage.TheVariants.{Seeking, Joined, GoingBack}
+use Rattle.tier_steps.specs.declared.view.Errand.TheVariants.{Opening, Climbing}
+use Rattle.tier_steps.specs.declared.view.Stage.TheVariants.{Joined, GoingBack}
 use Rattle.tier_steps.specs.declared.view.Trip.{Trip}
 use Rattle.tier_steps.specs.declared.view.Trip.TheVariants.{Arrival, Departure}
 use Rattle.tier_steps.specs.declared.kind.Kind.{Kind}
-use Rattle.tier_steps.specs.declared.kind.Kind.TheVariants.{Look, Glance, Refuse, Join, Arrive, Leave, Advance, Force, Claim, Settle, SettleBack, Climb, Refresh}
+use Rattle.tier_steps.specs.declared.kind.Kind.TheVariants.{Look, Glance, Refuse, Join, Advance, Force, Claim, Climb, Refresh}
 use Rattle.tier_shape.specs.Parents.{parent_of}
 use Rattle.tier_steps.specs.View.{ancestor, new_view}
 use Rattle.tier_steps.specs.Tally.{word_at}
-use Rattle.tier_steps.specs.Step.{passed, owed, added, looked, refused, IsDue}
+use Rattle.tier_steps.specs.Step.{passed, owed, added, looked, refused}
 use Rattle.tier_steps.specs.Laws.{stepped_view}
 use Rattle.tier_steps.proofs.Pass.{owed_is}
 use Rattle.tier_core.specs.declared.call.Call.{Call}
@@ -26,21 +26,19 @@ use Rattle.tier_core.specs.declared.call.Played.TheVariants.{GoesOn, Done, Passe
 use Rattle.tier_core.specs.declared.call.Progress.{Progress}
 use Rattle.tier_core.specs.declared.call.Progress.TheVariants.{Idle, Begun, Seeking as ToSeek, Settling, GivingBack as ToGiveBack, Passing, Owing, Due, Refreshing}
 use Rattle.tier_core.specs.declared.call.Turn.{Turn}
-use Rattle.tier_core.specs.Turn.{end_shown, is_refusing, is_claimable, refusal, has_no_room, cause_of, is_refusal, lags, polled, claimed_by, giving_back, settling, unless_claimed, seek_turn, settle_turn, give_back_turn, own_kind, goes_on, told, last_look, pass_turn, climb_turn, errand_place, first_turn, turn}
-use Rattle.tier_core.specs.Machine.{State, IsCore, CallFits, BegunFits, view_at, call_at, is_active, is_due, turn_at, played}
+use Rattle.tier_core.specs.Turn.{end_shown, is_refusing, is_claimable, refusal, is_refusal, lags, polled, claimed_by, giving_back, settling, unless_claimed, seek_turn, settle_turn, give_back_turn, own_kind, goes_on, told, last_look, pass_turn, climb_turn, errand_place, first_turn, turn}
+use Rattle.tier_core.specs.Machine.{State, IsCore, CallFits, BegunFits, view_at, call_at, is_active, is_due, turn_at}
 use Rattle.tier_core.specs.Run.{may_begin, begun, finish_at, plan_ends, IsCall}
 use Rattle.tier_core.proofs.Turns.{by_test, not_both, looked_size, refusal_is}
-use Rattle.tier_core.proofs.Places.{MayPlay}
 use Rattle.tier_answers.specs.Moments.{Moment, Event, moments, AreEvents, AreOfCall}
-use Rattle.tier_answers.specs.Told.{refusing}
 use Rattle.tier_answers.specs.Calls.{IsSeated}
 use Rattle.tier_answers.specs.Once.{is_counting, times_counted, counts_when_done, CountsAs, LatestCounts, CallsCountOnce, view_after_turn, SeatsAs, LatestSeats, JoinsSeatWhereAsked, IsNotedAt, NotesAs, LatestNotes, RefusalsAreNoted}
-use Rattle.tier_answers.proofs.Ending.{at, imaged}
+use Rattle.tier_answers.proofs.Ending.{alike_itself, at, imaged}
 use Rattle.tier_answers.proofs.Memory.{any_here, any_later, call_of, by_turn}
 use Rattle.tier_answers.specs.Frame.{flat_of}
 use Rattle.tier_core.proofs.Runs.{begun_core}
-use Rattle.tier_answers.proofs.Reached.{Alikes, Tells_, reached, alike_itself, carried, any_alike}
-use Rattle.tier_answers.proofs.Along.{Carries, OfToken, TurnKeeps, of_token, along_call}
+use Rattle.tier_answers.proofs.Reached.{Alikes, Tells_, reached, carried, any_alike}
+use Rattle.tier_answers.proofs.Along.{Carries, OfToken, of_token, along_call}
 
 -- what a turn answers, of a call that has counted so often
 abbrev Seats : Call → Played → View → Type 0
@@ -184,13 +182,19 @@ notes_refusal (MustAdvance phase parties) v ms e h = tt
 
 noted_later : (v v' : View) (m : Moment) (ms : List Moment) → v'.note ≡ v.note → Any (IsNotedAt v) ms → Any (IsNotedAt v') (m ∷ ms)
 noted_later v v' m ms same h =
-    any_later (IsNotedAt v') m ms (h.0, h.1, h.2, h.3, record {
-      tier = h.4.tier;
-      claimed = h.4.claimed;
-      size = h.4.size;
-      kind = h.4.kind;
-      note = same ∙ h.4.note;
-    })
+    any_later (IsNotedAt v') m ms (
+      h.0,
+      h.1,
+      h.2,
+      h.3,
+      record {
+        tier = h.4.tier;
+        claimed = h.4.claimed;
+        size = h.4.size;
+        kind = h.4.kind;
+        note = same ∙ h.4.note;
+      },
+    )
 
 notes_later : (a : Played) (v v' : View) (m : Moment) (ms : List Moment) → v'.note ≡ v.note → NotesAs a v ms → NotesAs a v' (m ∷ ms)
 notes_later GoesOn v v' m ms same h = tt

@@ -42,8 +42,8 @@ use Rattle.tier_answers.specs.Calls.{IsSeated, moves_root}
 use Rattle.tier_answers.specs.Fresh.{IsFreshWord, join_alone, last_answer, IsJoined, JoinsAreDoneAlone, NewTreesAreFresh, NewTokensKeepItFresh, AwaitedTiersWait}
 use Rattle.tier_answers.proofs.Framing.{others_stay}
 use Rattle.tier_answers.proofs.Holding.{split, fits_at, awaited_late, parties_are_few}
-use Rattle.tier_answers.proofs.Ending.{at, own_imaged, imaged}
-use Rattle.tier_answers.proofs.Reached.{Alikes, reached, alike_itself}
+use Rattle.tier_answers.proofs.Ending.{alike_itself, at, own_imaged, imaged}
+use Rattle.tier_answers.proofs.Reached.{Alikes, reached}
 use Rattle.tier_answers.proofs.Memory.{by_turn}
 use Rattle.tier_answers.proofs.Seeking.{unclaimed, own_claims, joined_phase}
 use Rattle.tier_answers.proofs.Along.{core_after}

@@ -32,7 +32,8 @@ use Rattle.tier_core.proofs.Turns.{by_test, not_both}
 use Rattle.tier_core.proofs.Places.{around, MayPlay, is_step, turn_may}
 use Rattle.tier_core.proofs.Runs.{finish_may}
 use Rattle.tier_answers.specs.Frame.{flat_of}
-use Rattle.tier_answers.specs.Plan.{flat_ends, IsPlanned, AdvancesArePlanned, TheLastOneAdvances, QuietTreesWait}
+use Rattle.tier_answers.specs.Plan.{flat_ends, IsPlanned, AdvancesArePlanned, TheLastOneAdvances, QuietTreesWait, QuietTreesAwaitSomebody}
+use Rattle.tier_steps.proofs.Awaits.{quiet_trees_await_somebody as at_rest}
 
 -- what a token finds that may advance the root
 pub found : (s : State) (i : ℕ) (r : Turn) (ends : Bool) → IsCore s → i < length s.views → MayPlay s i r → r.kind ≡ Advance ends → IsReady s.words s.views
@@ -66,17 +67,6 @@ active_owes ps (Passing trip) v e fits = rests v.errand fits.0
 active_owes ps (Owing own) v e fits = λ q. absurd (let a : Climbing fits.0 fits.1 ≡ Advancing = sym fits.2 ∙ q in cc)
 active_owes ps (Due own) v e fits = not_both false e refl
 active_owes ps (Refreshing has_moved) v e fits = rests v.errand fits.0
-
-pub due_owes : (ps : List ℕ) (p : Progress) (v : View) → is_due p ≡ true → CallFits ps p v → v.errand ≡ Advancing
-due_owes ps Idle v e fits = not_both false e refl
-due_owes ps (Begun c) v e fits = not_both false e refl
-due_owes ps (ToSeek tier size) v e fits = not_both false e refl
-due_owes ps Settling v e fits = not_both false e refl
-due_owes ps (ToGiveBack answer) v e fits = not_both false e refl
-due_owes ps (Passing trip) v e fits = not_both false e refl
-due_owes ps (Owing own) v e fits = not_both false e refl
-due_owes ps (Due own) v e fits = fits
-due_owes ps (Refreshing has_moved) v e fits = not_both false e refl
 
 -- the label of an advance
 abbrev ends_of : Option FlatStep → Bool → Bool
@@ -154,3 +144,6 @@ advances_are_planned s (Finish i) ends core going e =
 
 pub quiet_trees_wait : QuietTreesWait
 quiet_trees_wait s quiet = quiet_is_not_due s.words s.views quiet
+
+pub quiet_trees_await_somebody : QuietTreesAwaitSomebody
+quiet_trees_await_somebody s core going quiet some = at_rest s.parents s.words s.views core.shape core.tally going quiet some

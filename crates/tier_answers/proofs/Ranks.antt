@@ -90,7 +90,7 @@ climb_some (suc levels) ps ws phase t = let a = climb_some levels ps ws phase (p
 behind_one : (phase : ℕ) (w : Fields) → behind phase w ≤ 1
 behind_one phase w = grind arith
 
-climb_most : (levels : ℕ) (ps : List ℕ) (ws : List Fields) (phase t : ℕ) → climb_left levels ps ws phase t ≤ levels + levels + 2
+pub climb_most : (levels : ℕ) (ps : List ℕ) (ws : List Fields) (phase t : ℕ) → climb_left levels ps ws phase t ≤ levels + levels + 2
 climb_most zero ps ws phase t = omega arith
 climb_most (suc levels) ps ws phase t =
     let a = climb_most levels ps ws phase (parent_of ps t) in let b = behind_one phase (word_at ws t) in omega arith

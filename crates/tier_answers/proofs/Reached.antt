@@ -1,11 +1,10 @@
 -- From the flat phasers that a tree stands for to any that takes the labels of its steps.
-use Rattle.std.proofs.Common.{◌≡◌, ◌≢◌, ℕ, zero, suc, ◌+◌, ◌<◌, ◌⊎◌, inl, inr, ⊎_elim, Bool, true, false, cond, eqb, ltb, List, [], ◌∷◌, ◌++◌, length, get_or, refl, sym, ◌∙◌, ap, subst, arith}
-use Rattle.std.specs.Prelude.{◌↔◌}
-use Rattle.std.specs.List.{Any}
-use Rattle.std.proofs.lemmas.Bool.{eq-eqb}
+use Rattle.std.proofs.Common.{◌≡◌, ℕ, zero, suc, ◌<◌, ◌⊎◌, inl, inr, ⊎_elim, Bool, true, false, cond, eqb, List, [], ◌∷◌, ◌++◌, length, get_or, refl, sym, ◌∙◌, ap, subst, arith}
+use Rattle.std.specs.List.{Any, AllByRecursion}
+use Rattle.std.proofs.lemmas.Bool.{eq-eqb, eqb-true}
 use Rattle.phaser_word.specs.Phase.{shown_of}
 use Rattle.flat_phaser.specs.declared.Member.{Member}
-use Rattle.flat_phaser.specs.Flat.{Flat, members_of, arrived_of, registered, shown, is_owned}
+use Rattle.flat_phaser.specs.Flat.{Flat, members_of, arrived_of, is_owned}
 use Rattle.flat_phaser.specs.Alike.{IsAlike}
 use Rattle.flat_phaser.proofs.Counts.{count_cons}
 use Rattle.tier_steps.specs.Marks.{sees_root}
@@ -19,14 +18,15 @@ use Rattle.tier_core.specs.declared.call.Played.TheVariants.{GoesOn, Done, Passe
 use Rattle.tier_core.specs.declared.call.Step.{Step}
 use Rattle.tier_core.specs.declared.call.Step.TheVariants.{Begin, Go, Finish}
 use Rattle.tier_core.specs.declared.call.Turn.{Turn}
-use Rattle.tier_core.specs.Machine.{State, IsCore, turn_at, played, with_token}
+use Rattle.tier_core.specs.Machine.{State, IsCore, turn_at, with_token}
 use Rattle.tier_core.specs.Run.{may_go, may_finish, finish_at, plan_ends, after, step_label}
+use Rattle.tier_core.proofs.Turns.{by_test}
 use Rattle.tier_core.proofs.Places.{MayPlay, played_flat, turn_may}
 use Rattle.tier_core.proofs.Runs.{finish_may, step_moves}
 use Rattle.tier_core.proofs.Opening.{token_core}
 use Rattle.tier_answers.specs.Frame.{flat_of}
-use Rattle.tier_answers.specs.Moments.{Moment, Event, Takes, Enters, moment_of, own_turn, moments, AreEvents}
-use Rattle.tier_answers.specs.Told.{IsCounted, IsFirstLook, IsAwaiting, AreAllHere, HasPassed, HasEnded, MakesDue, IsCause, IsHeldBy, IsFullWith, last_seen, IsDoneIn, Tells, IsTold, LatestTells, is_last}
+use Rattle.tier_answers.specs.Moments.{Moment, Event, Takes, Enters, moment_of, own_turn, moments, AreEvents, LooksLikeTheTree, MomentsLookLikeTheTree}
+use Rattle.tier_answers.specs.Told.{IsCounted, IsFirstLook, IsAwaiting, AreAllHere, HasPassed, HasEnded, MakesDue, IsCause, IsHeldBy, IsFullWith, last_seen, IsDoneIn, Tells, LatestTells, is_last}
 use Rattle.tier_core.specs.declared.call.Progress.TheVariants.{Idle}
 use Rattle.tier_answers.proofs.Planning.{known_active, known_due}
 use Rattle.tier_answers.proofs.Ending.{at, own_imaged, imaged}
@@ -90,13 +90,6 @@ reached i (Takes x ∷ events) s f past past' core are alike h =
 reached i (Enters ∷ events) s f past past' core are alike h =
     reached i events (with_token s) f past past' (token_core s core) are
     (subst (λ (g : Flat). LooksAlike f g) (sym (same_flat s)) alike) h
-
-pub alike_itself : (f : Flat) → LooksAlike f f
-alike_itself f = record {
-  phase = refl;
-  ended = refl;
-  going = λ _. record { phase = refl; ended = refl; due = refl; members = λ _. refl; arrived = λ _. refl };
-}
 
 -- what is said of a moment by its state and turn is said of it beside other flat phasers
 pub carried : (P : Moment → Type 0) (m n : Moment) → (a : Alike m n) → P (beside n a.before_ a.after_) → P m
@@ -271,3 +264,41 @@ as_many [] [] h = refl
 as_many [] (n ∷ ns) h = absurd h
 as_many (m ∷ ms) [] h = absurd h
 as_many (m ∷ ms) (n ∷ ns) h = let a = as_many ms ns h.1 in omega arith
+
+-- the flat phasers of moments look like the tree
+abbrev AllLike : ℕ → List Moment → Type 0
+AllLike i ms = AllByRecursion (LooksLikeTheTree i) ms
+
+append_all : (i : ℕ) (ms past : List Moment) → AllLike i ms → AllLike i past → AllLike i (ms ++ past)
+append_all i [] past h k = k
+append_all i (m ∷ ms) past h k = (h.0, append_all i ms past h.1 k)
+
+one_like : (i j : ℕ) (g : Bool) (m : Moment) → (g ≡ true → LooksLikeTheTree j m) → AllLike i (cond (eqb j i) (cond g (m ∷ []) []) [])
+one_like i j true m h = by_test (λ b. b ≡ eqb j i → AllLike i (cond b (m ∷ []) [])) (eqb j i)
+    (λ e _. (subst (λ (k : ℕ). LooksLikeTheTree k m) (eqb-true j i e) (h refl), tt)) (λ _ _. tt) refl
+one_like i j false m h = by_test (λ b. AllLike i (cond b [] [])) (eqb j i) (λ _. tt) (λ _. tt)
+
+turn_like : (s : State) (f : Flat) (j : ℕ) (r : Turn) → IsCore s → LooksAlike f (flat_of s) → j < length s.views → MayPlay s j r
+    → LooksLikeTheTree j (moment_of j s f r)
+turn_like s f j r core alike h may = record { before = alike; afterwards = (played_flat s j r f core h may alike).1 }
+
+own_like : (i : ℕ) (s : State) (f : Flat) (x : Step) → IsCore s → LooksAlike f (flat_of s) → AllLike i (own_turn i s f x)
+own_like i s f (Begin j c) core alike = tt
+own_like i s f (Go j) core alike = one_like i j (may_go s j) (moment_of j s f (turn_at s j))
+    (λ e. let a = known_active s j e in turn_like s f j (turn_at s j) core alike a.0 (turn_may s j core a.0 a.1))
+own_like i s f (Finish j) core alike = one_like i j (may_finish s j) (moment_of j s f (finish_at s j (plan_ends s)))
+    (λ e. let a = known_due s j e in
+    turn_like s f j (finish_at s j (plan_ends s)) core alike a.0 (finish_may s j (plan_ends s) core a.0 a.1))
+
+all_like : (i : ℕ) (events : List Event) (s : State) (f : Flat) (past : List Moment) → IsCore s → AreEvents events → LooksAlike f (flat_of s)
+    → AllLike i past → AllLike i (moments i events s f past)
+all_like i [] s f past core are alike h = h
+all_like i (Takes x ∷ events) s f past core are alike h =
+    let one = step_moves s x f core are.0 alike in
+    all_like i events (after s x) (labelled (step_label s x) f) (own_turn i s f x ++ past) one.2 are.1 one.1
+    (append_all i (own_turn i s f x) past (own_like i s f x core alike) h)
+all_like i (Enters ∷ events) s f past core are alike h =
+    all_like i events (with_token s) f past (token_core s core) are (subst (λ (g : Flat). LooksAlike f g) (sym (same_flat s)) alike) h
+
+pub moments_look_like_the_tree : MomentsLookLikeTheTree
+moments_look_like_the_tree s i events f core are alike = all_like i events s f [] core are alike tt

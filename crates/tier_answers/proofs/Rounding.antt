@@ -26,25 +26,22 @@ use Rattle.tier_core.specs.Machine.{State, IsCore, view_at, call_at, played}
 use Rattle.tier_core.specs.Run.{IsStepOfCalls, after, finish_at, plan_ends, step_label}
 use Rattle.tier_core.proofs.Turns.{not_both}
 use Rattle.tier_core.proofs.Places.{around}
-use Rattle.tier_core.proofs.Runs.{step_moves}
+use Rattle.tier_core.proofs.Runs.{due_advances, step_moves}
 use Rattle.tier_answers.specs.Frame.{flat_of}
 use Rattle.tier_answers.specs.Plan.{flat_ends}
 use Rattle.tier_answers.specs.Hold.{IsAwaited}
 use Rattle.tier_answers.specs.Calls.{moves_root}
 use Rattle.tier_answers.specs.Rounds.{AdvancesBeginThePhase, AwaitedTokensStay}
+use Rattle.tier_answers.proofs.Ending.{alike_itself}
 use Rattle.tier_answers.proofs.Framing.{others_stay}
-use Rattle.tier_answers.proofs.Planning.{known_due, due_owes, the_last_one_advances, advances_are_planned}
+use Rattle.tier_answers.proofs.Planning.{known_due, the_last_one_advances, advances_are_planned}
 use Rattle.tier_answers.proofs.Holding.{each_done, fits_at}
 use Rattle.tier_answers.proofs.Counting.{members_owned, arrived_owned}
 use Rattle.tier_answers.proofs.Stepping.{only_advances_move}
 
 -- the flat step that a step of a run is, from the image before it
 moved : (s : State) (x : Step) → IsCore s → IsStepOfCalls x → LooksAlike (labelled (step_label s x) (flat_of s)) (flat_of (after s x))
-moved s x core is = (step_moves s x (flat_of s) core is record {
-  phase = refl;
-  ended = refl;
-  going = λ _. record { phase = refl; ended = refl; due = refl; members = λ _. refl; arrived = λ _. refl };
-}).1
+moved s x core is = (step_moves s x (flat_of s) core is (alike_itself (flat_of s))).1
 
 going_step : (f : Flat) (step : FlatStep) → f.ended ≡ false → flat_step step f ≡ taken step f
 going_step f step going = ap (λ b. cond b f (taken step f)) going
@@ -58,7 +55,7 @@ absent_next root next v done other some =
 pub advances_begin_the_phase : AdvancesBeginThePhase
 advances_begin_the_phase s i core going may =
     let a = known_due s i may in
-    let owes = due_owes s.parents (call_at s.calls i) (view_at s.views i) a.1 (core.calls i a.0) in
+    let owes = due_advances s.parents (call_at s.calls i) (view_at s.views i) a.1 (core.calls i a.0) in
     let last = the_last_one_advances s i core going may in
     let ends : Bool = flat_ends s in
     let r : Turn = finish_at s i (plan_ends s) in

@@ -1,7 +1,7 @@
 -- Each call has its answer after few steps.
-use Rattle.std.proofs.Common.{◌≡◌, ◌≢◌, ℕ, ◌+◌, ◌-◌, ◌<◌, ◌≤◌, Bool, true, false, cond, eqb, ltb, List, [], ◌∷◌, ◌++◌, length, length-set, refl, sym, ap, subst, arith}
+use Rattle.std.proofs.Common.{◌≡◌, ℕ, ◌+◌, ◌-◌, ◌<◌, ◌≤◌, Bool, true, false, ltb, List, [], ◌∷◌, length, refl, sym, ap, subst, arith}
 use Rattle.std.specs.Prelude.{◌&&◌, ◌||◌}
-use Rattle.std.proofs.lemmas.Bool.{eqb-true, eqb-false, lt-ltb}
+use Rattle.std.proofs.lemmas.Bool.{lt-ltb}
 use Rattle.std.proofs.lemmas.List.{get_or-set_same, get_or-set_other}
 use Rattle.tier_shape.specs.Paths.{IsTiers}
 use Rattle.tier_steps.specs.declared.view.View.{View}
@@ -11,21 +11,18 @@ use Rattle.tier_core.specs.declared.call.Call.{Call}
 use Rattle.tier_core.specs.declared.call.Call.TheVariants as call
 use Rattle.tier_core.specs.declared.call.Progress.{Progress}
 use Rattle.tier_core.specs.declared.call.Progress.TheVariants.{Idle, Begun, Seeking as ToSeek, Settling, GivingBack as ToGiveBack, Passing, Owing, Due, Refreshing}
-use Rattle.tier_core.specs.declared.call.Step.{Step}
-use Rattle.tier_core.specs.declared.call.Step.TheVariants.{Begin, Go, Finish}
 use Rattle.tier_core.specs.declared.call.Turn.{Turn}
 use Rattle.tier_core.specs.Machine.{State, IsCore, view_at, call_at, is_active, is_due, turn_at, played, with_token}
-use Rattle.tier_core.specs.Run.{is_idle, may_begin, may_go, may_finish, begun, finish_at, plan_ends, after, run, IsStepOfCalls, AreSteps}
-use Rattle.tier_core.proofs.Turns.{by_test, not_both}
-use Rattle.tier_core.proofs.Places.{MayPlay, played_core, turn_may}
-use Rattle.tier_core.proofs.Runs.{finish_may, begun_core}
+use Rattle.tier_core.specs.Run.{is_idle, begun, finish_at, plan_ends}
+use Rattle.tier_core.proofs.Turns.{not_both}
+use Rattle.tier_core.proofs.Places.{MayPlay}
+use Rattle.tier_core.proofs.Runs.{begun_core}
 use Rattle.tier_answers.specs.Moments.{Moment, run_of, moments}
-use Rattle.tier_answers.specs.Count.{most_steps, IsShort, CallsAreShort}
-use Rattle.tier_answers.proofs.Framing.{others_stay, turned, after_either}
-use Rattle.tier_answers.proofs.Planning.{known_active, known_due}
-use Rattle.tier_answers.proofs.Ending.{at, imaged}
+use Rattle.tier_answers.specs.Count.{most_steps, CallsAreShort}
+use Rattle.tier_answers.proofs.Framing.{turned}
+use Rattle.tier_answers.proofs.Ending.{alike_itself, at, imaged}
 use Rattle.tier_answers.specs.Frame.{flat_of}
-use Rattle.tier_answers.proofs.Reached.{as_many, reached, alike_itself}
+use Rattle.tier_answers.proofs.Reached.{as_many, reached}
 use Rattle.tier_answers.proofs.Along.{Carries, along, view_stays, call_stays, begun_known}
 use Rattle.tier_answers.proofs.Ranks.{Within, some_left, Lowers, turn_lowers, left_stays}
 
@@ -36,7 +33,7 @@ pub record Course (i : ℕ) (c : Call) (s : State) (past : List Moment) : Type 0
   pub left : Within s.parents s.words (call_at s.calls i) (view_at s.views i) rest
   pub count : length past + rest ≤ most_steps c
 
-active_going : (p : Progress) → is_active p ≡ true → is_idle p ≡ false
+pub active_going : (p : Progress) → is_active p ≡ true → is_idle p ≡ false
 active_going Idle e = not_both false e refl
 active_going (Begun c) e = refl
 active_going (ToSeek tier size) e = refl
@@ -119,7 +116,7 @@ courses i c = record {
   };
 }
 
-most : (c : Call) → most_steps c ≤ 16
+pub most : (c : Call) → most_steps c ≤ 16
 most (call.Join tier size) = omega arith
 most call.Arrive = omega arith
 most call.Leave = omega arith

@@ -1,11 +1,9 @@
 -- Each answer of a call tells what it is to tell.
-use Rattle.std.proofs.Common.{◌≡◌, ◌≢◌, ℕ, ◌<◌, ⊎_elim, Bool, true, false, cond, eqb, ltb, List, [], ◌∷◌, ◌++◌, length, length-set, refl, sym, ◌∙◌, ap, subst, arith}
+use Rattle.std.proofs.Common.{◌≡◌, ◌≢◌, ℕ, ◌<◌, ⊎_elim, Bool, true, false, cond, eqb, List, [], ◌∷◌, length, refl, sym, ◌∙◌, ap, subst, arith}
 use Rattle.std.specs.Prelude.{◌&&◌, not}
-use Rattle.std.proofs.lemmas.Bool.{eq-eqb, ne_eqb, eqb-true, eqb-false, ltb-true}
-use Rattle.std.proofs.lemmas.List.{get_or-set_same}
+use Rattle.std.proofs.lemmas.Bool.{eq-eqb, ne_eqb, eqb-true, eqb-false}
 use Rattle.phaser_word.specs.Fields.{Fields}
 use Rattle.phaser_word.specs.Phase.{shown_of}
-use Rattle.flat_phaser.proofs.Everyone.{both_true}
 use Rattle.flat_phaser.specs.Flat.{members_of, arrived_of}
 use Rattle.tier_steps.specs.declared.view.View.{View}
 use Rattle.tier_steps.specs.declared.view.Errand.{Errand}
@@ -13,10 +11,9 @@ use Rattle.tier_steps.specs.declared.view.Errand.TheVariants.{Climbing}
 use Rattle.tier_steps.specs.declared.view.Trip.{Trip}
 use Rattle.tier_steps.specs.declared.view.Trip.TheVariants.{Arrival, Departure}
 use Rattle.tier_steps.specs.declared.kind.Kind.TheVariants.{Look, Refuse, Force, Climb}
-use Rattle.tier_steps.specs.View.{new_view, ancestor}
+use Rattle.tier_steps.specs.View.{ancestor}
 use Rattle.tier_steps.specs.Tally.{word_at, root_phase, ErrandFits}
 use Rattle.tier_steps.specs.Step.{looked}
-use Rattle.tier_steps.specs.Laws.{stepped_view}
 use Rattle.tier_steps.proofs.Advance.{ancestor_within}
 use Rattle.tier_steps.proofs.Pass.{unarrived_is_current}
 use Rattle.tier_core.specs.declared.call.Call.{Call}
@@ -25,20 +22,15 @@ use Rattle.tier_core.specs.declared.call.Played.{Played}
 use Rattle.tier_core.specs.declared.call.Played.TheVariants.{GoesOn, Done, Waiting, AlreadyArrived}
 use Rattle.tier_core.specs.declared.call.Progress.{Progress}
 use Rattle.tier_core.specs.declared.call.Progress.TheVariants.{Idle, Begun, Seeking as ToSeek, Settling, GivingBack as ToGiveBack, Passing, Owing, Due, Refreshing}
-use Rattle.tier_core.specs.declared.call.Step.{Step}
-use Rattle.tier_core.specs.declared.call.Step.TheVariants.{Begin, Go, Finish}
 use Rattle.tier_core.specs.declared.call.Turn.{Turn}
 use Rattle.tier_core.specs.Turn.{end_shown, is_refusing, lags, polled, first_turn, turn, claimed_by, climb_turn, errand_place, own_kind}
-use Rattle.tier_core.specs.Machine.{State, IsCore, BegunFits, CallFits, view_at, call_at, is_active, is_due, turn_at, played}
-use Rattle.tier_core.specs.Run.{may_begin, may_go, may_finish, begun, finish_at, plan_ends, after, is_idle, may_call, IsCall, IsStepOfCalls, AreSteps}
+use Rattle.tier_core.specs.Machine.{State, IsCore, BegunFits, CallFits, view_at, call_at, is_active, is_due}
+use Rattle.tier_core.specs.Run.{may_begin, begun, finish_at, plan_ends}
 use Rattle.tier_core.proofs.Turns.{by_test, not_both}
-use Rattle.tier_core.proofs.Places.{MayPlay, played_core, turn_may}
-use Rattle.tier_core.proofs.Runs.{finish_may, begun_core, step_moves}
-use Rattle.tier_answers.specs.Frame.{flat_of, IsUntouched}
-use Rattle.tier_answers.specs.Moments.{Moment, flat_at, IsOfCall, AreOfCall, moments}
+use Rattle.tier_core.proofs.Runs.{begun_core}
+use Rattle.tier_answers.specs.Frame.{flat_of}
+use Rattle.tier_answers.specs.Moments.{Moment, flat_at, moments}
 use Rattle.tier_answers.specs.Told.{IsAwaiting, AreAllHere, HasPassed, HasEnded, Tells, LatestTells, AnswersTell}
-use Rattle.tier_answers.proofs.Framing.{others_stay}
-use Rattle.tier_answers.proofs.Planning.{known_active, known_due}
 use Rattle.tier_answers.proofs.Holding.{fits_at}
 use Rattle.tier_answers.proofs.Counting.{members_owned, arrived_own, looked_is, looked_empty}
 use Rattle.tier_answers.proofs.Ending.{at, ended_stays, forced, imaged}

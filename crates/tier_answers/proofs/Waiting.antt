@@ -1,48 +1,42 @@
 -- The root waits for the advance that a token has to take.
-use Rattle.std.proofs.Common.{◌≡◌, ◌≢◌, ℕ, zero, suc, ◌+◌, ◌<◌, ◌≤◌, ⊎_elim, Bool, true, false, cond, eqb, ltb, List, [], ◌∷◌, length, take, drop, refl, sym, ◌∙◌, ap, subst, arith}
-use Rattle.std.specs.Prelude.{◌&&◌, sum_by}
-use Rattle.std.proofs.lemmas.Bool.{cases_eq, lt-ltb, and_from}
+use Rattle.std.proofs.Common.{◌≡◌, ◌≢◌, ℕ, suc, ◌+◌, ◌<◌, ⊎_elim, true, false, cond, eqb, List, [], ◌∷◌, length, refl, sym, ◌∙◌, ap, subst, arith}
+use Rattle.std.proofs.lemmas.Bool.{cases_eq}
 use Rattle.std.proofs.lemmas.List.{get_or-set_same, get_or-set_other}
-use Rattle.flat_phaser.proofs.Everyone.{either}
 use Rattle.phaser_word.specs.Fields.{Fields}
 use Rattle.tier_steps.specs.Word.{is_being_opened}
-use Rattle.tier_steps.specs.declared.view.View.{View}
-use Rattle.tier_steps.specs.declared.view.Errand.{Errand}
-use Rattle.tier_steps.specs.declared.view.Errand.TheVariants.{Rest, Opening, Advancing}
+use Rattle.tier_steps.specs.declared.view.Errand.TheVariants.{Opening, Advancing}
 use Rattle.tier_steps.specs.declared.view.Stage.{Stage}
-use Rattle.tier_steps.specs.declared.view.Stage.TheVariants.{Seeking, Joined, GoingBack}
+use Rattle.tier_steps.specs.declared.view.Stage.TheVariants.{Joined, GoingBack}
 use Rattle.tier_steps.specs.declared.kind.Kind.{Kind}
 use Rattle.tier_steps.specs.declared.kind.Kind.TheVariants.{Look, Glance, Refuse, Join, Arrive, Leave, Advance, Force, Claim, Settle, SettleBack, Climb, Refresh}
-use Rattle.tier_steps.specs.View.{new_view, ancestor, claims_on, errand_claims, claim_share, errand_advances, advance_share}
-use Rattle.tier_steps.specs.Tally.{blank, word_at, root_phase, ErrandFits, bit, is_zero}
+use Rattle.tier_steps.specs.View.{ancestor, claims_on, errand_claims, claim_share, errand_advances, advance_share}
+use Rattle.tier_steps.specs.Tally.{blank, word_at, root_phase, bit}
 use Rattle.tier_steps.specs.Told.{is_under_way}
 use Rattle.tier_steps.specs.Step.{Needs, word_after}
 use Rattle.tier_steps.specs.Laws.{words_after}
 use Rattle.tier_steps.proofs.Advance.{zero_field}
 use Rattle.tier_steps.proofs.Known.{refresher}
-use Rattle.tier_steps.proofs.Pass.{only_here}
 use Rattle.tier_core.specs.declared.call.Call.{Call}
 use Rattle.tier_core.specs.declared.call.Played.{Played}
 use Rattle.tier_core.specs.declared.call.Played.TheVariants.{Done, MustAdvance}
 use Rattle.tier_core.specs.declared.call.Progress.TheVariants.{Idle, Begun}
-use Rattle.tier_core.specs.declared.call.Step.{Step}
 use Rattle.tier_core.specs.declared.call.Step.TheVariants.{Begin, Go, Finish}
 use Rattle.tier_core.specs.declared.call.Turn.{Turn}
 use Rattle.tier_core.specs.Machine.{State, IsCore, view_at, call_at, is_due, turn_at, played, with_token}
-use Rattle.tier_core.specs.Run.{may_begin, may_go, may_finish, begun, finish_at, plan_ends, after, IsCall, IsStepOfCalls}
+use Rattle.tier_core.specs.Run.{may_begin, may_go, may_finish, begun, finish_at, plan_ends}
 use Rattle.tier_core.proofs.Turns.{not_both}
 use Rattle.tier_core.proofs.Places.{MayPlay, turn_may}
-use Rattle.tier_core.proofs.Runs.{finish_may, begun_core}
+use Rattle.tier_core.proofs.Runs.{due_advances, finish_may, begun_core}
 use Rattle.tier_answers.specs.Frame.{flat_of}
 use Rattle.tier_answers.specs.Hold.{IsStill}
-use Rattle.tier_answers.specs.Moments.{Moment, Event, run_of, moments, AreEvents, AreOfCall}
-use Rattle.tier_answers.specs.Told.{MakesDue, Tells}
+use Rattle.tier_answers.specs.Moments.{Moment, run_of, moments}
+use Rattle.tier_answers.specs.Told.{Tells}
 use Rattle.tier_answers.specs.Waits.{HasRoot, TheRootWaits, IsAsTold, LatestIsKept, AdvancesAreAwaited}
 use Rattle.tier_answers.proofs.Framing.{after_either}
-use Rattle.tier_answers.proofs.Planning.{known_active, known_due, due_owes}
+use Rattle.tier_answers.proofs.Planning.{known_active, known_due}
 use Rattle.tier_answers.proofs.Holding.{part, fits_at, advances_are_alone}
-use Rattle.tier_answers.proofs.Ending.{at, imaged}
-use Rattle.tier_answers.proofs.Reached.{Alikes, reached, alike_itself}
+use Rattle.tier_answers.proofs.Ending.{alike_itself, at, imaged}
+use Rattle.tier_answers.proofs.Reached.{Alikes, reached}
 use Rattle.tier_answers.proofs.Along.{Carries, OfToken, along, begun_known, call_stays}
 use Rattle.tier_answers.proofs.Telling.{Story, stories, begun_story}
 
@@ -126,7 +120,7 @@ has_root : (s s' : State) (phase parties : ℕ) → KeepsRoot (word_at s.words 0
 has_root s s' phase parties kept is = record { phase = kept.phase ∙ is.phase; parties = kept.parties ∙ is.parties }
 
 owes_at : (s : State) (i : ℕ) → IsCore s → i < length s.views → is_due (call_at s.calls i) ≡ true → (view_at s.views i).errand ≡ Advancing
-owes_at s i core h due = due_owes s.parents (call_at s.calls i) (view_at s.views i) due (core.calls i h)
+owes_at s i core h due = due_advances s.parents (call_at s.calls i) (view_at s.views i) due (core.calls i h)
 
 pub the_root_waits : TheRootWaits
 the_root_waits s (Begin j c) i phase parties core is may n root =

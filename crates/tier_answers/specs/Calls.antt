@@ -128,17 +128,17 @@ PassesCount =
     (s : State) (token : ℕ) (trip : Trip) → IsCore s → token < length s.views → (flat_of s).ended ≡ false → call_at s.calls token ≡ Passing trip
     → (word_at s.words (view_at s.views token).tier).phase ≡ (flat_of s).phase → IsOwnStep s token trip
 
--- A step of a climb changes no members: the tier is refreshed first, or the climb goes as it is owed.
+-- A step of a climb changes no members: the tier is refreshed first, or the climb goes as it is owed. At a root that has ended the call is
+-- done in the phase of its own step.
 pub record IsClimbStep (s : State) (token : ℕ) (own : Trip) : Type 0 where
   pub same : IsSame (view_at s.views token) (view_then s token)
   pub owes : GoesAsOwed s token own
 
 abbrev pub ClimbsKeepMembers : Type 0
 ClimbsKeepMembers =
-    (s : State) (token : ℕ) (own : Trip) → IsCore s → token < length s.views → (flat_of s).ended ≡ false → call_at s.calls token ≡ Owing own
-    → IsClimbStep s token own
+    (s : State) (token : ℕ) (own : Trip) → IsCore s → token < length s.views → call_at s.calls token ≡ Owing own → IsClimbStep s token own
 
--- The advance changes no members of its token.
+-- The advance changes no members of its token, nor does the look that stands for it where the root has ended.
 pub record IsAdvanceStep (s : State) (token : ℕ) : Type 0 where
   pub same : IsSame (view_at s.views token) (view_at (after s (Finish token)).views token)
   pub errand : (view_at (after s (Finish token)).views token).errand ≡ Rest
@@ -147,8 +147,7 @@ pub record IsAdvanceStep (s : State) (token : ℕ) : Type 0 where
 
 abbrev pub AdvancesKeepMembers : Type 0
 AdvancesKeepMembers =
-    (s : State) (token : ℕ) (own : Trip) → IsCore s → token < length s.views → (flat_of s).ended ≡ false → call_at s.calls token ≡ Due own
-    → IsAdvanceStep s token
+    (s : State) (token : ℕ) (own : Trip) → IsCore s → token < length s.views → call_at s.calls token ≡ Due own → IsAdvanceStep s token
 
 -- so many members at a tier, all unarrived in this phase
 pub record IsSeated (there many now : ℕ) (v : View) : Type 0 where

@@ -11,3 +11,4 @@ pub mod Once
 pub mod Tokens
 pub mod Ended
 pub mod Waits
+pub mod Driven

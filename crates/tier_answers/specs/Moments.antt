@@ -1,15 +1,16 @@
 -- The steps that a token takes for one call, each with the state that it was taken in (own).
 use Rattle.std.specs.Prelude.{◌≡◌, ◌≢◌, ℕ, ◌==◌, if◌then◌else◌, List, [], ◌∷◌, ◌++◌}
+use Rattle.std.specs.List.{AllByRecursion}
 use Rattle.flat_phaser.specs.Flat.{Flat}
 use Rattle.tier_core.specs.declared.call.Turn.{Turn}
 use Rattle.tier_core.specs.declared.call.Answer.TheVariants as answer
 use Rattle.tier_core.specs.declared.call.Played.{Played}
 use Rattle.tier_core.specs.declared.call.Step.{Step}
 use Rattle.tier_core.specs.declared.call.Step.TheVariants.{Begin, Go, Finish}
-use Rattle.tier_core.specs.Machine.{State, turn_at, with_token}
+use Rattle.tier_core.specs.Machine.{State, IsCore, turn_at, played, with_token}
 use Rattle.tier_core.specs.Run.{may_go, may_finish, finish_at, plan_ends, after, answer_to, step_label, IsStepOfCalls}
-use Rattle.tier_steps.specs.Image.{label, labelled}
-use Rattle.tier_answers.specs.Frame.{actor}
+use Rattle.tier_steps.specs.Image.{label, labelled, LooksAlike}
+use Rattle.tier_answers.specs.Frame.{flat_of, actor}
 
 -- a state, the turn that the token took there, and the flat phaser that the labels had reached before it and after it
 pub record Moment : Type 0 where
@@ -79,3 +80,14 @@ abbrev pub MomentsAreAnswers : Type 0
 MomentsAreAnswers =
     (s : State) (f : Flat) (step : Step) (played : Played) → answer_to s step ≡ answer.Played played
     → (m : Moment) × (own_turn (actor step) s f step ≡ m ∷ []) × (m.state ≡ s) × (m.before ≡ f) × (m.turn.answer ≡ played)
+
+-- the flat phasers of a moment look like the tree before its turn and after it
+pub record LooksLikeTheTree (token : ℕ) (m : Moment) : Type 0 where
+  pub before : LooksAlike m.before (flat_of m.state)
+  pub afterwards : LooksAlike m.afterwards (flat_of (played m.state token m.turn))
+
+-- So do those that the labels reach from one that looks like the tree before the run.
+abbrev pub MomentsLookLikeTheTree : Type 0
+MomentsLookLikeTheTree =
+    (s : State) (token : ℕ) (events : List Event) (f : Flat) → IsCore s → AreEvents events → LooksAlike f (flat_of s)
+    → AllByRecursion (LooksLikeTheTree token) (moments token events s f [])

@@ -1,9 +1,9 @@
 -- When the root advances, and what its plan is asked (own).
-use Rattle.std.specs.Prelude.{◌≡◌, ℕ, ◌==◌, Bool, true, false, Some}
+use Rattle.std.specs.Prelude.{◌≡◌, ℕ, ◌<◌, ◌==◌, Bool, true, false, Some}
 use Rattle.std.specs.List.{AllByRecursion}
 use Rattle.advance_rule.specs.Plan.{end_ends}
 use Rattle.flat_phaser.specs.declared.FlatStep.TheVariants as flat
-use Rattle.flat_phaser.specs.Flat.{registered}
+use Rattle.flat_phaser.specs.Flat.{registered, unarrived}
 use Rattle.tier_steps.specs.declared.view.Errand.TheVariants.{Rest}
 use Rattle.tier_steps.specs.declared.kind.Kind.TheVariants.{Advance}
 use Rattle.tier_core.specs.Machine.{State, IsCore}
@@ -38,3 +38,9 @@ TheLastOneAdvances = (s : State) (token : ℕ) → IsCore s → (flat_of s).ende
 -- Where no token has an errand nothing is due.
 abbrev pub QuietTreesWait : Type 0
 QuietTreesWait = (s : State) → AllByRecursion (λ v. v.errand ≡ Rest) s.views → (flat_of s).due ≡ false
+
+-- It isn't due since it waits for somebody: where the tree goes on and there is a member, one hasn't arrived.
+abbrev pub QuietTreesAwaitSomebody : Type 0
+QuietTreesAwaitSomebody =
+    (s : State) → IsCore s → (flat_of s).ended ≡ false → AllByRecursion (λ v. v.errand ≡ Rest) s.views → 0 < registered (flat_of s)
+    → 0 < unarrived (flat_of s)

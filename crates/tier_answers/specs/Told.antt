@@ -1,13 +1,12 @@
 -- What each answer of a call tells, in the words of the flat phaser at the moments of the call (own).
-use Rattle.std.specs.Prelude.{◌≡◌, ◌≢◌, ◌↔◌, ℕ, ◌+◌, ◌<◌, ◌≤◌, ◌==◌, Bool, true, false, if◌then◌else◌, Option, Some, None, List, [], ◌∷◌, length, ℤ}
+use Rattle.std.specs.Prelude.{◌≡◌, ◌≢◌, ◌↔◌, ℕ, ◌+◌, ◌<◌, ◌≤◌, Bool, true, false, if◌then◌else◌, Option, Some, None, List, [], ◌∷◌, length, ℤ}
 use Rattle.std.specs.List.{Any}
 use Rattle.phaser_word.specs.Phase.{next_phase_of}
 use Rattle.phaser_word.specs.Fields.{Fields}
 use Rattle.flat_phaser.specs.declared.FlatStep.{FlatStep}
 use Rattle.flat_phaser.specs.declared.FlatStep.TheVariants as flat
 use Rattle.flat_phaser.specs.Flat.{Flat, members_of, arrived_of, registered, shown}
-use Rattle.tier_steps.specs.declared.kind.Kind.{Kind}
-use Rattle.tier_steps.specs.declared.kind.Kind.TheVariants.{Look, Glance, Refuse, Join, Arrive, Leave, Advance, Force, Claim, Settle, SettleBack, Climb, Refresh}
+use Rattle.tier_steps.specs.declared.kind.Kind.TheVariants.{Refuse}
 use Rattle.tier_steps.specs.Word.{is_being_opened}
 use Rattle.tier_steps.specs.View.{claim_share}
 use Rattle.tier_steps.specs.Tally.{word_at}

@@ -1,20 +1,33 @@
 //! What the answers of calls mean, and how many steps a call takes. Each law is the contract of a function
 //! without parameters that does nothing.
 
-ghost use Rattle.tier_answers.specs.Moments.{MomentsAreAnswers};
+ghost use Rattle.tier_answers.specs.Moments.{MomentsAreAnswers, MomentsLookLikeTheTree};
 ghost use Rattle.tier_answers.specs.Told.{AnswersTell};
+ghost use Rattle.tier_answers.specs.Driven.{RunsAnswerAsTheFlatPhaser};
 ghost use Rattle.tier_answers.specs.Once.{CallsCountOnce, JoinsSeatWhereAsked, RefusalsAreNoted};
-ghost use Rattle.tier_answers.specs.Count.{CallsAreShort};
+ghost use Rattle.tier_answers.specs.Count.{CallsAreShort, SixteenStepsAreEnough};
 
 /// What a run answers to a step of a token is the answer of the moment that the step is.
 pub fn moments_are_answers()
     ensures { MomentsAreAnswers }
 {}
 
+/// The flat phasers that the labels of a run have reached before and after a turn look like the tree there.
+pub fn moments_look_like_the_tree()
+    ensures { MomentsLookLikeTheTree }
+{}
+
 /// What each answer of a call says of the one flat phaser that the tree stands for, whatever other tokens
 /// do between the steps of the call.
 pub fn answers_tell()
     ensures { AnswersTell }
+{}
+
+/// The answers of a run are those of one flat phaser: the labels of its steps are a run of any that looks
+/// like the tree before it, and each answer of each call tells what the table of answers says of the flat
+/// phasers that these labels reach.
+pub fn runs_answer_as_the_flat_phaser()
+    ensures { RunsAnswerAsTheFlatPhaser }
 {}
 
 /// A call counts once where it is done or has to advance the root, and not at all where it answers
@@ -38,4 +51,9 @@ pub fn refusals_are_noted()
 /// arrival or a departure after 15, a poll after 2, and an end by force after 1.
 pub fn calls_are_short()
     ensures { CallsAreShort }
+{}
+
+/// Wherever a call stands, 16 steps of its token alone are enough for its answer.
+pub fn sixteen_steps_are_enough()
+    ensures { SixteenStepsAreEnough }
 {}

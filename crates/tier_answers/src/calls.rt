@@ -48,12 +48,13 @@ pub fn passes_count()
 {}
 
 /// A step of a climb changes no members; the call is then done in the phase of its own step, climbs on, or
-/// has to advance the root.
+/// has to advance the root. Where the root has ended it is done so too.
 pub fn climbs_keep_members()
     ensures { ClimbsKeepMembers }
 {}
 
-/// The advance changes no members of its token, which owes nothing afterwards.
+/// The advance changes no members of its token, which owes nothing afterwards and is done in the phase of
+/// its own step, whether the tree has ended since or not.
 pub fn advances_keep_members()
     ensures { AdvancesKeepMembers }
 {}

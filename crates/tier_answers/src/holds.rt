@@ -3,7 +3,7 @@
 
 ghost use Rattle.tier_answers.specs.Frame.{TurnsChangeTheirOwn, OthersStay};
 ghost use Rattle.tier_answers.specs.Tokens.{TokensEnterUnseen};
-ghost use Rattle.tier_answers.specs.Plan.{AdvancesArePlanned, TheLastOneAdvances, QuietTreesWait};
+ghost use Rattle.tier_answers.specs.Plan.{AdvancesArePlanned, TheLastOneAdvances, QuietTreesWait, QuietTreesAwaitSomebody};
 ghost use Rattle.tier_answers.specs.Rounds.{AdvancesBeginThePhase, AwaitedTokensStay};
 ghost use Rattle.tier_answers.specs.Waits.{TheRootWaits, AdvancesAreAwaited};
 ghost use Rattle.tier_answers.specs.Hold.{AwaitedTokensHold, NobodyMustAdvance, AdvancesAreAlone, MembersAreTheTokens, PartiesAreFew};
@@ -50,6 +50,11 @@ pub fn advances_are_awaited()
 /// Where no token is on its way no advance is due.
 pub fn quiet_trees_wait()
     ensures { QuietTreesWait }
+{}
+
+/// Where the tree goes on, no token is on its way and there is a member, some member hasn't arrived.
+pub fn quiet_trees_await_somebody()
+    ensures { QuietTreesAwaitSomebody }
 {}
 
 /// While a token has a member that hasn't arrived in the root's phase, no token has to advance the root.

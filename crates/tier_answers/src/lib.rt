@@ -2,7 +2,7 @@
 //! stands for, how many steps a call takes, and what these steps do to its token.
 //!
 //! * [`answers`]: what each answer means, and how many steps a call takes.
-//! * [`calls`]: what the steps of each call do to their token.
+//! * [`calls`]: who begins a call, and what its steps do to its token.
 //! * [`holds`]: when the root advances, what holds it, and what a step leaves as it was.
 //! * [`joins`]: joins where nothing refuses them.
 #![tactic(auto)]

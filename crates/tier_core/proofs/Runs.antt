@@ -1,5 +1,5 @@
 -- Each run is a flat run.
-use Rattle.std.proofs.Common.{◌≡◌, ◌≢◌, ℕ, ◌<◌, ⊎_elim, Bool, true, false, cond, eqb, ltb, List, [], ◌∷◌, length, length-set, set, refl, sym, ◌∙◌, ap, subst, arith, None}
+use Rattle.std.proofs.Common.{◌≡◌, ◌≢◌, ℕ, ◌<◌, ⊎_elim, Bool, true, false, cond, eqb, ltb, List, [], ◌∷◌, length, length-set, set, refl, sym, ◌∙◌, subst, arith, None}
 use Rattle.std.specs.Prelude.{◌&&◌}
 use Rattle.std.proofs.lemmas.List.{get_or-set_same, get_or-set_other}
 use Rattle.std.proofs.lemmas.Bool.{cases_eq, ltb-true, eqb-true}
@@ -10,15 +10,12 @@ use Rattle.flat_phaser.specs.Step.{flat_run, IsFlatRun}
 use Rattle.flat_phaser.proofs.Everyone.{both_true}
 use Rattle.tier_steps.specs.declared.view.View.{View}
 use Rattle.tier_steps.specs.declared.view.Errand.TheVariants.{Rest, Advancing}
-use Rattle.tier_steps.specs.Tally.{word_at}
-use Rattle.tier_steps.specs.declared.kind.Kind.TheVariants.{Look, Advance}
-use Rattle.tier_steps.specs.Step.{dropped}
 use Rattle.tier_steps.specs.Image.{image, label, labelled, IsAllowedLabel, LooksAlike}
 use Rattle.tier_core.specs.Turn.{Call, Progress, Idle, Begun, ToSeek, Settling, ToGiveBack, Passing, Owing, Due, Refreshing, Turn}
-use Rattle.tier_core.specs.Machine.{State, IsCore, IsNext, CallFits, BegunFits, view_at, call_at, is_active, is_due, turn_at, played}
+use Rattle.tier_core.specs.Machine.{State, IsCore, CallFits, BegunFits, view_at, call_at, is_active, is_due, turn_at, played}
 use Rattle.tier_core.specs.Run.{Step, Begin, Go, Finish, is_idle, may_call, may_begin, may_go, may_finish, begun, finish_at, plan_ends, after, run, step_label, listed, labels, IsCall, IsStepOfCalls, TheTreeIsFlat}
 use Rattle.tier_core.specs.declared.call.Call.TheVariants as call
-use Rattle.tier_core.proofs.Turns.{by_test, not_both, looked_ended}
+use Rattle.tier_core.proofs.Turns.{by_test, not_both, finish_next}
 use Rattle.tier_core.proofs.Places.{MayPlay, played_core, played_flat, turn_may}
 
 -- a token that is idle rests, and one that must advance owes it
@@ -33,7 +30,7 @@ idle_rests ps (Owing own) v e fits = not_both false e refl
 idle_rests ps (Due own) v e fits = not_both false e refl
 idle_rests ps (Refreshing has_moved) v e fits = not_both false e refl
 
-due_advances : (ps : List ℕ) (p : Progress) (v : View) → is_due p ≡ true → CallFits ps p v → v.errand ≡ Advancing
+pub due_advances : (ps : List ℕ) (p : Progress) (v : View) → is_due p ≡ true → CallFits ps p v → v.errand ≡ Advancing
 due_advances ps Idle v e fits = not_both false e refl
 due_advances ps (Begun c) v e fits = not_both false e refl
 due_advances ps (ToSeek tier size) v e fits = not_both false e refl
@@ -77,14 +74,8 @@ begun_core s i c core is e =
 -- an advance
 pub finish_may : (s : State) (i : ℕ) (ends : Bool) → IsCore s → i < length s.views → is_due (call_at s.calls i) ≡ true → MayPlay s i (finish_at s i ends)
 finish_may s i ends core h e =
-    let owes = due_advances s.parents (call_at s.calls i) (view_at s.views i) e (core.calls i h) in
-    by_test (λ b. IsNext s.parents s.words (view_at s.views i) (cond b Look (Advance ends)) 0 Idle) (word_at s.words 0).ended
-    (λ ended. record {
-      within = core.tally.some;
-      needs = refl;
-      keeps = looked_ended (word_at s.words 0) (view_at s.views i) ended ∙ ap dropped owes;
-    })
-    (λ going. record { within = core.tally.some; needs = (refl, record { errand = owes; going = going }); keeps = refl })
+    finish_next s.parents s.words (view_at s.views i) ends core.tally.some
+    (due_advances s.parents (call_at s.calls i) (view_at s.views i) e (core.calls i h))
 
 -- what one step is
 abbrev pub Moves : Option FlatStep → State → Flat → Type 0

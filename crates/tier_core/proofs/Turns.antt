@@ -20,7 +20,7 @@ use Rattle.tier_steps.specs.declared.kind.Kind.TheVariants.{Look, Glance, Refuse
 use Rattle.tier_steps.specs.declared.kind.Kind.{Kind}
 use Rattle.tier_steps.specs.Step.{CanPass, CanClimb, Admits, Refuses, IsFree, IsDue, opening, added, owed, looked, moved, dropped, given_up, passed, is_going_back, refused, view_after}
 use Rattle.tier_core.specs.Turn.{Call, Progress, Played, GoesOn, Done, Passed, Waiting, Held, Full, AlreadyArrived, Ended, MustAdvance, IsInRange, Idle, Begun, ToSeek, Settling, ToGiveBack, Passing, Owing, Due, Refreshing, Turn, turn, turn_by, place, pass_turn, finish_turn, first_turn, seek_turn, settle_turn, give_back_turn, climb_turn, last_look, claimed_by, lags, has_no_room, is_refusing, is_claimable, refusal, is_refusal, cause_of, polled, end_shown, giving_back, settling, unless_claimed, goes_on, told, own_kind, errand_place}
-use Rattle.tier_core.specs.Machine.{IsWanted, BegunFits, CallFits, IsNext, TurnsAreSteps, is_going, OneWordIsEnough}
+use Rattle.tier_core.specs.Machine.{IsWanted, BegunFits, CallFits, IsNext, TurnsAreSteps, is_going, OneWordIsEnough, OneWordTellsRanges}
 use Rattle.tier_core.specs.declared.call.Call.TheVariants as call
 use Rattle.tier_steps.proofs.Legal.{legal_empty, passed_legal}
 use Rattle.tier_steps.proofs.Advance.{ancestor_within}
@@ -704,3 +704,14 @@ turn_range ps ws front v back (Owing own) tally fits =
     (tally.legal fits.0 (subst (λ (n : ℕ). fits.0 < n) (sym tally.long) fit.1)))
 turn_range ps ws front v back (Due own) tally fits = tt
 turn_range ps ws front v back (Refreshing has_moved) tally fits = by_played has_moved (Passed v.phase) (Done v.phase) tt tt
+
+pub one_word_tells_ranges : OneWordTellsRanges
+one_word_tells_ranges ps ws front v back Idle ends tally fits = tt
+one_word_tells_ranges ps ws front v back (Begun c) ends tally fits = tt
+one_word_tells_ranges ps ws front v back (ToSeek tier size) ends tally fits = turn_range ps ws front v back (ToSeek tier size) tally fits
+one_word_tells_ranges ps ws front v back Settling ends tally fits = turn_range ps ws front v back Settling tally fits
+one_word_tells_ranges ps ws front v back (ToGiveBack answer) ends tally fits = turn_range ps ws front v back (ToGiveBack answer) tally fits
+one_word_tells_ranges ps ws front v back (Passing trip) ends tally fits = turn_range ps ws front v back (Passing trip) tally fits
+one_word_tells_ranges ps ws front v back (Owing own) ends tally fits = turn_range ps ws front v back (Owing own) tally fits
+one_word_tells_ranges ps ws front v back (Due own) ends tally fits = tt
+one_word_tells_ranges ps ws front v back (Refreshing has_moved) ends tally fits = turn_range ps ws front v back (Refreshing has_moved) tally fits

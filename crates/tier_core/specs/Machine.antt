@@ -13,7 +13,7 @@ use Rattle.tier_steps.specs.declared.kind.Kind.{Kind}
 use Rattle.tier_steps.specs.Step.{Needs, opening}
 use Rattle.tier_steps.specs.Laws.{words_after, stepped_view}
 use Rattle.tier_steps.specs.Start.{empty_words}
-use Rattle.tier_core.specs.Turn.{Call, Progress, Idle, Begun, ToSeek, Settling, ToGiveBack, Passing, Owing, Due, Refreshing, Turn, turn, turn_by, place, claimed_by, is_refusal}
+use Rattle.tier_core.specs.Turn.{Call, Progress, Idle, Begun, ToSeek, Settling, ToGiveBack, Passing, Owing, Due, Refreshing, Turn, turn, turn_by, place, claimed_by, is_refusal, IsInRange}
 use Rattle.tier_core.specs.declared.call.Call.TheVariants as call
 
 pub record State : Type 0 where
@@ -116,6 +116,13 @@ OneWordIsEnough =
     (parents : List ℕ) (words : List Fields) (front : List View) (v : View) (back : List View) (progress : Progress) (ends : Bool)
     → IsShape parents → Tallies parents words (front ++ v ∷ back) → is_going progress ≡ true → CallFits parents progress v
     → IsNextBy parents words v (place parents progress v) (turn_by parents ends (word_at words (place parents progress v)) progress v)
+
+-- An advance that such a step asks for is of a phase and parties that fit a word.
+abbrev pub OneWordTellsRanges : Type 0
+OneWordTellsRanges =
+    (parents : List ℕ) (words : List Fields) (front : List View) (v : View) (back : List View) (progress : Progress) (ends : Bool)
+    → Tallies parents words (front ++ v ∷ back) → CallFits parents progress v
+    → IsInRange (turn_by parents ends (word_at words (place parents progress v)) progress v).answer
 
 -- what is true of every state: the tally holds, and each call fits its token's view
 pub record IsCore (s : State) : Type 0 where

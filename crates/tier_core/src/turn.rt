@@ -9,6 +9,7 @@ ghost use Rattle.tier_shape.specs.Parents.{parent_of};
 ghost use Rattle.tier_steps.specs.View.{ancestor};
 ghost use Rattle.tier_steps.specs.declared.view.Trip.TheVariants.{Arrival, Departure};
 ghost use Rattle.tier_steps.specs.Tally.{word_at};
+ghost use Rattle.tier_steps.specs.declared.kind.Kind.TheVariants.{Look};
 ghost use Rattle.tier_shape.specs.Parents.{IsShape};
 ghost use Rattle.tier_core.specs.Turn.{
   lags,
@@ -181,18 +182,28 @@ fn then_give_back(claimed: u16, answer: Played) -> Progress
     }
 }
 
+/// A join with so many claimed tiers that finds the tree ended.
+fn seek_over(claimed: u16, root: Word) -> Turn
+    ensures kind { result.kind ≡ Look }
+    ensures tier { result.tier ≡ 0 }
+    ensures next { result.next ≡ giving_back claimed (end_shown root) }
+    ensures answer { result.answer ≡ unless_claimed claimed (end_shown root) }
+{
+    let answer = shown_end(root);
+    Turn {
+        kind: Kind::Look,
+        tier: 0,
+        next: then_give_back(claimed, answer),
+        answer: if_last(claimed, answer),
+    }
+}
+
 /// A join with so many claimed tiers, at the next tier of its path.
 fn seek(tier: u16, claimed: u16, size: u32, at: u16, word: Word, view: View) -> Turn
     ensures { result ≡ seek_turn tier claimed size at word view }
 {
     if word.ended {
-        let answer = shown_end(word);
-        return Turn {
-            kind: Kind::Look,
-            tier: 0,
-            next: then_give_back(claimed, answer),
-            answer: if_last(claimed, answer),
-        };
+        return seek_over(claimed, word);
     }
     let parties = parties_added(claimed, size);
     if turns_away(parties, word) {

@@ -1,5 +1,5 @@
 -- The test for a leaf says what a leaf is.
-use Rattle.std.proofs.Common.{◌≡◌, ℕ, ◌-◌, ◌<◌, ◌≢◌, ⊎_elim, ◌==◌, ◌||◌, ◌↔◌, not, nat_lt, IsTrue, Bool, true, false, List, length, get_or, refl, arith, inl, inr, subst, sym, ◌∙◌}
+use Rattle.std.proofs.Common.{◌≡◌, ℕ, ◌-◌, ◌==◌, ◌||◌, ◌↔◌, not, nat_lt, IsTrue, Bool, true, false, List, length, get_or, refl, arith, inl, inr, subst, sym, ◌∙◌}
 use Rattle.std.proofs.lemmas.Bool.{and_parts, and_from, cases_eq, or_cases, or_left, or_right, ltb-true, lt-ltb, eq-eqb, eqb-true, ne_eqb, not-true, not_from_false, both_ways, false_from_ne_true, false≢true}
 use Rattle.std.proofs.lemmas.List.{get_or_default}
 use Rattle.std.specs.List.{Contains}

@@ -1,13 +1,12 @@
 -- A tree in which nobody has an errand waits for somebody, where it has a member.
-use Rattle.std.proofs.Common.{◌≡◌, ◌≢◌, ℕ, ◌+◌, ◌<◌, ⊎_elim, Bool, true, false, cond, eqb, List, length, refl, sym, ◌∙◌, ap, subst, arith}
-use Rattle.std.specs.Prelude.{sum_by, count_by, not}
+use Rattle.std.proofs.Common.{◌≡◌, ◌≢◌, ℕ, ◌+◌, ◌<◌, ⊎_elim, Bool, true, cond, eqb, List, length, refl, sym, ◌∙◌, ap, subst, arith}
+use Rattle.std.specs.Prelude.{sum_by}
 use Rattle.std.specs.List.{AllByRecursion}
 use Rattle.std.proofs.lemmas.Bool.{cases_eq, eq-eqb, ne_eqb}
-use Rattle.flat_phaser.specs.Flat.{has_arrived, unarrived, everyone_arrived}
-use Rattle.flat_phaser.specs.declared.Member.{Member}
+use Rattle.flat_phaser.specs.Flat.{unarrived, everyone_arrived}
 use Rattle.tier_steps.specs.Word.{Fields, late}
-use Rattle.tier_steps.specs.View.{View, Errand, Rest, only_at, errand_parties, is_hidden, party_share, errand_advances, advance_share}
-use Rattle.tier_steps.specs.Tally.{IsShape, word_at, root_phase, ViewFits, is_zero, Tallies}
+use Rattle.tier_steps.specs.View.{View, Rest, only_at, errand_parties, is_hidden, party_share, errand_advances, advance_share}
+use Rattle.tier_steps.specs.Tally.{word_at, root_phase, ViewFits, is_zero}
 use Rattle.tier_steps.specs.Image.{image, all_members}
 use Rattle.tier_steps.specs.Due.{QuietTreesAwaitSomebody}
 use Rattle.tier_steps.proofs.Keeping.{all_map}

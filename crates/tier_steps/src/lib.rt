@@ -2,7 +2,7 @@
 //! at most one word and the view of the token that takes them.
 //!
 //! * [`view`] and [`kind`]: what a token knows and owes, and the kinds of step, as plain data.
-//! * [`step`]: what each kind leaves, and the tests that a token makes before it takes a step.
+//! * [`step`]: what each kind leaves of a word and of a view.
 //! * [`laws`]: each kind of step keeps the tally of words and views, and is the step of one flat phaser
 //!   over all members of all tokens.
 #![tactic(auto)]

@@ -1,7 +1,7 @@
-//! The steps in code: what each kind leaves of one word and of one view, and the tests that a token makes
-//! before it picks a kind. No sum over tiers or tokens is taken here.
+//! The steps in code: what each kind leaves of one word and of one view. No sum over tiers or tokens is
+//! taken here.
 
-ghost use Rattle.std.specs.Prelude.{◌≡◌, ◌↔◌, ◌+◌, ◌≤◌, true};
+ghost use Rattle.std.specs.Prelude.{◌≡◌, ◌+◌, ◌≤◌};
 ghost use Rattle.tier_steps.specs.View.{Arrival, Departure};
 ghost use Rattle.tier_steps.specs.Word.{IsLegal, joined, advanced, settled, refreshed};
 ghost use Rattle.tier_steps.specs.Step.{
@@ -17,10 +17,6 @@ ghost use Rattle.tier_steps.specs.Step.{
   arrived_view,
   left_view,
   joined_view,
-  Admits,
-  Refuses,
-  IsFree,
-  CanRefresh,
   word_after,
   view_after,
   IsRunnable,
@@ -28,55 +24,13 @@ ghost use Rattle.tier_steps.specs.Step.{
 
 use crate::kind::Kind;
 use crate::view::{Errand, Stage, Trip, View};
-use phaser_word::{LAST_PHASE, MOST_PARTIES, Word, next_phase};
+use phaser_word::{Word, next_phase};
 
 /// What a tier gets of a join with so many claimed tiers below it: the members, or one party.
 pub fn parties_added(claimed: u16, size: u32) -> u32
     ensures { result ≡ added claimed size }
 {
     if claimed == 0 { size } else { 1 }
-}
-
-/// Whether so many parties may join this tier: it has not ended, an unarrived party is there or it is the
-/// empty root, and there is room.
-pub fn is_admitted(tier: u16, parties: u32, word: Word) -> bool
-    ensures { (result ≡ true) ↔ Admits tier parties word }
-{
-    !word.ended
-        && word.unarrived > 0
-        && (word.parties > 0 || tier == 0 && word.unarrived == 1)
-        && parties <= MOST_PARTIES - word.parties
-}
-
-/// Whether so many parties are refused here: there is no room, nobody is unarrived, or the tier is being
-/// opened.
-pub fn is_refused(parties: u32, word: Word) -> bool
-    ensures { (result ≡ true) ↔ Refuses parties word }
-{
-    !word.ended
-        && (parties > MOST_PARTIES - word.parties
-            || word.unarrived == 0
-            || word.parties == 0 && word.unarrived == 2)
-}
-
-/// Whether this tier is empty and may be claimed.
-pub fn is_free(tier: u16, word: Word) -> bool
-    ensures { (result ≡ true) ↔ IsFree tier word }
-{
-    tier > 0 && word.parties == 0 && word.unarrived == 1
-}
-
-/// Whether the token may bring this word into its phase: the word lags, and the token has an unarrived
-/// member there or climbs there.
-pub fn may_refresh(tier: u16, word: Word, view: &View) -> bool
-    ensures { (result ≡ true) ↔ CanRefresh tier word view.now }
-{
-    let leave = match view.errand {
-        Errand::Rest => view.tier == tier && view.arrived < view.size,
-        Errand::Climbing { tier: next, .. } => next == tier,
-        Errand::Opening { .. } | Errand::Advancing => false,
-    };
-    leave && word.parties > 0 && word.unarrived == 0 && word.phase != view.phase
 }
 
 /// What a token owes after a party has passed the tier, by the word before.
@@ -120,25 +74,6 @@ pub fn word_passed(tier: u16, trip: Trip, word: Word) -> Word
             ..word
         },
     }
-}
-
-/// Whether this step can be run: the word that it leaves is legal, and its numbers stay in their ranges.
-/// Every step that a token may take can be run.
-pub fn can_run(kind: Kind, tier: u16, word: Word, view: &View) -> bool
-    ensures { (result ≡ true) ↔ IsRunnable kind tier word view.now }
-{
-    let fits = match kind {
-        Kind::Join { claimed, size, .. } => {
-            parties_added(claimed, size) <= MOST_PARTIES - word.parties
-        }
-        Kind::Settle { claimed, size, .. } => {
-            view.phase <= LAST_PHASE && parties_added(claimed, size) <= MOST_PARTIES
-        }
-        Kind::Refresh => view.phase <= LAST_PHASE,
-        Kind::Claim { claimed, .. } => claimed < u16::MAX,
-        _ => true,
-    };
-    fits && view.arrived <= MOST_PARTIES
 }
 
 /// The word of a tier that so many parties join.
