@@ -1,0 +1,90 @@
+-- The fault that ends a job.
+use Rattle.std.proofs.Common.{◌≡◌, ◌⊎◌, inl, inr, ℕ, Bool, true, false, nat_lt, List, [], ◌∷◌, length, Option, Some, None, refl, sym, ap, ◌∙◌, subst}
+use Rattle.std.specs.Prelude.{if◌then◌else◌}
+use Rattle.std.proofs.lemmas.Bool.{ltb-true}
+use Rattle.task_lang.specs.FaultCode.{code_of}
+use Rattle.task_lang.specs.Meaning.{Task, After, Synced, Stopped, Faulted, segment_of}
+use Rattle.step_core.specs.Program.{Program}
+use Rattle.step_core.specs.Superstep.{State, segments, first_fault, or_later, closed, ended_by, gone_on, next_live}
+use Rattle.job_laws.specs.Reports.{HasNoFault, NoneFaults, IsFirstFault, IsTooMany, FaultsTellTheFirst}
+
+none_here : (p : Program) (st : State) (t : Task) (ts : List Task) → (first_fault (segments p st.arrays st.step ts) ≡ None → NoneFaults p st ts)
+    → first_fault (segments p st.arrays st.step (t ∷ ts)) ≡ None → (a : After) → (segment_of p.plans t st.arrays st.step).after ≡ a → NoneFaults p st (t ∷ ts)
+none_here p st t ts more h (Synced u) e =
+    (subst HasNoFault (sym e) tt, more (sym (ap (or_later (first_fault (segments p st.arrays st.step ts)) t.path) e) ∙ h))
+none_here p st t ts more h Stopped e =
+    (subst HasNoFault (sym e) tt, more (sym (ap (or_later (first_fault (segments p st.arrays st.step ts)) t.path) e) ∙ h))
+none_here p st t ts more h (Faulted f) e =
+    let bad : Some (code_of f, t.path) ≡ None = sym (ap (or_later (first_fault (segments p st.arrays st.step ts)) t.path) e) ∙ h in absurd cc
+
+-- none of the tasks faults where no fault is found
+pub none_faults : (p : Program) (st : State) (ts : List Task) → first_fault (segments p st.arrays st.step ts) ≡ None → NoneFaults p st ts
+none_faults p st [] h = tt
+none_faults p st (t ∷ ts) h = none_here p st t ts (none_faults p st ts) h (segment_of p.plans t st.arrays st.step).after refl
+
+behind : (p : Program) (st : State) (t : Task) (ts : List Task) (told : ℕ × List ℕ) → HasNoFault (segment_of p.plans t st.arrays st.step).after
+    → IsFirstFault p st ts told → IsFirstFault p st (t ∷ ts) told
+behind p st t ts told fine r = record {
+  front = t ∷ r.front;
+  here = r.here;
+  back = r.back;
+  fault = r.fault;
+  whole = ap (λ (l : List Task). t ∷ l) r.whole;
+  before = (fine, r.before);
+  faults = r.faults;
+  code = r.code;
+  path = r.path;
+}
+
+first_here : (p : Program) (st : State) (t : Task) (ts : List Task) (told : ℕ × List ℕ)
+    → (first_fault (segments p st.arrays st.step ts) ≡ Some told → IsFirstFault p st ts told)
+    → first_fault (segments p st.arrays st.step (t ∷ ts)) ≡ Some told
+    → (a : After) → (segment_of p.plans t st.arrays st.step).after ≡ a → IsFirstFault p st (t ∷ ts) told
+first_here p st t ts told more h (Synced u) e =
+    behind p st t ts told (subst HasNoFault (sym e) tt) (more (sym (ap (or_later (first_fault (segments p st.arrays st.step ts)) t.path) e) ∙ h))
+first_here p st t ts told more h Stopped e =
+    behind p st t ts told (subst HasNoFault (sym e) tt) (more (sym (ap (or_later (first_fault (segments p st.arrays st.step ts)) t.path) e) ∙ h))
+first_here p st t ts told more h (Faulted f) e =
+    let same : Some (code_of f, t.path) ≡ Some told = sym (ap (or_later (first_fault (segments p st.arrays st.step ts)) t.path) e) ∙ h in
+    let pair : (code_of f, t.path) ≡ told = cc in
+    record {
+      front = [];
+      here = t;
+      back = ts;
+      fault = f;
+      whole = refl;
+      before = tt;
+      faults = e;
+      code = ap (λ (x : ℕ × List ℕ). x.0) (sym pair);
+      path = ap (λ (x : ℕ × List ℕ). x.1) (sym pair);
+    }
+
+-- the fault that is found is that of the first faulting task
+pub first_faults : (p : Program) (st : State) (ts : List Task) (told : ℕ × List ℕ) → first_fault (segments p st.arrays st.step ts) ≡ Some told
+    → IsFirstFault p st ts told
+first_faults p st [] told h = let bad : ◌≡◌ {A = Option (ℕ × List ℕ)} None (Some told) = h in absurd cc
+first_faults p st (t ∷ ts) told h = first_here p st t ts told (first_faults p st ts told) h (segment_of p.plans t st.arrays st.step).after refl
+
+pub faults_tell : FaultsTellTheFirst
+faults_tell p st told h = by (first_fault (segments p st.arrays st.step st.live)) refl h
+  where
+    next : List Task
+    next = next_live (segments p st.arrays st.step st.live)
+
+    over : (b : Bool) → nat_lt 4096 (length next) ≡ b → first_fault (segments p st.arrays st.step st.live) ≡ None
+        → (if b then ended_by st (7, []) else gone_on st (segments p st.arrays st.step st.live) next).fault ≡ Some told
+        → IsTooMany p st told
+    over true e none k =
+        let pair : (7, []) ≡ told = cc in
+        record {
+          none = none_faults p st st.live none;
+          many = ltb-true _ _ e;
+          code = ap (λ (x : ℕ × List ℕ). x.0) (sym pair);
+          path = ap (λ (x : ℕ × List ℕ). x.1) (sym pair);
+        }
+    over false e none k = let bad : ◌≡◌ {A = Option (ℕ × List ℕ)} None (Some told) = k in absurd cc
+
+    by : (o : Option (ℕ × List ℕ)) → first_fault (segments p st.arrays st.step st.live) ≡ o
+        → (closed st (segments p st.arrays st.step st.live) o).fault ≡ Some told → IsFirstFault p st st.live told ⊎ IsTooMany p st told
+    by (Some f) e k = let same : Some f ≡ Some told = k in inl (first_faults p st st.live told (e ∙ same))
+    by None e k = inr (over (nat_lt 4096 (length next)) refl e k)
