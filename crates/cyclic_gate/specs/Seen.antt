@@ -7,6 +7,8 @@ use Rattle.cyclic_gate.specs.declared.call.Awaited.{Awaited}
 use Rattle.cyclic_gate.specs.declared.call.Awaited.TheVariants.{Waits, Tripped, ActionFailed, Broken}
 use Rattle.cyclic_gate.specs.declared.call.BarrierFault.{BarrierFault}
 use Rattle.cyclic_gate.specs.declared.call.BarrierFault.TheVariants.{NoParty, AlreadyWaiting, NotWaiting, TooMany, Memory}
+use Rattle.cyclic_gate.specs.declared.gate.Arrival.{Arrival}
+use Rattle.cyclic_gate.specs.declared.gate.Arrival.TheVariants as arrival
 use Rattle.cyclic_gate.specs.declared.gate.GateFault.{GateFault}
 use Rattle.cyclic_gate.specs.declared.gate.GateFault.TheVariants as gate
 
@@ -28,12 +30,19 @@ answer_of (ActionFailed others) = Fails others.items
 answer_of Broken = IsBroken
 
 -- A fault of a call is the refusal that the machine answers. Memory may run out only in a call that would change something.
-abbrev pub IsRefusal : BarrierFault → Answer → Type 0
-IsRefusal AlreadyWaiting a = a ≡ Already
-IsRefusal NotWaiting a = a ≡ Absent
-IsRefusal Memory a = is_change a ≡ true
-IsRefusal NoParty a = ⊥
-IsRefusal TooMany a = ⊥
+abbrev pub RefusesAwait : BarrierFault → Answer → Type 0
+RefusesAwait AlreadyWaiting a = a ≡ Already
+RefusesAwait Memory a = is_change a ≡ true
+RefusesAwait NotWaiting a = ⊥
+RefusesAwait NoParty a = ⊥
+RefusesAwait TooMany a = ⊥
+
+abbrev pub RefusesAbandon : BarrierFault → Answer → Type 0
+RefusesAbandon NotWaiting a = a ≡ Absent
+RefusesAbandon Memory a = is_change a ≡ true
+RefusesAbandon AlreadyWaiting a = ⊥
+RefusesAbandon NoParty a = ⊥
+RefusesAbandon TooMany a = ⊥
 
 -- a trip comes of an action that ran and went well, a failure of one that ran and failed
 abbrev pub Ran : (Bool → Type 0) → Awaited → Type 0
@@ -55,3 +64,16 @@ GivesNoTurn gate.ActionFailed (Fails others) = Unit {0}
 GivesNoTurn gate.ActionFailed _ = ⊥
 GivesNoTurn gate.AlreadyWaiting a = a ≡ Already
 GivesNoTurn gate.Memory a = is_change a ≡ true
+
+-- How an arrival goes on at the gate: the caller waits for an end behind so many notes, with its index, or goes on as the last.
+abbrev pub IsArrival : Arrival → Answer → ℕ → Type 0
+IsArrival (arrival.Waits index place) (Waiting i) noted = (index ≡ i) × (place ≡ noted)
+IsArrival (arrival.Last index) (Trips all) noted = index ≡ 0
+IsArrival _ _ noted = ⊥
+
+abbrev pub RefusesArrival : GateFault → Answer → Type 0
+RefusesArrival gate.Broken a = a ≡ IsBroken
+RefusesArrival gate.ActionFailed (Fails others) = Unit {0}
+RefusesArrival gate.ActionFailed _ = ⊥
+RefusesArrival gate.AlreadyWaiting a = a ≡ Already
+RefusesArrival gate.Memory a = is_change a ≡ true

@@ -3,7 +3,7 @@ ghost use Rattle.std.specs.Prelude.{◌≡◌, ◌⊎◌, ◌↔◌, ◌<◌, �
 ghost use Rattle.advance_rule.specs.Action.{AnswersAction};
 ghost use Rattle.cyclic_gate.specs.Machine.{Machine, fresh};
 ghost use Rattle.cyclic_gate.specs.Steps.{answer, after, Absent, Breaks};
-ghost use Rattle.cyclic_gate.specs.Seen.{Core, answer_of, IsRefusal, Ran};
+ghost use Rattle.cyclic_gate.specs.Seen.{Core, answer_of, RefusesAwait, Ran};
 ghost use Rattle.cyclic_gate.specs.declared.call.Call.TheVariants.{Await, Abandon, BreakOff, Reset};
 
 use crate::call::{Awaited, BarrierFault};
@@ -84,7 +84,7 @@ impl<F: Fn(u64) -> bool> BarrierCore<F> {
         requires rule { AnswersAction (F.pre self.old.action.closure) (F.post self.old.action.closure) self.old.action.plan }
         ensures answer { MatchResult result
             (λ a. answer self.old.action.plan (Await caller) self.old.barrier ≡ answer_of a)
-            (λ e. IsRefusal e (answer self.old.action.plan (Await caller) self.old.barrier)) }
+            (λ e. RefusesAwait e (answer self.old.action.plan (Await caller) self.old.barrier)) }
         ensures barrier { MatchResult result
             (λ a. self.new.barrier ≡ after self.old.action.plan (Await caller) self.old.barrier)
             (λ e. self.new.barrier ≡ self.old.barrier) }

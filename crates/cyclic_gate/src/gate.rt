@@ -1,9 +1,9 @@
 //! The barrier under a lock, where threads wait.
-ghost use Rattle.std.specs.Prelude.{◌≡◌, ◌⊎◌, ◌↔◌, ◌<◌, ◌≤◌, ◌<ℤ◌, pos, IfOk, IfErr, MatchResult};
+ghost use Rattle.std.specs.Prelude.{◌≡◌, ◌⊎◌, ◌↔◌, ◌<◌, ◌≤◌, ◌<ℤ◌, pos, length, IfOk, IfErr, MatchResult};
 ghost use Rattle.advance_rule.specs.Action.{AnswersAction};
 ghost use Rattle.cyclic_gate.specs.Steps.{answer, Breaks};
 ghost use Rattle.cyclic_gate.specs.Runs.{AfterSome};
-ghost use Rattle.cyclic_gate.specs.Seen.{Gate, GivesTurn, GivesNoTurn, IsRefusal};
+ghost use Rattle.cyclic_gate.specs.Seen.{Gate, GivesTurn, GivesNoTurn, IsArrival, RefusesAbandon, RefusesArrival};
 ghost use Rattle.cyclic_gate.specs.declared.call.Call.TheVariants.{Await, Abandon, BreakOff, Reset};
 
 use crate::call::{Awaited, BarrierFault};
@@ -29,6 +29,15 @@ pub enum GateFault {
     /// There was no memory, and nothing changed.
     #[error("out of memory")]
     Memory,
+}
+
+// How an arrival goes on.
+#[derive(Clone, Copy)]
+enum Arrival {
+    // with this index, waiting for an end that is noted from this place on
+    Waits(u32, usize),
+    // as the last, with this index
+    Last(u32),
 }
 
 // What a caller is told whose wait ended so.
@@ -120,17 +129,30 @@ impl<F: Fn(u64) -> bool> CyclicGate<F> {
         if !ledger.is_of(self.parties, self.action.fails()) {
             return Err(GateFault::Broken);
         }
-        match ledger.await_step(&self.action, caller) {
-            Ok(Awaited::Waits(index)) => {
-                let place = ledger.noted();
+        match self.arrive(&mut ledger, caller)? {
+            Arrival::Last(index) => Ok(index),
+            Arrival::Waits(index, place) => {
                 let ledger = self.ended.wait_while(rt, ledger, |ledger| {
                     ledger.end_since(place) == Outcome::GoesOn
                 });
                 turn_after(ledger.end_since(place), index, self.parties)
             }
+        }
+    }
+
+    // Arrives as a caller under the lock, and wakes the others where the generation ends.
+    fn arrive(&self, ledger: &mut Ledger, caller: u32) -> Result<Arrival, GateFault>
+        requires rule { AnswersAction (F.pre self.now.action.closure) (F.post self.now.action.closure) self.now.action.plan }
+        requires plan { ledger.old.fails ≡ self.now.action.plan }
+        ensures arrival { MatchResult result
+            (λ a. IsArrival a (answer ledger.old.fails (Await caller) ledger.old.barrier) (length ledger.new.history))
+            (λ e. RefusesArrival e (answer ledger.old.fails (Await caller) ledger.old.barrier)) }
+    {
+        match ledger.await_step(&self.action, caller) {
+            Ok(Awaited::Waits(index)) => Ok(Arrival::Waits(index, ledger.noted())),
             Ok(Awaited::Tripped(_)) => {
                 self.ended.notify_all();
-                Ok(0)
+                Ok(Arrival::Last(0))
             }
             Ok(Awaited::ActionFailed(_)) => {
                 self.ended.notify_all();
@@ -149,7 +171,7 @@ impl<F: Fn(u64) -> bool> CyclicGate<F> {
     pub fn abandon<R: Wait>(&self, rt: &R, caller: u32) -> Result<Vec<u32>, BarrierFault>
         ensures answer { AfterSome self.now.parties self.now.action.plan (λ m. MatchResult result
             (λ l. answer self.now.action.plan (Abandon caller) m ≡ Breaks l.items)
-            (λ e. IsRefusal e (answer self.now.action.plan (Abandon caller) m))) }
+            (λ e. RefusesAbandon e (answer self.now.action.plan (Abandon caller) m))) }
     {
         let mut ledger = self.ledger.lock(rt);
         if !ledger.is_of(self.parties, self.action.fails()) {

@@ -4,7 +4,7 @@ ghost use Rattle.advance_rule.specs.Action.{AnswersAction};
 ghost use Rattle.cyclic_gate.specs.Machine.{fresh};
 ghost use Rattle.cyclic_gate.specs.Steps.{answer, after, is_change, Absent, Breaks};
 ghost use Rattle.cyclic_gate.specs.Runs.{AfterSome};
-ghost use Rattle.cyclic_gate.specs.Seen.{answer_of, IsRefusal, Ran};
+ghost use Rattle.cyclic_gate.specs.Seen.{answer_of, RefusesAwait, RefusesAbandon, Ran};
 ghost use Rattle.cyclic_gate.specs.History.{first_end, outcome_of};
 ghost use Rattle.cyclic_gate.specs.Ledger.{Book, book, booked};
 ghost use Rattle.cyclic_gate.specs.declared.call.Call.TheVariants.{Await, Abandon, BreakOff, Reset};
@@ -149,7 +149,7 @@ impl Ledger {
         requires plan { self.old.fails ≡ action.now.plan }
         ensures answer { MatchResult result
             (λ a. answer self.old.fails (Await caller) self.old.barrier ≡ answer_of a)
-            (λ e. IsRefusal e (answer self.old.fails (Await caller) self.old.barrier)) }
+            (λ e. RefusesAwait e (answer self.old.fails (Await caller) self.old.barrier)) }
         ensures book { MatchResult result (λ a. self.new ≡ booked (Await caller) self.old) (λ e. self.new ≡ self.old) }
         ensures ran { IfOk result (Ran (F.post action.now.closure self.old.barrier.generation)) }
     {
@@ -182,7 +182,7 @@ impl Ledger {
     pub fn abandon(&mut self, caller: u32) -> Result<Vec<u32>, BarrierFault>
         ensures answer { MatchResult result
             (λ l. answer self.old.fails (Abandon caller) self.old.barrier ≡ Breaks l.items)
-            (λ e. IsRefusal e (answer self.old.fails (Abandon caller) self.old.barrier)) }
+            (λ e. RefusesAbandon e (answer self.old.fails (Abandon caller) self.old.barrier)) }
         ensures book { MatchResult result (λ l. self.new ≡ booked (Abandon caller) self.old) (λ e. self.new ≡ self.old) }
     {
         if !self.state.is_waiting(caller) {

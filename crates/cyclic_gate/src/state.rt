@@ -3,7 +3,7 @@ ghost use Rattle.std.specs.Prelude.{◌≡◌, ◌⊎◌, ◌↔◌, true, ◌<�
 ghost use Rattle.advance_rule.specs.Action.{AnswersAction};
 ghost use Rattle.cyclic_gate.specs.Machine.{Machine, machine, fresh};
 ghost use Rattle.cyclic_gate.specs.Steps.{answer, after, indexed, is_in, joined, Absent, Breaks, next_generation};
-ghost use Rattle.cyclic_gate.specs.Seen.{answer_of, IsRefusal, Ran};
+ghost use Rattle.cyclic_gate.specs.Seen.{answer_of, RefusesAwait, Ran};
 ghost use Rattle.cyclic_gate.specs.declared.call.Call.TheVariants.{Await, Abandon, BreakOff, Reset};
 
 use crate::call::{Awaited, BarrierFault, MOST_PARTIES};
@@ -153,7 +153,7 @@ impl BarrierState {
         requires rule { AnswersAction (F.pre action.now.closure) (F.post action.now.closure) action.now.plan }
         ensures answer { MatchResult result
             (λ a. answer action.now.plan (Await caller) self.old ≡ answer_of a)
-            (λ e. IsRefusal e (answer action.now.plan (Await caller) self.old)) }
+            (λ e. RefusesAwait e (answer action.now.plan (Await caller) self.old)) }
         ensures state { MatchResult result
             (λ a. self.new ≡ after action.now.plan (Await caller) self.old)
             (λ e. self.new ≡ self.old) }
