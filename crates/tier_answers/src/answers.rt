@@ -17,8 +17,8 @@ pub fn moments_look_like_the_tree()
     ensures { MomentsLookLikeTheTree }
 {}
 
-/// What each answer of a call says of the one flat phaser that the tree stands for, whatever other tokens
-/// do between the steps of the call.
+/// What each answer of a call says of the one flat phaser that takes the labels of all steps, and looks like
+/// the tree before the call, whatever other tokens do between its steps, and whatever tokens come in.
 pub fn answers_tell()
     ensures { AnswersTell }
 {}
@@ -47,8 +47,8 @@ pub fn refusals_are_noted()
     ensures { RefusalsAreNoted }
 {}
 
-/// A call has its answer after at most 16 steps, whatever other tokens do between them: a join after 14, an
-/// arrival or a departure after 15, a poll after 2, and an end by force after 1.
+/// A call has its answer after at most 16 steps, whatever other tokens do between them, and whatever tokens
+/// come in: a join after 14, an arrival or a departure after 15, a poll after 2, an end by force after 1.
 pub fn calls_are_short()
     ensures { CallsAreShort }
 {}
