@@ -3,7 +3,7 @@
 
 ghost use Rattle.tier_answers.specs.Moments.{MomentsAreAnswers, MomentsLookLikeTheTree};
 ghost use Rattle.tier_answers.specs.Told.{AnswersTell};
-ghost use Rattle.tier_answers.specs.Driven.{RunsAnswerAsTheFlatPhaser};
+ghost use Rattle.tier_answers.specs.Driven.{RunsAnswerAsTheFlatPhaser, NewTreesAdvanceWhenAllArrived};
 ghost use Rattle.tier_answers.specs.Once.{CallsCountOnce, JoinsSeatWhereAsked, RefusalsAreNoted};
 ghost use Rattle.tier_answers.specs.Count.{CallsAreShort, SixteenStepsAreEnough};
 
@@ -28,6 +28,12 @@ pub fn answers_tell()
 /// phasers that these labels reach.
 pub fn runs_answer_as_the_flat_phaser()
     ensures { RunsAnswerAsTheFlatPhaser }
+{}
+
+/// A run on a new tree is a run of the flat phaser from no members on: there an advance is due only where
+/// everyone who is registered has arrived.
+pub fn new_trees_advance_when_all_arrived()
+    ensures { NewTreesAdvanceWhenAllArrived }
 {}
 
 /// A call counts once where it is done or has to advance the root, and not at all where it answers
