@@ -1,12 +1,15 @@
 -- A whole run of steps, as `Core::drive` takes it, beside one flat phaser (own).
-use Rattle.std.specs.Prelude.{◌≡◌, ℕ, true, List, [], ◌∷◌, ◌++◌, map}
-use Rattle.flat_phaser.specs.Flat.{Flat}
-use Rattle.flat_phaser.specs.Step.{flat_run}
+use Rattle.std.specs.Prelude.{◌≡◌, ℕ, zero, suc, ◌≤◌, true, List, [], ◌∷◌, ◌++◌, length, map}
+use Rattle.advance_rule.specs.declared.EndPlan.{EndPlan}
+use Rattle.flat_phaser.specs.Flat.{Flat, empty_in}
+use Rattle.flat_phaser.specs.Step.{flat_run, IsFlatRun}
+use Rattle.flat_phaser.specs.Alike.{IsSound}
+use Rattle.tier_shape.specs.Parents.{IsShape}
 use Rattle.tier_steps.specs.Image.{LooksAlike}
 use Rattle.tier_core.specs.declared.call.Call.{Call}
 use Rattle.tier_core.specs.declared.call.Step.{Step}
 use Rattle.tier_core.specs.declared.call.Step.TheVariants.{Begin}
-use Rattle.tier_core.specs.Machine.{State, IsCore}
+use Rattle.tier_core.specs.Machine.{State, IsCore, opened, with_token}
 use Rattle.tier_core.specs.Run.{may_begin, begun, after, answer_to, answers, run, labels, AreSteps, IsFlat}
 use Rattle.tier_answers.specs.Frame.{flat_of}
 use Rattle.tier_answers.specs.Moments.{Takes, moments, AreOfCall}
@@ -28,3 +31,17 @@ pub record IsDriven (s : State) (steps : List Step) (f : Flat) : Type 0 where
 abbrev pub RunsAnswerAsTheFlatPhaser : Type 0
 RunsAnswerAsTheFlatPhaser =
     (s : State) (steps : List Step) (f : Flat) → IsCore s → AreSteps steps → LooksAlike f (flat_of s) → IsDriven s steps f
+
+-- so many tokens come in
+abbrev pub with_tokens : ℕ → State → State
+with_tokens zero s = s
+with_tokens (suc many) s = with_tokens many (with_token s)
+
+-- A run on a new tree is a run of the flat phaser from no members on: there an advance is due only where everyone who is registered has
+-- arrived.
+abbrev pub NewTreesAdvanceWhenAllArrived : Type 0
+NewTreesAdvanceWhenAllArrived =
+    (parents : List ℕ) (phase : ℕ) (plan : EndPlan) (many : ℕ) (steps : List Step) → IsShape parents → length parents ≤ 65535 → phase ≤ 2147483647
+    → AreSteps steps
+    → IsFlatRun (labels steps (with_tokens many (opened parents phase plan))) (empty_in phase)
+    × IsSound (flat_run (labels steps (with_tokens many (opened parents phase plan))) (empty_in phase))

@@ -3,7 +3,7 @@
 
 ghost use Rattle.tier_answers.specs.Moments.{MomentsAreAnswers, MomentsLookLikeTheTree};
 ghost use Rattle.tier_answers.specs.Told.{AnswersTell};
-ghost use Rattle.tier_answers.specs.Driven.{RunsAnswerAsTheFlatPhaser};
+ghost use Rattle.tier_answers.specs.Driven.{RunsAnswerAsTheFlatPhaser, NewTreesAdvanceWhenAllArrived};
 ghost use Rattle.tier_answers.specs.Once.{CallsCountOnce, JoinsSeatWhereAsked, RefusalsAreNoted};
 ghost use Rattle.tier_answers.specs.Count.{CallsAreShort, SixteenStepsAreEnough};
 
@@ -17,8 +17,8 @@ pub fn moments_look_like_the_tree()
     ensures { MomentsLookLikeTheTree }
 {}
 
-/// What each answer of a call says of the one flat phaser that the tree stands for, whatever other tokens
-/// do between the steps of the call.
+/// What each answer of a call says of the one flat phaser that takes the labels of all steps, and looks like
+/// the tree before the call, whatever other tokens do between its steps, and whatever tokens come in.
 pub fn answers_tell()
     ensures { AnswersTell }
 {}
@@ -28,6 +28,12 @@ pub fn answers_tell()
 /// phasers that these labels reach.
 pub fn runs_answer_as_the_flat_phaser()
     ensures { RunsAnswerAsTheFlatPhaser }
+{}
+
+/// A run on a new tree is a run of the flat phaser from no members on: there an advance is due only where
+/// everyone who is registered has arrived.
+pub fn new_trees_advance_when_all_arrived()
+    ensures { NewTreesAdvanceWhenAllArrived }
 {}
 
 /// A call counts once where it is done or has to advance the root, and not at all where it answers
@@ -47,8 +53,8 @@ pub fn refusals_are_noted()
     ensures { RefusalsAreNoted }
 {}
 
-/// A call has its answer after at most 16 steps, whatever other tokens do between them: a join after 14, an
-/// arrival or a departure after 15, a poll after 2, and an end by force after 1.
+/// A call has its answer after at most 16 steps, whatever other tokens do between them, and whatever tokens
+/// come in: a join after 14, an arrival or a departure after 15, a poll after 2, an end by force after 1.
 pub fn calls_are_short()
     ensures { CallsAreShort }
 {}
