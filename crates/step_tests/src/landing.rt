@@ -85,22 +85,6 @@ fn the_first_put_to_no_cell_is_told(rt: HostRuntime) -> Result<(), Fail> {
     Ok(())
 }
 
-// Runs of entries: the paths and the puts of each.
-fn runs_of(
-    alloc: Global,
-    runs: &[&[(&[u16], &[(u16, u32, i64)])]],
-) -> Result<Vec<Run>, AllocError> {
-    let mut all = Vec::new(alloc);
-    for run in runs {
-        let mut entries = Vec::new(alloc);
-        for (path, puts) in *run {
-            entries.push(entry(alloc, path, puts)?)?;
-        }
-        all.push(entries)?;
-    }
-    Ok(all)
-}
-
 // An array of three cells, 1 2 3.
 fn three_cells(alloc: Global) -> Result<Arrays, AllocError> {
     let mut arrays = Arrays::new(alloc);
@@ -109,78 +93,42 @@ fn three_cells(alloc: Global) -> Result<Arrays, AllocError> {
     Ok(arrays)
 }
 
+// Two runs: one of the tasks 0 and 1, and one of the task 0.0 and then of this one.
+fn two_runs(alloc: Global, last: &[u16]) -> Result<Vec<Run>, Fail> {
+    let mut first = Vec::new(alloc);
+    first.push(entry(alloc, &[0], &[(0, 0, 5), (0, 2, 6), (0, 0, 7)])?)?;
+    first.push(entry(alloc, &[1], &[(0, 1, 9)])?)?;
+    let mut second = Vec::new(alloc);
+    second.push(entry(alloc, &[0, 0], &[(0, 2, 8)])?)?;
+    second.push(entry(alloc, last, &[])?)?;
+    let mut runs = Vec::new(alloc);
+    runs.push(first)?;
+    runs.push(second)?;
+    Ok(runs)
+}
+
 #[test]
 fn runs_land_by_path(rt: HostRuntime) -> Result<(), Fail> {
     let alloc = rt.alloc();
     let mut arrays = three_cells(alloc)?;
-    let runs = runs_of(
-        alloc,
-        &[
-            &[
-                (&[0], &[(0, 0, 5), (0, 2, 6), (0, 0, 7)]),
-                (&[1], &[(0, 1, 9)]),
-            ],
-            &[(&[0, 0], &[(0, 2, 8)])],
-        ],
-    )?;
+    let runs = two_runs(alloc, &[2])?;
     land_runs(alloc, &mut arrays, &runs)?;
     assert_eq!(rt; arrays.cell(0, 0), Some(7));
     assert_eq!(rt; arrays.cell(0, 1), Some(9));
     assert_eq!(rt; arrays.cell(0, 2), Some(8));
-    land_runs(alloc, &mut arrays, &[])?;
-    assert_eq!(rt; arrays.cell(0, 2), Some(8));
     Ok(())
 }
 
 #[test]
-fn runs_are_refused_by_path(rt: HostRuntime) -> Result<(), Fail> {
+fn a_path_in_two_runs_is_refused(rt: HostRuntime) -> Result<(), Fail> {
     let alloc = rt.alloc();
     let mut arrays = three_cells(alloc)?;
-    let twice = runs_of(
-        alloc,
-        &[
-            &[(&[0], &[(0, 0, 5)]), (&[1], &[(0, 1, 9)])],
-            &[(&[0, 0], &[(0, 2, 8)]), (&[1], &[(0, 1, 9)])],
-        ],
-    )?;
-    let refused = land_runs(alloc, &mut arrays, &twice);
+    let runs = two_runs(alloc, &[1])?;
+    let refused = land_runs(alloc, &mut arrays, &runs);
     assert!(rt; matches!(refused, Err(LandFault::NotInOrder)));
-    let falls = runs_of(alloc, &[&[(&[1], &[]), (&[0], &[(5, 0, 5)])]])?;
-    let refused = land_runs(alloc, &mut arrays, &falls);
+    let runs = two_runs(alloc, &[0])?;
+    let refused = land_runs(alloc, &mut arrays, &runs);
     assert!(rt; matches!(refused, Err(LandFault::NotInOrder)));
-    let outside = runs_of(
-        alloc,
-        &[&[(&[2], &[(7, 0, 1)])], &[(&[1], &[(0, 0, 4), (0, 3, 4)])]],
-    )?;
-    match land_runs(alloc, &mut arrays, &outside) {
-        Err(LandFault::OutOfRange(path, place)) => {
-            assert_eq!(rt; path.as_slice(), [1].as_slice());
-            assert_eq!(rt; place, 1);
-        }
-        _ => assert!(rt; false, "a put to no cell"),
-    }
     assert_eq!(rt; arrays.cell(0, 0), Some(1));
-    assert_eq!(rt; arrays.cell(0, 1), Some(2));
-    Ok(())
-}
-
-#[test]
-fn many_runs_land(rt: HostRuntime) -> Result<(), Fail> {
-    let alloc = rt.alloc();
-    for count in [1u16, 2, 64, 500] {
-        let mut arrays = three_cells(alloc)?;
-        let mut runs = Vec::new(alloc);
-        for _ in 0..count {
-            runs.push(Vec::new(alloc))?;
-        }
-        for number in 0..500u16 {
-            let put = (0, u32::from(number % 3), i64::from(number));
-            runs[usize::from(number % count)].push(entry(alloc, &[number], &[put])?)?;
-        }
-        land_runs(alloc, &mut arrays, &runs)?;
-        assert_eq!(rt; arrays.cell(0, 0), Some(498), "{count}");
-        assert_eq!(rt; arrays.cell(0, 1), Some(499), "{count}");
-        assert_eq!(rt; arrays.cell(0, 2), Some(497), "{count}");
-    }
     Ok(())
 }
