@@ -1,11 +1,9 @@
 -- Sixteen steps are enough for a command that goes on with a call.
-use Rattle.std.proofs.Common.{◌≡◌, inl, inr, ℕ, zero, suc, ◌+◌, ◌<◌, Bool, true, false, cond, nat_lt, List, [], ◌∷◌, ◌++◌, length, refl, sym, ap, ◌∙◌, subst, arith}
-use Rattle.std.specs.Prelude.{◌&&◌, if◌then◌else◌, codes}
-use Rattle.std.proofs.lemmas.Bool.{ltb-true, lt-ltb}
+use Rattle.std.proofs.Common.{◌≡◌, inl, inr, ℕ, zero, suc, ◌+◌, ◌<◌, Bool, true, false, List, ◌++◌, length, refl, sym, ap, ◌∙◌, subst, arith}
+use Rattle.std.specs.Prelude.{if◌then◌else◌, codes}
+use Rattle.std.proofs.lemmas.Bool.{lt-ltb}
 use Rattle.std.proofs.lemmas.List.{get_or-set_same}
-use Rattle.tier_shape.specs.Paths.{IsTiers}
 use Rattle.tier_core.specs.declared.call.Call.{Call}
-use Rattle.tier_core.specs.declared.call.Answer.{Answer}
 use Rattle.tier_core.specs.declared.call.Answer.TheVariants as answer
 use Rattle.tier_core.specs.declared.call.Played.{Played}
 use Rattle.tier_core.specs.declared.call.Played.TheVariants as played
@@ -13,13 +11,13 @@ use Rattle.tier_core.specs.declared.call.Progress.{Progress}
 use Rattle.tier_core.specs.declared.call.Progress.TheVariants.{Idle, Begun}
 use Rattle.tier_core.specs.declared.call.Step.TheVariants as step
 use Rattle.tier_core.specs.Machine.{State, IsCore, call_at}
-use Rattle.tier_core.specs.Run.{is_idle, may_begin, begun, after, answer_to, IsCall}
+use Rattle.tier_core.specs.Run.{is_idle, may_begin, begun, after, answer_to}
 use Rattle.tier_core.proofs.Runs.{begun_core}
 use Rattle.tier_answers.specs.Told.{is_last}
 use Rattle.tier_answers.specs.Count.{IsAnswered, IsAnsweredWithin}
 use Rattle.tier_answers.proofs.Along.{begun_known}
 use Rattle.tier_answers.proofs.Sixteen.{sixteen_steps_are_enough}
-use Rattle.trace_text.specs.TreeAnswers.{call_of, has_tier, is_token, rest_text, rest_after, going_on, is_underway, advance_told, answer_text, tree_text, tree_after}
+use Rattle.trace_text.specs.TreeAnswers.{call_of, has_tier, is_token, rest_text, rest_after, going_on, is_underway, advance_told, answer_text}
 use Rattle.trace_laws.specs.Enough.{RunsReachTheirAnswer, CallsDoneReachTheirAnswer}
 
 -- a call that has its last answer doesn't go on
@@ -92,8 +90,7 @@ same_after (suc n) more token s (inr h) = one_after n more token s (λ on. same_
 pub runs_reach : RunsReachTheirAnswer
 runs_reach s token more tiers core known going =
     let within : IsAnsweredWithin 16 token s = sixteen_steps_are_enough s token tiers core known going in
-    let is : is_token s token ≡ true = lt-ltb token (length s.views) known in
-    (
+    let is : is_token s token ≡ true = lt-ltb token (length s.views) known in (
       ap (λ (b : Bool). if b then rest_text 16 token s else codes "no token\n") is ∙ sym (same_text 16 more token s within),
       ap (λ (b : Bool). if b then rest_after 16 token s else s) is ∙ sym (same_after 16 more token s within),
     )
@@ -110,12 +107,11 @@ calls_reach s token more c tiers core is tier may =
     let known : token < length s.views = begun_known s token k may in
     let within : IsAnsweredWithin 16 token now = sixteen_steps_are_enough now token tiers (begun_core s token k core is may) known (begun_goes s token k core may) in
     let here : is_token s token ≡ true = lt-ltb token (length s.views) known in
-    let begins : after s (step.Begin token k) ≡ now = ap (λ (b : Bool). if b then now else s) may in
-    (
+    let begins : after s (step.Begin token k) ≡ now = ap (λ (b : Bool). if b then now else s) may in (
       ap (λ (b : Bool). if b then (if has_tier s c then (if may_begin s token k then rest_text 16 token (after s (step.Begin token k)) else codes "not now\n") else codes "no tier\n") else codes "no token\n") here
-      ∙ ap (λ (b : Bool). if b then (if may_begin s token k then rest_text 16 token (after s (step.Begin token k)) else codes "not now\n") else codes "no tier\n") tier
-      ∙ ap (λ (b : Bool). if b then rest_text 16 token (after s (step.Begin token k)) else codes "not now\n") may
-      ∙ ap (rest_text 16 token) begins ∙ sym (same_text 16 more token now within),
+          ∙ ap (λ (b : Bool). if b then (if may_begin s token k then rest_text 16 token (after s (step.Begin token k)) else codes "not now\n") else codes "no tier\n") tier
+          ∙ ap (λ (b : Bool). if b then rest_text 16 token (after s (step.Begin token k)) else codes "not now\n") may
+          ∙ ap (rest_text 16 token) begins ∙ sym (same_text 16 more token now within),
       ap (λ (b : Bool). if b then rest_after 16 token (after s (step.Begin token k)) else s) may
-      ∙ ap (rest_after 16 token) begins ∙ sym (same_after 16 more token now within),
+          ∙ ap (rest_after 16 token) begins ∙ sym (same_after 16 more token now within),
     )

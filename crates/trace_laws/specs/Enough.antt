@@ -1,5 +1,5 @@
 -- The commands of a tree's trace that go on with a call to its answer (own).
-use Rattle.std.specs.Prelude.{◌≡◌, ℕ, ◌+◌, ◌<◌, true, false, List, length}
+use Rattle.std.specs.Prelude.{◌≡◌, ℕ, ◌+◌, ◌<◌, true, false, length}
 use Rattle.tier_shape.specs.Paths.{IsTiers}
 use Rattle.tier_core.specs.Machine.{State, IsCore, call_at}
 use Rattle.tier_core.specs.Run.{is_idle, may_begin, begun, IsCall}
