@@ -238,10 +238,11 @@ impl Write for Skipping<'_> {
             return Err(io::ErrorKind::Other.into());
         }
         self.before -= 1;
-        if self.taken.extend_from_slice(&bytes[..1]).is_err() {
+        let count = bytes.len().min(1);
+        if self.taken.extend_from_slice(&bytes[..count]).is_err() {
             return Err(io::ErrorKind::Other.into());
         }
-        Ok(1)
+        Ok(count)
     }
 
     fn flush(&mut self) -> io::Result<()> {
