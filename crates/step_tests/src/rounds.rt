@@ -205,16 +205,10 @@ fn a_round_tells_what_is_missing(rt: HostRuntime) -> Result<(), Fail> {
 #[test]
 fn a_report_by_value_is_the_report(rt: HostRuntime) -> Result<(), Fail> {
     let alloc = rt.alloc();
-    let two = job_of(alloc, TWO)?;
-    let mut round = Round::new(alloc, &two, 1)?;
-    for number in [1, 0] {
-        deliver(alloc, &mut round, &[number])?;
-    }
-    assert!(rt; round.missing() == 0);
-    close(alloc, &mut round)?;
+    let nothing = job_of(alloc, "bsp 1\n")?;
+    let round = Round::new(alloc, &nothing, 1)?;
     assert!(rt; round.has_ended());
-    let want = round.report(alloc)?.ok_or("a report")?;
-    let got = round.into_report(alloc)?.ok_or("a report")?;
-    assert!(rt; report_text(alloc, &want)? == report_text(alloc, &got)?);
+    let report = round.into_report(alloc)?.ok_or("a report")?;
+    assert!(rt; report_text(alloc, &report)?.as_slice() == b"ended 0\n".as_slice());
     Ok(())
 }
