@@ -1,7 +1,7 @@
 -- The canonical text of a job is a text of that job.
 use Rattle.std.proofs.Common.{◌≡◌, ℕ, ◌<◌, ◌≤◌, ◌^◌, true, ◌&&◌, List, [], ◌∷◌, ◌++◌, length, map, take_all, Some, ℤ, refl, sym, ap, ◌∙◌, arith}
 use Rattle.std.specs.Prelude.{nat_le, nat_lt}
-use Rattle.std.specs.List.{list_all}
+use Rattle.std.specs.List.{list_all, AllByRecursion}
 use Rattle.std.specs.Fmt.{signed_decimal}
 use Rattle.std.proofs.lemmas.List.{length-map}
 use Rattle.std.proofs.lemmas.Simd.{map-map}
@@ -9,10 +9,10 @@ use Rattle.std.proofs.lemmas.Grind.{common_steps}
 use Rattle.std.proofs.lemmas.List.Folds.{list_all-append}
 use Rattle.text_lines.specs.Number.{fits_i64}
 use Rattle.task_lang.specs.Names.{is_free, are_names}
-use Rattle.task_lang.specs.Limits.{is_line}
+use Rattle.task_lang.specs.Limits.{is_line, fits_line}
 use Rattle.task_lang.specs.Mentions.{in_line, mentions, mentioned}
 use Rattle.task_lang.specs.Tree.{flat}
-use Rattle.task_lang.specs.Rules.{is_array, are_by_mention}
+use Rattle.task_lang.specs.Rules.{IsBody, is_array}
 use Rattle.task_lang.specs.declared.code.Line.{Line}
 use Rattle.task_lang.specs.declared.code.Line.TheVariants as line
 use Rattle.task_lang.specs.declared.job.Start.{Start}
@@ -24,7 +24,7 @@ use Rattle.job_words.proofs.GrowLemmas.{and-left, and-right, all-left, all-right
 use Rattle.job_words.proofs.WrittenLemmas.{names-free}
 use Rattle.job_words.proofs.WrittenExprs.{AreGood}
 use Rattle.job_reader.specs.Trees.{BodyTree, JobTree, array_names, body_names}
-use Rattle.job_reader.specs.Legal.{flat_body, fits_line, AreBodies, IsJobTree}
+use Rattle.job_reader.specs.Legal.{flat_body, IsJobTree}
 use Rattle.job_reader.specs.Writing.{code_lines}
 use Rattle.job_reader.specs.Grammar.{block_lines, header_words, array_words, names_above, body_lines, mentioned_by, IsSoundBody, array_lines, bodies_lines, start_lines, canonical}
 use Rattle.job_reader.proofs.CodeLemmas.{block-code}
@@ -32,6 +32,7 @@ use Rattle.job_canonical.specs.Laws.{CanonicalTextsAreTexts}
 use Rattle.job_canonical.proofs.TextOfLines.{is_printed, is_plain_line, lines-back, bytes-allowed}
 use Rattle.job_canonical.proofs.PrintedLines.{fits-signed, name-printed, decimal-printed, number-printed, line-is, line-plain}
 use Rattle.job_canonical.proofs.MentionedLocals.{AllLines, code-mentions, noted-firsts}
+use Rattle.job_canonical.proofs.MentionsBelow.{all-below}
 use Rattle.job_canonical.proofs.CanonicalItems.{canonical_items, items-said, items-written, AllSound, items-sound}
 
 -- What the lines of a body need: names of their own, all that they name is there, their numbers fit, and the locals stand
@@ -142,22 +143,23 @@ record Around (arrays bodies : List Word) (n m : ℕ) : Type 0 where
   many_arrays : length arrays ≡ n
   many_bodies : length bodies ≡ m
 
-good-bodies : (arrays bodies : List Word) (n m : ℕ) (bs : List BodyTree) → Around arrays bodies n m → AreBodies bs → are_by_mention (map flat_body bs)
-    → list_all (λ b. list_all (is_line n m) b.code) (map flat_body bs) ≡ true → list_all (λ b. list_all fits_line (flat b.block)) bs ≡ true
-    → GoodBodies arrays bodies bs
-good-bodies arrays bodies n m [] r h o e f = tt
-good-bodies arrays bodies n m (b ∷ bs) r h o e f =
+good-bodies : (arrays bodies : List Word) (n m : ℕ) (bs : List BodyTree) → Around arrays bodies n m → AllByRecursion IsBody (map flat_body bs)
+    → list_all (λ b. list_all (is_line n m) b.code) (map flat_body bs) ≡ true → GoodBodies arrays bodies bs
+good-bodies arrays bodies n m [] r h e = tt
+good-bodies arrays bodies n m (b ∷ bs) r h e =
+    let inside : list_all (λ i. nat_lt i (length b.locals)) (mentions (flat b.block)) ≡ true =
+    all-below 0 (length b.locals) (mentions (flat b.block)) h.0.order in
     let s : Names = names_above arrays bodies b in
     let lines : list_all (is_line n m) (flat b.block) ≡ true = and-left _ (list_all (λ b. list_all (is_line n m) b.code) (map flat_body bs)) e in (
       record {
         name = h.0.name;
         good = record { arrays = r.arrays_named; bodies = r.bodies_named; locals = h.0.locals };
-        fits = lines-there s n m (flat b.block) r.many_arrays r.many_bodies lines h.0.inside;
-        numbers = and-left _ (list_all (λ b. list_all fits_line (flat b.block)) bs) f;
-        inside = h.0.inside;
-        order = o.0;
+        fits = lines-there s n m (flat b.block) r.many_arrays r.many_bodies lines inside;
+        numbers = h.0.numbers;
+        inside = inside;
+        order = h.0.order;
       },
-      good-bodies arrays bodies n m bs r h.1 o.1 (and-right (list_all (is_line n m) (flat b.block)) _ e) (and-right (list_all fits_line (flat b.block)) _ f),
+      good-bodies arrays bodies n m bs r h.1 (and-right (list_all (is_line n m) (flat b.block)) _ e),
     )
 
 -- what of a job its canonical text is made of
@@ -169,21 +171,21 @@ record Legal (j : JobTree) : Type 0 where
 legal : (j : JobTree) → IsJobTree j → Legal j
 legal j h =
     let same : map (λ b. b.name) (map flat_body j.bodies) ≡ body_names j = map-map (λ b. b.name) flat_body j.bodies in
-    let named : are_names (body_names j) ≡ true = ap are_names (sym same) ∙ h.job.bodies in
+    let named : are_names (body_names j) ≡ true = ap are_names (sym same) ∙ h.bodies in
     let many : length (body_names j) ≡ length (map flat_body j.bodies) = ap length (sym same) ∙ length-map (map flat_body j.bodies) (λ b. b.name) in
     let around : Around (array_names j) (body_names j) (length j.arrays) (length (map flat_body j.bodies)) =
-    record { arrays_named = h.arrays; bodies_named = named; many_arrays = length-map j.arrays (λ a. a.0); many_bodies = many } in
+    record { arrays_named = h.named; bodies_named = named; many_arrays = length-map j.arrays (λ a. a.0); many_bodies = many } in
     record {
       names = named;
-      bodies = good-bodies (array_names j) (body_names j) (length j.arrays) (length (map flat_body j.bodies)) j.bodies around h.bodies h.job.mentions h.job.lines h.numbers;
-      starts = ap (λ (n : ℕ). list_all (λ s. nat_lt s.body n) j.starts) many ∙ h.job.starts;
+      bodies = good-bodies (array_names j) (body_names j) (length j.arrays) (length (map flat_body j.bodies)) j.bodies around h.each h.lines;
+      starts = ap (λ (n : ℕ). list_all (λ s. nat_lt s.body n) j.starts) many ∙ h.starts;
     }
 
 canonical-plain : (j : JobTree) → IsJobTree j → Legal j → list_all is_plain_line (canonical j) ≡ true
 canonical-plain j h g =
     and-true _ _ refl
     (list_all-append is_plain_line (array_lines j.arrays) (bodies_lines (array_names j) (body_names j) j.bodies ++ start_lines (body_names j) j.starts)
-    ∙ and-true _ _ (arrays-plain j.arrays h.job.arrays h.cells)
+    ∙ and-true _ _ (arrays-plain j.arrays h.arrays h.cells)
     (list_all-append is_plain_line (bodies_lines (array_names j) (body_names j) j.bodies) (start_lines (body_names j) j.starts)
     ∙ and-true _ _ (bodies-plain (array_names j) (body_names j) j.bodies g.bodies) (starts-plain (body_names j) j.starts g.names g.starts h.args)))
 

@@ -8,7 +8,7 @@ use Rattle.text_lines.specs.Number.{fits_i64}
 use Rattle.text_lines.specs.declared.refusal.Code.{Code}
 use Rattle.text_lines.specs.declared.refusal.Code.TheVariants.{TooMany}
 use Rattle.task_lang.specs.Names.{is_free, is_among, are_names}
-use Rattle.task_lang.specs.Limits.{statements, opened, deepest}
+use Rattle.task_lang.specs.Limits.{statements, opened, deepest, fits_line}
 use Rattle.task_lang.specs.Rules.{is_array}
 use Rattle.task_lang.specs.Tree.{Block, flat}
 use Rattle.task_lang.specs.Open.{Frame, InIf, InElse, InWhile, open_code, step_of}
@@ -21,7 +21,6 @@ use Rattle.job_words.specs.Lines.{line_behind, mentions_behind}
 use Rattle.job_words.proofs.SaidLemmas.{made-ok}
 use Rattle.job_reader.specs.Trees.{BodyTree, JobTree, array_names, body_names}
 use Rattle.job_reader.specs.Above.{Inside, nothing, can_else, sits, ended, statements_behind}
-use Rattle.job_reader.specs.Legal.{fits_line}
 use Rattle.job_reader.specs.Reading.{◌>>=◌, is_over, within_limits, said, behind, with_line, mentioning, inner_line}
 use Rattle.job_reader.proofs.LineLemmas.{within-sits}
 use Rattle.job_reader.proofs.OpenLemmas.{said-sits}

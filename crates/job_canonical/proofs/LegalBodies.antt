@@ -102,7 +102,6 @@ lines-inside s (l ∷ ls) e =
 -- a body among so many arrays and bodies
 pub record WholeBody (n m : ℕ) (b : BodyTree) : Type 0 where
   pub lines : list_all (is_line n m) (flat b.block) ≡ true
-  pub inside : list_all (λ i. nat_lt i (length b.locals)) (mentions (flat b.block)) ≡ true
   pub order : IsByMention (flat_body b)
 
 body-whole : (arrays bodies : List Word) (n : ℕ) (b : BodyTree) → are_names arrays ≡ true → are_names bodies ≡ true → length arrays ≤ n → IsSoundBody arrays bodies b
@@ -117,7 +116,6 @@ body-whole arrays bodies n b named others few sound kept =
     ap (noted []) (sym (code-mentions s code good all)) ∙ ap mentioned_by (block-code s b.block) ∙ sound.1 in
     record {
       lines = block-there (length arrays) n (length bodies) b.block few (lines-named s code sound.0);
-      inside = inside;
       order = firsts-noted b.locals (mentions code) kept.locals inside 0 (omega arith) whole;
     }
 

@@ -10,3 +10,4 @@ pub mod KeptJobs
 pub mod KeptLines
 pub mod LegalBodies
 pub mod ReadJobs
+pub mod MentionsBelow

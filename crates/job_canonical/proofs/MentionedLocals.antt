@@ -27,7 +27,8 @@ use Rattle.job_words.specs.Exprs.{Names, cell_parts, cell_word, has_bracket, ope
 use Rattle.job_words.specs.Lines.{keyword_of, line_words, action_words, mentions_behind, mentions_of}
 use Rattle.job_words.proofs.GrowLemmas.{and-left, and-right}
 use Rattle.job_words.proofs.WrittenLemmas.{same-bytes, place-name, names-free, local-written}
-use Rattle.job_words.proofs.WrittenExprs.{is_plain, plain-cell, cell-bracket, plain-bracket, name-plain, number-plain, number-begins, IndexIs, AreGood, CellIs, OperandIs, ExprIs}
+use Rattle.text_lines.proofs.NumbersLemmas.{number-begins}
+use Rattle.job_words.proofs.WrittenExprs.{is_plain, plain-cell, cell-bracket, plain-bracket, name-plain, number-plain, IndexIs, AreGood, CellIs, OperandIs, ExprIs}
 use Rattle.job_words.proofs.WrittenLines.{ActionIs, LineIs}
 use Rattle.job_reader.specs.Writing.{code_lines}
 

@@ -12,7 +12,7 @@ use Rattle.std.proofs.lemmas.Grind.{common_steps}
 use Rattle.std.proofs.lemmas.List.Folds.{list_all-append}
 use Rattle.text_lines.specs.Number.{fits_i64}
 use Rattle.task_lang.specs.Names.{begins_lower, is_in_name, is_name, is_reserved, is_free, are_names}
-use Rattle.task_lang.specs.Limits.{is_operand, is_expr, is_action}
+use Rattle.task_lang.specs.Limits.{is_operand, is_expr, is_action, fits_index, fits_operand, fits_expr, fits_action, fits_line}
 use Rattle.task_lang.specs.Mentions as mentions
 use Rattle.task_lang.specs.declared.code.Index.{Index}
 use Rattle.task_lang.specs.declared.code.Index.TheVariants as index
@@ -45,7 +45,6 @@ use Rattle.job_words.proofs.GrowLemmas.{and-left, and-right, all-left, all-right
 use Rattle.job_words.proofs.WrittenLemmas.{names-free}
 use Rattle.job_words.proofs.WrittenExprs.{IndexIs, AreGood, CellIs, OperandIs, ExprIs}
 use Rattle.job_words.proofs.WrittenLines.{ActionIs, LineIs}
-use Rattle.job_reader.specs.Legal.{fits_index, fits_operand, fits_expr, fits_action, fits_line}
 use Rattle.job_canonical.proofs.TextOfLines.{is_seen, is_printed, is_plain_line}
 
 pub fits-signed : (n : ℤ) → fits_i64 n ≡ true → FitsSigned w64 n

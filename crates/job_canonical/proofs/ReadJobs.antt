@@ -1,18 +1,18 @@
 -- What a text is read as is a job.
 use Rattle.std.proofs.Common.{◌≡◌, ℕ, true, List, [], ◌∷◌, length, map, refl, sym, ap, subst, ◌∙◌, arith}
 use Rattle.std.specs.Prelude.{nat_lt}
-use Rattle.std.specs.List.{list_all}
+use Rattle.std.specs.List.{list_all, AllByRecursion}
 use Rattle.std.proofs.lemmas.List.{length-map}
 use Rattle.std.proofs.lemmas.Simd.{map-map}
 use Rattle.task_lang.specs.Names.{are_names}
 use Rattle.task_lang.specs.Limits.{is_line}
-use Rattle.task_lang.specs.Rules.{are_by_mention}
+use Rattle.task_lang.specs.Rules.{IsBody}
 use Rattle.task_lang.specs.Tree.{flat}
 use Rattle.task_lang.proofs.Reading.{matched-flat}
 use Rattle.job_words.specs.Words.{Word}
 use Rattle.job_words.proofs.SaidLemmas.{and-true}
 use Rattle.job_reader.specs.Trees.{BodyTree, JobTree, array_names, body_names}
-use Rattle.job_reader.specs.Legal.{flat_body, fits_line, AreBodies}
+use Rattle.job_reader.specs.Legal.{flat_body}
 use Rattle.job_reader.specs.Grammar.{job_of}
 use Rattle.job_reader.proofs.ToldWhole.{text-told}
 use Rattle.job_canonical.specs.Laws.{ReadJobsAreJobs}
@@ -24,11 +24,7 @@ bodies-lines : (n m : ℕ) (bs : List BodyTree) → AreWhole n m bs → list_all
 bodies-lines n m [] h = refl
 bodies-lines n m (b ∷ bs) h = and-true _ _ h.0.lines (bodies-lines n m bs h.1)
 
-bodies-order : (n m : ℕ) (bs : List BodyTree) → AreWhole n m bs → are_by_mention (map flat_body bs)
-bodies-order n m [] h = tt
-bodies-order n m (b ∷ bs) h = (h.0.order, bodies-order n m bs h.1)
-
-bodies-are : (n m : ℕ) (bs : List BodyTree) → AreKept bs → AreWhole n m bs → AreBodies bs
+bodies-are : (n m : ℕ) (bs : List BodyTree) → AreKept bs → AreWhole n m bs → AllByRecursion IsBody (map flat_body bs)
 bodies-are n m [] k h = tt
 bodies-are n m (b ∷ bs) k h = (
   record {
@@ -37,15 +33,12 @@ bodies-are n m (b ∷ bs) k h = (
     locals = k.0.locals;
     statements = k.0.statements;
     depth = k.0.depth;
-    inside = h.0.inside;
+    order = h.0.order;
     matched = matched-flat b.block;
+    numbers = k.0.numbers;
   },
   bodies-are n m bs k.1 h.1,
 )
-
-bodies-numbers : (bs : List BodyTree) → AreKept bs → list_all (λ b. list_all fits_line (flat b.block)) bs ≡ true
-bodies-numbers [] k = refl
-bodies-numbers (b ∷ bs) k = and-true _ _ k.0.numbers (bodies-numbers bs k.1)
 
 -- a job's bodies and start lines among its arrays and bodies
 record Whole (bodies : List Word) (j : JobTree) : Type 0 where
@@ -71,19 +64,15 @@ read-jobs text j e =
     subst (λ (n : ℕ). AreWhole n (length (map flat_body j.bodies)) j.bodies) arrays
     (subst (λ (m : ℕ). AreWhole (length (array_names j)) m j.bodies) bodies w.bodies_whole) in
     record {
-      job = record {
-        few_arrays = k.few_arrays;
-        few_bodies = omega (arith, bodies, k.few_bodies);
-        few_starts = k.few_starts;
-        arrays = k.arrays;
-        bodies = ap are_names flats ∙ k.bodies_named;
-        lines = bodies-lines (length j.arrays) (length (map flat_body j.bodies)) j.bodies whole;
-        mentions = bodies-order (length j.arrays) (length (map flat_body j.bodies)) j.bodies whole;
-        starts = ap (λ (n : ℕ). list_all (λ s. nat_lt s.body n) j.starts) (sym bodies) ∙ w.starts_whole;
-      };
-      bodies = bodies-are (length j.arrays) (length (map flat_body j.bodies)) j.bodies k.bodies whole;
-      arrays = k.arrays_named;
+      few_arrays = k.few_arrays;
+      few_bodies = omega (arith, bodies, k.few_bodies);
+      few_starts = k.few_starts;
+      arrays = k.arrays;
+      named = k.arrays_named;
+      bodies = ap are_names flats ∙ k.bodies_named;
+      each = bodies-are (length j.arrays) (length (map flat_body j.bodies)) j.bodies k.bodies whole;
+      lines = bodies-lines (length j.arrays) (length (map flat_body j.bodies)) j.bodies whole;
+      starts = ap (λ (n : ℕ). list_all (λ s. nat_lt s.body n) j.starts) (sym bodies) ∙ w.starts_whole;
       cells = k.cells;
-      numbers = bodies-numbers j.bodies k.bodies;
       args = k.args;
     }

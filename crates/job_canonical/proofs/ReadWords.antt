@@ -39,6 +39,7 @@ use Rattle.text_lines.specs.declared.refusal.Code.{Code}
 use Rattle.text_lines.specs.declared.refusal.Code.TheVariants.{Reserved, BadName}
 use Rattle.text_lines.specs.Number.{number_of, fits_i64}
 use Rattle.text_lines.proofs.NumbersLemmas.{numbers_law}
+use Rattle.task_lang.specs.Limits.{fits_index, fits_operand, fits_expr, fits_line}
 use Rattle.task_lang.specs.Names.{is_name, is_reserved, is_free}
 use Rattle.task_lang.specs.declared.code.Index.{Index}
 use Rattle.task_lang.specs.declared.code.Index.TheVariants as index
@@ -58,7 +59,6 @@ use Rattle.job_words.specs.declared.lines.Keyword.TheVariants.{Let, Put, Print, 
 use Rattle.job_words.specs.Lines.{is_equals, body_at, let_line, put_line, spawn_line, alone, else_of, line_behind, mentions_behind}
 use Rattle.job_words.proofs.SaidLemmas.{made-ok, both-ok, and-true, cell-said}
 use Rattle.job_words.proofs.WrittenExprs.{cell-bracket}
-use Rattle.job_reader.specs.Legal.{fits_index, fits_operand, fits_expr, fits_line}
 
 named-cases : (a b : Bool) (u : Unit {0}) → ◌≡◌ {A = Result (Unit {0}) Code} (if a then Err Reserved else if b then Ok tt else Err BadName) (Ok u) → (b && not a) ≡ true
 named-cases true b u e = absurd cc

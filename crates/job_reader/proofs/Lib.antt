@@ -12,3 +12,4 @@ pub mod ToldOuter
 pub mod ToldText
 pub mod ToldNames
 pub mod ToldWhole
+pub mod JobLemmas

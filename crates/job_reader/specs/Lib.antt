@@ -7,3 +7,4 @@ pub mod Reading
 pub mod Relates
 pub mod Trees
 pub mod Writing
+pub mod Begins

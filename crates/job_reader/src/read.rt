@@ -1,10 +1,11 @@
 //! The text of a job, read.
-ghost use Rattle.std.specs.Prelude.{◌≡◌, ◌≤◌, ◌<◌, ◌+◌, ◌^◌, ◌∷◌, length, IfOk, MatchResult, Err, List};
+ghost use Rattle.std.specs.Prelude.{◌≡◌, ◌≤◌, ◌<◌, ◌+◌, ◌^◌, ◌∷◌, length, true, IfOk, IfErr, MatchResult, Err, List};
 ghost use Rattle.text_lines.specs.Text.{lines_of, words_of};
 ghost use Rattle.job_words.specs.Words.{Word};
 ghost use Rattle.job_words.specs.Views.{lent};
 ghost use Rattle.job_reader.specs.Trees.{job_tree};
 ghost use Rattle.job_reader.specs.Above.{Above, nothing};
+ghost use Rattle.job_reader.specs.Begins.{has_header, BeginsWell};
 ghost use Rattle.job_reader.specs.Reading as spec;
 ghost use Rattle.job_reader.specs.Relates.{IsAt};
 ghost use Rattle.job_reader.specs.Gives.{LineGives, Gives};
@@ -161,6 +162,7 @@ fn split_header(text: &[u8]) -> Result<(usize, &[u8]), Refusal>
         (λ h. (bodies : List Word) → spec.read_from bodies 1 (lines_of text.now) ≡ spec.read_lines bodies h.0 nothing (lines_of h.1.now))
         (λ r. (bodies : List Word) → spec.read_from bodies 1 (lines_of text.now) ≡ Err r) }
     ensures lines { IfOk result (λ h. h.0 + length h.1.now ≤ length text.now + 1) }
+    ensures begins { IfOk result (λ h. has_header (lines_of text.now) ≡ true) }
 {
     let mut line = 1;
     let mut rest = text;
@@ -182,7 +184,8 @@ fn split_header(text: &[u8]) -> Result<(usize, &[u8]), Refusal>
 // The job that a text says, or its first refusal.
 #[tactic(auto, unfolding(crate::specs::Reading::job_in))]
 fn read_text(alloc: Global, text: &[u8]) -> Result<Job, ReadJobFault>
-    ensures { Gives job_tree result (spec.job_in text.now) }
+    ensures read { Gives job_tree result (spec.job_in text.now) }
+    ensures memory { IfErr result (λ fault. fault ≡ ReadJobFault.Memory → BeginsWell text.now) }
 {
     if text.len() > MOST_BYTES {
         let code = Code::TooLong;
@@ -204,11 +207,13 @@ fn read_text(alloc: Global, text: &[u8]) -> Result<Job, ReadJobFault>
 
 /// The job that a text says, or the text's first refusal (own): `TooLong` above 1048576 bytes; then the first byte that
 /// isn't allowed; then the first line that is refused, from the top, and within a line the fault that counts; then
-/// `Unclosed` where the text ends in a body; then the first line that names a body that isn't there.
+/// `Unclosed` where the text ends in a body; then the first line that names a body that isn't there. It is looked at for
+/// its length, its bytes and its header before memory is asked for.
 #[tactic(auto, using(crate::proofs::ToldWhole::text_steps))]
 pub fn read_job(alloc: Global, text: &[u8]) -> Result<Job, ReadJobFault>
     ensures read { Gives job_tree result (spec.job_in text.now) }
     ensures grammar { IfOk result (λ job. IsTextOf (job_tree job) (kept (lines_of text.now))) }
+    ensures memory { IfErr result (λ fault. fault ≡ ReadJobFault.Memory → BeginsWell text.now) }
 {
     match read_text(alloc, text) {
         Ok(job) => Ok(job),

@@ -1,6 +1,8 @@
 //! The canonical text of a job, written.
 ghost use Rattle.std.specs.Prelude.{◌≡◌, ◌++◌, ◌∷◌, [], OnOk, IfOk, map, length};
 ghost use Rattle.std.specs.Fmt.{signed_decimal};
+ghost use Rattle.task_lang.specs.Rules.{IsJob};
+ghost use Rattle.job_reader.specs.Legal.{IsJobTree};
 ghost use Rattle.job_reader.specs.Trees.{body_tree, job_tree};
 ghost use Rattle.job_reader.specs.Grammar as spec;
 ghost use Rattle.job_reader.specs.Grammar.{spaced, line_text, text_of};
@@ -125,19 +127,23 @@ fn push_starts(out: &mut Vec<u8>, bodies: &[Body], starts: &[Start]) -> Result<(
 
 // The canonical text of a job.
 fn canonical(alloc: Global, job: &Job) -> Result<Vec<u8>, AllocError>
-    ensures { IfOk result (λ text. text.items ≡ spec.canonical_text (job_tree job.now)) }
+    ensures text { IfOk result (λ text. text.items ≡ spec.canonical_text (job_tree job.now)) }
+    ensures kept { IsJob job.now }
 {
+    let bodies = job.bodies();
     let mut out = Vec::new(alloc);
     out.extend_from_slice(b"bsp 1\n")?;
     push_arrays(&mut out, job.arrays())?;
-    push_bodies(&mut out, job.arrays(), job.bodies(), job.bodies())?;
-    push_starts(&mut out, job.bodies(), job.starts())?;
+    push_bodies(&mut out, job.arrays(), bodies, bodies)?;
+    push_starts(&mut out, bodies, job.starts())?;
     Ok(out)
 }
 
 /// Writes the canonical text of a job (own): `bsp 1`, the arrays with all their values, the bodies, the start lines, each
 /// in declared order, with single spaces, no comments and an LF behind each line. All memory is taken before the first
-/// byte. `Write` where the writer failed: a beginning of the text went out.
+/// byte. `Write` where the writer failed: a beginning of the text went out. Each job is one of the grammar, so that its
+/// text, where it isn't too long, is read as that job.
+#[tactic(auto, using(crate::proofs::JobLemmas::jobs))]
 pub fn write_job<W: CountedWrite>(
     alloc: Global,
     job: &Job,
@@ -145,6 +151,7 @@ pub fn write_job<W: CountedWrite>(
 ) -> Result<(), WriteFault>
     ensures writes { WritesText (W.contents writer.old) (W.contents writer.new) result (spec.canonical_text (job_tree job.now)) }
     ensures failures { WriteCause (W.failures writer.old) (W.failures writer.new) result }
+    ensures job { IsJobTree (job_tree job.now) }
 {
     let Ok(text) = canonical(alloc, job) else {
         return Err(WriteFault::Memory);

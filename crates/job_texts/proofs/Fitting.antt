@@ -6,7 +6,7 @@ use Rattle.std.proofs.lemmas.Grind.{common_steps}
 use Rattle.text_lines.specs.Number.{fits_i64}
 use Rattle.task_lang.specs.Names.{are_names}
 use Rattle.task_lang.specs.Mentions as mentions
-use Rattle.task_lang.specs.Limits.{is_operand, is_expr, is_action}
+use Rattle.task_lang.specs.Limits.{is_operand, is_expr, is_action, fits_index, fits_operand, fits_expr, fits_action, fits_line}
 use Rattle.task_lang.specs.Tree.{Block}
 use Rattle.task_lang.specs.Open.{Frame, InIf, InElse, InWhile, step_of}
 use Rattle.task_lang.specs.declared.code.Index.{Index}
@@ -26,7 +26,6 @@ use Rattle.job_words.proofs.GrowLemmas.{and-left, and-right, all-left, all-right
 use Rattle.job_words.proofs.WrittenExprs.{IndexIs, OperandIs, ExprIs}
 use Rattle.job_words.proofs.WrittenLines.{ActionIs, LineIs}
 use Rattle.job_reader.specs.Above.{can_else}
-use Rattle.job_reader.specs.Legal.{fits_index, fits_operand, fits_expr, fits_action, fits_line}
 use Rattle.job_reader.specs.Reading.{is_missing}
 use Rattle.job_texts.proofs.Known.{are_below, name-among}
 

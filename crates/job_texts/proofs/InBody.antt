@@ -8,7 +8,7 @@ use Rattle.text_lines.specs.declared.refusal.Code.{Code}
 use Rattle.text_lines.specs.declared.refusal.Code.TheVariants.{TooMany}
 use Rattle.task_lang.specs.Names.{is_among, are_names}
 use Rattle.task_lang.specs.Mentions as mentions
-use Rattle.task_lang.specs.Limits.{is_statement, statements, opened, deepest}
+use Rattle.task_lang.specs.Limits.{is_statement, statements, opened, deepest, fits_line}
 use Rattle.task_lang.specs.Tree.{Block}
 use Rattle.task_lang.specs.Open.{Frame, InIf, InElse, InWhile, step_of, build}
 use Rattle.task_lang.specs.declared.code.Line.{Line}
@@ -24,7 +24,6 @@ use Rattle.job_words.proofs.WrittenExprs.{AreGood}
 use Rattle.job_words.proofs.WrittenLines.{as_read, line-written}
 use Rattle.job_reader.specs.Trees.{JobTree, array_names}
 use Rattle.job_reader.specs.Above.{Inside, can_else, grown, statements_behind}
-use Rattle.job_reader.specs.Legal.{fits_line}
 use Rattle.job_reader.specs.Reading.{◌>>=◌, is_over, within_limits, behind, with_line, any_line}
 use Rattle.job_reader.specs.Writing.{code_lines}
 use Rattle.job_texts.proofs.Chain.{Passes, Reads}

@@ -1,19 +1,18 @@
 -- The lines of items are read as their job.
-use Rattle.std.proofs.Common.{◌≡◌, ℕ, ◌<◌, ◌≤◌, Bool, true, ◌&&◌, List, [], ◌∷◌, ◌++◌, length, None, ℤ, sym, ap, subst, ◌∙◌, arith, append_assoc, append-nil, length-append}
+use Rattle.std.proofs.Common.{◌≡◌, ℕ, ◌<◌, ◌≤◌, Bool, true, ◌&&◌, List, [], ◌∷◌, ◌++◌, length, map, None, ℤ, sym, ap, subst, ◌∙◌, arith, append_assoc, append-nil, length-append}
 use Rattle.std.specs.Prelude.{nat_le}
-use Rattle.std.specs.List.{list_all}
+use Rattle.std.specs.List.{list_all, AllByRecursion}
 use Rattle.std.proofs.lemmas.List.{map-append, length-map}
 use Rattle.std.proofs.lemmas.Grind.{common_steps}
 use Rattle.text_lines.specs.Number.{fits_i64}
 use Rattle.task_lang.specs.Names.{is_free, are_names}
-use Rattle.task_lang.specs.Rules.{is_array}
-use Rattle.task_lang.specs.Tree.{flat}
+use Rattle.task_lang.specs.Rules.{IsBody, is_array}
 use Rattle.task_lang.specs.declared.job.Start.{Start}
 use Rattle.job_words.specs.Words.{Word}
 use Rattle.job_words.proofs.GrowLemmas.{and-left, and-right}
 use Rattle.job_reader.specs.Trees.{BodyTree, JobTree, array_names, body_names}
 use Rattle.job_reader.specs.Grammar.{Item, AnArray, ABody, AStart, body_lines, items_lines, AreSound, job_of}
-use Rattle.job_reader.specs.Legal.{AreBodies, fits_line}
+use Rattle.job_reader.specs.Legal.{flat_body}
 use Rattle.job_reader.proofs.ItemLemmas.{put}
 use Rattle.job_texts.proofs.Chain.{Reads, reads-append}
 use Rattle.job_texts.proofs.Known.{names-front, behind-new}
@@ -33,8 +32,7 @@ AreItems (i ∷ is) = IsItem i × AreItems is
 pub record AreFit (j : JobTree) : Type 0 where
   pub arrays : list_all is_array j.arrays ≡ true
   pub cells : list_all (λ a. list_all fits_i64 a.1) j.arrays ≡ true
-  pub bodies : AreBodies j.bodies
-  pub numbers : list_all (λ b. list_all fits_line (flat b.block)) j.bodies ≡ true
+  pub bodies : AllByRecursion IsBody (map flat_body j.bodies)
   pub args : list_all (λ s. fits_i64 s.arg) j.starts ≡ true
 
 le-from : (a b : ℕ) → nat_le a b ≡ true → a ≤ b
@@ -62,19 +60,16 @@ items-fit (AnArray name given cells ∷ is) h =
         arrays = and-right (is_array (name, cells)) (list_all is_array j.arrays) h.arrays;
         cells = and-right (list_all fits_i64 cells) (list_all (λ a. list_all fits_i64 a.1) j.arrays) h.cells;
         bodies = h.bodies;
-        numbers = h.numbers;
         args = h.args;
       }),
     )
 items-fit (ABody b ∷ is) h =
-    let j : JobTree = job_of is in
-    let rest : Bool = list_all (λ b. list_all fits_line (flat b.block)) j.bodies in (
-      record { rules = h.bodies.0; numbers = and-left (list_all fits_line (flat b.block)) rest h.numbers },
+    let j : JobTree = job_of is in (
+      record { rules = h.bodies.0 },
       items-fit is (record {
         arrays = h.arrays;
         cells = h.cells;
         bodies = h.bodies.1;
-        numbers = and-right (list_all fits_line (flat b.block)) rest h.numbers;
         args = h.args;
       }),
     )
@@ -86,7 +81,6 @@ items-fit (AStart s ∷ is) h =
         arrays = h.arrays;
         cells = h.cells;
         bodies = h.bodies;
-        numbers = h.numbers;
         args = and-right (fits_i64 s.arg) rest h.args;
       }),
     )

@@ -1,11 +1,12 @@
 -- A written line mentions the locals of its line, in their order.
 use Rattle.std.proofs.Common.{◌≡◌, ℕ, Bool, true, false, List, [], ◌∷◌, ◌++◌, map, refl, sym, ap, ◌∙◌, arith, codes}
-use Rattle.std.specs.Prelude.{if◌then◌else◌, not, ◌||◌, ◌==◌}
+use Rattle.std.specs.Prelude.{if◌then◌else◌, not, ◌||◌, ◌&&◌, ◌==◌, nat_le}
+use Rattle.text_lines.proofs.NumbersLemmas.{number-begins}
 use Rattle.std.specs.Fmt.{signed_decimal}
 use Rattle.std.specs.Str.{bytes_eq}
 use Rattle.std.proofs.lemmas.List.{map-append}
 use Rattle.std.proofs.lemmas.Grind.{common_steps}
-use Rattle.task_lang.specs.Names.{is_lower, is_digit, is_name, is_reserved, is_free, are_names}
+use Rattle.task_lang.specs.Names.{is_lower, is_name, is_reserved, is_free, are_names}
 use Rattle.task_lang.specs.Mentions as mentions
 use Rattle.task_lang.specs.declared.code.Index.{Index}
 use Rattle.task_lang.specs.declared.code.Index.TheVariants as index
@@ -30,7 +31,6 @@ use Rattle.job_words.proofs.WrittenExprs.{
   cell-bracket,
   plain-bracket,
   name-plain,
-  number-begins,
   number-plain,
   AreGood,
   IndexIs,
@@ -57,7 +57,7 @@ step-reserved : is_reserved (codes "step") ≡ true
 unfolding is_reserved
 step-reserved = refl
 
-lower-digit : (c : ℕ) → is_lower c ≡ true → (is_digit c || (c == 45)) ≡ false
+lower-digit : (c : ℕ) → is_lower c ≡ true → ((c == 45) || (nat_le 48 c && nat_le c 57)) ≡ false
 lower-digit c e = grind (arith, common_steps)
 
 free-begins : (w : Word) → is_free w ≡ true → begins_number w ≡ false

@@ -8,6 +8,7 @@ use Rattle.std.proofs.lemmas.List.Folds.{list_all-append}
 use Rattle.text_lines.specs.declared.refusal.Code.{Code}
 use Rattle.text_lines.specs.declared.refusal.Code.TheVariants.{Twice, TooMany, BadLength}
 use Rattle.text_lines.specs.Number.{fits_i64}
+use Rattle.task_lang.specs.Limits.{fits_line}
 use Rattle.task_lang.specs.Names.{is_free, is_among, are_names}
 use Rattle.task_lang.specs.Rules.{IsBody}
 use Rattle.task_lang.specs.Tree.{Block, Done, flat}
@@ -26,7 +27,7 @@ use Rattle.job_words.proofs.WrittenExprs.{number-written}
 use Rattle.job_reader.specs.Trees.{BodyTree, JobTree, array_names, body_names}
 use Rattle.job_reader.specs.Above.{Inside, begun}
 use Rattle.job_reader.specs.Grammar.{AnArray, ABody, AStart, array_words, body_words, start_words, block_lines, body_lines, mentioned_by, IsSoundBody, IsFilled}
-use Rattle.job_reader.specs.Legal.{flat_body, fits_line}
+use Rattle.job_reader.specs.Legal.{flat_body}
 use Rattle.job_reader.specs.Reading.{◌>>=◌, outer_of, all_numbered, filled, cells_of, array_of, start_from, with_array, new_body, with_start}
 use Rattle.job_reader.specs.Writing.{code_lines}
 use Rattle.job_reader.proofs.CodeLemmas.{block-code}
@@ -113,7 +114,6 @@ begin-passes bodies k name h = record {
 -- a body that there may be
 pub record IsLegalBody (b : BodyTree) : Type 0 where
   pub rules : IsBody (flat_body b)
-  pub numbers : list_all fits_line (flat b.block) ≡ true
 
 all-built : (b : Block) → build (flat b) [] Done ≡ Some ([], b)
 all-built b = ap (λ (c : List Line). build c [] Done) (sym (append-nil (flat b))) ∙ build-flat b [] [] Done
@@ -126,7 +126,7 @@ body-reads bodies k b ga gb h legal sound =
     let code : List Line = flat b.block in
     let same : code_lines s code ≡ block_lines s b.block = block-code s b.block in
     let ahead : IsAhead s (begun b.name) code ([], b.block) = record {
-      numbers = legal.numbers;
+      numbers = legal.rules.numbers;
       fits = sound.0;
       builds = all-built b.block;
       notes = ap mentioned_by same ∙ sound.1;

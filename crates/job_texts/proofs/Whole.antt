@@ -25,15 +25,15 @@ flat-names (b ∷ bs) = ap (λ (x : List Word). b.name ∷ x) (flat-names bs)
 
 roomy : (j : JobTree) → IsJobTree j → IsRoomy j
 roomy j h = record {
-  arrays = h.arrays;
-  few_arrays = h.job.few_arrays;
-  bodies = subst (λ (x : List Word). are_names x ≡ true) (flat-names j.bodies) h.job.bodies;
-  few_bodies = subst (λ (n : ℕ). n ≤ 64) (length-map j.bodies flat_body) h.job.few_bodies;
-  few_starts = h.job.few_starts;
+  arrays = h.named;
+  few_arrays = h.few_arrays;
+  bodies = subst (λ (x : List Word). are_names x ≡ true) (flat-names j.bodies) h.bodies;
+  few_bodies = subst (λ (n : ℕ). n ≤ 64) (length-map j.bodies flat_body) h.few_bodies;
+  few_starts = h.few_starts;
 }
 
 fit : (j : JobTree) → IsJobTree j → AreFit j
-fit j h = record { arrays = h.job.arrays; cells = h.cells; bodies = h.bodies; numbers = h.numbers; args = h.args }
+fit j h = record { arrays = h.arrays; cells = h.cells; bodies = h.each; args = h.args }
 
 -- the lines of a job's text are read as the job
 text-lines-read : (ls : List (List ℕ)) (j : JobTree) → IsJobTree j → IsTextOf j (kept ls) → read_from (declared ls) 1 ls ≡ Ok j

@@ -46,8 +46,8 @@ use Rattle.std.proofs.lemmas.Fmt.{decimal_is_IsNumeral}
 use Rattle.std.proofs.lemmas.Str.Parse.{digit_from_value}
 use Rattle.std.proofs.lemmas.Grind.{common_steps}
 use Rattle.text_lines.specs.declared.refusal.Code.{Code}
-use Rattle.text_lines.proofs.NumbersLemmas.{numbers_law}
-use Rattle.task_lang.specs.Names.{is_digit, is_in_name, is_reserved, is_free, are_names}
+use Rattle.text_lines.proofs.NumbersLemmas.{numbers_law, number-begins}
+use Rattle.task_lang.specs.Names.{is_in_name, is_reserved, is_free, are_names}
 use Rattle.task_lang.specs.declared.code.Index.{Index}
 use Rattle.task_lang.specs.declared.code.Index.TheVariants as index
 use Rattle.task_lang.specs.declared.code.Cell.{Cell}
@@ -137,20 +137,6 @@ digits-plain (c ∷ cs) e = and-true _ _ (digit-plain c (digit_from_value c e.0)
 
 decimal-plain : (n : ℕ) → n < 2 ^ 64 → is_plain (decimal n) ≡ true
 decimal-plain n h = digits-plain (decimal n) (decimal_is_IsNumeral n h).0.1
-
-digit-begins : (c : ℕ) → (48 ≤ c) × (c ≤ 57) → (is_digit c || (c == 45)) ≡ true
-digit-begins c e = let low : 48 ≤ c = e.0 in let high : c ≤ 57 = e.1 in grind (arith, common_steps)
-
-digits-begin : (ds : Word) → 0 < length ds → AllDigits 10 ds → begins_number ds ≡ true
-digits-begin [] h e = absurd (omega arith)
-digits-begin (c ∷ cs) h e = digit-begins c (digit_from_value c e.0)
-
-decimal-begins : (n : ℕ) → n < 2 ^ 64 → begins_number (decimal n) ≡ true
-decimal-begins n h = let d = (decimal_is_IsNumeral n h).0 in digits-begin (decimal n) d.0 d.1
-
-pub number-begins : (n : ℤ) → FitsSigned w64 n → begins_number (signed_decimal n) ≡ true
-number-begins (pos n) h = let small : n < 2 ^ 64 = omega (arith, ints, h) in decimal-begins n small
-number-begins (negsuc n) h = refl
 
 pub number-plain : (n : ℤ) → FitsSigned w64 n → is_plain (signed_decimal n) ≡ true
 number-plain (pos n) h = let small : n < 2 ^ 64 = omega (arith, ints, h) in decimal-plain n small

@@ -28,13 +28,13 @@ use Rattle.std.proofs.Common.{
   codes,
   nat_eq,
 }
-use Rattle.std.specs.Prelude.{if◌then◌else◌, not, ◌||◌, ◌==◌}
+use Rattle.std.specs.Prelude.{if◌then◌else◌, not, ◌||◌, ◌&&◌, ◌==◌, nat_le}
 use Rattle.std.specs.Str.{bytes_eq}
 use Rattle.std.proofs.lemmas.Slice.Eq.{bytes_eq-Decides}
 use Rattle.std.proofs.lemmas.Grind.{common_steps}
 use Rattle.text_lines.specs.declared.refusal.Code.{Code}
 use Rattle.text_lines.specs.declared.refusal.Code.TheVariants.{Reserved, BadName}
-use Rattle.task_lang.specs.Names.{is_lower, is_digit, is_name, is_reserved, is_free, is_among, are_names}
+use Rattle.task_lang.specs.Names.{is_lower, is_name, is_reserved, is_free, is_among, are_names}
 use Rattle.task_lang.specs.declared.code.Index.TheVariants as index
 use Rattle.task_lang.specs.declared.code.Operator.{Operator}
 use Rattle.task_lang.specs.declared.code.Operator.TheVariants.{
@@ -95,7 +95,7 @@ step-reserved : is_reserved (codes "step") ≡ true
 unfolding is_reserved
 step-reserved = refl
 
-lower-digit : (c : ℕ) → is_lower c ≡ true → (is_digit c || (c == 45)) ≡ false
+lower-digit : (c : ℕ) → is_lower c ≡ true → ((c == 45) || (nat_le 48 c && nat_le c 57)) ≡ false
 lower-digit c e = grind (arith, common_steps)
 
 free-begins : (w : Word) → is_free w ≡ true → begins_number w ≡ false

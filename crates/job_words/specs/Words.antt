@@ -29,7 +29,8 @@ use Rattle.std.specs.Str.{bytes_eq}
 use Rattle.text_lines.specs.declared.refusal.Code.{Code}
 use Rattle.text_lines.specs.declared.refusal.Code.TheVariants.{BadName, BadNumber, UnknownName, Reserved}
 use Rattle.text_lines.specs.Number.{number_of}
-use Rattle.task_lang.specs.Names.{is_name, is_reserved, is_digit, is_among}
+pub use Rattle.text_lines.specs.Number.{begins_number}
+use Rattle.task_lang.specs.Names.{is_name, is_reserved, is_among}
 use Rattle.task_lang.specs.declared.code.Index.{Index}
 use Rattle.task_lang.specs.declared.code.Index.TheVariants as index
 use Rattle.job_words.specs.Faults.{both, made}
@@ -39,11 +40,6 @@ Word = List ℕ
 
 abbrev pub Words : Type 0
 Words = List Word
-
--- a word that begins so is meant as a number where a number and a name may stand
-abbrev pub begins_number : Word → Bool
-begins_number [] = false
-begins_number (c ∷ cs) = is_digit c || (c == 45)
 
 -- a reserved word is no name
 abbrev pub named : Word → Result (Unit {0}) Code

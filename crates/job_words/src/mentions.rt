@@ -7,8 +7,9 @@ ghost use Rattle.job_words.specs.Views.{lent};
 
 use crate::exprs::{cell_parts, has_bracket};
 use crate::lines::Keyword;
-use crate::words::{begins_number, place, take_word};
+use crate::words::{place, take_word};
 use std::alloc::AllocError;
+use text_lines::begins_number;
 
 #[tactic(auto, using(crate::proofs::NotedLemmas::note_steps))]
 // Notes a local, behind those that are there if it is new.

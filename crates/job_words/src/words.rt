@@ -8,7 +8,7 @@ ghost use Rattle.job_words.specs.Views.{lent};
 use crate::faults::both;
 use task_lang::code::Index;
 use task_lang::names::{is_name, is_reserved};
-use text_lines::{Code, number};
+use text_lines::{Code, begins_number, number};
 
 /// The first word of a line, and the words behind it.
 pub fn take_word<'a, 'b>(words: &'b [&'a [u8]]) -> Option<(&'a [u8], &'b [&'a [u8]])>
@@ -17,16 +17,6 @@ pub fn take_word<'a, 'b>(words: &'b [&'a [u8]]) -> Option<(&'a [u8], &'b [&'a [u
     match words {
         [] => None,
         [first, rest @ ..] => Some((first, rest)),
-    }
-}
-
-/// Whether a word is meant as a number where a number and a name may stand.
-pub fn begins_number(word: &[u8]) -> bool
-    ensures { result ≡ spec.begins_number word.now }
-{
-    match word {
-        [] => false,
-        [first, ..] => first.is_ascii_digit() || *first == b'-',
     }
 }
 

@@ -16,7 +16,7 @@ pub struct PhaseRecord {
     pub spawned: u32,
 }
 
-/// A value that a task printed (own).
+/// A value that a task printed (own). Its type keeps that a path has at most 8 numbers.
 #[derive(Drop)]
 pub struct Print {
     /// The superstep, from 0.
@@ -33,6 +33,10 @@ impl Model for Print {
     ghost Value = { PrintValue };
 
     ghost view = { λ p. record { step = p.step; path = p.path.items; value = p.value } };
+
+    ghost use Rattle.std.specs.Prelude.{◌≤◌, length};
+
+    ghost invariant = { λ p. length p.path.items ≤ 8 };
 }
 
 /// How a job ends (own).

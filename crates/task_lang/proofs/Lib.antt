@@ -11,4 +11,5 @@ pub mod Runs
 pub mod Segments
 pub mod Unread
 mod Firsts
+pub mod Named
 pub mod Behind

@@ -1,5 +1,8 @@
 -- What the limits of a body count, and which numbers lines may have (own).
 use Rattle.std.specs.Prelude.{ℕ, ◌+◌, ◌-◌, max, Bool, true, false, ◌&&◌, nat_lt, List, [], ◌∷◌, count_by}
+use Rattle.text_lines.specs.Number.{fits_i64}
+use Rattle.task_lang.specs.declared.code.Index.{Index}
+use Rattle.task_lang.specs.declared.code.Index.TheVariants as index
 use Rattle.task_lang.specs.declared.code.Operand.{Operand}
 use Rattle.task_lang.specs.declared.code.Operand.TheVariants as operand
 use Rattle.task_lang.specs.declared.code.Expr.{Expr}
@@ -62,3 +65,35 @@ module _ (arrays bodies : ℕ) where
   is_line line.EndIf = true
   is_line (line.While e n) = is_expr arrays e
   is_line (line.EndWhile e n) = is_expr arrays e
+
+-- the numbers of a line are of 64 signed bits
+abbrev pub fits_index : Index → Bool
+fits_index (index.Number n) = fits_i64 n
+fits_index (index.Local i) = true
+fits_index index.Arg = true
+fits_index index.Step = true
+
+abbrev pub fits_operand : Operand → Bool
+fits_operand (operand.Plain i) = fits_index i
+fits_operand (operand.Cell c) = fits_index c.index
+
+abbrev pub fits_expr : Expr → Bool
+fits_expr (expr.One a) = fits_operand a
+fits_expr (expr.Two a o b) = fits_operand a && fits_operand b
+
+abbrev pub fits_action : Action → Bool
+fits_action (action.Let i e) = fits_expr e
+fits_action (action.Put c e) = fits_index c.index && fits_expr e
+fits_action (action.Print e) = fits_expr e
+fits_action (action.Spawn b e) = fits_expr e
+fits_action action.Sync = true
+fits_action action.Stop = true
+
+-- the end of a loop says again what its first line does
+abbrev pub fits_line : Line → Bool
+fits_line (line.Do a) = fits_action a
+fits_line (line.If e n) = fits_expr e
+fits_line (line.Else n) = true
+fits_line line.EndIf = true
+fits_line (line.While e n) = fits_expr e
+fits_line (line.EndWhile e n) = true

@@ -1,13 +1,14 @@
 //! Jobs.
 ghost use Rattle.std.specs.Prelude.{◌≡◌, ◌↔◌, IsSome, IfSome, IsTrue, map, nat_lt};
-ghost use Rattle.std.specs.List.{list_all};
+ghost use Rattle.std.specs.List.{list_all, AllByRecursion};
+ghost use Rattle.text_lines.specs.Number.{fits_i64};
 ghost use Rattle.task_lang.specs.JobValue.{JobValue, job_value};
 ghost use Rattle.task_lang.specs.Names as names;
 ghost use Rattle.task_lang.specs.Limits as limits;
-ghost use Rattle.task_lang.specs.Rules.{IsJob, is_array, are_by_mention};
+ghost use Rattle.task_lang.specs.Rules.{IsBody, IsJob, is_array};
 
 use crate::body::Body;
-use crate::limits::are_lines;
+use crate::limits::{are_lines, is_number};
 use crate::names::is_free;
 use crate::same::{same_bodies, same_starts};
 use std::marker::Model;
@@ -42,6 +43,27 @@ impl Model for Job {
     ghost invariant = { IsJobInside };
 }
 
+// Whether each cell holds a number of 64 signed bits.
+fn are_numbers(cells: &[i64]) -> bool
+    ensures { result ≡ list_all fits_i64 cells.now }
+{
+    cells.iter().all(|cell| is_number(*cell))
+}
+
+// Whether each cell of the arrays does.
+fn are_cells(arrays: &Arrays) -> bool
+    ensures { result ≡ list_all (λ a. list_all fits_i64 a.1) arrays.now }
+{
+    for place in 0..arrays.len() {
+        if let Some((_, cells)) = arrays.get(place) {
+            if !are_numbers(cells) {
+                return false;
+            }
+        }
+    }
+    true
+}
+
 // Whether a job may have an array of this name with these cells.
 fn is_array(name: &[u8], cells: &[i64]) -> bool
     ensures { result ≡ is_array (name.now, cells.now) }
@@ -49,9 +71,10 @@ fn is_array(name: &[u8], cells: &[i64]) -> bool
     is_free(name) && !cells.is_empty() && cells.len() <= 4096
 }
 
-// Whether a job may have each of these arrays.
+// Whether a job may have each of these arrays, which have names of their own.
 fn are_arrays(arrays: &Arrays) -> bool
-    ensures { result ≡ list_all is_array arrays.now }
+    ensures arrays { result ≡ list_all is_array arrays.now }
+    ensures named { IsTrue result → IsTrue (names.are_names (map (λ a. a.0) arrays.now)) }
 {
     for place in 0..arrays.len() {
         if let Some((name, cells)) = arrays.get(place) {
@@ -94,20 +117,12 @@ fn are_named_apart(bodies: &[Body]) -> bool
 
 // Whether the lines of each body name only the first so many arrays and bodies.
 fn are_within(bodies: &[Body], arrays: usize, count: usize) -> bool
-    ensures { result ≡ list_all (λ b. list_all (limits.is_line arrays count) b.code) bodies.now }
-{
-    bodies
-        .iter()
-        .all(|body| are_lines(body.code(), arrays, count))
-}
-
-// Whether the locals of each body stand by first mention.
-fn are_by_mention(bodies: &[Body]) -> bool
-    ensures { IsTrue result ↔ are_by_mention bodies.now }
+    ensures within { result ≡ list_all (λ b. list_all (limits.is_line arrays count) b.code) bodies.now }
+    ensures each { IsTrue result → AllByRecursion IsBody bodies.now }
 {
     let mut rest = bodies;
     while let Some((first, after)) = rest.split_first() {
-        if !first.is_by_mention() {
+        if !are_lines(first.code(), arrays, count) {
             return false;
         }
         rest = after;
@@ -122,11 +137,17 @@ fn are_starts(starts: &[Start], bodies: usize) -> bool
     starts.iter().all(|start| usize::from(start.body) < bodies)
 }
 
+// Whether the argument of each start line is a number of 64 signed bits.
+fn are_args(starts: &[Start]) -> bool
+    ensures { result ≡ list_all (λ s. fits_i64 s.arg) starts.now }
+{
+    starts.iter().all(|start| is_number(start.arg))
+}
+
 impl Job {
     /// A job of these arrays, bodies and start lines. `None` where a name isn't one or a body has the name of
     /// another, where an array has no cell or over 4096, where a line names an array or a body that isn't there,
-    /// where the locals of a body don't stand by first mention, where a start line names no body, and above
-    /// 16 arrays, 64 bodies and 4096 start lines (all own).
+    /// where a start line names no body, and above 16 arrays, 64 bodies and 4096 start lines (all own).
     pub fn new(arrays: Arrays, bodies: Vec<Body>, starts: Vec<Start>) -> Option<Job>
         ensures refused { IsSome result ↔ IsJob (job_value arrays bodies starts) }
         ensures made { IfSome result (λ job. job ≡ job_value arrays bodies starts) }
@@ -138,10 +159,10 @@ impl Job {
         if !are_arrays(&arrays) || !are_named_apart(&bodies) {
             return None;
         }
-        if !are_within(&bodies, arrays.len(), count) || !are_by_mention(&bodies) {
+        if !are_within(&bodies, arrays.len(), count) {
             return None;
         }
-        if !are_starts(&starts, count) {
+        if !are_starts(&starts, count) || !are_args(&starts) || !are_cells(&arrays) {
             return None;
         }
         Some(Job {

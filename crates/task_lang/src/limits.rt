@@ -1,9 +1,19 @@
 //! What the limits of a body count, and which numbers lines may have.
 ghost use Rattle.std.specs.Prelude.{◌≡◌, ◌↔◌, ◌≤◌, IsTrue};
 ghost use Rattle.std.specs.List.{list_all};
+ghost use Rattle.text_lines.specs.Number.{fits_i64};
 ghost use Rattle.task_lang.specs.Limits as spec;
 
 use crate::code::{Action, Expr, Line, Operand};
+
+/// Whether a number is one of 64 signed bits, as each of its type is.
+#[tactic(auto, using(text_lines::proofs::NumbersLemmas::fits_back))]
+pub(crate) fn is_number(number: i64) -> bool
+    ensures result { result ≡ fits_i64 number }
+    ensures fits { IsTrue (fits_i64 number) }
+{
+    true
+}
 
 // Whether a line is a statement.
 fn is_statement(line: &Line) -> bool

@@ -1,26 +1,34 @@
 //! The locals that lines mention.
-ghost use Rattle.std.specs.Prelude.{◌≡◌, ◌↔◌, ◌++◌, ◌<◌, IfOk, OnOk, IsTrue, Some, nat_lt};
+ghost use Rattle.std.specs.Prelude.{◌≡◌, ◌↔◌, ◌++◌, IfOk, OnOk, IsTrue, Some};
 ghost use Rattle.std.specs.List.{list_all};
+ghost use Rattle.task_lang.specs.Limits.{fits_index, fits_operand, fits_expr, fits_action, fits_line};
 ghost use Rattle.task_lang.specs.Mentions as spec;
 
 use crate::code::{Action, Expr, Index, Line, Operand};
+use crate::limits::is_number;
 use std::alloc::{AllocError, Global};
 
 // Notes the local of an index, if it is one.
 fn note_index(noted: &mut Vec<u8>, index: &Index) -> Result<(), AllocError>
-    ensures { OnOk result (noted.new.items ≡ noted.old.items ++ spec.in_index index.now) }
+    ensures noted { OnOk result (noted.new.items ≡ noted.old.items ++ spec.in_index index.now) }
+    ensures fits { OnOk result (IsTrue (fits_index index.now)) }
 {
     match index {
         Index::Local(local) => {
             noted.push(*local)?;
             Ok(())
         }
-        Index::Number(_) | Index::Arg | Index::Step => Ok(()),
+        Index::Number(number) => {
+            let _fits = is_number(*number);
+            Ok(())
+        }
+        Index::Arg | Index::Step => Ok(()),
     }
 }
 
 fn note_operand(noted: &mut Vec<u8>, operand: &Operand) -> Result<(), AllocError>
-    ensures { OnOk result (noted.new.items ≡ noted.old.items ++ spec.in_operand operand.now) }
+    ensures noted { OnOk result (noted.new.items ≡ noted.old.items ++ spec.in_operand operand.now) }
+    ensures fits { OnOk result (IsTrue (fits_operand operand.now)) }
 {
     match operand {
         Operand::Plain(index) => note_index(noted, index),
@@ -29,7 +37,8 @@ fn note_operand(noted: &mut Vec<u8>, operand: &Operand) -> Result<(), AllocError
 }
 
 fn note_expr(noted: &mut Vec<u8>, expr: &Expr) -> Result<(), AllocError>
-    ensures { OnOk result (noted.new.items ≡ noted.old.items ++ spec.in_expr expr.now) }
+    ensures noted { OnOk result (noted.new.items ≡ noted.old.items ++ spec.in_expr expr.now) }
+    ensures fits { OnOk result (IsTrue (fits_expr expr.now)) }
 {
     match expr {
         Expr::One(a) => note_operand(noted, a),
@@ -41,7 +50,8 @@ fn note_expr(noted: &mut Vec<u8>, expr: &Expr) -> Result<(), AllocError>
 }
 
 fn note_action(noted: &mut Vec<u8>, action: &Action) -> Result<(), AllocError>
-    ensures { OnOk result (noted.new.items ≡ noted.old.items ++ spec.in_action action.now) }
+    ensures noted { OnOk result (noted.new.items ≡ noted.old.items ++ spec.in_action action.now) }
+    ensures fits { OnOk result (IsTrue (fits_action action.now)) }
 {
     match action {
         Action::Let(local, expr) => {
@@ -58,7 +68,8 @@ fn note_action(noted: &mut Vec<u8>, action: &Action) -> Result<(), AllocError>
 }
 
 fn note_line(noted: &mut Vec<u8>, line: &Line) -> Result<(), AllocError>
-    ensures { OnOk result (noted.new.items ≡ noted.old.items ++ spec.in_line line.now) }
+    ensures noted { OnOk result (noted.new.items ≡ noted.old.items ++ spec.in_line line.now) }
+    ensures fits { OnOk result (IsTrue (fits_line line.now)) }
 {
     match line {
         Line::Do(action) => note_action(noted, action),
@@ -67,9 +78,10 @@ fn note_line(noted: &mut Vec<u8>, line: &Line) -> Result<(), AllocError>
     }
 }
 
-/// The locals that lines mention, from left to right and line by line.
+/// The locals that lines mention, from left to right and line by line. All the numbers of the lines are seen on the way.
 pub(crate) fn mentions(alloc: Global, code: &[Line]) -> Result<Vec<u8>, AllocError>
-    ensures { IfOk result (λ noted. noted.items ≡ spec.mentions code.now) }
+    ensures noted { IfOk result (λ noted. noted.items ≡ spec.mentions code.now) }
+    ensures fits { IfOk result (λ noted. IsTrue (list_all fits_line code.now)) }
 {
     let mut noted = Vec::new(alloc);
     let mut rest = code;
@@ -78,13 +90,6 @@ pub(crate) fn mentions(alloc: Global, code: &[Line]) -> Result<Vec<u8>, AllocErr
         rest = after;
     }
     Ok(noted)
-}
-
-/// Whether each of these is below a count.
-pub(crate) fn are_below(locals: &[u8], count: usize) -> bool
-    ensures { result ≡ list_all (λ i. nat_lt i count) locals.now }
-{
-    locals.iter().all(|local| usize::from(*local) < count)
 }
 
 /// Whether so many locals are mentioned, each for the first time behind those before it.

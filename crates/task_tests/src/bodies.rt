@@ -57,10 +57,19 @@ fn bodies_at_their_limits(rt: HostRuntime) -> Result<(), Fail> {
         }
         assert_eq!(rt; is_body(alloc, "b", 0, &lines)?, want, "{depth} open");
     }
-    for (locals, want) in [(32, true), (33, false), (2, true), (1, false)] {
-        let lines = [print(Expr::One(local(1)))];
+    let mut lines = Vec::new(alloc);
+    for i in 0..33 {
+        lines.push(print(Expr::One(local(i))))?;
+    }
+    for (mentioned, locals, want) in [
+        (32, 32, true),
+        (33, 33, false),
+        (2, 3, false),
+        (2, 1, false),
+    ] {
+        let lines = &lines[..mentioned];
         assert_eq!(rt;
-            is_body(alloc, "b", locals, &lines)?,
+            is_body(alloc, "b", locals, lines)?,
             want,
             "{locals} locals"
         );
@@ -99,11 +108,12 @@ fn bodies_with_wrong_jumps(rt: HostRuntime) -> Result<(), Fail> {
 #[test]
 fn what_a_body_says(rt: HostRuntime) -> Result<(), Fail> {
     let alloc = rt.alloc();
-    let lines = [print(Expr::One(local(1)))];
+    let lines = [print(Expr::One(local(0))), print(Expr::One(local(1)))];
     let body = body_of(alloc, "b", 2, &lines)?.ok_or("a body")?;
     assert_eq!(rt; body.name(), "b");
     assert_eq!(rt; body.locals().len(), 2);
     assert_eq!(rt; body.code(), lines.as_slice());
-    assert!(rt; !body.is_by_mention());
+    let swapped = [lines[1], lines[0]];
+    assert!(rt; !is_body(alloc, "b", 2, &swapped)?);
     Ok(())
 }

@@ -1,15 +1,17 @@
 -- A word that is no number's text has no number.
-use Rattle.std.proofs.Common.{◌≡◌, ◌≢◌, ◌↔◌, ℕ, ◌<◌, ◌^◌, Bool, true, false, ◌&&◌, List, None, Some, Result, Ok, Err, ℤ, pos, negsuc, FitsSigned, w64, to_z, of_z, sym, ◌∙◌, refl, ap, arith, if◌then◌else◌}
+use Rattle.std.proofs.Common.{◌≡◌, ◌≢◌, ◌↔◌, ℕ, ◌<◌, ◌≤◌, ◌^◌, Bool, true, false, ◌&&◌, List, [], ◌∷◌, length, None, Some, Result, Ok, Err, ℤ, pos, negsuc, FitsSigned, w64, to_z, of_z, sym, ◌∙◌, refl, ap, arith, if◌then◌else◌}
 use Rattle.std.proofs.lemmas.Int.{ints}
 use Rattle.std.specs.Int.Signed.{mag}
 use Rattle.std.proofs.lemmas.Grind.{common_steps}
 use Rattle.std.proofs.lemmas.Slice.Eq.{bytes_eq-Decides}
 use Rattle.std.proofs.lemmas.Str.{IsUtf8-from_ascii}
-use Rattle.std.proofs.lemmas.Fmt.{parse-signed_decimal, IsAscii-signed}
-use Rattle.std.specs.Fmt.{signed_decimal}
+use Rattle.std.proofs.lemmas.Fmt.{parse-signed_decimal, IsAscii-signed, decimal_is_IsNumeral}
+use Rattle.std.proofs.lemmas.Str.Parse.{digit_from_value}
+use Rattle.std.specs.Prelude.{◌||◌, ◌==◌, nat_le}
+use Rattle.std.specs.Fmt.{decimal, signed_decimal}
 use Rattle.std.specs.Str.{bytes_eq, IsUtf8}
-use Rattle.std.specs.Str.Parse.{signed_digits_value, ParsesSigned}
-use Rattle.text_lines.specs.Number.{number_of, fits_i64}
+use Rattle.std.specs.Str.Parse.{signed_digits_value, ParsesSigned, AllDigits}
+use Rattle.text_lines.specs.Number.{number_of, begins_number, fits_i64}
 use Rattle.text_lines.specs.Laws.{NumbersAreRead}
 use Rattle.std.proofs.Math.IntN.{ℤ_discrete}
 use Rattle.std.proofs.Common.{Option}
@@ -66,7 +68,7 @@ value_of_text n f = same_number _ n (λ other.
     parse-signed_decimal {E = ℕ} w64 n (signed_decimal n) (Ok (signed_digits_value 10 (signed_decimal n))) f (mag_of n f) refl (p, refl) in
     other (cc)))
 
-fits_back : (n : ℤ) → FitsSigned w64 n → fits_i64 n ≡ true
+pub fits_back : (n : ℤ) → FitsSigned w64 n → fits_i64 n ≡ true
 fits_back (pos n) f = grind (arith, common_steps, ints, f)
 fits_back (negsuc n) f = grind (arith, common_steps, ints, f)
 
@@ -93,3 +95,19 @@ number_text word n e =
 
 pub numbers_law : NumbersAreRead
 numbers_law = (number_read, number_text)
+
+-- the text of a number begins as a number does
+
+digit-begins : (c : ℕ) → (48 ≤ c) × (c ≤ 57) → ((c == 45) || (nat_le 48 c && nat_le c 57)) ≡ true
+digit-begins c e = let low : 48 ≤ c = e.0 in let high : c ≤ 57 = e.1 in grind (arith, common_steps)
+
+digits-begin : (ds : List ℕ) → 0 < length ds → AllDigits 10 ds → begins_number ds ≡ true
+digits-begin [] h e = absurd (omega arith)
+digits-begin (c ∷ cs) h e = digit-begins c (digit_from_value c e.0)
+
+pub decimal-begins : (n : ℕ) → n < 2 ^ 64 → begins_number (decimal n) ≡ true
+decimal-begins n h = let d = (decimal_is_IsNumeral n h).0 in digits-begin (decimal n) d.0 d.1
+
+pub number-begins : (n : ℤ) → FitsSigned w64 n → begins_number (signed_decimal n) ≡ true
+number-begins (pos n) h = let small : n < 2 ^ 64 = omega (arith, ints, h) in decimal-begins n small
+number-begins (negsuc n) h = refl

@@ -14,7 +14,7 @@ mod numbers;
 mod refusal;
 mod split;
 
-pub use numbers::number;
+pub use numbers::{begins_number, number};
 pub use refusal::{Code, Refusal};
 pub use split::{bad_byte_line, first_word, split_line, split_word};
 

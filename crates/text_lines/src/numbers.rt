@@ -2,6 +2,7 @@
 ghost use Rattle.std.specs.Prelude.{◌≡◌, ◌≢◌, ◌↔◌, true, ℤ, IfSome, IfNone, FitsSigned};
 ghost use Rattle.std.specs.Fmt.{signed_decimal};
 ghost use Rattle.std.specs.Int.{w64};
+ghost use Rattle.text_lines.specs.Number as spec;
 ghost use Rattle.text_lines.specs.Number.{number_of};
 
 use itoa::Buffer;
@@ -28,4 +29,14 @@ fn is_text_of(n: i64, word: &[u8]) -> bool
     ensures { (result ≡ true) ↔ (word.now ≡ signed_decimal n) }
 {
     Buffer::new().format(n).as_bytes() == word
+}
+
+/// Whether a word is meant as a number where a number and a name may stand: it begins with a digit or a minus.
+pub fn begins_number(word: &[u8]) -> bool
+    ensures { result ≡ spec.begins_number word.now }
+{
+    match word {
+        [] => false,
+        [first, ..] => *first == b'-' || first.is_ascii_digit(),
+    }
 }

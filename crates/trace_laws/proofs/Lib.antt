@@ -1,1 +1,4 @@
 pub mod Whole
+pub mod HeadParts
+pub mod Heads
+pub mod Advances

@@ -1,7 +1,9 @@
-//! Laws on traces of trees. Each function does nothing: its contract is the law.
+//! Laws on traces. Each function does nothing: its contract is the law.
 #![tactic(auto)]
 
+ghost use Rattle.trace_laws.specs.Advances.{AdvancesComeFirst};
 ghost use Rattle.trace_laws.specs.Enough.{RunsReachTheirAnswer, CallsDoneReachTheirAnswer};
+ghost use Rattle.trace_laws.specs.Heads.{HeadsAreSpelled};
 
 /// `run` goes on to its call's answer: more steps would print nothing more, and leave the same tree.
 pub fn runs_reach_their_answer()
@@ -11,4 +13,16 @@ pub fn runs_reach_their_answer()
 /// `do` goes on to its call's answer, from the begin of that call.
 pub fn calls_done_reach_their_answer()
     ensures { CallsDoneReachTheirAnswer }
+{}
+
+/// A line is read as a head exactly where it is written as that head: its parts in their order, each as its one word or
+/// words, and left out only where it says what holds without it.
+pub fn heads_are_spelled()
+    ensures { HeadsAreSpelled }
+{}
+
+/// The line of an advance stands in front of the answer of the call that brought it: a call of a phaser that moves the
+/// phase prints first the phase that it ended, with the parties that it left, and one that doesn't prints its answer alone.
+pub fn advances_come_first()
+    ensures { AdvancesComeFirst }
 {}

@@ -4,6 +4,7 @@ use Rattle.std.specs.Str.{bytes_eq}
 use Rattle.text_lines.specs.declared.refusal.Code.{Code}
 use Rattle.text_lines.specs.declared.refusal.Code.TheVariants.{UnknownLine, BadNumber, BadLine}
 use Rattle.text_lines.specs.Number.{number_of}
+pub use Rattle.text_lines.specs.Number.{begins_number}
 use Rattle.phaser_one.specs.declared.call.Call.TheVariants as call
 use Rattle.trace_text.specs.declared.words.PhaserCommand.{PhaserCommand}
 use Rattle.trace_text.specs.declared.words.PhaserCommand.TheVariants.{Call, Show}
@@ -33,11 +34,6 @@ pub record HeadWords : Type 0 where
   pub phase : Option Word
   pub least : Option Word
   pub at : Option Word
-
--- whether a word begins with a digit or a minus
-abbrev pub begins_number : Word → Bool
-begins_number [] = false
-begins_number (c ∷ cs) = (c == 45) || (nat_le 48 c && nat_le c 57)
 
 -- a word that begins as a number, if it comes next, and what follows
 abbrev pub take_number : List Word → Option Word × List Word

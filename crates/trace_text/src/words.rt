@@ -9,7 +9,7 @@ ghost use Rattle.std.specs.Prelude.{◌≢◌};
 use advance_rule::CountPlan;
 use phaser_one::Call;
 use phaser_word::LAST_PHASE;
-use text_lines::{Code, first_word, number, split_word};
+use text_lines::{Code, begins_number, first_word, number, split_word};
 
 /// A command of a trace.
 #[derive(Clone, Copy, Debug, PartialEq, Eq)]
@@ -58,9 +58,10 @@ pub(crate) fn take_number(line: &[u8]) -> (Option<&[u8]>, &[u8])
     let Some((word, rest)) = split_word(line) else {
         return (None, line);
     };
-    match word.first() {
-        Some(b'-' | b'0'..=b'9') => (Some(word), rest),
-        _ => (None, line),
+    if begins_number(word) {
+        (Some(word), rest)
+    } else {
+        (None, line)
     }
 }
 

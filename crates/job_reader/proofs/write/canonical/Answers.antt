@@ -1,8 +1,8 @@
 use Rattle.job_reader.proofs.TextLemmas.{job-made}
 use Rattle.job_reader.proofs.write.canonical.Goals as goal
 
-pub returns : goal.returns
-returns c =
+pub returns-clause-text : goal.returns-clause-text
+returns-clause-text c =
     job-made c.args.job.now _ _ _ _ _ _ c.new-out.result.items c.extend_from_slice.new.self.items c.push_arrays.new.out.items c.push_bodies.new.out.items c.push_starts.new.out.items
-    c.arrays.ensures c.arrays-2.ensures c.bodies.ensures.bodies c.bodies-2.ensures.bodies c.bodies-3.ensures.bodies c.starts.ensures
+    c.arrays.ensures c.arrays-2.ensures c.bodies-bodies.ensures.bodies c.bodies-bodies.ensures.bodies c.bodies-bodies.ensures.bodies c.starts.ensures
     c.new-out.ensures.items c.in_ok-extend_from_slice.ensures.items c.in_ok-push_arrays.ensures c.in_ok-push_bodies.ensures c.in_ok-push_starts.ensures

@@ -1,9 +1,14 @@
 use Rattle.std.proofs.Common.{◌≡◌, ◌++◌, length}
+use Rattle.std.specs.List.{list_all}
+use Rattle.task_lang.specs.Limits.{fits_line}
 use Rattle.task_lang.specs.Mentions as spec
 use Rattle.task_lang.proofs.mentions.mentions.Given as goal
 
 abbrev pub invariant-loop-line : goal.invariant-loop-line
-invariant-loop-line l = l.noted.items ++ spec.mentions l.rest ≡ spec.mentions l.code
+invariant-loop-line l = record {
+  noted : l.noted.items ++ spec.mentions l.rest ≡ spec.mentions l.code;
+  fits : list_all fits_line l.code ≡ list_all fits_line l.rest;
+}
 
 abbrev pub decreases-loop-line : goal.decreases-loop-line
 decreases-loop-line l = length l.rest
