@@ -57,7 +57,8 @@ pub enum JobStatus {
     Limit(u32),
 }
 
-/// What a job leaves: what it printed and the records of its supersteps, in order, its arrays and its status.
+/// What a job leaves: what it printed and the records of its supersteps, in order, its arrays and its status. Its type keeps
+/// that paths have at most 8 numbers.
 #[derive(Drop)]
 pub struct Report {
     /// What was printed, by superstep, then by path, then in program order.
@@ -82,4 +83,8 @@ impl Model for Report {
       arrays = r.arrays;
       status = status_seen r.status;
     } };
+
+    ghost use Rattle.phase_records.specs.Status.{IsShort};
+
+    ghost invariant = { λ r. IsShort (status_seen r.status) };
 }

@@ -2,6 +2,7 @@
 ghost use Rattle.std.specs.Prelude.{◌≡◌, ◌≤◌, ◌+◌, ◌++◌, ◌∷◌, ◌^◌, ◌<◌, [], ◌↔◌, true, Some, IsTrue, IfOk, OnOk, map, length};
 ghost use Rattle.superstep_memory.specs.Landing.{written};
 ghost use Rattle.superstep_memory.specs.Paths.{is_rising};
+ghost use Rattle.phase_records.specs.Status.{IsShort};
 ghost use Rattle.phase_records.specs.StatusSeen.{status_seen};
 ghost use Rattle.task_lang.specs.Views.{plans, task_of};
 ghost use Rattle.step_core.specs.Program.{program_of};
@@ -179,7 +180,8 @@ fn run_on(
 ) -> Result<JobStatus, AllocError>
     requires start { course_state (program_of job.now) course.old ≡ opening (program_of job.now) }
     requires few { length course.old.tasks.items ≤ 4096 }
-    ensures { IfOk result (λ s. report_of (program_of job.now) limit ≡ Some (left_by course.new (status_seen s))) }
+    ensures report { IfOk result (λ s. report_of (program_of job.now) limit ≡ Some (left_by course.new (status_seen s))) }
+    ensures short { IfOk result (λ s. IsShort (status_seen s)) }
 {
     let mut room = no_room(alloc);
     while course.step < limit {

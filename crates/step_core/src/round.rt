@@ -106,9 +106,10 @@ fn finish(
 }
 
 impl<'j> Round<'j> {
-    ghost use Rattle.std.specs.Prelude.{◌≡◌, ◌≤◌, ◌<◌, ◌↔◌, None, Some, IsTrue, IfOk, OnOk, IfErr, OnErr, MatchOption, is_some, true, false, length, map, slice_get};
+    ghost use Rattle.std.specs.Prelude.{◌≡◌, ◌≤◌, ◌<◌, ◌↔◌, None, Some, IsTrue, IfOk, IfSome, OnOk, IfErr, OnErr, MatchOption, is_some, true, false, length, map, slice_get};
     ghost use Rattle.std.specs.Option.{option_map};
     ghost use Rattle.superstep_memory.specs.Paths.{is_rising};
+    ghost use Rattle.phase_records.specs.Status.{IsShort};
     ghost use Rattle.phase_records.specs.StatusSeen.{status_seen};
     ghost use Rattle.step_core.specs.Program.{program_of};
     ghost use Rattle.step_core.specs.JobMeaning.{opening, report_in};
@@ -155,6 +156,7 @@ impl<'j> Round<'j> {
     /// no memory.
     pub fn status(&self) -> Option<JobStatus>
         ensures status { option_map status_seen result ≡ status_in self.now }
+        ensures short { IfSome result (λ status. IsShort (status_seen status)) }
         ensures round { IsRound self.now }
     {
         if let Some(blame) = &self.fault {

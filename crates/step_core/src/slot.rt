@@ -140,11 +140,12 @@ impl Model for Blame {
 impl Blame {
     ghost use Rattle.std.specs.Prelude.{◌≡◌};
     ghost use Rattle.phase_records.specs.StatusSeen.{status_seen};
-    ghost use Rattle.phase_records.specs.Status.{Fault};
+    ghost use Rattle.phase_records.specs.Status.{Fault, IsShort};
 
     /// The status of a job that it ended in this step.
     pub(crate) fn status(&self, step: u32) -> JobStatus
-        ensures { status_seen result ≡ Fault self.now.0 step self.now.1 }
+        ensures status { status_seen result ≡ Fault self.now.0 step self.now.1 }
+        ensures short { IsShort (status_seen result) }
     {
         JobStatus::Fault {
             code: self.code,
