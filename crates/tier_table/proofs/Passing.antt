@@ -25,7 +25,7 @@ use Rattle.tier_table.specs.Next.{meant, is_look}
 use Rattle.table_rule.specs.declared.sight.Key.{Key}
 use Rattle.tier_table.specs.Goes.{Position, Goes, starts, steps, looks, after_look}
 use Rattle.tier_table.specs.Passes.{IsSame, HasCounted, PassAt, PassesCountOnce, PassesCountNoMore}
-use Rattle.tier_table.specs.Calls.{is_owing}
+use Rattle.tier_table.specs.Next.{is_owing}
 use Rattle.tier_steps.specs.Tally.{word_at, root_phase, ErrandFits}
 use Rattle.tier_steps.proofs.KindLaw.{mine}
 use Rattle.tier_table.proofs.Turning.{by_cond, ended_root, look_is}
@@ -96,7 +96,7 @@ current_at ps t w v b way z =
     (λ (e : v.errand ≡ Advancing). subst (ErrandFits ps (root_phase b.words) v) e fits ∙ root)
     (λ (e : (to : ℕ) × (trip : Trip) × (v.errand ≡ Climbing to trip)). (subst (ErrandFits ps (root_phase b.words) v) e.2 fits).0 ∙ root) way
 
-root_of : (ps : List ℕ) (t : ℕ) (w : Fields) (v : View) → Beside ps t w v → w.ended ≡ true → t ≡ 0
+pub root_of : (ps : List ℕ) (t : ℕ) (w : Fields) (v : View) → Beside ps t w v → w.ended ≡ true → t ≡ 0
 root_of ps t w v b e = ended_root ps b.words (b.front ++ v ∷ b.back) t b.tally (ap (λ (z : Fields). z.ended) b.word ∙ e)
 
 -- What a call keeps: of a token of whose members none was counted yet, and of one that has counted.

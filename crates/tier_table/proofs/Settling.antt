@@ -29,7 +29,8 @@ use Rattle.tier_table.specs.declared.arriving.Resumed.TheVariants as resumed
 use Rattle.tier_table.specs.Goes.{position, starts, Ran}
 use Rattle.tier_table.specs.Passes.{IsSame, HasCounted, EndSeen, PassAnswer, PassAt}
 use Rattle.tier_table.specs.Holding.{Named, Holding, Looked, IsCrew, IsDoor}
-use Rattle.tier_table.specs.Calls.{IsAt, IsErrand, is_owing}
+use Rattle.tier_table.specs.Calls.{IsAt, IsErrand}
+use Rattle.tier_table.specs.Next.{is_owing}
 use Rattle.tier_table.specs.Arrives.{IsLooked, HasPassed, IsSoon, IsSpent, Arrives, Resumes, MaySettle, MayEnd, Settles, Ends}
 use Rattle.tier_table.proofs.Passing.{passes_count_once, passes_count_no_more}
 

@@ -126,7 +126,7 @@ refuse_at t tier claimed size w going e =
     ap (λ (b : Bool). cond (not b && is_refusing (added claimed size) w) (Refuse tier claimed size) (glance t)) going
     ∙ ap (λ (b : Bool). cond b (Refuse tier claimed size) (glance t)) e
 
-admit_at : (t tier claimed size : ℕ) (w : Fields) → is_refusing (added claimed size) w ≡ false → refusing t tier claimed size w ≡ glance t
+pub admit_at : (t tier claimed size : ℕ) (w : Fields) → is_refusing (added claimed size) w ≡ false → refusing t tier claimed size w ≡ glance t
 admit_at t tier claimed size w e = go (not w.ended) (is_refusing (added claimed size) w) e
   where
     go : (a b : Bool) → b ≡ false → cond (a && b) (Refuse tier claimed size) (glance t) ≡ glance t

@@ -8,7 +8,8 @@ use Rattle.tier_core.specs.declared.call.Progress.TheVariants as progress
 use Rattle.tier_core.specs.declared.call.Played.TheVariants as played
 use Rattle.tier_table.specs.declared.going.Going.{Going}
 use Rattle.tier_table.specs.Holding.{Holding}
-use Rattle.tier_table.specs.Calls.{IsAt, is_owing}
+use Rattle.tier_table.specs.Calls.{IsAt}
+use Rattle.tier_table.specs.Next.{is_owing}
 use Rattle.tier_table.specs.Passes.{IsSame, HasCounted, EndSeen, PassAt}
 use Rattle.tier_table.specs.declared.arriving.Arrived.{Arrived}
 use Rattle.tier_table.specs.declared.arriving.Arrived.TheVariants.{Done, Left, AlreadyArrived, Ended, Busy, Owing}

@@ -1,7 +1,6 @@
 -- Calls under way (own).
-use Rattle.std.specs.Prelude.{◌≡◌, Bool, true, false}
-use Rattle.tier_core.specs.declared.call.Progress.{Progress}
-use Rattle.tier_core.specs.declared.call.Progress.TheVariants.{Idle, Begun, Seeking as ToSeek, Settling, GivingBack as ToGiveBack, Passing, Owing, Due, Refreshing}
+use Rattle.std.specs.Prelude.{◌≡◌, true}
+use Rattle.tier_table.specs.Next.{is_owing}
 use Rattle.tier_core.specs.Machine.{CallFits}
 use Rattle.table_rule.specs.Tell.{Beside}
 use Rattle.tier_table.specs.Holding.{Named}
@@ -12,18 +11,6 @@ pub record IsAt (n : Named) (g : Going) : Type 0 where
   pub own : g.token.tree ≡ n
   pub fits : CallFits n.key.shape g.progress g.token.view
   pub known : Beside n.key.shape g.token.tier g.token.word g.token.view
-
--- a climb or the advance is owed
-abbrev pub is_owing : Progress → Bool
-is_owing Idle = false
-is_owing (Begun c) = false
-is_owing (ToSeek tier size) = false
-is_owing Settling = false
-is_owing (ToGiveBack answer) = false
-is_owing (Passing trip) = false
-is_owing (Owing own) = true
-is_owing (Due own) = true
-is_owing (Refreshing moved) = false
 
 -- a token that owes a climb or the advance
 pub record IsErrand (g : Going) : Type 0 where

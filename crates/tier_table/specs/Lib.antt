@@ -4,3 +4,6 @@ pub mod Next
 pub mod Goes
 pub mod Passes
 pub mod Arrives
+pub mod Joins
+pub mod Openings
+pub mod Registers

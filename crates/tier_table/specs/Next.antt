@@ -33,3 +33,15 @@ is_look (Settle tier claimed size) = false
 is_look (SettleBack tier claimed size) = false
 is_look (Climb trip) = false
 is_look Refresh = false
+
+-- a climb or the advance is owed
+abbrev pub is_owing : Progress → Bool
+is_owing Idle = false
+is_owing (Begun c) = false
+is_owing (ToSeek tier size) = false
+is_owing Settling = false
+is_owing (ToGiveBack answer) = false
+is_owing (Passing trip) = false
+is_owing (Owing own) = true
+is_owing (Due own) = true
+is_owing (Refreshing moved) = false

@@ -9,7 +9,7 @@ use Rattle.tier_core.specs.declared.call.Played.TheVariants.{GoesOn, Done, Passe
 use Rattle.tier_core.specs.declared.call.Progress.{Progress}
 use Rattle.tier_core.specs.declared.call.Progress.TheVariants.{Idle, Begun, Seeking as ToSeek, Settling, GivingBack as ToGiveBack, Passing, Owing, Due, Refreshing}
 use Rattle.table_rule.specs.declared.sight.Key.{Key}
-use Rattle.tier_table.specs.Calls.{is_owing}
+use Rattle.tier_table.specs.Next.{is_owing}
 use Rattle.tier_table.specs.Goes.{Position, Goes}
 
 -- the members of a token as they were

@@ -7,6 +7,7 @@ ghost use Rattle.tier_core.specs.Turn.{place};
 ghost use Rattle.tier_table.specs.Holding.{Looked};
 ghost use Rattle.tier_table.specs.Calls.{IsAt};
 ghost use Rattle.tier_table.specs.Next.{meant};
+ghost use Rattle.tier_table.specs.Joins.{is_joining};
 ghost use Rattle.tier_table.specs.Goes.{Stands, LooksOn, WentOn, EndsAsPlanned, Stood, Ran, After};
 ghost use Rattle.advance_rule.specs.Stored.{Answers};
 ghost use Rattle.advance_rule.specs.Plan.{end_ends_at};
@@ -146,7 +147,7 @@ impl Tiers {
     }
 
     /// Takes the steps of a call until it is over, or so many tries were made.
-    pub fn go_on<F: Fn(u32, u32) -> bool>(
+    pub(crate) fn go_on<F: Fn(u32, u32) -> bool>(
         &self,
         at: Going,
         rule: &StoredAdvance<F>,
@@ -166,6 +167,27 @@ impl Tiers {
             }
             let ends = self.planned(&at, rule);
             at = self.try_on(at, ends);
+            if !goes_on(at.progress) {
+                return at;
+            }
+        }
+        at
+    }
+
+    /// Takes the steps of a call that never advances the root, until it is over, or so many tries were made.
+    pub(crate) fn go_joining(&self, at: Going, tries: u32) -> Going
+        requires at { IsAt self.now at }
+        requires going { is_going at.progress ≡ true }
+        requires joining { is_joining at.progress ≡ true }
+        ensures { Ran self.now tries at result }
+    {
+        let mut at = at;
+        for _ in 0..tries {
+            at = self.stand(at);
+            if !goes_on(at.progress) {
+                return at;
+            }
+            at = self.try_on(at, false);
             if !goes_on(at.progress) {
                 return at;
             }

@@ -3,6 +3,7 @@
 
 pub mod arriving;
 pub mod going;
+pub mod joining;
 pub mod next;
 pub mod tiers;
 pub mod token;

@@ -11,7 +11,7 @@ use tier_steps::kind::Kind;
 use tier_steps::view::{Errand, View};
 
 /// How many tiers an errand has claimed.
-fn claims(errand: Errand) -> u16
+pub(crate) fn claims(errand: Errand) -> u16
     ensures { result ≡ claimed_by errand }
 {
     match errand {

@@ -55,6 +55,23 @@ impl Model for Errand {
     ghost invariant = { λ e. IsErrand e.going };
 }
 
+/// A token that opens the path to a tier for members that are to join there, and has claimed a tier of
+/// it (own). Until it is done no other can join there; so it can't be let go, only resumed.
+pub struct Opening {
+    pub(crate) going: Going,
+}
+
+impl Model for Opening {
+    ghost use Rattle.tier_table.specs.declared.going.Going.{Going};
+    ghost use Rattle.tier_table.specs.Openings.{IsOpening};
+
+    ghost Value = { Going };
+
+    ghost view = { λ o. o.going };
+
+    ghost invariant = { λ o. IsOpening o.going };
+}
+
 impl Crew {
     /// The tier of its members.
     pub fn tier(&self) -> u16
