@@ -1,6 +1,6 @@
 -- What an arrival or a departure answers.
 use Rattle.std.specs.Prelude.{ℤ}
-use Rattle.std.proofs.Common.{◌≡◌, ◌≢◌, ℕ, ◌<◌, ◌≤◌, inl, inr, ⊎_elim, Bool, true, false, cond, List, length, refl, sym, ◌∙◌, ap, subst, arith, Some, None}
+use Rattle.std.proofs.Common.{◌≡◌, ◌≢◌, ℕ, ◌<◌, ◌≤◌, inl, inr, ⊎_elim, Bool, true, false, not, cond, List, length, refl, sym, ◌∙◌, ap, subst, arith, Some, None}
 use Rattle.flat_phaser.proofs.Everyone.{either}
 use Rattle.phaser_word.specs.Fields.{Fields}
 use Rattle.phaser_word.specs.Phase.{shown_of}
@@ -102,8 +102,15 @@ end_found ps w v p b e =
     let s = (mine ps b.words b.front b.back v b.tally).seen p e in
     sym (ap (λ (z : Fields). z.ended) b.word) ∙ s.0
 
+pub unseen_at : {A : Type 0} {ps : List ℕ} {t t' : ℕ} {w : Fields} {v : View} → Beside ps t w v → t' ≡ t → t' ≡ 0 → w.ended ≡ false → (p : ℕ) → v.end_seen ≡ Some p → A
+unseen_at {A} {ps} {t} {t'} {w} {v} b same z e p is = not_both w.ended (end_found ps w v p (subst (λ (n : ℕ). Beside ps n w v) (sym same ∙ z) b) is) e
+
 pub unseen : {A : Type 0} {h h' : Holding} → Looked Look 0 h h' → h'.word.ended ≡ false → (p : ℕ) → h.view.end_seen ≡ Some p → A
 unseen {A} {h} {h'} took e p is = not_both h'.word.ended (end_found h.tree.key.shape h'.word h.view p took.before is) e
+
+pub not_true : (b : Bool) → not b ≡ true → b ≡ false
+not_true false e = refl
+not_true true e = not_both false e refl
 
 -- the code's test of the word
 pub not_ended : {u w w' : Fields} → u ≡ w → w ≡ w' → u.ended ≡ false → w'.ended ≡ false

@@ -7,3 +7,6 @@ pub mod Arrives
 pub mod Joins
 pub mod Openings
 pub mod Registers
+pub mod Polls
+pub mod Forces
+pub mod Ruled
