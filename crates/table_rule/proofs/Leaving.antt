@@ -52,7 +52,7 @@ advances_wait_for_all k words seats id t x kind reached at within needs leaves =
     (⊎_elim
     (λ (no_advance : is_advance kind ≡ false). absurd (leaves (phases_stay k.shape words a.front x.view a.back t kind 0 step no_advance tally.some refl)))
     (λ (e : (ends : Bool) × (kind ≡ Advance ends)).
-        let ready = advances_are_due k.shape words a.front x.view a.back t e.0 (subst (λ (z : Kind). IsStep k.shape words a.front x.view a.back t z) e.1 step) in
-        all_arrived k.shape (root_phase words) (word_at words 0).ended (a.front ++ x.view ∷ a.back) tally.fits
-        (everyone_here (root_phase words) 0 (a.front ++ x.view ∷ a.back) ready.everyone))
+    let ready = advances_are_due k.shape words a.front x.view a.back t e.0 (subst (λ (z : Kind). IsStep k.shape words a.front x.view a.back t z) e.1 step) in
+    all_arrived k.shape (root_phase words) (word_at words 0).ended (a.front ++ x.view ∷ a.back) tally.fits
+    (everyone_here (root_phase words) 0 (a.front ++ x.view ∷ a.back) ready.everyone))
     (advance_or_not kind))

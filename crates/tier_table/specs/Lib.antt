@@ -10,3 +10,4 @@ pub mod Registers
 pub mod Polls
 pub mod Forces
 pub mod Ruled
+pub mod Closes

@@ -13,8 +13,8 @@ ghost use Rattle.advance_rule.specs.Stored.{Answers};
 ghost use Rattle.advance_rule.specs.Plan.{end_ends_at};
 
 use crate::next::{gives_back, goes_on, meant_step, only_looks};
+use crate::seated::Seated;
 use crate::tiers::Tiers;
-use crate::token::Token;
 use advance_rule::StoredAdvance;
 use tier_core::call::{Played, Progress};
 use tier_core::turn::{tier_of, turn_here};
@@ -23,7 +23,7 @@ use tier_steps::view::View;
 /// A token in a call.
 pub struct Going {
     /// The token.
-    pub token: Token,
+    pub token: Seated,
     /// How far its call has come.
     pub progress: Progress,
     /// What its last step answered.
@@ -32,7 +32,7 @@ pub struct Going {
 
 impl Tiers {
     /// A look of a call at the tier of its next step.
-    fn look_next(&self, token: &mut Token, progress: Progress)
+    fn look_next(&self, token: &mut Seated, progress: Progress)
         requires own { token.old.tree ≡ self.now }
         requires going { is_going progress ≡ true }
         requires fits { CallFits self.now.key.shape progress token.old.view }
@@ -46,7 +46,7 @@ impl Tiers {
     }
 
     /// How a call stands after a look.
-    fn looked(&self, token: Token, progress: Progress, before: View) -> Going
+    fn looked(&self, token: Seated, progress: Progress, before: View) -> Going
         ensures token { result.token ≡ token }
         ensures next { After self.now.key.shape progress before result }
     {

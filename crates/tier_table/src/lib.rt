@@ -2,12 +2,13 @@
 #![tactic(auto)]
 
 pub mod arriving;
+pub mod closing;
 pub mod forcing;
 pub mod going;
 pub mod joining;
 pub mod next;
 pub mod polling;
+pub mod seated;
 pub mod tiers;
-pub mod token;
 pub mod tokens;
 pub mod tree;

@@ -5,8 +5,8 @@ ghost use Rattle.table_rule.specs.Tell.{Beside};
 ghost use Rattle.tier_table.specs.Holding.{IsCrew, shape_of};
 ghost use Rattle.tier_table.specs.Polls.{Polls, HasEnded};
 
+use crate::seated::Seated;
 use crate::tiers::Tiers;
-use crate::token::Token;
 use crate::tokens::Crew;
 use tier_steps::kind::Kind;
 
@@ -25,7 +25,7 @@ pub enum Polled {
 
 impl Tiers {
     /// Brings the token's own tier into its phase where it lags, by one try at most.
-    fn catch_up(&self, token: &mut Token)
+    fn catch_up(&self, token: &mut Seated)
         requires own { token.old.tree ≡ self.now }
         requires crew { IsCrew token.old }
         requires known { Beside (shape_of token.old) token.old.tier token.old.word token.old.view }

@@ -3,13 +3,14 @@
 ghost use Rattle.std.specs.Prelude.{◌≡◌, ◌+◌};
 
 use crate::going::Going;
-use crate::token::Token;
+use crate::seated::Seated;
 use std::marker::Model;
+use tier_steps::view::View;
 
 /// A token without members, which may join (own).
 #[derive(Drop)]
 pub struct Door {
-    pub(crate) token: Token,
+    pub(crate) token: Seated,
 }
 
 impl Model for Door {
@@ -25,7 +26,7 @@ impl Model for Door {
 /// A token with members, all at one tier, which may arrive and leave one after another (own).
 #[derive(Drop)]
 pub struct Crew {
-    pub(crate) token: Token,
+    pub(crate) token: Seated,
 }
 
 impl Model for Crew {
@@ -70,6 +71,46 @@ impl Model for Opening {
     ghost view = { λ o. o.going };
 
     ghost invariant = { λ o. IsOpening o.going };
+}
+
+/// A token that is in no call.
+#[derive(Drop)]
+pub enum Token {
+    /// One with members.
+    Crew(Crew),
+    /// One without.
+    Door(Door),
+}
+
+impl Token {
+    ghost use Rattle.std.specs.Prelude.{◌≡◌};
+    ghost use Rattle.tier_table.specs.Closes.{held};
+
+    /// What it knows and owes.
+    pub(crate) fn view(&self) -> View
+        ensures { result ≡ (held self.now).view }
+    {
+        match self {
+            Token::Crew(crew) => crew.token.view(),
+            Token::Door(door) => door.token.view(),
+        }
+    }
+
+    /// The token itself.
+    pub(crate) fn into_seated(self) -> Seated
+        ensures { result ≡ held self }
+    {
+        match self {
+            Token::Crew(crew) => {
+                let Crew { token } = crew;
+                token
+            }
+            Token::Door(door) => {
+                let Door { token } = door;
+                token
+            }
+        }
+    }
 }
 
 impl Crew {

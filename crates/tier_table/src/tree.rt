@@ -1,6 +1,7 @@
 //! The tree of phasers, shared by reference and called from any threads without a lock.
 
-ghost use Rattle.std.specs.Prelude.{◌≡◌, ◌<◌, ◌≤◌, ℕ, Some, IfOk, length};
+ghost use Rattle.std.specs.Prelude.{◌≡◌, ◌<◌, ◌≤◌, ℕ, Some, IfOk, IfErr, All, length};
+ghost use Rattle.tier_table.specs.Closes.{held, plain_tokens, views_in, TallyWithOthers};
 ghost use Rattle.advance_rule.specs.Stored.{Answers};
 ghost use Rattle.advance_rule.specs.Plan.{end_ends_at};
 ghost use Rattle.tier_steps.specs.View.{new_view};
@@ -16,11 +17,12 @@ ghost use Rattle.tier_table.specs.Forces.{Forces};
 ghost use Rattle.tier_table.specs.Forces as forces;
 
 use crate::arriving::{Arrived, Resumed};
+use crate::closing::{Closed, Unclosed, plain_all};
 use crate::forcing::Forced;
 use crate::joining::{Opened, Registered};
 use crate::polling::Polled;
 use crate::tiers::Tiers;
-use crate::tokens::{Crew, Door, Errand, Opening};
+use crate::tokens::{Crew, Door, Errand, Opening, Token};
 use advance_rule::StoredAdvance;
 use std::alloc::{AllocError, Global};
 use std::marker::Model;
@@ -156,5 +158,28 @@ impl<F: Fn(u32, u32) -> bool> Tree<F> {
         ensures ended { (phase : ℕ) → door.old.view.end_seen ≡ Some phase → forces.HasEnded result }
     {
         self.tiers.force(door, tries)
+    }
+
+    /// Closes the tree. Without memory the tree and the tokens are handed back.
+    pub fn close(self, alloc: Global, tokens: Vec<Token>) -> Result<Closed, Unclosed<F>>
+    where
+        F: Drop,
+        requires own { All (λ t. (held t).tree ≡ self.tree) tokens.items }
+        ensures tokens { IfOk result (λ c. c.tokens.items ≡ plain_tokens tokens.items) }
+        ensures words { IfOk result (λ c. TallyWithOthers self.tree.key.shape c.words.items (views_in tokens.items)) }
+        ensures refused { IfErr result (λ u. (u.tree ≡ self) × (u.tokens ≡ tokens)) }
+    {
+        let Ok(words) = Vec::with_capacity(alloc, self.tiers.shape().count()) else {
+            return Err(Unclosed { tree: self, tokens });
+        };
+        let Ok(mut plains) = Vec::with_capacity(alloc, tokens.len()) else {
+            return Err(Unclosed { tree: self, tokens });
+        };
+        plain_all(&tokens, &mut plains);
+        let Tree { tiers, rule: _ } = self;
+        Ok(Closed {
+            words: tiers.close(tokens, words),
+            tokens: plains,
+        })
     }
 }
