@@ -9,7 +9,7 @@ use tier_steps::kind::Kind;
 use tier_steps::step::parties_added;
 
 /// A look at a tier that refuses nothing.
-fn plain_look(tier: u16) -> Kind
+pub fn plain_look(tier: u16) -> Kind
     ensures { result ≡ glance tier }
 {
     if tier == 0 { Kind::Look } else { Kind::Glance }

@@ -84,7 +84,7 @@ pub fn word_of(words: &[Word], tier: u16) -> Word
 }
 
 /// Whether the word is behind a token that counts there.
-fn is_behind(word: Word, view: &View) -> bool
+pub fn is_behind(word: Word, view: &View) -> bool
     ensures { result ≡ lags word view.now }
 {
     word.parties > 0 && word.unarrived == 0 && word.phase != view.phase

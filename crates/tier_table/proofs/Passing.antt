@@ -56,7 +56,7 @@ still_look w v h =
     (λ e f. move_keeps (IsSame v) w u (record { tier = refl; size = refl; phase = refl; arrived = refl })
     (λ a b. absurd (⊎_elim (λ (z : v.phase ≡ w.phase). b z) (λ (z : v.arrived < v.size). omega arith) h))) refl
 
-still_glance : (above t : ℕ) (w : Fields) (v : View) → (t ≡ 0 → (v.phase ≡ w.phase) ⊎ (v.arrived < v.size)) → IsSame v (view_after above (glance t) t w v)
+pub still_glance : (above t : ℕ) (w : Fields) (v : View) → (t ≡ 0 → (v.phase ≡ w.phase) ⊎ (v.arrived < v.size)) → IsSame v (view_after above (glance t) t w v)
 still_glance above zero w v h = still_look w v (h refl)
 still_glance above (suc t) w v h = record { tier = refl; size = refl; phase = refl; arrived = refl }
 

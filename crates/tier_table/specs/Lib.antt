@@ -11,3 +11,4 @@ pub mod Polls
 pub mod Forces
 pub mod Ruled
 pub mod Closes
+pub mod JoinsHere

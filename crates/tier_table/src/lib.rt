@@ -2,6 +2,7 @@
 #![tactic(auto)]
 
 pub mod arriving;
+pub mod beside;
 pub mod closing;
 pub mod forcing;
 pub mod going;

@@ -8,6 +8,7 @@ ghost use Rattle.tier_table.specs.Polls.{Polls, HasEnded};
 use crate::seated::Seated;
 use crate::tiers::Tiers;
 use crate::tokens::Crew;
+use tier_core::turn::is_behind;
 use tier_steps::kind::Kind;
 
 /// What a poll answers.
@@ -39,8 +40,7 @@ impl Tiers {
             return;
         }
         self.look(token, view.tier, Kind::Look);
-        let word = token.word();
-        if word.parties > 0 && word.unarrived == 0 && word.phase != view.phase {
+        if is_behind(token.word(), &view) {
             self.attempt(token, Kind::Refresh);
         }
     }

@@ -69,6 +69,13 @@ impl<F: Fn(u32, u32) -> bool> Tree<F> {
         Ok((tree, Door { token }))
     }
 
+    /// The shape of the tree.
+    pub fn shape(&self) -> &Shape
+        ensures { result.now ≡ self.now.tree.key.shape }
+    {
+        self.tiers.shape()
+    }
+
     /// A new token without members, in the root's phase.
     pub fn split(&self, door: &mut Door) -> Door
         requires own { door.old.tree ≡ self.now.tree }
