@@ -84,7 +84,7 @@ pub fn word_of(words: &[Word], tier: u16) -> Word
 }
 
 /// Whether the word is behind a token that counts there.
-fn is_behind(word: Word, view: &View) -> bool
+pub fn is_behind(word: Word, view: &View) -> bool
     ensures { result ≡ lags word view.now }
 {
     word.parties > 0 && word.unarrived == 0 && word.phase != view.phase
@@ -108,8 +108,8 @@ fn lacks_room(parties: u32, word: Word) -> bool
     parties > MOST_PARTIES - word.parties
 }
 
-/// Whether so many parties are refused.
-fn turns_away(parties: u32, word: Word) -> bool
+/// Whether a word that has not ended refuses so many parties.
+pub fn turns_away(parties: u32, word: Word) -> bool
     ensures { result ≡ is_refusing parties word }
 {
     lacks_room(parties, word) || word.unarrived == 0 || word.parties == 0 && word.unarrived == 2

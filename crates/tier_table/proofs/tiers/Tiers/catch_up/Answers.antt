@@ -1,0 +1,8 @@
+use Rattle.std.proofs.Common.{◌<◌, ℕ, ap, sym, subst, length}
+use Rattle.tier_steps.specs.declared.view.View.{View}
+use Rattle.tier_table.proofs.Waits.{seat_within}
+use Rattle.tier_table.proofs.tiers.Tiers.catch_up.Goals as goal
+
+pub look-requires-clause-tier : goal.look-requires-clause-tier
+look-requires-clause-tier c =
+    subst (λ (t : ℕ). t < length c.args.self.now.key.shape) (sym (ap (λ (v : View). v.tier) c.view-view.ensures)) (seat_within c.requires.own c.requires.crew c.requires.known)

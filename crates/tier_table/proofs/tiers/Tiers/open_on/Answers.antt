@@ -1,0 +1,22 @@
+use Rattle.std.proofs.Common.{subst}
+use Rattle.tier_table.specs.declared.going.Going.{Going}
+use Rattle.tier_table.specs.Openings.{IsOpening}
+use Rattle.tier_table.specs.Goes.{Ran}
+use Rattle.tier_table.proofs.Coming.{open_may_answer, never_busy, opens}
+use Rattle.tier_table.proofs.tiers.Tiers.open_on.Goals as goal
+
+pub answer_join-requires : goal.answer_join-requires
+answer_join-requires c =
+    open_may_answer c.args.self.now c.args.tries c.args.opening c.go_joining.result c.requires.own (subst IsOpening c.opening.view_is c.opening.invariant)
+    (subst (λ (o : Going). Ran c.args.self.now c.args.tries o c.go_joining.result) c.opening.view_is c.go_joining.ensures)
+
+pub answer_opening-requires : goal.answer_opening-requires
+answer_opening-requires c =
+    never_busy c.args.self.now c.args.tries c.args.opening c.go_joining.result c.requires.own (subst IsOpening c.opening.view_is c.opening.invariant)
+    (subst (λ (o : Going). Ran c.args.self.now c.args.tries o c.go_joining.result) c.opening.view_is c.go_joining.ensures) c.answer_join.result c.answer_join.ensures
+
+pub returns : goal.returns
+returns c =
+    opens c.args.self.now c.args.tries c.args.opening c.go_joining.result c.requires.own (subst IsOpening c.opening.view_is c.opening.invariant)
+    (subst (λ (o : Going). Ran c.args.self.now c.args.tries o c.go_joining.result) c.opening.view_is c.go_joining.ensures) c.answer_join.result c.answer_opening.result c.answer_join.ensures
+    c.answer_opening.ensures

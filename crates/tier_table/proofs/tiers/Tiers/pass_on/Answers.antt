@@ -1,0 +1,17 @@
+use Rattle.std.proofs.Common.{subst}
+use Rattle.tier_steps.specs.declared.view.Trip.TheVariants.{Arrival}
+use Rattle.tier_table.specs.declared.going.Going.{Going}
+use Rattle.tier_table.specs.Calls.{IsErrand}
+use Rattle.tier_table.specs.Goes.{Ran}
+use Rattle.tier_table.proofs.Settling.{may_end, resumes}
+use Rattle.tier_table.proofs.tiers.Tiers.pass_on.Goals as goal
+
+pub answer_resumed-requires : goal.answer_resumed-requires
+answer_resumed-requires g c =
+    may_end c.args.self.now Arrival c.args.tries c.args.errand c.go_on.result c.requires.own (subst IsErrand c.errand.view_is c.errand.invariant)
+    (subst (λ (e : Going). Ran c.args.self.now c.args.tries e c.go_on.result) c.errand.view_is c.go_on.ensures)
+
+pub returns : goal.returns
+returns g c =
+    resumes c.args.self.now Arrival c.args.tries c.args.errand c.go_on.result c.requires.own (subst IsErrand c.errand.view_is c.errand.invariant)
+    (subst (λ (e : Going). Ran c.args.self.now c.args.tries e c.go_on.result) c.errand.view_is c.go_on.ensures) c.answer_resumed.result c.answer_resumed.ensures

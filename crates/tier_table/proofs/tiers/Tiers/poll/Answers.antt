@@ -1,0 +1,23 @@
+use Rattle.std.proofs.Common.{subst, ap, sym, ◌∙◌}
+use Rattle.tier_steps.specs.declared.view.View.{View}
+use Rattle.tier_table.specs.Holding.{Holding, IsCrew}
+use Rattle.tier_table.proofs.Seating.{took_by}
+use Rattle.tier_table.proofs.Settling.{unseen, not_ended}
+use Rattle.tier_table.proofs.Waits.{polls_here, polls_passed}
+use Rattle.tier_table.proofs.tiers.Tiers.poll.Goals as goal
+
+pub returns-then-view-clause-ended : goal.returns-then-view-clause-ended
+returns-then-view-clause-ended c = λ p e. unseen (took_by c.crew.view_is c.look_at_root.ensures) (not_ended c.word.view_is c.word-word.ensures.word c.if-word.false) p e
+
+pub returns-then-view-before-clause-ended : goal.returns-then-view-before-clause-ended
+returns-then-view-before-clause-ended c = λ p e. unseen (took_by c.crew.view_is c.look_at_root.ensures) (not_ended c.word.view_is c.word-word.ensures.word c.if-word.false) p e
+
+pub returns-clause-answer : goal.returns-clause-answer
+returns-clause-answer c =
+    polls_passed c.args.crew.now c.look_at_root.new.token c.catch_up.new.token (subst IsCrew c.crew.view_is c.crew.invariant) (took_by c.crew.view_is c.look_at_root.ensures)
+    (λ e. c.if-view.false (ap (λ (v : View). v.arrived) c.view-view.ensures ∙ (e ∙ sym (ap (λ (v : View). v.size) c.view-view.ensures))))
+    c.catch_up.ensures.tree c.catch_up.ensures.view c.catch_up.ensures.tried c.view-view.result.phase (ap (λ (v : View). v.phase) c.view-view.ensures)
+    (λ e. c.if-view-before.false (ap (λ (v : View). v.phase) c.view-view.ensures ∙ (e ∙ (ap (λ (h : Holding). h.view.phase) (sym c.crew.view_is) ∙ sym (ap (λ (v : View). v.phase) c.view-before.ensures)))))
+
+pub returns-clause-ended : goal.returns-clause-ended
+returns-clause-ended c = λ p e. unseen (took_by c.crew.view_is c.look_at_root.ensures) (not_ended c.word.view_is c.word-word.ensures.word c.if-word.false) p e

@@ -1,0 +1,51 @@
+-- What a registration at a crew's own tier answers (own).
+use Rattle.std.specs.Prelude.{◌≡◌, ℕ, ◌+◌, ◌<◌, ◌≤◌, Bool, false, None}
+use Rattle.phaser_word.specs.Fields.{Fields}
+use Rattle.tier_core.specs.Turn.{lags}
+use Rattle.tier_core.specs.declared.call.Played.TheVariants as played
+use Rattle.tier_table.specs.Holding.{Holding, shape_of, IsCrew}
+use Rattle.tier_table.specs.Passes.{IsSame}
+use Rattle.tier_table.specs.Joins.{IsJoined, Refusal}
+use Rattle.tier_table.specs.Registers.{IsLookedAround}
+use Rattle.tier_table.specs.declared.joining.Registered.{Registered}
+use Rattle.tier_table.specs.declared.joining.Registered.TheVariants.{Joined, Held, Full, Ended, Busy, Owing}
+
+-- the same two tokens, with at most so many tries more between them; the crew's members are as they were
+pub record AreSoon (tries : ℕ) (old new door after : Holding) : Type 0 where
+  pub crew_tree : new.tree ≡ old.tree
+  pub door_tree : after.tree ≡ door.tree
+  pub crew : IsSame old.view new.view
+  pub tried : new.tried + after.tried ≤ old.tried + door.tried + tries
+
+-- with just so many tries more
+pub record AreSpent (tries : ℕ) (old new door after : Holding) : Type 0 where
+  pub crew_tree : new.tree ≡ old.tree
+  pub door_tree : after.tree ≡ door.tree
+  pub crew : IsSame old.view new.view
+  pub tried : new.tried + after.tried ≡ old.tried + door.tried + tries
+
+-- It is never held off, and opens no path: the crew has an unarrived member there.
+abbrev pub JoinsHere : Holding → Holding → Holding → ℕ → ℕ → Registered → Type 0
+JoinsHere old new door size tries (Joined crew phase) = AreSoon tries old new door crew × IsJoined old.view.tier size crew.view × (phase ≡ crew.view.phase)
+JoinsHere old new door size tries (Full after count) = AreSoon tries old new door after × Refusal (shape_of door) old.view.tier size after.view (played.Full count)
+JoinsHere old new door size tries (Ended after shown) = AreSoon tries old new door after × Refusal (shape_of door) old.view.tier size after.view (played.Ended shown)
+JoinsHere old new door size tries (Busy after) = AreSpent tries old new door after × IsLookedAround door.view after.view
+JoinsHere old new door size tries (Held after phase cause) = ⊥
+JoinsHere old new door size tries (Owing opening) = ⊥
+
+-- one try of it, and the end wasn't seen
+abbrev pub JoinsOnce : Holding → Holding → Holding → ℕ → Registered → Type 0
+JoinsOnce old new door size (Joined crew phase) = AreSoon 1 old new door crew × IsJoined old.view.tier size crew.view × (phase ≡ crew.view.phase)
+JoinsOnce old new door size (Full after count) = AreSoon 1 old new door after × Refusal (shape_of door) old.view.tier size after.view (played.Full count)
+JoinsOnce old new door size (Ended after shown) = AreSoon 1 old new door after × Refusal (shape_of door) old.view.tier size after.view (played.Ended shown)
+JoinsOnce old new door size (Busy after) = AreSpent 1 old new door after × IsLookedAround door.view after.view × (after.view.end_seen ≡ None)
+JoinsOnce old new door size (Held after phase cause) = ⊥
+JoinsOnce old new door size (Owing opening) = ⊥
+
+-- a look or a try of a crew with an unarrived member at its own tier
+pub record KeepsCrew (tries : ℕ) (old new : Holding) : Type 0 where
+  pub tree : new.tree ≡ old.tree
+  pub crew : IsSame old.view new.view
+  pub rests : IsCrew new
+  pub tier : new.tier ≡ old.view.tier
+  pub tried : new.tried ≡ old.tried + tries

@@ -1,0 +1,27 @@
+-- A tree with its rule, and new tokens (own).
+use Rattle.std.specs.Prelude.{◌≡◌, ℕ, List}
+use Rattle.advance_rule.specs.Stored.{Stored}
+use Rattle.advance_rule.specs.declared.EndPlan.{EndPlan}
+use Rattle.tier_steps.specs.View.{new_view}
+use Rattle.tier_table.specs.Holding.{Named, Holding}
+
+-- a tree, and the closure that says when it ends
+pub record Ruled (F : Type 0) : Type 0 where
+  pub tree : Named
+  pub rule : Stored F EndPlan
+
+-- A new tree keeps what it was told, and its first token has no members and is in its phase.
+pub record IsNew {F : Type 0} (shape : List ℕ) (phase : ℕ) (rule : Stored F EndPlan) (tree : Ruled F) (door : Holding) : Type 0 where
+  pub same_shape : tree.tree.key.shape ≡ shape
+  pub same_phase : tree.tree.key.phase ≡ phase
+  pub same_plan : tree.tree.key.plan ≡ rule.plan
+  pub same_rule : tree.rule ≡ rule
+  pub own : door.tree ≡ tree.tree
+  pub view : door.view ≡ new_view phase
+  pub untried : door.tried ≡ 0
+
+-- a new token of the same tree, in the phase of the root
+pub record IsSplit (from new : Holding) : Type 0 where
+  pub own : new.tree ≡ from.tree
+  pub view : new.view ≡ new_view new.word.phase
+  pub untried : new.tried ≡ 0

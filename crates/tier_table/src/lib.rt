@@ -1,0 +1,15 @@
+//! A tree of phasers on atomic words.
+#![tactic(auto)]
+
+pub mod arriving;
+pub mod beside;
+pub mod closing;
+pub mod forcing;
+pub mod going;
+pub mod joining;
+pub mod next;
+pub mod polling;
+pub mod seated;
+pub mod tiers;
+pub mod tokens;
+pub mod tree;

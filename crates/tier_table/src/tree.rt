@@ -1,0 +1,192 @@
+//! The tree of phasers, shared by reference and called from any threads without a lock.
+
+ghost use Rattle.std.specs.Prelude.{◌≡◌, ◌<◌, ◌≤◌, ℕ, Some, IfOk, IfErr, All, length};
+ghost use Rattle.tier_table.specs.Closes.{held, plain_tokens, views_in, TallyWithOthers};
+ghost use Rattle.advance_rule.specs.Stored.{Answers};
+ghost use Rattle.advance_rule.specs.Plan.{end_ends_at};
+ghost use Rattle.tier_steps.specs.View.{new_view};
+ghost use Rattle.tier_steps.specs.declared.view.Trip.TheVariants.{Arrival, Departure};
+ghost use Rattle.tier_table.specs.Ruled.{IsNew, IsSplit};
+ghost use Rattle.tier_table.specs.Arrives.{Arrives, Resumes};
+ghost use Rattle.tier_table.specs.Arrives as arrives;
+ghost use Rattle.tier_table.specs.Registers.{Registers, Opens};
+ghost use Rattle.tier_table.specs.Registers as registers;
+ghost use Rattle.tier_table.specs.Polls.{Polls};
+ghost use Rattle.tier_table.specs.Polls as polls;
+ghost use Rattle.tier_table.specs.Forces.{Forces};
+ghost use Rattle.tier_table.specs.Forces as forces;
+
+use crate::arriving::{Arrived, Resumed};
+use crate::closing::{Closed, Unclosed, plain_all};
+use crate::forcing::Forced;
+use crate::joining::{Opened, Registered};
+use crate::polling::Polled;
+use crate::tiers::Tiers;
+use crate::tokens::{Crew, Door, Errand, Opening, Token};
+use advance_rule::StoredAdvance;
+use std::alloc::{AllocError, Global};
+use std::marker::Model;
+use tier_shape::Shape;
+use tier_steps::view::Trip;
+
+/// A tree of phasers: one atomic word for each tier, and the rule that says when it ends. Its calls take it
+/// by shared reference, take no lock, and never wait.
+#[derive(Drop)]
+pub struct Tree<F: Fn(u32, u32) -> bool> {
+    pub(crate) tiers: Tiers,
+    pub(crate) rule: StoredAdvance<F>,
+}
+
+impl<F: Fn(u32, u32) -> bool> Model for Tree<F> {
+    ghost use Rattle.std.specs.Prelude.{◌≡◌};
+    ghost use Rattle.tier_table.specs.Ruled.{Ruled};
+
+    ghost Value = { Ruled F };
+
+    ghost view = { λ t. record { tree = t.tiers; rule = t.rule } };
+
+    ghost invariant = { λ t. t.tiers.key.plan ≡ t.rule.plan };
+}
+
+impl<F: Fn(u32, u32) -> bool> Tree<F> {
+    /// A tree of empty tiers in this phase, and its first token.
+    pub fn new(
+        alloc: Global,
+        shape: Shape,
+        phase: u32,
+        advance: StoredAdvance<F>,
+    ) -> Result<(Tree<F>, Door), AllocError>
+    where
+        F: Drop,
+        requires { phase ≤ 2147483647 }
+        ensures { IfOk result (λ r. IsNew shape phase advance r.0 r.1) }
+    {
+        let (tiers, token) = Tiers::new(alloc, shape, phase, advance.plan())?;
+        let tree = Tree {
+            tiers,
+            rule: advance,
+        };
+        Ok((tree, Door { token }))
+    }
+
+    /// The shape of the tree.
+    pub fn shape(&self) -> &Shape
+        ensures { result.now ≡ self.now.tree.key.shape }
+    {
+        self.tiers.shape()
+    }
+
+    /// A new token without members, in the root's phase.
+    pub fn split(&self, door: &mut Door) -> Door
+        requires own { door.old.tree ≡ self.now.tree }
+        ensures same { door.new ≡ door.old }
+        ensures new { IsSplit door.old result }
+    {
+        let _ = &door.token;
+        Door {
+            token: self.tiers.sit(),
+        }
+    }
+
+    /// A new token without members, in the root's phase.
+    pub fn split_crew(&self, crew: &mut Crew) -> Door
+        requires own { crew.old.tree ≡ self.now.tree }
+        ensures same { crew.new ≡ crew.old }
+        ensures new { IsSplit crew.old result }
+    {
+        let _ = &crew.token;
+        Door {
+            token: self.tiers.sit(),
+        }
+    }
+
+    /// Registers so many members at a tier, opening the path to it where it is empty.
+    pub fn register(&self, door: Door, tier: u16, n: u32, tries: u32) -> Registered
+        requires own { door.tree ≡ self.now.tree }
+        requires tier { tier < length self.now.tree.key.shape }
+        requires members { (0 < n) × (n ≤ 65535) }
+        ensures answer { Registers door tier n tries result }
+        ensures ended { (phase : ℕ) → door.view.end_seen ≡ Some phase → registers.HasEnded result }
+    {
+        self.tiers.join(door, tier, n, tries)
+    }
+
+    /// Goes on with the opening of a path.
+    pub fn resume_opening(&self, opening: Opening, tries: u32) -> Opened
+        requires own { opening.token.tree ≡ self.now.tree }
+        ensures { Opens opening tries result }
+    {
+        self.tiers.open_on(opening, tries)
+    }
+
+    /// Lets a member arrive.
+    pub fn arrive(&self, crew: Crew, tries: u32) -> Arrived
+        requires own { crew.tree ≡ self.now.tree }
+        requires rule { Answers (F.pre self.now.rule.closure) (F.post self.now.rule.closure) (end_ends_at self.now.rule.plan) }
+        ensures answer { Arrives Arrival crew tries result }
+        ensures ended { (phase : ℕ) → crew.view.end_seen ≡ Some phase → arrives.HasEnded result }
+    {
+        self.tiers.pass(crew, Trip::Arrival, &self.rule, tries)
+    }
+
+    /// Lets a member leave, which counts as its arrival.
+    pub fn arrive_and_deregister(&self, crew: Crew, tries: u32) -> Arrived
+        requires own { crew.tree ≡ self.now.tree }
+        requires rule { Answers (F.pre self.now.rule.closure) (F.post self.now.rule.closure) (end_ends_at self.now.rule.plan) }
+        ensures answer { Arrives Departure crew tries result }
+        ensures ended { (phase : ℕ) → crew.view.end_seen ≡ Some phase → arrives.HasEnded result }
+    {
+        self.tiers.pass(crew, Trip::Departure, &self.rule, tries)
+    }
+
+    /// Goes on with an arrival or a departure that was counted.
+    pub fn resume(&self, errand: Errand, tries: u32) -> Resumed
+        requires own { errand.token.tree ≡ self.now.tree }
+        requires rule { Answers (F.pre self.now.rule.closure) (F.post self.now.rule.closure) (end_ends_at self.now.rule.plan) }
+        ensures { Resumes errand tries result }
+    {
+        self.tiers.pass_on(errand, &self.rule, tries)
+    }
+
+    /// Sees whether the crew's phase has passed. It brings the crew's own tier into its phase where that
+    /// lags, by one try at most.
+    pub fn poll(&self, crew: &mut Crew) -> Polled
+        requires own { crew.old.tree ≡ self.now.tree }
+        ensures answer { Polls crew.old crew.new result }
+        ensures ended { (phase : ℕ) → crew.old.view.end_seen ≡ Some phase → polls.HasEnded result }
+    {
+        self.tiers.poll(crew)
+    }
+
+    /// Ends the tree by force.
+    pub fn force(&self, door: &mut Door, tries: u32) -> Forced
+        requires own { door.old.tree ≡ self.now.tree }
+        ensures answer { Forces door.old tries door.new result }
+        ensures ended { (phase : ℕ) → door.old.view.end_seen ≡ Some phase → forces.HasEnded result }
+    {
+        self.tiers.force(door, tries)
+    }
+
+    /// Closes the tree. Without memory the tree and the tokens are handed back.
+    pub fn close(self, alloc: Global, tokens: Vec<Token>) -> Result<Closed, Unclosed<F>>
+    where
+        F: Drop,
+        requires own { All (λ t. (held t).tree ≡ self.tree) tokens.items }
+        ensures tokens { IfOk result (λ c. c.tokens.items ≡ plain_tokens tokens.items) }
+        ensures words { IfOk result (λ c. TallyWithOthers self.tree.key.shape c.words.items (views_in tokens.items)) }
+        ensures refused { IfErr result (λ u. (u.tree ≡ self) × (u.tokens ≡ tokens)) }
+    {
+        let Ok(words) = Vec::with_capacity(alloc, self.tiers.shape().count()) else {
+            return Err(Unclosed { tree: self, tokens });
+        };
+        let Ok(mut plains) = Vec::with_capacity(alloc, tokens.len()) else {
+            return Err(Unclosed { tree: self, tokens });
+        };
+        plain_all(&tokens, &mut plains);
+        let Tree { tiers, rule: _ } = self;
+        Ok(Closed {
+            words: tiers.close(tokens, words),
+            tokens: plains,
+        })
+    }
+}
