@@ -62,7 +62,7 @@ closing_move w worker (Closes token) h = by (report_in w.limit (next_job w)) ref
 closing_move w worker (Ends token) h =
     not_forced w (after (after w.tree (Begin token call.Force)) (Go token)) (answer_to (after w.tree (Begin token call.Force)) (Go token)) h
 
-abbrev FromMode : World → ℕ → ℕ → Mode → Type 0
+abbrev pub FromMode : World → ℕ → ℕ → Mode → Type 0
 FromMode w worker token m = (is_some (status w.limit w.job) ≡ true) ⊎ ((m ≡ mode.Advanced worker token) × (all_over w.seats ≡ true))
 
 no_stage : (g : SeatValue) (place : ℕ) (due : Bool) (stage : Stage) (token : ℕ) {A : Type 0} → by_stage g place due stage ≡ Some (Closes token) → A
@@ -106,7 +106,7 @@ in_mode w worker token (mode.Forces closer owner) h = by (worker == closer) h
     by false e = cc
 in_mode w worker token mode.Over h = cc
 
-from_mode : (w : World) (worker token : ℕ) → move_of w worker ≡ Some (Closes token) → FromMode w worker token w.mode
+pub from_mode : (w : World) (worker token : ℕ) → move_of w worker ≡ Some (Closes token) → FromMode w worker token w.mode
 from_mode w worker token h = by (nat_lt worker 64) h
   where
     by : (b : Bool) → (if b then by_mode w worker w.mode else None) ≡ Some (Closes token) → FromMode w worker token w.mode
@@ -114,7 +114,7 @@ from_mode w worker token h = by (nat_lt worker 64) h
     by false e = cc
 
 -- the job goes on only where it hadn't ended, by one superstep
-one_superstep : (w : World) → report_in w.limit (next_job w) ≡ None → (next_job w ≡ superstep w.program w.job) × (is_some (status w.limit w.job) ≡ false)
+pub one_superstep : (w : World) → report_in w.limit (next_job w) ≡ None → (next_job w ≡ superstep w.program w.job) × (is_some (status w.limit w.job) ≡ false)
 one_superstep w h = by (status w.limit w.job) refl h
   where
     ended : (o : Option Status) (s : Status) → o ≡ Some s → told w.job o ≡ None → (w.job ≡ superstep w.program w.job) × (true ≡ false)

@@ -21,7 +21,7 @@ use Rattle.step_core.proofs.Apart.{reached_rises}
 use Rattle.job_schedule.specs.World.{deed_in}
 use Rattle.job_schedule.specs.Parts.{deed_by, IsAsBefore}
 
-not_itself : (p q : List ℕ) → path_lt p q ≡ true → bytes_eq p q ≡ false
+pub not_itself : (p q : List ℕ) → path_lt p q ≡ true → bytes_eq p q ≡ false
 not_itself p q h = by (bytes_eq p q) refl
   where
     by : (b : Bool) → bytes_eq p q ≡ b → b ≡ false

@@ -1,6 +1,7 @@
 -- The job of a world is that of its supersteps so far, whatever the schedule.
-use Rattle.std.proofs.Common.{◌≡◌, ℕ, suc, ◌⊎◌, inl, inr, ⊎_elim, Bool, true, false, List, [], ◌∷◌, refl, sym, ap, ◌∙◌, Some, None, Option}
-use Rattle.std.specs.Prelude.{if◌then◌else◌, ◌==◌}
+use Rattle.std.proofs.Common.{◌≡◌, ℕ, zero, suc, ◌⊎◌, inl, inr, ⊎_elim, Bool, true, false, List, [], ◌∷◌, length, refl, sym, ap, subst, arith, ◌<◌, ◌∙◌, Some, None, Option}
+use Rattle.std.specs.Prelude.{if◌then◌else◌, ◌==◌, slice_index_or}
+use Rattle.std.specs.List.{Contains}
 use Rattle.phase_records.specs.Status.{Status}
 use Rattle.phase_records.specs.ReportValue.{ReportValue}
 use Rattle.tier_core.specs.Machine.{State as Tree}
@@ -17,9 +18,9 @@ use Rattle.step_core.proofs.Runs.{ended_is_last}
 use Rattle.job_schedule.specs.declared.stage.Move.{Move}
 use Rattle.job_schedule.specs.declared.stage.Move.TheVariants.{Takes, Delivers, Calls, Advances, Closes, Ends}
 use Rattle.job_schedule.specs.declared.step.JobStep.{JobStep}
-use Rattle.job_schedule.specs.AnswerValue.{Finished, NotNow}
+use Rattle.job_schedule.specs.AnswerValue.{AnswerValue, Finished, NotNow}
 use Rattle.job_schedule.specs.SeatValue.{seat_at}
-use Rattle.job_schedule.specs.World.{World, with_starts, with_start, empty_world, opening_world, kid_from, with_kids, noted, deed_of, called_by, advanced_by, ended_by, next_job, closed_as, done_by, kind_of, kind_for, if_asked, move_of, worker_of, step_of, world_after, reached}
+use Rattle.job_schedule.specs.World.{World, with_starts, with_start, empty_world, opening_world, kid_from, with_kids, noted, deed_of, called_by, advanced_by, ended_by, next_job, closed_as, done_by, kind_of, kind_for, if_asked, move_of, worker_of, step_of, world_after, answer_of, answers, reached}
 use Rattle.job_schedule.specs.Laws.{FinishedTellsTheJob}
 
 pub record SameJob (w v : World) : Type 0 where
@@ -89,7 +90,7 @@ done_goes w worker (Closes token) = closed_goes w worker token (report_in w.limi
 done_goes w worker (Ends token) = stays w (done_by w worker (Ends token)).1
     (ended_keeps w (after (after w.tree (Begin token call.Force)) (Go token)) (answer_to (after w.tree (Begin token call.Force)) (Go token)))
 
-step_goes : (w : World) (x : JobStep) → GoesOn w (world_after w x)
+pub step_goes : (w : World) (x : JobStep) → GoesOn w (world_after w x)
 step_goes w x = by (move_of w (worker_of x))
   where
     if_so : (m : Move) (b : Bool) → GoesOn w (if b then done_by w (worker_of x) m else (NotNow, w)).1
@@ -112,7 +113,7 @@ one_more p limit w is =
     ∙ ap (λ (n : ℕ). unless_ended (status n (so_far p limit is.job.0)) (so_far p limit is.job.0) (superstep w.program (so_far p limit is.job.0))) is.limited
     ∙ ap (λ (q : Program). unless_ended (status limit (so_far p limit is.job.0)) (so_far p limit is.job.0) (superstep q (so_far p limit is.job.0))) is.program
 
-step_is_of : (p : Program) (limit : ℕ) (w v : World) → IsOf p limit w → GoesOn w v → IsOf p limit v
+pub step_is_of : (p : Program) (limit : ℕ) (w v : World) → IsOf p limit w → GoesOn w v → IsOf p limit v
 step_is_of p limit w v is g = record {
   program = g.program ∙ is.program;
   limited = g.limit ∙ is.limited;
@@ -179,11 +180,29 @@ reports p limit n report h = by (status limit (so_far p limit n)) refl
     by None e = let bad : told (so_far p limit n) None ≡ Some report = ap (told (so_far p limit n)) (sym e) ∙ h in cc
     by (Some s) e = ap (report_in limit) (sym (ended_is_last p limit n s e)) ∙ h
 
+finishes : (p : Program) (limit : ℕ) (w : World) (x : JobStep) (report : ReportValue) → IsOf p limit w → answer_of w x ≡ Finished report
+    → report_of p limit ≡ Some report
+finishes p limit w x report is h =
+    reports p limit (suc is.job.0) report
+    (ap (report_in limit) (sym (one_more p limit w is)) ∙ (ap (λ (n : ℕ). report_in n (next_job w)) (sym is.limited) ∙ finished_from w x report h))
+
 pub finished_tells_the_job : FinishedTellsTheJob
 finished_tells_the_job p parents limit xs x report h =
-    let w : World = reached (opening_world p parents limit) xs in
-    let is = run_is_of p limit (opening_world p parents limit) xs (opening_is_of p parents limit) in
-    let here = finished_from (reached (opening_world p parents limit) xs) x report h in
-    reports p limit (suc is.job.0) report
-    (ap (report_in limit) (sym (one_more p limit (reached (opening_world p parents limit) xs) is))
-    ∙ (ap (λ (n : ℕ). report_in n (next_job (reached (opening_world p parents limit) xs))) (sym is.limited) ∙ here))
+    finishes p limit (reached (opening_world p parents limit) xs) x report (run_is_of p limit (opening_world p parents limit) xs (opening_is_of p parents limit)) h
+
+-- wherever it stands among the answers
+listed : (p : Program) (limit : ℕ) (w : World) (xs : List JobStep) (k : ℕ) (report : ReportValue) → IsOf p limit w → k < length (answers w xs)
+    → slice_index_or (answers w xs) k (Finished report) ≡ Finished report → report_of p limit ≡ Some report
+listed p limit w [] k report is h e = absurd (omega arith)
+listed p limit w (x ∷ xs) zero report is h e = finishes p limit w x report is e
+listed p limit w (x ∷ xs) (suc k) report is h e =
+    listed p limit (world_after w x) xs k report (step_is_of p limit w (world_after w x) is (step_goes w x)) (omega arith) e
+
+pub answers_report : (p : Program) (parents : List ℕ) (limit : ℕ) (xs : List JobStep) (told : List AnswerValue) (report : ReportValue)
+    → told ≡ answers (opening_world p parents limit) xs → Contains told (Finished report) → report_of p limit ≡ Some report
+answers_report p parents limit xs told report e h =
+    let here : Contains (answers (opening_world p parents limit) xs) (Finished report) = subst (λ (xs : List AnswerValue). Contains xs (Finished report)) e h in
+    listed p limit (opening_world p parents limit) xs here.0 report (opening_is_of p parents limit) here.1 here.2
+
+pub opening_job : (p : Program) (parents : List ℕ) (limit : ℕ) → (opening_world p parents limit).job ≡ opening p
+opening_job p parents limit = (starts_keep (empty_world p parents limit) (live_paths (opening p))).job

@@ -4,3 +4,6 @@ pub mod Deeds
 pub mod Opening
 pub mod Jobs
 pub mod Closing
+pub mod Refused
+pub mod Seated
+pub mod Standing

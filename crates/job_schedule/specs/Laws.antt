@@ -1,15 +1,17 @@
 -- What holds of every world that schedules of a job reach (own).
-use Rattle.std.specs.Prelude.{◌≡◌, ℕ, true, List, Some}
+use Rattle.std.specs.Prelude.{◌≡◌, ℕ, ◌≤◌, ◌<◌, true, List, map, Some, None, length}
 use Rattle.phase_records.specs.ReportValue.{ReportValue}
+use Rattle.tier_shape.specs.Parents.{IsShape}
 use Rattle.step_core.specs.Program.{Program}
-use Rattle.step_core.specs.Superstep.{superstep}
-use Rattle.step_core.specs.JobMeaning.{report_of}
+use Rattle.step_core.specs.Superstep.{superstep, live_paths}
+use Rattle.step_core.specs.OrderValue.{has_synced, spawned_paths}
+use Rattle.step_core.specs.JobMeaning.{status, report_of}
 use Rattle.job_schedule.specs.declared.stage.Mode.TheVariants as mode
 use Rattle.job_schedule.specs.declared.step.JobStep.{JobStep}
 use Rattle.job_schedule.specs.declared.step.JobStep.TheVariants.{Close}
-use Rattle.job_schedule.specs.SeatValue.{all_over}
-use Rattle.job_schedule.specs.AnswerValue.{Closed, Finished}
-use Rattle.job_schedule.specs.World.{World, opening_world, worker_of, answer_of, world_after, reached}
+use Rattle.job_schedule.specs.SeatValue.{SeatValue, all_over, is_delivered, kid_path, seat_path, seat_at}
+use Rattle.job_schedule.specs.AnswerValue.{Closed, Finished, NotNow}
+use Rattle.job_schedule.specs.World.{World, deed_of, opening_world, worker_of, answer_of, world_after, reached}
 
 -- The answer that finishes a job carries the report of the job's meaning with its limit.
 abbrev pub FinishedTellsTheJob : Type 0
@@ -30,3 +32,25 @@ abbrev pub RoundsAreClosedOnce : Type 0
 RoundsAreClosedOnce =
     (p : Program) (parents : List ℕ) (limit : ℕ) (xs : List JobStep) (x : JobStep)
     → answer_of (reached (opening_world p parents limit) xs) x ≡ Closed → IsClosing (reached (opening_world p parents limit) xs) x
+
+-- A step that answers NotNow changes nothing.
+abbrev pub RefusedStepsChangeNothing : Type 0
+RefusedStepsChangeNothing =
+    (p : Program) (parents : List ℕ) (limit : ℕ) (xs : List JobStep) (x : JobStep) → IsShape parents → length parents ≤ 65535
+    → answer_of (reached (opening_world p parents limit) xs) x ≡ NotNow
+    → world_after (reached (opening_world p parents limit) xs) x ≡ reached (opening_world p parents limit) xs
+
+-- While a job runs, its seats are those of its live tasks, in path order; once a task's segment was handed in, its seat has
+-- what that segment spawned, and whether the task synced.
+pub record IsNoted (w : World) (g : SeatValue) : Type 0 where
+  pub synced : g.synced ≡ has_synced (deed_of w g.path)
+  pub kids : map kid_path g.kids ≡ spawned_paths (deed_of w g.path)
+
+pub record IsStanding (w : World) : Type 0 where
+  pub paths : map seat_path w.seats ≡ live_paths w.job
+  pub noted : (place : ℕ) → place < length w.seats → is_delivered (seat_at w.seats place).stage ≡ true → IsNoted w (seat_at w.seats place)
+
+abbrev pub SeatsAreTheLiveTasks : Type 0
+SeatsAreTheLiveTasks =
+    (p : Program) (parents : List ℕ) (limit : ℕ) (xs : List JobStep)
+    → status limit (reached (opening_world p parents limit) xs).job ≡ None → IsStanding (reached (opening_world p parents limit) xs)

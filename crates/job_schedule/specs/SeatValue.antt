@@ -50,6 +50,19 @@ is_over (Arriving arrived) = false
 is_over Leaving = false
 is_over Over = true
 
+-- whether its segment was handed in
+abbrev pub is_delivered : Stage → Bool
+is_delivered Waits = false
+is_delivered Taken = false
+is_delivered Polling = true
+is_delivered (Joining joined) = true
+is_delivered (Arriving arrived) = true
+is_delivered Leaving = true
+is_delivered Over = true
+
+abbrev pub kid_path : KidValue → List ℕ
+kid_path k = k.path
+
 abbrev pub all_over : List SeatValue → Bool
 all_over [] = true
 all_over (g ∷ gs) = is_over g.stage && all_over gs

@@ -195,7 +195,7 @@ with_kids w place (path ∷ paths) = with_kids (kid_from w place path w.free) pl
 
 -- A worker hands in the segment of its task: whether it synced and what it spawned is known from then on.
 abbrev pub noted : World → ℕ → Bool → World
-noted w place synced = with_seat w place record (at_stage (seat_at w.seats place) Polling) { synced = synced }
+noted w place synced = with_seat w place record (at_stage (seat_at w.seats place) Polling) { synced = synced; kids = [] }
 
 abbrev pub handed_in : World → ℕ → Segment → World
 handed_in w place s = with_kids (noted w place (has_synced s)) place (spawned_paths s)

@@ -1,7 +1,7 @@
 //! What holds of every world that schedules of a job reach. Each law is the contract of a function without parameters that
 //! does nothing.
 
-ghost use Rattle.job_schedule.specs.Laws.{FinishedTellsTheJob, RoundsAreClosedOnce};
+ghost use Rattle.job_schedule.specs.Laws.{FinishedTellsTheJob, RoundsAreClosedOnce, RefusedStepsChangeNothing, SeatsAreTheLiveTasks};
 
 /// Whatever the schedule, the answer that finishes a job carries the report of the job's meaning with its limit.
 pub fn finished_tells_the_job()
@@ -12,4 +12,14 @@ pub fn finished_tells_the_job()
 /// the job.
 pub fn rounds_are_closed_once()
     ensures { RoundsAreClosedOnce }
+{}
+
+/// A step that answers `NotNow` changes nothing.
+pub fn refused_steps_change_nothing()
+    ensures { RefusedStepsChangeNothing }
+{}
+
+/// While a job runs its seats are those of its live tasks, in path order, and note what was handed in.
+pub fn seats_are_the_live_tasks()
+    ensures { SeatsAreTheLiveTasks }
 {}

@@ -203,8 +203,9 @@ impl Seat {
 
     /// Its segment was handed in.
     pub(crate) fn note(&mut self, synced: bool)
-        ensures { self.new ≡ record (at_stage self.old spec.Polling) { synced = synced } }
+        ensures { self.new ≡ record (at_stage self.old spec.Polling) { synced = synced; kids = [] } }
     {
+        self.kids.clear();
         self.stage = Stage::Polling;
         self.synced = synced;
     }

@@ -3,7 +3,7 @@ use Rattle.step_core.specs.Program.{program_of}
 use Rattle.job_schedule.specs.AnswerValue.{answer_seen}
 use Rattle.job_schedule.specs.Parts.{world_of}
 use Rattle.job_schedule.specs.World.{opening_world, answers}
-use Rattle.job_schedule.proofs.drive.drive_job.Given as goal
+use Rattle.job_schedule.proofs.drive.take_steps.Given as goal
 
 abbrev pub invariant-loop-step : goal.invariant-loop-step
 invariant-loop-step l =
