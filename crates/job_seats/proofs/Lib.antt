@@ -7,3 +7,4 @@ pub mod Seats
 pub mod Turns
 pub mod Admitting
 pub mod Starting
+pub mod Kids

@@ -86,6 +86,7 @@ starts_are_shops s homes ss core fresh many long seated =
             fits = (late_at homes i l, refl);
             own = holds i l;
             kids = λ k m. absurd (omega arith);
+            kids_known = λ k m. absurd (omega arith);
           });
       out = λ i e. ⊎_elim
           (λ (l : i < length homes). not_both (is_own (holder_of (length homes) i)) (ap is_own (holds i l)) (ap is_own e))

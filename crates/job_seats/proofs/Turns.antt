@@ -16,7 +16,7 @@ use Rattle.tier_answers.specs.Calls.{answer_then}
 use Rattle.task_lang.specs.Meaning.{Segment}
 use Rattle.job_seats.specs.Roles.{Role, Out, Polls, Here, Looks, Passes, Owes, Leads, Past}
 use Rattle.job_seats.specs.Cast.{role_at, IsCast, is_on_its_way, Follows}
-use Rattle.job_seats.specs.Shop.{Stage, Polling, Joining, Leaving, Over, Seat, Shop, IsShop, Sits, Fits, IsOwnPassing, is_past, Holder, Nobody, Own, Kid, trip_of, no_seat, seat_at, segment_at, kid_roles, count_of, with_stage, OwnStepsKeepTheShop}
+use Rattle.job_seats.specs.Shop.{Stage, Polling, Joining, Leaving, Over, Seat, Shop, IsShop, Sits, Fits, IsOwnPassing, is_past, AllOut, is_coming, Holder, Nobody, Own, Kid, trip_of, no_seat, seat_at, segment_at, kid_roles, count_of, with_stage, OwnStepsKeepTheShop}
 use Rattle.job_seats.proofs.Steps.{steps_keep_the_cast}
 
 -- whose token it is
@@ -41,13 +41,13 @@ held_token : (holder : ℕ → Holder) (i j p : ℕ) → place_of (holder i) ≡
 held_token holder i j p a b e =
     not_both false (ap is_some_place (sym (ap place_of b) ∙ (ap (λ (t : ℕ). place_of (holder t)) e ∙ a))) refl
 
-map_same : (f g : ℕ → Role) (xs : List ℕ) → ((k : ℕ) → k < length xs → f (get_or xs k 0) ≡ g (get_or xs k 0)) → map f xs ≡ map g xs
+pub map_same : (f g : ℕ → Role) (xs : List ℕ) → ((k : ℕ) → k < length xs → f (get_or xs k 0) ≡ g (get_or xs k 0)) → map f xs ≡ map g xs
 map_same f g [] h = refl
 map_same f g (x ∷ xs) h =
     ap (λ y. y ∷ map f xs) (h 0 (omega arith)) ∙ ap (λ ys. g x ∷ ys) (map_same f g xs (λ k l. h (suc k) (omega arith)))
 
 -- sums that differ at one place alone
-sum_change : {X : Type 0} (f g : X → ℕ) (xs ys : List X) (p : ℕ) (d : X) → length ys ≡ length xs → p < length xs
+pub sum_change : {X : Type 0} (f g : X → ℕ) (xs ys : List X) (p : ℕ) (d : X) → length ys ≡ length xs → p < length xs
     → ((q : ℕ) → q < length xs → q ≢ p → g (get_or ys q d) ≡ f (get_or xs q d))
     → sum_by g ys + f (get_or xs p d) ≡ sum_by f xs + g (get_or ys p d)
 sum_change f g [] ys p d l h same = absurd (omega arith)
@@ -95,7 +95,13 @@ turn_keeps w is place i next tree stage h k turn =
     let same : (j : ℕ) → j ≢ i → role_at roles' j ≡ role_at roles j = λ j n. get_or-set_other is.roles i j next Out n in
     let mine = is.sits place h in
     let known : g.token < length roles' = subst (λ (n : ℕ). g.token < n) (sym many) mine.known in
-    let sat : Sits roles' is.holder w.segments place g' = record { known = known; fits = turn.fits; own = mine.own; kids = mine.kids } in
+    let sat : Sits roles' is.holder w.segments place g' = record {
+      known = known;
+      fits = turn.fits;
+      own = mine.own;
+      kids = mine.kids;
+      kids_known = λ k l. subst (λ (m : ℕ). get_or g.kids k 0 < m) (sym many) (mine.kids_known k l);
+    } in
     let own_stays : (q : ℕ) → q < length w.seats → q ≢ place → role_at roles' (seat_at w.seats q).token ≡ role_at roles (seat_at w.seats q).token =
     λ q m n. same (seat_at w.seats q).token (other_token is.holder i (seat_at w.seats q).token place q turn.mine (ap place_of (is.sits q m).own) n) in
     let kids_stay : (q : ℕ) → q < length w.seats → q ≢ place → kid_roles roles' (seat_at w.seats q) ≡ kid_roles roles (seat_at w.seats q) =
@@ -121,6 +127,7 @@ turn_keeps w is place i next tree stage h k turn =
                 (role_at roles (seat_at w.seats q).token) rs) (sym (kids_stay q l n)) old.fits);
             own = old.own;
             kids = old.kids;
+            kids_known = λ k l. subst (λ (m : ℕ). get_or (seat_at w.seats q).kids k 0 < m) (sym many) (old.kids_known k l);
           }))
           (cases_eq q place);
       out = λ j e. same j (held_token is.holder i j place turn.mine e) ∙ is.out j e;
@@ -171,12 +178,13 @@ own_turn w is place next stage h cast fits =
     own_not_kid holder i j p q c a b e = not_both (is_kid (holder j)) (ap is_kid b) (ap (λ (t : ℕ). is_kid (holder t)) e ∙ ap is_kid a)
 
 -- what an own step follows, with the fits of the stage that it leaves
-after_poll : (now home : ℕ) (g : Segment) (answer : Played) (next : Role) (kids : List Role) → Follows now (Polls home) answer next → kids ≡ []
-    → (stage : Stage) × Fits g home stage next kids
-after_poll now home g answer next kids f none = ⊎_elim
-    (λ q. (Polling, (inr q.1, none)))
-    (λ q. (Joining 0, (q.1, (let n : length kids ≡ 0 = ap length none in omega arith))))
-    f
+after_poll : (now home : ℕ) (g : Segment) (answer : Played) (next : Role) (kids : List Role) → Follows now (Polls home) answer next
+    → (length kids ≡ length g.spawns) × AllOut kids → (stage : Stage) × Fits g home stage next kids
+after_poll now home g answer next kids f out = ⊎_elim (λ q. (Polling, (inr q.1, out.0, out.1))) (λ q. by kids out.0 out.1 q.1) f
+  where
+    by : (kids : List Role) → length kids ≡ length g.spawns → AllOut kids → next ≡ Here home → (stage : Stage) × Fits g home stage next kids
+    by [] l a e = (Leaving, (inl e, l, tt))
+    by (r ∷ rs) l a e = (Joining 0, (e, l, (ap is_coming a.0, a.1)))
 
 -- the trip on which it is
 abbrev IsPassing : ℕ → Trip → Role → Type 0
@@ -213,7 +221,7 @@ own_steps_keep_the_shop w place is h going =
     subst (λ (s : Stage). Fits seg g.home s (role_at is.roles i) (kid_roles is.roles g)) q.0 mine.fits in
     let follows : Follows (flat_of w.tree).phase (Polls g.home) (answer_then w.tree i) step.0 =
     subst (λ (r : Role). Follows (flat_of w.tree).phase r (answer_then w.tree i) step.0) q.1 step.1.follows in
-    let next = after_poll (flat_of w.tree).phase g.home seg (answer_then w.tree i) step.0 (kid_roles is.roles g) follows fits.1 in
+    let next = after_poll (flat_of w.tree).phase g.home seg (answer_then w.tree i) step.0 (kid_roles is.roles g) follows (fits.1, fits.2) in
     (next.0, own_turn w is place step.0 next.0 h step.1.cast next.1))
     (λ q.
     let trip : Trip = q.1.0 in

@@ -1,20 +1,21 @@
 -- The schedule's state in a superstep, and what is true of it (own).
-use Rattle.std.specs.Prelude.{◌≡◌, ℕ, suc, ◌+◌, ◌<◌, ◌≤◌, ◌⊎◌, Bool, true, false, None, List, [], ◌∷◌, length, slice_index_or, slice_set, map, sum_by}
+use Rattle.std.specs.Prelude.{◌≡◌, ℕ, zero, suc, ◌+◌, ◌<◌, ◌⊎◌, Bool, true, false, None, List, [], ◌∷◌, length, slice_index_or, slice_set, map, sum_by}
 use Rattle.std.specs.List.{AllByRecursion}
 use Rattle.flat_phaser.specs.Flat.{registered}
 use Rattle.tier_steps.specs.declared.view.Trip.{Trip}
 use Rattle.tier_steps.specs.declared.view.Trip.TheVariants.{Arrival, Departure}
 use Rattle.tier_core.specs.Machine.{State, IsCore, view_at}
 use Rattle.tier_answers.specs.Fresh.{IsFresh}
-use Rattle.tier_core.specs.declared.call.Step.TheVariants.{Go}
+use Rattle.tier_core.specs.declared.call.Step.TheVariants.{Begin, Go}
+use Rattle.tier_core.specs.declared.call.Call.TheVariants as call
 use Rattle.tier_core.specs.Run.{after, may_finish}
 use Rattle.tier_answers.specs.Frame.{flat_of}
 use Rattle.tier_answers.specs.Calls.{IsSeated}
 use Rattle.task_lang.specs.Meaning.{Segment, Stopped}
 use Rattle.step_core.specs.Superstep.{first_fault, record_of}
 use Rattle.step_core.specs.OrderValue.{is_synced}
-use Rattle.job_seats.specs.Roles.{Role, Out, Late, Polls, Here, Looks, Passes, Owes, Leads, Past}
-use Rattle.job_seats.specs.Cast.{role_at, IsCast, IsTurned}
+use Rattle.job_seats.specs.Roles.{Role, Out, Joins, Seeks, Settles, GivesBack, Late, Polls, Ready, Here, Looks, Passes, Owes, Leads, Past}
+use Rattle.job_seats.specs.Cast.{role_at, IsCast, IsTurned, is_on_its_way}
 
 -- how far a live task has come in its superstep
 pub data Stage : Type 0 where
@@ -51,12 +52,83 @@ is_past r = (home : ℕ) × (r ≡ Past home Arrival)
 abbrev pub IsOwnPassing : ℕ → Trip → Role → Type 0
 IsOwnPassing home trip own = (own ≡ Here home) ⊎ (own ≡ Looks home trip) ⊎ (own ≡ Passes home trip) ⊎ (own ≡ Owes home trip) ⊎ (own ≡ Leads home trip)
 
+-- a spawned task's token that is joining or is to join; that has joined; that is to arrive or on its way
+abbrev pub is_coming : Role → Bool
+is_coming Out = true
+is_coming (Joins home) = true
+is_coming (Seeks home claimed) = true
+is_coming (Settles home) = true
+is_coming GivesBack = true
+is_coming (Late home) = false
+is_coming (Polls home) = false
+is_coming (Ready home) = false
+is_coming (Here home) = false
+is_coming (Looks home trip) = false
+is_coming (Passes home trip) = false
+is_coming (Owes home trip) = false
+is_coming (Leads home trip) = false
+is_coming (Past home trip) = false
+
+abbrev pub is_there : Role → Bool
+is_there Out = false
+is_there (Joins home) = false
+is_there (Seeks home claimed) = false
+is_there (Settles home) = false
+is_there GivesBack = false
+is_there (Late home) = false
+is_there (Polls home) = false
+is_there (Ready home) = true
+is_there (Here home) = false
+is_there (Looks home trip) = false
+is_there (Passes home trip) = false
+is_there (Owes home trip) = false
+is_there (Leads home trip) = false
+is_there (Past home trip) = false
+
+abbrev pub is_arrival : Trip → Bool
+is_arrival Arrival = true
+is_arrival Departure = false
+
+abbrev pub is_arriving : Role → Bool
+is_arriving Out = false
+is_arriving (Joins home) = false
+is_arriving (Seeks home claimed) = false
+is_arriving (Settles home) = false
+is_arriving GivesBack = false
+is_arriving (Late home) = false
+is_arriving (Polls home) = false
+is_arriving (Ready home) = true
+is_arriving (Here home) = false
+is_arriving (Looks home trip) = is_arrival trip
+is_arriving (Passes home trip) = is_arrival trip
+is_arriving (Owes home trip) = is_arrival trip
+is_arriving (Leads home trip) = false
+is_arriving (Past home trip) = false
+
+abbrev pub AllOut : List Role → Type 0
+AllOut rs = AllByRecursion (λ r. r ≡ Out) rs
+
+abbrev pub AllThere : List Role → Type 0
+AllThere rs = AllByRecursion (λ r. is_there r ≡ true) rs
+
+-- so many have joined, the next one is to, and the rest are out
+abbrev pub KidsJoin : ℕ → List Role → Type 0
+KidsJoin done [] = ⊥
+KidsJoin zero (r ∷ rs) = (is_coming r ≡ true) × AllOut rs
+KidsJoin (suc done) (r ∷ rs) = (is_there r ≡ true) × KidsJoin done rs
+
+-- so many have arrived, the next one is to, and the rest have joined
+abbrev pub KidsArrive : ℕ → List Role → Type 0
+KidsArrive done [] = ⊥
+KidsArrive zero (r ∷ rs) = (is_arriving r ≡ true) × AllThere rs
+KidsArrive (suc done) (r ∷ rs) = is_past r × KidsArrive done rs
+
 abbrev pub Fits : Segment → ℕ → Stage → Role → List Role → Type 0
 Fits g home Waits own kids = (own ≡ Late home) × (kids ≡ [])
 Fits g home Taken own kids = (own ≡ Late home) × (kids ≡ [])
-Fits g home Polling own kids = ((own ≡ Late home) ⊎ (own ≡ Polls home)) × (kids ≡ [])
-Fits g home (Joining done) own kids = (own ≡ Here home) × (length kids ≤ length g.spawns)
-Fits g home (Arriving done) own kids = (own ≡ Here home) × (length kids ≡ length g.spawns)
+Fits g home Polling own kids = ((own ≡ Late home) ⊎ (own ≡ Polls home)) × (length kids ≡ length g.spawns) × AllOut kids
+Fits g home (Joining done) own kids = (own ≡ Here home) × (length kids ≡ length g.spawns) × KidsJoin done kids
+Fits g home (Arriving done) own kids = (own ≡ Here home) × (length kids ≡ length g.spawns) × KidsArrive done kids
 Fits g home Leaving own kids = IsOwnPassing home (trip_of g) own × (length kids ≡ length g.spawns) × AllByRecursion is_past kids
 Fits g home Over own kids = (own ≡ Past home (trip_of g)) × (length kids ≡ length g.spawns) × AllByRecursion is_past kids
 
@@ -106,6 +178,7 @@ pub record Sits (roles : List Role) (holder : ℕ → Holder) (ss : List (List �
   pub fits : Fits (segment_at ss place) g.home g.stage (role_at roles g.token) (kid_roles roles g)
   pub own : holder g.token ≡ Own place
   pub kids : (k : ℕ) → k < length g.kids → holder (slice_index_or g.kids k 0) ≡ Kid place k
+  pub kids_known : (k : ℕ) → k < length g.kids → slice_index_or g.kids k 0 < length roles
 
 pub record IsShop (w : Shop) : Type 0 where
   pub roles : List Role
@@ -147,6 +220,27 @@ OwnStepsKeepTheShop =
     (w : Shop) (place : ℕ) (is : IsShop w) → place < length w.seats
     → IsGoing (seat_at w.seats place) (role_at is.roles (seat_at w.seats place).token)
     → (stage : Stage) × IsShop (with_stage w place (after w.tree (Go (seat_at w.seats place).token)) stage)
+
+-- the token of a spawned task
+abbrev pub kid_token : Seat → ℕ → ℕ
+kid_token g n = slice_index_or g.kids n 0
+
+-- Each step of the join or of the arrival of the spawned task whose turn it is keeps the shop.
+abbrev pub KidStepsKeepTheShop : Type 0
+KidStepsKeepTheShop =
+    (w : Shop) (place n : ℕ) (is : IsShop w) → place < length w.seats → n < length (seat_at w.seats place).kids
+    → ((seat_at w.seats place).stage ≡ Joining n) ⊎ ((seat_at w.seats place).stage ≡ Arriving n)
+    → is_on_its_way (role_at is.roles (kid_token (seat_at w.seats place) n)) ≡ true
+    → (stage : Stage) × IsShop (with_stage w place (after w.tree (Go (kid_token (seat_at w.seats place) n))) stage)
+
+-- So does its join that begins, and its arrival that does.
+abbrev pub KidsBeginInTheShop : Type 0
+KidsBeginInTheShop =
+    (w : Shop) (place n home : ℕ) (is : IsShop w) → place < length w.seats → n < length (seat_at w.seats place).kids
+    → ((seat_at w.seats place).stage ≡ Joining n → role_at is.roles (kid_token (seat_at w.seats place) n) ≡ Out → home < length w.tree.parents
+    → IsShop (with_stage w place (after w.tree (Begin (kid_token (seat_at w.seats place) n) (call.Join home 1))) (Joining n)))
+    × ((seat_at w.seats place).stage ≡ Arriving n → role_at is.roles (kid_token (seat_at w.seats place) n) ≡ Ready home
+    → IsShop (with_stage w place (after w.tree (Begin (kid_token (seat_at w.seats place) n) call.Arrive)) (Arriving n)))
 
 -- The advance turns all roles, where every live task has come to its end.
 abbrev pub AdvancesTurnTheShop : Type 0

@@ -1,7 +1,7 @@
 //! What holds of the seats of live tasks in a superstep. Each law is the contract of a function without
 //! parameters that does nothing.
 
-ghost use Rattle.job_seats.specs.Shop.{ClosingMissesNothing, MembersAtTheAdvance, OwnStepsKeepTheShop, AdvancesTurnTheShop, StartsAreShops};
+ghost use Rattle.job_seats.specs.Shop.{ClosingMissesNothing, MembersAtTheAdvance, OwnStepsKeepTheShop, AdvancesTurnTheShop, StartsAreShops, KidStepsKeepTheShop, KidsBeginInTheShop};
 
 /// When a token has to advance the root, each live task has delivered and has done all its calls.
 pub fn closing_misses_nothing()
@@ -26,4 +26,15 @@ pub fn advances_turn_the_shop()
 /// Where each start task has joined and none has arrived, what is said of the seats holds.
 pub fn starts_are_shops()
     ensures { StartsAreShops }
+{}
+
+/// Each step of the join and of the arrival of a spawned task, in its turn, keeps what holds of the seats: while one of
+/// them arrives its spawner waits, so that it never has to advance the root.
+pub fn kid_steps_keep_the_shop()
+    ensures { KidStepsKeepTheShop }
+{}
+
+/// So does its join where it begins, by a token that is out, and its arrival, by a token that has joined.
+pub fn kids_begin_in_the_shop()
+    ensures { KidsBeginInTheShop }
 {}
