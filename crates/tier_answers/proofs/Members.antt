@@ -56,7 +56,7 @@ still_going s t core going h = ⊎_elim
     (cases_eq t 0)
 
 -- a party that passes a tier which hasn't ended: either the tier is refreshed first, or the call goes on as it is owed
-pass_goes : (s : State) (i : ℕ) (own : Trip) (t : ℕ) (trip : Trip) (kind : Kind) (here : Progress) (over : Played) (Q : Type 0)
+pub pass_goes : (s : State) (i : ℕ) (own : Trip) (t : ℕ) (trip : Trip) (kind : Kind) (here : Progress) (over : Played) (Q : Type 0)
     → (word_at s.words t).ended ≡ false
     → (stepped_view s.parents s.words kind t (view_at s.views i)).errand ≡ owed (parent_of s.parents t) t trip (word_at s.words t)
     → (Gone s i (record { kind = Refresh; tier = t; next = here; answer = GoesOn }) → Q)
@@ -118,7 +118,7 @@ passes_begin_with_a_look s i Arrival core going is now e = look_by s i Arrival c
 passes_begin_with_a_look s i Departure core going is now e = look_by s i Departure core going is now (gone s i (Begun call.Leave) core is.known e refl)
 
 -- the own step
-counted : (s : State) (i : ℕ) (trip : Trip) → (view_at s.views i).arrived < (view_at s.views i).size
+pub counted : (s : State) (i : ℕ) (trip : Trip) → (view_at s.views i).arrived < (view_at s.views i).size
     → view_then s i ≡ stepped_view s.parents s.words (own_kind trip) (view_at s.views i).tier (view_at s.views i)
     → Counts trip (view_at s.views i) (view_then s i)
 counted s i Arrival some view =
@@ -130,7 +130,7 @@ counted s i Departure some view = (
   ap (λ (x : View). x.arrived) view,
 )
 
-own_errand : (s : State) (i : ℕ) (trip : Trip)
+pub own_errand : (s : State) (i : ℕ) (trip : Trip)
     → (stepped_view s.parents s.words (own_kind trip) (view_at s.views i).tier (view_at s.views i)).errand
     ≡ owed (parent_of s.parents (view_at s.views i).tier) (view_at s.views i).tier trip (word_at s.words (view_at s.views i).tier)
 own_errand s i Arrival = refl
@@ -271,7 +271,7 @@ joins_begin_with_a_look s i tier size core h going e =
       call = g.call;
     })) (gone s i (Begun (call.Join tier size)) core h e refl)
 
-refused_size : (t : ℕ) (w : Fields) (v : View) → (refused t w v).size ≡ v.size
+pub refused_size : (t : ℕ) (w : Fields) (v : View) → (refused t w v).size ≡ v.size
 refused_size zero w v = looked_size w v
 refused_size (suc t) w v = refl
 

@@ -25,12 +25,12 @@ append_none [] = refl
 append_none (x ∷ xs) = ap (λ ys. x ∷ ys) (append_none xs)
 
 -- an entry of a list that has one more behind it
-entry_before : {X : Type 0} (xs : List X) (y d : X) (i : ℕ) → i < length xs → get_or (xs ++ y ∷ []) i d ≡ get_or xs i d
+pub entry_before : {X : Type 0} (xs : List X) (y d : X) (i : ℕ) → i < length xs → get_or (xs ++ y ∷ []) i d ≡ get_or xs i d
 entry_before [] y d i h = absurd (omega arith)
 entry_before (x ∷ xs) y d zero h = refl
 entry_before (x ∷ xs) y d (suc i) h = entry_before xs y d i (omega arith)
 
-entry_last : {X : Type 0} (xs : List X) (y d : X) (i : ℕ) → i ≡ length xs → get_or (xs ++ y ∷ []) i d ≡ y
+pub entry_last : {X : Type 0} (xs : List X) (y d : X) (i : ℕ) → i ≡ length xs → get_or (xs ++ y ∷ []) i d ≡ y
 entry_last [] y d i h = ap (λ k. get_or (y ∷ []) k d) h
 entry_last (x ∷ xs) y d zero h = absurd (omega arith)
 entry_last (x ∷ xs) y d (suc i) h = entry_last xs y d i (omega arith)

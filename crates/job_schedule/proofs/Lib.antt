@@ -1,0 +1,9 @@
+pub mod Seating
+pub mod Moves
+pub mod Deeds
+pub mod Opening
+pub mod Jobs
+pub mod Closing
+pub mod Refused
+pub mod Seated
+pub mod Standing

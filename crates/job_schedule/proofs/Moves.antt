@@ -1,0 +1,69 @@
+-- Each move that a worker may take is of a seat that is there, and of a call that may be begun.
+use Rattle.std.proofs.Common.{◌≡◌, ℕ, zero, suc, ◌<◌, ◌≤◌, Bool, true, false, List, [], ◌∷◌, length, refl, sym, subst, arith, Some, None, Option}
+use Rattle.std.specs.Prelude.{nat_lt, if◌then◌else◌, ◌==◌, ◌&&◌, slice_index_or, is_some}
+use Rattle.step_core.specs.JobMeaning.{status}
+use Rattle.std.proofs.lemmas.Bool.{ltb-true, ltb-false}
+use Rattle.job_schedule.specs.declared.stage.Mode.{Mode}
+use Rattle.job_schedule.specs.declared.stage.Mode.TheVariants as mode
+use Rattle.job_schedule.specs.declared.stage.Move.{Move}
+use Rattle.job_schedule.specs.declared.stage.Move.TheVariants.{Takes, Closes, Ends}
+use Rattle.job_schedule.specs.SeatValue.{Stage, Waits, Taken, Polling, Joining, Arriving, Leaving, Over, SeatValue, no_seat, seat_at, all_over}
+use Rattle.job_schedule.specs.World.{World, passing, by_stage, by_seat, by_hand, by_mode, move_of}
+use Rattle.job_schedule.specs.Parts.{IsAllowed}
+
+abbrev pub Allowed : World → Option Move → Type 0
+Allowed w None = Unit {0}
+Allowed w (Some m) = IsAllowed w m
+
+no_seat_beyond : (gs : List SeatValue) (place : ℕ) → length gs ≤ place → seat_at gs place ≡ no_seat
+no_seat_beyond [] place h = refl
+no_seat_beyond (g ∷ gs) zero h = absurd (omega arith)
+no_seat_beyond (g ∷ gs) (suc place) h = no_seat_beyond gs place (omega arith)
+
+stage_allowed : (w : World) (g : SeatValue) (place : ℕ) (due : Bool) (stage : Stage) → place < length w.seats → Allowed w (by_stage g place due stage)
+stage_allowed w g place due Waits h = tt
+stage_allowed w g place due Taken h = h
+stage_allowed w g place due Polling h = (h, tt)
+stage_allowed w g place due (Joining joined) h = (h, (omega arith, omega arith))
+stage_allowed w g place due (Arriving arrived) h = (h, tt)
+stage_allowed w g place due Leaving h = by due g.synced
+  where
+    by : (due synced : Bool) → Allowed w (passing due place g.token synced)
+    by true synced = h
+    by false true = (h, tt)
+    by false false = (h, tt)
+stage_allowed w g place due Over h = tt
+
+hand_allowed : (w : World) (hand : Option ℕ) → Allowed w (by_hand w hand)
+hand_allowed w None = by (nat_lt w.taken (length w.seats)) (is_some (status w.limit w.job)) refl
+  where
+    by : (b c : Bool) → nat_lt w.taken (length w.seats) ≡ b → Allowed w (if b then Some (Takes w.taken) else (if c then Some (Closes 0) else None))
+    by true c e = ltb-true w.taken (length w.seats) e
+    by false true e = tt
+    by false false e = tt
+hand_allowed w (Some place) = by (nat_lt place (length w.seats)) refl
+  where
+    by : (b : Bool) → nat_lt place (length w.seats) ≡ b → Allowed w (by_hand w (Some place))
+    by true e = stage_allowed w (seat_at w.seats place) place _ (seat_at w.seats place).stage (ltb-true place (length w.seats) e)
+    by false e = subst (λ (g : SeatValue). Allowed w (by_seat w g place)) (sym (no_seat_beyond w.seats place (ltb-false place (length w.seats) e))) tt
+
+pub move_allowed : (w : World) (worker : ℕ) → Allowed w (move_of w worker)
+move_allowed w worker = by (nat_lt worker 64)
+  where
+    in_mode : (m : Mode) → Allowed w (by_mode w worker m)
+    in_mode mode.Runs = hand_allowed w (slice_index_or w.hands worker None)
+    in_mode (mode.Advanced closer token) = if_so ((worker == closer) && all_over w.seats)
+      where
+        if_so : (b : Bool) → Allowed w (if b then Some (Closes token) else None)
+        if_so true = tt
+        if_so false = tt
+    in_mode (mode.Forces closer token) = if_so (worker == closer)
+      where
+        if_so : (b : Bool) → Allowed w (if b then Some (Ends token) else None)
+        if_so true = tt
+        if_so false = tt
+    in_mode mode.Over = tt
+
+    by : (b : Bool) → Allowed w (if b then by_mode w worker w.mode else None)
+    by true = in_mode w.mode
+    by false = tt

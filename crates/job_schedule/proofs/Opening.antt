@@ -1,0 +1,81 @@
+-- The world before the first step of a worker.
+use Rattle.std.proofs.Common.{◌≡◌, ℕ, zero, suc, ◌-◌, ◌<◌, List, [], ◌∷◌, ◌++◌, length, reverse, sym, ap, ◌∙◌, arith, None, Option}
+use Rattle.std.specs.Prelude.{replicate}
+use Rattle.task_lang.specs.JobValue.{JobValue}
+use Rattle.tier_shape.specs.Leaves.{leaves_of}
+use Rattle.tier_core.specs.declared.call.Call.TheVariants as call
+use Rattle.tier_core.specs.declared.call.Step.TheVariants.{Begin, Go}
+use Rattle.tier_core.specs.Machine.{State as Tree, opened, with_token}
+use Rattle.tier_core.specs.Run.{after}
+use Rattle.step_core.specs.Program.{program_of}
+use Rattle.step_core.specs.Superstep.{State, live_paths}
+use Rattle.step_core.specs.JobMeaning.{opening}
+use Rattle.step_core.specs.RoundValue.{RoundValue, Opens, state_of}
+use Rattle.job_schedule.specs.declared.stage.Mode.TheVariants as mode
+use Rattle.job_schedule.specs.SeatValue.{SeatValue, waiting}
+use Rattle.job_schedule.specs.World.{World, gone, joined_at, leaf_at, with_start, with_starts, plan_for, empty_world, opening_world}
+
+pub gone_one : (n token : ℕ) (tree : Tree) → 0 < n → gone n token tree ≡ gone (n - 1) token (after tree (Go token))
+gone_one zero token tree h = absurd (omega arith)
+gone_one (suc n) token tree h = let e : suc n - 1 ≡ n = omega arith in sym (ap (λ (m : ℕ). gone m token (after tree (Go token))) e)
+
+abbrev pub with_both : World → Tree → List SeatValue → World
+with_both w tree seats = record w { tree = tree; seats = seats }
+
+pub started : (w : World) (token home : ℕ) (first begun last : Tree) (path : List ℕ) (gs : List SeatValue) → first ≡ with_token w.tree → token ≡ length w.tree.views
+    → home ≡ leaf_at w.leaves (length w.seats) → begun ≡ after first (Begin token (call.Join home 1)) → last ≡ gone 16 token begun
+    → gs ≡ w.seats ++ waiting path token home ∷ [] → with_both w last gs ≡ with_start w path
+started w token home first begun last path gs a b c d e f =
+    let core : last ≡ joined_at w.tree home =
+    e
+    ∙ ap (gone 16 token) (d ∙ ap (λ (t : Tree). after t (Begin token (call.Join home 1))) a)
+    ∙ ap (λ (n : ℕ). gone 16 n (after (with_token w.tree) (Begin n (call.Join home 1)))) b in
+    let seats : gs ≡ w.seats ++ waiting path (length w.tree.views) home ∷ [] = f ∙ ap (λ (n : ℕ). w.seats ++ waiting path n home ∷ []) b in
+    ap (λ (t : Tree). with_both w t gs) core
+    ∙ ap (with_both w (joined_at w.tree home)) seats
+    ∙ ap (λ (n : ℕ). with_both w (joined_at w.tree n) (w.seats ++ waiting path (length w.tree.views) n ∷ [])) c
+
+abbrev pub built : RoundValue → Tree → List ℕ → List (Option ℕ) → World
+built r core leaves hands = record {
+  program = program_of r.job;
+  limit = r.limit;
+  job = state_of r;
+  tree = core;
+  leaves = leaves;
+  seats = [];
+  taken = 0;
+  hands = hands;
+  free = [];
+  mode = mode.Runs;
+}
+
+built_empty : (r : RoundValue) (job : JobValue) (limit : ℕ) (shape : List ℕ) (core : Tree) (leaves : List ℕ) (hands : List (Option ℕ))
+    → Opens r job limit (opening (program_of job)) → core ≡ opened shape 0 (plan_for limit) → leaves ≡ leaves_of shape → hands ≡ replicate 64 None
+    → built r core leaves hands ≡ empty_world (program_of job) shape limit
+built_empty r job limit shape core leaves hands is a b c =
+    ap (λ (t : Tree). built r t leaves hands) a
+    ∙ ap (λ (ls : List ℕ). built r (opened shape 0 (plan_for limit)) ls hands) b
+    ∙ ap (λ (hs : List (Option ℕ)). built r (opened shape 0 (plan_for limit)) (leaves_of shape) hs) c
+    ∙ ap (λ (st : State). record (built r (opened shape 0 (plan_for limit)) (leaves_of shape) (replicate 64 None)) { job = st }) is.state
+    ∙ ap (λ (n : ℕ). record (built r (opened shape 0 (plan_for limit)) (leaves_of shape) (replicate 64 None)) { job = opening (program_of job); limit = n }) is.limit
+    ∙ ap (λ (j : JobValue). record (built r (opened shape 0 (plan_for limit)) (leaves_of shape) (replicate 64 None)) {
+      job = opening (program_of job);
+      limit = limit;
+      program = program_of j;
+    }) is.job
+
+-- no seats yet, and no free tokens
+abbrev pub empty_built : World → List SeatValue → List ℕ → World
+empty_built w seats free = record w { seats = seats; free = reverse free }
+
+pub opens : (r : RoundValue) (job : JobValue) (limit : ℕ) (shape : List ℕ) (core : Tree) (leaves : List ℕ) (hands : List (Option ℕ)) (paths : List (List ℕ))
+    (seats : List SeatValue) (free : List ℕ) (w : World)
+    → Opens r job limit (opening (program_of job)) → core ≡ opened shape 0 (plan_for limit) → leaves ≡ leaves_of shape → hands ≡ replicate 64 None
+    → paths ≡ live_paths (state_of r) → seats ≡ [] → free ≡ [] → w ≡ with_starts (empty_built (built r core leaves hands) seats free) paths
+    → w ≡ opening_world (program_of job) shape limit
+opens r job limit shape core leaves hands paths seats free w is a b c d f g e =
+    e
+    ∙ ap (λ (gs : List SeatValue). with_starts (empty_built (built r core leaves hands) gs free) paths) f
+    ∙ ap (λ (fs : List ℕ). with_starts (empty_built (built r core leaves hands) [] fs) paths) g
+    ∙ ap (with_starts (built r core leaves hands)) (d ∙ ap live_paths is.state)
+    ∙ ap (λ (v : World). with_starts v (live_paths (opening (program_of job)))) (built_empty r job limit shape core leaves hands is a b c)

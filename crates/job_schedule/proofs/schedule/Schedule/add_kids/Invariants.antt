@@ -1,0 +1,13 @@
+use Rattle.std.proofs.Common.{◌≡◌, ◌<◌, length, map}
+use Rattle.job_schedule.specs.Parts.{path_items, world_of}
+use Rattle.job_schedule.specs.World.{with_kids}
+use Rattle.job_schedule.proofs.schedule.Schedule.add_kids.Given as goal
+
+abbrev pub invariant-loop-path : goal.invariant-loop-path
+invariant-loop-path l = record {
+  kids : with_kids (world_of l.self) l.place (map path_items l.rest) ≡ with_kids (world_of l.fn.self) l.place (map path_items l.fn.paths);
+  place : l.place < length l.self.seats.items;
+}
+
+abbrev pub decreases-loop-path : goal.decreases-loop-path
+decreases-loop-path l = length l.rest

@@ -1,0 +1,5 @@
+pub mod SeatValue
+pub mod AnswerValue
+pub mod World
+pub mod Parts
+pub mod Laws

@@ -1,0 +1,25 @@
+//! What holds of every world that schedules of a job reach. Each law is the contract of a function without parameters that
+//! does nothing.
+
+ghost use Rattle.job_schedule.specs.Laws.{FinishedTellsTheJob, RoundsAreClosedOnce, RefusedStepsChangeNothing, SeatsAreTheLiveTasks};
+
+/// Whatever the schedule, the answer that finishes a job carries the report of the job's meaning with its limit.
+pub fn finished_tells_the_job()
+    ensures { FinishedTellsTheJob }
+{}
+
+/// A round is closed by the worker that advanced the root last, once: then the next tasks are ready. It is one superstep of
+/// the job.
+pub fn rounds_are_closed_once()
+    ensures { RoundsAreClosedOnce }
+{}
+
+/// A step that answers `NotNow` changes nothing.
+pub fn refused_steps_change_nothing()
+    ensures { RefusedStepsChangeNothing }
+{}
+
+/// While a job runs its seats are those of its live tasks, in path order, and note what was handed in.
+pub fn seats_are_the_live_tasks()
+    ensures { SeatsAreTheLiveTasks }
+{}

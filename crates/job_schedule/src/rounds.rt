@@ -1,0 +1,72 @@
+//! What a round takes for the schedule.
+ghost use Rattle.std.specs.Prelude.{◌≡◌, None, OnOk, IfOk, map};
+ghost use Rattle.step_core.specs.OrderValue.{delivered_segment, has_synced, spawned_paths};
+ghost use Rattle.step_core.specs.RoundValue.{status_in};
+ghost use Rattle.job_schedule.specs.Parts.{IsAsBefore, IsNext, deed_by, path_items};
+
+use std::alloc::{AllocError, Global};
+use step_core::{Delivery, Order, Round};
+use superstep_memory::path::Path;
+
+// The order of the live task of this path.
+fn order_for<'j>(alloc: Global, round: &Round<'j>, path: &[u16]) -> Result<Order<'j>, AllocError>
+    ensures running { OnOk result (status_in round.now ≡ None) }
+    ensures job { IfOk result (λ o. o.job ≡ round.now.job) }
+    ensures step { IfOk result (λ o. o.step ≡ round.now.step) }
+    ensures path { IfOk result (λ o. o.task.path ≡ path.now) }
+{
+    match round.order(alloc, path)? {
+        Some(order) => Ok(order),
+        None => Err(AllocError),
+    }
+}
+
+// The segment of the live task of this path.
+fn segment_for<'j>(
+    alloc: Global,
+    round: &Round<'j>,
+    path: &[u16],
+) -> Result<Delivery<'j>, AllocError>
+    ensures running { OnOk result (status_in round.now ≡ None) }
+    ensures job { IfOk result (λ d. d.job ≡ round.now.job) }
+    ensures step { IfOk result (λ d. d.step ≡ round.now.step) }
+    ensures deed { IfOk result (λ d. delivered_segment d ≡ deed_by round.now path.now) }
+{
+    let _known = round.has_ended();
+    let order = order_for(alloc, round, path)?;
+    let delivery = Delivery::of(alloc, order)?;
+    let _own = delivery.path();
+    Ok(delivery)
+}
+
+/// Hands in the segment of the live task of this path, and tells whether it synced, and the paths that it spawned.
+pub(crate) fn hand_in<'j>(
+    alloc: Global,
+    round: &mut Round<'j>,
+    path: &[u16],
+) -> Result<(bool, Vec<Path>), AllocError>
+    ensures round { OnOk result (IsAsBefore round.old round.new) }
+    ensures synced { IfOk result (λ told. told.0 ≡ has_synced (deed_by round.old path.now)) }
+    ensures spawns { IfOk result (λ told. map path_items told.1.items ≡ spawned_paths (deed_by round.old path.now)) }
+{
+    let delivery = segment_for(alloc, round, path)?;
+    let synced = delivery.synced();
+    let spawns = delivery.spawns(alloc)?;
+    match round.accept_known(delivery) {
+        Ok(()) => Ok((synced, spawns)),
+        Err(_) => Err(AllocError),
+    }
+}
+
+/// Closes the round, unless the job has ended.
+pub(crate) fn close_round(alloc: Global, round: &mut Round<'_>) -> Result<(), AllocError>
+    ensures { OnOk result (IsNext round.old round.new) }
+{
+    if round.has_ended() {
+        return Ok(());
+    }
+    match round.close_round(alloc) {
+        Ok(_) => Ok(()),
+        Err(_) => Err(AllocError),
+    }
+}

@@ -1,0 +1,382 @@
+//! A job on a tree between two steps of its workers.
+ghost use Rattle.std.specs.Prelude.{◌≡◌};
+ghost use Rattle.phase_records.specs.StatusSeen.{status_seen};
+ghost use Rattle.tier_core.specs.Machine.{with_token};
+ghost use Rattle.job_schedule.specs.World.{kind_for, taking, mode_after, gone};
+
+use crate::hands::{empty_hands, hand_of, set_hand};
+use crate::leaves::{leaf_at, preferred};
+use crate::next::{free_tokens, next_seats};
+use crate::rounds::{close_round, hand_in};
+use crate::seat::{Kid, Seat, all_over, copy_path, is_over};
+use crate::stage::{Mode, Move, Stage};
+use crate::step::{Answer, JobStep};
+use advance_rule::EndPlan;
+use phase_records::JobStatus;
+use std::alloc::{AllocError, Global};
+use step_core::Round;
+use superstep_memory::path::Path;
+use task_lang::job::Job;
+use tier_core::call::{Answer as TreeAnswer, Call, Played, Step};
+use tier_core::tree::Core;
+use tier_shape::Shape;
+
+/// A job on a tree, worked at by numbered workers.
+#[derive(Drop)]
+pub(crate) struct Schedule<'j> {
+    round: Round<'j>,
+    core: Core,
+    leaves: Vec<u16>,
+    seats: Vec<Seat>,
+    taken: usize,
+    hands: Vec<Option<usize>>,
+    free: Vec<usize>,
+    mode: Mode,
+}
+
+// By which step a move is taken.
+fn kind_for(next: Move) -> u8
+    ensures { result ≡ kind_for next }
+{
+    match next {
+        Move::Takes(_) => 0,
+        Move::Delivers(_) => 1,
+        Move::Calls(_, _, _) | Move::Ends(_) => 2,
+        Move::Advances(_) => 3,
+        Move::Closes(_) => 4,
+    }
+}
+
+// What a worker without a task may do.
+fn taking(taken: usize, live: usize, over: bool) -> Option<Move>
+    ensures { result ≡ taking taken live over }
+{
+    if taken < live {
+        Some(Move::Takes(taken))
+    } else if over {
+        Some(Move::Closes(0))
+    } else {
+        None
+    }
+}
+
+// How a job that is over goes on.
+fn mode_after(closer: usize, token: usize, status: &JobStatus) -> Mode
+    ensures { result ≡ mode_after closer token (status_seen status.now) }
+{
+    match status {
+        JobStatus::Ended(_) | JobStatus::Limit(_) => Mode::Over,
+        JobStatus::Fault { .. } => Mode::Forces { closer, token },
+    }
+}
+
+// So many steps of a call.
+fn go_on(core: &mut Core, token: usize, steps: u32)
+    ensures { core.new ≡ gone steps token core.old }
+{
+    let mut left = steps;
+    while left > 0 {
+        core.step(Step::Go(token));
+        left -= 1;
+    }
+}
+
+impl<'j> Schedule<'j> {
+    ghost use Rattle.std.specs.Prelude.{◌≡◌, ◌≤◌, ◌<◌, OnOk, IfOk, None, length, map, slice_index_or};
+    ghost use Rattle.step_core.specs.Program.{program_of};
+    ghost use Rattle.job_schedule.specs.AnswerValue.{answer_seen};
+    ghost use Rattle.job_schedule.specs.Parts.{path_items, world_of};
+    ghost use Rattle.job_schedule.specs.SeatValue.{seat_at};
+    ghost use Rattle.job_schedule.specs.World as spec;
+    ghost use Rattle.job_schedule.specs.World.{
+      opening_world,
+      with_start,
+      with_starts,
+      move_of,
+      by_hand,
+      by_seat,
+      answer_of,
+      world_after,
+      done_by,
+      kid_from,
+      with_kids,
+      stepped,
+      renewed,
+    };
+    ghost use Rattle.job_schedule.specs.SeatValue.{answered};
+    ghost use Rattle.job_schedule.specs.Parts.{IsAllowed};
+    ghost use Rattle.tier_core.specs.Run.{IsCall};
+
+    /// A job with this limit, on a tree of this shape, before the first step of a worker.
+    pub(crate) fn new(
+        alloc: Global,
+        job: &'j Job,
+        shape: Shape,
+        limit: u32,
+    ) -> Result<Self, AllocError>
+        requires some { 1 ≤ limit }
+        ensures { IfOk result (λ s. world_of s ≡ opening_world (program_of job.now) shape limit) }
+    {
+        let round = Round::new(alloc, job, limit)?;
+        let leaves = shape.leaves(alloc)?;
+        let plan = EndPlan {
+            when_empty: true,
+            at: Some(limit - 1),
+        };
+        let core = Core::new(alloc, shape, 0, plan)?;
+        let paths = round.live(alloc)?;
+        let hands = empty_hands(alloc, 64)?;
+        let mut schedule = Schedule {
+            round,
+            core,
+            leaves,
+            seats: Vec::new(alloc),
+            taken: 0,
+            hands,
+            free: Vec::new(alloc),
+            mode: Mode::Runs,
+        };
+        schedule.start_all(alloc, &paths)?;
+        Ok(schedule)
+    }
+
+    // The token of a start task comes in and joins its leaf.
+    fn start(&mut self, alloc: Global, path: Path) -> Result<(), AllocError>
+        ensures { OnOk result (world_of self.new ≡ with_start (world_of self.old) path.items) }
+    {
+        let home = leaf_at(&self.leaves, self.seats.len());
+        let token = self.core.add_token()?;
+        self.core
+            .step(Step::Begin(token, Call::Join { tier: home, n: 1 }));
+        go_on(&mut self.core, token, 16);
+        self.seats.push(Seat::new(alloc, path, token, home))?;
+        Ok(())
+    }
+
+    // So do those of all start tasks.
+    fn start_all(&mut self, alloc: Global, paths: &[Path]) -> Result<(), AllocError>
+        ensures { OnOk result (world_of self.new ≡ with_starts (world_of self.old) (map path_items paths.now)) }
+    {
+        let mut rest = paths;
+        while let Some((path, after)) = rest.split_first() {
+            self.start(alloc, copy_path(path)?)?;
+            rest = after;
+        }
+        Ok(())
+    }
+
+    // What a worker may do next with the task at this place.
+    fn move_at(&self, place: usize) -> Option<Move>
+        ensures { result ≡ by_seat (world_of self.now) (seat_at self.now.seats.items place) place }
+    {
+        if place >= self.seats.len() {
+            return None;
+        }
+        let seat = &self.seats[place];
+        seat.next_move(place, self.core.must_advance(seat.token))
+    }
+
+    // What it may do next in a superstep.
+    fn move_in(&self, worker: usize) -> Option<Move>
+        ensures { result ≡ by_hand (world_of self.now) (slice_index_or self.now.hands.items worker None) }
+    {
+        match hand_of(&self.hands, worker) {
+            None => taking(self.taken, self.seats.len(), self.round.has_ended()),
+            Some(place) => self.move_at(place),
+        }
+    }
+
+    // What it may do next.
+    fn next_move(&self, worker: usize) -> Option<Move>
+        ensures { result ≡ move_of (world_of self.now) worker }
+    {
+        if worker >= 64 {
+            return None;
+        }
+        match self.mode {
+            Mode::Runs => self.move_in(worker),
+            Mode::Advanced { closer, token } if worker == closer && all_over(&self.seats) => {
+                Some(Move::Closes(token))
+            }
+            Mode::Forces { closer, token } if worker == closer => Some(Move::Ends(token)),
+            Mode::Advanced { .. } | Mode::Forces { .. } | Mode::Over => None,
+        }
+    }
+
+    // It takes the task at this place.
+    fn take(&mut self, worker: usize, place: usize) -> Result<Answer, AllocError>
+        requires place { place < length self.old.seats.items }
+        ensures answer { IfOk result (λ a. answer_seen a ≡ (done_by (world_of self.old) worker (spec.Takes place)).0) }
+        ensures after { OnOk result (world_of self.new ≡ (done_by (world_of self.old) worker (spec.Takes place)).1) }
+    {
+        let path = copy_path(&self.seats[place].path)?;
+        self.seats[place].set_stage(Stage::Taken);
+        self.taken = place + 1;
+        set_hand(&mut self.hands, worker, Some(place));
+        Ok(Answer::Took(path))
+    }
+
+    // A spawned task has a token.
+    fn add_kid(&mut self, place: usize, path: Path) -> Result<(), AllocError>
+        requires place { place < length self.old.seats.items }
+        ensures { OnOk result (world_of self.new ≡ kid_from (world_of self.old) place path.items (world_of self.old).free) }
+    {
+        let home = preferred(&self.leaves, self.seats[place].home, path.as_slice());
+        let token = match self.free.pop() {
+            Some(token) => token,
+            None => self.core.add_token()?,
+        };
+        self.seats[place].add_kid(Kid { path, token, home })
+    }
+
+    // So have all of these.
+    fn add_kids(&mut self, place: usize, paths: &[Path]) -> Result<(), AllocError>
+        requires place { place < length self.old.seats.items }
+        ensures { OnOk result (world_of self.new ≡ with_kids (world_of self.old) place (map path_items paths.now)) }
+    {
+        let mut rest = paths;
+        while let Some((path, after)) = rest.split_first() {
+            self.add_kid(place, copy_path(path)?)?;
+            rest = after;
+        }
+        Ok(())
+    }
+
+    // The segment of the task at this place is handed in.
+    fn deliver(&mut self, alloc: Global, worker: usize, place: usize) -> Result<Answer, AllocError>
+        requires place { place < length self.old.seats.items }
+        ensures answer { IfOk result (λ a. answer_seen a ≡ (done_by (world_of self.old) worker (spec.Delivers place)).0) }
+        ensures after { OnOk result (world_of self.new ≡ (done_by (world_of self.old) worker (spec.Delivers place)).1) }
+    {
+        let path = copy_path(&self.seats[place].path)?;
+        let (synced, spawns) = hand_in(alloc, &mut self.round, path.as_slice())?;
+        self.seats[place].note(synced);
+        self.add_kids(place, &spawns)?;
+        Ok(Answer::Delivered)
+    }
+
+    // Its call answers so.
+    fn note_answer(&mut self, worker: usize, place: usize, played: Played)
+        requires place { place < length self.old.seats.items }
+        ensures { world_of self.new ≡ stepped (world_of self.old) worker place self.old.core (answered (seat_at self.old.seats.items place) played) }
+    {
+        self.seats[place].answer(played);
+        if is_over(self.seats[place].stage) {
+            set_hand(&mut self.hands, worker, None);
+        }
+    }
+
+    // A step of a call.
+    fn call(&mut self, worker: usize, place: usize, token: usize, call: Call) -> Answer
+        requires place { place < length self.old.seats.items }
+        requires size { IsCall call }
+        ensures answer { answer_seen result ≡ (done_by (world_of self.old) worker (spec.Calls place token call)).0 }
+        ensures after { world_of self.new ≡ (done_by (world_of self.old) worker (spec.Calls place token call)).1 }
+    {
+        self.core.step(Step::Begin(token, call));
+        match self.core.step(Step::Go(token)) {
+            TreeAnswer::Played(played) => {
+                self.note_answer(worker, place, played);
+                Answer::Stepped(played)
+            }
+            TreeAnswer::Begun | TreeAnswer::NotNow => Answer::NotNow,
+        }
+    }
+
+    // The root advances.
+    fn advance(&mut self, worker: usize, place: usize) -> Answer
+        requires place { place < length self.old.seats.items }
+        ensures answer { answer_seen result ≡ (done_by (world_of self.old) worker (spec.Advances place)).0 }
+        ensures after { world_of self.new ≡ (done_by (world_of self.old) worker (spec.Advances place)).1 }
+    {
+        let token = self.seats[place].token;
+        match self.core.step(Step::Finish(token)) {
+            TreeAnswer::Played(played) => {
+                self.seats[place].set_stage(Stage::Over);
+                set_hand(&mut self.hands, worker, None);
+                self.mode = Mode::Advanced {
+                    closer: worker,
+                    token,
+                };
+                Answer::Advanced(played)
+            }
+            TreeAnswer::Begun | TreeAnswer::NotNow => Answer::NotNow,
+        }
+    }
+
+    // The next tasks are ready.
+    fn renew(&mut self, alloc: Global) -> Result<(), AllocError>
+        ensures { OnOk result (world_of self.new ≡ renewed (world_of self.old)) }
+    {
+        free_tokens(&self.seats, &mut self.free)?;
+        let seats = std::mem::replace(&mut self.seats, Vec::new(alloc));
+        self.seats = next_seats(alloc, seats)?;
+        self.taken = 0;
+        self.mode = Mode::Runs;
+        Ok(())
+    }
+
+    // The round is closed.
+    fn close(&mut self, alloc: Global, worker: usize, token: usize) -> Result<Answer, AllocError>
+        ensures answer { IfOk result (λ a. answer_seen a ≡ (done_by (world_of self.old) worker (spec.Closes token)).0) }
+        ensures after { OnOk result (world_of self.new ≡ (done_by (world_of self.old) worker (spec.Closes token)).1) }
+    {
+        close_round(alloc, &mut self.round)?;
+        match self.round.report(alloc)? {
+            Some(report) => {
+                self.mode = mode_after(worker, token, &report.status);
+                Ok(Answer::Finished(report))
+            }
+            None => {
+                self.renew(alloc)?;
+                Ok(Answer::Closed)
+            }
+        }
+    }
+
+    // The tree ends by force.
+    fn end(&mut self, worker: usize, token: usize) -> Answer
+        ensures answer { answer_seen result ≡ (done_by (world_of self.old) worker (spec.Ends token)).0 }
+        ensures after { world_of self.new ≡ (done_by (world_of self.old) worker (spec.Ends token)).1 }
+    {
+        self.core.step(Step::Begin(token, Call::Force));
+        match self.core.step(Step::Go(token)) {
+            TreeAnswer::Played(played) => {
+                self.mode = Mode::Over;
+                Answer::Stepped(played)
+            }
+            TreeAnswer::Begun | TreeAnswer::NotNow => Answer::NotNow,
+        }
+    }
+
+    // A worker does this.
+    fn make(&mut self, alloc: Global, worker: usize, next: Move) -> Result<Answer, AllocError>
+        requires { IsAllowed (world_of self.old) next }
+        ensures answer { IfOk result (λ a. answer_seen a ≡ (done_by (world_of self.old) worker next).0) }
+        ensures after { OnOk result (world_of self.new ≡ (done_by (world_of self.old) worker next).1) }
+    {
+        match next {
+            Move::Takes(place) => self.take(worker, place),
+            Move::Delivers(place) => self.deliver(alloc, worker, place),
+            Move::Calls(place, token, call) => Ok(self.call(worker, place, token, call)),
+            Move::Advances(place) => Ok(self.advance(worker, place)),
+            Move::Closes(token) => self.close(alloc, worker, token),
+            Move::Ends(token) => Ok(self.end(worker, token)),
+        }
+    }
+
+    /// A worker takes a step.
+    pub(crate) fn step(&mut self, alloc: Global, step: JobStep) -> Result<Answer, AllocError>
+        ensures answer { IfOk result (λ a. answer_seen a ≡ answer_of (world_of self.old) step) }
+        ensures after { OnOk result (world_of self.new ≡ world_after (world_of self.old) step) }
+    {
+        let worker = step.worker();
+        let Some(next) = self.next_move(worker) else {
+            return Ok(Answer::NotNow);
+        };
+        if step.kind() != kind_for(next) {
+            return Ok(Answer::NotNow);
+        }
+        self.make(alloc, worker, next)
+    }
+}

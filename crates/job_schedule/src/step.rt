@@ -1,0 +1,69 @@
+//! Steps of workers, and their answers.
+ghost use Rattle.std.specs.Prelude.{◌≡◌};
+ghost use Rattle.job_schedule.specs.World.{worker_of, kind_of};
+
+use phase_records::Report;
+use superstep_memory::path::Path;
+use tier_core::call::Played;
+
+/// A step of a worker, by its number from 0 to 63 (own).
+#[derive(Clone, Copy, Debug, PartialEq, Eq)]
+pub enum JobStep {
+    /// It takes the front ready task.
+    Take(usize),
+    /// It hands in the segment of its task.
+    Deliver(usize),
+    /// It takes a step of its task's calls in the tree; after a fault, it ends the tree by force.
+    Tree(usize),
+    /// It advances the root.
+    Advance(usize),
+    /// It closes the round.
+    Close(usize),
+}
+
+impl JobStep {
+    /// The number of its worker.
+    pub fn worker(self) -> usize
+        ensures { result ≡ worker_of self }
+    {
+        match self {
+            JobStep::Take(worker)
+            | JobStep::Deliver(worker)
+            | JobStep::Tree(worker)
+            | JobStep::Advance(worker)
+            | JobStep::Close(worker) => worker,
+        }
+    }
+
+    /// Which of the five it is, from 0.
+    pub(crate) fn kind(self) -> u8
+        ensures { result ≡ kind_of self }
+    {
+        match self {
+            JobStep::Take(_) => 0,
+            JobStep::Deliver(_) => 1,
+            JobStep::Tree(_) => 2,
+            JobStep::Advance(_) => 3,
+            JobStep::Close(_) => 4,
+        }
+    }
+}
+
+/// What a step answers (own).
+#[derive(Drop)]
+pub enum Answer {
+    /// The worker has taken the task of this path.
+    Took(Path),
+    /// The segment was handed in.
+    Delivered,
+    /// A step of a call was taken, and answered so.
+    Stepped(Played),
+    /// The root was advanced, and the call answered so.
+    Advanced(Played),
+    /// The round was closed, and the next tasks are ready.
+    Closed,
+    /// The job is over, and leaves this.
+    Finished(Report),
+    /// The step isn't the worker's next one, and changed nothing.
+    NotNow,
+}

@@ -1,0 +1,115 @@
+//! Jobs by their texts, schedules, and what a schedule leaves.
+use job_reader::read_job;
+use job_schedule::drive::drive_job;
+use job_schedule::step::{Answer, JobStep};
+use phase_records::{Report, Writer, write_report};
+use std::alloc::{AllocError, Global};
+use std::test::Fail;
+use step_core::run_alone;
+use task_lang::job::Job;
+use tier_shape::Shape;
+
+// The job of a text.
+pub(crate) fn job_of(alloc: Global, text: &[u8]) -> Result<Job, Fail> {
+    let job = read_job(alloc, text)?;
+    Ok(job)
+}
+
+// The text of a report.
+pub(crate) fn report_text(alloc: Global, report: &Report) -> Result<Vec<u8>, Fail> {
+    let mut out = Vec::new(alloc);
+    let mut writer = Writer::new(&mut out);
+    let written = write_report(alloc, report, &mut writer);
+    written?;
+    Ok(out)
+}
+
+// The text of the report that a job leaves on one thread.
+pub(crate) fn left_alone(alloc: Global, job: &Job, limit: u32) -> Result<Vec<u8>, Fail> {
+    if limit == 0 {
+        return Ok(Vec::new(alloc));
+    }
+    let report = run_alone(alloc, job, limit)?;
+    report_text(alloc, &report)
+}
+
+// The answers of a job to these steps, on a tree of these widths.
+pub(crate) fn answers_of(
+    alloc: Global,
+    job: &Job,
+    widths: &str,
+    limit: u32,
+    steps: &[JobStep],
+) -> Result<Vec<Answer>, Fail> {
+    if limit == 0 || limit > 1000000 {
+        return Ok(Vec::new(alloc));
+    }
+    let shape = Shape::from_widths(alloc, widths)?;
+    let answers = drive_job(alloc, job, shape, limit, steps)?;
+    Ok(answers)
+}
+
+// The report of the one answer that finishes a job.
+pub(crate) fn finished(answers: &[Answer]) -> Option<&Report> {
+    for answer in answers {
+        if let Answer::Finished(report) = answer {
+            return Some(report);
+        }
+    }
+    None
+}
+
+// How many answers finish a job.
+pub(crate) fn count_finished(answers: &[Answer]) -> usize {
+    answers
+        .iter()
+        .filter(|answer| matches!(answer, Answer::Finished(_)))
+        .count()
+}
+
+// The step of this kind by this worker.
+pub(crate) fn step_of(kind: usize, worker: usize) -> JobStep {
+    match kind % 5 {
+        0 => JobStep::Take(worker),
+        1 => JobStep::Deliver(worker),
+        2 => JobStep::Tree(worker),
+        3 => JobStep::Advance(worker),
+        _ => JobStep::Close(worker),
+    }
+}
+
+// Each of so many workers in turn tries each kind of step, so many times.
+pub(crate) fn in_turn(
+    alloc: Global,
+    workers: usize,
+    turns: usize,
+) -> Result<Vec<JobStep>, AllocError> {
+    let mut steps = Vec::new(alloc);
+    for _ in 0..turns {
+        for worker in 0..workers {
+            for kind in 0..5 {
+                steps.push(step_of(kind, worker))?;
+            }
+        }
+    }
+    Ok(steps)
+}
+
+// Whether this schedule leaves what one thread leaves, and finishes the job once.
+pub(crate) fn is_as_alone(
+    alloc: Global,
+    job: &Job,
+    widths: &str,
+    limit: u32,
+    steps: &[JobStep],
+) -> Result<bool, Fail> {
+    let want = left_alone(alloc, job, limit)?;
+    let answers = answers_of(alloc, job, widths, limit, steps)?;
+    match finished(&answers) {
+        None => Ok(false),
+        Some(report) => {
+            let left = report_text(alloc, report)?;
+            Ok(left == want && count_finished(&answers) == 1)
+        }
+    }
+}

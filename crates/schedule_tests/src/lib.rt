@@ -1,0 +1,11 @@
+//! Tests of jobs over a tree, by schedules of their workers.
+#![tactic(auto)]
+
+#[cfg(test)]
+mod fixtures;
+#[cfg(test)]
+mod orders;
+#[cfg(test)]
+mod random;
+#[cfg(test)]
+mod rows;
