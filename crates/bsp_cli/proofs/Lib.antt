@@ -1,3 +1,4 @@
+mod Faulted
 mod Limits
 mod Parsed
 mod Refusals

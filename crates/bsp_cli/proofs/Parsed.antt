@@ -22,6 +22,10 @@ words-ask name = record {
   least = (refl, refl);
   most = (refl, refl);
   joined = (refl, refl);
+  one_worker = (refl, refl);
+  many_workers = (refl, refl);
+  flat = (refl, refl);
+  tree = (refl, refl);
 }
 
 pub words-refused : EachNameRefuses
@@ -32,8 +36,9 @@ words-refused name = record {
   more = refl;
   none = refl;
   many = refl;
-  workers = refl;
-  tree = refl;
+  no_worker = refl;
+  too_many_workers = refl;
+  two_trees = refl;
   twice = refl;
   same = refl;
 }

@@ -17,7 +17,7 @@ keeps (Some xs) = refl
 out : (a : Asked) (input old : Option (List ℕ)) → RunsOut a input old old
 out Trace input old = inl (keeps old)
 out Check input old = keeps old
-out (Run limit) input old = keeps old
+out (Run workers limit) input old = keeps old
 
 -- memory ran out before anything was read
 pub no-memory : (a : Asked) (input old new : Option (List ℕ)) (told : List ℕ → Type 0) (status : ℕ) → new ≡ old → status ≡ 6
@@ -27,6 +27,8 @@ no-memory a input old new told status same e = record {
   refused = λ h. absurd (omega arith);
   memory = λ h. subst (λ (x : Option (List ℕ)). RunsOut a input old x) (sym same) (out a input old);
   failed = λ h. absurd (omega arith);
+  not_started = λ h. absurd (omega arith);
+  internal = λ h. absurd (omega arith);
 }
 
 first-true : (a b : Bool) → (a && b) ≡ true → a ≡ true

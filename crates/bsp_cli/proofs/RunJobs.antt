@@ -3,6 +3,8 @@ use Rattle.std.proofs.Common.{◌≡◌, ℕ, List, [], ◌∷◌, map, Option, 
 use Rattle.std.specs.Prelude.{IfSome}
 use Rattle.phase_records.specs.ReportValue.{ReportValue}
 use Rattle.phase_records.specs.Status.{Status, Ended, Fault, Limit}
+use Rattle.phase_records.specs.StatusSeen.{status_seen}
+use Rattle.phase_records.specs.declared.record.JobStatus.{JobStatus}
 use Rattle.task_lang.specs.BodyValue.{BodyValue}
 use Rattle.task_lang.specs.JobValue.{JobValue}
 use Rattle.task_lang.specs.Meaning.{Plan}
@@ -12,10 +14,10 @@ use Rattle.job_reader.specs.Reading.{job_in}
 use Rattle.step_core.specs.Program.{Program, program_of}
 use Rattle.step_core.specs.JobMeaning.{report_of}
 use Rattle.bsp_cli.specs.Jobs.{plan_of, program_of_tree, status_number}
-use Rattle.bsp_cli.specs.Ends.{Reports, Runs, Does}
+use Rattle.bsp_cli.specs.Ends.{Reports, Runs, Does, end_result}
 use Rattle.bsp_cli.specs.declared.asked.Asked.TheVariants.{Run}
-use Rattle.bsp_cli.specs.declared.fault.CommandFault.{CommandFault}
-use Rattle.bsp_cli.specs.declared.fault.CommandFault.TheVariants.{Text, Read, Write, Memory}
+use Rattle.bsp_cli.specs.declared.fault.RunFault.{RunFault}
+use Rattle.bsp_cli.specs.declared.fault.RunFault.TheVariants.{Text, Read, Write, Memory, NotStarted, Internal}
 
 same-plans : (bs : List BodyValue) → map plan_of (map body_tree bs) ≡ plans bs
 same-plans [] = refl
@@ -38,21 +40,26 @@ small (Fault c n p) = omega arith
 small (Limit n) = omega arith
 
 -- a job that was read and run, and its report that was written
-pub runs : (limit : ℕ) (input old new : Option (List ℕ)) (j : JobValue) (report : ReportValue) (r : Result ℕ CommandFault)
+pub runs : (limit : ℕ) (input old new : Option (List ℕ)) (j : JobValue) (report : ReportValue) (r : Result JobStatus RunFault)
     → IfSome input (λ bytes. job_in bytes ≡ Ok (job_tree j)) → report_of (program_of j) limit ≡ Some report → Reports report old new r
     → Runs limit input old new r
 runs limit input old new j report (Ok status) read left_it h =
-    let few : status ≤ 3 = rw h.1 (small report.status) in
-    (few, if-some input (λ bytes e. (report, (job_tree j, e, left j limit report left_it), h.0, h.1)) read)
+    if-some input (λ bytes e. (report, (job_tree j, e, left j limit report left_it), h.0, h.1)) read
 runs limit input old new j report (Err (Text x)) read left_it h = absurd h
 runs limit input old new j report (Err Read) read left_it h = absurd h
 runs limit input old new j report (Err Write) read left_it h = if-some input (λ bytes e. (report, (job_tree j, e, left j limit report left_it), h)) read
 runs limit input old new j report (Err Memory) read left_it h = h
+runs limit input old new j report (Err (NotStarted k)) read left_it h = absurd h
+runs limit input old new j report (Err Internal) read left_it h = absurd h
 
 -- and so what was asked for was done
-pub does : (limit : ℕ) (input old new : Option (List ℕ)) (r : Result ℕ CommandFault) → Runs limit input old new r → Does (Run limit) input old new r
-does limit input old new (Ok status) h = h
-does limit input old new (Err (Text x)) h = h
-does limit input old new (Err Read) h = h
-does limit input old new (Err Write) h = h
-does limit input old new (Err Memory) h = h
+pub does : (workers limit : ℕ) (input old new : Option (List ℕ)) (r : Result JobStatus RunFault) → Runs limit input old new r
+    → Does (Run workers limit) input old new (end_result r)
+does workers limit input old new (Ok status) h =
+    (small (status_seen status), if-some input (λ bytes w. (w.0, w.1, w.2, ap status_number w.3)) h)
+does workers limit input old new (Err (Text x)) h = h
+does workers limit input old new (Err Read) h = h
+does workers limit input old new (Err Write) h = h
+does workers limit input old new (Err Memory) h = h
+does workers limit input old new (Err (NotStarted k)) h = h
+does workers limit input old new (Err Internal) h = h

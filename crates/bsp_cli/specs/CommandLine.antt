@@ -2,24 +2,35 @@
 use Rattle.std.specs.Prelude.{ℕ, ◌&&◌, true, pos, nat_le, if◌then◌else◌, List, codes, Option, Some, None}
 use Rattle.std.specs.Str.{bytes_eq}
 use Rattle.std.specs.Str.Parse.{digits_value, without_leading_plus}
-use Rattle.clap.specs.Words.{App, Kinds, Row, Rule, fault_of, new_app, new_rule, one_of, subcommand_of, with_rule, with_subcommand}
+use Rattle.std.specs.Option.{unwrap_or}
+use Rattle.clap.specs.Words.{App, Kinds, Row, Rule, fault_of, first_of, new_app, new_rule, one_of, subcommand_of, with_rule, with_subcommand}
 use Rattle.clap.specs.ValueTests.{is_unsigned_in}
 use Rattle.clap.specs.declared.builder.action.ArgAction.TheVariants.{Set}
 use Rattle.clap.specs.declared.builder.value_parser.ValueParser.TheVariants as parser
 use Rattle.bsp_cli.specs.declared.asked.Asked.{Asked}
 use Rattle.bsp_cli.specs.declared.asked.Asked.TheVariants.{Trace, Check, Run}
 
--- `--limit N`, of 1 to 1000000
-abbrev pub limit_rule : Rule
-limit_rule = record (new_rule (codes "limit")) {
-  long = Some (codes "limit");
+-- an option that is a number, from 1 to the most
+abbrev pub number_rule : List ℕ → ℕ → Rule
+number_rule name most = record (new_rule name) {
+  long = Some name;
   value_names = 1;
   action = Some Set;
-  parser = Some (parser.Signed (pos 1) (pos 1000000));
+  parser = Some (parser.Signed (pos 1) (pos most));
 }
 
+-- `--tree WIDTHS`, any text
+abbrev pub tree_rule : Rule
+tree_rule = record (new_rule (codes "tree")) {
+  long = Some (codes "tree");
+  value_names = 1;
+  action = Some Set;
+}
+
+-- `run` with its three options
 abbrev pub run_app : App
-run_app = with_rule (new_app (codes "run")) limit_rule
+run_app =
+    with_rule (with_rule (with_rule (new_app (codes "run")) (number_rule (codes "workers") 64)) tree_rule) (number_rule (codes "limit") 1000000)
 
 abbrev pub bare : App
 bare = new_app (codes "bsp")
@@ -33,28 +44,47 @@ program =
     (new_app (codes "check")).top)
     run_app.top
 
+-- the number of an option, from 1 to the most; the usual one where it isn't given
+abbrev pub number_from : ℕ → ℕ → Option (List ℕ) → ℕ
+number_from most usual None = usual
+number_from most usual (Some text) = if is_unsigned_in 1 most text then digits_value 10 (without_leading_plus text) else usual
+
+-- one worker, unless others are asked for
+abbrev pub workers_in : List Row → ℕ
+workers_in rows = number_from 64 1 (one_of (codes "workers") rows)
+
 -- a limit that isn't given is 1000000
-abbrev pub limit_from : Option (List ℕ) → ℕ
-limit_from None = 1000000
-limit_from (Some text) = if is_unsigned_in 1 1000000 text then digits_value 10 (without_leading_plus text) else 1000000
-
 abbrev pub limit_in : List Row → ℕ
-limit_in rows = limit_from (one_of (codes "limit") rows)
+limit_in rows = number_from 1000000 1000000 (one_of (codes "limit") rows)
 
--- the number of a text that was read, if it is a limit
-abbrev pub chosen : Option ℕ → ℕ
-chosen None = 1000000
-chosen (Some n) = if nat_le 1 n && nat_le n 1000000 then n else 1000000
+-- a tree that isn't given is the root alone
+abbrev pub tree_in : List Row → List ℕ
+tree_in rows = unwrap_or (first_of (codes "tree") rows) (codes "flat")
+
+-- the number that was read, if it is one from 1 to the most
+abbrev pub chosen : ℕ → ℕ → Option ℕ → ℕ
+chosen most usual None = usual
+chosen most usual (Some n) = if nat_le 1 n && nat_le n most then n else usual
 
 -- what a subcommand asks for, by its name and its options
 abbrev pub asked_by : Option (List ℕ × List Row) → Asked
 asked_by None = Trace
 asked_by (Some p) =
-    if bytes_eq p.0 (codes "check") then Check else if bytes_eq p.0 (codes "run") then Run (limit_in p.1) else Trace
+    if bytes_eq p.0 (codes "check") then Check else if bytes_eq p.0 (codes "run") then Run (workers_in p.1) (limit_in p.1) else Trace
+
+-- the text of the tree at which workers meet; traces and texts that are checked have none
+abbrev pub tree_by : Option (List ℕ × List Row) → List ℕ
+tree_by None = codes "flat"
+tree_by (Some p) =
+    if bytes_eq p.0 (codes "check") then codes "flat" else if bytes_eq p.0 (codes "run") then tree_in p.1 else codes "flat"
 
 -- what words ask for, where they are taken
 abbrev pub asked_in : List (List ℕ) → Asked
 asked_in words = asked_by (subcommand_of program words)
+
+-- the text of the tree that words ask for, where they are taken
+abbrev pub tree_asked : List (List ℕ) → List ℕ
+tree_asked words = tree_by (subcommand_of program words)
 
 -- why words are not taken: nothing where they are
 abbrev pub refused_by : List (List ℕ) → Kinds

@@ -10,7 +10,7 @@ use Rattle.clap.specs.declared.error.kind.ErrorKind.{ErrorKind}
 use Rattle.clap.specs.declared.error.kind.ErrorKind.TheVariants as kinds
 use Rattle.clap.specs.Words.{Kinds}
 use Rattle.bsp_cli.specs.Jobs.{WritesCanonical, BeginsCanonical, WritesReport, BeginsReport}
-use Rattle.bsp_cli.specs.Texts.{refusal_line}
+use Rattle.bsp_cli.specs.Texts.{refusal_line, worker_line}
 use Rattle.bsp_cli.specs.declared.asked.Asked.{Asked}
 use Rattle.bsp_cli.specs.declared.asked.Asked.TheVariants.{Trace, Check, Run}
 
@@ -18,25 +18,25 @@ use Rattle.bsp_cli.specs.declared.asked.Asked.TheVariants.{Trace, Check, Run}
 abbrev pub Finishes : Asked → List ℕ → Option (List ℕ) → Option (List ℕ) → ℕ → Type 0
 Finishes Trace input old new status = (status ≡ 0) × WritesAnswers input old new
 Finishes Check input old new status = (status ≡ 0) × WritesCanonical input old new
-Finishes (Run limit) input old new status = WritesReport limit input old new status
+Finishes (Run workers limit) input old new status = WritesReport limit input old new status
 
 -- or a beginning of it
 abbrev pub Begins : Asked → List ℕ → Option (List ℕ) → Option (List ℕ) → Type 0
 Begins Trace input old new = WritesBeginning input old new
 Begins Check input old new = BeginsCanonical input old new
-Begins (Run limit) input old new = BeginsReport limit input old new
+Begins (Run workers limit) input old new = BeginsReport limit input old new
 
 -- the input is refused, first here
 abbrev pub Refuses : Asked → List ℕ → Refusal → Type 0
 Refuses Trace input r = asked_of input ≡ Err r
 Refuses Check input r = job_in input ≡ Err r
-Refuses (Run limit) input r = job_in input ≡ Err r
+Refuses (Run workers limit) input r = job_in input ≡ Err r
 
 -- where memory ran out, only a trace may have written some of its answers
 abbrev pub RunsOut : Asked → Option (List ℕ) → Option (List ℕ) → Option (List ℕ) → Type 0
 RunsOut Trace input old new = Keeps old new ⊎ IfSome input (λ bytes. WritesBeginning bytes old new)
 RunsOut Check input old new = Keeps old new
-RunsOut (Run limit) input old new = Keeps old new
+RunsOut (Run workers limit) input old new = Keeps old new
 
 -- what is asked for is done where the status is 0, 2 or 3; else the output and the line on standard error say what went
 -- wrong
@@ -44,7 +44,9 @@ pub record Did (a : Asked) (input old new : Option (List ℕ)) (told : List ℕ 
   pub finished : status ≤ 3 → IfSome input (λ bytes. Finishes a bytes old new status)
   pub refused : status ≡ 4 → Keeps old new × (r : Refusal) × told (refusal_line r) × IfSome input (λ bytes. Refuses a bytes r)
   pub memory : status ≡ 6 → RunsOut a input old new
+  pub not_started : status ≡ 7 → Keeps old new × (k : ℕ) × told (worker_line k)
   pub failed : status ≡ 8 → Keeps old new ⊎ IfSome input (λ bytes. Begins a bytes old new)
+  pub internal : status ≡ 9 → Keeps old new
 
 -- words that are refused: neither taken nor a call for help or for the version
 abbrev pub is_refusal : ErrorKind → Bool

@@ -3,88 +3,122 @@ use Rattle.std.specs.Prelude.{◌≡◌, ◌≤◌, ◌⊎◌, ℕ, ◌+◌, Lis
 use Rattle.std.specs.Io.KnownBytes.{Appends, Keeps}
 use Rattle.phase_records.specs.Device.{AppendsBeginning}
 use Rattle.phase_records.specs.ReportValue.{ReportValue}
+use Rattle.phase_records.specs.StatusSeen.{status_seen}
+use Rattle.phase_records.specs.declared.record.JobStatus.{JobStatus}
 use Rattle.phase_records.specs.ReportText.{report_text}
 use Rattle.task_lang.specs.JobValue.{JobValue}
 use Rattle.trace_text.specs.Trace.{asked_of}
 use Rattle.trace_text.specs.Outcome.{WritesAnswers, WritesBeginning}
 use Rattle.job_reader.specs.Trees.{job_tree}
 use Rattle.job_reader.specs.Reading.{job_in}
-use Rattle.bsp_cli.specs.Jobs.{status_number, WritesCanonical, BeginsCanonical, WritesReport, BeginsReport}
+use Rattle.bsp_cli.specs.Jobs.{status_number, WritesCanonical, BeginsCanonical, WritesReportOf, BeginsReport}
 use Rattle.bsp_cli.specs.Did.{Finishes, Begins, Refuses, RunsOut}
 use Rattle.bsp_cli.specs.Texts.{fault_status}
 use Rattle.bsp_cli.specs.declared.asked.Asked.{Asked}
 use Rattle.bsp_cli.specs.declared.asked.Asked.TheVariants.{Trace, Check, Run}
-use Rattle.bsp_cli.specs.declared.fault.CommandFault.{CommandFault}
-use Rattle.bsp_cli.specs.declared.fault.CommandFault.TheVariants.{Text, Read, Write, Memory}
+use Rattle.bsp_cli.specs.declared.fault.RunFault.{RunFault}
+use Rattle.bsp_cli.specs.declared.fault.RunFault.TheVariants.{Text, Read, Write, Memory, NotStarted, Internal}
 
 -- the writer failed once at Write, and else not
-abbrev pub WriteCause : {T : Type 0} → ℕ → ℕ → Result T CommandFault → Type 0
+abbrev pub WriteCause : {T : Type 0} → ℕ → ℕ → Result T RunFault → Type 0
 WriteCause old new (Ok x) = new ≡ old
 WriteCause old new (Err Write) = new ≡ old + 1
 WriteCause old new (Err Read) = new ≡ old
 WriteCause old new (Err Memory) = new ≡ old
 WriteCause old new (Err (Text r)) = new ≡ old
+WriteCause old new (Err (NotStarted k)) = new ≡ old
+WriteCause old new (Err Internal) = new ≡ old
 
 -- and the reader at Read
-abbrev pub ReadCause : {T : Type 0} → ℕ → ℕ → Result T CommandFault → Type 0
+abbrev pub ReadCause : {T : Type 0} → ℕ → ℕ → Result T RunFault → Type 0
 ReadCause old new (Ok x) = new ≡ old
 ReadCause old new (Err Write) = new ≡ old
 ReadCause old new (Err Read) = new ≡ old + 1
 ReadCause old new (Err Memory) = new ≡ old
 ReadCause old new (Err (Text r)) = new ≡ old
+ReadCause old new (Err (NotStarted k)) = new ≡ old
+ReadCause old new (Err Internal) = new ≡ old
 
-abbrev pub Traces : Option (List ℕ) → Option (List ℕ) → Option (List ℕ) → Result (Unit {0}) CommandFault → Type 0
+abbrev pub Traces : Option (List ℕ) → Option (List ℕ) → Option (List ℕ) → Result (Unit {0}) RunFault → Type 0
 Traces input old new (Ok x) = IfSome input (λ bytes. WritesAnswers bytes old new)
 Traces input old new (Err (Text r)) = IfSome input (λ bytes. asked_of bytes ≡ Err r) × Keeps old new
 Traces input old new (Err Read) = Keeps old new
 Traces input old new (Err Write) = IfSome input (λ bytes. WritesBeginning bytes old new)
 Traces input old new (Err Memory) = Keeps old new ⊎ IfSome input (λ bytes. WritesBeginning bytes old new)
+Traces input old new (Err (NotStarted k)) = ⊥
+Traces input old new (Err Internal) = ⊥
 
 -- the input is the text of the job, or is refused
-abbrev pub TakesJob : Option (List ℕ) → Result JobValue CommandFault → Type 0
+abbrev pub TakesJob : Option (List ℕ) → Result JobValue RunFault → Type 0
 TakesJob input (Ok job) = IfSome input (λ bytes. job_in bytes ≡ Ok (job_tree job))
 TakesJob input (Err (Text r)) = IfSome input (λ bytes. job_in bytes ≡ Err r)
 TakesJob input (Err Read) = Unit {0}
 TakesJob input (Err Write) = ⊥
 TakesJob input (Err Memory) = Unit {0}
+TakesJob input (Err (NotStarted k)) = ⊥
+TakesJob input (Err Internal) = ⊥
 
-abbrev pub Checks : Option (List ℕ) → Option (List ℕ) → Option (List ℕ) → Result (Unit {0}) CommandFault → Type 0
+abbrev pub Checks : Option (List ℕ) → Option (List ℕ) → Option (List ℕ) → Result (Unit {0}) RunFault → Type 0
 Checks input old new (Ok x) = IfSome input (λ bytes. WritesCanonical bytes old new)
 Checks input old new (Err (Text r)) = IfSome input (λ bytes. job_in bytes ≡ Err r) × Keeps old new
 Checks input old new (Err Read) = Keeps old new
 Checks input old new (Err Write) = IfSome input (λ bytes. BeginsCanonical bytes old new)
 Checks input old new (Err Memory) = Keeps old new
+Checks input old new (Err (NotStarted k)) = ⊥
+Checks input old new (Err Internal) = ⊥
 
 -- the report was written, or a beginning of it where the writer failed
-abbrev pub Reports : ReportValue → Option (List ℕ) → Option (List ℕ) → Result ℕ CommandFault → Type 0
-Reports report old new (Ok status) = Appends old new (report_text report) × (status ≡ status_number report.status)
+abbrev pub Reports : ReportValue → Option (List ℕ) → Option (List ℕ) → Result JobStatus RunFault → Type 0
+Reports report old new (Ok status) = Appends old new (report_text report) × (status_seen status ≡ report.status)
 Reports report old new (Err (Text r)) = ⊥
 Reports report old new (Err Read) = ⊥
 Reports report old new (Err Write) = AppendsBeginning old new (report_text report)
 Reports report old new (Err Memory) = Keeps old new
+Reports report old new (Err (NotStarted k)) = ⊥
+Reports report old new (Err Internal) = ⊥
 
-abbrev pub Runs : ℕ → Option (List ℕ) → Option (List ℕ) → Option (List ℕ) → Result ℕ CommandFault → Type 0
-Runs limit input old new (Ok status) = (status ≤ 3) × IfSome input (λ bytes. WritesReport limit bytes old new status)
+-- why workers leave nothing
+abbrev pub IsOfPool : RunFault → Type 0
+IsOfPool (Text r) = ⊥
+IsOfPool Read = ⊥
+IsOfPool Write = ⊥
+IsOfPool Memory = Unit {0}
+IsOfPool (NotStarted k) = Unit {0}
+IsOfPool Internal = Unit {0}
+
+-- what the job of the input leaves within the limit was written, and nothing else, and this is how it ended; a text that is
+-- refused is refused at its first fault, with nothing written
+abbrev pub Runs : ℕ → Option (List ℕ) → Option (List ℕ) → Option (List ℕ) → Result JobStatus RunFault → Type 0
+Runs limit input old new (Ok status) = IfSome input (λ bytes. WritesReportOf limit bytes old new (status_seen status))
 Runs limit input old new (Err (Text r)) = IfSome input (λ bytes. job_in bytes ≡ Err r) × Keeps old new
 Runs limit input old new (Err Read) = Keeps old new
 Runs limit input old new (Err Write) = IfSome input (λ bytes. BeginsReport limit bytes old new)
 Runs limit input old new (Err Memory) = Keeps old new
+Runs limit input old new (Err (NotStarted k)) = Keeps old new
+Runs limit input old new (Err Internal) = Keeps old new
 
 -- and what is asked for, whichever it is
-abbrev pub Does : Asked → Option (List ℕ) → Option (List ℕ) → Option (List ℕ) → Result ℕ CommandFault → Type 0
+abbrev pub Does : Asked → Option (List ℕ) → Option (List ℕ) → Option (List ℕ) → Result ℕ RunFault → Type 0
 Does a input old new (Ok status) = (status ≤ 3) × IfSome input (λ bytes. Finishes a bytes old new status)
 Does a input old new (Err (Text r)) = IfSome input (λ bytes. Refuses a bytes r) × Keeps old new
 Does a input old new (Err Read) = Keeps old new
 Does a input old new (Err Write) = IfSome input (λ bytes. Begins a bytes old new)
 Does a input old new (Err Memory) = RunsOut a input old new
+Does a input old new (Err (NotStarted k)) = Keeps old new
+Does a input old new (Err Internal) = Keeps old new
 
--- a limit is at least 1
+-- workers and limit are in range
 abbrev pub IsAsked : Asked → Type 0
 IsAsked Trace = Unit {0}
 IsAsked Check = Unit {0}
-IsAsked (Run limit) = 1 ≤ limit
+IsAsked (Run workers limit) = ((1 ≤ workers) × (workers ≤ 64)) × ((1 ≤ limit) × (limit ≤ 1000000))
+
+-- how a run of a job ended, as a status
+abbrev pub end_result : Result JobStatus RunFault → Result ℕ RunFault
+end_result (Ok status) = Ok (status_number (status_seen status))
+end_result (Err fault) = Err fault
 
 -- the status that ends the program
-abbrev pub end_status : Result ℕ CommandFault → ℕ
+abbrev pub end_status : Result ℕ RunFault → ℕ
 end_status (Ok status) = status
 end_status (Err fault) = fault_status fault

@@ -37,7 +37,12 @@ BeginsCanonical input old new = (job : JobTree) × (job_in input ≡ Ok job) × 
 abbrev pub Leaves : ℕ → List ℕ → ReportValue → Type 0
 Leaves limit input report = (job : JobTree) × (job_in input ≡ Ok job) × (report_of (program_of_tree job) limit ≡ Some report)
 
--- what the job of the input leaves was written, and the status says how it ended
+-- what the job of the input leaves was written, and this is how it ended
+abbrev pub WritesReportOf : ℕ → List ℕ → Option (List ℕ) → Option (List ℕ) → Status → Type 0
+WritesReportOf limit input old new status =
+    (report : ReportValue) × Leaves limit input report × Appends old new (report_text report) × (status ≡ report.status)
+
+-- the same, with the number of the status
 abbrev pub WritesReport : ℕ → List ℕ → Option (List ℕ) → Option (List ℕ) → ℕ → Type 0
 WritesReport limit input old new status =
     (report : ReportValue) × Leaves limit input report × Appends old new (report_text report) × (status ≡ status_number report.status)

@@ -1,6 +1,6 @@
 -- What words ask for, and words that are refused (own).
 use Rattle.std.specs.Prelude.{◌≡◌, ℕ, true, List, [], ◌∷◌, codes}
-use Rattle.bsp_cli.specs.CommandLine.{asked_in, refused_by}
+use Rattle.bsp_cli.specs.CommandLine.{asked_in, refused_by, tree_asked}
 use Rattle.bsp_cli.specs.Did.{are_refused}
 use Rattle.clap.specs.declared.error.kind.ErrorKind.TheVariants.{DisplayHelp, DisplayVersion}
 use Rattle.bsp_cli.specs.declared.asked.Asked.{Asked}
@@ -10,17 +10,25 @@ use Rattle.bsp_cli.specs.declared.asked.Asked.TheVariants.{Trace, Check, Run}
 abbrev pub Asks : List (List ℕ) → Asked → Type 0
 Asks words a = (refused_by words ≡ []) × (asked_in words ≡ a)
 
+-- words that are taken, and the tree that they ask for
+abbrev pub AsksTree : List (List ℕ) → List ℕ → Type 0
+AsksTree words text = (refused_by words ≡ []) × (tree_asked words ≡ text)
+
 abbrev pub AreRefused : List (List ℕ) → Type 0
 AreRefused words = are_refused (refused_by words) ≡ true
 
--- the program under any name, a subcommand behind it, and the limits of `run`
+-- the program under any name, a subcommand behind it, and the options of `run`
 pub record WordsAsk (name : List ℕ) : Type 0 where
   pub trace : Asks (name ∷ codes "trace" ∷ []) Trace
   pub check : Asks (name ∷ codes "check" ∷ []) Check
-  pub run : Asks (name ∷ codes "run" ∷ []) (Run 1000000)
-  pub least : Asks (name ∷ codes "run" ∷ codes "--limit" ∷ codes "1" ∷ []) (Run 1)
-  pub most : Asks (name ∷ codes "run" ∷ codes "--limit" ∷ codes "1000000" ∷ []) (Run 1000000)
-  pub joined : Asks (name ∷ codes "run" ∷ codes "--limit=3" ∷ []) (Run 3)
+  pub run : Asks (name ∷ codes "run" ∷ []) (Run 1 1000000)
+  pub least : Asks (name ∷ codes "run" ∷ codes "--limit" ∷ codes "1" ∷ []) (Run 1 1)
+  pub most : Asks (name ∷ codes "run" ∷ codes "--limit" ∷ codes "1000000" ∷ []) (Run 1 1000000)
+  pub joined : Asks (name ∷ codes "run" ∷ codes "--limit=3" ∷ []) (Run 1 3)
+  pub one_worker : Asks (name ∷ codes "run" ∷ codes "--workers" ∷ codes "1" ∷ []) (Run 1 1000000)
+  pub many_workers : Asks (name ∷ codes "run" ∷ codes "--workers" ∷ codes "64" ∷ codes "--limit" ∷ codes "7" ∷ []) (Run 64 7)
+  pub flat : AsksTree (name ∷ codes "run" ∷ []) (codes "flat")
+  pub tree : AsksTree (name ∷ codes "run" ∷ codes "--tree" ∷ codes "2x3" ∷ []) (codes "2x3")
 
 -- words that aren't taken
 pub record WordsAreRefused (name : List ℕ) : Type 0 where
@@ -29,8 +37,9 @@ pub record WordsAreRefused (name : List ℕ) : Type 0 where
   pub more : AreRefused (name ∷ codes "check" ∷ codes "job" ∷ [])
   pub none : AreRefused (name ∷ codes "run" ∷ codes "--limit" ∷ codes "0" ∷ [])
   pub many : AreRefused (name ∷ codes "run" ∷ codes "--limit" ∷ codes "1000001" ∷ [])
-  pub workers : AreRefused (name ∷ codes "run" ∷ codes "--workers" ∷ codes "2" ∷ [])
-  pub tree : AreRefused (name ∷ codes "run" ∷ codes "--tree" ∷ codes "flat" ∷ [])
+  pub no_worker : AreRefused (name ∷ codes "run" ∷ codes "--workers" ∷ codes "0" ∷ [])
+  pub too_many_workers : AreRefused (name ∷ codes "run" ∷ codes "--workers" ∷ codes "65" ∷ [])
+  pub two_trees : AreRefused (name ∷ codes "run" ∷ codes "--tree" ∷ codes "2" ∷ codes "--tree" ∷ codes "2" ∷ [])
   pub twice : AreRefused (name ∷ codes "run" ∷ codes "--limit" ∷ codes "3" ∷ codes "--limit" ∷ codes "4" ∷ [])
   pub same : AreRefused (name ∷ codes "run" ∷ codes "--limit" ∷ codes "3" ∷ codes "--limit" ∷ codes "3" ∷ [])
 

@@ -1,8 +1,9 @@
 //! What a command line asks for.
-ghost use Rattle.std.specs.Prelude.{◌≡◌, ◌≤◌, false, IfOk, IfErr};
+ghost use Rattle.std.specs.Prelude.{◌≡◌, ◌≤◌, false, codes, IfOk, IfErr};
 ghost use Rattle.clap.specs.Words.{app_of, found_of, kind_of, rows_of, rule_of, subcommand_rows_of};
+ghost use Rattle.clap.specs.declared.builder.command.Command.TheViews.{out-Command as fields_of};
 ghost use Rattle.clap.specs.declared.error.kind.ErrorKind.TheVariants as kinds;
-ghost use Rattle.bsp_cli.specs.CommandLine.{asked_by, chosen, limit_in, limit_rule, program};
+ghost use Rattle.bsp_cli.specs.CommandLine.{asked_by, chosen, limit_in, number_rule, program, run_app, tree_by, tree_in, tree_rule, workers_in};
 ghost use Rattle.bsp_cli.specs.Ends.{IsAsked};
 
 use clap::{Arg, ArgAction, ArgMatches, Command, Error};
@@ -15,17 +16,32 @@ pub enum Asked {
     Trace,
     /// To check a job's text.
     Check,
-    /// To run a job, within this limit of supersteps.
-    Run(u32),
+    /// To run a job.
+    Run {
+        /// On so many workers.
+        workers: u32,
+        /// Within so many supersteps.
+        limit: u32,
+    },
+}
+
+/// What a command line asks for, with the text of the tree at which workers meet.
+#[derive(Clone, Copy)]
+pub(crate) struct Request<'a> {
+    pub(crate) asked: Asked,
+    pub(crate) tree: &'a str,
 }
 
 /// The version of the program, which `--version` prints.
 const VERSION: &str = "0.1.0";
 
-/// The most supersteps of a job, where no limit is given.
+/// The most supersteps of a job, also where no limit is given.
 const MOST_STEPS: u32 = 1_000_000;
 
-// What stands in a trace, for its help.
+/// The most workers.
+const MOST_WORKERS: u32 = 64;
+
+// What stands in a trace, and how it ends, for its help.
 const TRACE_LINES: &str = "The first line: phaser PARTIES [PHASE] [least L] [at Q]
 Then, one a line:
   register      one party registers
@@ -44,10 +60,36 @@ Then, one a line, with CALL: join T N, arrive, leave, poll or force:
   run K         token K goes on to its answer
   do K CALL     begin and run
   show T        shows tier T
-A line that begins with # is a comment.";
+Or the first line: barrier PARTIES [fails G]
+Then, one a line:
+  await C       caller C arrives
+  abandon C     caller C, which waits, leaves early
+  break         a party that won't come breaks the barrier
+  reset         the barrier begins anew
+  show          shows parties, waiting, generation, broken
+A line that begins with # is a comment.
 
-// What stands in a job, for the help of `check` and `run`.
-const JOB_LINES: &str = "The first line: bsp 1
+Statuses, and the line on standard error:
+  0  the trace ran
+  4  the text is refused: refused line L code C
+  5  command line refused
+  6  out of memory; the answers written so far stay
+  8  read or write failed
+
+Codes of refusals:
+  1   over 1048576 bytes
+  2   a byte that isn't allowed
+  3   no first line that begins a trace
+  4   a line whose first word isn't allowed there
+  6   not a number, or one out of its range
+  7   words too few, too many or misplaced
+  12  over 4096 commands, or over 256 tokens";
+
+// What stands in a job, how the command ends, and why a text is refused, for the help of `check` and `run`.
+macro_rules! job_help {
+    ($ends:literal) => {
+        concat!(
+            "The first line: bsp 1
 Then, one a line:
   array NAME LENGTH [VALUE ..]  an array; values left out are 0
   body NAME                     a body begins, and a line end ends it
@@ -61,11 +103,84 @@ In a body:
   if EXPR, else, end            one branch or the other
   while EXPR, end               as long as EXPR isn't 0
 EXPR is a value, or two with one of + - * / % < <= == != between; a value is a number,
-a local, arg, step or ARRAY[INDEX]. A line that begins with # is a comment.";
+a local, arg, step or ARRAY[INDEX]. A line that begins with # is a comment.",
+            $ends,
+            "Codes of refusals:
+  1   over 1048576 bytes
+  2   a byte that isn't allowed
+  3   the first line isn't bsp 1
+  4   a line whose first word isn't allowed there
+  5   not a name
+  6   not a number, or one out of its range
+  7   words too few, too many or misplaced
+  8   an array or a body declared twice
+  9   no such array above, or no such body
+  10  the text ends in a body
+  11  an else that fits no if
+  12  past a limit of the language
+  13  a length outside 1 to 4096, or more values than the length
+  14  a reserved word as a name",
+        )
+    };
+}
+
+// The help of `check`.
+const CHECK_LINES: &str = job_help!(
+    "
+
+Statuses, and the line on standard error:
+  0  the text is a job's
+  4  the text is refused: refused line L code C
+  5  command line refused
+  6  out of memory
+  8  read or write failed
+
+"
+);
+
+// The help of `run`.
+const RUN_LINES: &str = job_help!(
+    "
+
+Statuses, and the line on standard error:
+  0  the job ended
+  2  a task faulted; the report is printed
+  3  the limit was reached with live tasks; the report is printed
+  4  the text is refused: refused line L code C
+  5  command line refused
+  6  out of memory
+  7  worker K not started
+  8  read or write failed
+  9  internal: workers met a refusal that they never meet
+
+Faults, as the report's last line tells them:
+  1  a result doesn't fit 64 bits
+  2  a division by 0
+  3  an index outside its array
+  4  statement number 100001 of a task in one superstep
+  5  a spawn by a task whose path has 8 numbers
+  6  the ninth spawn of a task in one superstep, or its 65536th in all
+  7  over 4096 tasks would live on
+
+"
+);
+
+// The option `--workers`.
+fn workers_option<'a>(alloc: Global) -> Arg<'a>
+    ensures rule { rule_of result ≡ number_rule (codes "workers") 64 }
+    ensures local { result.global ≡ false }
+{
+    Arg::new(alloc, "workers")
+        .long("workers")
+        .value_name("N")
+        .help("How many threads run the tasks, 1 to 64; 1 where it isn't given")
+        .action(ArgAction::Set)
+        .value_parser(clap::value_parser!(u32).range(1..=64))
+}
 
 // The option `--limit`.
 fn limit_option<'a>(alloc: Global) -> Arg<'a>
-    ensures rule { rule_of result ≡ limit_rule }
+    ensures rule { rule_of result ≡ number_rule (codes "limit") 1000000 }
     ensures local { result.global ≡ false }
 {
     Arg::new(alloc, "limit")
@@ -76,6 +191,37 @@ fn limit_option<'a>(alloc: Global) -> Arg<'a>
         .value_parser(clap::value_parser!(u32).range(1..=1_000_000))
 }
 
+// The option `--tree`.
+fn tree_option<'a>(alloc: Global) -> Arg<'a>
+    ensures rule { rule_of result ≡ tree_rule }
+    ensures local { result.global ≡ false }
+{
+    Arg::new(alloc, "tree")
+        .long("tree")
+        .value_name("WIDTHS")
+        .help(
+            "The tree at which workers meet: flat, or widths from the root as 2x3; flat where it isn't given",
+        )
+        .action(ArgAction::Set)
+}
+
+// The subcommand `run` with its options.
+fn run_command<'a>(alloc: Global) -> Result<Command<'a>, Error>
+    ensures app { IfOk result (λ c. app_of c ≡ run_app) }
+    ensures local { IfOk result (λ c. (fields_of c).has_globals ≡ false) }
+    ensures memory { IfErr result (λ e. kind_of e ≡ kinds.OutOfMemory) }
+{
+    let bare = Command::new(alloc, "run")
+        .about(
+            "Runs a job, and prints its supersteps with what they print, its arrays, and how it ended",
+        )
+        .after_help(RUN_LINES);
+    let with_workers = bare.arg(workers_option(alloc))?;
+    let with_tree = with_workers.arg(tree_option(alloc))?;
+    let with_limit = with_tree.arg(limit_option(alloc))?;
+    Ok(with_limit)
+}
+
 /// The parser of the command line.
 pub(crate) fn parser<'a>(alloc: Global) -> Result<Command<'a>, Error>
     ensures app { IfOk result (λ c. app_of c ≡ program) }
@@ -83,18 +229,13 @@ pub(crate) fn parser<'a>(alloc: Global) -> Result<Command<'a>, Error>
 {
     let trace = Command::new(alloc, "trace")
         .about(
-            "Runs the calls of a trace, one a line, on a phaser or a tree of phasers, and prints what they answer",
+            "Runs the calls of a trace, one a line, on a phaser, a tree of phasers or a barrier, and prints what they answer",
         )
         .after_help(TRACE_LINES);
     let check = Command::new(alloc, "check")
         .about("Checks the text of a job, and prints it in its one canonical form")
-        .after_help(JOB_LINES);
-    let run = Command::new(alloc, "run")
-        .about(
-            "Runs a job, and prints its supersteps with what they print, its arrays, and how it ended",
-        )
-        .after_help(JOB_LINES)
-        .arg(limit_option(alloc))?;
+        .after_help(CHECK_LINES);
+    let run = run_command(alloc)?;
     Ok(
         Command::new(alloc, "bsp")
             .about("Phasers and bulk-synchronous jobs, from standard input to standard output")
@@ -106,40 +247,77 @@ pub(crate) fn parser<'a>(alloc: Global) -> Result<Command<'a>, Error>
     )
 }
 
-// The limit that was read, where it is one.
-fn within(limit: Option<u32>) -> u32
-    ensures limit { result ≡ chosen limit }
+// The number that was read, where it is one of 1 to `most`; else the usual one.
+fn within(given: Option<u32>, most: u32, usual: u32) -> u32
+    requires usual { (1 ≤ usual) × (usual ≤ most) }
+    ensures number { result ≡ chosen most usual given }
     ensures least { 1 ≤ result }
+    ensures most { result ≤ most }
 {
-    match limit {
-        Some(limit) if 1 <= limit && limit <= MOST_STEPS => limit,
-        _ => MOST_STEPS,
+    match given {
+        Some(number) if 1 <= number && number <= most => number,
+        _ => usual,
     }
+}
+
+// The number of workers.
+fn workers_of(matches: &ArgMatches<'_>) -> u32
+    ensures workers { result ≡ workers_in (rows_of (found_of matches.now)) }
+    ensures least { 1 ≤ result }
+    ensures most { result ≤ 64 }
+{
+    within(matches.get_one::<u32>("workers"), MOST_WORKERS, 1)
 }
 
 // The limit of supersteps.
 fn limit_of(matches: &ArgMatches<'_>) -> u32
     ensures limit { result ≡ limit_in (rows_of (found_of matches.now)) }
     ensures least { 1 ≤ result }
+    ensures most { result ≤ 1000000 }
 {
-    within(matches.get_one::<u32>("limit"))
+    within(matches.get_one::<u32>("limit"), MOST_STEPS, MOST_STEPS)
+}
+
+// The text of the tree.
+fn tree_of<'a>(matches: &ArgMatches<'a>) -> &'a str
+    ensures { result.now ≡ tree_in (rows_of (found_of matches.now)) }
+{
+    match matches.get_str("tree") {
+        Some(text) => text,
+        None => "flat",
+    }
 }
 
 /// What words that are taken ask for.
-pub(crate) fn asked_for(matches: &ArgMatches<'_>) -> Asked
-    ensures asked { result ≡ asked_by (subcommand_rows_of matches.now) }
-    ensures limit { IsAsked result }
+pub(crate) fn asked_for<'a>(matches: &ArgMatches<'a>) -> Request<'a>
+    ensures asked { result.asked ≡ asked_by (subcommand_rows_of matches.now) }
+    ensures tree { result.tree.now ≡ tree_by (subcommand_rows_of matches.now) }
+    ensures limit { IsAsked result.asked }
 {
     match matches.subcommand() {
         Some((name, options)) => {
             if name == "check" {
-                return Asked::Check;
+                return Request {
+                    asked: Asked::Check,
+                    tree: "flat",
+                };
             }
             if name == "run" {
-                return Asked::Run(limit_of(options));
+                let workers = workers_of(options);
+                let limit = limit_of(options);
+                return Request {
+                    asked: Asked::Run { workers, limit },
+                    tree: tree_of(options),
+                };
             }
-            Asked::Trace
+            Request {
+                asked: Asked::Trace,
+                tree: "flat",
+            }
         }
-        None => Asked::Trace,
+        None => Request {
+            asked: Asked::Trace,
+            tree: "flat",
+        },
     }
 }

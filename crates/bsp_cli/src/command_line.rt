@@ -1,33 +1,47 @@
 //! The command line.
-ghost use Rattle.std.specs.Prelude.{◌≡◌, ◌≢◌, ◌≤◌, ◌⊎◌, ◌+◌, [], ◌∷◌, true, IfOk, IfErr, map, codes};
+ghost use Rattle.std.specs.Prelude.{◌≡◌, ◌≢◌, ◌≤◌, ◌⊎◌, ◌+◌, [], ◌∷◌, true, Ok, IfOk, IfErr, IsOk, IsErr, MatchOption, map, codes};
 ghost use Rattle.clap.specs.Words.{HasKind, kind_of};
 ghost use Rattle.clap.specs.declared.error.kind.ErrorKind.TheVariants as kinds;
-ghost use Rattle.bsp_cli.specs.CommandLine.{asked_in, refused_by};
+ghost use Rattle.tier_shape.specs.Told.{shape_told};
+ghost use Rattle.bsp_cli.specs.CommandLine.{asked_in, refused_by, tree_asked};
 ghost use Rattle.bsp_cli.specs.Did.{Did, are_refused};
 ghost use Rattle.bsp_cli.specs.Ends.{Does, IsAsked, ReadCause, WriteCause};
 ghost use Rattle.bsp_cli.specs.Texts.{Tells};
 
-use crate::asked::{Asked, asked_for, parser};
-use crate::fault::{CommandFault, tell};
-use crate::job::{check, run_job};
-use crate::status::{COMMAND_LINE_REFUSED, DEVICE_FAILED, OUT_OF_MEMORY};
+use crate::asked::{Asked, Request, asked_for, parser};
+use crate::fault::{RunFault, tell};
+use crate::job::{check, run_bytes, run_status};
+use crate::status::{COMMAND_LINE_REFUSED, DEVICE_FAILED, INTERNAL, OUT_OF_MEMORY};
 use crate::trace::trace;
 use clap::Error;
 use clap::error::ErrorKind;
 use phase_records::{CountedRead, CountedWrite, write_all};
-use std::alloc::Global;
+use std::alloc::{AllocError, Global};
 use std::convert::AsStr;
+use std::sync::Wait;
+use std::thread::Threads;
+use tier_shape::Shape;
 
 // What words ask for.
-fn parse<'a, S: AsStr>(alloc: Global, words: &'a [S]) -> Result<Asked, Error>
-    ensures taken { IfOk result (λ a. refused_by (map S.text words.entry.now) ≡ []) }
-    ensures asked { IfOk result (λ a. a ≡ asked_in (map S.text words.entry.now)) }
-    ensures limit { IfOk result (λ a. IsAsked a) }
+fn parse<'a, S: AsStr>(alloc: Global, words: &'a [S]) -> Result<Request<'a>, Error>
+    ensures taken { IfOk result (λ r. refused_by (map S.text words.entry.now) ≡ []) }
+    ensures asked { IfOk result (λ r. r.asked ≡ asked_in (map S.text words.entry.now)) }
+    ensures tree { IfOk result (λ r. r.tree.now ≡ tree_asked (map S.text words.entry.now)) }
+    ensures limit { IfOk result (λ r. IsAsked r.asked) }
     ensures err { IfErr result (HasKind (refused_by (map S.text words.entry.now))) }
 {
     let command = parser(alloc)?;
     let matches = command.try_get_matches_from(words)?;
     Ok(asked_for(&matches))
+}
+
+// Tells that the command line is refused.
+fn refuse<E: CountedWrite>(errors: &mut E) -> u8
+    ensures status { result ≡ COMMAND_LINE_REFUSED }
+    ensures tells { Tells (E.contents errors.old) (E.contents errors.new) (E.failures errors.old) (E.failures errors.new) (codes "command line refused\n") }
+{
+    let _ = write_all(errors, b"command line refused\n");
+    COMMAND_LINE_REFUSED
 }
 
 // What a command line that isn't taken gets: help, the version, or a refusal.
@@ -58,25 +72,24 @@ fn answer_error<W: CountedWrite, E: CountedWrite>(
         ErrorKind::DisplayHelp | ErrorKind::DisplayVersion => match error.to_string(alloc) {
             Ok(text) => match write_all(writer, text.as_bytes()) {
                 Ok(()) => 0,
-                Err(_) => tell(errors, CommandFault::Write),
+                Err(_) => tell(errors, RunFault::Write),
             },
-            Err(_) => tell(errors, CommandFault::Memory),
+            Err(_) => tell(errors, RunFault::Memory),
         },
-        ErrorKind::OutOfMemory => tell(errors, CommandFault::Memory),
-        _ => {
-            let _ = write_all(errors, b"command line refused\n");
-            COMMAND_LINE_REFUSED
-        }
+        ErrorKind::OutOfMemory => tell(errors, RunFault::Memory),
+        _ => refuse(errors),
     }
 }
 
 // Does what is asked for, and answers the status.
-fn do_asked<R: CountedRead, W: CountedWrite>(
+fn do_asked<T: Threads + Wait + Sync, R: CountedRead, W: CountedWrite>(
+    rt: &T,
     alloc: Global,
     asked: Asked,
+    shape: Shape,
     reader: &mut R,
     writer: &mut W,
-) -> Result<u8, CommandFault>
+) -> Result<u8, RunFault>
     requires { IsAsked asked }
     ensures does { Does asked (R.remaining reader.old) (W.contents writer.old) (W.contents writer.new) result }
     ensures read_failures { ReadCause (R.failures reader.old) (R.failures reader.new) result }
@@ -91,14 +104,18 @@ fn do_asked<R: CountedRead, W: CountedWrite>(
             Ok(()) => Ok(0),
             Err(fault) => Err(fault),
         },
-        Asked::Run(limit) => run_job(alloc, reader, writer, limit),
+        Asked::Run { workers, limit } => run_status(run_bytes(
+            rt, alloc, reader, writer, shape, workers, limit,
+        )),
     }
 }
 
 // Does what is asked for, answers the status, and tells what went wrong.
-fn run_asked<R: CountedRead, W: CountedWrite, E: CountedWrite>(
+fn run_asked<T: Threads + Wait + Sync, R: CountedRead, W: CountedWrite, E: CountedWrite>(
+    rt: &T,
     alloc: Global,
     asked: Asked,
+    shape: Shape,
     reader: &mut R,
     writer: &mut W,
     errors: &mut E,
@@ -106,46 +123,56 @@ fn run_asked<R: CountedRead, W: CountedWrite, E: CountedWrite>(
     requires { IsAsked asked }
     ensures did { Did asked (R.remaining reader.old) (W.contents writer.old) (W.contents writer.new)
         (Tells (E.contents errors.old) (E.contents errors.new) (E.failures errors.old) (E.failures errors.new)) result }
-    ensures status { (result ≤ 4) ⊎ (result ≡ OUT_OF_MEMORY) ⊎ (result ≡ DEVICE_FAILED) }
+    ensures status { (result ≤ 9) × (result ≢ COMMAND_LINE_REFUSED) }
     ensures silent { result ≤ 3 → errors.new ≡ errors.old }
     ensures tells_memory { result ≡ OUT_OF_MEMORY
         → Tells (E.contents errors.old) (E.contents errors.new) (E.failures errors.old) (E.failures errors.new) (codes "out of memory\n") }
     ensures tells_failure { result ≡ DEVICE_FAILED
         → Tells (E.contents errors.old) (E.contents errors.new) (E.failures errors.old) (E.failures errors.new) (codes "read or write failed\n") }
+    ensures tells_internal { result ≡ INTERNAL
+        → Tells (E.contents errors.old) (E.contents errors.new) (E.failures errors.old) (E.failures errors.new) (codes "internal\n") }
     ensures failed { result ≡ DEVICE_FAILED
         → R.failures reader.new + W.failures writer.new ≡ R.failures reader.old + W.failures writer.old + 1 }
     ensures worked { result ≢ DEVICE_FAILED
         → (R.failures reader.new ≡ R.failures reader.old) × (W.failures writer.new ≡ W.failures writer.old) }
 {
-    match do_asked(alloc, asked, reader, writer) {
+    match do_asked(rt, alloc, asked, shape, reader, writer) {
         Ok(status) => status,
         Err(fault) => tell(errors, fault),
     }
 }
 
-/// Does what a command line asks for, its first word being the program's name, and answers the status
-/// that the program ends with. What is asked for is read from `reader`, and what it prints goes to
-/// `writer`; where the status isn't 0, 2 or 3, `errors` gets one line.
-pub fn run<'a, S: AsStr, R: CountedRead, W: CountedWrite, E: CountedWrite>(
+// The tree that a text says; `None` where it says none.
+fn shape_of(alloc: Global, text: &str) -> Result<Option<Shape>, AllocError>
+    ensures { IfOk result (λ found. MatchOption found (IsErr (shape_told text.now)) (λ shape. shape_told text.now ≡ Ok shape)) }
+{
+    match Shape::from_widths(alloc, text) {
+        Ok(shape) => Ok(Some(shape)),
+        Err(fault) => {
+            if fault.number().is_none() {
+                return Err(AllocError);
+            }
+            Ok(None)
+        }
+    }
+}
+
+// Does what is asked for at the tree that is asked for, if its text says one.
+fn run_request<T: Threads + Wait + Sync, R: CountedRead, W: CountedWrite, E: CountedWrite>(
+    rt: &T,
     alloc: Global,
-    words: &'a [S],
+    request: Request<'_>,
     reader: &mut R,
     writer: &mut W,
     errors: &mut E,
 ) -> u8
-    ensures did { refused_by (map S.text words.entry.now) ≡ []
-        → Did (asked_in (map S.text words.entry.now)) (R.remaining reader.old) (W.contents writer.old) (W.contents writer.new)
+    requires { IsAsked request.asked }
+    ensures did { Did request.entry.asked (R.remaining reader.old) (W.contents writer.old) (W.contents writer.new)
         (Tells (E.contents errors.old) (E.contents errors.new) (E.failures errors.old) (E.failures errors.new)) result }
-    ensures taken { refused_by (map S.text words.entry.now) ≡ [] → result ≢ COMMAND_LINE_REFUSED }
-    ensures helps { refused_by (map S.text words.entry.now) ≡ kinds.DisplayHelp ∷ []
-        → (reader.new ≡ reader.old) × ((result ≡ 0) ⊎ (result ≡ OUT_OF_MEMORY) ⊎ (result ≡ DEVICE_FAILED)) }
-    ensures tells_version { refused_by (map S.text words.entry.now) ≡ kinds.DisplayVersion ∷ []
-        → (reader.new ≡ reader.old) × ((result ≡ 0) ⊎ (result ≡ OUT_OF_MEMORY) ⊎ (result ≡ DEVICE_FAILED)) }
-    ensures refuses { are_refused (refused_by (map S.text words.entry.now)) ≡ true
-        → (result ≡ COMMAND_LINE_REFUSED) ⊎ (result ≡ OUT_OF_MEMORY) }
-    ensures untouched { refused_by (map S.text words.entry.now) ≢ [] → reader.new ≡ reader.old }
-    ensures nothing_written { refused_by (map S.text words.entry.now) ≢ [] → result ≡ OUT_OF_MEMORY → writer.new ≡ writer.old }
-    ensures status { (result ≤ 6) ⊎ (result ≡ DEVICE_FAILED) }
+    ensures taken { IsOk (shape_told request.entry.tree.now) → result ≢ COMMAND_LINE_REFUSED }
+    ensures no_tree { IsErr (shape_told request.entry.tree.now)
+        → (reader.new ≡ reader.old) × (writer.new ≡ writer.old) × ((result ≡ COMMAND_LINE_REFUSED) ⊎ (result ≡ OUT_OF_MEMORY)) }
+    ensures status { result ≤ 9 }
     ensures silent { result ≤ 3 → errors.new ≡ errors.old }
     ensures command_line_refused { result ≡ COMMAND_LINE_REFUSED → (reader.new ≡ reader.old) × (writer.new ≡ writer.old) }
     ensures tells_refused_command_line { result ≡ COMMAND_LINE_REFUSED
@@ -154,13 +181,64 @@ pub fn run<'a, S: AsStr, R: CountedRead, W: CountedWrite, E: CountedWrite>(
         → Tells (E.contents errors.old) (E.contents errors.new) (E.failures errors.old) (E.failures errors.new) (codes "out of memory\n") }
     ensures tells_failure { result ≡ DEVICE_FAILED
         → Tells (E.contents errors.old) (E.contents errors.new) (E.failures errors.old) (E.failures errors.new) (codes "read or write failed\n") }
+    ensures tells_internal { result ≡ INTERNAL
+        → Tells (E.contents errors.old) (E.contents errors.new) (E.failures errors.old) (E.failures errors.new) (codes "internal\n") }
+    ensures failed { result ≡ DEVICE_FAILED
+        → R.failures reader.new + W.failures writer.new ≡ R.failures reader.old + W.failures writer.old + 1 }
+    ensures worked { result ≢ DEVICE_FAILED
+        → (R.failures reader.new ≡ R.failures reader.old) × (W.failures writer.new ≡ W.failures writer.old) }
+{
+    match shape_of(alloc, request.tree) {
+        Ok(Some(shape)) => run_asked(rt, alloc, request.asked, shape, reader, writer, errors),
+        Ok(None) => refuse(errors),
+        Err(_) => tell(errors, RunFault::Memory),
+    }
+}
+
+/// Does what a command line asks for, its first word being the program's name, and answers the status
+/// that the program ends with. What is asked for is read from `reader`, and what it prints goes to
+/// `writer`; where the status isn't 0, 2 or 3, `errors` gets one line.
+pub fn run<
+    'a,
+    T: Threads + Wait + Sync,
+    S: AsStr,
+    R: CountedRead,
+    W: CountedWrite,
+    E: CountedWrite,
+>(rt: &T, alloc: Global, words: &'a [S], reader: &mut R, writer: &mut W, errors: &mut E) -> u8
+    ensures did { refused_by (map S.text words.entry.now) ≡ []
+        → Did (asked_in (map S.text words.entry.now)) (R.remaining reader.old) (W.contents writer.old) (W.contents writer.new)
+        (Tells (E.contents errors.old) (E.contents errors.new) (E.failures errors.old) (E.failures errors.new)) result }
+    ensures taken { refused_by (map S.text words.entry.now) ≡ [] → IsOk (shape_told (tree_asked (map S.text words.entry.now)))
+        → result ≢ COMMAND_LINE_REFUSED }
+    ensures no_tree { refused_by (map S.text words.entry.now) ≡ [] → IsErr (shape_told (tree_asked (map S.text words.entry.now)))
+        → (reader.new ≡ reader.old) × (writer.new ≡ writer.old) × ((result ≡ COMMAND_LINE_REFUSED) ⊎ (result ≡ OUT_OF_MEMORY)) }
+    ensures helps { refused_by (map S.text words.entry.now) ≡ kinds.DisplayHelp ∷ []
+        → (reader.new ≡ reader.old) × ((result ≡ 0) ⊎ (result ≡ OUT_OF_MEMORY) ⊎ (result ≡ DEVICE_FAILED)) }
+    ensures tells_version { refused_by (map S.text words.entry.now) ≡ kinds.DisplayVersion ∷ []
+        → (reader.new ≡ reader.old) × ((result ≡ 0) ⊎ (result ≡ OUT_OF_MEMORY) ⊎ (result ≡ DEVICE_FAILED)) }
+    ensures refuses { are_refused (refused_by (map S.text words.entry.now)) ≡ true
+        → (result ≡ COMMAND_LINE_REFUSED) ⊎ (result ≡ OUT_OF_MEMORY) }
+    ensures untouched { refused_by (map S.text words.entry.now) ≢ [] → reader.new ≡ reader.old }
+    ensures nothing_written { refused_by (map S.text words.entry.now) ≢ [] → result ≡ OUT_OF_MEMORY → writer.new ≡ writer.old }
+    ensures status { result ≤ 9 }
+    ensures silent { result ≤ 3 → errors.new ≡ errors.old }
+    ensures command_line_refused { result ≡ COMMAND_LINE_REFUSED → (reader.new ≡ reader.old) × (writer.new ≡ writer.old) }
+    ensures tells_refused_command_line { result ≡ COMMAND_LINE_REFUSED
+        → Tells (E.contents errors.old) (E.contents errors.new) (E.failures errors.old) (E.failures errors.new) (codes "command line refused\n") }
+    ensures tells_memory { result ≡ OUT_OF_MEMORY
+        → Tells (E.contents errors.old) (E.contents errors.new) (E.failures errors.old) (E.failures errors.new) (codes "out of memory\n") }
+    ensures tells_failure { result ≡ DEVICE_FAILED
+        → Tells (E.contents errors.old) (E.contents errors.new) (E.failures errors.old) (E.failures errors.new) (codes "read or write failed\n") }
+    ensures tells_internal { result ≡ INTERNAL
+        → Tells (E.contents errors.old) (E.contents errors.new) (E.failures errors.old) (E.failures errors.new) (codes "internal\n") }
     ensures failed { result ≡ DEVICE_FAILED
         → R.failures reader.new + W.failures writer.new ≡ R.failures reader.old + W.failures writer.old + 1 }
     ensures worked { result ≢ DEVICE_FAILED
         → (R.failures reader.new ≡ R.failures reader.old) × (W.failures writer.new ≡ W.failures writer.old) }
 {
     match parse(alloc, words) {
-        Ok(asked) => run_asked(alloc, asked, reader, writer, errors),
+        Ok(request) => run_request(rt, alloc, request, reader, writer, errors),
         Err(error) => answer_error(alloc, writer, errors, &error),
     }
 }

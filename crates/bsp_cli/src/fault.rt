@@ -2,24 +2,35 @@
 ghost use Rattle.std.specs.Prelude.{◌≡◌, ◌++◌, OnOk};
 ghost use Rattle.std.specs.Io.KnownBytes.{Appends};
 ghost use Rattle.phase_records.specs.Device.{CountsFailure};
-ghost use Rattle.bsp_cli.specs.Texts.{refusal_line, fault_text, fault_status, Tells};
+ghost use Rattle.bsp_cli.specs.Texts.{refusal_line, worker_line, fault_text, fault_status, Tells};
 
-use crate::status::{DEVICE_FAILED, OUT_OF_MEMORY, TEXT_REFUSED};
+use crate::status::{DEVICE_FAILED, INTERNAL, NOT_STARTED, OUT_OF_MEMORY, TEXT_REFUSED};
 use itoa::{Buffer, Integer};
 use phase_records::{CountedWrite, DeviceFailed, write_all};
 use text_lines::Refusal;
+use thiserror::Error;
 
-/// Why a command did not end.
-#[derive(Clone, Copy, Debug, PartialEq, Eq)]
-pub(crate) enum CommandFault {
-    /// The text is refused, first here.
+/// Why a command did not end (own).
+#[derive(Clone, Copy, Debug, PartialEq, Eq, Error)]
+pub enum RunFault {
+    /// The text is refused, first here. Nothing was written.
+    #[error("refused line {} code {}", .0.line, .0.code.number())]
     Text(Refusal),
-    /// The reader failed.
+    /// The reader failed. Nothing was written.
+    #[error("read or write failed")]
     Read,
-    /// The writer failed.
+    /// The writer failed, and a beginning of the output was written.
+    #[error("read or write failed")]
     Write,
     /// There was no memory.
+    #[error("out of memory")]
     Memory,
+    /// The worker of this number, from 0, couldn't be started. Nothing was written.
+    #[error("worker {0} not started")]
+    NotStarted(u32),
+    /// Workers met a refusal that they never meet. Nothing was written.
+    #[error("internal")]
+    Internal,
 }
 
 // Writes a name and a number behind it.
@@ -45,23 +56,40 @@ fn write_refusal<E: CountedWrite>(errors: &mut E, refusal: Refusal) -> Result<()
     write_all(errors, b"\n")
 }
 
+// Writes the line of a worker that wasn't started.
+fn write_worker<E: CountedWrite>(errors: &mut E, k: u32) -> Result<(), DeviceFailed>
+    ensures ok { OnOk result (Appends (E.contents errors.old) (E.contents errors.new) (worker_line k)) }
+    ensures failures { CountsFailure (E.failures errors.old) (E.failures errors.new) result }
+{
+    write_field(errors, b"worker ", k)?;
+    write_all(errors, b" not started\n")
+}
+
 /// Tells why a command did not end, and answers the status. A writer of errors that fails changes nothing else.
-pub(crate) fn tell<E: CountedWrite>(errors: &mut E, fault: CommandFault) -> u8
+pub(crate) fn tell<E: CountedWrite>(errors: &mut E, fault: RunFault) -> u8
     ensures status { result ≡ fault_status fault }
     ensures tells { Tells (E.contents errors.old) (E.contents errors.new) (E.failures errors.old) (E.failures errors.new) (fault_text fault) }
 {
     match fault {
-        CommandFault::Text(refusal) => {
+        RunFault::Text(refusal) => {
             let _ = write_refusal(errors, refusal);
             TEXT_REFUSED
         }
-        CommandFault::Memory => {
+        RunFault::Memory => {
             let _ = write_all(errors, b"out of memory\n");
             OUT_OF_MEMORY
         }
-        CommandFault::Read | CommandFault::Write => {
+        RunFault::Read | RunFault::Write => {
             let _ = write_all(errors, b"read or write failed\n");
             DEVICE_FAILED
+        }
+        RunFault::NotStarted(k) => {
+            let _ = write_worker(errors, k);
+            NOT_STARTED
+        }
+        RunFault::Internal => {
+            let _ = write_all(errors, b"internal\n");
+            INTERNAL
         }
     }
 }

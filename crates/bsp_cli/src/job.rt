@@ -1,21 +1,28 @@
 //! The subcommands `check` and `run`.
-ghost use Rattle.std.specs.Prelude.{◌≡◌, ◌≤◌};
+ghost use Rattle.std.specs.Prelude.{◌≡◌, ◌≤◌, Some, IfOk};
 ghost use Rattle.phase_records.specs.StatusSeen.{status_seen};
 ghost use Rattle.bsp_cli.specs.Jobs.{status_number};
-ghost use Rattle.bsp_cli.specs.Ends.{TakesJob, Checks, Reports, Runs, ReadCause, WriteCause};
+ghost use Rattle.step_core.specs.Program.{program_of};
+ghost use Rattle.step_core.specs.JobMeaning.{report_of};
+ghost use Rattle.bsp_cli.specs.Ends.{TakesJob, Checks, IsOfPool, Reports, Runs, ReadCause, WriteCause, end_result};
 
-use crate::fault::CommandFault;
+use crate::fault::RunFault;
 use crate::status::{LIMIT_REACHED, TASK_FAULT};
+use advance_rule::{EndPlan, StoredAdvance};
 use job_reader::{Code, ReadJobFault, Refusal, read_job, write_job};
 use phase_records::{
     CountedRead, CountedWrite, JobStatus, ReadFault, Report, WriteFault, read_all, write_report,
 };
 use std::alloc::Global;
+use std::sync::Wait;
+use std::thread::Threads;
 use step_core::run_alone;
 use task_lang::job::Job;
+use tier_shape::Shape;
+use worker_pool::{AllStart, OpenGate, Refused, run_job};
 
 // Reads a job to the reader's end.
-fn take_job<R: CountedRead>(alloc: Global, reader: &mut R) -> Result<Job, CommandFault>
+fn take_job<R: CountedRead>(alloc: Global, reader: &mut R) -> Result<Job, RunFault>
     ensures takes { TakesJob (R.remaining reader.old) result }
     ensures failures { ReadCause (R.failures reader.old) (R.failures reader.new) result }
 {
@@ -23,15 +30,15 @@ fn take_job<R: CountedRead>(alloc: Global, reader: &mut R) -> Result<Job, Comman
         Ok(text) => text,
         Err(ReadFault::TooLong) => {
             let code = Code::TooLong;
-            return Err(CommandFault::Text(Refusal { line: 1, code }));
+            return Err(RunFault::Text(Refusal { line: 1, code }));
         }
-        Err(ReadFault::Read) => return Err(CommandFault::Read),
-        Err(ReadFault::Memory) => return Err(CommandFault::Memory),
+        Err(ReadFault::Read) => return Err(RunFault::Read),
+        Err(ReadFault::Memory) => return Err(RunFault::Memory),
     };
     match read_job(alloc, &text) {
         Ok(job) => Ok(job),
-        Err(ReadJobFault::Text(refusal)) => Err(CommandFault::Text(refusal)),
-        Err(ReadJobFault::Memory) => Err(CommandFault::Memory),
+        Err(ReadJobFault::Text(refusal)) => Err(RunFault::Text(refusal)),
+        Err(ReadJobFault::Memory) => Err(RunFault::Memory),
     }
 }
 
@@ -40,7 +47,7 @@ pub(crate) fn check<R: CountedRead, W: CountedWrite>(
     alloc: Global,
     reader: &mut R,
     writer: &mut W,
-) -> Result<(), CommandFault>
+) -> Result<(), RunFault>
     ensures checks { Checks (R.remaining reader.old) (W.contents writer.old) (W.contents writer.new) result }
     ensures read_failures { ReadCause (R.failures reader.old) (R.failures reader.new) result }
     ensures write_failures { WriteCause (W.failures writer.old) (W.failures writer.new) result }
@@ -51,8 +58,8 @@ pub(crate) fn check<R: CountedRead, W: CountedWrite>(
     };
     match write_job(alloc, &job, writer) {
         Ok(()) => Ok(()),
-        Err(WriteFault::Write) => Err(CommandFault::Write),
-        Err(WriteFault::Memory) => Err(CommandFault::Memory),
+        Err(WriteFault::Write) => Err(RunFault::Write),
+        Err(WriteFault::Memory) => Err(RunFault::Memory),
     }
 }
 
@@ -67,30 +74,87 @@ fn end_status(status: &JobStatus) -> u8
     }
 }
 
-// Writes a report, and answers the status of its job.
-fn write_end<W: CountedWrite>(
-    alloc: Global,
-    report: &Report,
-    writer: &mut W,
-) -> Result<u8, CommandFault>
-    ensures reports { Reports report.now (W.contents writer.old) (W.contents writer.new) result }
-    ensures write_failures { WriteCause (W.failures writer.old) (W.failures writer.new) result }
+/// The status of a run that ended so, or why it didn't.
+pub(crate) fn run_status(ended: Result<JobStatus, RunFault>) -> Result<u8, RunFault>
+    ensures { result ≡ end_result ended }
 {
-    match write_report(alloc, report, writer) {
-        Ok(()) => Ok(end_status(&report.status)),
-        Err(WriteFault::Write) => Err(CommandFault::Write),
-        Err(WriteFault::Memory) => Err(CommandFault::Memory),
+    match ended {
+        Ok(status) => Ok(end_status(&status)),
+        Err(fault) => Err(fault),
     }
 }
 
-/// Reads a job, runs it within this limit of supersteps, writes its report, and answers the status.
-pub(crate) fn run_job<R: CountedRead, W: CountedWrite>(
+// What a job leaves within this limit of supersteps. One worker alone has nobody to share with.
+fn leave<T: Threads + Wait + Sync>(
+    rt: &T,
+    alloc: Global,
+    job: &Job,
+    shape: Shape,
+    workers: u32,
+    limit: u32,
+) -> Result<Report, Refused>
+    requires workers { (1 ≤ workers) × (workers ≤ 64) }
+    requires limit { (1 ≤ limit) × (limit ≤ 2147483648) }
+    ensures { IfOk result (λ report. report_of (program_of job.now) limit ≡ Some report) }
+{
+    if workers == 1 {
+        let report = run_alone(alloc, job, limit)?;
+        return Ok(report);
+    }
+    let last = limit - 1;
+    let plan = EndPlan {
+        when_empty: true,
+        at: Some(last),
+    };
+    let advance = StoredAdvance::new(|phase: u32, count: u32| count == 0 || phase == last, plan);
+    run_job(
+        rt, alloc, job, shape, workers, advance, &OpenGate, &AllStart,
+    )
+}
+
+// Why a run of a job didn't end.
+fn fault_of(refused: Refused) -> RunFault
+    ensures { IsOfPool result }
+{
+    match refused {
+        Refused::Memory => RunFault::Memory,
+        Refused::NotStarted(k) => RunFault::NotStarted(k),
+        Refused::Internal => RunFault::Internal,
+    }
+}
+
+// Writes a report, and answers how its job ended.
+fn write_end<W: CountedWrite>(
+    alloc: Global,
+    report: Report,
+    writer: &mut W,
+) -> Result<JobStatus, RunFault>
+    ensures reports { Reports report (W.contents writer.old) (W.contents writer.new) result }
+    ensures write_failures { WriteCause (W.failures writer.old) (W.failures writer.new) result }
+{
+    match write_report(alloc, &report, writer) {
+        Ok(()) => {
+            let Report { status, .. } = report;
+            Ok(status)
+        }
+        Err(WriteFault::Write) => Err(RunFault::Write),
+        Err(WriteFault::Memory) => Err(RunFault::Memory),
+    }
+}
+
+/// Reads a job to the reader's end, runs it within this limit of supersteps on so many workers, which meet at a tree of
+/// this shape, and writes its report (own). What is written depends on what was read and on the limit alone.
+pub fn run_bytes<T: Threads + Wait + Sync, R: CountedRead, W: CountedWrite>(
+    rt: &T,
     alloc: Global,
     reader: &mut R,
     writer: &mut W,
+    shape: Shape,
+    workers: u32,
     limit: u32,
-) -> Result<u8, CommandFault>
-    requires { 1 ≤ limit }
+) -> Result<JobStatus, RunFault>
+    requires workers { (1 ≤ workers) × (workers ≤ 64) }
+    requires limit { (1 ≤ limit) × (limit ≤ 2147483648) }
     ensures runs { Runs limit (R.remaining reader.old) (W.contents writer.old) (W.contents writer.new) result }
     ensures read_failures { ReadCause (R.failures reader.old) (R.failures reader.new) result }
     ensures write_failures { WriteCause (W.failures writer.old) (W.failures writer.new) result }
@@ -99,8 +163,8 @@ pub(crate) fn run_job<R: CountedRead, W: CountedWrite>(
         Ok(job) => job,
         Err(fault) => return Err(fault),
     };
-    let Ok(report) = run_alone(alloc, &job, limit) else {
-        return Err(CommandFault::Memory);
-    };
-    write_end(alloc, &report, writer)
+    match leave(rt, alloc, &job, shape, workers, limit) {
+        Ok(report) => write_end(alloc, report, writer),
+        Err(refused) => Err(fault_of(refused)),
+    }
 }

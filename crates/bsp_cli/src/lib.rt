@@ -11,6 +11,8 @@ mod trace;
 
 pub use asked::Asked;
 pub use command_line::run;
+pub use fault::RunFault;
+pub use job::run_bytes;
 pub use laws::{words_are_refused, words_ask, words_help, words_tell_the_version};
 pub use program::run_program;
 
@@ -26,6 +28,10 @@ pub mod status {
     pub const COMMAND_LINE_REFUSED: u8 = 5;
     /// There was no memory.
     pub const OUT_OF_MEMORY: u8 = 6;
+    /// A worker couldn't be started.
+    pub const NOT_STARTED: u8 = 7;
     /// A read or a write failed.
     pub const DEVICE_FAILED: u8 = 8;
+    /// Workers met a refusal that they never meet.
+    pub const INTERNAL: u8 = 9;
 }

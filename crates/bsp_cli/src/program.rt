@@ -3,9 +3,11 @@ ghost use Rattle.std.specs.Prelude.{◌≡◌, ◌≢◌, ◌≤◌, ◌⊎◌, 
 ghost use Rattle.bsp_cli.specs.Texts.{Tells};
 
 use crate::command_line::run;
-use crate::status::{COMMAND_LINE_REFUSED, DEVICE_FAILED, OUT_OF_MEMORY};
+use crate::status::{COMMAND_LINE_REFUSED, DEVICE_FAILED, INTERNAL, OUT_OF_MEMORY};
 use phase_records::{CountedWrite, Reader, write_all};
 use std::io::Input;
+use std::sync::Wait;
+use std::thread::Threads;
 use std::{env, io};
 
 // Ends before the words of the command line could be looked at.
@@ -26,12 +28,12 @@ fn stopped<E: CountedWrite>(errors: &mut E, kind: io::ErrorKind) -> u8
 
 /// Does what the command line of this process asks for, as [`run`] says: reads standard input, prints to `writer`, tells
 /// what went wrong to `errors`, and answers the status that the process ends with. Words that aren't text are refused.
-pub fn run_program<T: env::Env + AllocGlobal + Input, W: CountedWrite, E: CountedWrite>(
-    rt: &T,
-    writer: &mut W,
-    errors: &mut E,
-) -> u8
-    ensures status { (result ≤ 6) ⊎ (result ≡ DEVICE_FAILED) }
+pub fn run_program<
+    T: env::Env + AllocGlobal + Input + Threads + Wait + Sync,
+    W: CountedWrite,
+    E: CountedWrite,
+>(rt: &T, writer: &mut W, errors: &mut E) -> u8
+    ensures status { result ≤ 9 }
     ensures silent { result ≤ 3 → errors.new ≡ errors.old }
     ensures command_line_refused { result ≡ COMMAND_LINE_REFUSED → writer.new ≡ writer.old }
     ensures tells_refused_command_line { result ≡ COMMAND_LINE_REFUSED
@@ -40,6 +42,8 @@ pub fn run_program<T: env::Env + AllocGlobal + Input, W: CountedWrite, E: Counte
         → Tells (E.contents errors.old) (E.contents errors.new) (E.failures errors.old) (E.failures errors.new) (codes "out of memory\n") }
     ensures tells_failure { result ≡ DEVICE_FAILED
         → Tells (E.contents errors.old) (E.contents errors.new) (E.failures errors.old) (E.failures errors.new) (codes "read or write failed\n") }
+    ensures tells_internal { result ≡ INTERNAL
+        → Tells (E.contents errors.old) (E.contents errors.new) (E.failures errors.old) (E.failures errors.new) (codes "internal\n") }
 {
     let words = match env::args(rt) {
         Ok(words) => words,
@@ -49,5 +53,12 @@ pub fn run_program<T: env::Env + AllocGlobal + Input, W: CountedWrite, E: Counte
         return stopped(errors, io::ErrorKind::OutOfMemory);
     };
     let mut reader = Reader::new(rt.reader());
-    run(rt.alloc(), words.as_slice(), &mut reader, writer, errors)
+    run(
+        rt,
+        rt.alloc(),
+        words.as_slice(),
+        &mut reader,
+        writer,
+        errors,
+    )
 }

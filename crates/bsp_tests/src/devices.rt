@@ -6,7 +6,9 @@ use std::alloc::Global;
 use std::io;
 use std::io::{Read, Write};
 use std::process::Abort;
+use std::sync::Wait;
 use std::test::Fail;
+use std::thread::Threads;
 
 const TRACE: &str = "phaser 2\narrive\narrive\nshow\nbulk -1\nawait 1\n";
 
@@ -64,15 +66,15 @@ impl Write for Filling<'_> {
 }
 
 // Runs the program on readers that fail at each read of a text: nothing is written before the text's end was read.
-fn reads_fail(rt: &impl Abort, alloc: Global, words: &[&str], text: &str) {
-    let whole = run_text(alloc, words, text);
+fn reads_fail<R: Abort + Threads + Wait + Sync>(rt: &R, alloc: Global, words: &[&str], text: &str) {
+    let whole = run_text(rt, alloc, words, text);
     assert_eq!(rt; whole.status, 0);
     for room in 0..text.len() + 1 {
         let input = Dripping {
             rest: text.as_bytes(),
             room,
         };
-        let left = run_on(alloc, words, input);
+        let left = run_on(rt, alloc, words, input);
         assert_eq!(rt; left.status, 8, "{room}");
         assert!(rt; left.out.is_empty(), "{room}");
         assert_eq!(rt;
@@ -84,7 +86,7 @@ fn reads_fail(rt: &impl Abort, alloc: Global, words: &[&str], text: &str) {
         rest: text.as_bytes(),
         room: text.len() + 1,
     };
-    let left = run_on(alloc, words, input);
+    let left = run_on(rt, alloc, words, input);
     assert_eq!(rt; left.status, 0);
     assert_eq!(rt; left.out.as_slice(), whole.out.as_slice());
 }
@@ -98,8 +100,8 @@ fn a_reader_that_fails_leaves_no_output(rt: HostRuntime) -> Result<(), Fail> {
 }
 
 // Runs the program on writers that stop at each byte: what they took are the first bytes of the whole output.
-fn writes_fail(rt: &impl Abort, alloc: Global, words: &[&str], text: &str, fails: bool) {
-    let whole = run_text(alloc, words, text);
+fn writes_fail<R: Abort + Threads + Wait + Sync>(rt: &R, alloc: Global, words: &[&str], text: &str, fails: bool) {
+    let whole = run_text(rt, alloc, words, text);
     assert_eq!(rt; whole.status, 0);
     for room in 0..whole.out.len() {
         let mut taken = Vec::new(alloc);
@@ -111,7 +113,7 @@ fn writes_fail(rt: &impl Abort, alloc: Global, words: &[&str], text: &str, fails
             fails,
         });
         let mut error_writer = Writer::new(&mut errors);
-        let status = run(alloc, words, &mut reader, &mut writer, &mut error_writer);
+        let status = run(rt, alloc, words, &mut reader, &mut writer, &mut error_writer);
         assert_eq!(rt; status, 8, "{room}");
         assert_eq!(rt; Some(taken.as_slice()), whole.out.get(..room), "{room}");
         assert_eq!(rt; errors.as_slice(), b"read or write failed\n".as_slice());
@@ -140,6 +142,7 @@ fn a_writer_of_errors_that_fails_leaves_the_status(rt: HostRuntime) -> Result<()
             fails: true,
         });
         let status = run(
+            &rt,
             rt.alloc(),
             &["bsp", word],
             &mut reader,
@@ -173,7 +176,7 @@ impl Read for Endless<'_> {
 fn a_text_is_read_by_at_most_1048577_reads(rt: HostRuntime) -> Result<(), Fail> {
     for word in ["trace", "check", "run"] {
         let mut reads = 0;
-        let left = run_on(rt.alloc(), &["bsp", word], Endless { reads: &mut reads });
+        let left = run_on(&rt, rt.alloc(), &["bsp", word], Endless { reads: &mut reads });
         assert_eq!(rt;
             left.errors.as_slice(),
             b"refused line 1 code 1\n".as_slice()
@@ -216,7 +219,7 @@ fn a_reader_that_fails_once_has_failed(rt: HostRuntime) -> Result<(), Fail> {
                 rest: text.as_bytes(),
                 before,
             };
-            let left = run_on(rt.alloc(), &["bsp", word], input);
+            let left = run_on(&rt, rt.alloc(), &["bsp", word], input);
             assert_eq!(rt; left.status, 8, "{before}");
             assert!(rt; left.out.is_empty(), "{before}");
         }
@@ -253,7 +256,7 @@ impl Write for Skipping<'_> {
 #[test]
 fn a_writer_that_fails_once_has_failed(rt: HostRuntime) -> Result<(), Fail> {
     for (word, text) in [("trace", TRACE), ("check", SWAP), ("run", SWAP)] {
-        let whole = run_text(rt.alloc(), &["bsp", word], text);
+        let whole = run_text(&rt, rt.alloc(), &["bsp", word], text);
         for before in 0..whole.out.len() {
             let mut taken = Vec::new(rt.alloc());
             let mut errors = Vec::new(rt.alloc());
@@ -265,6 +268,7 @@ fn a_writer_that_fails_once_has_failed(rt: HostRuntime) -> Result<(), Fail> {
             let mut error_writer = Writer::new(&mut errors);
             let words = ["bsp", word];
             let status = run(
+                &rt,
                 rt.alloc(),
                 &words,
                 &mut reader,
@@ -299,6 +303,7 @@ fn a_writer_of_errors_that_fails_leaves_each_status(rt: HostRuntime) -> Result<(
             fails: true,
         });
         let status = run(
+            &rt,
             rt.alloc(),
             words,
             &mut reader,

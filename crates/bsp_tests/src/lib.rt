@@ -21,6 +21,8 @@ mod runs {
     use phase_records::{Reader, Writer};
     use std::alloc::Global;
     use std::io::Read;
+    use std::sync::Wait;
+    use std::thread::Threads;
 
     /// A job of two tasks that swap two cells.
     pub const SWAP: &str = "bsp 1
@@ -44,13 +46,18 @@ start swap 1
     }
 
     /// Runs the program on what a reader gives.
-    pub fn run_on<R: Read + Drop>(alloc: Global, words: &[&str], input: R) -> Ran {
+    pub fn run_on<T: Threads + Wait + Sync, R: Read + Drop>(
+        rt: &T,
+        alloc: Global,
+        words: &[&str],
+        input: R,
+    ) -> Ran {
         let mut out = Vec::new(alloc);
         let mut errors = Vec::new(alloc);
         let mut reader = Reader::new(input);
         let mut writer = Writer::new(&mut out);
         let mut error_writer = Writer::new(&mut errors);
-        let status = run(alloc, words, &mut reader, &mut writer, &mut error_writer);
+        let status = run(rt, alloc, words, &mut reader, &mut writer, &mut error_writer);
         Ran {
             status,
             out,
@@ -59,7 +66,12 @@ start swap 1
     }
 
     /// Runs the program on a text.
-    pub fn run_text(alloc: Global, words: &[&str], text: &str) -> Ran {
-        run_on(alloc, words, text.as_bytes())
+    pub fn run_text<T: Threads + Wait + Sync>(
+        rt: &T,
+        alloc: Global,
+        words: &[&str],
+        text: &str,
+    ) -> Ran {
+        run_on(rt, alloc, words, text.as_bytes())
     }
 }

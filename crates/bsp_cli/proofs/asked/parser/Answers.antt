@@ -1,7 +1,7 @@
-use Rattle.std.proofs.Common.{◌≡◌, ◌∙◌, ap, ap₂, codes, refl, true}
-use Rattle.clap.specs.Words.{App, Shape, app_of, new_app, with_rule, with_subcommand}
+use Rattle.std.proofs.Common.{◌≡◌, ◌∙◌, ap, ap₂, codes, true}
+use Rattle.clap.specs.Words.{App, Shape, app_of, new_app, with_subcommand}
 use Rattle.clap.specs.Simple.{app_of_fields}
-use Rattle.bsp_cli.specs.CommandLine.{bare, run_app}
+use Rattle.bsp_cli.specs.CommandLine.{bare}
 use Rattle.bsp_cli.proofs.asked.parser.Goals as goal
 
 pub returns-clause-app : goal.returns-clause-app
@@ -11,12 +11,9 @@ returns-clause-app c =
     ap app_of_fields c.after_help-trace.ensures ∙ (ap app_of_fields c.about.ensures ∙ c.new.ensures.app) in
     let check_is : app_of c.after_help-check.result ≡ new_app (codes "check") =
     ap app_of_fields c.after_help-check.ensures ∙ (ap app_of_fields c.about-2.ensures ∙ c.new-2.ensures.app) in
-    let run_is : app_of c.in_ok-run.run' ≡ run_app =
-    c.in_ok-run.ensures.shape c.limit_option.ensures.local
-    ∙ ap₂ with_rule (ap app_of_fields c.after_help.ensures ∙ (ap app_of_fields c.about-3.ensures ∙ c.new-3.ensures.app)) c.limit_option.ensures.rule in
     let versioned : app_of c.version.result ≡ record bare { top = record bare.top { has_version = true } } =
     ap app_of_fields c.version.ensures
-    ∙ ap (λ (a : App). record a { top = record a.top { has_version = true } }) (ap app_of_fields c.about-4.ensures ∙ c.new-4.ensures.app) in
+    ∙ ap (λ (a : App). record a { top = record a.top { has_version = true } }) (ap app_of_fields c.about-3.ensures ∙ c.new-3.ensures.app) in
     let bare_is : app_of c.subcommand_required.result ≡ record bare { top = record bare.top { subcommand_required = true; has_version = true } } =
     ap app_of_fields c.subcommand_required.ensures
     ∙ ap (λ (a : App). record a { top = record a.top { subcommand_required = true } }) versioned in
@@ -24,6 +21,4 @@ returns-clause-app c =
     ∙ ap₂ with_subcommand bare_is (ap top trace_is) in
     let second = c.in_ok-subcommand-2.ensures.shape (rw c.after_help-check.ensures (rw c.about-2.ensures c.new-2.ensures.local))
     ∙ ap₂ with_subcommand first (ap top check_is) in
-    c.in_ok-subcommand-3.ensures.shape
-    (rw (c.in_ok-run.ensures.globals, c.limit_option.ensures.local, c.after_help.ensures) (rw c.about-3.ensures (rw c.new-3.ensures.local refl)))
-    ∙ ap₂ with_subcommand second (ap top run_is)
+    c.in_ok-subcommand-3.ensures.shape c.in_ok-run.ensures.local ∙ ap₂ with_subcommand second (ap top c.in_ok-run.ensures.app)

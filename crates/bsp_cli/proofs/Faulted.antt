@@ -1,0 +1,72 @@
+-- What a command did that did not end.
+use Rattle.std.proofs.Common.{◌≡◌, ℕ, inl, inr, List, Option, Err, arith}
+use Rattle.bsp_cli.specs.Did.{Did}
+use Rattle.bsp_cli.specs.Ends.{Does}
+use Rattle.bsp_cli.specs.Texts.{fault_text, fault_status}
+use Rattle.bsp_cli.specs.declared.asked.Asked.{Asked}
+use Rattle.bsp_cli.specs.declared.fault.RunFault.{RunFault}
+use Rattle.bsp_cli.specs.declared.fault.RunFault.TheVariants.{Text, Read, Write, Memory, NotStarted, Internal}
+
+-- by its fault, the line that was told, and its status
+pub faulted : (a : Asked) (input old new : Option (List ℕ)) (told : List ℕ → Type 0) (fault : RunFault) (status : ℕ) → Does a input old new (Err fault)
+    → told (fault_text fault) → status ≡ fault_status fault → Did a input old new told status
+faulted a input old new told (Text r) status does line e =
+    let known : status ≡ 4 = e in
+    record {
+      finished = λ h. absurd (omega arith);
+      refused = λ h. (does.1, r, line, does.0);
+      memory = λ h. absurd (omega arith);
+      not_started = λ h. absurd (omega arith);
+      failed = λ h. absurd (omega arith);
+      internal = λ h. absurd (omega arith);
+    }
+faulted a input old new told Read status does line e =
+    let known : status ≡ 8 = e in
+    record {
+      finished = λ h. absurd (omega arith);
+      refused = λ h. absurd (omega arith);
+      memory = λ h. absurd (omega arith);
+      not_started = λ h. absurd (omega arith);
+      failed = λ h. inl does;
+      internal = λ h. absurd (omega arith);
+    }
+faulted a input old new told Write status does line e =
+    let known : status ≡ 8 = e in
+    record {
+      finished = λ h. absurd (omega arith);
+      refused = λ h. absurd (omega arith);
+      memory = λ h. absurd (omega arith);
+      not_started = λ h. absurd (omega arith);
+      failed = λ h. inr does;
+      internal = λ h. absurd (omega arith);
+    }
+faulted a input old new told Memory status does line e =
+    let known : status ≡ 6 = e in
+    record {
+      finished = λ h. absurd (omega arith);
+      refused = λ h. absurd (omega arith);
+      memory = λ h. does;
+      not_started = λ h. absurd (omega arith);
+      failed = λ h. absurd (omega arith);
+      internal = λ h. absurd (omega arith);
+    }
+faulted a input old new told (NotStarted k) status does line e =
+    let known : status ≡ 7 = e in
+    record {
+      finished = λ h. absurd (omega arith);
+      refused = λ h. absurd (omega arith);
+      memory = λ h. absurd (omega arith);
+      not_started = λ h. (does, k, line);
+      failed = λ h. absurd (omega arith);
+      internal = λ h. absurd (omega arith);
+    }
+faulted a input old new told Internal status does line e =
+    let known : status ≡ 9 = e in
+    record {
+      finished = λ h. absurd (omega arith);
+      refused = λ h. absurd (omega arith);
+      memory = λ h. absurd (omega arith);
+      not_started = λ h. absurd (omega arith);
+      failed = λ h. absurd (omega arith);
+      internal = λ h. does;
+    }

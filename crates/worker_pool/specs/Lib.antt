@@ -1,0 +1,2 @@
+pub mod JobPlan
+pub mod Refusals

@@ -1,0 +1,80 @@
+//! Why a run gives no report.
+ghost use Rattle.std.specs.Prelude.{◌≡◌};
+ghost use Rattle.worker_pool.specs.Refusals.{refusal_number};
+
+use std::alloc::AllocError;
+use step_core::{AcceptFault, CloseFault};
+use thiserror::Error;
+
+/// Why a run gives no report (own). All workers that were started have been joined.
+#[derive(Clone, Copy, Debug, PartialEq, Eq, Error)]
+pub enum Refused {
+    /// There was no memory.
+    #[error("out of memory")]
+    Memory,
+    /// The worker of this number, from 0, couldn't be started, and no segment has run.
+    #[error("worker {0} not started")]
+    NotStarted(u32),
+    /// A refusal that workers never meet was met.
+    #[error("internal")]
+    Internal,
+}
+
+impl Refused {
+    /// The number of this refusal.
+    pub fn number(self) -> u32
+        ensures { result ≡ refusal_number self }
+    {
+        match self {
+            Refused::Memory => 1,
+            Refused::NotStarted(_) => 2,
+            Refused::Internal => 3,
+        }
+    }
+}
+
+impl From<AllocError> for Refused {
+    fn from(_fault: AllocError) -> Self {
+        Refused::Memory
+    }
+}
+
+/// Why a worker went home before the job's end.
+#[derive(Clone, Copy, Debug, PartialEq, Eq)]
+pub(crate) enum Note {
+    /// It found no memory.
+    Memory,
+    /// It met a refusal that workers never meet.
+    Internal,
+}
+
+impl Note {
+    /// What the run then answers.
+    pub(crate) fn refusal(self) -> Refused {
+        match self {
+            Note::Memory => Refused::Memory,
+            Note::Internal => Refused::Internal,
+        }
+    }
+}
+
+impl From<AllocError> for Note {
+    fn from(_fault: AllocError) -> Self {
+        Note::Memory
+    }
+}
+
+/// What a worker notes whose delivery the round refuses: each order is given to one worker, who delivers it once.
+pub(crate) fn note_of_delivery(fault: AcceptFault) -> Note {
+    match fault {
+        AcceptFault::WrongStep | AcceptFault::Stranger | AcceptFault::Double => Note::Internal,
+    }
+}
+
+/// What a worker notes that can't close the round: where all have arrived each task has its delivery.
+pub(crate) fn note_of_closing(fault: CloseFault) -> Note {
+    match fault {
+        CloseFault::Missing(_) => Note::Internal,
+        CloseFault::Memory(_) => Note::Memory,
+    }
+}

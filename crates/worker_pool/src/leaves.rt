@@ -1,0 +1,33 @@
+//! The leaves of a tree, by their numbers.
+ghost use Rattle.std.specs.Prelude.{◌<◌, length};
+
+use std::alloc::{AllocError, Global};
+use tier_shape::Shape;
+
+/// The tiers that are leaves. Leaves are known by numbers, which go round and round.
+#[derive(Drop)]
+pub(crate) struct Leaves {
+    tiers: Vec<u16>,
+    ghost some: { 0 < length tiers.items },
+}
+
+impl Leaves {
+    /// The leaves of a shape.
+    pub(crate) fn of(alloc: Global, shape: &Shape) -> Result<Self, AllocError> {
+        let _tiers = shape.count();
+        let tiers = shape.leaves(alloc)?;
+        Ok(Leaves { tiers })
+    }
+
+    /// The tier of the leaf of this number.
+    pub(crate) fn tier(&self, number: usize) -> u16 {
+        self.tiers[number % self.tiers.len()]
+    }
+
+    /// The leaf at which a spawned task is to be registered: the one behind its spawner's, and as many further as the last
+    /// number of its own path says.
+    pub(crate) fn preferred(&self, spawner: usize, path: &[u16]) -> usize {
+        let last = path.last().copied().unwrap_or(0);
+        spawner.wrapping_add(1).wrapping_add(usize::from(last)) % self.tiers.len()
+    }
+}

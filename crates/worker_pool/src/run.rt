@@ -1,0 +1,140 @@
+//! A job on worker threads.
+ghost use Rattle.std.specs.Prelude.{◌≡◌, ◌≤◌, false, Some, IfOk};
+ghost use Rattle.advance_rule.specs.Stored.{Answers};
+ghost use Rattle.advance_rule.specs.Plan.{end_ends_at};
+ghost use Rattle.step_core.specs.Program.{program_of};
+ghost use Rattle.step_core.specs.JobMeaning.{report_of};
+ghost use Rattle.worker_pool.specs.JobPlan.{limit_of, IsJobPlan};
+
+use crate::board::{Board, Running};
+use crate::fault::Refused;
+use crate::hooks::{Gate, Starter};
+use crate::leaves::Leaves;
+use crate::seat::Seat;
+use crate::shop::Shop;
+use crate::start::start_all;
+use crate::tree::Tree;
+use advance_rule::{EndPlan, StoredAction, StoredAdvance};
+use cyclic_gate::{BarrierFault, CyclicGate};
+use phase_records::Report;
+use std::alloc::Global;
+use std::collections::VecDeque;
+use std::marker::Brand;
+use std::sync::{Condvar, Mutex, Wait};
+use std::thread::Threads;
+use step_core::Round;
+use task_lang::job::Job;
+use tier_core::tree::Core;
+use tier_shape::Shape;
+
+// The action of the meeting: none, and it never fails.
+fn meet(_generation: u64) -> bool
+    ensures { result ≡ false }
+{
+    false
+}
+
+// Registers the start tasks, one leaf after another, before any worker is started.
+fn seat_all(alloc: Global, tree: &mut Tree, round: &Round<'_>) -> Result<VecDeque<Seat>, Refused> {
+    let paths = round.live(alloc)?;
+    let mut seats = Vec::with_capacity(alloc, paths.len())?;
+    for (number, path) in paths.into_iter().enumerate() {
+        let seat = match tree.register_start(path, number) {
+            Ok(seat) => seat,
+            Err(note) => return Err(note.refusal()),
+        };
+        if seats.push(seat).is_err() {
+            return Err(Refused::Memory);
+        }
+    }
+    Ok(VecDeque::from_vec(seats))
+}
+
+// Runs the job of this round.
+fn run_shared<
+    'j,
+    J: Running + Send,
+    R: Threads + Wait + Sync,
+    F: Fn(u32, u32) -> bool + Sync,
+    G: Gate + Sync,
+    S: Starter,
+>(
+    rt: &R,
+    alloc: Global,
+    round: Round<'j>,
+    tree: Tree,
+    seats: VecDeque<Seat>,
+    workers: u32,
+    advance: &StoredAdvance<F>,
+    gate: &G,
+    starter: &S,
+) -> Result<Report, Refused>
+    requires job { round.job ≡ J.job }
+    requires limit { round.limit ≡ J.limit }
+    requires rule { Answers (F.pre advance.now.closure) (F.post advance.now.closure) (end_ends_at advance.now.plan) }
+    ensures { IfOk result (λ report. report_of (program_of J.job) J.limit ≡ Some report) }
+{
+    let action = StoredAction::new(meet, None);
+    let meeting = match CyclicGate::new(alloc, i64::from(workers), action) {
+        Ok(meeting) => meeting,
+        Err(BarrierFault::Memory) => return Err(Refused::Memory),
+        Err(_) => return Err(Refused::Internal),
+    };
+    let board: Board<'j, J> = Board::new(alloc, round, seats);
+    let shop = Shop {
+        board: Mutex::new(board),
+        changed: Condvar::new(),
+        tree: Mutex::new(tree),
+    };
+    start_all(rt, alloc, &shop, advance, gate, &meeting, starter, workers)?;
+    shop.conclude(alloc)
+}
+
+/// Runs a job on so many worker threads, which meet at a tree of this shape, superstep by superstep: what it answers is
+/// what the job leaves, within the limit that the plan stands for (own). The closure that ends the tree is called once a
+/// superstep, after the last arrival, with the phase and the number of parties at the root. `gate` is called round each
+/// segment, and `starter` before each worker is started.
+///
+/// It returns once all workers have been joined. That it ends is no part of its contract.
+pub fn run_job<
+    R: Threads + Wait + Sync,
+    F: Fn(u32, u32) -> bool + Sync + Drop,
+    G: Gate + Sync,
+    S: Starter,
+>(
+    rt: &R,
+    alloc: Global,
+    job: &Job,
+    shape: Shape,
+    workers: u32,
+    advance: StoredAdvance<F>,
+    gate: &G,
+    starter: &S,
+) -> Result<Report, Refused>
+    requires workers { (1 ≤ workers) × (workers ≤ 64) }
+    requires plan { IsJobPlan advance.plan }
+    requires rule { Answers (F.pre advance.closure) (F.post advance.closure) (end_ends_at advance.plan) }
+    ensures { IfOk result (λ report. report_of (program_of job.now) (limit_of advance.plan) ≡ Some report) }
+{
+    let plan = advance.plan();
+    let round = Round::new(alloc, job, limit_in(plan))?;
+    let leaves = Leaves::of(alloc, &shape)?;
+    let core = Core::new(alloc, shape, 0, plan)?;
+    let mut tree = Tree::new(alloc, core, leaves);
+    for _ in 0..workers {
+        let _worker = tree.take_token()?;
+    }
+    let seats = seat_all(alloc, &mut tree, &round)?;
+    run_shared::<Brand, R, F, G, S>(
+        rt, alloc, round, tree, seats, workers, &advance, gate, starter,
+    )
+}
+
+// The limit of supersteps that a plan stands for.
+fn limit_in(plan: EndPlan) -> u32
+    requires { IsJobPlan plan }
+    ensures limit { result ≡ limit_of plan }
+    ensures some { 1 ≤ result }
+{
+    plan.at.unwrap_or(0) + 1
+}
