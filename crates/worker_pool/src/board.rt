@@ -167,15 +167,19 @@ impl<'j, J: Running> Board<'j, J> {
         if !self.ready.is_empty() || self.round.has_ended() {
             return Err(Note::Internal);
         }
-        self.make_ready(alloc)?;
+        let next = self.gather(alloc)?;
         match self.round.close_round(alloc) {
-            Ok(outcome) => Ok(outcome),
+            Ok(outcome) => {
+                self.ready = VecDeque::from_vec(next);
+                Ok(outcome)
+            }
             Err(fault) => Err(note_of_closing(fault)),
         }
     }
 
-    // Makes the tasks ready that live on. Those that stay are in path order; where none was spawned nothing is sorted.
-    fn make_ready(&mut self, alloc: Global) -> Result<(), AllocError>
+    // The seats of the tasks that live on, in path order. Those that stay are in that order; where none was spawned nothing is
+    // sorted. They are made ready only once the round is closed, so that nobody takes one of a round that couldn't be.
+    fn gather(&mut self, alloc: Global) -> Result<Vec<Seat>, AllocError>
         ensures { self.new ≡ self.old }
     {
         let mut next = Vec::with_capacity(alloc, self.staying.len())?;
@@ -189,8 +193,7 @@ impl<'j, J: Running> Board<'j, J> {
             next.sort_by(by_path)?;
         }
         self.staying.reserve(next.len())?;
-        self.ready = VecDeque::from_vec(next);
-        Ok(())
+        Ok(next)
     }
 
     /// What the job left, once it has ended.
