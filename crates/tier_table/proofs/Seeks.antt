@@ -63,20 +63,20 @@ look_end w v e =
     let u : View = record v { led = false; note = cond (is_going_back v.errand) v.note None } in
     ap (λ (b : Bool). (cond b (record u { end_seen = Some w.phase; errand = dropped v.errand }) (moved w u)).end_seen) e
 
-glance_unended : (above t : ℕ) (w : Fields) (v : View) → w.ended ≡ false → (view_after above (glance t) t w v).end_seen ≡ v.end_seen
+pub glance_unended : (above t : ℕ) (w : Fields) (v : View) → w.ended ≡ false → (view_after above (glance t) t w v).end_seen ≡ v.end_seen
 glance_unended above zero w v e = look_unended w v e
 glance_unended above (suc t) w v e = refl
 
 -- what a refusal leaves
-refused_note : (t : ℕ) (w : Fields) (v : View) → (refused t w v).note ≡ Some (t, w)
+pub refused_note : (t : ℕ) (w : Fields) (v : View) → (refused t w v).note ≡ Some (t, w)
 refused_note zero w v = refl
 refused_note (suc t) w v = refl
 
-refused_size : (t : ℕ) (w : Fields) (v : View) → (refused t w v).size ≡ v.size
+pub refused_size : (t : ℕ) (w : Fields) (v : View) → (refused t w v).size ≡ v.size
 refused_size zero w v = looked_size w v
 refused_size (suc t) w v = refl
 
-refused_end : (t : ℕ) (w : Fields) (v : View) → w.ended ≡ false → (refused t w v).end_seen ≡ v.end_seen
+pub refused_end : (t : ℕ) (w : Fields) (v : View) → w.ended ≡ false → (refused t w v).end_seen ≡ v.end_seen
 refused_end zero w v e = look_unended w v e
 refused_end (suc t) w v e = refl
 

@@ -121,7 +121,7 @@ pub record LookIs (ps : List ℕ) (w : Fields) (p : Progress) (v u : View) (k : 
 no_look : {A : Type 0} (k k' : Kind) → is_look k ≡ true → k ≡ k' → is_look k' ≡ false → A
 no_look k k' a e b = not_both (is_look k') (subst (λ (z : Kind). is_look z ≡ true) e a) b
 
-refuse_at : (t tier claimed size : ℕ) (w : Fields) → w.ended ≡ false → is_refusing (added claimed size) w ≡ true → refusing t tier claimed size w ≡ Refuse tier claimed size
+pub refuse_at : (t tier claimed size : ℕ) (w : Fields) → w.ended ≡ false → is_refusing (added claimed size) w ≡ true → refusing t tier claimed size w ≡ Refuse tier claimed size
 refuse_at t tier claimed size w going e =
     ap (λ (b : Bool). cond (not b && is_refusing (added claimed size) w) (Refuse tier claimed size) (glance t)) going
     ∙ ap (λ (b : Bool). cond b (Refuse tier claimed size) (glance t)) e
@@ -135,7 +135,7 @@ admit_at t tier claimed size w e = go (not w.ended) (is_refusing (added claimed 
     go true true e = absurd (cc)
     go false true e = absurd (cc)
 
-ended_at : (t tier claimed size : ℕ) (w : Fields) → w.ended ≡ true → t ≡ 0 → refusing t tier claimed size w ≡ Look
+pub ended_at : (t tier claimed size : ℕ) (w : Fields) → w.ended ≡ true → t ≡ 0 → refusing t tier claimed size w ≡ Look
 ended_at t tier claimed size w e z =
     ap (λ (b : Bool). cond (not b && is_refusing (added claimed size) w) (Refuse tier claimed size) (glance t)) e ∙ ap glance z
 

@@ -6,7 +6,11 @@ use Rattle.tier_core.specs.declared.call.Played.TheVariants as played
 use Rattle.tier_table.specs.Holding.{Holding, shape_of, IsCrew}
 use Rattle.tier_table.specs.Passes.{IsSame}
 use Rattle.tier_table.specs.Joins.{IsJoined, Refusal}
+use Rattle.tier_table.specs.Passes.{EndSeen}
+use Rattle.tier_table.specs.Arrives.{IsSoon, IsSpent}
 use Rattle.tier_table.specs.Registers.{IsLookedAround}
+use Rattle.tier_table.specs.declared.beside.Met.{Met}
+use Rattle.tier_table.specs.declared.beside.Met.TheVariants.{Answer, Late}
 use Rattle.tier_table.specs.declared.joining.Registered.{Registered}
 use Rattle.tier_table.specs.declared.joining.Registered.TheVariants.{Joined, Held, Full, Ended, Busy, Owing}
 
@@ -49,3 +53,26 @@ pub record KeepsCrew (tries : ℕ) (old new : Holding) : Type 0 where
   pub rests : IsCrew new
   pub tier : new.tier ≡ old.view.tier
   pub tried : new.tried ≡ old.tried + tries
+
+-- a tier at which a party is unarrived, unless it is a root that has ended
+abbrev pub Waits : Fields → Type 0
+Waits w = w.ended ≡ false → (0 < w.parties) × (0 < w.unarrived)
+
+-- a door that has made so many tries, and hasn't seen the end
+pub record IsStill (tries : ℕ) (door after : Holding) : Type 0 where
+  pub spent : IsSpent tries door after
+  pub looked : IsLookedAround door.view after.view
+  pub unseen : after.view.end_seen ≡ None
+
+-- what the door's part of such a try answers
+abbrev pub AnswersMeeting : Holding → ℕ → ℕ → Registered → Type 0
+AnswersMeeting door tier size (Joined crew phase) = IsSpent 1 door crew × IsJoined tier size crew.view × (phase ≡ crew.view.phase)
+AnswersMeeting door tier size (Full after count) = IsSpent 0 door after × Refusal (shape_of door) tier size after.view (played.Full count)
+AnswersMeeting door tier size (Ended after shown) = IsSoon 1 door after × EndSeen after.view shown
+AnswersMeeting door tier size (Busy after) = IsStill 1 door after
+AnswersMeeting door tier size (Held after phase cause) = ⊥
+AnswersMeeting door tier size (Owing opening) = ⊥
+
+abbrev pub Meets : Holding → ℕ → ℕ → Met → Type 0
+Meets door tier size (Answer answer) = AnswersMeeting door tier size answer
+Meets door tier size (Late after) = IsStill 0 door after

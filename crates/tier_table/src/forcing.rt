@@ -38,7 +38,8 @@ impl Tiers {
     fn force_on(&self, door: &mut Door, tries: u32) -> Forced
         requires own { door.old.tree ≡ self.now }
         requires root { IsBefore door.old }
-        ensures { Forces door.old tries door.new result }
+        ensures tree { door.new.tree ≡ door.old.tree }
+        ensures answer { Forces door.old tries door.new result }
     {
         for _ in 0..tries {
             let forced = self.force_once(door);
@@ -52,6 +53,7 @@ impl Tiers {
     /// Ends the tree by force.
     pub(crate) fn force(&self, door: &mut Door, tries: u32) -> Forced
         requires own { door.old.tree ≡ self.now }
+        ensures tree { door.new.tree ≡ door.old.tree }
         ensures answer { Forces door.old tries door.new result }
         ensures ended { (phase : ℕ) → door.old.view.end_seen ≡ Some phase → HasEnded result }
     {

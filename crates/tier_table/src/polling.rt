@@ -48,6 +48,7 @@ impl Tiers {
     /// Sees whether the crew's phase has passed.
     pub(crate) fn poll(&self, crew: &mut Crew) -> Polled
         requires own { crew.old.tree ≡ self.now }
+        ensures tree { crew.new.tree ≡ crew.old.tree }
         ensures answer { Polls crew.old crew.new result }
         ensures ended { (phase : ℕ) → crew.old.view.end_seen ≡ Some phase → HasEnded result }
     {

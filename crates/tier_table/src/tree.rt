@@ -11,6 +11,7 @@ ghost use Rattle.tier_table.specs.Arrives.{Arrives, Resumes};
 ghost use Rattle.tier_table.specs.Arrives as arrives;
 ghost use Rattle.tier_table.specs.Registers.{Registers, Opens};
 ghost use Rattle.tier_table.specs.Registers as registers;
+ghost use Rattle.tier_table.specs.JoinsHere.{JoinsHere};
 ghost use Rattle.tier_table.specs.Polls.{Polls};
 ghost use Rattle.tier_table.specs.Polls as polls;
 ghost use Rattle.tier_table.specs.Forces.{Forces};
@@ -119,6 +120,18 @@ impl<F: Fn(u32, u32) -> bool> Tree<F> {
         self.tiers.open_on(opening, tries)
     }
 
+    /// Registers so many members at the crew's own tier. Since a member of the crew is unarrived there, this
+    /// is never held off, and opens no path. The tries of both tokens count together.
+    pub fn join_here(&self, crew: &mut Crew, door: Door, n: u32, tries: u32) -> Registered
+        requires own { (crew.old.tree ≡ self.now.tree) × (door.tree ≡ self.now.tree) }
+        requires unarrived { crew.old.view.arrived < crew.old.view.size }
+        requires members { (0 < n) × (n ≤ 65535) }
+        ensures answer { JoinsHere crew.old crew.new door n tries result }
+        ensures ended { (phase : ℕ) → door.view.end_seen ≡ Some phase → registers.HasEnded result }
+    {
+        self.tiers.join_beside(crew, door, n, tries)
+    }
+
     /// Lets a member arrive.
     pub fn arrive(&self, crew: Crew, tries: u32) -> Arrived
         requires own { crew.tree ≡ self.now.tree }
@@ -152,6 +165,7 @@ impl<F: Fn(u32, u32) -> bool> Tree<F> {
     /// lags, by one try at most.
     pub fn poll(&self, crew: &mut Crew) -> Polled
         requires own { crew.old.tree ≡ self.now.tree }
+        ensures tree { crew.new.tree ≡ crew.old.tree }
         ensures answer { Polls crew.old crew.new result }
         ensures ended { (phase : ℕ) → crew.old.view.end_seen ≡ Some phase → polls.HasEnded result }
     {
@@ -161,6 +175,7 @@ impl<F: Fn(u32, u32) -> bool> Tree<F> {
     /// Ends the tree by force.
     pub fn force(&self, door: &mut Door, tries: u32) -> Forced
         requires own { door.old.tree ≡ self.now.tree }
+        ensures tree { door.new.tree ≡ door.old.tree }
         ensures answer { Forces door.old tries door.new result }
         ensures ended { (phase : ℕ) → door.old.view.end_seen ≡ Some phase → forces.HasEnded result }
     {
