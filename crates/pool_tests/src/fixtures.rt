@@ -1,0 +1,89 @@
+//! Jobs by their texts, run on worker threads and on one.
+ghost use Rattle.std.specs.Prelude.{◌≤◌};
+
+use advance_rule::{EndPlan, StoredAdvance};
+use job_reader::read_job;
+use phase_records::{Report, Writer, write_report};
+use std::alloc::Global;
+use std::sync::Wait;
+use std::test::Fail;
+use std::thread::Threads;
+use step_core::run_alone;
+use task_lang::job::Job;
+use tier_shape::Shape;
+use worker_pool::{Gate, Refused, Starter, run_job};
+
+/// Two tasks that swap two cells.
+pub(crate) const SWAP: &str = "bsp 1
+array a 2 10 20
+body swap
+let other = 1 - arg
+put a[arg] = a[other]
+sync
+print a[arg]
+end
+start swap 0
+start swap 1
+";
+
+/// A task that spawns eight.
+pub(crate) const SPAWNS: &str = "bsp 1
+body p
+let i = 0
+while i < 8
+spawn c i
+let i = i + 1
+end
+sync
+end
+body c
+end
+start p 0
+";
+
+/// The job of a text.
+pub(crate) fn job_of(alloc: Global, text: &str) -> Result<Job, Fail> {
+    let job = read_job(alloc, text.as_bytes())?;
+    Ok(job)
+}
+
+/// The text of a report.
+pub(crate) fn report_text(alloc: Global, report: &Report) -> Result<Vec<u8>, Fail> {
+    let mut out = Vec::new(alloc);
+    let mut writer = Writer::new(&mut out);
+    let written = write_report(alloc, report, &mut writer);
+    written?;
+    Ok(out)
+}
+
+/// What one thread leaves of a job.
+pub(crate) fn alone(alloc: Global, text: &str, limit: u32) -> Result<Vec<u8>, Fail>
+    requires { 1 ≤ limit }
+{
+    let job = job_of(alloc, text)?;
+    let report = run_alone(alloc, &job, limit)?;
+    report_text(alloc, &report)
+}
+
+/// What workers leave of a job, whose tree ends in this phase at the latest.
+pub(crate) fn pooled<R: Threads + Wait + Sync, G: Gate + Sync, S: Starter>(
+    rt: &R,
+    alloc: Global,
+    job: &Job,
+    widths: &str,
+    workers: u32,
+    last: u32,
+    gate: &G,
+    starter: &S,
+) -> Result<Result<Report, Refused>, Fail>
+    requires workers { (1 ≤ workers) × (workers ≤ 64) }
+    requires last { last ≤ 2147483647 }
+{
+    let shape = Shape::from_widths(alloc, widths)?;
+    let plan = EndPlan {
+        when_empty: true,
+        at: Some(last),
+    };
+    let advance = StoredAdvance::new(|phase: u32, count: u32| count == 0 || phase == last, plan);
+    Ok(run_job(rt, alloc, job, shape, workers, advance, gate, starter))
+}
