@@ -57,19 +57,18 @@ fn bodies_at_their_limits(rt: HostRuntime) -> Result<(), Fail> {
         }
         assert_eq!(rt; is_body(alloc, "b", 0, &lines)?, want, "{depth} open");
     }
-    let mut lines = Vec::new(alloc);
-    for i in 0..33 {
-        lines.push(print(Expr::One(local(i))))?;
-    }
     for (mentioned, locals, want) in [
-        (32, 32, true),
+        (32u8, 32, true),
         (33, 33, false),
         (2, 3, false),
         (2, 1, false),
     ] {
-        let lines = &lines[..mentioned];
+        let mut lines = Vec::new(alloc);
+        for i in 0..mentioned {
+            lines.push(print(Expr::One(local(i))))?;
+        }
         assert_eq!(rt;
-            is_body(alloc, "b", locals, lines)?,
+            is_body(alloc, "b", locals, &lines)?,
             want,
             "{locals} locals"
         );
