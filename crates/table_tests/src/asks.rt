@@ -72,6 +72,28 @@ pub fn held<F: Fn(u32, u32) -> bool>(
     }
 }
 
+/// A join of so many finds no room where so many parties are.
+pub fn full<F: Fn(u32, u32) -> bool>(
+    rt: &impl Abort,
+    tree: &Tree<F>,
+    door: Door,
+    tier: u16,
+    n: u32,
+    parties: u32,
+) -> Door
+    requires own { door.tree ≡ tree.now.tree }
+    requires members { (0 < n) × (n ≤ 65535) }
+    ensures { result.tree ≡ tree.now.tree }
+{
+    match asked(rt, tree, door, tier, n, 16) {
+        Registered::Full(door, count) => {
+            assert_eq!(rt; count, parties);
+            door
+        }
+        _ => panic!(rt; "not full"),
+    }
+}
+
 /// A join of one member with one try begins to open the path.
 pub fn begins<F: Fn(u32, u32) -> bool>(
     rt: &impl Abort,
@@ -145,6 +167,26 @@ pub fn arrives<F: Fn(u32, u32) -> bool>(
     }
 }
 
+/// All members had arrived in this phase.
+pub fn has_arrived<F: Fn(u32, u32) -> bool>(
+    rt: &impl Abort,
+    tree: &Tree<F>,
+    crew: Crew,
+    phase: u32,
+) -> Crew
+    requires own { crew.tree ≡ tree.now.tree }
+    requires rule { Answers (F.pre tree.now.rule.closure) (F.post tree.now.rule.closure) (end_ends_at tree.now.rule.plan) }
+    ensures { result.tree ≡ tree.now.tree }
+{
+    match tree.arrive(crew, 16) {
+        Arrived::AlreadyArrived(crew, at) => {
+            assert_eq!(rt; at, phase);
+            crew
+        }
+        _ => panic!(rt; "arrived again"),
+    }
+}
+
 /// A member arrives by one try, and the tiers above aren't told yet.
 pub fn owes<F: Fn(u32, u32) -> bool>(rt: &impl Abort, tree: &Tree<F>, crew: Crew) -> Errand
     requires own { crew.tree ≡ tree.now.tree }
@@ -210,5 +252,47 @@ pub fn leaves<F: Fn(u32, u32) -> bool>(
             door
         }
         _ => panic!(rt; "not left"),
+    }
+}
+
+/// An arrival finds the tree ended.
+pub fn has_ended<F: Fn(u32, u32) -> bool>(
+    rt: &impl Abort,
+    tree: &Tree<F>,
+    crew: Crew,
+    shown: i32,
+) -> Crew
+    requires own { crew.tree ≡ tree.now.tree }
+    requires rule { Answers (F.pre tree.now.rule.closure) (F.post tree.now.rule.closure) (end_ends_at tree.now.rule.plan) }
+    ensures { result.tree ≡ tree.now.tree }
+{
+    match tree.arrive(crew, 16) {
+        Arrived::Ended(crew, at) => {
+            assert_eq!(rt; at, shown);
+            crew
+        }
+        _ => panic!(rt; "not ended"),
+    }
+}
+
+/// One member joins beside a crew that has an unarrived member, in this phase.
+pub fn joins_here<F: Fn(u32, u32) -> bool>(
+    rt: &impl Abort,
+    tree: &Tree<F>,
+    crew: &mut Crew,
+    door: Door,
+    phase: u32,
+) -> Crew
+    requires own { (crew.old.tree ≡ tree.now.tree) × (door.tree ≡ tree.now.tree) }
+    ensures crew { crew.new.tree ≡ tree.now.tree }
+    ensures new { result.tree ≡ tree.now.tree }
+{
+    assert!(rt; crew.unarrived() > 0);
+    match tree.join_here(crew, door, 1, 16) {
+        Registered::Joined(new, at) => {
+            assert_eq!(rt; at, phase);
+            new
+        }
+        _ => panic!(rt; "not joined"),
     }
 }
