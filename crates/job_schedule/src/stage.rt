@@ -3,7 +3,7 @@
 use tier_core::call::Call;
 
 /// How far a live task has come in its superstep (own).
-#[derive(Clone, Copy, Debug, PartialEq, Eq)]
+#[derive(Clone, Copy)]
 pub enum Stage {
     /// It is ready.
     Waits,
@@ -22,7 +22,7 @@ pub enum Stage {
 }
 
 /// What goes on between two steps of workers (own).
-#[derive(Clone, Copy, Debug, PartialEq, Eq)]
+#[derive(Clone, Copy)]
 pub enum Mode {
     /// A superstep.
     Runs,
@@ -45,7 +45,7 @@ pub enum Mode {
 }
 
 /// The one step that a worker may take (own).
-#[derive(Clone, Copy, Debug, PartialEq, Eq)]
+#[derive(Clone, Copy)]
 pub enum Move {
     /// To take the task at this place.
     Takes(usize),
