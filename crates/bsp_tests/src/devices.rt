@@ -100,7 +100,13 @@ fn a_reader_that_fails_leaves_no_output(rt: HostRuntime) -> Result<(), Fail> {
 }
 
 // Runs the program on writers that stop at each byte: what they took are the first bytes of the whole output.
-fn writes_fail<R: Abort + Threads + Wait + Sync>(rt: &R, alloc: Global, words: &[&str], text: &str, fails: bool) {
+fn writes_fail<R: Abort + Threads + Wait + Sync>(
+    rt: &R,
+    alloc: Global,
+    words: &[&str],
+    text: &str,
+    fails: bool,
+) {
     let whole = run_text(rt, alloc, words, text);
     assert_eq!(rt; whole.status, 0);
     for room in 0..whole.out.len() {
@@ -113,7 +119,14 @@ fn writes_fail<R: Abort + Threads + Wait + Sync>(rt: &R, alloc: Global, words: &
             fails,
         });
         let mut error_writer = Writer::new(&mut errors);
-        let status = run(rt, alloc, words, &mut reader, &mut writer, &mut error_writer);
+        let status = run(
+            rt,
+            alloc,
+            words,
+            &mut reader,
+            &mut writer,
+            &mut error_writer,
+        );
         assert_eq!(rt; status, 8, "{room}");
         assert_eq!(rt; Some(taken.as_slice()), whole.out.get(..room), "{room}");
         assert_eq!(rt; errors.as_slice(), b"read or write failed\n".as_slice());
@@ -176,7 +189,12 @@ impl Read for Endless<'_> {
 fn a_text_is_read_by_at_most_1048577_reads(rt: HostRuntime) -> Result<(), Fail> {
     for word in ["trace", "check", "run"] {
         let mut reads = 0;
-        let left = run_on(&rt, rt.alloc(), &["bsp", word], Endless { reads: &mut reads });
+        let left = run_on(
+            &rt,
+            rt.alloc(),
+            &["bsp", word],
+            Endless { reads: &mut reads },
+        );
         assert_eq!(rt;
             left.errors.as_slice(),
             b"refused line 1 code 1\n".as_slice()

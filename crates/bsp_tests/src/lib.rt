@@ -57,7 +57,14 @@ start swap 1
         let mut reader = Reader::new(input);
         let mut writer = Writer::new(&mut out);
         let mut error_writer = Writer::new(&mut errors);
-        let status = run(rt, alloc, words, &mut reader, &mut writer, &mut error_writer);
+        let status = run(
+            rt,
+            alloc,
+            words,
+            &mut reader,
+            &mut writer,
+            &mut error_writer,
+        );
         Ran {
             status,
             out,
