@@ -1,9 +1,8 @@
 -- The root leaves its phase only where everyone has arrived.
-use Rattle.std.proofs.Common.{◌≡◌, ◌≢◌, ℕ, ◌<◌, ◌≤◌, ◌⊎◌, inl, inr, ⊎_elim, Bool, true, false, cond, eqb, List, [], ◌∷◌, ◌++◌, length, refl, sym, ◌∙◌, ap, subst, arith}
+use Rattle.std.proofs.Common.{◌≡◌, ℕ, ◌⊎◌, inl, inr, ⊎_elim, Bool, true, false, cond, eqb, List, [], ◌∷◌, ◌++◌, refl, sym, ◌∙◌, ap, subst, arith}
 use Rattle.std.specs.List.{AllByRecursion}
 use Rattle.std.proofs.lemmas.Bool.{eqb-true}
 use Rattle.flat_phaser.proofs.Everyone.{either}
-use Rattle.phaser_word.specs.Fields.{Fields}
 use Rattle.tier_steps.specs.declared.view.View.{View}
 use Rattle.tier_steps.specs.declared.kind.Kind.{Kind}
 use Rattle.tier_steps.specs.declared.kind.Kind.TheVariants.{Look, Glance, Refuse, Join, Arrive, Leave, Advance, Force, Claim, Settle, SettleBack, Climb, Refresh}
@@ -12,8 +11,6 @@ use Rattle.tier_steps.specs.Laws.{IsStep}
 use Rattle.tier_steps.specs.Due.{is_advance}
 use Rattle.tier_steps.proofs.Due.{IsHere, everyone_here}
 use Rattle.tier_steps.proofs.Ready.{advances_are_due, phases_stay}
-use Rattle.table_rule.specs.declared.sight.Sight.{Sight}
-use Rattle.table_rule.specs.Reach.{views_of}
 use Rattle.table_rule.specs.Laws.{HasArrived, AdvancesWaitForAll}
 use Rattle.table_rule.proofs.Seats.{around}
 use Rattle.table_rule.proofs.Reaching.{shaped, reached_states_tally}

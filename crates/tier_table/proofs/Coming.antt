@@ -1,19 +1,18 @@
 -- What a registration answers.
-use Rattle.std.proofs.Common.{◌≡◌, ◌≢◌, ℕ, zero, suc, ◌<◌, ◌≤◌, Bool, true, false, List, length, refl, sym, ◌∙◌, ap, subst, arith, Option, Some, None}
+use Rattle.std.proofs.Common.{◌≡◌, ◌≢◌, ℕ, zero, suc, ◌<◌, true, false, List, refl, sym, ◌∙◌, ap, subst, arith, Option, Some, None}
 use Rattle.tier_steps.specs.Step.{opening}
 use Rattle.tier_steps.specs.declared.view.View.{View}
 use Rattle.tier_steps.specs.declared.view.Errand.{Errand}
 use Rattle.tier_steps.specs.declared.view.Stage.TheVariants as stage
 use Rattle.tier_steps.specs.declared.kind.Kind.TheVariants.{Look}
 use Rattle.tier_steps.proofs.KindLaw.{mine}
-use Rattle.tier_core.specs.declared.call.Cause.{Cause}
 use Rattle.tier_core.specs.declared.call.Played.{Played}
-use Rattle.tier_core.specs.declared.call.Played.TheVariants.{GoesOn, Done, Passed, Waiting, Held, Full, AlreadyArrived, Ended, MustAdvance}
+use Rattle.tier_core.specs.declared.call.Played.TheVariants.{GoesOn, Done, Held, Full, Ended}
 use Rattle.tier_core.specs.declared.call.Progress.{Progress}
 use Rattle.tier_core.specs.declared.call.Progress.TheVariants.{Idle, Begun, Seeking as ToSeek, Settling, GivingBack as ToGiveBack, Passing, Owing, Due, Refreshing}
 use Rattle.tier_core.specs.Turn.{claimed_by}
 use Rattle.tier_core.specs.Machine.{CallFits, is_going}
-use Rattle.tier_core.proofs.Turns.{not_both, looked_tier}
+use Rattle.tier_core.proofs.Turns.{looked_tier}
 use Rattle.table_rule.specs.Tell.{Beside}
 use Rattle.tier_table.specs.declared.going.Going.{Going}
 use Rattle.tier_table.specs.declared.joining.Registered.{Registered}
@@ -26,7 +25,7 @@ use Rattle.tier_table.specs.Openings.{asked_tier, asked_size, IsOpening}
 use Rattle.tier_table.specs.Goes.{position, starts, Ran}
 use Rattle.tier_table.specs.Arrives.{IsSoon, IsSpent}
 use Rattle.tier_table.specs.Joins.{IsJoined, Refusal, JoinAnswer, JoinAt}
-use Rattle.tier_table.specs.Registers.{IsLookedAround, IsFor, Registers, OpensFor, Opens, MayAnswer, AnswersJoin, NoBusy, SameAnswer}
+use Rattle.tier_table.specs.Registers.{IsLookedAround, IsFor, Registers, Opens, MayAnswer, AnswersJoin, NoBusy, SameAnswer}
 use Rattle.tier_table.proofs.Seeks.{look_unended, joins_do_as_asked}
 use Rattle.tier_table.proofs.Settling.{unseen}
 

@@ -1,5 +1,5 @@
 -- Seats that are joined, and the state of a table at its end.
-use Rattle.std.proofs.Common.{◌≡◌, ◌≢◌, ℕ, zero, suc, ◌<◌, ◌≤◌, ◌+◌, Option, Some, List, [], ◌∷◌, ◌++◌, All, map, set, length, take, sum_by, refl, sym, ◌∙◌, ap, subst, arith, append_assoc, length-append}
+use Rattle.std.proofs.Common.{◌≡◌, ℕ, zero, suc, ◌<◌, ◌≤◌, ◌+◌, Option, Some, List, [], ◌∷◌, ◌++◌, All, map, length, take, sum_by, refl, sym, ◌∙◌, ap, subst, arith, append_assoc, length-append}
 use Rattle.std.specs.List.{AllByRecursion}
 use lib.ListN.{get_or-append, get_elem?}
 use mathlib.Core.List.{map-append}

@@ -1,18 +1,17 @@
 -- A door that joins at a tier where a crew has an unarrived member.
-use Rattle.std.proofs.Common.{◌≡◌, ◌≢◌, ℕ, zero, suc, ◌+◌, ◌-◌, ◌≤◌, ◌<◌, ◌⊎◌, inl, inr, ⊎_elim, Bool, true, false, cond, eqb, not, ◌&&◌, ◌||◌, ltb, List, ◌∷◌, ◌++◌, length, refl, sym, ◌∙◌, ap, subst, arith, Option, Some, None}
-use Rattle.std.proofs.lemmas.Bool.{eq-eqb, eqb-true, ne_eqb, lt-ltb, ltb-false}
+use Rattle.std.proofs.Common.{◌≡◌, ◌≢◌, ℕ, zero, suc, ◌+◌, ◌-◌, ◌≤◌, ◌<◌, ⊎_elim, Bool, true, false, cond, eqb, not, ◌&&◌, ◌||◌, ltb, List, length, refl, sym, ◌∙◌, ap, subst, arith, Some, None}
+use Rattle.std.proofs.lemmas.Bool.{eq-eqb, ne_eqb, lt-ltb, ltb-false}
 use Rattle.flat_phaser.proofs.Everyone.{either}
 use Rattle.phaser_word.specs.Fields.{Fields}
 use Rattle.phaser_word.specs.Phase.{shown_of}
 use Rattle.tier_shape.specs.Parents.{parent_of}
 use Rattle.tier_steps.specs.View.{late_share, absent, errand_late, is_hidden, only_at}
 use Rattle.tier_steps.specs.Word.{late, is_being_opened, next_phase_of}
-use Rattle.tier_steps.specs.Tally.{word_at, KeepsUp}
-use Rattle.tier_steps.specs.Step.{Needs, IsDue, Admits, added, looked, refused, given_up, view_after, joined_view}
+use Rattle.tier_steps.specs.Tally.{KeepsUp}
+use Rattle.tier_steps.specs.Step.{Needs, IsDue, refused, given_up, view_after}
 use Rattle.tier_steps.specs.declared.kind.Kind.{Kind}
 use Rattle.tier_steps.specs.declared.kind.Kind.TheVariants.{Look, Refuse, Join}
 use Rattle.tier_steps.specs.declared.view.View.{View}
-use Rattle.tier_steps.specs.declared.view.Errand.{Errand}
 use Rattle.tier_steps.specs.declared.view.Errand.TheVariants.{Rest}
 use Rattle.tier_steps.specs.Known.{Known}
 use Rattle.tier_steps.proofs.Known.{tally_is_known}
@@ -20,19 +19,19 @@ use Rattle.tier_steps.proofs.KindLaw.{mine}
 use Rattle.std.specs.Prelude.{ℤ}
 use Rattle.tier_core.specs.Turn.{lags, has_no_room, is_refusing}
 use Rattle.tier_core.specs.declared.call.Played.TheVariants as played
-use Rattle.tier_core.proofs.Turns.{by_test, not_both, looked_rests, looked_size, looked_tier}
-use Rattle.table_rule.specs.Look.{glance, refusing, looking}
+use Rattle.tier_core.proofs.Turns.{by_test, not_both, looked_rests, looked_tier}
+use Rattle.table_rule.specs.Look.{glance, looking}
 use Rattle.table_rule.specs.Tell.{Beside}
 use Rattle.tier_table.specs.Holding.{Named, Holding, Looked, Took, Lost, Won, IsDoor, IsCrew}
 use Rattle.tier_table.specs.Passes.{IsSame}
-use Rattle.tier_table.specs.Joins.{IsJoined, IsNoted, Refusal}
+use Rattle.tier_table.specs.Joins.{IsJoined, Refusal}
 use Rattle.tier_table.specs.Passes.{EndSeen}
 use Rattle.tier_table.specs.Arrives.{IsSoon, IsSpent}
 use Rattle.tier_table.specs.Registers.{IsLookedAround}
 use Rattle.tier_table.specs.JoinsHere.{Waits, IsStill, AreSoon, AreSpent, KeepsCrew, AnswersMeeting, JoinsOnce, JoinsHere}
 use Rattle.tier_table.specs.declared.joining.Registered.{Registered}
 use Rattle.tier_table.specs.declared.joining.Registered.TheVariants as registered
-use Rattle.tier_table.proofs.Turning.{refuse_at, admit_at, ended_at, glanced}
+use Rattle.tier_table.proofs.Turning.{refuse_at, ended_at, glanced}
 use Rattle.tier_table.proofs.Passing.{root_of}
 use Rattle.tier_table.proofs.Coming.{seen_nothing}
 use Rattle.tier_table.proofs.Seeks.{look_unended, look_end, refused_note, refused_size, refused_end, glance_unended}

@@ -1,20 +1,14 @@
 -- A crew at its own tier, and a door beside it.
-use Rattle.std.proofs.Common.{◌≡◌, ◌≢◌, ℕ, zero, suc, ◌+◌, ◌-◌, ◌≤◌, ◌<◌, ◌⊎◌, inl, inr, ⊎_elim, Bool, true, false, cond, eqb, not, ◌&&◌, nat_lt, List, length, refl, sym, ◌∙◌, ap, subst, arith, Some, None}
-use Rattle.std.proofs.lemmas.Bool.{eq-eqb, eqb-true, ne_eqb}
-use Rattle.flat_phaser.proofs.Everyone.{either}
+use Rattle.std.proofs.Common.{◌≡◌, ℕ, zero, suc, ◌+◌, ◌<◌, inl, inr, Bool, true, false, eqb, not, ◌&&◌, nat_lt, List, refl, sym, ◌∙◌, ap, subst, arith}
+use Rattle.std.proofs.lemmas.Bool.{eq-eqb, eqb-true}
 use Rattle.phaser_word.specs.Fields.{Fields}
 use Rattle.tier_shape.specs.Parents.{parent_of}
-use Rattle.tier_steps.specs.View.{late_share, absent, errand_late, is_hidden, only_at}
-use Rattle.tier_steps.specs.Word.{late, is_being_opened}
-use Rattle.tier_steps.specs.Tally.{word_at, KeepsUp}
-use Rattle.tier_steps.specs.Step.{Needs, looked, view_after}
+use Rattle.tier_steps.specs.Step.{Needs, view_after}
 use Rattle.tier_steps.specs.declared.kind.Kind.{Kind}
-use Rattle.tier_steps.specs.declared.kind.Kind.TheVariants.{Look, Glance, Join, Refresh}
+use Rattle.tier_steps.specs.declared.kind.Kind.TheVariants.{Look, Refresh}
 use Rattle.tier_steps.specs.declared.view.View.{View}
-use Rattle.tier_steps.specs.declared.view.Errand.{Errand}
 use Rattle.tier_steps.specs.declared.view.Errand.TheVariants.{Rest}
-use Rattle.tier_steps.proofs.Known.{tally_is_known}
-use Rattle.tier_core.specs.Turn.{lags, has_no_room, is_refusing}
+use Rattle.tier_core.specs.Turn.{lags}
 use Rattle.tier_core.proofs.Turns.{not_both, looked_rests}
 use Rattle.table_rule.specs.Look.{glance, looking}
 use Rattle.table_rule.specs.Tell.{Beside}

@@ -1,17 +1,17 @@
 -- What a call that joins shows of its token, by induction on its looks and steps.
-use Rattle.std.proofs.Common.{◌≡◌, ◌≢◌, ℕ, zero, suc, ◌+◌, ◌≤◌, ◌<◌, ◌⊎◌, inl, inr, ⊎_elim, Bool, true, false, cond, eqb, not, ◌&&◌, List, ◌∷◌, ◌++◌, refl, sym, ◌∙◌, ap, subst, arith, Some, None}
+use Rattle.std.proofs.Common.{◌≡◌, ℕ, zero, suc, ◌+◌, ◌≤◌, ◌<◌, Bool, true, false, cond, eqb, List, refl, sym, ◌∙◌, ap, subst, arith, Some, None}
 use Rattle.std.proofs.lemmas.Bool.{eq-eqb}
 use Rattle.phaser_word.specs.Fields.{Fields}
 use Rattle.tier_shape.specs.Parents.{parent_of}
 use Rattle.tier_steps.specs.View.{ancestor, claims_on, errand_claims, claim_share}
 use Rattle.tier_steps.specs.Word.{is_being_opened}
 use Rattle.tier_steps.specs.Tally.{word_at, bit}
-use Rattle.tier_steps.specs.Step.{opening, added, looked, moved, refused, dropped, is_going_back, given_up, view_after, claimed_view, joined_view, settled_view}
+use Rattle.tier_steps.specs.Step.{opening, added, looked, moved, refused, dropped, is_going_back, given_up, view_after, joined_view, settled_view}
 use Rattle.tier_steps.specs.declared.kind.Kind.{Kind}
-use Rattle.tier_steps.specs.declared.kind.Kind.TheVariants.{Look, Refuse, Join, Claim, Settle, SettleBack}
+use Rattle.tier_steps.specs.declared.kind.Kind.TheVariants.{Join}
 use Rattle.tier_steps.specs.declared.view.View.{View}
 use Rattle.tier_steps.specs.declared.view.Errand.{Errand}
-use Rattle.tier_steps.specs.declared.view.Errand.TheVariants.{Rest, Opening}
+use Rattle.tier_steps.specs.declared.view.Errand.TheVariants.{Opening}
 use Rattle.tier_steps.specs.declared.view.Stage.{Stage}
 use Rattle.tier_steps.specs.declared.view.Stage.TheVariants as stage
 use Rattle.tier_steps.proofs.Looking.{move_keeps}
@@ -23,7 +23,7 @@ use Rattle.tier_core.specs.declared.call.Progress.TheVariants.{Idle, Begun, Seek
 use Rattle.tier_core.specs.declared.call.Turn.{Turn}
 use Rattle.tier_core.specs.Turn.{seek_turn, settle_turn, give_back_turn, end_shown, has_no_room, is_refusing, is_claimable, cause_of, refusal, unless_claimed, settling, giving_back, claimed_by, errand_place, place, turn_by}
 use Rattle.tier_core.specs.Machine.{CallFits, is_going, is_due}
-use Rattle.tier_core.proofs.Turns.{by_test, not_both, looked_size, looked_tier, looked_open, looked_ended}
+use Rattle.tier_core.proofs.Turns.{by_test, not_both, looked_size, looked_open, looked_ended}
 use Rattle.table_rule.specs.declared.sight.Key.{Key}
 use Rattle.table_rule.specs.Look.{glance, looking}
 use Rattle.table_rule.specs.Tell.{Beside}
@@ -31,9 +31,8 @@ use Rattle.tier_table.specs.Next.{meant, is_look}
 use Rattle.tier_table.specs.declared.going.Going.{Going}
 use Rattle.tier_table.specs.Holding.{Named}
 use Rattle.tier_table.specs.Goes.{Position, position, Goes, starts, steps, looks, after_look, WentOn, EndsAsPlanned}
-use Rattle.tier_table.specs.Passes.{EndSeen}
-use Rattle.tier_table.specs.Joins.{IsJoined, IsNoted, Refusal, JoinAnswer, SeeksFor, SettlesFor, GivesBackFor, JoinAt, JoinsDoAsAsked, is_joining}
-use Rattle.tier_table.proofs.Turning.{by_cond, SeekIs, ends, refused as turned_away, claims, joins, seek_is, admit_at, Glanced, glanced, look_is}
+use Rattle.tier_table.specs.Joins.{IsJoined, IsNoted, Refusal, SeeksFor, SettlesFor, GivesBackFor, JoinAt, JoinsDoAsAsked, is_joining}
+use Rattle.tier_table.proofs.Turning.{by_cond, SeekIs, ends, refused as turned_away, claims, joins, seek_is, admit_at, glanced, look_is}
 use Rattle.tier_table.proofs.Passing.{root_of}
 
 -- a claimed tier is below the root

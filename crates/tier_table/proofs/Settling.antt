@@ -1,11 +1,10 @@
 -- What an arrival or a departure answers.
 use Rattle.std.specs.Prelude.{ℤ}
-use Rattle.std.proofs.Common.{◌≡◌, ◌≢◌, ℕ, ◌<◌, ◌≤◌, inl, inr, ⊎_elim, Bool, true, false, not, cond, List, length, refl, sym, ◌∙◌, ap, subst, arith, Some, None}
-use Rattle.flat_phaser.proofs.Everyone.{either}
+use Rattle.std.proofs.Common.{◌≡◌, ◌≢◌, ℕ, ◌<◌, inl, inr, ⊎_elim, Bool, true, false, not, cond, List, refl, sym, ◌∙◌, ap, subst, arith, Some, None}
 use Rattle.phaser_word.specs.Fields.{Fields}
 use Rattle.phaser_word.specs.Phase.{shown_of}
 use Rattle.tier_steps.specs.Word.{next_phase_of}
-use Rattle.tier_steps.specs.Tally.{root_phase, word_at}
+use Rattle.tier_steps.specs.Tally.{root_phase}
 use Rattle.tier_steps.specs.Step.{looked, moved, dropped, is_going_back}
 use Rattle.tier_steps.specs.declared.view.View.{View}
 use Rattle.tier_steps.specs.declared.view.Errand.TheVariants.{Rest}
@@ -19,7 +18,7 @@ use Rattle.tier_core.specs.declared.call.Played.TheVariants.{GoesOn, Done, Passe
 use Rattle.tier_core.specs.declared.call.Progress.{Progress}
 use Rattle.tier_core.specs.declared.call.Progress.TheVariants.{Idle, Begun, Seeking as ToSeek, Settling, GivingBack as ToGiveBack, Passing, Owing, Due, Refreshing}
 use Rattle.tier_core.specs.Machine.{CallFits, is_going}
-use Rattle.tier_core.proofs.Turns.{by_test, not_both, looked_rests, looked_size}
+use Rattle.tier_core.proofs.Turns.{by_test, not_both, looked_rests}
 use Rattle.table_rule.specs.Tell.{Beside}
 use Rattle.tier_table.specs.declared.going.Going.{Going}
 use Rattle.tier_table.specs.declared.arriving.Arrived.{Arrived}
@@ -28,7 +27,7 @@ use Rattle.tier_table.specs.declared.arriving.Resumed.{Resumed}
 use Rattle.tier_table.specs.declared.arriving.Resumed.TheVariants as resumed
 use Rattle.tier_table.specs.Goes.{position, starts, Ran}
 use Rattle.tier_table.specs.Passes.{IsSame, HasCounted, EndSeen, PassAnswer, PassAt}
-use Rattle.tier_table.specs.Holding.{Named, Holding, Looked, IsCrew, IsDoor}
+use Rattle.tier_table.specs.Holding.{Named, Holding, Looked, IsCrew}
 use Rattle.tier_table.specs.Calls.{IsAt, IsErrand}
 use Rattle.tier_table.specs.Next.{is_owing}
 use Rattle.tier_table.specs.Arrives.{IsLooked, HasPassed, IsSoon, IsSpent, Arrives, Resumes, MaySettle, MayEnd, Settles, Ends}

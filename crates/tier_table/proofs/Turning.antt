@@ -5,12 +5,12 @@ use Rattle.tier_shape.specs.Parents.{parent_of}
 use Rattle.tier_shape.specs.Paths.{IsTiers}
 use Rattle.tier_steps.specs.View.{ancestor}
 use Rattle.tier_steps.specs.Tally.{blank, word_at, Tallies}
-use Rattle.tier_steps.specs.Step.{Needs, opening, added, owed, looked, moved, dropped, is_going_back, view_after}
+use Rattle.tier_steps.specs.Step.{Needs, opening, added, looked, moved, dropped, is_going_back, view_after}
 use Rattle.tier_steps.specs.declared.kind.Kind.{Kind}
 use Rattle.tier_steps.specs.declared.kind.Kind.TheVariants.{Look, Glance, Refuse, Join, Advance, Claim, Climb, Refresh}
 use Rattle.tier_steps.specs.declared.view.View.{View}
 use Rattle.tier_steps.specs.declared.view.Errand.{Errand}
-use Rattle.tier_steps.specs.declared.view.Errand.TheVariants.{Rest, Opening, Climbing, Advancing}
+use Rattle.tier_steps.specs.declared.view.Errand.TheVariants.{Opening, Climbing}
 use Rattle.tier_steps.specs.declared.view.Stage.TheVariants.{Seeking, Joined, GoingBack}
 use Rattle.tier_steps.specs.declared.view.Trip.{Trip}
 use Rattle.tier_steps.specs.declared.view.Trip.TheVariants.{Arrival, Departure}

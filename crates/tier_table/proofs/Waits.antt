@@ -1,10 +1,9 @@
 -- What a poll answers.
-use Rattle.std.proofs.Common.{◌≡◌, ◌≢◌, ℕ, ◌<◌, ◌≤◌, ◌+◌, inl, inr, ⊎_elim, List, length, sym, ◌∙◌, ap, subst, arith, false}
+use Rattle.std.proofs.Common.{◌≡◌, ◌≢◌, ℕ, ◌<◌, ◌≤◌, ◌+◌, ⊎_elim, length, sym, ◌∙◌, ap, subst, arith}
 use Rattle.tier_steps.specs.declared.view.View.{View}
 use Rattle.tier_steps.specs.declared.kind.Kind.TheVariants.{Look}
 use Rattle.tier_steps.specs.Word.{next_phase_of}
 use Rattle.tier_steps.proofs.KindLaw.{mine}
-use Rattle.phaser_word.specs.Fields.{Fields}
 use Rattle.table_rule.specs.Tell.{Beside}
 use Rattle.tier_table.specs.Holding.{Named, Holding, Looked, IsCrew}
 use Rattle.tier_table.specs.Arrives.{IsLooked, IsSoon}

@@ -1,5 +1,5 @@
 -- What arrivals and departures answer, by the view of their token (own; the calls are those of Java SE 21, `Phaser`).
-use Rattle.std.specs.Prelude.{true, ◌≡◌, ℕ, ◌+◌, ◌<◌, ◌≤◌, ◌⊎◌, ℤ}
+use Rattle.std.specs.Prelude.{true, ◌≡◌, ℕ, ◌+◌, ◌<◌, ◌≤◌, ◌⊎◌}
 use Rattle.tier_steps.specs.Word.{next_phase_of}
 use Rattle.tier_steps.specs.declared.view.View.{View}
 use Rattle.tier_steps.specs.declared.view.Trip.{Trip}

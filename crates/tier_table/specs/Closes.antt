@@ -1,5 +1,5 @@
 -- What closing a tree answers (own).
-use Rattle.std.specs.Prelude.{◌≡◌, ℕ, ◌-◌, List, ◌++◌, map}
+use Rattle.std.specs.Prelude.{ℕ, ◌-◌, List, ◌++◌, map}
 use Rattle.phaser_word.specs.Fields.{Fields}
 use Rattle.tier_steps.specs.declared.view.View.{View}
 use Rattle.tier_steps.specs.Tally.{Tallies}

@@ -1,5 +1,5 @@
 -- What a call that joins shows of its token, wherever it stands (own).
-use Rattle.std.specs.Prelude.{◌≡◌, ℕ, zero, suc, ◌≤◌, Bool, true, false, Some, None, List}
+use Rattle.std.specs.Prelude.{◌≡◌, ℕ, suc, ◌≤◌, Bool, true, false, Some, None, List}
 use Rattle.phaser_word.specs.Fields.{Fields}
 use Rattle.tier_steps.specs.View.{ancestor}
 use Rattle.tier_steps.specs.Step.{added}

@@ -1,7 +1,6 @@
 -- What a registration at a crew's own tier answers (own).
-use Rattle.std.specs.Prelude.{◌≡◌, ℕ, ◌+◌, ◌<◌, ◌≤◌, Bool, false, None}
+use Rattle.std.specs.Prelude.{◌≡◌, ℕ, ◌+◌, ◌<◌, ◌≤◌, false, None}
 use Rattle.phaser_word.specs.Fields.{Fields}
-use Rattle.tier_core.specs.Turn.{lags}
 use Rattle.tier_core.specs.declared.call.Played.TheVariants as played
 use Rattle.tier_table.specs.Holding.{Holding, shape_of, IsCrew}
 use Rattle.tier_table.specs.Passes.{IsSame}

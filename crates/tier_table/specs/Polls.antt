@@ -1,5 +1,5 @@
 -- What a poll answers, by the view of its token (own).
-use Rattle.std.specs.Prelude.{◌≡◌, ◌+◌, ◌<◌, ◌≤◌}
+use Rattle.std.specs.Prelude.{◌≡◌, ◌<◌}
 use Rattle.tier_steps.specs.Word.{next_phase_of}
 use Rattle.tier_table.specs.Holding.{Holding}
 use Rattle.tier_table.specs.Passes.{EndSeen}

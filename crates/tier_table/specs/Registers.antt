@@ -1,5 +1,5 @@
 -- What registrations answer, by the view of their token (own; `register` and `bulkRegister` of Java SE 21, `Phaser`).
-use Rattle.std.specs.Prelude.{◌≡◌, ◌≢◌, ℕ, ◌<◌, ◌≤◌}
+use Rattle.std.specs.Prelude.{◌≡◌, ◌≢◌, ℕ, ◌<◌}
 use Rattle.tier_steps.specs.declared.view.View.{View}
 use Rattle.tier_core.specs.declared.call.Progress.TheVariants as progress
 use Rattle.tier_core.specs.declared.call.Played.TheVariants as played

@@ -1,8 +1,5 @@
-use Rattle.std.proofs.Common.{rules, ◌≡◌, ◌++◌, ◌∷◌, [], ℕ, List, ap, sym, ◌∙◌, arith, length, length-append}
-use Rattle.phaser_word.specs.Fields.{Fields}
-use Rattle.tier_shape.specs.Parents.{parent_of}
+use Rattle.std.proofs.Common.{rules, ◌++◌, ◌∷◌, [], ap, sym, ◌∙◌, arith, length, length-append}
 use Rattle.table_rule.proofs.Allowed.{enters_allow}
-use Rattle.tier_table.specs.Holding.{Named}
 use Rattle.tier_table.proofs.Seating.{is_some, unpacked}
 use Rattle.tier_table.proofs.Gathering.{last_state, word_read, take_more, take_whole, count_long, closed_tally}
 use Rattle.tier_table.specs.Closes.{views_in}

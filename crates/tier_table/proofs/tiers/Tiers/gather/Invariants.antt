@@ -1,4 +1,4 @@
-use Rattle.std.proofs.Common.{◌≡◌, [], ◌++◌, All, map, vec_len}
+use Rattle.std.proofs.Common.{◌≡◌, [], ◌++◌, All, vec_len}
 use Rattle.table_rule.specs.Reach.{those}
 use Rattle.tier_table.specs.declared.tokens.Token.{Token}
 use Rattle.tier_table.specs.Closes.{held, views_in}

@@ -1,4 +1,4 @@
-use Rattle.std.proofs.Common.{◌<◌, ap, sym, subst, ◌∙◌, arith}
+use Rattle.std.proofs.Common.{◌<◌, sym, subst, ◌∙◌, arith}
 use Rattle.tier_table.specs.Holding.{Holding}
 use Rattle.tier_table.proofs.Greeting.{waits_here, waits_by}
 use Rattle.tier_table.proofs.tiers.Tiers.join_once.Goals as goal

@@ -1,4 +1,4 @@
-use Rattle.std.proofs.Common.{rules, ap, sym, subst, ◌∙◌, refl}
+use Rattle.std.proofs.Common.{rules, ap, subst, ◌∙◌, refl}
 use Rattle.phaser_word.specs.Fields.{Fields}
 use Rattle.tier_table.specs.Holding.{IsDoor}
 use Rattle.tier_table.proofs.Seating.{took_by}

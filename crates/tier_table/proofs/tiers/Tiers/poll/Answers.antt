@@ -3,7 +3,7 @@ use Rattle.tier_steps.specs.declared.view.View.{View}
 use Rattle.tier_table.specs.Holding.{Holding, IsCrew}
 use Rattle.tier_table.proofs.Seating.{took_by}
 use Rattle.tier_table.proofs.Settling.{unseen, not_ended}
-use Rattle.tier_table.proofs.Waits.{polls_here, polls_passed}
+use Rattle.tier_table.proofs.Waits.{polls_passed}
 use Rattle.tier_table.proofs.tiers.Tiers.poll.Goals as goal
 
 pub returns-then-view-clause-ended : goal.returns-then-view-clause-ended
