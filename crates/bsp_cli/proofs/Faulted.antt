@@ -56,7 +56,7 @@ faulted a input old new told (NotStarted k) status does line e =
       finished = λ h. absurd (omega arith);
       refused = λ h. absurd (omega arith);
       memory = λ h. absurd (omega arith);
-      not_started = λ h. (does, k, line);
+      not_started = λ h. (does.0, k, does.1, line);
       failed = λ h. absurd (omega arith);
       internal = λ h. absurd (omega arith);
     }

@@ -40,20 +40,20 @@ small (Fault c n p) = omega arith
 small (Limit n) = omega arith
 
 -- a job that was read and run, and its report that was written
-pub runs : (limit : ℕ) (input old new : Option (List ℕ)) (j : JobValue) (report : ReportValue) (r : Result JobStatus RunFault)
+pub runs : (workers limit : ℕ) (input old new : Option (List ℕ)) (j : JobValue) (report : ReportValue) (r : Result JobStatus RunFault)
     → IfSome input (λ bytes. job_in bytes ≡ Ok (job_tree j)) → report_of (program_of j) limit ≡ Some report → Reports report old new r
-    → Runs limit input old new r
-runs limit input old new j report (Ok status) read left_it h =
+    → Runs workers limit input old new r
+runs workers limit input old new j report (Ok status) read left_it h =
     if-some input (λ bytes e. (report, (job_tree j, e, left j limit report left_it), h.0, h.1)) read
-runs limit input old new j report (Err (Text x)) read left_it h = absurd h
-runs limit input old new j report (Err Read) read left_it h = absurd h
-runs limit input old new j report (Err Write) read left_it h = if-some input (λ bytes e. (report, (job_tree j, e, left j limit report left_it), h)) read
-runs limit input old new j report (Err Memory) read left_it h = h
-runs limit input old new j report (Err (NotStarted k)) read left_it h = absurd h
-runs limit input old new j report (Err Internal) read left_it h = absurd h
+runs workers limit input old new j report (Err (Text x)) read left_it h = absurd h
+runs workers limit input old new j report (Err Read) read left_it h = absurd h
+runs workers limit input old new j report (Err Write) read left_it h = if-some input (λ bytes e. (report, (job_tree j, e, left j limit report left_it), h)) read
+runs workers limit input old new j report (Err Memory) read left_it h = h
+runs workers limit input old new j report (Err (NotStarted k)) read left_it h = absurd h
+runs workers limit input old new j report (Err Internal) read left_it h = absurd h
 
 -- and so what was asked for was done
-pub does : (workers limit : ℕ) (input old new : Option (List ℕ)) (r : Result JobStatus RunFault) → Runs limit input old new r
+pub does : (workers limit : ℕ) (input old new : Option (List ℕ)) (r : Result JobStatus RunFault) → Runs workers limit input old new r
     → Does (Run workers limit) input old new (end_result r)
 does workers limit input old new (Ok status) h =
     (small (status_seen status), if-some input (λ bytes w. (w.0, w.1, w.2, ap status_number w.3)) h)

@@ -1,5 +1,5 @@
 -- What the program did, by its status (own).
-use Rattle.std.specs.Prelude.{◌≡◌, ◌≤◌, ◌⊎◌, ℕ, Bool, true, false, List, [], ◌∷◌, Option, IfSome, Err}
+use Rattle.std.specs.Prelude.{◌≡◌, ◌≤◌, ◌<◌, ◌⊎◌, ℕ, Bool, true, false, List, [], ◌∷◌, Option, IfSome, Err}
 use Rattle.std.specs.List.{list_all}
 use Rattle.std.specs.Io.KnownBytes.{Keeps}
 use Rattle.text_lines.specs.declared.refusal.Refusal.{Refusal}
@@ -38,13 +38,19 @@ RunsOut Trace input old new = Keeps old new ⊎ IfSome input (λ bytes. WritesBe
 RunsOut Check input old new = Keeps old new
 RunsOut (Run workers limit) input old new = Keeps old new
 
+-- a worker of those that are asked for, numbered from 0
+abbrev pub IsWorkerOf : Asked → ℕ → Type 0
+IsWorkerOf Trace k = ⊥
+IsWorkerOf Check k = ⊥
+IsWorkerOf (Run workers limit) k = k < workers
+
 -- what is asked for is done where the status is 0, 2 or 3; else the output and the line on standard error say what went
 -- wrong
 pub record Did (a : Asked) (input old new : Option (List ℕ)) (told : List ℕ → Type 0) (status : ℕ) : Type 0 where
   pub finished : status ≤ 3 → IfSome input (λ bytes. Finishes a bytes old new status)
   pub refused : status ≡ 4 → Keeps old new × (r : Refusal) × told (refusal_line r) × IfSome input (λ bytes. Refuses a bytes r)
   pub memory : status ≡ 6 → RunsOut a input old new
-  pub not_started : status ≡ 7 → Keeps old new × (k : ℕ) × told (worker_line k)
+  pub not_started : status ≡ 7 → Keeps old new × (k : ℕ) × IsWorkerOf a k × told (worker_line k)
   pub failed : status ≡ 8 → Keeps old new ⊎ IfSome input (λ bytes. Begins a bytes old new)
   pub internal : status ≡ 9 → Keeps old new
 

@@ -1,5 +1,5 @@
 -- How commands end, by what they return.
-use Rattle.std.specs.Prelude.{◌≡◌, ◌≤◌, ◌⊎◌, ℕ, ◌+◌, List, Option, IfSome, Result, Ok, Err}
+use Rattle.std.specs.Prelude.{◌≡◌, ◌≤◌, ◌<◌, ◌⊎◌, ℕ, ◌+◌, List, Option, IfSome, Result, Ok, Err}
 use Rattle.std.specs.Io.KnownBytes.{Appends, Keeps}
 use Rattle.phase_records.specs.Device.{AppendsBeginning}
 use Rattle.phase_records.specs.ReportValue.{ReportValue}
@@ -12,7 +12,7 @@ use Rattle.trace_text.specs.Outcome.{WritesAnswers, WritesBeginning}
 use Rattle.job_reader.specs.Trees.{job_tree}
 use Rattle.job_reader.specs.Reading.{job_in}
 use Rattle.bsp_cli.specs.Jobs.{status_number, WritesCanonical, BeginsCanonical, WritesReportOf, BeginsReport}
-use Rattle.bsp_cli.specs.Did.{Finishes, Begins, Refuses, RunsOut}
+use Rattle.bsp_cli.specs.Did.{Finishes, Begins, Refuses, RunsOut, IsWorkerOf}
 use Rattle.bsp_cli.specs.Texts.{fault_status}
 use Rattle.bsp_cli.specs.declared.asked.Asked.{Asked}
 use Rattle.bsp_cli.specs.declared.asked.Asked.TheVariants.{Trace, Check, Run}
@@ -77,25 +77,25 @@ Reports report old new (Err Memory) = Keeps old new
 Reports report old new (Err (NotStarted k)) = ⊥
 Reports report old new (Err Internal) = ⊥
 
--- why workers leave nothing
-abbrev pub IsOfPool : RunFault → Type 0
-IsOfPool (Text r) = ⊥
-IsOfPool Read = ⊥
-IsOfPool Write = ⊥
-IsOfPool Memory = Unit {0}
-IsOfPool (NotStarted k) = Unit {0}
-IsOfPool Internal = Unit {0}
+-- why so many workers leave nothing
+abbrev pub IsOfPool : ℕ → RunFault → Type 0
+IsOfPool workers (Text r) = ⊥
+IsOfPool workers Read = ⊥
+IsOfPool workers Write = ⊥
+IsOfPool workers Memory = Unit {0}
+IsOfPool workers (NotStarted k) = k < workers
+IsOfPool workers Internal = Unit {0}
 
 -- what the job of the input leaves within the limit was written, and nothing else, and this is how it ended; a text that is
 -- refused is refused at its first fault, with nothing written
-abbrev pub Runs : ℕ → Option (List ℕ) → Option (List ℕ) → Option (List ℕ) → Result JobStatus RunFault → Type 0
-Runs limit input old new (Ok status) = IfSome input (λ bytes. WritesReportOf limit bytes old new (status_seen status))
-Runs limit input old new (Err (Text r)) = IfSome input (λ bytes. job_in bytes ≡ Err r) × Keeps old new
-Runs limit input old new (Err Read) = Keeps old new
-Runs limit input old new (Err Write) = IfSome input (λ bytes. BeginsReport limit bytes old new)
-Runs limit input old new (Err Memory) = Keeps old new
-Runs limit input old new (Err (NotStarted k)) = Keeps old new
-Runs limit input old new (Err Internal) = Keeps old new
+abbrev pub Runs : ℕ → ℕ → Option (List ℕ) → Option (List ℕ) → Option (List ℕ) → Result JobStatus RunFault → Type 0
+Runs workers limit input old new (Ok status) = IfSome input (λ bytes. WritesReportOf limit bytes old new (status_seen status))
+Runs workers limit input old new (Err (Text r)) = IfSome input (λ bytes. job_in bytes ≡ Err r) × Keeps old new
+Runs workers limit input old new (Err Read) = Keeps old new
+Runs workers limit input old new (Err Write) = IfSome input (λ bytes. BeginsReport limit bytes old new)
+Runs workers limit input old new (Err Memory) = Keeps old new
+Runs workers limit input old new (Err (NotStarted k)) = Keeps old new × (k < workers)
+Runs workers limit input old new (Err Internal) = Keeps old new
 
 -- and what is asked for, whichever it is
 abbrev pub Does : Asked → Option (List ℕ) → Option (List ℕ) → Option (List ℕ) → Result ℕ RunFault → Type 0
@@ -104,7 +104,7 @@ Does a input old new (Err (Text r)) = IfSome input (λ bytes. Refuses a bytes r)
 Does a input old new (Err Read) = Keeps old new
 Does a input old new (Err Write) = IfSome input (λ bytes. Begins a bytes old new)
 Does a input old new (Err Memory) = RunsOut a input old new
-Does a input old new (Err (NotStarted k)) = Keeps old new
+Does a input old new (Err (NotStarted k)) = Keeps old new × IsWorkerOf a k
 Does a input old new (Err Internal) = Keeps old new
 
 -- workers and limit are in range

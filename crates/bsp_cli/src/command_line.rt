@@ -111,6 +111,7 @@ fn do_asked<T: Threads + Wait + Sync, R: CountedRead, W: CountedWrite>(
 }
 
 // Does what is asked for, answers the status, and tells what went wrong.
+#[tactic(auto, using(crate::proofs::Faulted::faulted))]
 fn run_asked<T: Threads + Wait + Sync, R: CountedRead, W: CountedWrite, E: CountedWrite>(
     rt: &T,
     alloc: Global,

@@ -1,9 +1,10 @@
 //! The subcommands `check` and `run`.
-ghost use Rattle.std.specs.Prelude.{◌≡◌, ◌≤◌, Some, IfOk};
+ghost use Rattle.std.specs.Prelude.{◌≡◌, ◌≤◌, ℕ, Some, IfOk, IfErr};
 ghost use Rattle.phase_records.specs.StatusSeen.{status_seen};
 ghost use Rattle.bsp_cli.specs.Jobs.{status_number};
 ghost use Rattle.step_core.specs.Program.{program_of};
 ghost use Rattle.step_core.specs.JobMeaning.{report_of};
+ghost use Rattle.worker_pool.specs.Refusals.{IsOfWorkers};
 ghost use Rattle.bsp_cli.specs.Ends.{TakesJob, Checks, IsOfPool, Reports, Runs, ReadCause, WriteCause, end_result};
 
 use crate::fault::RunFault;
@@ -95,7 +96,8 @@ fn leave<T: Threads + Wait + Sync>(
 ) -> Result<Report, Refused>
     requires workers { (1 ≤ workers) × (workers ≤ 64) }
     requires limit { (1 ≤ limit) × (limit ≤ 2147483648) }
-    ensures { IfOk result (λ report. report_of (program_of job.now) limit ≡ Some report) }
+    ensures report { IfOk result (λ report. report_of (program_of job.now) limit ≡ Some report) }
+    ensures started { IfErr result (IsOfWorkers workers) }
 {
     if workers == 1 {
         let report = run_alone(alloc, job, limit)?;
@@ -112,9 +114,9 @@ fn leave<T: Threads + Wait + Sync>(
     )
 }
 
-// Why a run of a job didn't end.
+// Why a run of a job on so many workers didn't end.
 fn fault_of(refused: Refused) -> RunFault
-    ensures { IsOfPool result }
+    ensures { (workers : ℕ) → IsOfWorkers workers refused → IsOfPool workers result }
 {
     match refused {
         Refused::Memory => RunFault::Memory,
@@ -155,7 +157,7 @@ pub fn run_bytes<T: Threads + Wait + Sync, R: CountedRead, W: CountedWrite>(
 ) -> Result<JobStatus, RunFault>
     requires workers { (1 ≤ workers) × (workers ≤ 64) }
     requires limit { (1 ≤ limit) × (limit ≤ 2147483648) }
-    ensures runs { Runs limit (R.remaining reader.old) (W.contents writer.old) (W.contents writer.new) result }
+    ensures runs { Runs workers limit (R.remaining reader.old) (W.contents writer.old) (W.contents writer.new) result }
     ensures read_failures { ReadCause (R.failures reader.old) (R.failures reader.new) result }
     ensures write_failures { WriteCause (W.failures writer.old) (W.failures writer.new) result }
 {

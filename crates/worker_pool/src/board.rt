@@ -56,13 +56,14 @@ impl<'j, J: Running> Model for Board<'j, J> {
 }
 
 impl<'j, J: Running> Board<'j, J> {
-    ghost use Rattle.std.specs.Prelude.{◌≡◌, Some, is_some, IfOk, OnOk, OnErr};
+    ghost use Rattle.std.specs.Prelude.{◌≡◌, ℕ, Some, is_some, IfOk, IfErr, OnOk, OnErr};
     ghost use Rattle.step_core.specs.Program.{program_of};
     ghost use Rattle.step_core.specs.JobMeaning.{report_of};
     ghost use Rattle.step_core.specs.Superstep.{superstep};
     ghost use Rattle.step_core.specs.Slots.{delivered};
     ghost use Rattle.step_core.specs.Taking.{Takes, with_delivery, IsOrderOf, outcome_of};
     ghost use Rattle.step_core.specs.RoundValue.{Opens, IsRound, state_of, slots_in, status_in};
+    ghost use Rattle.worker_pool.specs.Refusals.{IsOfWorkers};
 
     /// A board for this round, with these seats for its tasks.
     pub(crate) fn new(alloc: Global, round: Round<'j>, ready: VecDeque<Seat>) -> Self
@@ -198,7 +199,8 @@ impl<'j, J: Running> Board<'j, J> {
 
     /// What the job left, once it has ended.
     pub(crate) fn conclude(self, alloc: Global) -> Result<Report, Refused>
-        ensures { IfOk result (λ report. report_of (program_of J.job) J.limit ≡ Some report) }
+        ensures report { IfOk result (λ report. report_of (program_of J.job) J.limit ≡ Some report) }
+        ensures started { (workers : ℕ) → IfErr result (IsOfWorkers workers) }
     {
         if let Some(note) = self.note {
             return Err(note.refusal());

@@ -1,6 +1,6 @@
 //! Why a run gives no report.
-ghost use Rattle.std.specs.Prelude.{◌≡◌};
-ghost use Rattle.worker_pool.specs.Refusals.{refusal_number};
+ghost use Rattle.std.specs.Prelude.{◌≡◌, ℕ};
+ghost use Rattle.worker_pool.specs.Refusals.{IsOfWorkers, refusal_number};
 
 use std::alloc::AllocError;
 use step_core::{AcceptFault, CloseFault};
@@ -50,7 +50,9 @@ pub(crate) enum Note {
 
 impl Note {
     /// What the run then answers.
-    pub(crate) fn refusal(self) -> Refused {
+    pub(crate) fn refusal(self) -> Refused
+        ensures { (workers : ℕ) → IsOfWorkers workers result }
+    {
         match self {
             Note::Memory => Refused::Memory,
             Note::Internal => Refused::Internal,

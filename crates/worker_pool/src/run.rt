@@ -1,10 +1,11 @@
 //! A job on worker threads.
-ghost use Rattle.std.specs.Prelude.{◌≡◌, ◌≤◌, false, Some, IfOk};
+ghost use Rattle.std.specs.Prelude.{◌≡◌, ◌≤◌, ℕ, false, Some, IfOk, IfErr};
 ghost use Rattle.advance_rule.specs.Stored.{Answers};
 ghost use Rattle.advance_rule.specs.Plan.{end_ends_at};
 ghost use Rattle.step_core.specs.Program.{program_of};
 ghost use Rattle.step_core.specs.JobMeaning.{report_of};
 ghost use Rattle.worker_pool.specs.JobPlan.{limit_of, IsJobPlan};
+ghost use Rattle.worker_pool.specs.Refusals.{IsOfWorkers};
 
 use crate::board::{Board, Running};
 use crate::fault::Refused;
@@ -35,7 +36,9 @@ fn meet(_generation: u64) -> bool
 }
 
 // Registers the start tasks, one leaf after another, before any worker is started.
-fn seat_all(alloc: Global, tree: &mut Tree, round: &Round<'_>) -> Result<VecDeque<Seat>, Refused> {
+fn seat_all(alloc: Global, tree: &mut Tree, round: &Round<'_>) -> Result<VecDeque<Seat>, Refused>
+    ensures { (workers : ℕ) → IfErr result (IsOfWorkers workers) }
+{
     let paths = round.live(alloc)?;
     let mut seats = Vec::with_capacity(alloc, paths.len())?;
     for (number, path) in paths.into_iter().enumerate() {
@@ -72,7 +75,8 @@ fn run_shared<
     requires job { round.job ≡ J.job }
     requires limit { round.limit ≡ J.limit }
     requires rule { Answers (F.pre advance.now.closure) (F.post advance.now.closure) (end_ends_at advance.now.plan) }
-    ensures { IfOk result (λ report. report_of (program_of J.job) J.limit ≡ Some report) }
+    ensures report { IfOk result (λ report. report_of (program_of J.job) J.limit ≡ Some report) }
+    ensures started { IfErr result (IsOfWorkers workers) }
 {
     let action = StoredAction::new(meet, None);
     let meeting = match CyclicGate::new(alloc, i64::from(workers), action) {
@@ -114,7 +118,8 @@ pub fn run_job<
     requires workers { (1 ≤ workers) × (workers ≤ 64) }
     requires plan { IsJobPlan advance.plan }
     requires rule { Answers (F.pre advance.closure) (F.post advance.closure) (end_ends_at advance.plan) }
-    ensures { IfOk result (λ report. report_of (program_of job.now) (limit_of advance.plan) ≡ Some report) }
+    ensures report { IfOk result (λ report. report_of (program_of job.now) (limit_of advance.plan) ≡ Some report) }
+    ensures started { IfErr result (IsOfWorkers workers) }
 {
     let plan = advance.plan();
     let round = Round::new(alloc, job, limit_in(plan))?;

@@ -31,9 +31,10 @@ pub(crate) enum Next<'j, J: Running> {
 }
 
 impl<'j, J: Running> Shop<'j, J> {
-    ghost use Rattle.std.specs.Prelude.{◌≡◌, Some, IfOk};
+    ghost use Rattle.std.specs.Prelude.{◌≡◌, ℕ, Some, IfOk, IfErr};
     ghost use Rattle.step_core.specs.Program.{program_of};
     ghost use Rattle.step_core.specs.JobMeaning.{report_of};
+    ghost use Rattle.worker_pool.specs.Refusals.{IsOfWorkers};
 
     /// Delivers what the last segment did, and takes the next task. A worker with an empty hand waits for one; with a full
     /// hand, or where none is ready, it passes its hand on.
@@ -108,7 +109,8 @@ impl<'j, J: Running> Shop<'j, J> {
 
     /// What the job left, once all workers have gone home.
     pub(crate) fn conclude(self, alloc: Global) -> Result<Report, Refused>
-        ensures { IfOk result (λ report. report_of (program_of J.job) J.limit ≡ Some report) }
+        ensures report { IfOk result (λ report. report_of (program_of J.job) J.limit ≡ Some report) }
+        ensures started { (workers : ℕ) → IfErr result (IsOfWorkers workers) }
     {
         let Shop {
             board,

@@ -1,9 +1,10 @@
 //! Starting workers, and meeting before the first task is taken.
-ghost use Rattle.std.specs.Prelude.{◌≡◌};
+ghost use Rattle.std.specs.Prelude.{◌≡◌, IfErr};
 ghost use Rattle.std.specs.Thread.{IsSync};
 ghost use Rattle.advance_rule.specs.Action.{AnswersAction};
 ghost use Rattle.advance_rule.specs.Stored.{Answers};
 ghost use Rattle.advance_rule.specs.Plan.{end_ends_at};
+ghost use Rattle.worker_pool.specs.Refusals.{IsOfWorkers};
 
 use crate::board::Running;
 use crate::fault::{Note, Refused};
@@ -63,6 +64,7 @@ pub(crate) fn start_all<
 ) -> Result<(), Refused>
     requires rule { Answers (F.pre advance.now.closure) (F.post advance.now.closure) (end_ends_at advance.now.plan) }
     requires action { AnswersAction (A.pre meeting.now.action.closure) (A.post meeting.now.action.closure) meeting.now.action.plan }
+    ensures { IfErr result (IsOfWorkers workers) }
 {
     thread::scope(
         thread::scope_env(),
@@ -70,6 +72,7 @@ pub(crate) fn start_all<
         move |scope| -> Result<(), Refused>
             requires { Answers (F.pre advance.now.closure) (F.post advance.now.closure) (end_ends_at advance.now.plan)
                 × AnswersAction (A.pre meeting.now.action.closure) (A.post meeting.now.action.closure) meeting.now.action.plan }
+            ensures { IfErr result (IsOfWorkers workers) }
         {
             let mut started = Vec::new(alloc);
             let mut done = Ok(());
