@@ -1,13 +1,10 @@
 //! Lines, bodies and jobs for the tests.
-use smallvec::SmallVec;
 use std::alloc::{AllocError, Global};
 use superstep_memory::arrays::Arrays;
 use task_lang::body::Body;
 use task_lang::builder::Builder;
-use task_lang::code::{Action, Cell, Expr, Index, Line, Operand, Operator};
+use task_lang::code::{Action, Cell, Expr, Index, Line, Operand};
 use task_lang::job::{Job, Start};
-use task_lang::segment::segment;
-use task_lang::task::{After, Segment, Task};
 
 pub(crate) fn number(n: i64) -> Operand {
     Operand::Plain(Index::Number(n))
@@ -22,10 +19,6 @@ pub(crate) fn cell(index: i64) -> Cell {
         array: 0,
         index: Index::Number(index),
     }
-}
-
-pub(crate) fn two(a: Operand, op: Operator, b: Operand) -> Expr {
-    Expr::Two(a, op, b)
 }
 
 pub(crate) fn set(i: u8, expr: Expr) -> Line {
@@ -84,17 +77,3 @@ pub(crate) fn job_of(
     Ok(Job::new(arrays, bodies, starts))
 }
 
-// The first segment of the job's first task.
-pub(crate) fn first_segment(alloc: Global, job: &Job) -> Result<Segment, AllocError> {
-    let path = SmallVec::from_slice(alloc, &[0])?;
-    let task = Task::start(alloc, job.bodies(), path, 0, 0)?;
-    segment(alloc, job, &task, job.arrays(), 0)
-}
-
-pub(crate) fn code_of(segment: &Segment) -> u8 {
-    match &segment.after {
-        After::Fault(fault) => fault.code(),
-        After::Synced(_) => 100,
-        After::Stopped => 0,
-    }
-}

@@ -37,27 +37,6 @@ fn is_job(
 }
 
 #[test]
-fn counts_at_their_limits(rt: HostRuntime) -> Result<(), Fail> {
-    let alloc = rt.alloc();
-    let rows = [
-        ((0, 1), 0, (0, 0), true),
-        ((16, 4096), 1, (1, 0), true),
-        ((17, 1), 1, (1, 0), false),
-        ((1, 0), 1, (1, 0), false),
-        ((1, 4097), 1, (1, 0), false),
-        ((1, 1), 64, (4096, 0), true),
-        ((1, 1), 65, (1, 0), false),
-        ((1, 1), 1, (4097, 0), false),
-        ((1, 1), 1, (1, 1), false),
-    ];
-    for (place, (arrays, bodies, starts, want)) in rows.into_iter().enumerate() {
-        let made = is_job(alloc, arrays, (bodies, 0), starts, &[])?;
-        assert_eq!(rt; made, want, "row {place}");
-    }
-    Ok(())
-}
-
-#[test]
 fn lines_name_what_is_there(rt: HostRuntime) -> Result<(), Fail> {
     let alloc = rt.alloc();
     let spawn = Line::Do(Action::Spawn(1, Expr::One(number(0))));

@@ -63,28 +63,46 @@ pub record IsNext (parents : List ℕ) (words : List Fields) (v : View) (kind : 
   pub needs : Needs parents kind t (word_at words t) v
   pub keeps : CallFits parents next (stepped_view parents words kind t v)
 
--- the calls that go on by a step of their own, and the one that goes on by an advance
-abbrev pub is_active : Progress → Bool
-is_active Idle = false
-is_active (Begun c) = true
-is_active (ToSeek tier size) = true
-is_active Settling = true
-is_active (ToGiveBack answer) = true
-is_active (Passing trip) = true
-is_active (Owing own) = true
-is_active (Due own) = false
-is_active (Refreshing moved) = true
+-- where a call stands: over, before its first step, on its way behind its look at the root, or before an advance of the root
+pub data Standing : Type 0 where
+  AtRest : Standing
+  AtStart : Standing
+  OnItsWay : Standing
+  BeforeAdvance : Standing
 
+abbrev pub standing : Progress → Standing
+standing Idle = AtRest
+standing (Begun c) = AtStart
+standing (ToSeek tier size) = OnItsWay
+standing Settling = OnItsWay
+standing (ToGiveBack answer) = OnItsWay
+standing (Passing trip) = OnItsWay
+standing (Owing own) = OnItsWay
+standing (Due own) = BeforeAdvance
+standing (Refreshing moved) = OnItsWay
+
+-- whether a call stands at one of these places, in this order
+abbrev pub stands_at : Bool → Bool → Bool → Bool → Standing → Bool
+stands_at rest start way advance AtRest = rest
+stands_at rest start way advance AtStart = start
+stands_at rest start way advance OnItsWay = way
+stands_at rest start way advance BeforeAdvance = advance
+
+-- no call
+abbrev pub is_idle : Progress → Bool
+is_idle p = stands_at true false false false (standing p)
+
+-- a call that goes on by a step of its own
+abbrev pub is_active : Progress → Bool
+is_active p = stands_at false true true false (standing p)
+
+-- a call that goes on by an advance
 abbrev pub is_due : Progress → Bool
-is_due Idle = false
-is_due (Begun c) = false
-is_due (ToSeek tier size) = false
-is_due Settling = false
-is_due (ToGiveBack answer) = false
-is_due (Passing trip) = false
-is_due (Owing own) = false
-is_due (Due own) = true
-is_due (Refreshing moved) = false
+is_due p = stands_at false false false true (standing p)
+
+-- a call that has looked at the root and has a step to take
+abbrev pub is_going : Progress → Bool
+is_going p = stands_at false false true true (standing p)
 
 -- Each turn of a call is a step that its token may take.
 abbrev pub TurnsAreSteps : Type 0
@@ -92,18 +110,6 @@ TurnsAreSteps =
     (parents : List ℕ) (words : List Fields) (front : List View) (v : View) (back : List View) (progress : Progress)
     → IsShape parents → Tallies parents words (front ++ v ∷ back) → is_active progress ≡ true → CallFits parents progress v
     → IsNext parents words v (turn parents words progress v).kind (turn parents words progress v).tier (turn parents words progress v).next
-
--- the calls that have looked at the root and have a step to take
-abbrev pub is_going : Progress → Bool
-is_going Idle = false
-is_going (Begun c) = false
-is_going (ToSeek tier size) = true
-is_going Settling = true
-is_going (ToGiveBack answer) = true
-is_going (Passing trip) = true
-is_going (Owing own) = true
-is_going (Due own) = true
-is_going (Refreshing moved) = true
 
 -- a step at the place of its call, which its token may take there
 pub record IsNextBy (parents : List ℕ) (words : List Fields) (v : View) (t : ℕ) (r : Turn) : Type 0 where

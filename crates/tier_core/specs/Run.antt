@@ -13,18 +13,8 @@ use Rattle.tier_steps.specs.declared.view.View.{View}
 use Rattle.tier_steps.specs.Tally.{word_at}
 use Rattle.tier_steps.specs.Image.{image, label, LooksAlike}
 use Rattle.tier_core.specs.Turn.{Call, Progress, Idle, Begun, ToSeek, Settling, ToGiveBack, Passing, Owing, Due, Refreshing, Turn, finish_turn}
+pub use Rattle.tier_core.specs.Machine.{is_idle}
 use Rattle.tier_core.specs.Machine.{State, IsCore, view_at, call_at, is_active, is_due, turn_at, played}
-
-abbrev pub is_idle : Progress → Bool
-is_idle Idle = true
-is_idle (Begun c) = false
-is_idle (ToSeek tier size) = false
-is_idle Settling = false
-is_idle (ToGiveBack answer) = false
-is_idle (Passing trip) = false
-is_idle (Owing own) = false
-is_idle (Due own) = false
-is_idle (Refreshing moved) = false
 
 -- a join is of an existing tier and by a token without members; who arrives, leaves or polls has members
 abbrev pub may_call : ℕ → Call → View → Bool
