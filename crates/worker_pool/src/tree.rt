@@ -7,12 +7,12 @@ use crate::leaves::Leaves;
 use crate::seat::{Key, Seat};
 use std::sync::Wait;
 use superstep_memory::path::Path;
-use tier_table::arriving::{Arrived, Resumed};
 use tier_table::forcing::Forced;
 use tier_table::joining::{Opened, Registered};
 use tier_table::polling::Polled;
-use tier_table::tokens::{Crew, Door, Errand, Opening};
+use tier_table::tokens::{Crew, Door, Opening};
 use tier_table::tree::Tree;
+use tier_table::waiting::Counted;
 
 // So many tries are enough for a call that nobody else disturbs.
 const TRIES: u32 = 16;
@@ -159,47 +159,18 @@ impl<J: Running, F: Fn(u32, u32) -> bool> Meeting<J, F> {
         }
     }
 
-    // Goes on with an arrival or a departure that was counted, until it is done.
-    fn finish<R: Wait>(&self, rt: &R, errand: Errand) -> (Option<Crew>, bool)
-        requires own { errand.token.tree ≡ J.tree }
-        requires rule { Answers (F.pre self.now.tree.rule.closure) (F.post self.now.tree.rule.closure) (end_ends_at self.now.tree.rule.plan) }
-        ensures { IfSome result.0 (λ crew. crew.tree ≡ J.tree) }
-    {
-        let mut errand = errand;
-        for _ in rt.forever() {
-            match self.tree.resume(errand, TRIES) {
-                Resumed::Done(crew, _phase, led) => return (Some(crew), led),
-                Resumed::Left(_door, _phase, led) => return (None, led),
-                Resumed::Owing(rest) => errand = rest,
-            }
-        }
-        unreachable!()
-    }
-
     /// Lets the member of a crew arrive. Whether it took the advance.
     pub(crate) fn arrive<R: Wait>(&self, rt: &R, crew: Crew) -> Result<(Crew, bool), Note>
         requires own { crew.tree ≡ J.tree }
         requires rule { Answers (F.pre self.now.tree.rule.closure) (F.post self.now.tree.rule.closure) (end_ends_at self.now.tree.rule.plan) }
         ensures { IfOk result (λ done. done.0.tree ≡ J.tree) }
     {
-        let mut crew = crew;
-        for _ in rt.forever() {
-            match self.tree.arrive(crew, TRIES) {
-                Arrived::Done(crew, _phase, led) => return Ok((crew, led)),
-                Arrived::Busy(rest) => crew = rest,
-                Arrived::Owing(errand) => {
-                    let (crew, led) = self.finish(rt, errand);
-                    return match crew {
-                        Some(crew) => Ok((crew, led)),
-                        None => Err(Note::Internal),
-                    };
-                }
-                Arrived::Left(_door, _phase, _led) => return Err(Note::Internal),
-                Arrived::AlreadyArrived(_crew, _phase) => return Err(Note::Internal),
-                Arrived::Ended(_crew, _shown) => return Err(Note::Internal),
-            }
+        match self.tree.arrive_wait(rt, crew) {
+            Counted::Done(crew, _phase, led) => Ok((crew, led)),
+            Counted::Left(_door, _phase, _led) => Err(Note::Internal),
+            Counted::AlreadyArrived(_crew, _phase) => Err(Note::Internal),
+            Counted::Ended(_crew, _shown) => Err(Note::Internal),
         }
-        unreachable!()
     }
 
     /// Lets the one member of a crew leave. Whether it took the advance.
@@ -207,21 +178,12 @@ impl<J: Running, F: Fn(u32, u32) -> bool> Meeting<J, F> {
         requires own { crew.tree ≡ J.tree }
         requires rule { Answers (F.pre self.now.tree.rule.closure) (F.post self.now.tree.rule.closure) (end_ends_at self.now.tree.rule.plan) }
     {
-        let mut crew = crew;
-        for _ in rt.forever() {
-            match self.tree.arrive_and_deregister(crew, TRIES) {
-                Arrived::Left(_door, _phase, led) => return Ok(led),
-                Arrived::Busy(rest) => crew = rest,
-                Arrived::Owing(errand) => {
-                    let (_, led) = self.finish(rt, errand);
-                    return Ok(led);
-                }
-                Arrived::Done(_crew, _phase, _led) => return Err(Note::Internal),
-                Arrived::AlreadyArrived(_crew, _phase) => return Err(Note::Internal),
-                Arrived::Ended(_crew, _shown) => return Err(Note::Internal),
-            }
+        match self.tree.leave_wait(rt, crew) {
+            Counted::Left(_door, _phase, led) => Ok(led),
+            Counted::Done(_crew, _phase, _led) => Err(Note::Internal),
+            Counted::AlreadyArrived(_crew, _phase) => Err(Note::Internal),
+            Counted::Ended(_crew, _shown) => Err(Note::Internal),
         }
-        unreachable!()
     }
 
     /// Ends the tree. Where it has ended nothing changes.
