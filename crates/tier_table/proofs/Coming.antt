@@ -194,7 +194,7 @@ module _ (n : Named) (tries : ℕ) (o g : Going) (is : o.token.tree ≡ n) (open
   early : IsSoon tries o.token g.token
   early = record { tree = ran.went.at.own ∙ sym is; tried = (let a = ran.went.tried in let c = ran.few in omega arith) }
 
-  ends_as : (a : Played) → g.progress ≡ Idle → g.answer ≡ a → JoinAnswer o.token.tree.key.shape tier size g.token.view a
+  pub ends_as : (a : Played) → g.progress ≡ Idle → g.answer ≡ a → JoinAnswer o.token.tree.key.shape tier size g.token.view a
   ends_as a e f = subst (λ (z : Named). JoinAnswer z.key.shape tier size g.token.view a) (sym is) (over n 1 o.token.view.tier tier size tries o g stood ran a e f)
 
   pub opens : (a : Registered) (r : Opened) → AnswersJoin g a → SameAnswer a r → Opens o tries r

@@ -4,6 +4,7 @@ pub mod Next
 pub mod Goes
 pub mod Passes
 pub mod Arrives
+pub mod AtLast
 pub mod Joins
 pub mod Openings
 pub mod Registers

@@ -55,6 +55,14 @@ OpensFor tier size g tries (opened.Owing opening) = IsSpent tries g.token openin
 abbrev pub Opens : Going → ℕ → Opened → Type 0
 Opens g tries answer = OpensFor (asked_tier g.token.view.errand) (asked_size g.token.view.errand) g tries answer
 
+-- it tells that the tree has ended, or its path isn't given back yet
+abbrev pub IsEndedOrOwed : Opened → Type 0
+IsEndedOrOwed (opened.Ended door shown) = Unit {0}
+IsEndedOrOwed (opened.Owing opening) = Unit {0}
+IsEndedOrOwed (opened.Joined crew phase) = ⊥
+IsEndedOrOwed (opened.Held door phase cause) = ⊥
+IsEndedOrOwed (opened.Full door count) = ⊥
+
 -- a call that joins, wherever it stands
 pub record MayAnswer (g : Going) : Type 0 where
   pub at : IsAt g.token.tree g

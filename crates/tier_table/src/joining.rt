@@ -2,7 +2,7 @@
 
 ghost use Rattle.std.specs.Prelude.{◌≡◌, ◌<◌, ◌≤◌, ℕ, Some, length};
 ghost use Rattle.tier_core.specs.Turn.{claimed_by};
-ghost use Rattle.tier_table.specs.Registers.{Registers, Opens, HasEnded, NoBusy, MayAnswer, AnswersJoin, SameAnswer};
+ghost use Rattle.tier_table.specs.Registers.{Registers, Opens, HasEnded, IsEndedOrOwed, NoBusy, MayAnswer, AnswersJoin, SameAnswer};
 
 use crate::going::Going;
 use crate::next::claims;
@@ -112,7 +112,8 @@ impl Tiers {
     /// Goes on with the opening of a path.
     pub(crate) fn open_on(&self, opening: Opening, tries: u32) -> Opened
         requires own { opening.token.tree ≡ self.now }
-        ensures { Opens opening tries result }
+        ensures answer { Opens opening tries result }
+        ensures ended { (phase : ℕ) → opening.token.view.end_seen ≡ Some phase → opening.token.view.size ≡ 0 → IsEndedOrOwed result }
     {
         let Opening { going } = opening;
         answer_opening(answer_join(self.go_joining(going, tries)))

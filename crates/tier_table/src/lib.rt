@@ -13,3 +13,4 @@ pub mod seated;
 pub mod tiers;
 pub mod tokens;
 pub mod tree;
+pub mod waiting;

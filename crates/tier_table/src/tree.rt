@@ -112,10 +112,12 @@ impl<F: Fn(u32, u32) -> bool> Tree<F> {
         self.tiers.join(door, tier, n, tries)
     }
 
-    /// Goes on with the opening of a path.
+    /// Goes on with the opening of a path. Where the token has seen the end, and its members have not
+    /// joined yet, the path is given back, and the answer is `Ended`.
     pub fn resume_opening(&self, opening: Opening, tries: u32) -> Opened
         requires own { opening.token.tree ≡ self.now.tree }
-        ensures { Opens opening tries result }
+        ensures answer { Opens opening tries result }
+        ensures ended { (phase : ℕ) → opening.token.view.end_seen ≡ Some phase → opening.token.view.size ≡ 0 → registers.IsEndedOrOwed result }
     {
         self.tiers.open_on(opening, tries)
     }

@@ -3,7 +3,7 @@ ghost use Rattle.std.specs.Prelude.{◌≡◌};
 
 use crate::fault::{Note, Refused, note_of_closing, note_of_delivery};
 use crate::hand::{Made, Taken};
-use crate::seat::{Seat, by_path};
+use crate::seat::Seat;
 use phase_records::Report;
 use std::alloc::{AllocError, Global};
 use std::collections::VecDeque;
@@ -11,22 +11,30 @@ use std::marker::{Brand, Model, PhantomData};
 use std::mem;
 use step_core::{Order, Outcome, Round};
 
-/// Which job runs, and within which limit. Each run picks it.
+/// Which job runs, within which limit, and at which tree its workers meet. Each run picks it.
 pub trait Running {
     ghost use Rattle.std.specs.Prelude.{ℕ};
     ghost use Rattle.task_lang.specs.JobValue.{JobValue};
+    ghost use Rattle.tier_table.specs.Holding.{Named};
 
     ghost job: { JobValue };
 
     ghost limit: { ℕ };
+
+    ghost tree: { Named };
 }
 
 impl Running for Brand {
-    ghost use Rattle.std.specs.Prelude.{[]};
+    ghost use Rattle.std.specs.Prelude.{[], false, None};
 
     ghost job = { record { arrays = []; bodies = []; starts = [] } };
 
     ghost limit = { 1 };
+
+    ghost tree = { record {
+        id = record { words = 0; slots = 0; views_name = 0; atom = 0; block = 0; offset = 0; slot_names = [] };
+        key = record { shape = []; phase = 0; plan = record { when_empty = false; at = None } };
+    } };
 }
 
 /// The round of the job that runs, the seats of its tasks, and the first note. Its type keeps that the round is of that
@@ -34,12 +42,10 @@ impl Running for Brand {
 #[derive(Drop)]
 pub(crate) struct Board<'j, J: Running> {
     round: Round<'j>,
-    // The seats of the tasks that nobody has taken, in path order.
-    ready: VecDeque<Seat>,
-    // For each task taken in this superstep, in the order of taking, its seat, once it was delivered as one that lives on.
-    staying: Vec<Option<Seat>>,
-    // The seats of tasks that were spawned in this superstep.
-    spawned: Vec<Seat>,
+    // The seats of the round's tasks that nobody has taken.
+    ready: VecDeque<Seat<J>>,
+    // The seats of the next round's tasks, as far as they are back from the tree.
+    coming: VecDeque<Seat<J>>,
     note: Option<Note>,
     of: PhantomData<J>,
 }
@@ -66,7 +72,7 @@ impl<'j, J: Running> Board<'j, J> {
     ghost use Rattle.worker_pool.specs.Refusals.{IsOfWorkers};
 
     /// A board for this round, with these seats for its tasks.
-    pub(crate) fn new(alloc: Global, round: Round<'j>, ready: VecDeque<Seat>) -> Self
+    pub(crate) fn new(alloc: Global, round: Round<'j>, ready: VecDeque<Seat<J>>) -> Self
         requires job { round.job ≡ J.job }
         requires limit { round.limit ≡ J.limit }
         ensures { result ≡ round.entry }
@@ -74,8 +80,7 @@ impl<'j, J: Running> Board<'j, J> {
         Board {
             round,
             ready,
-            staying: Vec::new(alloc),
-            spawned: Vec::new(alloc),
+            coming: VecDeque::new(alloc),
             note: None,
             of: PhantomData,
         }
@@ -99,11 +104,7 @@ impl<'j, J: Running> Board<'j, J> {
             return Ok(None);
         };
         let order = self.order(alloc, seat.path.as_slice())?;
-        let number = self.staying.len();
-        match self.staying.push(None) {
-            Ok(()) => Ok(Some(Taken::new(seat, number, order))),
-            Err(_) => Err(Note::Memory),
-        }
+        Ok(Some(Taken::new(seat, order)))
     }
 
     // What the segment of the task of this path needs.
@@ -118,35 +119,37 @@ impl<'j, J: Running> Board<'j, J> {
         }
     }
 
-    /// Takes what the segment of a task did, and keeps the seat of a task that lives on.
+    /// Takes what the segment of a task did.
     pub(crate) fn deliver(&mut self, made: Made<'j, J>) -> Result<(), Note>
         ensures taken { OnOk result (Takes self.old made.entry) }
         ensures added { OnOk result (self.new ≡ with_delivery self.old made.entry) }
         ensures unchanged { OnErr result (self.new ≡ self.old) }
     {
-        let number = made.number();
-        if number >= self.staying.len() || self.round.has_ended() {
+        if self.round.has_ended() {
             return Err(Note::Internal);
         }
-        let stays = made.synced();
-        let (delivery, seat) = made.into_parts();
-        match self.round.accept_known(delivery) {
-            Ok(()) => {
-                if stays {
-                    self.staying[number] = Some(seat);
-                }
-                Ok(())
-            }
+        match self.round.accept_known(made.into_delivery()) {
+            Ok(()) => Ok(()),
             Err(fault) => Err(note_of_delivery(fault)),
         }
     }
 
-    /// Keeps the seats of tasks that were spawned.
-    pub(crate) fn hand_in(&mut self, seats: &mut Vec<Seat>) -> Result<(), Note>
+    /// Takes back the seats of tasks that have passed through the tree in this superstep and live on. Where its round was
+    /// closed meanwhile they are ready. Whether they are.
+    pub(crate) fn take_back(
+        &mut self,
+        step: u32,
+        seats: &mut VecDeque<Seat<J>>,
+    ) -> Result<bool, AllocError>
         ensures { self.new ≡ self.old }
     {
-        self.spawned.append(seats)?;
-        Ok(())
+        let late = self.round.step() != step;
+        if late {
+            self.ready.append(seats)?;
+        } else {
+            self.coming.append(seats)?;
+        }
+        Ok(late)
     }
 
     /// Notes why a worker can't go on; the first note stays.
@@ -158,7 +161,7 @@ impl<'j, J: Running> Board<'j, J> {
         }
     }
 
-    /// Takes the superstep, and makes the next live tasks ready in path order.
+    /// Takes the superstep, and makes those of the next live tasks ready that are back from the tree.
     pub(crate) fn close(&mut self, alloc: Global) -> Result<Outcome, Note>
         ensures closed { OnOk result (Opens self.new self.old.job self.old.limit
             (superstep (program_of self.old.job) (state_of self.old))) }
@@ -168,33 +171,13 @@ impl<'j, J: Running> Board<'j, J> {
         if !self.ready.is_empty() || self.round.has_ended() {
             return Err(Note::Internal);
         }
-        let next = self.gather(alloc)?;
         match self.round.close_round(alloc) {
             Ok(outcome) => {
-                self.ready = VecDeque::from_vec(next);
+                mem::swap(&mut self.ready, &mut self.coming);
                 Ok(outcome)
             }
             Err(fault) => Err(note_of_closing(fault)),
         }
-    }
-
-    // The seats of the tasks that live on, in path order. Those that stay are in that order; where none was spawned nothing is
-    // sorted. They are made ready only once the round is closed, so that nobody takes one of a round that couldn't be.
-    fn gather(&mut self, alloc: Global) -> Result<Vec<Seat>, AllocError>
-        ensures { self.new ≡ self.old }
-    {
-        let mut next = Vec::with_capacity(alloc, self.staying.len())?;
-        for seat in mem::replace(&mut self.staying, Vec::new(alloc)) {
-            if let Some(seat) = seat {
-                next.push(seat)?;
-            }
-        }
-        if !self.spawned.is_empty() {
-            next.append(&mut self.spawned)?;
-            next.sort_by(by_path)?;
-        }
-        self.staying.reserve(next.len())?;
-        Ok(next)
     }
 
     /// What the job left, once it has ended.

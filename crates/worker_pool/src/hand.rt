@@ -4,6 +4,7 @@ use crate::fault::Note;
 use crate::hooks::Gate;
 use crate::seat::Seat;
 use std::alloc::{AllocError, Global};
+use std::collections::VecDeque;
 use std::marker::{Model, PhantomData};
 use std::sync::Wait;
 use step_core::{Delivery, Order};
@@ -12,14 +13,11 @@ use superstep_memory::path::Path;
 /// The most tasks whose calls of the tree a worker leaves for the end of its hand.
 pub(crate) const MOST_IN_HAND: usize = 16;
 
-/// A task that a worker has taken: its seat, its number among those taken in this superstep, and its order. Its type
-/// keeps that the order is of the job that runs.
+/// A task that a worker has taken: its seat and its order. Its type keeps that the order is of the job that runs.
 #[derive(Drop)]
 pub(crate) struct Taken<'j, J: Running> {
-    seat: Seat,
-    number: usize,
+    seat: Seat<J>,
     order: Order<'j>,
-    of: PhantomData<J>,
 }
 
 impl<'j, J: Running> Model for Taken<'j, J> {
@@ -33,12 +31,9 @@ impl<'j, J: Running> Model for Taken<'j, J> {
     ghost invariant = { λ t. t.order.job ≡ J.job };
 }
 
-/// What the segment of a task did, with the task's seat and its number among those taken. Its type keeps that the
-/// delivery is of the job that runs.
+/// What the segment of a task did. Its type keeps that the delivery is of the job that runs.
 #[derive(Drop)]
 pub(crate) struct Made<'j, J: Running> {
-    seat: Seat,
-    number: usize,
     delivery: Delivery<'j>,
     of: PhantomData<J>,
 }
@@ -56,98 +51,55 @@ impl<'j, J: Running> Model for Made<'j, J> {
 
 /// What is left to do in the tree for a task whose segment was run.
 #[derive(Drop)]
-pub(crate) struct Passing {
-    pub(crate) token: usize,
-    pub(crate) leaf: usize,
+pub(crate) struct Passing<J: Running> {
+    pub(crate) seat: Seat<J>,
     pub(crate) spawned: Vec<Path>,
     pub(crate) synced: bool,
 }
 
-/// What a worker has in hand: the segment that it will deliver next, and the tasks that are left to pass through the tree.
+/// What a worker has in hand: the segment that it will deliver next, the tasks that are left to pass through the tree, all
+/// of one superstep, and those that have passed and live on.
 #[derive(Drop)]
 pub(crate) struct Hand<'j, J: Running> {
     pub(crate) made: Option<Made<'j, J>>,
-    pub(crate) passing: Vec<Passing>,
+    pub(crate) step: u32,
+    pub(crate) passing: Vec<Passing<J>>,
+    pub(crate) passed: VecDeque<Seat<J>>,
 }
 
 impl<'j, J: Running> Taken<'j, J> {
     ghost use Rattle.std.specs.Prelude.{◌≡◌};
 
     /// A task taken by its order.
-    pub(crate) fn new(seat: Seat, number: usize, order: Order<'j>) -> Self
+    pub(crate) fn new(seat: Seat<J>, order: Order<'j>) -> Self
         requires { order.job ≡ J.job }
         ensures { result ≡ order.entry }
     {
-        Taken {
-            seat,
-            number,
-            order,
-            of: PhantomData,
-        }
-    }
-
-    // Runs its segment between the two calls of a gate. No lock is held.
-    fn run<R: Wait, G: Gate>(self, rt: &R, alloc: Global, gate: &G) -> Result<Made<'j, J>, Note> {
-        let Taken {
-            seat,
-            number,
-            order,
-            of: _,
-        } = self;
-        let step = order.step();
-        gate.enter(rt, &seat.path, step);
-        let done = Delivery::of(alloc, order);
-        gate.leave(rt, &seat.path, step);
-        let delivery = done?;
-        Ok(Made {
-            seat,
-            number,
-            delivery,
-            of: PhantomData,
-        })
+        Taken { seat, order }
     }
 }
 
 impl<'j, J: Running> Made<'j, J> {
     ghost use Rattle.std.specs.Prelude.{◌≡◌};
 
-    // What is left to do in the tree for its task.
-    fn passing(&self, alloc: Global) -> Result<Passing, AllocError> {
-        let spawned = self.delivery.spawns(alloc)?;
-        Ok(Passing {
-            token: self.seat.token,
-            leaf: self.seat.leaf,
-            spawned,
-            synced: self.delivery.synced(),
-        })
-    }
-
-    /// Its number among the tasks taken in this superstep.
-    pub(crate) fn number(&self) -> usize {
-        self.number
-    }
-
-    /// Whether its task lives on.
-    pub(crate) fn synced(&self) -> bool {
-        self.delivery.synced()
-    }
-
-    /// Its delivery and its seat.
-    pub(crate) fn into_parts(self) -> (Delivery<'j>, Seat)
-        ensures delivery { result.0 ≡ self.entry }
-        ensures job { result.0.job ≡ J.job }
+    /// The delivery.
+    pub(crate) fn into_delivery(self) -> Delivery<'j>
+        ensures delivery { result ≡ self.entry }
+        ensures job { result.job ≡ J.job }
     {
-        (self.delivery, self.seat)
+        self.delivery
     }
 }
 
 impl<'j, J: Running> Hand<'j, J> {
-    /// An empty hand, with room for all that it will hold.
+    /// An empty hand, with room for all that it will pass.
     pub(crate) fn new(alloc: Global) -> Result<Self, AllocError> {
         let passing = Vec::with_capacity(alloc, MOST_IN_HAND)?;
         Ok(Hand {
             made: None,
+            step: 0,
             passing,
+            passed: VecDeque::new(alloc),
         })
     }
 
@@ -156,7 +108,7 @@ impl<'j, J: Running> Hand<'j, J> {
         self.passing.len() >= MOST_IN_HAND
     }
 
-    /// Runs the segment of a task, and keeps what it did.
+    /// Runs the segment of a task between the two calls of a gate, with no lock held, and keeps what it did.
     pub(crate) fn run<R: Wait, G: Gate>(
         &mut self,
         rt: &R,
@@ -164,10 +116,24 @@ impl<'j, J: Running> Hand<'j, J> {
         gate: &G,
         taken: Taken<'j, J>,
     ) -> Result<(), Note> {
-        let made = taken.run(rt, alloc, gate)?;
-        let passing = made.passing(alloc)?;
-        self.made = Some(made);
-        match self.passing.push(passing) {
+        let Taken { seat, order } = taken;
+        let step = order.step();
+        gate.enter(rt, &seat.path, step);
+        let done = Delivery::of(alloc, order);
+        gate.leave(rt, &seat.path, step);
+        let delivery = done?;
+        let spawned = delivery.spawns(alloc)?;
+        let synced = delivery.synced();
+        self.step = step;
+        self.made = Some(Made {
+            delivery,
+            of: PhantomData,
+        });
+        match self.passing.push(Passing {
+            seat,
+            spawned,
+            synced,
+        }) {
             Ok(()) => Ok(()),
             Err(_) => Err(Note::Memory),
         }

@@ -1,26 +1,38 @@
 //! The leaves of a tree, by their numbers.
-ghost use Rattle.std.specs.Prelude.{◌<◌, length};
+ghost use Rattle.std.specs.Prelude.{◌≡◌, ◌<◌, length};
+ghost use Rattle.tier_shape.specs.Leaves.{leaves_of};
 
+use crate::board::Running;
 use std::alloc::{AllocError, Global};
+use std::marker::PhantomData;
 use tier_shape::Shape;
 
-/// The tiers that are leaves. Leaves are known by numbers, which go round and round.
+/// The tiers that are leaves of the tree of the run. Leaves are known by numbers, which go round and round.
 #[derive(Drop)]
-pub(crate) struct Leaves {
+pub(crate) struct Leaves<J: Running> {
     tiers: Vec<u16>,
+    of: PhantomData<J>,
+    ghost all: { tiers.items ≡ leaves_of J.tree.key.shape },
     ghost some: { 0 < length tiers.items },
 }
 
-impl Leaves {
+impl<J: Running> Leaves<J> {
     /// The leaves of a shape.
-    pub(crate) fn of(alloc: Global, shape: &Shape) -> Result<Self, AllocError> {
+    pub(crate) fn of(alloc: Global, shape: &Shape) -> Result<Self, AllocError>
+        requires { shape.now ≡ J.tree.key.shape }
+    {
         let _tiers = shape.count();
         let tiers = shape.leaves(alloc)?;
-        Ok(Leaves { tiers })
+        Ok(Leaves {
+            tiers,
+            of: PhantomData,
+        })
     }
 
     /// The tier of the leaf of this number.
-    pub(crate) fn tier(&self, number: usize) -> u16 {
+    pub(crate) fn tier(&self, number: usize) -> u16
+        ensures { result < length J.tree.key.shape }
+    {
         self.tiers[number % self.tiers.len()]
     }
 

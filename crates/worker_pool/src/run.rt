@@ -11,10 +11,10 @@ use crate::board::{Board, Running};
 use crate::fault::Refused;
 use crate::hooks::{Gate, Starter};
 use crate::leaves::Leaves;
-use crate::seat::Seat;
+use crate::seat::{Key, Seat};
 use crate::shop::Shop;
 use crate::start::start_all;
-use crate::tree::Tree;
+use crate::tree::Meeting;
 use advance_rule::{EndPlan, StoredAction, StoredAdvance};
 use cyclic_gate::{BarrierFault, CyclicGate};
 use phase_records::Report;
@@ -25,8 +25,9 @@ use std::sync::{Condvar, Mutex, Wait};
 use std::thread::Threads;
 use step_core::Round;
 use task_lang::job::Job;
-use tier_core::tree::Core;
 use tier_shape::Shape;
+use tier_table::tokens::Door;
+use tier_table::tree::Tree;
 
 // The action of the meeting: none, and it never fails.
 fn meet(_generation: u64) -> bool
@@ -36,13 +37,19 @@ fn meet(_generation: u64) -> bool
 }
 
 // Registers the start tasks, one leaf after another, before any worker is started.
-fn seat_all(alloc: Global, tree: &mut Tree, round: &Round<'_>) -> Result<VecDeque<Seat>, Refused>
+fn seat_all<J: Running, R: Wait, F: Fn(u32, u32) -> bool>(
+    rt: &R,
+    alloc: Global,
+    meeting: &Meeting<J, F>,
+    key: &mut Key<J>,
+    round: &Round<'_>,
+) -> Result<VecDeque<Seat<J>>, Refused>
     ensures { (workers : ℕ) → IfErr result (IsOfWorkers workers) }
 {
     let paths = round.live(alloc)?;
     let mut seats = Vec::with_capacity(alloc, paths.len())?;
     for (number, path) in paths.into_iter().enumerate() {
-        let seat = match tree.register_start(path, number) {
+        let seat = match meeting.register_start(rt, key, path, number) {
             Ok(seat) => seat,
             Err(note) => return Err(note.refusal()),
         };
@@ -53,44 +60,48 @@ fn seat_all(alloc: Global, tree: &mut Tree, round: &Round<'_>) -> Result<VecDequ
     Ok(VecDeque::from_vec(seats))
 }
 
-// Runs the job of this round.
+// Runs the job of this round at this tree.
 fn run_shared<
     'j,
-    J: Running + Send,
+    J: Running + Send + Sync,
     R: Threads + Wait + Sync,
-    F: Fn(u32, u32) -> bool + Sync,
+    F: Fn(u32, u32) -> bool + Sync + Drop,
     G: Gate + Sync,
     S: Starter,
 >(
     rt: &R,
     alloc: Global,
     round: Round<'j>,
-    tree: Tree,
-    seats: VecDeque<Seat>,
+    tree: Tree<F>,
+    door: Door,
     workers: u32,
-    advance: &StoredAdvance<F>,
     gate: &G,
     starter: &S,
 ) -> Result<Report, Refused>
     requires job { round.job ≡ J.job }
     requires limit { round.limit ≡ J.limit }
-    requires rule { Answers (F.pre advance.now.closure) (F.post advance.now.closure) (end_ends_at advance.now.plan) }
+    requires tree { (tree.tree ≡ J.tree) × (door.tree ≡ J.tree) }
+    requires rule { Answers (F.pre tree.rule.closure) (F.post tree.rule.closure) (end_ends_at tree.rule.plan) }
     ensures report { IfOk result (λ report. report_of (program_of J.job) J.limit ≡ Some report) }
     ensures started { IfErr result (IsOfWorkers workers) }
 {
     let action = StoredAction::new(meet, None);
-    let meeting = match CyclicGate::new(alloc, i64::from(workers), action) {
-        Ok(meeting) => meeting,
+    let start = match CyclicGate::new(alloc, i64::from(workers), action) {
+        Ok(start) => start,
         Err(BarrierFault::Memory) => return Err(Refused::Memory),
         Err(_) => return Err(Refused::Internal),
     };
+    let leaves = Leaves::of(alloc, tree.shape())?;
+    let meeting: Meeting<J, F> = Meeting::new(tree, leaves);
+    let mut key = Key::new(door);
+    let seats = seat_all(rt, alloc, &meeting, &mut key, &round)?;
     let board: Board<'j, J> = Board::new(alloc, round, seats);
     let shop = Shop {
         board: Mutex::new(board),
         changed: Condvar::new(),
-        tree: Mutex::new(tree),
+        meeting,
     };
-    start_all(rt, alloc, &shop, advance, gate, &meeting, starter, workers)?;
+    start_all(rt, alloc, &shop, &mut key, gate, &start, starter, workers)?;
     shop.conclude(alloc)
 }
 
@@ -121,18 +132,9 @@ pub fn run_job<
     ensures report { IfOk result (λ report. report_of (program_of job.now) (limit_of advance.plan) ≡ Some report) }
     ensures started { IfErr result (IsOfWorkers workers) }
 {
-    let plan = advance.plan();
-    let round = Round::new(alloc, job, limit_in(plan))?;
-    let leaves = Leaves::of(alloc, &shape)?;
-    let core = Core::new(alloc, shape, 0, plan)?;
-    let mut tree = Tree::new(alloc, core, leaves);
-    for _ in 0..workers {
-        let _worker = tree.take_token()?;
-    }
-    let seats = seat_all(alloc, &mut tree, &round)?;
-    run_shared::<Brand, R, F, G, S>(
-        rt, alloc, round, tree, seats, workers, &advance, gate, starter,
-    )
+    let round = Round::new(alloc, job, limit_in(advance.plan()))?;
+    let (tree, door) = Tree::new(alloc, shape, 0, advance)?;
+    run_shared::<Brand, R, F, G, S>(rt, alloc, round, tree, door, workers, gate, starter)
 }
 
 // The limit of supersteps that a plan stands for.

@@ -1,22 +1,52 @@
 //! Tasks as workers hand them on.
-use std::cmp::Ordering;
-use superstep_memory::path::{Path, is_before};
+ghost use Rattle.std.specs.Prelude.{◌≡◌};
 
-/// A task between two segments, as workers hand it on: its path, its token in the tree, and the number of its leaf.
+use crate::board::Running;
+use std::marker::PhantomData;
+use superstep_memory::path::Path;
+use tier_table::tokens::{Crew, Door};
+
+/// A task between two segments, as workers hand it on: its path, the number of its leaf, and the crew whose one member
+/// arrives for it. Its type keeps that the crew is of the tree of the run.
 #[derive(Drop)]
-pub(crate) struct Seat {
+pub(crate) struct Seat<J: Running> {
     pub(crate) path: Path,
-    pub(crate) token: usize,
     pub(crate) leaf: usize,
+    pub(crate) crew: Crew,
+    pub(crate) of: PhantomData<J>,
+    ghost own: { crew.tree ≡ J.tree },
 }
 
-/// The order of seats by path.
-pub(crate) fn by_path(a: &Seat, b: &Seat) -> Ordering {
-    if is_before(a.path.as_slice(), b.path.as_slice()) {
-        Ordering::Less
-    } else if is_before(b.path.as_slice(), a.path.as_slice()) {
-        Ordering::Greater
-    } else {
-        Ordering::Equal
+impl<J: Running> Seat<J> {
+    /// A task at this leaf.
+    pub(crate) fn new(path: Path, leaf: usize, crew: Crew) -> Self
+        requires { crew.tree ≡ J.tree }
+    {
+        Seat {
+            path,
+            leaf,
+            crew,
+            of: PhantomData,
+        }
+    }
+}
+
+/// A worker's own token, by which it ends the tree where it must. Its type keeps that it is of the tree of the run.
+#[derive(Drop)]
+pub(crate) struct Key<J: Running> {
+    pub(crate) door: Door,
+    pub(crate) of: PhantomData<J>,
+    ghost own: { door.tree ≡ J.tree },
+}
+
+impl<J: Running> Key<J> {
+    /// A worker's token.
+    pub(crate) fn new(door: Door) -> Self
+        requires { door.tree ≡ J.tree }
+    {
+        Key {
+            door,
+            of: PhantomData,
+        }
     }
 }

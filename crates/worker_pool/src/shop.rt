@@ -1,22 +1,23 @@
 //! What the workers of a run share.
-ghost use Rattle.std.specs.Prelude.{◌≡◌, ◌≤◌, IfOk, IfSome};
-
 use crate::board::{Board, Running};
 use crate::fault::{Note, Refused};
-use crate::hand::{Hand, Taken};
-use crate::tree::{Due, Tree};
+use crate::hand::{Hand, Passing, Taken};
+use crate::seat::{Key, Seat};
+use crate::tree::Meeting;
 use phase_records::Report;
 use std::alloc::Global;
+use std::collections::VecDeque;
 use std::sync::{Condvar, Mutex, Wait};
 use step_core::Outcome;
+use superstep_memory::path::Path;
 
-/// The board and the tree, each under a lock of its own. Nobody holds both. Who waits for a ready task sleeps until the
-/// board has changed.
+/// The board under a lock, and the tree without one: no call of the tree is made while the lock is held. Who waits for a
+/// ready task sleeps until the board has changed.
 #[derive(Drop)]
-pub(crate) struct Shop<'j, J: Running> {
+pub(crate) struct Shop<'j, J: Running, F: Fn(u32, u32) -> bool> {
     pub(crate) board: Mutex<Board<'j, J>>,
     pub(crate) changed: Condvar,
-    pub(crate) tree: Mutex<Tree>,
+    pub(crate) meeting: Meeting<J, F>,
 }
 
 /// What a worker does next.
@@ -30,8 +31,10 @@ pub(crate) enum Next<'j, J: Running> {
     Home,
 }
 
-impl<'j, J: Running> Shop<'j, J> {
+impl<'j, J: Running, F: Fn(u32, u32) -> bool> Shop<'j, J, F> {
     ghost use Rattle.std.specs.Prelude.{◌≡◌, ℕ, Some, IfOk, IfErr};
+    ghost use Rattle.advance_rule.specs.Stored.{Answers};
+    ghost use Rattle.advance_rule.specs.Plan.{end_ends_at};
     ghost use Rattle.step_core.specs.Program.{program_of};
     ghost use Rattle.step_core.specs.JobMeaning.{report_of};
     ghost use Rattle.worker_pool.specs.Refusals.{IsOfWorkers};
@@ -63,48 +66,99 @@ impl<'j, J: Running> Shop<'j, J> {
         }
     }
 
-    /// Passes the tasks of a hand through the tree. The seats of those that were spawned are handed in before their
-    /// spawners arrive, so that who closes the round finds all of them.
-    pub(crate) fn pass<R: Wait>(
+    // Lets a task that has spawned come in, and registers those tasks and lets them arrive.
+    fn bring_in<R: Wait>(
         &self,
         rt: &R,
-        alloc: Global,
-        hand: &mut Hand<'j, J>,
-    ) -> Result<Option<Due>, Note>
-        ensures phase { IfOk result (λ due. IfSome due (λ d. d.phase ≤ 2147483647)) }
-        ensures count { IfOk result (λ due. IfSome due (λ d. d.count ≤ 65535)) }
+        seat: &mut Seat<J>,
+        spawned: Vec<Path>,
+        passed: &mut VecDeque<Seat<J>>,
+    ) -> Result<(), Note>
+        requires rule { Answers (F.pre self.now.meeting.tree.rule.closure) (F.post self.now.meeting.tree.rule.closure) (end_ends_at self.now.meeting.tree.rule.plan) }
     {
-        let mut seats = Vec::new(alloc);
-        let mut tree = self.tree.lock(rt);
-        tree.pass_all(alloc, hand.passing.as_mut_slice(), &mut seats)?;
-        if !seats.is_empty() {
-            drop(tree);
-            self.board.lock(rt).hand_in(&mut seats)?;
-            tree = self.tree.lock(rt);
+        if spawned.is_empty() {
+            return Ok(());
         }
-        tree.leave_all(&mut hand.passing)
-    }
-
-    /// Closes the round after its advance, and wakes who waits. After a fault the tree is forced.
-    pub(crate) fn close<R: Wait>(&self, rt: &R, alloc: Global, worker: usize) -> Result<(), Note> {
-        let outcome = self.board.lock(rt).close(alloc)?;
-        self.changed.notify_all();
-        if outcome != Outcome::Landed {
-            self.force(rt, worker);
+        self.meeting.come_in(&mut seat.crew)?;
+        passed.reserve(spawned.len())?;
+        for path in spawned {
+            let kid = self.meeting.register_spawned(rt, &mut seat.crew, seat.leaf, path)?;
+            let Seat { path, leaf, crew, of: _ } = kid;
+            let (crew, _led) = self.meeting.arrive(rt, crew)?;
+            if passed.push_back(Seat::new(path, leaf, crew)).is_err() {
+                return Err(Note::Memory);
+            }
         }
         Ok(())
     }
 
-    // Ends the tree.
-    fn force<R: Wait>(&self, rt: &R, worker: usize) {
-        self.tree.lock(rt).force(worker);
+    // Passes a task through the tree. Whether it took the advance.
+    fn pass<R: Wait>(
+        &self,
+        rt: &R,
+        task: Passing<J>,
+        passed: &mut VecDeque<Seat<J>>,
+    ) -> Result<bool, Note>
+        requires rule { Answers (F.pre self.now.meeting.tree.rule.closure) (F.post self.now.meeting.tree.rule.closure) (end_ends_at self.now.meeting.tree.rule.plan) }
+    {
+        let Passing {
+            mut seat,
+            spawned,
+            synced,
+        } = task;
+        self.bring_in(rt, &mut seat, spawned, passed)?;
+        let Seat { path, leaf, crew, of: _ } = seat;
+        if !synced {
+            return self.meeting.leave(rt, crew);
+        }
+        passed.reserve(1)?;
+        let (crew, led) = self.meeting.arrive(rt, crew)?;
+        match passed.push_back(Seat::new(path, leaf, crew)) {
+            Ok(()) => Ok(led),
+            Err(_) => Err(Note::Memory),
+        }
+    }
+
+    /// Passes the tasks of a hand through the tree: those that they have spawned join and arrive, then they arrive or
+    /// leave. Then the seats of those that live on are handed back, and where the last of them took the advance the round is
+    /// closed.
+    pub(crate) fn pass_all<R: Wait>(
+        &self,
+        rt: &R,
+        alloc: Global,
+        key: &mut Key<J>,
+        hand: &mut Hand<'j, J>,
+    ) -> Result<(), Note>
+        requires rule { Answers (F.pre self.now.meeting.tree.rule.closure) (F.post self.now.meeting.tree.rule.closure) (end_ends_at self.now.meeting.tree.rule.plan) }
+    {
+        let mut led = false;
+        while let Some(task) = hand.passing.pop() {
+            if self.pass(rt, task, &mut hand.passed)? {
+                led = true;
+            }
+        }
+        let mut board = self.board.lock(rt);
+        let mut changed = board.take_back(hand.step, &mut hand.passed)?;
+        let mut outcome = Outcome::Landed;
+        if led {
+            outcome = board.close(alloc)?;
+            changed = true;
+        }
+        drop(board);
+        if changed {
+            self.changed.notify_all();
+        }
+        if outcome != Outcome::Landed {
+            self.meeting.force(rt, key);
+        }
+        Ok(())
     }
 
     /// Notes why a worker can't go on, and sends all home.
-    pub(crate) fn give_up<R: Wait>(&self, rt: &R, worker: usize, note: Note) {
+    pub(crate) fn give_up<R: Wait>(&self, rt: &R, key: &mut Key<J>, note: Note) {
         self.board.lock(rt).note(note);
         self.changed.notify_all();
-        self.force(rt, worker);
+        self.meeting.force(rt, key);
     }
 
     /// What the job left, once all workers have gone home.
@@ -115,7 +169,7 @@ impl<'j, J: Running> Shop<'j, J> {
         let Shop {
             board,
             changed: _,
-            tree: _,
+            meeting: _,
         } = self;
         board.into_inner().conclude(alloc)
     }

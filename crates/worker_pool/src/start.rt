@@ -9,9 +9,9 @@ ghost use Rattle.worker_pool.specs.Refusals.{IsOfWorkers};
 use crate::board::Running;
 use crate::fault::{Note, Refused};
 use crate::hooks::{Gate, Starter};
+use crate::seat::Key;
 use crate::shop::Shop;
 use crate::work::work;
-use advance_rule::StoredAdvance;
 use cyclic_gate::{CyclicGate, GateFault};
 use std::alloc::Global;
 use std::sync::Wait;
@@ -23,17 +23,18 @@ use std::thread::Threads;
 fn meet_and_work<'j, J: Running, R: Wait, F: Fn(u32, u32) -> bool, A: Fn(u64) -> bool, G: Gate>(
     rt: &R,
     alloc: Global,
-    shop: &Shop<'j, J>,
-    advance: &StoredAdvance<F>,
+    shop: &Shop<'j, J, F>,
     gate: &G,
     meeting: &CyclicGate<A>,
     k: u32,
+    key: Key<J>,
 )
-    requires rule { Answers (F.pre advance.now.closure) (F.post advance.now.closure) (end_ends_at advance.now.plan) }
+    requires rule { Answers (F.pre shop.now.meeting.tree.rule.closure) (F.post shop.now.meeting.tree.rule.closure) (end_ends_at shop.now.meeting.tree.rule.plan) }
     requires action { AnswersAction (A.pre meeting.now.action.closure) (A.post meeting.now.action.closure) meeting.now.action.plan }
 {
+    let mut key = key;
     match meeting.await_turn(rt, k) {
-        Ok(_) => work(rt, alloc, shop, advance, gate, k as usize),
+        Ok(_) => work(rt, alloc, shop, gate, &mut key),
         Err(GateFault::Memory) => {
             shop.board.lock(rt).note(Note::Memory);
             meeting.break_off(rt);
@@ -46,7 +47,7 @@ fn meet_and_work<'j, J: Running, R: Wait, F: Fn(u32, u32) -> bool, A: Fn(u64) ->
 /// are sent home before they take a task.
 pub(crate) fn start_all<
     'j,
-    J: Running + Send,
+    J: Running + Send + Sync,
     R: Threads + Wait + Sync,
     F: Fn(u32, u32) -> bool + Sync,
     A: Fn(u64) -> bool + Sync,
@@ -55,14 +56,14 @@ pub(crate) fn start_all<
 >(
     rt: &R,
     alloc: Global,
-    shop: &Shop<'j, J>,
-    advance: &StoredAdvance<F>,
+    shop: &Shop<'j, J, F>,
+    key: &mut Key<J>,
     gate: &G,
     meeting: &CyclicGate<A>,
     starter: &S,
     workers: u32,
 ) -> Result<(), Refused>
-    requires rule { Answers (F.pre advance.now.closure) (F.post advance.now.closure) (end_ends_at advance.now.plan) }
+    requires rule { Answers (F.pre shop.now.meeting.tree.rule.closure) (F.post shop.now.meeting.tree.rule.closure) (end_ends_at shop.now.meeting.tree.rule.plan) }
     requires action { AnswersAction (A.pre meeting.now.action.closure) (A.post meeting.now.action.closure) meeting.now.action.plan }
     ensures { IfErr result (IsOfWorkers workers) }
 {
@@ -70,7 +71,7 @@ pub(crate) fn start_all<
         thread::scope_env(),
         rt,
         move |scope| -> Result<(), Refused>
-            requires { Answers (F.pre advance.now.closure) (F.post advance.now.closure) (end_ends_at advance.now.plan)
+            requires { Answers (F.pre shop.now.meeting.tree.rule.closure) (F.post shop.now.meeting.tree.rule.closure) (end_ends_at shop.now.meeting.tree.rule.plan)
                 × AnswersAction (A.pre meeting.now.action.closure) (A.post meeting.now.action.closure) meeting.now.action.plan }
             ensures { IfErr result (IsOfWorkers workers) }
         {
@@ -85,9 +86,8 @@ pub(crate) fn start_all<
                     done = Err(Refused::Memory);
                     break;
                 }
-                match scope.spawn(move || meet_and_work(
-                    rt, alloc, shop, advance, gate, meeting, k,
-                )) {
+                let own = shop.meeting.key(key);
+                match scope.spawn(move || meet_and_work(rt, alloc, shop, gate, meeting, k, own)) {
                     Ok(thread) => started.push_reserved(thread),
                     Err(_) => {
                         done = Err(Refused::NotStarted(k));

@@ -1,213 +1,198 @@
-//! The tree as workers share it, with the tokens that no task has.
-ghost use Rattle.std.specs.Prelude.{◌≡◌, ◌≤◌, IfOk, IfSome};
-ghost use Rattle.tier_core.specs.Run.{IsCall};
-ghost use Rattle.tier_core.specs.Turn.{IsInRange};
+//! The tree at which workers meet: calls of a task's crew, taken to their answers.
+ghost use Rattle.std.specs.Prelude.{◌≡◌};
 
+use crate::board::Running;
 use crate::fault::Note;
-use crate::hand::Passing;
 use crate::leaves::Leaves;
-use crate::seat::Seat;
-use std::alloc::{AllocError, Global};
-use std::mem;
+use crate::seat::{Key, Seat};
+use std::sync::Wait;
 use superstep_memory::path::Path;
-use tier_core::call::{Call, Played};
-use tier_core::tree::Core;
+use tier_table::forcing::Forced;
+use tier_table::joining::{Opened, Registered};
+use tier_table::polling::Polled;
+use tier_table::tokens::{Crew, Door, Opening};
+use tier_table::tree::Tree;
+use tier_table::waiting::Counted;
 
-// A call has its answer after so many steps at most.
-const MOST_STEPS: u32 = 16;
+// So many tries are enough for a call that nobody else disturbs.
+const TRIES: u32 = 16;
 
-/// An advance that the token of a task has to take: of this phase, with so many parties at the root.
-#[derive(Clone, Copy)]
-pub(crate) struct Due {
-    pub(crate) token: usize,
-    pub(crate) phase: u32,
-    pub(crate) count: u32,
-    pub(crate) synced: bool,
-}
-
-/// A tree, its leaves, and the tokens of tasks that have left.
+/// The tree of the run, and its leaves. Its type keeps that the tree is the run's.
 #[derive(Drop)]
-pub(crate) struct Tree {
-    core: Core,
-    leaves: Leaves,
-    free: Vec<usize>,
+pub(crate) struct Meeting<J: Running, F: Fn(u32, u32) -> bool> {
+    tree: Tree<F>,
+    leaves: Leaves<J>,
+    ghost own: { tree.tree ≡ J.tree },
 }
 
-impl Tree {
-    /// A tree whose tokens all have tasks.
-    pub(crate) fn new(alloc: Global, core: Core, leaves: Leaves) -> Self {
-        Tree {
-            core,
-            leaves,
-            free: Vec::new(alloc),
-        }
-    }
+/// How a registration came out.
+enum Entry {
+    // The member has joined.
+    In(Crew),
+    // It was refused for now.
+    Off(Door),
+    // The tree has ended.
+    Over,
+}
 
-    /// A token without members.
-    pub(crate) fn take_token(&mut self) -> Result<usize, AllocError> {
-        match self.free.pop() {
-            Some(token) => Ok(token),
-            None => self.core.add_token(),
-        }
-    }
+impl<J: Running, F: Fn(u32, u32) -> bool> Meeting<J, F> {
+    ghost use Rattle.std.specs.Prelude.{◌≡◌, ◌<◌, IfOk, IfSome, OnOk, length};
+    ghost use Rattle.advance_rule.specs.Stored.{Answers};
+    ghost use Rattle.advance_rule.specs.Plan.{end_ends_at};
+    ghost use Rattle.worker_pool.specs.Entries.{IsOf};
 
-    // Takes back the token of a task that has left.
-    fn give_back(&mut self, token: usize) -> Result<(), AllocError> {
-        self.free.push(token)?;
-        Ok(())
-    }
-
-    // Takes the next step of a token's call.
-    fn go(&mut self, token: usize) -> Result<Played, Note>
-        ensures { IfOk result IsInRange }
+    /// A tree, with its leaves.
+    pub(crate) fn new(tree: Tree<F>, leaves: Leaves<J>) -> Self
+        requires { tree.tree ≡ J.tree }
+        ensures { result.tree ≡ tree }
     {
-        match self.core.go(token) {
-            Ok(played) => Ok(played),
-            Err(_) => Err(Note::Internal),
-        }
+        Meeting { tree, leaves }
     }
 
-    /// Takes a call of a token from its begin to its answer.
-    fn run(&mut self, token: usize, call: Call) -> Result<Played, Note>
-        requires { IsCall call }
-        ensures { IfOk result IsInRange }
+    /// A worker's own token.
+    pub(crate) fn key(&self, key: &mut Key<J>) -> Key<J> {
+        Key::new(self.tree.split(&mut key.door))
+    }
+
+    // Goes on with the opening of a path until it is done.
+    fn open<R: Wait>(&self, rt: &R, opening: Opening) -> Entry
+        requires { opening.token.tree ≡ J.tree }
+        ensures { IsOf J.tree result }
     {
-        if self.core.begin(token, call).is_err() {
-            return Err(Note::Internal);
-        }
-        for _ in 0..MOST_STEPS {
-            let played = self.go(token)?;
-            if played != Played::GoesOn {
-                return Ok(played);
+        let mut opening = opening;
+        for _ in rt.forever() {
+            match self.tree.resume_opening(opening, TRIES) {
+                Opened::Joined(crew, _phase) => return Entry::In(crew),
+                Opened::Held(door, _phase, _cause) => return Entry::Off(door),
+                Opened::Full(door, _count) => return Entry::Off(door),
+                Opened::Ended(_door, _shown) => return Entry::Over,
+                Opened::Owing(rest) => opening = rest,
             }
         }
-        Err(Note::Internal)
+        unreachable!()
     }
 
-    // Takes a call of a token that is to be done, or whose phase has passed.
-    fn run_through(&mut self, token: usize, call: Call) -> Result<(), Note>
-        requires { IsCall call }
+    // Registers a member at a tier, opening the path to it.
+    fn register<R: Wait>(&self, rt: &R, door: Door, tier: u16) -> Entry
+        requires own { door.tree ≡ J.tree }
+        requires tier { tier < length J.tree.key.shape }
+        ensures { IsOf J.tree result }
     {
-        match self.run(token, call)? {
-            Played::Done(_) | Played::Passed(_) => Ok(()),
-            _ => Err(Note::Internal),
+        match self.tree.register(door, tier, 1, TRIES) {
+            Registered::Joined(crew, _phase) => Entry::In(crew),
+            Registered::Held(door, _phase, _cause) => Entry::Off(door),
+            Registered::Full(door, _count) => Entry::Off(door),
+            Registered::Busy(door) => Entry::Off(door),
+            Registered::Ended(_door, _shown) => Entry::Over,
+            Registered::Owing(opening) => self.open(rt, opening),
         }
     }
 
-    /// Registers a task at this leaf with a new token. Nothing refuses it, since nobody has arrived there.
-    pub(crate) fn register_start(&mut self, path: Path, leaf: usize) -> Result<Seat, Note> {
-        let token = self.take_token()?;
-        let tier = self.leaves.tier(leaf);
-        self.run_through(token, Call::Join { tier, n: 1 })?;
-        Ok(Seat { path, token, leaf })
-    }
-
-    // Registers a spawned task: at its preferred leaf, or where that refuses it at its spawner's.
-    fn register(&mut self, spawner: usize, path: Path) -> Result<Seat, Note> {
-        let token = self.take_token()?;
-        let leaf = self.leaves.preferred(spawner, path.as_slice());
-        let tier = self.leaves.tier(leaf);
-        match self.run(token, Call::Join { tier, n: 1 })? {
-            Played::Done(_) => return Ok(Seat { path, token, leaf }),
-            Played::Held(..) | Played::Full(_) => {}
-            _ => return Err(Note::Internal),
+    // Registers a member beside a crew one of whose members is unarrived.
+    fn join_here<R: Wait>(&self, rt: &R, crew: &mut Crew, door: Door) -> Result<Crew, Note>
+        requires own { (crew.old.tree ≡ J.tree) × (door.tree ≡ J.tree) }
+        requires unarrived { crew.old.view.arrived < crew.old.view.size }
+        ensures same { (crew.new.tree ≡ J.tree) × (crew.new.view.arrived < crew.new.view.size) }
+        ensures joined { IfOk result (λ kid. kid.tree ≡ J.tree) }
+    {
+        let mut door = door;
+        for _ in rt.forever() {
+            match self.tree.join_here(crew, door, 1, TRIES) {
+                Registered::Joined(kid, _phase) => return Ok(kid),
+                Registered::Busy(rest) => door = rest,
+                Registered::Full(_door, _count) => return Err(Note::Internal),
+                Registered::Ended(_door, _shown) => return Err(Note::Internal),
+                Registered::Held(..) | Registered::Owing(_) => unreachable!(),
+            }
         }
-        let tier = self.leaves.tier(spawner);
-        self.run_through(token, Call::Join { tier, n: 1 })?;
-        let leaf = spawner;
-        Ok(Seat { path, token, leaf })
+        unreachable!()
     }
 
-    /// Lets each of these tasks poll, registers what it spawned, and lets each of those arrive. Their seats go behind `seats`.
-    pub(crate) fn pass_all(
-        &mut self,
-        alloc: Global,
-        passing: &mut [Passing],
-        seats: &mut Vec<Seat>,
-    ) -> Result<(), Note> {
-        for task in passing {
-            let spawned = mem::replace(&mut task.spawned, Vec::new(alloc));
-            self.pass(task.token, task.leaf, spawned, seats)?;
-        }
-        Ok(())
-    }
-
-    // Does this for one task.
-    fn pass(
-        &mut self,
-        token: usize,
+    /// Registers a start task at this leaf. Nothing refuses it, since nobody has arrived there.
+    pub(crate) fn register_start<R: Wait>(
+        &self,
+        rt: &R,
+        key: &mut Key<J>,
+        path: Path,
         leaf: usize,
-        spawned: Vec<Path>,
-        seats: &mut Vec<Seat>,
-    ) -> Result<(), Note> {
-        self.run_through(token, Call::Poll)?;
-        let before = seats.len();
-        for path in spawned {
-            let seat = self.register(leaf, path)?;
-            if seats.push(seat).is_err() {
-                return Err(Note::Memory);
-            }
+    ) -> Result<Seat<J>, Note> {
+        let fresh = self.tree.split(&mut key.door);
+        match self.register(rt, fresh, self.leaves.tier(leaf)) {
+            Entry::In(crew) => Ok(Seat::new(path, leaf, crew)),
+            Entry::Off(_) | Entry::Over => Err(Note::Internal),
         }
-        for seat in seats.iter().skip(before) {
-            self.run_through(seat.token, Call::Arrive)?;
-        }
-        Ok(())
     }
 
-    /// Lets tasks arrive, or leave where they haven't synced. The last of them may have an advance to take: while one of
-    /// them hasn't arrived, none has.
-    pub(crate) fn leave_all(&mut self, passing: &mut Vec<Passing>) -> Result<Option<Due>, Note>
-        ensures phase { IfOk result (λ due. IfSome due (λ d. d.phase ≤ 2147483647)) }
-        ensures count { IfOk result (λ due. IfSome due (λ d. d.count ≤ 65535)) }
+    /// Registers a task that a crew's task has spawned: at its preferred leaf, or where that refuses it beside its spawner.
+    pub(crate) fn register_spawned<R: Wait>(
+        &self,
+        rt: &R,
+        crew: &mut Crew,
+        spawner: usize,
+        path: Path,
+    ) -> Result<Seat<J>, Note>
+        requires own { crew.old.tree ≡ J.tree }
+        requires unarrived { crew.old.view.arrived < crew.old.view.size }
+        ensures same { (crew.new.tree ≡ J.tree) × (crew.new.view.arrived < crew.new.view.size) }
     {
-        while let Some(task) = passing.pop() {
-            if let Some(due) = self.leave(task.token, task.synced)? {
-                if passing.is_empty() {
-                    return Ok(Some(due));
-                }
-                return Err(Note::Internal);
+        let fresh = self.tree.split_crew(crew);
+        let leaf = self.leaves.preferred(spawner, path.as_slice());
+        match self.register(rt, fresh, self.leaves.tier(leaf)) {
+            Entry::In(kid) => Ok(Seat::new(path, leaf, kid)),
+            Entry::Off(door) => {
+                let kid = self.join_here(rt, crew, door)?;
+                Ok(Seat::new(path, spawner, kid))
             }
+            Entry::Over => Err(Note::Internal),
         }
-        Ok(None)
     }
 
-    // Lets a task arrive, or leave where it hasn't synced.
-    fn leave(&mut self, token: usize, synced: bool) -> Result<Option<Due>, Note>
-        ensures phase { IfOk result (λ due. IfSome due (λ d. d.phase ≤ 2147483647)) }
-        ensures count { IfOk result (λ due. IfSome due (λ d. d.count ≤ 65535)) }
+    /// Lets a crew see the phase in which its task runs, in which no member of it has arrived.
+    pub(crate) fn come_in(&self, crew: &mut Crew) -> Result<(), Note>
+        requires { crew.old.tree ≡ J.tree }
+        ensures same { crew.new.tree ≡ J.tree }
+        ensures unarrived { OnOk result (crew.new.view.arrived < crew.new.view.size) }
     {
-        let call = if synced { Call::Arrive } else { Call::Leave };
-        match self.run(token, call)? {
-            Played::Done(_) => {
-                if !synced {
-                    self.give_back(token)?;
-                }
-                Ok(None)
+        match self.tree.poll(crew) {
+            Polled::Passed(_) | Polled::Here(_) => Ok(()),
+            Polled::Waiting | Polled::Ended(_) => Err(Note::Internal),
+        }
+    }
+
+    /// Lets the member of a crew arrive. Whether it took the advance.
+    pub(crate) fn arrive<R: Wait>(&self, rt: &R, crew: Crew) -> Result<(Crew, bool), Note>
+        requires own { crew.tree ≡ J.tree }
+        requires rule { Answers (F.pre self.now.tree.rule.closure) (F.post self.now.tree.rule.closure) (end_ends_at self.now.tree.rule.plan) }
+        ensures { IfOk result (λ done. done.0.tree ≡ J.tree) }
+    {
+        match self.tree.arrive_wait(rt, crew) {
+            Counted::Done(crew, _phase, led) => Ok((crew, led)),
+            Counted::Left(_door, _phase, _led) => Err(Note::Internal),
+            Counted::AlreadyArrived(_crew, _phase) => Err(Note::Internal),
+            Counted::Ended(_crew, _shown) => Err(Note::Internal),
+        }
+    }
+
+    /// Lets the one member of a crew leave. Whether it took the advance.
+    pub(crate) fn leave<R: Wait>(&self, rt: &R, crew: Crew) -> Result<bool, Note>
+        requires own { crew.tree ≡ J.tree }
+        requires rule { Answers (F.pre self.now.tree.rule.closure) (F.post self.now.tree.rule.closure) (end_ends_at self.now.tree.rule.plan) }
+    {
+        match self.tree.leave_wait(rt, crew) {
+            Counted::Left(_door, _phase, led) => Ok(led),
+            Counted::Done(_crew, _phase, _led) => Err(Note::Internal),
+            Counted::AlreadyArrived(_crew, _phase) => Err(Note::Internal),
+            Counted::Ended(_crew, _shown) => Err(Note::Internal),
+        }
+    }
+
+    /// Ends the tree. Where it has ended nothing changes.
+    pub(crate) fn force<R: Wait>(&self, rt: &R, key: &mut Key<J>) {
+        for _ in rt.forever() {
+            match self.tree.force(&mut key.door, TRIES) {
+                Forced::Ended(_) => return,
+                Forced::Busy => {}
             }
-            Played::MustAdvance(phase, count) => Ok(Some(Due {
-                token,
-                phase,
-                count,
-                synced,
-            })),
-            _ => Err(Note::Internal),
         }
-    }
-
-    /// Takes the advance that a token has to take.
-    pub(crate) fn advance(&mut self, due: Due, ends: bool) -> Result<(), Note> {
-        match self.core.finish_advance(due.token, ends) {
-            Ok(Played::Done(_)) => {}
-            _ => return Err(Note::Internal),
-        }
-        if !due.synced {
-            self.give_back(due.token)?;
-        }
-        Ok(())
-    }
-
-    /// Ends the tree by a token that no task has. Where it has ended nothing changes.
-    pub(crate) fn force(&mut self, token: usize) {
-        let _ = self.run(token, Call::Force);
     }
 }

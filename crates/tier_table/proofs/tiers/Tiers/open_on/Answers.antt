@@ -2,6 +2,7 @@ use Rattle.std.proofs.Common.{subst}
 use Rattle.tier_table.specs.declared.going.Going.{Going}
 use Rattle.tier_table.specs.Openings.{IsOpening}
 use Rattle.tier_table.specs.Goes.{Ran}
+use Rattle.tier_table.proofs.Ending.{opening_ends}
 use Rattle.tier_table.proofs.Coming.{open_may_answer, never_busy, opens}
 use Rattle.tier_table.proofs.tiers.Tiers.open_on.Goals as goal
 
@@ -15,8 +16,14 @@ answer_opening-requires c =
     never_busy c.args.self.now c.args.tries c.args.opening c.go_joining.result c.requires.own (subst IsOpening c.opening.view_is c.opening.invariant)
     (subst (λ (o : Going). Ran c.args.self.now c.args.tries o c.go_joining.result) c.opening.view_is c.go_joining.ensures) c.answer_join.result c.answer_join.ensures
 
-pub returns : goal.returns
-returns c =
+pub returns-clause-answer : goal.returns-clause-answer
+returns-clause-answer c =
     opens c.args.self.now c.args.tries c.args.opening c.go_joining.result c.requires.own (subst IsOpening c.opening.view_is c.opening.invariant)
     (subst (λ (o : Going). Ran c.args.self.now c.args.tries o c.go_joining.result) c.opening.view_is c.go_joining.ensures) c.answer_join.result c.answer_opening.result c.answer_join.ensures
+    c.answer_opening.ensures
+
+pub returns-clause-ended : goal.returns-clause-ended
+returns-clause-ended c = λ p e none.
+    opening_ends c.args.self.now c.args.tries c.args.opening c.go_joining.result c.requires.own (subst IsOpening c.opening.view_is c.opening.invariant)
+    (subst (λ (o : Going). Ran c.args.self.now c.args.tries o c.go_joining.result) c.opening.view_is c.go_joining.ensures) p e none c.answer_join.result c.answer_opening.result c.answer_join.ensures
     c.answer_opening.ensures

@@ -1,0 +1,189 @@
+//! Calls that wait: they repeat a call of the tree until it has an answer that lasts, and let other threads
+//! run between. That they come to an end is not claimed: a tier may be held by others for ever.
+
+ghost use Rattle.std.specs.Prelude.{◌≡◌, ◌<◌, ◌≤◌, ℕ, Some, length};
+ghost use Rattle.advance_rule.specs.Stored.{Answers};
+ghost use Rattle.advance_rule.specs.Plan.{end_ends_at};
+ghost use Rattle.tier_steps.specs.declared.view.Trip.TheVariants.{Arrival, Departure};
+ghost use Rattle.tier_table.specs.Openings.{asked_tier, asked_size};
+ghost use Rattle.tier_table.specs.AtLast.{RegistersAtLast, OpensAtLast, ArrivesAtLast, ResumesAtLast, AwaitsAdvance, HasEndedJoin, HasEndedArrival, HasEndedWait};
+
+use crate::arriving::{Arrived, Resumed};
+use crate::joining::{Opened, Registered};
+use crate::polling::Polled;
+use crate::tokens::{Crew, Door, Errand, Opening};
+use crate::tree::Tree;
+use std::sync::Wait;
+use std::thread;
+use tier_steps::view::Trip;
+
+/// How many tries a call makes before its thread lets others run.
+const TRIES: u32 = 16;
+
+/// What a registration that waits answers.
+pub enum Admitted {
+    /// The members have joined, in this phase.
+    Joined(Crew, u32),
+    /// There is no room: a tier of the path has so many parties.
+    Full(Door, u32),
+    /// The tree has ended; the phase that is shown.
+    Ended(Door, i32),
+}
+
+/// What an arrival or a departure that waits answers.
+pub enum Counted {
+    /// A member has arrived or left in this phase; whether the call took the advance.
+    Done(Crew, u32, bool),
+    /// The last member has left in this phase; whether the call took the advance.
+    Left(Door, u32, bool),
+    /// All members had arrived in this phase before.
+    AlreadyArrived(Crew, u32),
+    /// The tree has ended; the phase that is shown.
+    Ended(Crew, i32),
+}
+
+/// What a crew that waits for the next phase is told.
+#[derive(Clone, Copy, Debug, PartialEq, Eq)]
+pub enum Awaited {
+    /// The phase in which all members had arrived has passed, and this one is the next.
+    Passed(u32),
+    /// A member has not arrived in this phase.
+    Here(u32),
+    /// The tree has ended; the phase that is shown.
+    Ended(i32),
+}
+
+impl<F: Fn(u32, u32) -> bool> Tree<F> {
+    /// Goes on with the opening of a path until that is over. Where the members were held off, the door is
+    /// an error.
+    fn open_wait<R: Wait>(&self, rt: &R, opening: Opening) -> Result<Admitted, Door>
+        requires own { opening.token.tree ≡ self.now.tree }
+        ensures { OpensAtLast self.now.tree (asked_tier opening.token.view.errand) (asked_size opening.token.view.errand) result }
+    {
+        let mut opening = opening;
+        for _ in rt.forever() {
+            match self.resume_opening(opening, TRIES) {
+                Opened::Joined(crew, phase) => return Ok(Admitted::Joined(crew, phase)),
+                Opened::Full(door, count) => return Ok(Admitted::Full(door, count)),
+                Opened::Ended(door, shown) => return Ok(Admitted::Ended(door, shown)),
+                Opened::Held(door, _, _) => return Err(door),
+                Opened::Owing(next) => opening = next,
+            }
+            thread::yield_now();
+        }
+        unreachable!()
+    }
+
+    /// Registers so many members at a tier, opening the path to it where it is empty. While the
+    /// registration is held off, other threads run, and it is tried again.
+    pub fn register_wait<R: Wait>(&self, rt: &R, door: Door, tier: u16, n: u32) -> Admitted
+        requires own { door.tree ≡ self.now.tree }
+        requires tier { tier < length self.now.tree.key.shape }
+        requires members { (0 < n) × (n ≤ 65535) }
+        ensures answer { RegistersAtLast self.now.tree tier n result }
+        ensures ended { (phase : ℕ) → door.view.end_seen ≡ Some phase → HasEndedJoin result }
+    {
+        let mut door = door;
+        for _ in rt.forever() {
+            match self.register(door, tier, n, TRIES) {
+                Registered::Joined(crew, phase) => return Admitted::Joined(crew, phase),
+                Registered::Full(next, count) => return Admitted::Full(next, count),
+                Registered::Ended(next, shown) => return Admitted::Ended(next, shown),
+                Registered::Held(next, _, _) | Registered::Busy(next) => door = next,
+                Registered::Owing(opening) => match self.open_wait(rt, opening) {
+                    Ok(answer) => return answer,
+                    Err(next) => door = next,
+                },
+            }
+            thread::yield_now();
+        }
+        unreachable!()
+    }
+
+    /// Goes on with an arrival or a departure that was counted, until that is over.
+    fn resume_wait<R: Wait>(&self, rt: &R, errand: Errand) -> Counted
+        requires own { errand.token.tree ≡ self.now.tree }
+        requires rule { Answers (F.pre self.now.rule.closure) (F.post self.now.rule.closure) (end_ends_at self.now.rule.plan) }
+        ensures { ResumesAtLast errand.token result }
+    {
+        let mut errand = errand;
+        for _ in rt.forever() {
+            match self.resume(errand, TRIES) {
+                Resumed::Done(crew, phase, led) => return Counted::Done(crew, phase, led),
+                Resumed::Left(door, phase, led) => return Counted::Left(door, phase, led),
+                Resumed::Owing(next) => errand = next,
+            }
+            thread::yield_now();
+        }
+        unreachable!()
+    }
+
+    /// Lets a member arrive or leave.
+    fn pass_wait<R: Wait>(&self, rt: &R, crew: Crew, own: Trip) -> Counted
+        requires own { crew.tree ≡ self.now.tree }
+        requires rule { Answers (F.pre self.now.rule.closure) (F.post self.now.rule.closure) (end_ends_at self.now.rule.plan) }
+        ensures answer { ArrivesAtLast own crew result }
+        ensures ended { (phase : ℕ) → crew.view.end_seen ≡ Some phase → HasEndedArrival result }
+    {
+        let _ = &crew.token;
+        let mut crew = crew;
+        for _ in rt.forever() {
+            match self.tiers.pass(crew, own, &self.rule, TRIES) {
+                Arrived::Done(crew, phase, led) => return Counted::Done(crew, phase, led),
+                Arrived::Left(door, phase, led) => return Counted::Left(door, phase, led),
+                Arrived::AlreadyArrived(crew, phase) => return Counted::AlreadyArrived(crew, phase),
+                Arrived::Ended(crew, shown) => return Counted::Ended(crew, shown),
+                Arrived::Busy(next) => crew = next,
+                Arrived::Owing(errand) => match self.resume_wait(rt, errand) {
+                    Counted::Left(door, phase, led) => {
+                        let _ = &door.token;
+                        return Counted::Left(door, phase, led);
+                    }
+                    answer => return answer,
+                },
+            }
+            thread::yield_now();
+        }
+        unreachable!()
+    }
+
+    /// Lets a member arrive. It is never answered `Left`.
+    pub fn arrive_wait<R: Wait>(&self, rt: &R, crew: Crew) -> Counted
+        requires own { crew.tree ≡ self.now.tree }
+        requires rule { Answers (F.pre self.now.rule.closure) (F.post self.now.rule.closure) (end_ends_at self.now.rule.plan) }
+        ensures answer { ArrivesAtLast Arrival crew result }
+        ensures ended { (phase : ℕ) → crew.view.end_seen ≡ Some phase → HasEndedArrival result }
+    {
+        self.pass_wait(rt, crew, Trip::Arrival)
+    }
+
+    /// Lets a member leave, which counts as its arrival.
+    pub fn leave_wait<R: Wait>(&self, rt: &R, crew: Crew) -> Counted
+        requires own { crew.tree ≡ self.now.tree }
+        requires rule { Answers (F.pre self.now.rule.closure) (F.post self.now.rule.closure) (end_ends_at self.now.rule.plan) }
+        ensures answer { ArrivesAtLast Departure crew result }
+        ensures ended { (phase : ℕ) → crew.view.end_seen ≡ Some phase → HasEndedArrival result }
+    {
+        self.pass_wait(rt, crew, Trip::Departure)
+    }
+
+    /// Waits until the phase has passed in which all members of the crew have arrived. Where a member has
+    /// not arrived, or the tree has ended, it does not wait.
+    pub fn await_advance<R: Wait>(&self, rt: &R, crew: &mut Crew) -> Awaited
+        requires own { crew.old.tree ≡ self.now.tree }
+        ensures tree { crew.new.tree ≡ crew.old.tree }
+        ensures answer { AwaitsAdvance crew.old crew.new result }
+        ensures ended { (phase : ℕ) → crew.old.view.end_seen ≡ Some phase → HasEndedWait result }
+    {
+        let _ = &crew.token;
+        for _ in rt.forever() {
+            match self.poll(crew) {
+                Polled::Passed(phase) => return Awaited::Passed(phase),
+                Polled::Here(phase) => return Awaited::Here(phase),
+                Polled::Ended(shown) => return Awaited::Ended(shown),
+                Polled::Waiting => thread::yield_now(),
+            }
+        }
+        unreachable!()
+    }
+}
