@@ -231,6 +231,15 @@ none_found ps xs ss o h e n = ap (λ (ys : List SlotValue). first_missing (slots
 pub found : (ps : List Plan) (xs ss : List SlotValue) (o p : Option (ℕ × List ℕ)) → o ≡ first_fault (delivered (slots_of ps xs)) → xs ≡ ss → o ≡ p → first_fault (delivered (slots_of ps ss)) ≡ p
 found ps xs ss o p h e n = ap (λ (ys : List SlotValue). first_fault (delivered (slots_of ps ys))) (sym e) ∙ sym h ∙ n
 
+-- where no path was found to be missing, the round is to be closed
+pub closes : (r now : RoundValue) → IsRound r → r ≡ now → status_in now ≡ None → (ss : List SlotValue) → ss ≡ r.slots → (o : Option (SmallVec ℕ))
+    → ((ps : List Plan) → option_map path_of o ≡ first_missing (slots_of ps ss)) → o ≡ None → Closes r
+closes r now round is run ss e o h n = record {
+  round = round;
+  run = ap status_in is ∙ run;
+  all = none_found (plans r.job.bodies) ss r.slots o (h (plans r.job.bodies)) e n;
+}
+
 pub many_outcome : (r now : RoundValue) → r ≡ now → first_fault (deeds r) ≡ None → (xs : List SlotValue)
     → xs ≡ map fresh_slot (in_path_order path_in (living_in r.slots)) → 4096 < length xs → TooMany ≡ outcome_of (deeds now)
 many_outcome r now e none xs ex lt =
