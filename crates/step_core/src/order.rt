@@ -129,7 +129,7 @@ impl<'j> Order<'j> {
 }
 
 impl<'j> Delivery<'j> {
-    ghost use Rattle.std.specs.Prelude.{◌≡◌, IfOk, map, length, slice_get};
+    ghost use Rattle.std.specs.Prelude.{◌≡◌, ◌↔◌, IsTrue, IfOk, map, length, slice_get};
     ghost use Rattle.std.specs.Option.{option_map};
     ghost use Rattle.task_lang.specs.Meaning.{segment_of};
     ghost use Rattle.task_lang.specs.Views.{plans};
@@ -202,10 +202,11 @@ impl<'j> Delivery<'j> {
         self.job
     }
 
-    pub(crate) fn step(&self) -> u32
-        ensures { result ≡ self.now.step }
+    /// Whether it is of this step.
+    pub(crate) fn is_of_step(&self, step: u32) -> bool
+        ensures { IsTrue result ↔ (self.now.step ≡ step) }
     {
-        self.step
+        self.step == step
     }
 
     pub(crate) fn place(&self) -> usize

@@ -56,7 +56,7 @@ impl<'j> Round<'j> {
     ghost use Rattle.step_core.specs.Superstep.{superstep, live_paths};
     ghost use Rattle.step_core.specs.Slots.{delivered, first_missing, missing_in};
     ghost use Rattle.step_core.specs.SlotParts.{path_of, IsPlaceOf};
-    ghost use Rattle.step_core.specs.RoundValue.{IsRound, Opens, state_of, status_in, slots_in};
+    ghost use Rattle.step_core.specs.RoundValue.{IsRound, Opens, state_of, status_in, slots_in, with_fault};
     ghost use Rattle.step_core.specs.Taking.{Refuses, Takes, IsDouble, with_delivery, NotClosed, outcome_of, IsOrderOf, IsOrderAt, is_live, task_at};
 
     /// A round of this job with this limit of supersteps, before the first of them.
@@ -217,7 +217,7 @@ impl<'j> Round<'j> {
         ensures refused { IfErr result (λ fault. Refuses fault self.old delivery.entry) }
         ensures unchanged { OnErr result (self.new ≡ self.old) }
     {
-        if self.step != delivery.step() {
+        if !delivery.is_of_step(self.step) {
             return Err(AcceptFault::WrongStep);
         }
         if !self.job.same_as(delivery.job()) {
@@ -245,7 +245,7 @@ impl<'j> Round<'j> {
         ensures own { delivery.entry.step ≡ self.old.step → IfErr result IsDouble }
         ensures unchanged { OnErr result (self.new ≡ self.old) }
     {
-        if delivery.step() != self.step {
+        if !delivery.is_of_step(self.step) {
             return Err(AcceptFault::WrongStep);
         }
         let place = delivery.place();
@@ -257,6 +257,14 @@ impl<'j> Round<'j> {
         self.live.put(place, segment);
         self.missing -= 1;
         Ok(())
+    }
+
+    // Ends the job by this fault. The superstep leaves nothing else.
+    fn end(&mut self, blame: Blame)
+        requires round { IsRound (with_fault self.old blame) }
+        ensures ended { self.new ≡ with_fault self.old blame }
+    {
+        self.fault = Some(blame);
     }
 
     /// Takes one superstep, where each live task has its delivery, or refuses to and changes nothing. A task's fault, or
@@ -275,12 +283,12 @@ impl<'j> Round<'j> {
             return Err(CloseFault::Missing(path));
         }
         if let Some(blame) = find_fault(&slots) {
-            self.fault = Some(blame);
+            self.end(blame);
             return Ok(Outcome::Faulted);
         }
         let count = count_living(&slots);
         if count > 4096 {
-            self.fault = Some(too_many(alloc));
+            self.end(too_many(alloc));
             return Ok(Outcome::TooMany);
         }
         let taken = self.live.take_superstep(

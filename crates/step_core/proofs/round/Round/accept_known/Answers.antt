@@ -14,7 +14,7 @@ is_done-requires c =
       round = c.self.invariant.0;
       run = ap status_in c.self.view_is ∙ c.requires.running;
       job = c.requires.job ∙ ap (λ (x : RoundValue). x.job) (sym c.self.view_is);
-      step = sym c.step.ensures ∙ c.if-step-self.false;
+      step = c.is_of_step.ensures.0 c.if-not-is_of_step.false;
       known = c.path-known.ensures.known;
     } in
     subst (λ p. p < length c.self.inside.live) (sym c.place-place.ensures) (met_below r c.args.delivery m)
@@ -26,7 +26,7 @@ returns-then-is_done-clause-refused c =
       round = c.self.invariant.0;
       run = ap status_in c.self.view_is ∙ c.requires.running;
       job = c.requires.job ∙ ap (λ (x : RoundValue). x.job) (sym c.self.view_is);
-      step = sym c.step.ensures ∙ c.if-step-self.false;
+      step = c.is_of_step.ensures.0 c.if-not-is_of_step.false;
       known = c.path-known.ensures.known;
     } in
     let here : is_done (slice_get c.self.inside.live c.args.delivery.place) ≡ c.is_done.result =
@@ -40,7 +40,7 @@ put-requires c =
       round = c.self.invariant.0;
       run = ap status_in c.self.view_is ∙ c.requires.running;
       job = c.requires.job ∙ ap (λ (x : RoundValue). x.job) (sym c.self.view_is);
-      step = sym c.step.ensures ∙ c.if-step-self.false;
+      step = c.is_of_step.ensures.0 c.if-not-is_of_step.false;
       known = c.path-known.ensures.known;
     } in
     subst (λ p. p < length c.self.inside.live) (sym c.place-place.ensures) (met_below r c.args.delivery m)
@@ -52,7 +52,7 @@ invariant_of-self c =
       round = c.self.invariant.0;
       run = ap status_in c.self.view_is ∙ c.requires.running;
       job = c.requires.job ∙ ap (λ (x : RoundValue). x.job) (sym c.self.view_is);
-      step = sym c.step.ensures ∙ c.if-step-self.false;
+      step = c.is_of_step.ensures.0 c.if-not-is_of_step.false;
       known = c.path-known.ensures.known;
     } in
     let here : is_done (slice_get c.self.inside.live c.args.delivery.place) ≡ c.is_done.result =
@@ -72,7 +72,7 @@ overflow_sub-self c =
       round = c.self.invariant.0;
       run = ap status_in c.self.view_is ∙ c.requires.running;
       job = c.requires.job ∙ ap (λ (x : RoundValue). x.job) (sym c.self.view_is);
-      step = sym c.step.ensures ∙ c.if-step-self.false;
+      step = c.is_of_step.ensures.0 c.if-not-is_of_step.false;
       known = c.path-known.ensures.known;
     } in
     let here : is_done (slice_get c.self.inside.live c.args.delivery.place) ≡ c.is_done.result =
@@ -87,7 +87,7 @@ returns-clause-taken c =
       round = c.self.invariant.0;
       run = ap status_in c.self.view_is ∙ c.requires.running;
       job = c.requires.job ∙ ap (λ (x : RoundValue). x.job) (sym c.self.view_is);
-      step = sym c.step.ensures ∙ c.if-step-self.false;
+      step = c.is_of_step.ensures.0 c.if-not-is_of_step.false;
       known = c.path-known.ensures.known;
     } in
     let here : is_done (slice_get c.self.inside.live c.args.delivery.place) ≡ c.is_done.result =
@@ -101,7 +101,7 @@ returns-clause-added c =
       round = c.self.invariant.0;
       run = ap status_in c.self.view_is ∙ c.requires.running;
       job = c.requires.job ∙ ap (λ (x : RoundValue). x.job) (sym c.self.view_is);
-      step = sym c.step.ensures ∙ c.if-step-self.false;
+      step = c.is_of_step.ensures.0 c.if-not-is_of_step.false;
       known = c.path-known.ensures.known;
     } in
     let put : c.put.new.self ≡ with_segment c.self.inside.live c.args.delivery.place c.args.delivery.segment =

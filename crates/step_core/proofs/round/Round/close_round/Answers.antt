@@ -8,18 +8,18 @@ use Rattle.step_core.specs.SlotValue.{SlotValue}
 use Rattle.step_core.specs.Slots.{slots_of, delivered, missing_in}
 use Rattle.step_core.specs.SlotParts.{path_in, living_in, fresh_slot, AllSmall}
 use Rattle.step_core.specs.RoundValue.{whole}
-use Rattle.step_core.proofs.Closed.{closes, faulted, ended_by_many, went_on, all_small, closed_now, found, many_outcome, few_outcome, next_count}
+use Rattle.step_core.proofs.Closed.{closes, faulted, ended_by_many, went_on, all_small, closed_now, ended_round, ended_now, found, many_outcome, few_outcome, next_count}
 use Rattle.step_core.proofs.Rounds.{all_missing}
 use Rattle.step_core.proofs.round.Round.close_round.Goals as goal
 
-pub invariant_of-self : goal.invariant_of-self
-invariant_of-self c =
+pub end-requires : goal.end-requires
+end-requires c =
     let r = (whole c.self.inside.job.now c.self.inside.limit c.self.inside.step (arc_value c.self.inside.opening) c.self.inside.live c.self.inside.finished.items c.self.inside.fault) in
     let ps = plans c.self.inside.job.now.bodies in
     let all = closes r _ c.self.invariant.0 c.self.view_is c.requires.running c.slots-slots.result c.slots-slots.ensures c.find_missing.result c.find_missing.ensures c.in_default.is in
     let some : first_fault (delivered (slots_of ps c.self.inside.live)) ≡ Some c.in-Some-find_fault.blame =
     found ps c.slots-slots.result c.self.inside.live c.find_fault.result (Some c.in-Some-find_fault.blame) (c.find_fault.ensures ps) c.slots-slots.ensures c.in-Some-find_fault.is in
-    ((faulted r all c.in-Some-find_fault.blame some).0, c.self.invariant.1)
+    record { round = ended_round r _ c.self.view_is c.in-Some-find_fault.blame (faulted r all c.in-Some-find_fault.blame some) }
 
 pub returns-in-Some-find_fault-clause-closed : goal.returns-in-Some-find_fault-clause-closed
 returns-in-Some-find_fault-clause-closed c =
@@ -28,10 +28,10 @@ returns-in-Some-find_fault-clause-closed c =
     let all = closes r _ c.self.invariant.0 c.self.view_is c.requires.running c.slots-slots.result c.slots-slots.ensures c.find_missing.result c.find_missing.ensures c.in_default.is in
     let some : first_fault (delivered (slots_of ps c.self.inside.live)) ≡ Some c.in-Some-find_fault.blame =
     found ps c.slots-slots.result c.self.inside.live c.find_fault.result (Some c.in-Some-find_fault.blame) (c.find_fault.ensures ps) c.slots-slots.ensures c.in-Some-find_fault.is in
-    closed_now _ _ _ c.self.view_is (faulted r all c.in-Some-find_fault.blame some)
+    ended_now r _ _ c.self.view_is c.in-Some-find_fault.blame (faulted r all c.in-Some-find_fault.blame some) c.end.ensures.ended
 
-pub invariant_of-self-then-count-gt4096 : goal.invariant_of-self-then-count-gt4096
-invariant_of-self-then-count-gt4096 c =
+pub end-requires-then-count-gt4096 : goal.end-requires-then-count-gt4096
+end-requires-then-count-gt4096 c =
     let r = (whole c.self.inside.job.now c.self.inside.limit c.self.inside.step (arc_value c.self.inside.opening) c.self.inside.live c.self.inside.finished.items c.self.inside.fault) in
     let ps = plans c.self.inside.job.now.bodies in
     let all = closes r _ c.self.invariant.0 c.self.view_is c.requires.running c.slots-slots.result c.slots-slots.ensures c.find_missing.result c.find_missing.ensures c.in_default.is in
@@ -41,7 +41,7 @@ invariant_of-self-then-count-gt4096 c =
     let count : length xs ≡ c.count_living-count.result =
     next_count c.self.inside.live c.count_living-count.result
     (c.count_living-count.ensures ∙ ap (λ (ss : List SlotValue). length (living_in ss)) c.slots-slots.ensures) in
-    ((ended_by_many r all none xs refl (omega (arith, count)) c.too_many.result c.too_many.ensures).0, c.self.invariant.1)
+    record { round = ended_round r _ c.self.view_is c.too_many.result (ended_by_many r all none xs refl (omega (arith, count)) c.too_many.result c.too_many.ensures) }
 
 pub returns-then-count-gt4096-clause-closed : goal.returns-then-count-gt4096-clause-closed
 returns-then-count-gt4096-clause-closed c =
@@ -54,7 +54,8 @@ returns-then-count-gt4096-clause-closed c =
     let count : length xs ≡ c.count_living-count.result =
     next_count c.self.inside.live c.count_living-count.result
     (c.count_living-count.ensures ∙ ap (λ (ss : List SlotValue). length (living_in ss)) c.slots-slots.ensures) in
-    closed_now _ _ _ c.self.view_is (ended_by_many r all none xs refl (omega (arith, count)) c.too_many.result c.too_many.ensures)
+    ended_now r _ _ c.self.view_is c.too_many.result (ended_by_many r all none xs refl (omega (arith, count)) c.too_many.result c.too_many.ensures)
+    c.end-then-count-gt4096.ensures.ended
 
 pub returns-then-count-gt4096-clause-outcome : goal.returns-then-count-gt4096-clause-outcome
 returns-then-count-gt4096-clause-outcome c =
