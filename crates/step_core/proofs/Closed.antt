@@ -24,7 +24,7 @@ use Rattle.step_core.specs.SlotValue.{SlotValue}
 use Rattle.step_core.specs.FinishedValue.{FinishedValue}
 use Rattle.step_core.specs.Slots.{Slot, slot_of, slots_of, told_by, task_in, delivered, with_done, first_missing, or_missing, fresh, all_prints, all_told}
 use Rattle.step_core.specs.SlotParts.{path_in, path_of, living_in, fresh_slot, IsSmall, AllSmall}
-use Rattle.step_core.specs.RoundValue.{RoundValue, IsRound, Fits, AllFit, AllFresh, Opens, state_of, status_in, slots_in, whole}
+use Rattle.step_core.specs.RoundValue.{RoundValue, IsRound, Fits, AllFit, AllFresh, Opens, state_of, status_in, slots_in, whole, with_fault}
 use Rattle.step_core.proofs.Runs.{goes, no_fault}
 use Rattle.step_core.proofs.InOrder.{put_all_mapped, count_in_order}
 use Rattle.std.proofs.lemmas.List.{length-map}
@@ -230,6 +230,24 @@ none_found ps xs ss o h e n = ap (λ (ys : List SlotValue). first_missing (slots
 
 pub found : (ps : List Plan) (xs ss : List SlotValue) (o p : Option (ℕ × List ℕ)) → o ≡ first_fault (delivered (slots_of ps xs)) → xs ≡ ss → o ≡ p → first_fault (delivered (slots_of ps ss)) ≡ p
 found ps xs ss o p h e n = ap (λ (ys : List SlotValue). first_fault (delivered (slots_of ps ys))) (sym e) ∙ sym h ∙ n
+
+-- a round that a fault ended is a round
+pub ended_round : (r now : RoundValue) → r ≡ now → (f : ℕ × List ℕ) → IsClosed r (with_fault r f) → IsRound (with_fault now f)
+ended_round r now e f h = subst (λ x. IsRound (with_fault x f)) e h.0
+
+pub ended_now : (r now new : RoundValue) → r ≡ now → (f : ℕ × List ℕ) → IsClosed r (with_fault r f) → new ≡ with_fault now f → Opens new now.job now.limit (next_state now)
+ended_now r now new e f h n =
+    subst (λ (x : RoundValue). Opens x now.job now.limit (next_state now)) (sym n)
+    (subst (λ x. Opens (with_fault x f) x.job x.limit (next_state x)) e h.1)
+
+-- where no path was found to be missing, the round is to be closed
+pub closes : (r now : RoundValue) → IsRound r → r ≡ now → status_in now ≡ None → (ss : List SlotValue) → ss ≡ r.slots → (o : Option (SmallVec ℕ))
+    → ((ps : List Plan) → option_map path_of o ≡ first_missing (slots_of ps ss)) → o ≡ None → Closes r
+closes r now round is run ss e o h n = record {
+  round = round;
+  run = ap status_in is ∙ run;
+  all = none_found (plans r.job.bodies) ss r.slots o (h (plans r.job.bodies)) e n;
+}
 
 pub many_outcome : (r now : RoundValue) → r ≡ now → first_fault (deeds r) ≡ None → (xs : List SlotValue)
     → xs ≡ map fresh_slot (in_path_order path_in (living_in r.slots)) → 4096 < length xs → TooMany ≡ outcome_of (deeds now)

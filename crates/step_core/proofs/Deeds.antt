@@ -12,7 +12,7 @@ use Rattle.task_lang.specs.declared.task.After.TheVariants as after
 use Rattle.step_core.specs.Superstep.{log_of, synced, living_on}
 use Rattle.step_core.specs.SlotValue.{SlotValue}
 use Rattle.step_core.specs.Slots.{slots_of, delivered}
-use Rattle.step_core.specs.SlotParts.{puts_in, puts_of, living_of, living_in, synced_in, path_in}
+use Rattle.step_core.specs.SlotParts.{puts_in, puts_of, living_of, living_in, living_by, synced_in, path_in}
 
 -- one slot more has landed
 pub land_slot : (ps : List Plan) (s : SlotValue) (ss : List SlotValue) (a b : List (List ℕ × List ℤ)) → b ≡ written (puts_in s) a
@@ -31,9 +31,9 @@ pub land_next : (ps : List Plan) (rest : List SlotValue) (s : SlotValue) (ss : L
 land_next ps rest s ss a b all e w h =
     land_slot ps s ss a b w ∙ ap (λ (xs : List SlotValue). landed (joined (map log_of (delivered (slots_of ps xs)))) a) (sym e) ∙ h
 
-pub land_last : (ps : List Plan) (ss : List SlotValue) (a : List (List ℕ × List ℤ)) → length ss ≡ 0 → landed (joined (map log_of (delivered (slots_of ps ss)))) a ≡ a
+pub land_last : (ps : List Plan) (ss : List SlotValue) (a : List (List ℕ × List ℤ)) → ss ≡ [] → landed (joined (map log_of (delivered (slots_of ps ss)))) a ≡ a
 land_last ps [] a h = landed_none a
-land_last ps (s ∷ ss) a h = absurd (omega arith)
+land_last ps (s ∷ ss) a h = cc
 
 synced_mapped : (ps : List Plan) (a : code.After) → map (task_of ps) (synced_in a) ≡ synced (after_of ps a)
 synced_mapped ps (after.Synced t) = refl
@@ -56,12 +56,12 @@ living_mapped ps (s ∷ ss) = map_append (task_of ps) (living_of s.done) (living
         (λ i. (map_append (task_of ps) (synced_in g.after) g.spawns i) ++ h i)
         ∙ ap (λ (xs : List Task). (xs ++ map (task_of ps) g.spawns) ++ living_on (delivered (slots_of ps ss))) (synced_mapped ps g.after)
 
-living_in_append : (xs ys : List SlotValue) → living_in (xs ++ ys) ≡ living_in xs ++ living_in ys
-living_in_append [] ys = refl
-living_in_append (x ∷ xs) ys = ap (λ (zs : List TaskValue). living_of x.done ++ zs) (living_in_append xs ys) ∙ sym (append_assoc (living_of x.done) (living_in xs) (living_in ys))
+living_by_append : (xs ys : List (Option SegmentValue)) → living_by (xs ++ ys) ≡ living_by xs ++ living_by ys
+living_by_append [] ys = refl
+living_by_append (x ∷ xs) ys = ap (λ (zs : List TaskValue). living_of x ++ zs) (living_by_append xs ys) ∙ sym (append_assoc (living_of x) (living_by xs) (living_by ys))
 
-pub living_last : (rest front : List SlotValue) (s : SlotValue) → rest ≡ front ++ s ∷ [] → living_in rest ≡ living_in front ++ living_of s.done
-living_last rest front s e = ap living_in e ∙ living_in_append front (s ∷ []) ∙ ap (λ (xs : List TaskValue). living_in front ++ xs) (append_nil (living_of s.done))
+pub living_last : (rest front : List (Option SegmentValue)) (d : Option SegmentValue) → rest ≡ front ++ d ∷ [] → living_by rest ≡ living_by front ++ living_of d
+living_last rest front d e = ap living_by e ∙ living_by_append front (d ∷ []) ∙ ap (λ (xs : List TaskValue). living_by front ++ xs) (append_nil (living_of d))
   where
     append_nil : (xs : List TaskValue) → xs ++ [] ≡ xs
     append_nil [] = refl

@@ -1,5 +1,6 @@
 pub mod InOrder
 pub mod Deeds
+pub mod Beside
 pub mod Runs
 pub mod Rounds
 pub mod Closed

@@ -1,9 +1,9 @@
 -- What a round's orders and deliveries are.
-use Rattle.std.proofs.Common.{◌≡◌, ℕ, zero, suc, ◌+◌, ◌≤◌, ◌<◌, true, false, List, [], ◌∷◌, map, length, Option, Some, None, slice_get, slice_set, drop, add-one, get_or, refl, sym, ap, ◌∙◌, subst, arith}
+use Rattle.std.proofs.Common.{◌≡◌, ℕ, zero, suc, ◌+◌, ◌≤◌, ◌<◌, true, false, List, [], ◌∷◌, map, length, Option, Some, None, slice_get, slice_set, drop, add-one, refl, sym, ap, ◌∙◌, subst, arith}
 use Rattle.std.specs.Prelude.{ℤ, is_some, ◌||◌}
 use Rattle.std.specs.Option.{option_map}
 use Rattle.std.specs.Str.{bytes_eq}
-use Rattle.step_core.specs.SlotParts.{IsPlaceOf, IsPath, slot_path, fresh_slot}
+use Rattle.step_core.specs.SlotParts.{IsPlaceOf, IsPath, path_in, fresh_slot}
 use Rattle.std.proofs.lemmas.List.{length-set}
 use Rattle.task_lang.specs.JobValue.{JobValue}
 use Rattle.task_lang.specs.TaskValue.{TaskValue}
@@ -14,7 +14,7 @@ use Rattle.step_core.specs.Program.{program_of}
 use Rattle.step_core.specs.Superstep.{State}
 use Rattle.step_core.specs.JobMeaning.{state_at, status}
 use Rattle.step_core.specs.SlotValue.{SlotValue}
-use Rattle.step_core.specs.Slots.{Slot, slot_of, slots_of, task_in, fresh, with_segment, missing_in, one_missing, first_missing, or_missing}
+use Rattle.step_core.specs.Slots.{slots_of, task_in, with_segment, missing_in, one_missing, first_missing, or_missing}
 use Rattle.step_core.specs.OrderValue.{order_value, IsOrder, deed_of, deed_at, DeliveryValue, IsDelivery}
 use Rattle.step_core.specs.Taking.{IsFor, IsOrdered, is_done, is_live, Takes, task_at}
 use Rattle.step_core.specs.Laws.{MissingTells, OrdersAreOwn}
@@ -98,39 +98,21 @@ taken r h run p s path g at d =
     let deed = delivered_is r h run p s path (meant (plans r.job.bodies) g) at d in
     kept r h p s g at (sym (ap (λ (x : List ℕ × Segment). x.1) deed))
 
-pub slot_at : (ss : List SlotValue) (p : ℕ) (s : SlotValue) → p < length ss → s ≡ get_or ss p s → slice_get ss p ≡ Some s
-slot_at [] p s lt e = absurd (omega arith)
-slot_at (x ∷ xs) zero s lt e = ap Some (sym e)
-slot_at (x ∷ xs) (suc p) s lt e = slot_at xs p s (omega arith) e
+-- a slot stands at each place
+pub some_there : (ss : List SlotValue) (p : ℕ) → p < length ss → (s : SlotValue) × (slice_get ss p ≡ Some s)
+some_there [] p lt = absurd (omega (arith, lt))
+some_there (x ∷ xs) zero lt = (x, refl)
+some_there (x ∷ xs) (suc p) lt = some_there xs p (omega (arith, lt))
 
-pub no_slot : (ss : List SlotValue) (p : ℕ) → length ss ≤ p → slice_get ss p ≡ None
-no_slot [] p le = refl
-no_slot (x ∷ xs) zero le = absurd (omega arith)
-no_slot (x ∷ xs) (suc p) le = no_slot xs p (omega arith)
-
--- a delivery of this job and step to a place
-pub record Brings (r : RoundValue) (job : JobValue) (step place q : ℕ) (path : List ℕ) (s w : SlotValue) (g : SegmentValue) : Type 0 where
-  pub round : IsRound r
-  pub run : status_in r ≡ None
-  pub same_job : job ≡ r.job
-  pub same_step : step ≡ r.step
-  pub same_place : place ≡ q
-  pub below : q < length r.slots
-  pub slot : s ≡ get_or r.slots q s
-  pub put : w ≡ record { task = s.task; done = Some g }
-  pub known : deed_at (program_of job) step place ≡ Some (path, meant (plans job.bodies) g)
+pub there_below : (ss : List SlotValue) (p : ℕ) (s : SlotValue) → slice_get ss p ≡ Some s → p < length ss
+there_below [] p s h = cc
+there_below (x ∷ xs) zero s h = omega arith
+there_below (x ∷ xs) (suc p) s h = let l = there_below xs p s h in omega (arith, l)
 
 pub here : (r : RoundValue) (job : JobValue) (step place q : ℕ) (path : List ℕ) (g : SegmentValue) → job ≡ r.job → step ≡ r.step → place ≡ q
     → deed_at (program_of job) step place ≡ Some (path, meant (plans job.bodies) g) → deed_at (program_of r.job) r.step q ≡ Some (path, meant (plans r.job.bodies) g)
 here r job step place q path g j s p k =
     sym (λ i. deed_at (program_of (j i)) (s i) (p i)) ∙ k ∙ ap (λ (x : JobValue). Some (path, meant (plans x.bodies) g)) j
-
-pub taken_at : (r : RoundValue) (job : JobValue) (step place q : ℕ) (path : List ℕ) (s w : SlotValue) (g : SegmentValue)
-    → Brings r job step place q path s w g → IsRound (with_slots r (slice_set r.slots q w))
-taken_at r job step place q path s w g b =
-    let at = slot_at r.slots q s b.below b.slot in
-    subst (λ x. IsRound (with_slots r (slice_set r.slots q x))) (sym b.put)
-    (taken r b.round b.run q s path g at (here r job step place q path g b.same_job b.same_step b.same_place b.known))
 
 -- the slot of its place is for its task
 pub for_task : (r : RoundValue) (job : JobValue) (step place q : ℕ) (path : List ℕ) (s : SlotValue) (g : SegmentValue) → IsRound r → status_in r ≡ None
@@ -138,45 +120,6 @@ pub for_task : (r : RoundValue) (job : JobValue) (step place q : ℕ) (path : Li
     → deed_at (program_of job) step place ≡ Some (path, meant (plans job.bodies) g) → s.task.path ≡ path
 for_task r job step place q path s g h run j e p at k =
     ap (λ (x : List ℕ × Segment). x.0) (delivered_is r h run q s path (meant (plans r.job.bodies) g) at (here r job step place q path g j e p k))
-
-pub is_taken : (ss : List SlotValue) (p : ℕ) (s w : SlotValue) (g : SegmentValue) → p < length ss → s ≡ get_or ss p s → w ≡ record { task = s.task; done = Some g } → slice_set ss p w ≡ with_segment ss p g
-is_taken ss p s w g lt e h = ap (slice_set ss p) h ∙ set_is_with ss p s g (slot_at ss p s lt e)
-
--- a delivery that meets a slot
-pub record Meets (r : RoundValue) (d : DeliveryValue) (q : ℕ) (s : SlotValue) : Type 0 where
-  pub round : IsRound r
-  pub run : status_in r ≡ None
-  pub job : d.job ≡ r.job
-  pub step : d.step ≡ r.step
-  pub place : d.place ≡ q
-  pub below : q < length r.slots
-  pub slot : s ≡ get_or r.slots q s
-  pub known : IsDelivery d
-
-slot_there : (r : RoundValue) (d : DeliveryValue) (q : ℕ) (s : SlotValue) → Meets r d q s → slice_get r.slots d.place ≡ Some s
-slot_there r d q s m = ap (slice_get r.slots) m.place ∙ slot_at r.slots q s m.below m.slot
-
-is_ordered : (r : RoundValue) (d : DeliveryValue) (q : ℕ) (s : SlotValue) → Meets r d q s → IsOrdered r d
-is_ordered r d q s m = (
-  m.job,
-  subst (IsFor d.path) (sym (slot_there r d q s m))
-      (for_task r d.job d.step d.place q d.path s d.segment m.round m.run m.job m.step m.place (slot_at r.slots q s m.below m.slot) m.known),
-)
-
-pub is_double : (r now : RoundValue) → r ≡ now → (d : DeliveryValue) (q : ℕ) (s : SlotValue) → Meets r d q s → is_some s.done ≡ true
-    → (d.step ≡ now.step) × IsOrdered now d × (is_done (slice_get now.slots d.place) ≡ true)
-is_double r now e d q s m t =
-    subst (λ (x : RoundValue). (d.step ≡ x.step) × IsOrdered x d × (is_done (slice_get x.slots d.place) ≡ true)) e
-    (m.step, is_ordered r d q s m, ap is_done (slot_there r d q s m) ∙ t)
-
-pub is_first : (r now : RoundValue) → r ≡ now → (d : DeliveryValue) (q : ℕ) (s : SlotValue) → Meets r d q s → is_some s.done ≡ false → Takes now d
-is_first r now e d q s m t =
-    subst (λ (x : RoundValue). Takes x d) e
-    record { step = m.step; ordered = is_ordered r d q s m; first = ap is_done (slot_there r d q s m) ∙ t }
-
-pub is_stranger : (now : RoundValue) (d : DeliveryValue) (slots : List SlotValue) → slots ≡ now.slots → (q : ℕ) → d.place ≡ q → length slots ≤ q → IsOrdered now d → ⊥
-is_stranger now d slots e q p le o =
-    subst (IsFor d.path) (ap (λ (ss : List SlotValue). slice_get ss d.place) (sym e) ∙ ap (slice_get slots) p ∙ no_slot slots q le) o.1
 
 -- the slot in front of what is left
 pub slot_left : (ss rest after : List SlotValue) (p : ℕ) (s : SlotValue) → rest ≡ drop p ss → rest ≡ s ∷ after → slice_get ss p ≡ Some s
@@ -197,15 +140,23 @@ rest_left ss rest after p s d e = by ss p (sym d ∙ e) ∙ ap (λ (k : ℕ). dr
     by (x ∷ xs) zero h = cc
     by (x ∷ xs) (suc p) h = by xs p h
 
+-- it is counted
+pub rest_below : (ss rest after : List SlotValue) (p : ℕ) (s : SlotValue) → rest ≡ s ∷ after → p + length rest ≡ length ss → p < length ss
+rest_below ss rest after p s e h = let l : length rest ≡ suc (length after) = ap length e in omega (arith, l, h)
+
+pub rest_count : (ss rest after : List SlotValue) (p : ℕ) (s : SlotValue) → rest ≡ s ∷ after → p + length rest ≡ length ss → (p + 1) + length after ≡ length ss
+rest_count ss rest after p s e h = let l : length rest ≡ suc (length after) = ap length e in omega (arith, l, h)
+
 pub is_place : (ss : List SlotValue) (path : List ℕ) (p : ℕ) (s : SlotValue) → p < length ss → slice_get ss p ≡ Some s → s.task.path ≡ path → IsPlaceOf ss path p
 is_place ss path p s lt at e = record { below = lt; path = subst (IsPath path) (sym at) e }
 
 pub live_left : (rest after : List SlotValue) (path : List ℕ) (s : SlotValue) → rest ≡ s ∷ after → bytes_eq s.task.path path ≡ false → is_live rest path ≡ is_live after path
 live_left rest after path s e h = ap (λ ss. is_live ss path) e ∙ ap (λ b. b || is_live after path) h
 
-pub slot_paths : (ps : List Plan) (ss : List SlotValue) → map slot_path ss ≡ map (λ (t : Task). t.path) (map task_in (slots_of ps ss))
-slot_paths ps [] = refl
-slot_paths ps (s ∷ ss) = ap (λ xs. s.task.path ∷ xs) (slot_paths ps ss)
+-- the paths of the live tasks
+pub paths_at : (ps : List Plan) (ss : List SlotValue) → map path_in (map task_at ss) ≡ map (λ (t : Task). t.path) (map task_in (slots_of ps ss))
+paths_at ps [] = refl
+paths_at ps (s ∷ ss) = ap (λ (xs : List (List ℕ)). s.task.path ∷ xs) (paths_at ps ss)
 
 -- a delivery leaves the tasks
 pub tasks_stay : (ps : List Plan) (ss : List SlotValue) (p : ℕ) (g : SegmentValue) → map task_in (slots_of ps (with_segment ss p g)) ≡ map task_in (slots_of ps ss)
@@ -225,43 +176,64 @@ place_there r h run p x d =
     by (s ∷ ss) zero h = omega arith
     by (s ∷ ss) (suc p) h = let l = by ss p h in omega (arith, l)
 
--- a task the fewer is missing
-pub one_fewer : (ss : List SlotValue) (p : ℕ) (s w : SlotValue) → slice_get ss p ≡ Some s → is_some s.done ≡ false → is_some w.done ≡ true
-    → missing_in (slice_set ss p w) + 1 ≡ missing_in ss
-one_fewer [] p s w at none some = cc
-one_fewer (x ∷ ss) zero s w at none some =
-    let k : x ≡ s = cc in
-    let a : one_missing w.done ≡ 0 = there w.done some in
-    let b : one_missing x.done ≡ 1 = ap (λ (y : SlotValue). one_missing y.done) k ∙ gone s.done none in
-    omega (arith, a, b)
-  where
-    there : (o : Option SegmentValue) → is_some o ≡ true → one_missing o ≡ 0
-    there None h = cc
-    there (Some g) h = refl
+-- a delivery of the round's job and step
+pub record Meets (r : RoundValue) (d : DeliveryValue) : Type 0 where
+  pub round : IsRound r
+  pub run : status_in r ≡ None
+  pub job : d.job ≡ r.job
+  pub step : d.step ≡ r.step
+  pub known : IsDelivery d
 
+met_deed : (r : RoundValue) (d : DeliveryValue) → Meets r d → deed_at (program_of r.job) r.step d.place ≡ Some (d.path, meant (plans r.job.bodies) d.segment)
+met_deed r d m = here r d.job d.step d.place d.place d.path d.segment m.job m.step refl m.known
+
+-- its place is one of the round's
+pub met_below : (r : RoundValue) (d : DeliveryValue) → Meets r d → d.place < length r.slots
+met_below r d m = place_there r m.round m.run d.place (d.path, meant (plans r.job.bodies) d.segment) (met_deed r d m)
+
+met_slot : (r : RoundValue) (d : DeliveryValue) → Meets r d → (s : SlotValue) × (slice_get r.slots d.place ≡ Some s)
+met_slot r d m = some_there r.slots d.place (met_below r d m)
+
+is_ordered : (r : RoundValue) (d : DeliveryValue) → Meets r d → IsOrdered r d
+is_ordered r d m =
+    let x = met_slot r d m in
+    (m.job, subst (IsFor d.path) (sym x.1) (for_task r d.job d.step d.place d.place d.path x.0 d.segment m.round m.run m.job m.step refl x.1 m.known))
+
+pub is_double : (r now : RoundValue) → r ≡ now → (d : DeliveryValue) → Meets r d → is_done (slice_get r.slots d.place) ≡ true
+    → (d.step ≡ now.step) × IsOrdered now d × (is_done (slice_get now.slots d.place) ≡ true)
+is_double r now e d m t =
+    subst (λ (x : RoundValue). (d.step ≡ x.step) × IsOrdered x d × (is_done (slice_get x.slots d.place) ≡ true)) e
+    (m.step, is_ordered r d m, t)
+
+pub is_first : (r now : RoundValue) → r ≡ now → (d : DeliveryValue) → Meets r d → is_done (slice_get r.slots d.place) ≡ false → Takes now d
+is_first r now e d m t =
+    subst (λ (x : RoundValue). Takes x d) e
+    record { step = m.step; ordered = is_ordered r d m; first = t }
+
+-- a round with it is a round
+pub met_kept : (r : RoundValue) (d : DeliveryValue) → Meets r d → IsRound (with_slots r (with_segment r.slots d.place d.segment))
+met_kept r d m =
+    let x = met_slot r d m in
+    subst (λ (ss : List SlotValue). IsRound (with_slots r ss)) (set_is_with r.slots d.place x.0 d.segment x.1)
+    (taken r m.round m.run d.place x.0 d.path d.segment x.1 (met_deed r d m))
+
+-- and a task the fewer is missing
+pub met_fewer : (r : RoundValue) (d : DeliveryValue) → Meets r d → is_done (slice_get r.slots d.place) ≡ false
+    → missing_in (with_segment r.slots d.place d.segment) + 1 ≡ missing_in r.slots
+met_fewer r d m f = by r.slots d.place (met_below r d m) f
+  where
     gone : (o : Option SegmentValue) → is_some o ≡ false → one_missing o ≡ 1
     gone None h = refl
     gone (Some g) h = cc
-one_fewer (x ∷ ss) (suc p) s w at none some = let l = one_fewer ss p s w at none some in omega (arith, l)
+
+    by : (ss : List SlotValue) (p : ℕ) → p < length ss → is_done (slice_get ss p) ≡ false → missing_in (with_segment ss p d.segment) + 1 ≡ missing_in ss
+    by [] p lt h = absurd (omega (arith, lt))
+    by (x ∷ ss) zero lt h = let k = gone x.done h in omega (arith, k)
+    by (x ∷ ss) (suc p) lt h = let l = by ss p (omega (arith, lt)) h in omega (arith, l)
 
 pub all_missing : (ts : List TaskValue) → missing_in (map fresh_slot ts) ≡ length ts
 all_missing [] = refl
 all_missing (t ∷ ts) = let l = all_missing ts in omega (arith, l)
-
--- slots of which none has a delivery
-pub fresh_missing : (ps : List Plan) (ss : List SlotValue) (ts : List Task) → slots_of ps ss ≡ map fresh ts → missing_in ss ≡ length ss
-fresh_missing ps [] ts h = refl
-fresh_missing ps (s ∷ ss) [] h = cc
-fresh_missing ps (s ∷ ss) (t ∷ ts) h =
-    let first : slot_of ps s ≡ fresh t = cc in
-    let rest : slots_of ps ss ≡ map fresh ts = cc in
-    let l = fresh_missing ps ss ts rest in
-    let k : one_missing s.done ≡ 1 = by s.done (ap (λ (x : Slot). x.done) first) in
-    omega (arith, l, k)
-  where
-    by : (o : Option SegmentValue) → option_map (meant ps) o ≡ None → one_missing o ≡ 1
-    by None e = refl
-    by (Some g) e = cc
 
 pub task_there : (ss : List SlotValue) (p : ℕ) (s : SlotValue) (t : TaskValue) → slice_get ss p ≡ Some s → t ≡ s.task → option_map task_at (slice_get ss p) ≡ Some t
 task_there ss p s t at e = ap (option_map task_at) at ∙ ap Some (sym e)

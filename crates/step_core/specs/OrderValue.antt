@@ -1,5 +1,5 @@
 -- What an order and a delivery are (own).
-use Rattle.std.specs.Prelude.{◌≡◌, ℕ, ℤ, Bool, true, false, List, Option, Some, None, slice_get, map}
+use Rattle.std.specs.Prelude.{◌≡◌, ℕ, ℤ, pos, Bool, true, false, List, [], Option, Some, None, slice_get, map}
 use Rattle.std.specs.Borrow.{Bor}
 use Rattle.task_lang.specs.JobValue.{JobValue}
 use Rattle.task_lang.specs.TaskValue.{TaskValue}
@@ -20,6 +20,15 @@ pub record OrderValue : Type 0 where
 
 abbrev pub order_value : JobValue → ℕ → ℕ → TaskValue → List (List ℕ × List ℤ) → OrderValue
 order_value job step place task arrays = record { job = job; step = step; place = place; task = task; arrays = arrays }
+
+-- the task that was found; where none was, one without a place in any job
+abbrev pub found_task : Option TaskValue → TaskValue
+found_task (Some t) = t
+found_task None = record { path = []; body = 0; place = 0; locals = []; arg = pos 0; spawned = 0 }
+
+-- for the task at this place among all live ones
+abbrev pub order_among : JobValue → ℕ → ℕ → List TaskValue → List (List ℕ × List ℤ) → OrderValue
+order_among job step place tasks arrays = order_value job step place (found_task (slice_get tasks place)) arrays
 
 -- its task, as the job means it
 abbrev pub ordered_task : OrderValue → Task

@@ -80,6 +80,10 @@ AllFresh (s ∷ ss) = (s.done ≡ None) × AllFresh ss
 abbrev pub with_slots : RoundValue → List SlotValue → RoundValue
 with_slots r slots = record r { slots = slots }
 
+-- a round whose job this fault has ended
+abbrev pub with_fault : RoundValue → ℕ × List ℕ → RoundValue
+with_fault r f = record r { fault = Some f }
+
 -- a round of this job with this limit, in this state; nothing was delivered, unless a fault has ended the job
 pub record Opens (r : RoundValue) (j : JobValue) (most : ℕ) (st : State) : Type 0 where
   pub job : r.job ≡ j

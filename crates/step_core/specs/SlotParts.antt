@@ -49,9 +49,6 @@ abbrev pub AllSmall : List SlotValue → Type 0
 AllSmall [] = Unit {0}
 AllSmall (s ∷ ss) = IsSmall s.done × AllSmall ss
 
-abbrev pub slot_path : SlotValue → List ℕ
-slot_path s = s.task.path
-
 abbrev pub IsPath : List ℕ → Option SlotValue → Type 0
 IsPath path None = ⊥
 IsPath path (Some s) = s.task.path ≡ path
@@ -60,3 +57,18 @@ IsPath path (Some s) = s.task.path ≡ path
 pub record IsPlaceOf (ss : List SlotValue) (p : List ℕ) (place : ℕ) : Type 0 where
   pub below : place < length ss
   pub path : IsPath p (slice_get ss place)
+
+-- tasks, each beside what was delivered for it, by place
+abbrev pub beside : List TaskValue → List (Option SegmentValue) → List SlotValue
+beside [] ds = []
+beside (t ∷ ts) [] = []
+beside (t ∷ ts) (d ∷ ds) = record { task = t; done = d } ∷ beside ts ds
+
+-- the tasks that live on behind what was delivered
+abbrev pub living_by : List (Option SegmentValue) → List TaskValue
+living_by [] = []
+living_by (d ∷ ds) = living_of d ++ living_by ds
+
+-- nothing was delivered for a task
+abbrev pub no_segment : TaskValue → Option SegmentValue
+no_segment t = None

@@ -44,8 +44,12 @@ struct Room {
     living: Vec<Task>,
 }
 
-// The tasks of the start lines.
-fn start_all(alloc: Global, bodies: &[Body], starts: &[Start]) -> Result<Vec<Task>, AllocError>
+/// The tasks of the start lines.
+pub(crate) fn start_all(
+    alloc: Global,
+    bodies: &[Body],
+    starts: &[Start],
+) -> Result<Vec<Task>, AllocError>
     requires { length starts.now ≤ 4096 }
     ensures { IfOk result (λ tasks. map (task_of (plans bodies.now)) tasks.items ≡ start_tasks (plans bodies.now) 0 starts.now) }
 {

@@ -7,7 +7,7 @@ ghost use Rattle.step_core.specs.Superstep.{first_fault, prints_of, print_of, re
 ghost use Rattle.step_core.specs.Slots.{slots_of, delivered, first_missing};
 ghost use Rattle.step_core.specs.SlotParts.{path_of, AllSmall};
 
-use crate::slot::{Blame, Slot, task_path};
+use crate::slot::{Blame, Slots, task_path};
 use phase_records::{PhaseRecord, Print};
 use smallvec::SmallVec;
 use std::alloc::{AllocError, Global};
@@ -17,10 +17,10 @@ use superstep_memory::path::Path;
 use task_lang::task::{After, Task};
 
 /// The first path for whose task nothing was delivered.
-pub(crate) fn find_missing(slots: &[Slot]) -> Option<Path>
+pub(crate) fn find_missing(slots: &Slots<'_>) -> Option<Path>
     ensures { (ps : List Plan) → option_map path_of result ≡ first_missing (slots_of ps slots.now) }
 {
-    let mut rest = slots;
+    let mut rest = slots.again();
     while let Some((slot, after)) = rest.split_first() {
         if !slot.is_done() {
             return Some(task_path(slot.task()));
@@ -31,10 +31,10 @@ pub(crate) fn find_missing(slots: &[Slot]) -> Option<Path>
 }
 
 /// The first fault, by path.
-pub(crate) fn find_fault(slots: &[Slot]) -> Option<Blame>
+pub(crate) fn find_fault(slots: &Slots<'_>) -> Option<Blame>
     ensures { (ps : List Plan) → result ≡ first_fault (delivered (slots_of ps slots.now)) }
 {
-    let mut rest = slots;
+    let mut rest = slots.again();
     while let Some((slot, after)) = rest.split_first() {
         if let Some(segment) = slot.done() {
             if let After::Fault(fault) = &segment.after {
@@ -83,12 +83,12 @@ pub(crate) fn push_prints(
 pub(crate) fn collect_prints(
     alloc: Global,
     step: u32,
-    slots: &[Slot],
+    slots: &Slots<'_>,
 ) -> Result<Vec<Print>, AllocError>
     ensures { IfOk result (λ prints. (ps : List Plan) → prints.items ≡ prints_of step (delivered (slots_of ps slots.now))) }
 {
     let mut prints = Vec::new(alloc);
-    let mut rest = slots;
+    let mut rest = slots.again();
     while let Some((slot, after)) = rest.split_first() {
         if let Some(segment) = slot.done() {
             push_prints(&mut prints, step, slot.task(), &segment.prints)?;
@@ -99,10 +99,10 @@ pub(crate) fn collect_prints(
 }
 
 /// Lands what was delivered.
-pub(crate) fn land_slots(arrays: &mut Arrays, slots: &[Slot])
+pub(crate) fn land_slots(arrays: &mut Arrays, slots: &Slots<'_>)
     ensures { (ps : List Plan) → arrays.new ≡ landed (joined (map log_of (delivered (slots_of ps slots.now)))) arrays.old }
 {
-    let mut rest = slots;
+    let mut rest = slots.again();
     while let Some((slot, after)) = rest.split_first() {
         slot.land(arrays);
         rest = after;
@@ -113,7 +113,7 @@ pub(crate) fn land_slots(arrays: &mut Arrays, slots: &[Slot])
 pub(crate) fn land_opening(
     alloc: Global,
     opening: &mut Arc<Arrays>,
-    slots: &[Slot],
+    slots: &Slots<'_>,
 ) -> Result<(), AllocError>
     ensures lands { OnOk result ((ps : List Plan)
         → arc_value opening.new ≡ landed (joined (map log_of (delivered (slots_of ps slots.now)))) (arc_value opening.old)) }
@@ -135,7 +135,7 @@ pub(crate) fn land_opening(
 }
 
 /// The record of a superstep.
-pub(crate) fn record_of(step: u32, slots: &[Slot]) -> PhaseRecord
+pub(crate) fn record_of(step: u32, slots: &Slots<'_>) -> PhaseRecord
     requires few { length slots.now ≤ 4096 }
     requires small { AllSmall slots.now }
     ensures { (ps : List Plan) → result ≡ record_of step (delivered (slots_of ps slots.now)) }
@@ -143,7 +143,7 @@ pub(crate) fn record_of(step: u32, slots: &[Slot]) -> PhaseRecord
     let mut count: u32 = 0;
     let mut left: u32 = 0;
     let mut spawned: u32 = 0;
-    let mut rest = slots;
+    let mut rest = slots.again();
     while let Some((slot, after)) = rest.split_first() {
         if let Some(segment) = slot.done() {
             count += 1;

@@ -6,6 +6,7 @@ mod closing;
 mod fault;
 mod in_place;
 pub mod laws;
+mod live;
 mod next;
 mod order;
 mod reading;

@@ -4,23 +4,23 @@ ghost use Rattle.std.specs.List.{insert};
 ghost use Rattle.std.specs.Vec.{vec_len, vec_capacity};
 ghost use Rattle.task_lang.specs.TaskValue.{TaskValue};
 ghost use Rattle.superstep_memory.specs.PathOrder.{put_in, put_all, in_path_order};
-ghost use Rattle.step_core.specs.SlotParts.{AllSmall, path_in, living_of, living_in, fresh_slot};
+ghost use Rattle.step_core.specs.SlotParts.{AllSmall, path_in, living_of, living_in, living_by, no_segment};
 ghost use Rattle.step_core.specs.InPlace.{kept, living_with};
 
 use crate::in_place::Deed;
-use crate::slot::Slot;
+use crate::slot::Slots;
 use std::alloc::AllocError;
 use superstep_memory::path::is_before;
 use task_lang::task::{After, Segment, Task};
 
 /// How many tasks live on.
-pub(crate) fn count_living(slots: &[Slot]) -> usize
+pub(crate) fn count_living(slots: &Slots<'_>) -> usize
     requires few { length slots.now ≤ 4096 }
     requires small { AllSmall slots.now }
     ensures { result ≡ length (living_in slots.now) }
 {
     let mut count = 0;
-    let mut rest = slots;
+    let mut rest = slots.again();
     while let Some((slot, after)) = rest.split_first() {
         count += slot.count_living();
         rest = after;
@@ -74,14 +74,14 @@ fn put_tasks(living: &mut Vec<Task>, tasks: Vec<Task>)
     }
 }
 
-// Puts the tasks that live on behind this slot in their places.
-fn put_slot(living: &mut Vec<Task>, slot: Slot)
-    requires room { vec_len living.old + length (living_of slot.done) ≤ vec_capacity living.old }
-    ensures items { living.new.items ≡ reverse (put_all path_in (living_of slot.done) (reverse living.old.items)) }
-    ensures more { vec_len living.new ≡ vec_len living.old + length (living_of slot.done) }
+// Puts the tasks that live on behind what was delivered for a task in their places.
+fn put_done(living: &mut Vec<Task>, done: Option<Segment>)
+    requires room { vec_len living.old + length (living_of done) ≤ vec_capacity living.old }
+    ensures items { living.new.items ≡ reverse (put_all path_in (living_of done) (reverse living.old.items)) }
+    ensures more { vec_len living.new ≡ vec_len living.old + length (living_of done) }
     ensures room { vec_capacity living.new ≡ vec_capacity living.old }
 {
-    let Some(segment) = slot.into_done() else {
+    let Some(segment) = done else {
         return;
     };
     let Segment {
@@ -97,46 +97,59 @@ fn put_slot(living: &mut Vec<Task>, slot: Slot)
 }
 
 // The tasks that live on, the last by path first.
-fn collect_living(slots: &mut Vec<Slot>, living: &mut Vec<Task>)
+fn collect_living(done: &mut Vec<Option<Segment>>, living: &mut Vec<Task>)
     requires none_yet { living.old.items ≡ [] }
-    requires room { length (living_in slots.old.items) ≤ vec_capacity living.old }
-    ensures { living.new.items ≡ reverse (in_path_order path_in (living_in slots.old.items)) }
+    requires room { length (living_by done.old.items) ≤ vec_capacity living.old }
+    ensures living { living.new.items ≡ reverse (in_path_order path_in (living_by done.old.items)) }
+    ensures done { done.new.items ≡ [] }
+    ensures room { vec_capacity done.new ≡ vec_capacity done.old }
 {
-    while let Some(slot) = slots.pop() {
-        put_slot(living, slot);
+    while let Some(one) = done.pop() {
+        put_done(living, one);
     }
 }
 
-/// Empties both, and makes room in them for so many tasks and as many slots.
+/// Empties the first, and makes room for so many in both.
 pub(crate) fn make_room(
     living: &mut Vec<Task>,
-    spare: &mut Vec<Slot>,
+    done: &mut Vec<Option<Segment>>,
     count: usize,
 ) -> Result<(), AllocError>
     ensures tasks { OnOk result ((living.new.items ≡ []) × (count ≤ vec_capacity living.new)) }
-    ensures slots { OnOk result ((spare.new.items ≡ []) × (count ≤ vec_capacity spare.new)) }
+    ensures places { OnOk result (count ≤ vec_capacity done.new) }
+    ensures same { done.new.items ≡ done.old.items }
 {
     living.clear();
-    spare.clear();
     living.reserve(count)?;
-    spare.reserve(count)?;
+    done.reserve(count.saturating_sub(done.len()))?;
     Ok(())
 }
 
-/// Puts slots for the next live tasks in place of those for the last ones. It takes no memory: there is room in the
-/// other two.
-pub(crate) fn go_on(slots: &mut Vec<Slot>, living: &mut Vec<Task>, spare: &mut Vec<Slot>)
-    requires no_task { living.old.items ≡ [] }
-    requires no_slot { spare.old.items ≡ [] }
-    requires room { length (living_in slots.old.items) ≤ vec_capacity living.old }
-    requires places { length (living_in slots.old.items) ≤ vec_capacity spare.old }
-    ensures { slots.new.items ≡ map fresh_slot (in_path_order path_in (living_in slots.old.items)) }
+/// Nothing was delivered for these tasks.
+pub(crate) fn set_undone(done: &mut Vec<Option<Segment>>, tasks: &[Task])
+    requires none_yet { done.old.items ≡ [] }
+    requires room { length tasks.now ≤ vec_capacity done.old }
+    ensures { done.new.items ≡ map no_segment tasks.now }
 {
-    collect_living(slots, living);
-    while let Some(task) = living.pop() {
-        spare.push_reserved(Slot::new(task));
+    let mut rest = tasks;
+    while let Some((_, after)) = rest.split_first() {
+        done.push_reserved(None);
+        rest = after;
     }
-    std::mem::swap(slots, spare);
+}
+
+/// Puts the next live tasks into a list, with nothing delivered for them. It takes no memory: there is room in the other two.
+pub(crate) fn go_on(done: &mut Vec<Option<Segment>>, living: &mut Vec<Task>, list: &mut Vec<Task>)
+    requires none_yet { living.old.items ≡ [] }
+    requires room { length (living_by done.old.items) ≤ vec_capacity living.old }
+    requires places { length (living_by done.old.items) ≤ vec_capacity done.old }
+    ensures tasks { list.new.items ≡ in_path_order path_in (living_by done.old.items) }
+    ensures none { done.new.items ≡ map no_segment list.new.items }
+{
+    collect_living(done, living);
+    living.reverse();
+    set_undone(done, living);
+    std::mem::swap(living, list);
 }
 
 // Puts a task, if it goes on, and those that it spawned in their places.

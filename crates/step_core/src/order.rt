@@ -15,25 +15,28 @@ use task_lang::segment::segment;
 use task_lang::task::{After, Segment, Task};
 
 /// What the segment of a live task needs: its job, its step, the task and the opening arrays. It is one of the
-/// job's supersteps. The arrays are shared among the orders of a superstep.
+/// job's supersteps. The tasks and the arrays are shared among the orders of a superstep.
 #[derive(Drop)]
 pub struct Order<'j> {
     job: &'j Job,
     superstep: u32,
     place: usize,
-    task: Task,
+    // All live tasks of the step; the order's is at its place.
+    tasks: Arc<Vec<Task>>,
     arrays: Arc<Arrays>,
 }
 
 impl<'j> Model for Order<'j> {
-    ghost use Rattle.step_core.specs.OrderValue.{OrderValue, order_value, IsOrder};
+    ghost use Rattle.std.specs.Prelude.{◌<◌, length};
+    ghost use Rattle.step_core.specs.OrderValue.{OrderValue, order_among, IsOrder};
     ghost use Rattle.std.specs.Arc.{arc_value};
 
     ghost Value = { OrderValue };
 
-    ghost view = { λ o. order_value o.job.now o.superstep o.place o.task (arc_value o.arrays) };
+    ghost view = { λ o. order_among o.job.now o.superstep o.place (arc_value o.tasks).items (arc_value o.arrays) };
 
-    ghost invariant = { λ o. IsOrder (order_value o.job.now o.superstep o.place o.task (arc_value o.arrays)) };
+    ghost invariant = { λ o. IsOrder (order_among o.job.now o.superstep o.place (arc_value o.tasks).items (arc_value o.arrays))
+        × (o.place < length (arc_value o.tasks).items) };
 }
 
 /// What the segment of an order did, for the round that gave it.
@@ -56,8 +59,8 @@ impl<'j> Model for Delivery<'j> {
     ghost invariant = { λ d. IsDeliveryInside d.job.now d.step d.place d.path.items d.segment };
 }
 
-// The paths of tasks.
-fn paths_of(alloc: Global, tasks: &[Task]) -> Result<Vec<Path>, AllocError>
+/// The paths of tasks.
+pub(crate) fn paths_of(alloc: Global, tasks: &[Task]) -> Result<Vec<Path>, AllocError>
     ensures { IfOk result (λ paths. map path_of paths.items ≡ map path_in tasks.now) }
 {
     let mut paths = Vec::new(alloc);
@@ -78,8 +81,8 @@ fn path_at(tasks: &[Task], place: usize) -> Option<&[u16]>
 }
 
 impl<'j> Order<'j> {
-    ghost use Rattle.std.specs.Prelude.{◌≡◌};
-    ghost use Rattle.step_core.specs.OrderValue.{order_value, IsOrder};
+    ghost use Rattle.std.specs.Prelude.{◌≡◌, ◌<◌, length};
+    ghost use Rattle.step_core.specs.OrderValue.{order_among, IsOrder};
     ghost use Rattle.std.specs.Arc.{arc_value};
 
     /// An order for the task of this place.
@@ -87,26 +90,34 @@ impl<'j> Order<'j> {
         job: &'j Job,
         step: u32,
         place: usize,
-        task: Task,
+        tasks: Arc<Vec<Task>>,
         arrays: Arc<Arrays>,
     ) -> Self
-        requires { IsOrder (order_value job.now step place task (arc_value arrays)) }
-        ensures { result ≡ order_value job.now step place task (arc_value arrays) }
+        requires order { IsOrder (order_among job.now step place (arc_value tasks).items (arc_value arrays)) }
+        requires place { place < length (arc_value tasks).items }
+        ensures { result ≡ order_among job.now step place (arc_value tasks).items (arc_value arrays) }
     {
         Order {
             job,
             superstep: step,
             place,
-            task,
+            tasks,
             arrays,
         }
+    }
+
+    // Its task.
+    fn task(&self) -> &Task
+        ensures { result.now ≡ self.now.task }
+    {
+        &self.tasks[self.place]
     }
 
     /// The path of its task. It takes no memory.
     pub fn path(&self) -> &[u16]
         ensures { result.now ≡ self.now.task.path }
     {
-        self.task.path.as_slice()
+        self.task().path.as_slice()
     }
 
     /// The superstep, from 0.
@@ -118,7 +129,7 @@ impl<'j> Order<'j> {
 }
 
 impl<'j> Delivery<'j> {
-    ghost use Rattle.std.specs.Prelude.{◌≡◌, IfOk, map, length, slice_get};
+    ghost use Rattle.std.specs.Prelude.{◌≡◌, ◌↔◌, IsTrue, IfOk, map, length, slice_get};
     ghost use Rattle.std.specs.Option.{option_map};
     ghost use Rattle.task_lang.specs.Meaning.{segment_of};
     ghost use Rattle.task_lang.specs.Views.{plans};
@@ -134,14 +145,9 @@ impl<'j> Delivery<'j> {
         ensures segment { IfOk result (λ d. delivered_segment d
             ≡ segment_of (plans order.entry.job.bodies) (ordered_task order.entry) order.entry.arrays order.entry.step) }
     {
-        let done = segment(
-            alloc,
-            order.job,
-            &order.task,
-            &order.arrays,
-            order.superstep,
-        )?;
-        let path = task_path(&order.task);
+        let task = order.task();
+        let done = segment(alloc, order.job, task, &order.arrays, order.superstep)?;
+        let path = task_path(task);
         Ok(Delivery {
             job: order.job,
             step: order.superstep,
@@ -196,10 +202,11 @@ impl<'j> Delivery<'j> {
         self.job
     }
 
-    pub(crate) fn step(&self) -> u32
-        ensures { result ≡ self.now.step }
+    /// Whether it is of this step.
+    pub(crate) fn is_of_step(&self, step: u32) -> bool
+        ensures { IsTrue result ↔ (self.now.step ≡ step) }
     {
-        self.step
+        self.step == step
     }
 
     pub(crate) fn place(&self) -> usize

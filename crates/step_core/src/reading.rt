@@ -2,53 +2,38 @@
 ghost use Rattle.std.specs.Prelude.{◌≡◌, ◌≤◌, ◌++◌, length, false, IfOk, OnOk, MatchOption, map};
 ghost use Rattle.std.specs.Arc.{arc_value};
 ghost use Rattle.step_core.specs.Slots.{all_prints, all_told};
-ghost use Rattle.step_core.specs.SlotParts.{path_of, slot_path, IsPlaceOf};
+ghost use Rattle.step_core.specs.SlotParts.{IsPlaceOf};
 ghost use Rattle.step_core.specs.Taking.{is_live};
 
-use crate::slot::{Finished, Slot, task_path};
+use crate::slot::{Finished, Slots};
 use phase_records::{PhaseRecord, Print};
 use smallvec::SmallVec;
 use std::alloc::{AllocError, Global};
 use std::sync::Arc;
 use superstep_memory::arrays::Arrays;
-use superstep_memory::path::{Path, is_before};
-
-/// The live paths, in order.
-pub(crate) fn paths_of(alloc: Global, slots: &[Slot]) -> Result<Vec<Path>, AllocError>
-    ensures { IfOk result (λ paths. map path_of paths.items ≡ map slot_path slots.now) }
-{
-    let mut paths = Vec::new(alloc);
-    let mut rest = slots;
-    while let Some((slot, after)) = rest.split_first() {
-        paths.push(task_path(slot.task()))?;
-        rest = after;
-    }
-    Ok(paths)
-}
+use superstep_memory::path::is_before;
 
 // Where a task of this path is, if paths rise.
-fn guess(slots: &[Slot], path: &[u16]) -> usize
-    ensures { result ≤ length slots.now }
-{
+fn guess(slots: &Slots<'_>, path: &[u16]) -> usize {
     let mut low = 0;
     let mut high = slots.len();
     while low < high {
         let middle = low + (high - low) / 2;
-        if is_before(slots[middle].task().path.as_slice(), path) {
-            low = middle + 1;
-        } else {
-            high = middle;
+        match slots.at(middle) {
+            Some(slot) if is_before(slot.task().path.as_slice(), path) => low = middle + 1,
+            _ => high = middle,
         }
     }
     low
 }
 
 // The place of the first task of this path.
-fn scan(slots: &[Slot], path: &[u16]) -> Option<usize>
+fn scan(slots: &Slots<'_>, path: &[u16]) -> Option<usize>
+    requires few { length slots.now ≤ 4096 }
     ensures { MatchOption result (is_live slots.now path.now ≡ false) (λ place. IsPlaceOf slots.now path.now place) }
 {
     let mut place = 0;
-    let mut rest = slots;
+    let mut rest = slots.again();
     while let Some((slot, after)) = rest.split_first() {
         if slot.is_of(path) {
             return Some(place);
@@ -61,12 +46,15 @@ fn scan(slots: &[Slot], path: &[u16]) -> Option<usize>
 
 /// The place of a task of this path. Live paths rise, so that halving finds it; the answer doesn't rest on that, since
 /// else all are looked at.
-pub(crate) fn find_place(slots: &[Slot], path: &[u16]) -> Option<usize>
+pub(crate) fn find_place(slots: &Slots<'_>, path: &[u16]) -> Option<usize>
+    requires few { length slots.now ≤ 4096 }
     ensures { MatchOption result (is_live slots.now path.now ≡ false) (λ place. IsPlaceOf slots.now path.now place) }
 {
     let near = guess(slots, path);
-    if near < slots.len() && slots[near].is_of(path) {
-        return Some(near);
+    if let Some(slot) = slots.at(near) {
+        if slot.is_of(path) {
+            return Some(near);
+        }
     }
     scan(slots, path)
 }

@@ -1,30 +1,19 @@
 //! The supersteps of a job, taken one by one.
-ghost use Rattle.std.specs.Prelude.{◌≡◌, ◌≤◌, ◌+◌, ◌++◌, ◌∷◌, [], List, IfOk, OnOk, OnErr, map, length};
-ghost use Rattle.std.specs.Arc.{arc_value};
-ghost use Rattle.superstep_memory.specs.Landing.{landed, joined};
-ghost use Rattle.task_lang.specs.Meaning.{Plan};
-ghost use Rattle.task_lang.specs.Views.{plans};
-ghost use Rattle.step_core.specs.JobMeaning.{start_tasks};
-ghost use Rattle.step_core.specs.Superstep.{log_of};
-ghost use Rattle.step_core.specs.Slots.{slots_of, delivered, fresh, told_by};
-ghost use Rattle.step_core.specs.SlotParts.{AllSmall};
-
-use crate::closing::{collect_prints, find_fault, find_missing, land_opening, record_of, too_many};
+use crate::alone::start_all;
+use crate::closing::{find_fault, find_missing, too_many};
 use crate::fault::{AcceptFault, CloseFault, Outcome};
-use crate::next::{count_living, go_on, make_room};
-use crate::order::{Delivery, Order};
-use crate::reading::{find_place, join_prints, own_arrays, paths_of, prints_of, records_of};
-use crate::slot::{Blame, Finished, Slot};
+use crate::live::Live;
+use crate::next::count_living;
+use crate::order::{Delivery, Order, paths_of};
+use crate::reading::{find_place, join_prints, own_arrays, prints_of, records_of};
+use crate::slot::{Blame, Finished};
 use phase_records::{JobStatus, Report};
-use smallvec::SmallVec;
 use std::alloc::{AllocError, Global};
 use std::marker::Model;
 use std::sync::Arc;
 use superstep_memory::arrays::Arrays;
 use superstep_memory::path::Path;
-use task_lang::body::Body;
-use task_lang::job::{Job, Start};
-use task_lang::task::Task;
+use task_lang::job::Job;
 
 /// The supersteps of a job so far, and what was delivered of the next. Its type keeps that its arrays, prints, records,
 /// live tasks and status are those of the job's supersteps so far, and that each delivery is the segment of its order.
@@ -34,14 +23,11 @@ pub struct Round<'j> {
     limit: u32,
     step: u32,
     opening: Arc<Arrays>,
-    slots: Vec<Slot>,
-    // How many of the slots have no delivery.
+    live: Live,
+    // For how many live tasks nothing was delivered.
     missing: usize,
     finished: Vec<Finished>,
     fault: Option<Blame>,
-    // Room for a closing, kept from one to the next. What stands in it means nothing.
-    living: Vec<Task>,
-    spare: Vec<Slot>,
 }
 
 impl<'j> Model for Round<'j> {
@@ -50,59 +36,13 @@ impl<'j> Model for Round<'j> {
 
     ghost Value = { RoundValue };
 
-    ghost view = { λ r. whole r.job.now r.limit r.step (arc_value r.opening) r.slots.items r.finished.items r.fault };
+    ghost view = { λ r. whole r.job.now r.limit r.step (arc_value r.opening) r.live r.finished.items r.fault };
 
     ghost use Rattle.std.specs.Prelude.{◌≡◌};
     ghost use Rattle.step_core.specs.Slots.{missing_in};
 
-    ghost invariant = { λ r. IsRound (whole r.job.now r.limit r.step (arc_value r.opening) r.slots.items r.finished.items r.fault)
-        × (r.missing ≡ missing_in r.slots.items) };
-}
-
-// Slots for the start lines.
-fn start_slots(alloc: Global, bodies: &[Body], starts: &[Start]) -> Result<Vec<Slot>, AllocError>
-    requires { length starts.now ≤ 4096 }
-    ensures slots { IfOk result (λ slots. slots_of (plans bodies.now) slots.items
-        ≡ map fresh (start_tasks (plans bodies.now) 0 starts.now)) }
-{
-    let mut slots = Vec::new(alloc);
-    let mut number: u16 = 0;
-    let mut rest = starts;
-    while let Some((start, after)) = rest.split_first() {
-        let path = SmallVec::from_slice(alloc, &[number])?;
-        let task = Task::start(alloc, bodies, path, start.body, start.arg)?;
-        slots.push(Slot::new(task))?;
-        number += 1;
-        rest = after;
-    }
-    Ok(slots)
-}
-
-// Lands what was delivered, and keeps what the superstep printed and its record. Without memory nothing changes.
-fn finish(
-    alloc: Global,
-    step: u32,
-    slots: &[Slot],
-    opening: &mut Arc<Arrays>,
-    finished: &mut Vec<Finished>,
-) -> Result<(), AllocError>
-    requires few { length slots.now ≤ 4096 }
-    requires small { AllSmall slots.now }
-    ensures lands { OnOk result ((ps : List Plan)
-        → arc_value opening.new ≡ landed (joined (map log_of (delivered (slots_of ps slots.now)))) (arc_value opening.old)) }
-    ensures tells { OnOk result ((ps : List Plan)
-        → finished.new.items ≡ finished.old.items ++ told_by step (delivered (slots_of ps slots.now)) ∷ []) }
-    ensures same_arrays { OnErr result (arc_value opening.new ≡ arc_value opening.old) }
-    ensures same_tales { OnErr result (finished.new.items ≡ finished.old.items) }
-{
-    let prints = collect_prints(alloc, step, slots)?;
-    let told = record_of(step, slots);
-    finished.reserve(1)?;
-    land_opening(alloc, opening, slots)?;
-    match finished.push(Finished { prints, told }) {
-        Ok(()) => Ok(()),
-        Err(_) => unreachable!(),
-    }
+    ghost invariant = { λ r. IsRound (whole r.job.now r.limit r.step (arc_value r.opening) r.live r.finished.items r.fault)
+        × (r.missing ≡ missing_in r.live) };
 }
 
 impl<'j> Round<'j> {
@@ -116,7 +56,7 @@ impl<'j> Round<'j> {
     ghost use Rattle.step_core.specs.Superstep.{superstep, live_paths};
     ghost use Rattle.step_core.specs.Slots.{delivered, first_missing, missing_in};
     ghost use Rattle.step_core.specs.SlotParts.{path_of, IsPlaceOf};
-    ghost use Rattle.step_core.specs.RoundValue.{IsRound, Opens, state_of, status_in, slots_in};
+    ghost use Rattle.step_core.specs.RoundValue.{IsRound, Opens, state_of, status_in, slots_in, with_fault};
     ghost use Rattle.step_core.specs.Taking.{Refuses, Takes, IsDouble, with_delivery, NotClosed, outcome_of, IsOrderOf, IsOrderAt, is_live, task_at};
 
     /// A round of this job with this limit of supersteps, before the first of them.
@@ -124,8 +64,9 @@ impl<'j> Round<'j> {
         requires { 1 ≤ limit }
         ensures { IfOk result (λ r. Opens r job.now limit (opening (program_of job.now))) }
     {
-        let slots = start_slots(alloc, job.bodies(), job.starts())?;
-        let missing = slots.len();
+        let tasks = start_all(alloc, job.bodies(), job.starts())?;
+        let missing = tasks.len();
+        let live = Live::new(alloc, tasks)?;
         let arrays = job.arrays().copy(alloc)?;
         match Arc::new(alloc, arrays) {
             Ok(opening) => Ok(Round {
@@ -133,12 +74,10 @@ impl<'j> Round<'j> {
                 limit,
                 step: 0,
                 opening,
-                slots,
+                live,
                 missing,
                 finished: Vec::new(alloc),
                 fault: None,
-                living: Vec::new(alloc),
-                spare: Vec::new(alloc),
             }),
             Err(_) => Err(AllocError),
         }
@@ -149,7 +88,7 @@ impl<'j> Round<'j> {
         ensures ended { result ≡ is_some (status_in self.now) }
         ensures round { IsRound self.now }
     {
-        self.fault.is_some() || self.slots.is_empty() || self.limit <= self.step
+        self.fault.is_some() || self.live.is_empty() || self.limit <= self.step
     }
 
     /// How the job has ended, if it has: by a fault, with no task left, or at the limit, looked at in this order. It takes
@@ -162,7 +101,7 @@ impl<'j> Round<'j> {
         if let Some(blame) = &self.fault {
             return Some(blame.status(self.step));
         }
-        if self.slots.is_empty() {
+        if self.live.is_empty() {
             return Some(JobStatus::Ended(self.step));
         }
         if self.limit <= self.step {
@@ -176,7 +115,8 @@ impl<'j> Round<'j> {
         ensures live { IfOk result (λ paths. map path_of paths.items ≡ live_paths (state_of self.now)) }
         ensures rising { is_rising (live_paths (state_of self.now)) ≡ true }
     {
-        let paths = paths_of(alloc, &self.slots)?;
+        let tasks = self.live.tasks()?;
+        let paths = paths_of(alloc, &tasks)?;
         Ok(paths)
     }
 
@@ -237,21 +177,21 @@ impl<'j> Round<'j> {
     }
 
     /// What the segment of the live task at this place needs.
-    pub(crate) fn order_at(&self, alloc: Global, place: usize) -> Result<Order<'j>, AllocError>
+    pub(crate) fn order_at(&self, place: usize) -> Result<Order<'j>, AllocError>
         requires running { status_in self.now ≡ None }
         requires place { place < length self.now.slots }
         ensures order { IfOk result (λ o. IsOrderAt self.now place o) }
         ensures path { IfOk result (λ o. IsPlaceOf self.now.slots o.task.path place) }
         ensures task { IfOk result (λ o. option_map task_at (slice_get self.now.slots place) ≡ Some o.task) }
     {
-        let task = self.slots[place].task().copy(alloc)?;
+        let tasks = self.live.tasks()?;
         let arrays = Arc::try_clone(&self.opening)?;
-        Ok(Order::new(self.job, self.step, place, task, arrays))
+        Ok(Order::new(self.job, self.step, place, tasks, arrays))
     }
 
     /// What the segment of the live task of this path needs, the opening arrays and the step included; `None` where no
     /// live task has it, and where the job has ended.
-    pub fn order(&self, alloc: Global, path: &[u16]) -> Result<Option<Order<'j>>, AllocError>
+    pub fn order(&self, _alloc: Global, path: &[u16]) -> Result<Option<Order<'j>>, AllocError>
         ensures { IfOk result (λ order. MatchOption order
             (status_in self.now ≡ None → is_live self.now.slots path.now ≡ false)
             (λ o. (status_in self.now ≡ None) × IsOrderOf self.now path.now o)) }
@@ -259,10 +199,10 @@ impl<'j> Round<'j> {
         if self.has_ended() {
             return Ok(None);
         }
-        match find_place(&self.slots, path) {
+        match find_place(&self.live.slots(), path) {
             None => Ok(None),
             Some(place) => {
-                let order = self.order_at(alloc, place)?;
+                let order = self.order_at(place)?;
                 Ok(Some(order))
             }
         }
@@ -277,7 +217,7 @@ impl<'j> Round<'j> {
         ensures refused { IfErr result (λ fault. Refuses fault self.old delivery.entry) }
         ensures unchanged { OnErr result (self.new ≡ self.old) }
     {
-        if self.step != delivery.step() {
+        if !delivery.is_of_step(self.step) {
             return Err(AcceptFault::WrongStep);
         }
         if !self.job.same_as(delivery.job()) {
@@ -305,18 +245,26 @@ impl<'j> Round<'j> {
         ensures own { delivery.entry.step ≡ self.old.step → IfErr result IsDouble }
         ensures unchanged { OnErr result (self.new ≡ self.old) }
     {
-        if delivery.step() != self.step {
+        if !delivery.is_of_step(self.step) {
             return Err(AcceptFault::WrongStep);
         }
         let place = delivery.place();
         let _known = delivery.path();
-        if self.slots[place].is_done() {
+        if self.live.is_done(place) {
             return Err(AcceptFault::Double);
         }
         let segment = delivery.into_segment();
-        self.slots[place].put(segment);
+        self.live.put(place, segment);
         self.missing -= 1;
         Ok(())
+    }
+
+    // Ends the job by this fault. The superstep leaves nothing else.
+    fn end(&mut self, blame: Blame)
+        requires round { IsRound (with_fault self.old blame) }
+        ensures ended { self.new ≡ with_fault self.old blame }
+    {
+        self.fault = Some(blame);
     }
 
     /// Takes one superstep, where each live task has its delivery, or refuses to and changes nothing. A task's fault, or
@@ -330,33 +278,30 @@ impl<'j> Round<'j> {
         ensures refused { IfErr result (λ fault. NotClosed fault self.old) }
         ensures unchanged { OnErr result (self.new ≡ self.old) }
     {
-        if let Some(path) = find_missing(&self.slots) {
+        let slots = self.live.slots();
+        if let Some(path) = find_missing(&slots) {
             return Err(CloseFault::Missing(path));
         }
-        if let Some(blame) = find_fault(&self.slots) {
-            self.fault = Some(blame);
+        if let Some(blame) = find_fault(&slots) {
+            self.end(blame);
             return Ok(Outcome::Faulted);
         }
-        let count = count_living(&self.slots);
+        let count = count_living(&slots);
         if count > 4096 {
-            self.fault = Some(too_many(alloc));
+            self.end(too_many(alloc));
             return Ok(Outcome::TooMany);
         }
-        if let Err(fault) = make_room(&mut self.living, &mut self.spare, count) {
-            return Err(CloseFault::Memory(fault));
-        }
-        let done = finish(
+        let taken = self.live.take_superstep(
             alloc,
             self.step,
-            &self.slots,
+            count,
             &mut self.opening,
             &mut self.finished,
         );
-        if let Err(fault) = done {
+        if let Err(fault) = taken {
             return Err(CloseFault::Memory(fault));
         }
-        go_on(&mut self.slots, &mut self.living, &mut self.spare);
-        self.missing = self.slots.len();
+        self.missing = count;
         self.step += 1;
         Ok(Outcome::Landed)
     }

@@ -1,4 +1,4 @@
-//! Live tasks with their deliveries, and what a superstep leaves.
+//! Live tasks with what was delivered for them, as they are lent, and what a superstep leaves.
 ghost use Rattle.std.specs.Prelude.{◌≡◌, ◌≤◌, length};
 
 use phase_records::{JobStatus, PhaseRecord, Print};
@@ -11,40 +11,95 @@ use task_lang::task::{After, Segment, Task};
 
 /// A live task, and its segment once it was delivered.
 #[derive(Drop)]
-pub(crate) struct Slot {
-    task: Task,
-    done: Option<Segment>,
+pub(crate) struct Slot<'a> {
+    task: &'a Task,
+    done: &'a Option<Segment>,
 }
 
-impl Model for Slot {
+impl<'a> Model for Slot<'a> {
     ghost use Rattle.step_core.specs.SlotValue.{SlotValue};
 
     ghost Value = { SlotValue };
 
-    ghost view = { λ s. record { task = s.task; done = s.done } };
+    ghost view = { λ s. record { task = s.task.now; done = s.done.now } };
 }
 
-impl Slot {
+/// Live tasks, each beside what was delivered for it.
+#[derive(Drop)]
+pub(crate) struct Slots<'a> {
+    tasks: &'a [Task],
+    done: &'a [Option<Segment>],
+}
+
+impl<'a> Model for Slots<'a> {
+    ghost use Rattle.std.specs.Prelude.{List};
+    ghost use Rattle.step_core.specs.SlotValue.{SlotValue};
+    ghost use Rattle.step_core.specs.SlotParts.{beside};
+
+    ghost Value = { List SlotValue };
+
+    ghost view = { λ s. beside s.tasks.now s.done.now };
+}
+
+impl<'a> Slots<'a> {
+    ghost use Rattle.std.specs.Prelude.{◌≡◌, ◌∷◌, [], Some, IfSome, MatchOption, slice_get};
+    ghost use Rattle.step_core.specs.SlotParts.{beside};
+
+    /// These tasks, each beside what was delivered for it, by place.
+    pub(crate) fn of(tasks: &'a [Task], done: &'a [Option<Segment>]) -> Self
+        ensures { result ≡ beside tasks.now done.now }
+    {
+        Slots { tasks, done }
+    }
+
+    /// The same once more.
+    pub(crate) fn again(&self) -> Self
+        ensures { result ≡ self.now }
+    {
+        Slots {
+            tasks: self.tasks,
+            done: self.done,
+        }
+    }
+
+    /// The first one, and those behind it.
+    pub(crate) fn split_first(&self) -> Option<(Slot<'a>, Slots<'a>)>
+        ensures { MatchOption result (self.now ≡ []) (λ split. self.now ≡ split.0 ∷ split.1) }
+    {
+        let (task, tasks) = self.tasks.split_first()?;
+        let (done, rest) = self.done.split_first()?;
+        Some((Slot { task, done }, Slots { tasks, done: rest }))
+    }
+
+    /// The one at this place, if there is one.
+    pub(crate) fn at(&self, place: usize) -> Option<Slot<'a>>
+        ensures { IfSome result (λ slot. slice_get self.now place ≡ Some slot) }
+    {
+        let task = self.tasks.get(place)?;
+        let done = self.done.get(place)?;
+        Some(Slot { task, done })
+    }
+
+    /// How many places there are to look at.
+    pub(crate) fn len(&self) -> usize {
+        self.tasks.len()
+    }
+}
+
+impl<'a> Slot<'a> {
     ghost use Rattle.std.specs.Prelude.{◌≡◌, is_some, Some, None, length};
     ghost use Rattle.std.specs.Option.{option_copied};
     ghost use Rattle.std.specs.Str.{bytes_eq};
     ghost use Rattle.superstep_memory.specs.Landing.{written};
     ghost use Rattle.step_core.specs.SlotParts.{puts_in, living_of, IsSmall};
 
-    /// A slot for this task.
-    pub(crate) fn new(task: Task) -> Self
-        ensures { result ≡ record { task = task; done = None } }
-    {
-        Slot { task, done: None }
-    }
-
-    pub(crate) fn task(&self) -> &Task
+    pub(crate) fn task(&self) -> &'a Task
         ensures { result.now ≡ self.now.task }
     {
-        &self.task
+        self.task
     }
 
-    pub(crate) fn done(&self) -> Option<&Segment>
+    pub(crate) fn done(&self) -> Option<&'a Segment>
         ensures { option_copied result ≡ self.now.done }
     {
         self.done.as_ref()
@@ -60,21 +115,8 @@ impl Slot {
     pub(crate) fn is_of(&self, path: &[u16]) -> bool
         ensures { result ≡ bytes_eq self.now.task.path path.now }
     {
-        self.task.path.as_slice() == path
-    }
-
-    /// Keeps what was delivered.
-    pub(crate) fn put(&mut self, segment: Segment)
-        ensures { self.new ≡ record { task = self.old.task; done = Some segment } }
-    {
-        self.done = Some(segment);
-    }
-
-    /// What was delivered.
-    pub(crate) fn into_done(self) -> Option<Segment>
-        ensures { result ≡ self.done }
-    {
-        self.done
+        let task = self.task;
+        task.path.as_slice() == path
     }
 
     /// How many tasks live on, as far as was delivered.
@@ -82,7 +124,7 @@ impl Slot {
         requires { IsSmall self.now.done }
         ensures { result ≡ length (living_of self.now.done) }
     {
-        match &self.done {
+        match self.done {
             None => 0,
             Some(segment) => match &segment.after {
                 After::Synced(_) => segment.spawns.len() + 1,
@@ -95,12 +137,11 @@ impl Slot {
     pub(crate) fn land(&self, arrays: &mut Arrays)
         ensures { arrays.new ≡ written (puts_in self.now) arrays.old }
     {
-        if let Some(segment) = &self.done {
+        if let Some(segment) = self.done {
             write_puts(arrays, &segment.puts);
         }
     }
 }
-
 /// A path of its own, like this one. It takes no memory.
 pub(crate) fn copy_path(path: &Path) -> Path
     requires { length path.now.items ≤ 8 }
