@@ -29,7 +29,7 @@ leader : (w : Shop) (is : IsShop w) (i : ℕ) → leads_in w i → is_leading (r
 leader w is i leads = sym (leads_is_due w.tree i (role_at is.roles i) (is.cast.plays i leads.0)) ∙ (known_due w.tree i leads.1).1
 
 -- no other owes anything
-alone : (s : State) (roles : List Role) (i j : ℕ) (home : ℕ) (trip : Trip) → IsCast s roles → i < length s.views → j < length s.views
+pub alone : (s : State) (roles : List Role) (i j : ℕ) (home : ℕ) (trip : Trip) → IsCast s roles → i < length s.views → j < length s.views
     → is_due (call_at s.calls i) ≡ true → j ≢ i → (role_at roles j ≡ Owes home trip) ⊎ (role_at roles j ≡ Leads home trip) → ⊥
 alone s roles i j home trip cast h k due n e =
     let owes = due_owes s.parents (call_at s.calls i) (view_at s.views i) due (cast.core.calls i h) in
@@ -97,7 +97,7 @@ leads_is home Arrival = refl
 leads_is home Departure = refl
 
 -- where own leads, of all that it may do
-leads_only : (home : ℕ) (trip : Trip) (own : Role) → IsOwnPassing home trip own → is_leading own ≡ true → own ≡ Leads home trip
+pub leads_only : (home : ℕ) (trip : Trip) (own : Role) → IsOwnPassing home trip own → is_leading own ≡ true → own ≡ Leads home trip
 leads_only home trip own f e = ⊎_elim (λ (q : own ≡ Here home). not_both (is_leading own) e (ap is_leading q))
     (λ q. ⊎_elim (λ (q : own ≡ Looks home trip). not_both (is_leading own) e (ap is_leading q))
     (λ q. ⊎_elim (λ (q : own ≡ Passes home trip). not_both (is_leading own) e (ap is_leading q))

@@ -1,0 +1,111 @@
+-- What a task is after an answer of a call, by its stage.
+use Rattle.std.proofs.Common.{◌≡◌, ◌≢◌, ℕ, zero, suc, ◌+◌, ◌<◌, ◌≤◌, ◌⊎◌, inl, inr, ⊎_elim, Bool, true, false, List, [], ◌∷◌, length, set, get_or, refl, sym, ◌∙◌, ap, subst, arith}
+use Rattle.std.specs.Prelude.{if◌then◌else◌, nat_lt}
+use Rattle.std.proofs.lemmas.Bool.{ltb-true, ltb-false, lt-ltb, cases_eq, cases_lt}
+use Rattle.std.proofs.lemmas.List.{get_or-set_same, get_or-set_other, length-set}
+use Rattle.tier_steps.specs.declared.view.Trip.{Trip}
+use Rattle.tier_steps.specs.declared.view.Trip.TheVariants.{Arrival, Departure}
+use Rattle.tier_core.specs.declared.call.Played.{Played}
+use Rattle.tier_core.specs.declared.call.Played.TheVariants.{GoesOn, Done, Passed, Waiting, Held, Full, AlreadyArrived, Ended, MustAdvance}
+use Rattle.tier_core.proofs.Turns.{not_both}
+use Rattle.job_seats.specs.Roles.{Role, Out, Joins, Seeks, Settles, GivesBack, Late, Polls, Ready, Here, Looks, Passes, Owes, Leads, Past, is_refused as turns_away}
+use Rattle.job_seats.specs.Cast.{Follows, is_leading, is_on_its_way}
+use Rattle.job_seats.specs.Shop.{IsOwnPassing, trip_if}
+use Rattle.job_schedule.specs.declared.stage.Stage.{Stage}
+use Rattle.job_schedule.specs.declared.stage.Stage.TheVariants.{Waits, Taken, Polling, Joining, Arriving, Leaving, Over}
+use Rattle.job_schedule.specs.SeatValue.{KidValue, SeatValue, no_kid, kid_at, is_done, is_refused, next_stage, sent_home, answered, arriving, joining}
+use Rattle.schedule_laws.specs.Working.{ComesTo, ArrivesAt}
+
+-- an answer that is done; that is refused; that is neither
+pub done_answer : (g : SeatValue) (a : Played) → is_done a ≡ true → answered g a ≡ record g { stage = next_stage g.stage (length g.kids) }
+done_answer g a e = ap (λ (b : Bool). if b then record g { stage = next_stage g.stage (length g.kids) } else (if is_refused a then sent_home g g.stage else g)) e
+
+refusals : (a : Played) → turns_away a ≡ true → (is_done a ≡ false) × (is_refused a ≡ true)
+refusals GoesOn e = not_both false e refl
+refusals (Done phase) e = not_both false e refl
+refusals (Passed phase) e = not_both false e refl
+refusals Waiting e = not_both false e refl
+refusals (Held phase why) e = (refl, refl)
+refusals (Full parties) e = (refl, refl)
+refusals (AlreadyArrived phase) e = not_both false e refl
+refusals (Ended number) e = not_both false e refl
+refusals (MustAdvance phase parties) e = not_both false e refl
+
+pub refused_answer : (g : SeatValue) (a : Played) → turns_away a ≡ true → answered g a ≡ sent_home g g.stage
+refused_answer g a e =
+    let r = refusals a e in
+    ap (λ (b : Bool). if b then record g { stage = next_stage g.stage (length g.kids) } else (if is_refused a then sent_home g g.stage else g)) r.0
+    ∙ ap (λ (b : Bool). if b then sent_home g g.stage else g) r.1
+
+-- what follows a step, by the role that took it
+
+pub poll_next : (now home : ℕ) (a : Played) (next : Role) → Follows now (Polls home) a next
+    → ((a ≡ GoesOn) × (next ≡ Polls home)) ⊎ ((is_done a ≡ true) × (next ≡ Here home))
+poll_next now home a next f = ⊎_elim (λ q. inl q) (λ q. inr (⊎_elim (λ e. ap is_done e) (λ e. ap is_done e) q.0, q.1)) f
+
+abbrev pub IsJoining : ℕ → Role → Type 0
+IsJoining home r = (r ≡ Joins home) ⊎ ((claimed : ℕ) × (r ≡ Seeks home claimed)) ⊎ (r ≡ Settles home) ⊎ (r ≡ GivesBack)
+
+pub joining_goes : (home : ℕ) (r : Role) → IsJoining home r → is_on_its_way r ≡ true
+joining_goes home r is = ⊎_elim (λ q. ap is_on_its_way q) (λ q. ⊎_elim (λ q. ap is_on_its_way q.1) (λ q. ⊎_elim (λ q. ap is_on_its_way q) (λ q. ap is_on_its_way q) q) q) is
+
+abbrev pub JoinEnds : ℕ → Played → Role → Type 0
+JoinEnds home a next = ((is_done a ≡ true) × (next ≡ Ready home)) ⊎ ((turns_away a ≡ true) × (next ≡ Out)) ⊎ ((a ≡ GoesOn) × ComesTo home next)
+
+pub join_next : (now home : ℕ) (r : Role) (a : Played) (next : Role) → IsJoining home r → Follows now r a next → JoinEnds home a next
+join_next now home r a next is f = ⊎_elim
+    (λ (q : r ≡ Joins home). let g : Follows now (Joins home) a next = subst (λ (x : Role). Follows now x a next) q f in inr (inr (g.0, inr (inr (inl (0, g.1))))))
+    (λ q. ⊎_elim
+    (λ q. seeks q.0 (subst (λ (x : Role). Follows now x a next) q.1 f))
+    (λ q. ⊎_elim
+    (λ (q : r ≡ Settles home). let g : Follows now (Settles home) a next = subst (λ (x : Role). Follows now x a next) q f in
+    ⊎_elim (λ e. inl (ap is_done e.0, e.1)) (λ e. inr (inr (e.0, inr (inr (inr (inl e.1)))))) g)
+    (λ (q : r ≡ GivesBack). let g : Follows now GivesBack a next = subst (λ (x : Role). Follows now x a next) q f in
+    ⊎_elim (λ e. inr (inl e)) (λ e. inr (inr (e.0, inr (inr (inr (inr e.1)))))) g)
+    q) q) is
+  where
+    seeks : (claimed : ℕ) → Follows now (Seeks home claimed) a next → JoinEnds home a next
+    seeks claimed g = ⊎_elim (λ e. inl (ap is_done e.0, e.1))
+        (λ e. ⊎_elim (λ e. inr (inr (e.0, inr (inr (inr (inl e.1))))))
+        (λ e. ⊎_elim (λ e. inr (inr (e.0, inr (inr (inl (e.1.0, e.1.1))))))
+        (λ e. ⊎_elim (λ e. inr (inl e)) (λ e. inr (inr (e.0, inr (inr (inr (inr e.1)))))) e) e) e) g
+
+-- an arrival or a departure on its way
+abbrev pub IsPassing : ℕ → Trip → Role → Type 0
+IsPassing home trip r = (r ≡ Looks home trip) ⊎ (r ≡ Passes home trip) ⊎ (r ≡ Owes home trip)
+
+pub passing_goes : (home : ℕ) (trip : Trip) (r : Role) → IsPassing home trip r → is_on_its_way r ≡ true
+passing_goes home trip r is = ⊎_elim (λ q. ap is_on_its_way q) (λ q. ⊎_elim (λ q. ap is_on_its_way q) (λ q. ap is_on_its_way q) q) is
+
+abbrev pub goes_same : Played → Type 0
+goes_same a = (is_done a ≡ false) × (is_refused a ≡ false)
+
+pub kept_answer : (g : SeatValue) (a : Played) → goes_same a → answered g a ≡ g
+kept_answer g a e =
+    ap (λ (b : Bool). if b then record g { stage = next_stage g.stage (length g.kids) } else (if is_refused a then sent_home g g.stage else g)) e.0
+    ∙ ap (λ (b : Bool). if b then sent_home g g.stage else g) e.1
+
+goes_on_same : (a : Played) → a ≡ GoesOn → goes_same a
+goes_on_same a e = (ap is_done e, ap is_refused e)
+
+must_same : (a : Played) (phase parties : ℕ) → a ≡ MustAdvance phase parties → goes_same a
+must_same a phase parties e = (ap is_done e, ap is_refused e)
+
+abbrev pub PassEnds : ℕ → Trip → Played → Role → Type 0
+PassEnds home trip a next = ((is_done a ≡ true) × (next ≡ Past home trip)) ⊎ (goes_same a × (IsPassing home trip next ⊎ (next ≡ Leads home trip)))
+
+pub pass_next : (now home : ℕ) (trip : Trip) (r : Role) (a : Played) (next : Role) → IsPassing home trip r → Follows now r a next → PassEnds home trip a next
+pass_next now home trip r a next is f = ⊎_elim
+    (λ (q : r ≡ Looks home trip). let g : Follows now (Looks home trip) a next = subst (λ (x : Role). Follows now x a next) q f in
+    inr (goes_on_same a g.0, inl (inr (inl g.1))))
+    (λ q. ⊎_elim
+    (λ (q : r ≡ Passes home trip). let g : Follows now (Passes home trip) a next = subst (λ (x : Role). Follows now x a next) q f in
+    ⊎_elim (λ e. inr (goes_on_same a e.0, inl (inr (inl e.1)))) (λ e. ⊎_elim (λ e. inl (ap is_done e.0, e.1))
+    (λ e. ⊎_elim (λ e. inr (goes_on_same a e.0, inl (inr (inr e.1)))) (λ e. inr (must_same a now e.0.0 e.0.1, inr e.1)) e) e) g)
+    (λ (q : r ≡ Owes home trip). let g : Follows now (Owes home trip) a next = subst (λ (x : Role). Follows now x a next) q f in
+    ⊎_elim (λ e. inl (ap is_done e.0.1, e.1))
+    (λ e. ⊎_elim (λ e. inr (goes_on_same a e.0, inl (inr (inr e.1)))) (λ e. inr (must_same a e.0.1 e.0.0 e.0.2, inr e.1)) e) g)
+    q) is
+
+pub on_same : (a : Played) → a ≡ GoesOn → goes_same a
+on_same a e = goes_on_same a e

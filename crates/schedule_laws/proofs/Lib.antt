@@ -1,0 +1,12 @@
+pub mod Sharing
+pub mod Calling
+pub mod Turning
+pub mod Answering
+pub mod Staging
+pub mod Moving
+pub mod Delivering
+pub mod Advancing
+pub mod Renewing
+pub mod Keeping
+pub mod Opening
+pub mod Claiming

@@ -1,0 +1,244 @@
+-- Steps of calls in a superstep.
+use Rattle.std.proofs.Common.{◌≡◌, ◌≢◌, ℕ, zero, suc, ◌+◌, ◌<◌, ◌≤◌, ◌⊎◌, inl, inr, ⊎_elim, Bool, true, false, List, length, set, get_or, refl, sym, ◌∙◌, ap, subst, arith}
+use Rattle.std.specs.Prelude.{if◌then◌else◌, ◌&&◌}
+use Rattle.std.proofs.lemmas.Bool.{lt-ltb, cases_lt}
+use Rattle.std.proofs.lemmas.List.{get_or-set_same, get_or-set_other, length-set}
+use Rattle.tier_steps.specs.declared.view.Trip.{Trip}
+use Rattle.tier_steps.specs.declared.view.Trip.TheVariants.{Arrival, Departure}
+use Rattle.tier_core.specs.declared.call.Call.{Call}
+use Rattle.tier_core.specs.declared.call.Call.TheVariants as call
+use Rattle.tier_core.specs.declared.call.Played.{Played}
+use Rattle.tier_core.specs.declared.call.Answer.{Answer as TreeAnswer}
+use Rattle.tier_core.specs.declared.call.Step.TheVariants.{Begin, Go}
+use Rattle.tier_core.specs.Machine.{State as Tree, call_at, is_due}
+use Rattle.tier_core.specs.Run.{after, may_finish}
+use Rattle.tier_core.proofs.Turns.{not_both}
+use Rattle.tier_answers.specs.Frame.{flat_of}
+use Rattle.tier_answers.specs.Calls.{call_by}
+use Rattle.job_seats.specs.Roles.{Role, Out, Joins, Seeks, Settles, GivesBack, Late, Polls, Ready, Here, Looks, Passes, Owes, Leads, Past, Plays}
+use Rattle.job_seats.specs.Cast.{role_at, IsCast, is_awaited, is_leading, is_on_its_way}
+use Rattle.job_seats.specs.Shop.{IsOwnPassing, trip_if}
+use Rattle.job_seats.proofs.Playing.{nobody_leads, home_within, leads_is_due}
+use Rattle.job_schedule.specs.declared.stage.Stage.{Stage}
+use Rattle.job_schedule.specs.declared.stage.Stage.TheVariants.{Waits, Taken, Polling, Joining, Arriving, Leaving, Over}
+use Rattle.job_schedule.specs.declared.stage.Move.TheVariants.{Calls}
+use Rattle.job_schedule.specs.SeatValue.{KidValue, SeatValue, seat_at, kid_at, answered, is_done}
+use Rattle.job_schedule.specs.World.{World, with_seat, called_by, hand_after, done_by}
+use Rattle.schedule_laws.specs.Working.{ComesTo, ArrivesAt, SitsAt, Sits, of_seat, IsWorking}
+use Rattle.schedule_laws.proofs.Sharing.{one, own_in, kid_in, known_in, kid_not_own, kids_differ}
+use Rattle.schedule_laws.proofs.Calling.{two_steps, IsCalled, call_goes_on, call_begins}
+use Rattle.schedule_laws.proofs.Turning.{turn_works}
+use Rattle.schedule_laws.proofs.Answering.{poll_next, on_same, goes_same, IsJoining, joining_goes, join_next, IsPassing, passing_goes, pass_next, PassEnds}
+use Rattle.schedule_laws.proofs.Staging.{answer_count, after_poll, after_pass, after_join, after_arrival}
+
+abbrev pub is_ready : Stage → Bool
+is_ready Waits = true
+is_ready Taken = false
+is_ready Polling = false
+is_ready (Joining joined) = false
+is_ready (Arriving arrived) = false
+is_ready Leaving = false
+is_ready Over = false
+
+-- a task that isn't ready was taken
+pub was_taken : (parents : List ℕ) (w : World) (roles : List Role) (place : ℕ) → IsWorking parents w roles → place < length w.seats
+    → is_ready (seat_at w.seats place).stage ≡ false → place < w.taken
+was_taken parents w roles place is h e = ⊎_elim
+    (λ l. l)
+    (λ (l : w.taken ≤ place). not_both true refl (sym (ap is_ready (is.waits place l h)) ∙ e))
+    (cases_lt place w.taken)
+
+abbrev pub Works : List ℕ → World → Type 0
+Works parents v = (roles : List Role) × IsWorking parents v roles
+
+module _ (parents : List ℕ) (w : World) (roles : List Role) (worker place : ℕ) (is : IsWorking parents w roles) (h : place < length w.seats) where
+  call_works : (i : ℕ) (c : Call) (role next : Role) (a : Played) → is_ready (seat_at w.seats place).stage ≡ false
+      → 1 ≤ of_seat (one i) (seat_at w.seats place) → IsCalled w.tree roles i c role next a
+      → Sits (set roles i next) (length parents) (answered (seat_at w.seats place) a) → Works parents (done_by w worker (Calls place i c)).1
+  call_works i c role next a busy mine called sits =
+      let g' : SeatValue = answered (seat_at w.seats place) a in
+      let tree : Tree = after (after w.tree (Begin i c)) (Go i) in
+      let taken = was_taken parents w roles place is h busy in
+      let base = turn_works parents w roles (set roles i next) place i w.taken (answered (seat_at w.seats place) a)
+      (after (after w.tree (Begin i c)) (Go i)) (hand_after (answered (seat_at w.seats place) a).stage w.hands worker) is h
+      (λ q l. (λ e. absurd (omega arith), l))
+      (record {
+        mine = mine;
+        same = λ j n. get_or-set_other roles i j next Out n;
+        count = λ measure. answer_count measure (seat_at w.seats place) a;
+        sits = sits;
+      })
+      called.cast called.phase (two_steps w.tree (Begin i c) (Go i)) in (
+        set roles i next,
+        subst (λ (t : TreeAnswer). IsWorking parents (called_by w worker place (after (after w.tree (Begin i c)) (Go i)) t).1 (set roles i next))
+            (sym called.told) base,
+      )
+
+  -- tokens of the task, and their roles after a step
+  pub known : (i : ℕ) → 1 ≤ of_seat (one i) (seat_at w.seats place) → i < length w.tree.views
+  known i mine = known_in w.seats w.free (length w.tree.views) is.shared place i h mine
+
+  pub now_plays : (i : ℕ) (next : Role) → 1 ≤ of_seat (one i) (seat_at w.seats place) → role_at (set roles i next) i ≡ next
+  now_plays i next mine =
+      let a = known i mine in let b = is.cast.long in get_or-set_same roles i next Out (omega arith)
+
+  pub kids_stay : (next : Role) (k : ℕ) → k < length (seat_at w.seats place).kids
+      → role_at (set roles (seat_at w.seats place).token next) (kid_at (seat_at w.seats place).kids k).token
+      ≡ role_at roles (kid_at (seat_at w.seats place).kids k).token
+  kids_stay next k l =
+      get_or-set_other roles (seat_at w.seats place).token (kid_at (seat_at w.seats place).kids k).token next Out
+      (kid_not_own w.seats w.free (length w.tree.views) is.shared place k h l)
+
+  own_stays : (next : Role) (k : ℕ) → k < length (seat_at w.seats place).kids
+      → role_at (set roles (kid_at (seat_at w.seats place).kids k).token next) (seat_at w.seats place).token ≡ role_at roles (seat_at w.seats place).token
+  own_stays next k l =
+      get_or-set_other roles (kid_at (seat_at w.seats place).kids k).token (seat_at w.seats place).token next Out
+      (λ e. kid_not_own w.seats w.free (length w.tree.views) is.shared place k h l (sym e))
+
+  others_stay : (next : Role) (n k : ℕ) → n < length (seat_at w.seats place).kids → k < length (seat_at w.seats place).kids → k ≢ n
+      → role_at (set roles (kid_at (seat_at w.seats place).kids n).token next) (kid_at (seat_at w.seats place).kids k).token
+      ≡ role_at roles (kid_at (seat_at w.seats place).kids k).token
+  others_stay next n k l m o =
+      get_or-set_other roles (kid_at (seat_at w.seats place).kids n).token (kid_at (seat_at w.seats place).kids k).token next Out
+      (kids_differ w.seats w.free (length w.tree.views) is.shared place k n h m l o)
+
+  abbrev pub At : Stage → Type 0
+  At stage = SitsAt stage roles (length parents) (seat_at w.seats place).token (seat_at w.seats place).home (seat_at w.seats place).kids (seat_at w.seats place).synced
+
+  pub sits_at : (stage : Stage) → (seat_at w.seats place).stage ≡ stage → At stage
+  sits_at stage at = subst (λ (s : Stage). At s) at (is.sits place h)
+
+  -- its poll
+  pub polling_works : (seat_at w.seats place).stage ≡ Polling → Works parents (done_by w worker (Calls place (seat_at w.seats place).token call.Poll)).1
+  polling_works at =
+      let g : SeatValue = seat_at w.seats place in
+      let i : ℕ = (seat_at w.seats place).token in
+      let sits = sits_at Polling at in
+      let mine = own_in (seat_at w.seats place) in
+      let step : (next : Role) × ((a : Played) × IsCalled w.tree roles i call.Poll (Polls g.home) next a) = ⊎_elim
+      (λ (q : role_at roles i ≡ Late g.home). call_begins w.tree roles i call.Poll (Polls g.home) is.cast (known i mine) (inl (g.home, q, refl, refl)) refl)
+      (λ (q : role_at roles i ≡ Polls g.home). call_goes_on w.tree roles i call.Poll (Polls g.home) is.cast (known i mine) q refl)
+      sits.own in
+      let next = poll_next (flat_of w.tree).phase g.home step.1.0 step.0 step.1.1.follows in
+      call_works i call.Poll (Polls g.home) step.0 step.1.0 (ap is_ready at) mine step.1.1
+      (after_poll (seat_at w.seats place) roles (set roles i step.0) (length parents) step.0 step.1.0 (now_plays i step.0 mine) (kids_stay step.0) at sits
+      (⊎_elim (λ q. inl (on_same step.1.0 q.0, q.1)) (λ q. inr q) next))
+
+  -- a join of a spawned task's token
+  own_tier : role_at roles (seat_at w.seats place).token ≡ Here (seat_at w.seats place).home → (seat_at w.seats place).home < length parents
+  own_tier e =
+      let i : ℕ = (seat_at w.seats place).token in
+      let p : Plays w.tree i (Here (seat_at w.seats place).home) = subst (λ (r : Role). Plays w.tree i r) e (is.cast.plays i (known i (own_in (seat_at w.seats place)))) in
+      let a = home_within w.tree i (seat_at w.seats place).home is.cast.core p.0.ready.late in
+      let b : length w.tree.words ≡ length w.tree.parents = is.cast.core.tally.long in
+      let c : length w.tree.parents ≡ length parents = ap length is.built.shape in omega arith
+
+  pub joining_works : (n : ℕ) → (seat_at w.seats place).stage ≡ Joining n
+      → Works parents (done_by w worker (Calls place (kid_at (seat_at w.seats place).kids n).token (call.Join (kid_at (seat_at w.seats place).kids n).home 1))).1
+  joining_works n at =
+      let g : SeatValue = seat_at w.seats place in
+      let k : KidValue = kid_at (seat_at w.seats place).kids n in
+      let c : Call = call.Join (kid_at (seat_at w.seats place).kids n).home 1 in
+      let sits = sits_at (Joining n) at in
+      let turn : n < length g.kids = sits.turn in
+      let mine = kid_in (seat_at w.seats place) n turn in
+      let there : k.home < length w.tree.parents = (let a = sits.homes n turn in let b : length w.tree.parents ≡ length parents = ap length is.built.shape in omega arith) in
+      let step : (role : Role) × (IsJoining k.home role × ((next : Role) × ((a : Played) × IsCalled w.tree roles k.token c role next a))) =
+      on_way k.token k.home (known k.token mine) there ((sits.each n turn).1 refl) in
+      let next : Role = step.1.1.0 in
+      let a : Played = step.1.1.1.0 in
+      let called = step.1.1.1.1 in
+      call_works k.token c step.0 step.1.1.0 step.1.1.1.0 (ap is_ready at) mine called
+      (after_join (seat_at w.seats place) roles (set roles k.token step.1.1.0) (length parents) n step.1.1.0 step.1.1.1.0 (own_stays step.1.1.0 n turn)
+      (now_plays k.token step.1.1.0 mine) (λ j l o. others_stay step.1.1.0 n j turn l o) at sits (own_tier sits.own)
+      (join_next (flat_of w.tree).phase k.home step.0 step.1.1.1.0 step.1.1.0 step.1.0 called.follows))
+    where
+      on_way : (i home : ℕ) → i < length w.tree.views → home < length w.tree.parents → ComesTo home (role_at roles i)
+          → (role : Role) × (IsJoining home role × ((next : Role) × ((a : Played) × IsCalled w.tree roles i (call.Join home 1) role next a)))
+      on_way i home m there f = ⊎_elim
+          (λ (q : role_at roles i ≡ Out). (
+            Joins home,
+            (inl refl, call_begins w.tree roles i (call.Join home 1) (Joins home) is.cast m (inr (inr (home, there, q, refl, refl))) refl),
+          ))
+          (λ (q : IsJoining home (role_at roles i)). (
+            role_at roles i,
+            (q, call_goes_on w.tree roles i (call.Join home 1) (role_at roles i) is.cast m refl (joining_goes home (role_at roles i) q)),
+          ))
+          f
+
+  -- a token on its trip begins it, or is on its way
+  passing : (i home : ℕ) (trip : Trip) → i < length w.tree.views
+      → ((role_at roles i ≡ Here home) ⊎ (role_at roles i ≡ Ready home)) ⊎ IsPassing home trip (role_at roles i)
+      → (role : Role) × (IsPassing home trip role × ((next : Role) × ((a : Played) × IsCalled w.tree roles i (call_by trip) role next a)))
+  passing i home trip m f = ⊎_elim
+      (λ q. (
+        Looks home trip,
+        (inl refl, call_begins w.tree roles i (call_by trip) (Looks home trip) is.cast m (inr (inl (home, trip, q, refl, refl))) refl),
+      ))
+      (λ (q : IsPassing home trip (role_at roles i)). (
+        role_at roles i,
+        (q, call_goes_on w.tree roles i (call_by trip) (role_at roles i) is.cast m refl (passing_goes home trip (role_at roles i) q)),
+      ))
+      f
+
+  -- an arrival of a spawned task's token: while its spawner is awaited it never has to advance the root
+  pub arriving_works : (n : ℕ) → (seat_at w.seats place).stage ≡ Arriving n
+      → Works parents (done_by w worker (Calls place (kid_at (seat_at w.seats place).kids n).token call.Arrive)).1
+  arriving_works n at =
+      let g : SeatValue = seat_at w.seats place in
+      let k : KidValue = kid_at (seat_at w.seats place).kids n in
+      let sits = sits_at (Arriving n) at in
+      let turn : n < length g.kids = sits.turn in
+      let mine = kid_in (seat_at w.seats place) n turn in
+      let way : ArrivesAt k.home (role_at roles k.token) = (sits.each n turn).1 refl in
+      let step = passing k.token k.home Arrival (known k.token mine) (⊎_elim (λ q. inl (inr q)) (λ q. inr q) way) in
+      let called = step.1.1.1.1 in
+      call_works k.token call.Arrive step.0 step.1.1.0 step.1.1.1.0 (ap is_ready at) mine called
+      (after_arrival (seat_at w.seats place) roles (set roles k.token step.1.1.0) (length parents) n step.1.1.0 step.1.1.1.0 (own_stays step.1.1.0 n turn)
+      (now_plays k.token step.1.1.0 mine) (λ j l o. others_stay step.1.1.0 n j turn l o) at sits
+      (⊎_elim (λ q. inl q)
+      (λ q. inr (
+        q.0,
+        ⊎_elim (λ p. inr p) (λ (p : step.1.1.0 ≡ Leads k.home Arrival).
+            not_both (is_leading step.1.1.0) (ap is_leading p)
+            (leads_not n step.1.1.0 (after (after w.tree (Begin k.token call.Arrive)) (Go k.token)) turn called.cast (two_steps w.tree (Begin k.token call.Arrive) (Go k.token)).tokens sits.own)) q.1,
+      ))
+      (pass_next (flat_of w.tree).phase k.home Arrival step.0 step.1.1.1.0 step.1.1.0 step.1.0 called.follows)))
+    where
+      leads_not : (n : ℕ) (next : Role) (tree : Tree) → n < length (seat_at w.seats place).kids
+          → IsCast tree (set roles (kid_at (seat_at w.seats place).kids n).token next) → length tree.views ≡ length w.tree.views
+          → role_at roles (seat_at w.seats place).token ≡ Here (seat_at w.seats place).home → is_leading next ≡ false
+      leads_not n next tree turn cast same own =
+          let i : ℕ = (kid_at (seat_at w.seats place).kids n).token in
+          let mine = kid_in (seat_at w.seats place) n turn in
+          let a = known i mine in let b = known (seat_at w.seats place).token (own_in (seat_at w.seats place)) in
+          ap is_leading (sym (now_plays i next mine))
+          ∙ nobody_leads tree (set roles (kid_at (seat_at w.seats place).kids n).token next) (seat_at w.seats place).token i cast (omega arith) (omega arith)
+          (ap is_awaited (own_stays next n turn ∙ own))
+
+  -- its own arrival or departure, until it has to advance the root
+  pub leaving_works : (seat_at w.seats place).stage ≡ Leaving → may_finish w.tree (seat_at w.seats place).token ≡ false
+      → Works parents (done_by w worker (Calls place (seat_at w.seats place).token (if (seat_at w.seats place).synced then call.Arrive else call.Leave))).1
+  leaving_works at due =
+      let g : SeatValue = seat_at w.seats place in
+      let i : ℕ = (seat_at w.seats place).token in
+      let trip : Trip = trip_if (seat_at w.seats place).synced in
+      let sits = sits_at Leaving at in
+      let mine = own_in (seat_at w.seats place) in
+      let step = passing i g.home (trip_if (seat_at w.seats place).synced) (known i mine) (⊎_elim (λ q. inl (inl q))
+      (λ q. ⊎_elim (λ q. inr (inl q)) (λ q. ⊎_elim (λ q. inr (inr (inl q))) (λ q. ⊎_elim (λ q. inr (inr (inr q)))
+      (λ q. not_both (may_finish w.tree i) (must i (known i mine) (ap is_leading q)) due) q) q) q) sits.own) in
+      let called = step.1.1.1.1 in
+      subst (λ (c : Call). Works parents (done_by w worker (Calls place i c)).1) (sym (trip_call (seat_at w.seats place).synced))
+      (call_works i (call_by (trip_if (seat_at w.seats place).synced)) step.0 step.1.1.0 step.1.1.1.0 (ap is_ready at) mine called
+      (after_pass (seat_at w.seats place) roles (set roles i step.1.1.0) (length parents) step.1.1.0 step.1.1.1.0 (now_plays i step.1.1.0 mine) (kids_stay step.1.1.0) at sits
+      (pass_next (flat_of w.tree).phase g.home (trip_if (seat_at w.seats place).synced) step.0 step.1.1.1.0 step.1.1.0 step.1.0 called.follows)))
+    where
+      trip_call : (b : Bool) → (if b then call.Arrive else call.Leave) ≡ call_by (trip_if b)
+      trip_call true = refl
+      trip_call false = refl
+
+      must : (i : ℕ) → i < length w.tree.views → is_leading (role_at roles i) ≡ true → may_finish w.tree i ≡ true
+      must i m e =
+          ap (λ (b : Bool). b && is_due (call_at w.tree.calls i)) (lt-ltb i (length w.tree.views) m)
+          ∙ (leads_is_due w.tree i (role_at roles i) (is.cast.plays i m) ∙ e)

@@ -1,0 +1,119 @@
+-- Each token has one holder.
+use Rattle.std.proofs.Common.{◌≡◌, ◌≢◌, ℕ, zero, suc, ◌+◌, ◌<◌, ◌≤◌, ⊎_elim, Bool, true, false, cond, eqb, List, [], ◌∷◌, ◌++◌, length, set, get_or, map, refl, sym, ◌∙◌, ap, subst, arith}
+use Rattle.std.specs.Prelude.{sum_by}
+use Rattle.std.specs.List.{AllByRecursion}
+use Rattle.std.proofs.lemmas.Bool.{eq-eqb, eqb-true, cases_eq, cases_lt}
+use Rattle.std.proofs.lemmas.List.Sums.{sum_by-cons}
+use Rattle.job_schedule.specs.SeatValue.{KidValue, SeatValue, no_seat, no_kid, seat_at, kid_at}
+use Rattle.schedule_laws.specs.Working.{of_seat, of_all, AreShared}
+
+-- the measure of one token alone
+abbrev pub one : ℕ → ℕ → ℕ
+one i t = cond (eqb t i) 1 0
+
+pub one_itself : (i : ℕ) → one i i ≡ 1
+one_itself i = ap (λ b. cond b 1 0) (eq-eqb i i refl)
+
+pub one_is : (i t : ℕ) → t ≡ i → one i t ≡ 1
+one_is i t e = ap (λ b. cond b 1 0) (eq-eqb t i e)
+
+none_of : (i t : ℕ) → one i t ≡ 0 → t ≢ i
+none_of i t z e = let a = one_is i t e in absurd (omega arith)
+
+other_one : (i t : ℕ) → t ≢ i → one i t ≡ 0
+other_one i t n = by (eqb t i) refl
+  where
+    by : (b : Bool) → eqb t i ≡ b → cond {A = ℕ} b 1 0 ≡ 0
+    by true e = absurd (n (eqb-true t i e))
+    by false e = refl
+
+-- of so many tokens it is at most one, and none behind the last
+behind_all : (n i : ℕ) → n ≤ i → of_all n (one i) ≡ 0
+behind_all zero i h = refl
+behind_all (suc n) i h = let a = behind_all n i (omega arith) in let b = other_one i n (λ e. absurd (omega arith)) in omega arith
+
+pub at_most_one : (n i : ℕ) → of_all n (one i) ≤ 1
+at_most_one zero i = omega arith
+at_most_one (suc n) i = ⊎_elim
+    (λ (e : n ≡ i). let a = behind_all n i (omega arith) in let b = one_is i n e in omega arith)
+    (λ (e : n ≢ i). let a = at_most_one n i in let b = other_one i n e in omega arith)
+    (cases_eq n i)
+
+pub is_known : (n i : ℕ) → 1 ≤ of_all n (one i) → i < n
+is_known n i h = ⊎_elim (λ l. l) (λ (l : n ≤ i). let a = behind_all n i l in absurd (omega arith)) (cases_lt i n)
+
+-- sums are at least each of their parts, and any two of them
+pub part : {X : Type 0} (f : X → ℕ) (xs : List X) (p : ℕ) (d : X) → p < length xs → f (get_or xs p d) ≤ sum_by f xs
+part f [] p d h = absurd (omega arith)
+part f (x ∷ xs) zero d h = let a = sum_by-cons f x xs in omega arith
+part f (x ∷ xs) (suc p) d h = let a = sum_by-cons f x xs in let b = part f xs p d (omega arith) in omega arith
+
+pub two_parts : {X : Type 0} (f : X → ℕ) (xs : List X) (p q : ℕ) (d : X) → p < length xs → q < length xs → p ≢ q
+    → f (get_or xs p d) + f (get_or xs q d) ≤ sum_by f xs
+two_parts f [] p q d h k n = absurd (omega arith)
+two_parts f (x ∷ xs) zero zero d h k n = absurd (n refl)
+two_parts f (x ∷ xs) zero (suc q) d h k n = let a = sum_by-cons f x xs in let b = part f xs q d (omega arith) in omega arith
+two_parts f (x ∷ xs) (suc p) zero d h k n = let a = sum_by-cons f x xs in let b = part f xs p d (omega arith) in omega arith
+two_parts f (x ∷ xs) (suc p) (suc q) d h k n =
+    let a = sum_by-cons f x xs in let b = two_parts f xs p q d (omega arith) (omega arith) (λ e. n (ap suc e)) in omega arith
+
+-- a token of a task
+pub own_in : (g : SeatValue) → 1 ≤ of_seat (one g.token) g
+own_in g = let a = one_itself g.token in omega arith
+
+pub kid_in : (g : SeatValue) (k : ℕ) → k < length g.kids → 1 ≤ of_seat (one (kid_at g.kids k).token) g
+kid_in g k h =
+    let i : ℕ = (kid_at g.kids k).token in
+    let a = part (λ (c : KidValue). one i c.token) g.kids k no_kid h in let b = one_itself i in omega arith
+
+module _ (seats : List SeatValue) (free : List ℕ) (n : ℕ) (shared : AreShared seats free n) where
+  -- it is one that is known
+  pub known_in : (p i : ℕ) → p < length seats → 1 ≤ of_seat (one i) (seat_at seats p) → i < n
+  known_in p i h k =
+      let a = part (of_seat (one i)) seats p no_seat h in let b = shared (one i) in is_known n i (omega arith)
+
+  -- a task has it once
+  once_in : (p i : ℕ) → p < length seats → of_seat (one i) (seat_at seats p) ≤ 1
+  once_in p i h =
+      let a = part (of_seat (one i)) seats p no_seat h in let b = shared (one i) in let c = at_most_one n i in omega arith
+
+  -- no other task has it
+  none_in : (p q i : ℕ) → p < length seats → q < length seats → q ≢ p → 1 ≤ of_seat (one i) (seat_at seats p) → of_seat (one i) (seat_at seats q) ≡ 0
+  none_in p q i h k m has =
+      let a = two_parts (of_seat (one i)) seats q p no_seat k h m in let b = shared (one i) in let c = at_most_one n i in omega arith
+
+  pub others_own : (p q i : ℕ) → p < length seats → q < length seats → q ≢ p → 1 ≤ of_seat (one i) (seat_at seats p) → (seat_at seats q).token ≢ i
+  others_own p q i h k m has =
+      let a = none_in p q i h k m has in none_of i (seat_at seats q).token (omega arith)
+
+  pub others_kid : (p q i j : ℕ) → p < length seats → q < length seats → q ≢ p → 1 ≤ of_seat (one i) (seat_at seats p) → j < length (seat_at seats q).kids
+      → (kid_at (seat_at seats q).kids j).token ≢ i
+  others_kid p q i j h k m has l =
+      let a = none_in p q i h k m has in
+      let b = part (λ (c : KidValue). one i c.token) (seat_at seats q).kids j no_kid l in
+      none_of i (kid_at (seat_at seats q).kids j).token (omega arith)
+
+  -- its own token is none of its spawned tasks', and these differ
+  pub kid_not_own : (p j : ℕ) → p < length seats → j < length (seat_at seats p).kids → (kid_at (seat_at seats p).kids j).token ≢ (seat_at seats p).token
+  kid_not_own p j h l =
+      let i : ℕ = (seat_at seats p).token in
+      let a = once_in p i h in let b = one_itself i in
+      let c = part (λ (k : KidValue). one i k.token) (seat_at seats p).kids j no_kid l in
+      none_of i (kid_at (seat_at seats p).kids j).token (omega arith)
+
+  pub kids_differ : (p j k : ℕ) → p < length seats → j < length (seat_at seats p).kids → k < length (seat_at seats p).kids → j ≢ k
+      → (kid_at (seat_at seats p).kids j).token ≢ (kid_at (seat_at seats p).kids k).token
+  kids_differ p j k h l m n =
+      let i : ℕ = (kid_at (seat_at seats p).kids k).token in
+      let a = once_in p i h in let b = one_itself i in
+      let c = two_parts (λ (x : KidValue). one i x.token) (seat_at seats p).kids j k no_kid l m n in
+      none_of i (kid_at (seat_at seats p).kids j).token (omega arith)
+
+  -- no free token is a task's
+  pub free_not : (p i : ℕ) → p < length seats → 1 ≤ of_seat (one i) (seat_at seats p) → AllByRecursion (λ t. t ≢ i) free
+  free_not p i h has =
+      let a = part (of_seat (one i)) seats p no_seat h in let b = shared (one i) in let c = at_most_one n i in each free (omega arith)
+    where
+      each : (ts : List ℕ) → sum_by (one i) ts ≡ 0 → AllByRecursion (λ t. t ≢ i) ts
+      each [] z = tt
+      each (t ∷ ts) z = let a = sum_by-cons (one i) t ts in (none_of i t (omega arith), each ts (omega arith))

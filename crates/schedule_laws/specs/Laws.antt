@@ -1,0 +1,49 @@
+-- What holds in every schedule of a job over a tree (own).
+use Rattle.std.specs.Prelude.{◌≡◌, ℕ, ◌+◌, ◌≤◌, ◌<◌, true, false, List, None, Some, length}
+use Rattle.flat_phaser.specs.Flat.{registered}
+use Rattle.tier_shape.specs.Paths.{IsTiers}
+use Rattle.tier_core.specs.declared.call.Played.{Played}
+use Rattle.tier_answers.specs.Frame.{flat_of}
+use Rattle.task_lang.specs.Meaning.{Segment}
+use Rattle.step_core.specs.Program.{Program}
+use Rattle.step_core.specs.Superstep.{segments, first_fault, record_of}
+use Rattle.job_schedule.specs.declared.stage.Mode.TheVariants as mode
+use Rattle.job_schedule.specs.declared.step.JobStep.{JobStep}
+use Rattle.job_schedule.specs.SeatValue.{all_over, is_delivered, seat_at}
+use Rattle.job_schedule.specs.AnswerValue.{Advanced}
+use Rattle.job_schedule.specs.declared.stage.Move.TheVariants.{Closes}
+use Rattle.job_schedule.specs.World.{World, opening_world, answer_of, move_of, reached}
+
+-- a job with a limit on a tree, as it may be driven
+pub record IsDriven (p : Program) (parents : List ℕ) (limit : ℕ) : Type 0 where
+  pub tiers : IsTiers parents
+  pub starts : length p.starts ≤ 4096
+  pub some : 1 ≤ limit
+  pub few : limit ≤ 2147483648
+
+-- Whoever has advanced the root may close the round at once: each live task was handed in, and all its calls have their answers.
+pub record IsWhole (w : World) (worker token : ℕ) : Type 0 where
+  pub delivered : (place : ℕ) → place < length w.seats → is_delivered (seat_at w.seats place).stage ≡ true
+  pub closes : move_of w worker ≡ Some (Closes token)
+
+abbrev pub ClosingMissesNothing : Type 0
+ClosingMissesNothing =
+    (p : Program) (parents : List ℕ) (limit : ℕ) (xs : List JobStep) (worker token : ℕ) → IsDriven p parents limit
+    → (reached (opening_world p parents limit) xs).mode ≡ mode.Advanced worker token
+    → IsWhole (reached (opening_world p parents limit) xs) worker token
+
+-- The root advances in the phase of the superstep; where no task of it faults, its members are the parties of the superstep's record but
+-- those that left.
+abbrev pub deeds : World → List (List ℕ × Segment)
+deeds w = segments w.program w.job.arrays w.job.step w.job.live
+
+pub record IsCounted (w : World) : Type 0 where
+  pub phase : (flat_of w.tree).phase ≡ w.job.step
+  pub members : first_fault (deeds w) ≡ None
+      → (record_of w.job.step (deeds w)).parties ≡ registered (flat_of w.tree) + (record_of w.job.step (deeds w)).left
+
+abbrev pub AdvancesAreCounted : Type 0
+AdvancesAreCounted =
+    (p : Program) (parents : List ℕ) (limit : ℕ) (xs : List JobStep) (x : JobStep) (played : Played) → IsDriven p parents limit
+    → answer_of (reached (opening_world p parents limit) xs) x ≡ Advanced played
+    → IsCounted (reached (opening_world p parents limit) xs)

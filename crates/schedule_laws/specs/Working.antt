@@ -1,0 +1,116 @@
+-- What is true of a world between two steps of workers, while its job runs (own).
+use Rattle.std.specs.Prelude.{◌≡◌, ℕ, zero, suc, ◌+◌, ◌<◌, ◌≤◌, ◌⊎◌, Bool, true, false, List, length, slice_index_or, map, sum_by, is_some}
+use Rattle.std.specs.List.{AllByRecursion}
+use Rattle.tier_steps.specs.declared.view.Trip.TheVariants.{Arrival}
+use Rattle.tier_core.specs.Machine.{State}
+use Rattle.tier_answers.specs.Frame.{flat_of}
+use Rattle.step_core.specs.JobMeaning.{status}
+use Rattle.job_seats.specs.Roles.{Role, Out, Joins, Seeks, Settles, GivesBack, Late, Polls, Ready, Here, Looks, Passes, Owes, Past}
+use Rattle.job_seats.specs.Cast.{role_at, IsCast, turned}
+use Rattle.job_seats.specs.Shop.{trip_if, IsOwnPassing}
+use Rattle.job_schedule.specs.declared.stage.Mode.{Mode}
+use Rattle.job_schedule.specs.declared.stage.Mode.TheVariants as mode
+use Rattle.job_schedule.specs.declared.stage.Stage.{Stage}
+use Rattle.job_schedule.specs.declared.stage.Stage.TheVariants.{Waits, Taken, Polling, Joining, Arriving, Leaving, Over}
+use Rattle.job_schedule.specs.SeatValue.{KidValue, SeatValue, kid_at, seat_at, all_over, living_seats}
+use Rattle.job_schedule.specs.World.{World, plan_for}
+
+-- the role of a task's own token, by how far the task has come
+abbrev pub OwnFits : Stage → ℕ → Bool → Role → Type 0
+OwnFits Waits home synced own = own ≡ Late home
+OwnFits Taken home synced own = own ≡ Late home
+OwnFits Polling home synced own = (own ≡ Late home) ⊎ (own ≡ Polls home)
+OwnFits (Joining joined) home synced own = own ≡ Here home
+OwnFits (Arriving arrived) home synced own = own ≡ Here home
+OwnFits Leaving home synced own = IsOwnPassing home (trip_if synced) own
+OwnFits Over home synced own = own ≡ Past home (trip_if synced)
+
+-- a token that is to join there, or is on its way
+abbrev pub ComesTo : ℕ → Role → Type 0
+ComesTo home kid = (kid ≡ Out) ⊎ (kid ≡ Joins home) ⊎ ((claimed : ℕ) × (kid ≡ Seeks home claimed)) ⊎ (kid ≡ Settles home) ⊎ (kid ≡ GivesBack)
+
+-- one that is to arrive there, or is on its way
+abbrev pub ArrivesAt : ℕ → Role → Type 0
+ArrivesAt home kid = (kid ≡ Ready home) ⊎ (kid ≡ Looks home Arrival) ⊎ (kid ≡ Passes home Arrival) ⊎ (kid ≡ Owes home Arrival)
+
+-- the role of the token of the spawned task of this number, one after another
+abbrev pub KidFits : Stage → ℕ → ℕ → Role → Type 0
+KidFits Waits number home kid = ⊥
+KidFits Taken number home kid = ⊥
+KidFits Polling number home kid = kid ≡ Out
+KidFits (Joining joined) number home kid =
+    (number < joined → kid ≡ Ready home) × (number ≡ joined → ComesTo home kid) × (joined < number → kid ≡ Out)
+KidFits (Arriving arrived) number home kid =
+    (number < arrived → kid ≡ Past home Arrival) × (number ≡ arrived → ArrivesAt home kid) × (arrived < number → kid ≡ Ready home)
+KidFits Leaving number home kid = kid ≡ Past home Arrival
+KidFits Over number home kid = kid ≡ Past home Arrival
+
+-- the one that joins, or arrives, is one of them
+abbrev pub HasTurn : Stage → ℕ → Type 0
+HasTurn Waits kids = Unit {0}
+HasTurn Taken kids = Unit {0}
+HasTurn Polling kids = Unit {0}
+HasTurn (Joining joined) kids = joined < kids
+HasTurn (Arriving arrived) kids = arrived < kids
+HasTurn Leaving kids = Unit {0}
+HasTurn Over kids = Unit {0}
+
+-- a task at this stage, whose token has its member at this tier, and those of the spawned tasks each at theirs, of so many tiers
+pub record SitsAt (stage : Stage) (roles : List Role) (tiers token home : ℕ) (kids : List KidValue) (synced : Bool) : Type 0 where
+  pub own : OwnFits stage home synced (role_at roles token)
+  pub each : (number : ℕ) → number < length kids → KidFits stage number (kid_at kids number).home (role_at roles (kid_at kids number).token)
+  pub turn : HasTurn stage (length kids)
+  pub homes : (number : ℕ) → number < length kids → (kid_at kids number).home < tiers
+
+abbrev pub Sits : List Role → ℕ → SeatValue → Type 0
+Sits roles tiers g = SitsAt g.stage roles tiers g.token g.home g.kids g.synced
+
+-- a measure of tokens over those of a task, and over all of so many
+abbrev pub of_seat : (ℕ → ℕ) → SeatValue → ℕ
+of_seat measure g = measure g.token + sum_by (λ (k : KidValue). measure k.token) g.kids
+
+abbrev pub of_all : ℕ → (ℕ → ℕ) → ℕ
+of_all zero measure = 0
+of_all (suc n) measure = of_all n measure + measure n
+
+-- Each of so many tokens is a live task's, or a spawned one's, or free, and it is so once: by any measure they count the same.
+abbrev pub AreShared : List SeatValue → List ℕ → ℕ → Type 0
+AreShared seats free tokens = (measure : ℕ → ℕ) → sum_by (of_seat measure) seats + sum_by measure free ≡ of_all tokens measure
+
+-- what no step of a superstep changes
+pub record IsBuilt (parents : List ℕ) (w : World) : Type 0 where
+  pub shape : w.tree.parents ≡ parents
+  pub plan : w.tree.plan ≡ plan_for w.limit
+  pub leaves : AllByRecursion (λ leaf. leaf < length parents) w.leaves
+
+-- A superstep: each token plays its role, and free ones none; the root is in the phase of the superstep, and goes on.
+pub record IsWorking (parents : List ℕ) (w : World) (roles : List Role) : Type 0 where
+  pub built : IsBuilt parents w
+  pub cast : IsCast w.tree roles
+  pub phase : (flat_of w.tree).phase ≡ w.job.step
+  pub sits : (place : ℕ) → place < length w.seats → Sits roles (length parents) (seat_at w.seats place)
+  pub shared : AreShared w.seats w.free (length w.tree.views)
+  pub free : AllByRecursion (λ token. role_at roles token ≡ Out) w.free
+  pub waits : (place : ℕ) → w.taken ≤ place → place < length w.seats → (seat_at w.seats place).stage ≡ Waits
+
+-- After the advance: all live tasks are over; if the tree goes on, it does so in the next phase, where those that stay are awaited.
+-- It has ended where nobody stays, or in the last phase of the limit.
+pub record IsTurning (parents : List ℕ) (w : World) (roles : List Role) : Type 0 where
+  pub built : IsBuilt parents w
+  pub over : all_over w.seats ≡ true
+  pub sits : (place : ℕ) → place < length w.seats → Sits roles (length parents) (seat_at w.seats place)
+  pub shared : AreShared w.seats w.free (length w.tree.views)
+  pub free : AllByRecursion (λ token. role_at roles token ≡ Out) w.free
+  pub cast : (flat_of w.tree).ended ≡ false → IsCast w.tree (map turned roles)
+  pub phase : (flat_of w.tree).ended ≡ false → (flat_of w.tree).phase ≡ suc w.job.step
+  pub last : (flat_of w.tree).ended ≡ true → (length (living_seats w.seats) ≡ 0) ⊎ (w.limit ≤ suc w.job.step)
+
+-- While a job runs its superstep works, or turns; a job that is over before it begins has no tasks.
+abbrev pub IsKept : List ℕ → World → Mode → Type 0
+IsKept parents w mode.Runs =
+    ((is_some (status w.limit w.job) ≡ true) × (length w.seats ≡ 0))
+    ⊎ ((is_some (status w.limit w.job) ≡ false) × ((roles : List Role) × IsWorking parents w roles))
+IsKept parents w (mode.Advanced closer token) =
+    (is_some (status w.limit w.job) ≡ false) × (closer < 64) × ((roles : List Role) × IsTurning parents w roles)
+IsKept parents w (mode.Forces closer token) = Unit {0}
+IsKept parents w mode.Over = Unit {0}
