@@ -120,6 +120,13 @@ impl<'j> Order<'j> {
         self.task().path.as_slice()
     }
 
+    /// The place of its task among the live ones, in path order.
+    pub fn place(&self) -> usize
+        ensures { result ≡ self.now.place }
+    {
+        self.place
+    }
+
     /// The superstep, from 0.
     pub fn step(&self) -> u32
         ensures { result ≡ self.now.step }

@@ -44,9 +44,9 @@ fn scan(slots: &Slots<'_>, path: &[u16]) -> Option<usize>
     None
 }
 
-/// The place of a task of this path. Live paths rise, so that halving finds it; the answer doesn't rest on that, since
-/// else all are looked at.
-pub(crate) fn find_place(slots: &Slots<'_>, path: &[u16]) -> Option<usize>
+// The place of a task of this path. Live paths rise, so that halving finds it; the answer doesn't rest on that, since
+// else all are looked at.
+fn find_place(slots: &Slots<'_>, path: &[u16]) -> Option<usize>
     requires few { length slots.now ≤ 4096 }
     ensures { MatchOption result (is_live slots.now path.now ≡ false) (λ place. IsPlaceOf slots.now path.now place) }
 {
@@ -57,6 +57,19 @@ pub(crate) fn find_place(slots: &Slots<'_>, path: &[u16]) -> Option<usize>
         }
     }
     scan(slots, path)
+}
+
+/// The place of a task of this path, which is looked for at this place first.
+pub(crate) fn find_near(slots: &Slots<'_>, near: usize, path: &[u16]) -> Option<usize>
+    requires few { length slots.now ≤ 4096 }
+    ensures { MatchOption result (is_live slots.now path.now ≡ false) (λ place. IsPlaceOf slots.now path.now place) }
+{
+    if let Some(slot) = slots.at(near) {
+        if slot.is_of(path) {
+            return Some(near);
+        }
+    }
+    find_place(slots, path)
 }
 
 /// What was printed, superstep by superstep.

@@ -5,7 +5,7 @@ use crate::fault::{AcceptFault, CloseFault, Outcome};
 use crate::live::Live;
 use crate::next::count_living;
 use crate::order::{Delivery, Order, paths_of};
-use crate::reading::{find_place, join_prints, own_arrays, prints_of, records_of};
+use crate::reading::{find_near, join_prints, own_arrays, prints_of, records_of};
 use crate::slot::{Blame, Finished};
 use phase_records::{JobStatus, Report};
 use std::alloc::{AllocError, Global};
@@ -190,8 +190,18 @@ impl<'j> Round<'j> {
     }
 
     /// What the segment of the live task of this path needs, the opening arrays and the step included; `None` where no
-    /// live task has it, and where the job has ended.
+    /// live task has it, and where the job has ended. Nothing is copied.
     pub fn order(&self, _alloc: Global, path: &[u16]) -> Result<Option<Order<'j>>, AllocError>
+        ensures { IfOk result (λ order. MatchOption order
+            (status_in self.now ≡ None → is_live self.now.slots path.now ≡ false)
+            (λ o. (status_in self.now ≡ None) × IsOrderOf self.now path.now o)) }
+    {
+        self.order_near(0, path)
+    }
+
+    /// As [`order`](Round::order). Where the task is the one at this place of the live ones, in path order, it is found
+    /// at once; else it takes about as many looks as `order`, which halves.
+    pub fn order_near(&self, near: usize, path: &[u16]) -> Result<Option<Order<'j>>, AllocError>
         ensures { IfOk result (λ order. MatchOption order
             (status_in self.now ≡ None → is_live self.now.slots path.now ≡ false)
             (λ o. (status_in self.now ≡ None) × IsOrderOf self.now path.now o)) }
@@ -199,7 +209,7 @@ impl<'j> Round<'j> {
         if self.has_ended() {
             return Ok(None);
         }
-        match find_place(&self.live.slots(), path) {
+        match find_near(&self.live.slots(), near, path) {
             None => Ok(None),
             Some(place) => {
                 let order = self.order_at(place)?;
