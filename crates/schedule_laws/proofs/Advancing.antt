@@ -1,21 +1,21 @@
 -- The advance, by the task whose token has to take it.
-use Rattle.std.proofs.Common.{◌≡◌, ◌≢◌, ℕ, zero, suc, ◌+◌, ◌-◌, ◌<◌, ◌≤◌, ◌⊎◌, inl, inr, ⊎_elim, Bool, true, false, cond, List, [], ◌∷◌, ◌++◌, length, set, get_or, map, refl, sym, ◌∙◌, ap, subst, arith, Some, None, Option}
+use Rattle.std.proofs.Common.{◌≡◌, ◌≢◌, ℕ, zero, suc, ◌+◌, ◌-◌, ◌<◌, ◌≤◌, ◌⊎◌, inl, inr, ⊎_elim, Bool, true, false, cond, List, [], ◌∷◌, ◌++◌, length, set, map, refl, sym, ◌∙◌, ap, subst, arith, Some, None, Option}
 use Rattle.std.specs.Prelude.{sum_by, if◌then◌else◌, ◌&&◌, ◌||◌, ◌==◌, nat_le, is_some}
 use Rattle.std.specs.List.{AllByRecursion}
-use Rattle.std.proofs.lemmas.Bool.{lt-ltb, eqb-true, eqb-false, eq-eqb, ne_eqb, leb-false, cases_eq, cases_lt}
-use Rattle.std.proofs.lemmas.List.{get_or-set_same, get_or-set_other, length-set, length-map, length-append, map-set, set-get_or}
+use Rattle.std.proofs.lemmas.Bool.{eqb-true, eqb-false, ne_eqb, leb-false, cases_eq, cases_lt}
+use Rattle.std.proofs.lemmas.List.{get_or-set_same, get_or-set_other, length-set, length-map, length-append}
 use Rattle.std.proofs.lemmas.List.Sums.{sum_by-cons}
 use Rattle.advance_rule.specs.Plan.{end_ends}
 use Rattle.flat_phaser.specs.Flat.{registered}
 use Rattle.phaser_word.specs.Phase.{next_phase_of}
-use Rattle.phase_records.specs.Status.{Status, Limit as IsAtLimit}
+use Rattle.phase_records.specs.Status.{Limit as IsAtLimit}
 use Rattle.task_lang.specs.Meaning.{Task}
 use Rattle.tier_steps.specs.declared.view.Trip.{Trip}
 use Rattle.tier_steps.specs.declared.view.Trip.TheVariants.{Arrival, Departure}
 use Rattle.tier_core.specs.declared.call.Answer.{Answer as TreeAnswer}
 use Rattle.tier_core.specs.declared.call.Answer.TheVariants as answer
 use Rattle.tier_core.specs.declared.call.Step.TheVariants.{Finish}
-use Rattle.tier_core.specs.Machine.{State as Tree, call_at, is_due}
+use Rattle.tier_core.specs.Machine.{State as Tree}
 use Rattle.tier_core.specs.Run.{after, answer_to, may_finish, finish_at, plan_ends}
 use Rattle.tier_core.proofs.Turns.{not_both}
 use Rattle.tier_answers.specs.Frame.{flat_of}
@@ -25,7 +25,7 @@ use Rattle.step_core.specs.Superstep.{State}
 use Rattle.step_core.specs.JobMeaning.{status, status_of}
 use Rattle.job_seats.specs.Roles.{Role, Out, Late, Polls, Here, Looks, Passes, Owes, Leads, Past}
 use Rattle.job_seats.specs.Cast.{role_at, IsCast, IsTurned, members_in, is_awaited, is_leading, is_settled, turned}
-use Rattle.job_seats.specs.Shop.{IsOwnPassing, trip_if}
+use Rattle.job_seats.specs.Shop.{trip_if}
 use Rattle.job_seats.proofs.Playing.{nobody_leads, leads_is_due, members_are_in_roles}
 use Rattle.job_seats.proofs.Seats.{alone, leads_only}
 use Rattle.job_seats.proofs.Turning.{advances_turn_the_cast}
@@ -33,13 +33,13 @@ use Rattle.job_schedule.specs.declared.stage.Stage.{Stage}
 use Rattle.job_schedule.specs.declared.stage.Stage.TheVariants.{Waits, Taken, Polling, Joining, Arriving, Leaving, Over}
 use Rattle.job_schedule.specs.declared.stage.Move.TheVariants.{Advances}
 use Rattle.job_schedule.specs.declared.stage.Mode.TheVariants as mode
-use Rattle.job_schedule.specs.SeatValue.{KidValue, SeatValue, no_seat, no_kid, seat_at, kid_at, is_over, all_over, waiting, own_seat, kid_seat, living_seats}
-use Rattle.job_schedule.specs.World.{World, with_seat, at_stage, plan_for, advanced_by, has_advanced, done_by}
+use Rattle.job_schedule.specs.SeatValue.{KidValue, SeatValue, no_seat, seat_at, kid_at, is_over, all_over, waiting, own_seat, kid_seat, living_seats}
+use Rattle.job_schedule.specs.World.{World, at_stage, advanced_by, has_advanced, done_by}
 use Rattle.schedule_laws.specs.Working.{OwnFits, SitsAt, Sits, of_seat, of_all, AreShared, IsWorking, IsTurning}
 use Rattle.schedule_laws.proofs.Sharing.{own_in, known_in, others_own}
 use Rattle.schedule_laws.proofs.Calling.{one_step}
 use Rattle.schedule_laws.proofs.Turning.{IsNext, next_sits, next_shared, next_free, sum_set_same}
-use Rattle.schedule_laws.proofs.Moving.{kids_stay, now_plays, sits_at, known}
+use Rattle.schedule_laws.proofs.Moving.{kids_stay, now_plays, sits_at}
 
 -- what all roles count, their tasks' do, where free tokens count nothing
 

@@ -1,20 +1,14 @@
 -- What a task is after an answer of a call, by its stage.
-use Rattle.std.proofs.Common.{◌≡◌, ◌≢◌, ℕ, zero, suc, ◌+◌, ◌<◌, ◌≤◌, ◌⊎◌, inl, inr, ⊎_elim, Bool, true, false, List, [], ◌∷◌, length, set, get_or, refl, sym, ◌∙◌, ap, subst, arith}
-use Rattle.std.specs.Prelude.{if◌then◌else◌, nat_lt}
-use Rattle.std.proofs.lemmas.Bool.{ltb-true, ltb-false, lt-ltb, cases_eq, cases_lt}
-use Rattle.std.proofs.lemmas.List.{get_or-set_same, get_or-set_other, length-set}
+use Rattle.std.proofs.Common.{◌≡◌, ◌≢◌, ℕ, ◌⊎◌, inl, inr, ⊎_elim, Bool, true, false, length, refl, ◌∙◌, ap, subst}
+use Rattle.std.specs.Prelude.{if◌then◌else◌}
 use Rattle.tier_steps.specs.declared.view.Trip.{Trip}
-use Rattle.tier_steps.specs.declared.view.Trip.TheVariants.{Arrival, Departure}
 use Rattle.tier_core.specs.declared.call.Played.{Played}
 use Rattle.tier_core.specs.declared.call.Played.TheVariants.{GoesOn, Done, Passed, Waiting, Held, Full, AlreadyArrived, Ended, MustAdvance}
 use Rattle.tier_core.proofs.Turns.{not_both}
-use Rattle.job_seats.specs.Roles.{Role, Out, Joins, Seeks, Settles, GivesBack, Late, Polls, Ready, Here, Looks, Passes, Owes, Leads, Past, is_refused as turns_away}
-use Rattle.job_seats.specs.Cast.{Follows, is_leading, is_on_its_way}
-use Rattle.job_seats.specs.Shop.{IsOwnPassing, trip_if}
-use Rattle.job_schedule.specs.declared.stage.Stage.{Stage}
-use Rattle.job_schedule.specs.declared.stage.Stage.TheVariants.{Waits, Taken, Polling, Joining, Arriving, Leaving, Over}
-use Rattle.job_schedule.specs.SeatValue.{KidValue, SeatValue, no_kid, kid_at, is_done, is_refused, next_stage, sent_home, answered, arriving, joining}
-use Rattle.schedule_laws.specs.Working.{ComesTo, ArrivesAt}
+use Rattle.job_seats.specs.Roles.{Role, Out, Joins, Seeks, Settles, GivesBack, Polls, Ready, Here, Looks, Passes, Owes, Leads, Past, is_refused as turns_away}
+use Rattle.job_seats.specs.Cast.{Follows, is_on_its_way}
+use Rattle.job_schedule.specs.SeatValue.{SeatValue, is_done, is_refused, next_stage, sent_home, answered}
+use Rattle.schedule_laws.specs.Working.{ComesTo}
 
 -- an answer that is done; that is refused; that is neither
 pub done_answer : (g : SeatValue) (a : Played) → is_done a ≡ true → answered g a ≡ record g { stage = next_stage g.stage (length g.kids) }
@@ -31,6 +25,18 @@ refusals (AlreadyArrived phase) e = not_both false e refl
 refusals (Ended number) e = not_both false e refl
 refusals (MustAdvance phase parties) e = not_both false e refl
 
+-- what is done isn't refused
+pub done_stays : (a : Played) → is_done a ≡ true → turns_away a ≡ false
+done_stays GoesOn e = refl
+done_stays (Done phase) e = refl
+done_stays (Passed phase) e = refl
+done_stays Waiting e = refl
+done_stays (Held phase why) e = not_both false e refl
+done_stays (Full parties) e = not_both false e refl
+done_stays (AlreadyArrived phase) e = refl
+done_stays (Ended number) e = refl
+done_stays (MustAdvance phase parties) e = refl
+
 pub refused_answer : (g : SeatValue) (a : Played) → turns_away a ≡ true → answered g a ≡ sent_home g g.stage
 refused_answer g a e =
     let r = refusals a e in
@@ -43,32 +49,36 @@ pub poll_next : (now home : ℕ) (a : Played) (next : Role) → Follows now (Pol
     → ((a ≡ GoesOn) × (next ≡ Polls home)) ⊎ ((is_done a ≡ true) × (next ≡ Here home))
 poll_next now home a next f = ⊎_elim (λ q. inl q) (λ q. inr (⊎_elim (λ e. ap is_done e) (λ e. ap is_done e) q.0, q.1)) f
 
-abbrev pub IsJoining : ℕ → Role → Type 0
-IsJoining home r = (r ≡ Joins home) ⊎ ((claimed : ℕ) × (r ≡ Seeks home claimed)) ⊎ (r ≡ Settles home) ⊎ (r ≡ GivesBack)
+abbrev pub IsClaiming : ℕ → Role → Type 0
+IsClaiming home r = ((claimed : ℕ) × (r ≡ Seeks home claimed)) ⊎ (r ≡ Settles home) ⊎ (r ≡ GivesBack)
 
-pub joining_goes : (home : ℕ) (r : Role) → IsJoining home r → is_on_its_way r ≡ true
-joining_goes home r is = ⊎_elim (λ q. ap is_on_its_way q) (λ q. ⊎_elim (λ q. ap is_on_its_way q.1) (λ q. ⊎_elim (λ q. ap is_on_its_way q) (λ q. ap is_on_its_way q) q) q) is
+pub claiming_goes : (home : ℕ) (r : Role) → IsClaiming home r → is_on_its_way r ≡ true
+claiming_goes home r is = ⊎_elim (λ q. ap is_on_its_way q.1) (λ q. ⊎_elim (λ q. ap is_on_its_way q) (λ q. ap is_on_its_way q) q) is
 
-abbrev pub JoinEnds : ℕ → Played → Role → Type 0
-JoinEnds home a next = ((is_done a ≡ true) × (next ≡ Ready home)) ⊎ ((turns_away a ≡ true) × (next ≡ Out)) ⊎ ((a ≡ GoesOn) × ComesTo home next)
+-- a join is done, or is refused elsewhere than at the tier of the spawner, or goes on
+abbrev pub JoinEnds : ℕ → ℕ → Played → Role → Type 0
+JoinEnds own home a next =
+    ((is_done a ≡ true) × (next ≡ Ready home)) ⊎ ((turns_away a ≡ true) × (home ≢ own) × (next ≡ Out)) ⊎ ((a ≡ GoesOn) × ComesTo own home next)
 
-pub join_next : (now home : ℕ) (r : Role) (a : Played) (next : Role) → IsJoining home r → Follows now r a next → JoinEnds home a next
-join_next now home r a next is f = ⊎_elim
-    (λ (q : r ≡ Joins home). let g : Follows now (Joins home) a next = subst (λ (x : Role). Follows now x a next) q f in inr (inr (g.0, inr (inr (inl (0, g.1))))))
-    (λ q. ⊎_elim
+pub look_next : (now own home : ℕ) (a : Played) (next : Role) → Follows now (Joins home) a next → JoinEnds own home a next
+look_next now own home a next f = inr (inr (f.0, inr (inr (inl f.1))))
+
+pub claim_next : (now own home : ℕ) (r : Role) (a : Played) (next : Role) → home ≢ own → IsClaiming home r → Follows now r a next
+    → JoinEnds own home a next
+claim_next now own home r a next n is f = ⊎_elim
     (λ q. seeks q.0 (subst (λ (x : Role). Follows now x a next) q.1 f))
     (λ q. ⊎_elim
     (λ (q : r ≡ Settles home). let g : Follows now (Settles home) a next = subst (λ (x : Role). Follows now x a next) q f in
-    ⊎_elim (λ e. inl (ap is_done e.0, e.1)) (λ e. inr (inr (e.0, inr (inr (inr (inl e.1)))))) g)
+    ⊎_elim (λ e. inl (ap is_done e.0, e.1)) (λ e. inr (inr (e.0, inr (inr (inr (n, inr (inl e.1))))))) g)
     (λ (q : r ≡ GivesBack). let g : Follows now GivesBack a next = subst (λ (x : Role). Follows now x a next) q f in
-    ⊎_elim (λ e. inr (inl e)) (λ e. inr (inr (e.0, inr (inr (inr (inr e.1)))))) g)
-    q) q) is
+    ⊎_elim (λ e. inr (inl (e.0, n, e.1))) (λ e. inr (inr (e.0, inr (inr (inr (n, inr (inr e.1))))))) g)
+    q) is
   where
-    seeks : (claimed : ℕ) → Follows now (Seeks home claimed) a next → JoinEnds home a next
+    seeks : (claimed : ℕ) → Follows now (Seeks home claimed) a next → JoinEnds own home a next
     seeks claimed g = ⊎_elim (λ e. inl (ap is_done e.0, e.1))
-        (λ e. ⊎_elim (λ e. inr (inr (e.0, inr (inr (inr (inl e.1))))))
-        (λ e. ⊎_elim (λ e. inr (inr (e.0, inr (inr (inl (e.1.0, e.1.1))))))
-        (λ e. ⊎_elim (λ e. inr (inl e)) (λ e. inr (inr (e.0, inr (inr (inr (inr e.1)))))) e) e) e) g
+        (λ e. ⊎_elim (λ e. inr (inr (e.0, inr (inr (inr (n, inr (inl e.1)))))))
+        (λ e. ⊎_elim (λ e. inr (inr (e.0, inr (inr (inr (n, inl (e.1.0, e.1.1)))))))
+        (λ e. ⊎_elim (λ e. inr (inl (e.0, n, e.1))) (λ e. inr (inr (e.0, inr (inr (inr (n, inr (inr e.1))))))) e) e) e) g
 
 -- an arrival or a departure on its way
 abbrev pub IsPassing : ℕ → Trip → Role → Type 0
@@ -85,7 +95,7 @@ kept_answer g a e =
     ap (λ (b : Bool). if b then record g { stage = next_stage g.stage (length g.kids) } else (if is_refused a then sent_home g g.stage else g)) e.0
     ∙ ap (λ (b : Bool). if b then sent_home g g.stage else g) e.1
 
-goes_on_same : (a : Played) → a ≡ GoesOn → goes_same a
+pub goes_on_same : (a : Played) → a ≡ GoesOn → goes_same a
 goes_on_same a e = (ap is_done e, ap is_refused e)
 
 must_same : (a : Played) (phase parties : ℕ) → a ≡ MustAdvance phase parties → goes_same a
@@ -106,6 +116,3 @@ pass_next now home trip r a next is f = ⊎_elim
     ⊎_elim (λ e. inl (ap is_done e.0.1, e.1))
     (λ e. ⊎_elim (λ e. inr (goes_on_same a e.0, inl (inr (inr e.1)))) (λ e. inr (must_same a e.0.1 e.0.0 e.0.2, inr e.1)) e) g)
     q) is
-
-pub on_same : (a : Played) → a ≡ GoesOn → goes_same a
-on_same a e = goes_on_same a e

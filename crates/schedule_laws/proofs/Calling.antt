@@ -1,12 +1,12 @@
 -- A step of a worker on the tree: the call begins, if it hasn't, and goes on.
-use Rattle.std.proofs.Common.{◌≡◌, ℕ, ◌<◌, ◌⊎◌, ⊎_elim, Bool, true, false, ltb, List, length, set, refl, sym, ◌∙◌, ap, subst, arith}
+use Rattle.std.proofs.Common.{◌+◌, ◌≤◌, inl, ◌≡◌, ℕ, ◌<◌, Bool, true, false, ltb, List, length, set, refl, sym, ◌∙◌, ap, subst, arith}
 use Rattle.std.specs.Prelude.{◌&&◌, if◌then◌else◌}
 use Rattle.std.proofs.lemmas.Bool.{lt-ltb}
 use Rattle.std.proofs.lemmas.List.{get_or-set_same, set-set}
-use Rattle.advance_rule.specs.declared.EndPlan.{EndPlan}
 use Rattle.tier_core.specs.declared.call.Call.{Call}
-use Rattle.tier_core.specs.declared.call.Call.TheVariants as call
 use Rattle.tier_core.specs.declared.call.Played.{Played}
+use Rattle.tier_core.specs.declared.call.Played.TheVariants.{Done}
+use Rattle.tier_steps.specs.Tally.{word_at}
 use Rattle.tier_core.specs.declared.call.Answer.TheVariants as answer
 use Rattle.tier_core.specs.declared.call.Progress.{Progress}
 use Rattle.tier_core.specs.declared.call.Progress.TheVariants.{Idle, Begun, Seeking as ToSeek, Settling, GivingBack as ToGiveBack, Passing, Owing, Due, Refreshing}
@@ -19,11 +19,10 @@ use Rattle.tier_answers.specs.Frame.{flat_of}
 use Rattle.tier_answers.specs.Calls.{is_poll}
 use Rattle.job_seats.specs.Roles.{Role, Out, Joins, Seeks, Settles, GivesBack, Late, Polls, Ready, Here, Looks, Passes, Owes, Leads, Past, Plays}
 use Rattle.job_seats.specs.Cast.{role_at, IsCast, is_on_its_way, Follows, Begins}
+use Rattle.job_seats.proofs.Admitting.{homes_admit}
 use Rattle.job_seats.proofs.Quiet.{tokens_stay}
 use Rattle.job_seats.proofs.Steps.{steps_keep_the_cast}
 use Rattle.job_seats.proofs.Turning.{beginnings_keep_the_cast}
-use Rattle.tier_steps.specs.declared.view.Trip.{Trip}
-use Rattle.tier_steps.specs.declared.view.Trip.TheVariants.{Arrival, Departure}
 
 -- the tree that steps leave has the same tiers, plan and tokens
 pub record IsSameTree (s t : State) : Type 0 where
@@ -170,3 +169,18 @@ call_begins s roles i c role cast h b way =
         },
       ),
     )
+
+-- or it is a join at the tier of a token that has polled, which is done at once, if there is room
+pub call_admitted : (s : State) (roles : List Role) (own i home : ℕ) (c : Call) → IsCast s roles → own < length s.views → i < length s.views
+    → role_at roles own ≡ Here home → role_at roles i ≡ Seeks home 0 → (word_at s.words home).parties + 1 ≤ 65535
+    → IsCalled s roles i c (Seeks home 0) (Ready home) (Done (flat_of s).phase)
+call_admitted s roles own i home c cast k h here seeks room =
+    let is = homes_admit s roles own i home cast k h here seeks room in
+    let g = goes s roles i (Seeks home 0) cast h seeks refl in
+    let same : after s (Begin i c) ≡ s = refused s i c (active s i (role_at roles i) (cast.plays i h) (ap is_on_its_way seeks)) in
+    record {
+      told = ap (λ (t : State). answer_to t (Go i)) same ∙ g.1.told ∙ ap answer.Played is.answer;
+      follows = inl (refl, refl);
+      cast = subst (λ (t : State). IsCast (after t (Go i)) (set roles i (Ready home))) (sym same) is.cast;
+      phase = ap (λ (t : State). (flat_of (after t (Go i))).phase) same ∙ g.1.phase;
+    }

@@ -1,5 +1,5 @@
 -- What schedules keep, told of the advance and of the close.
-use Rattle.std.proofs.Common.{◌≡◌, ℕ, zero, suc, ◌+◌, ◌<◌, ◌≤◌, ◌⊎◌, inl, inr, ⊎_elim, Bool, true, false, List, [], ◌∷◌, ◌++◌, length, set, get_or, map, refl, sym, ◌∙◌, ap, subst, arith, Some, None, Option}
+use Rattle.std.proofs.Common.{◌≡◌, ℕ, zero, suc, ◌+◌, ◌<◌, ◌≤◌, ◌⊎◌, ⊎_elim, Bool, true, false, List, [], ◌∷◌, ◌++◌, length, set, map, refl, sym, ◌∙◌, ap, subst, arith, Some, None, Option}
 use Rattle.std.specs.Prelude.{if◌then◌else◌, ◌==◌, ◌&&◌, nat_lt, slice_index_or, is_some}
 use Rattle.std.proofs.lemmas.Bool.{ltb-true, ltb-false, lt-ltb, eq-eqb}
 use Rattle.std.proofs.lemmas.List.{length-map, length-append}
@@ -11,16 +11,16 @@ use Rattle.tier_core.specs.declared.call.Answer.{Answer as TreeAnswer}
 use Rattle.tier_core.specs.declared.call.Answer.TheVariants as answer
 use Rattle.tier_core.specs.declared.call.Call.{Call}
 use Rattle.tier_core.specs.declared.call.Call.TheVariants as call
-use Rattle.tier_core.specs.declared.call.Step.TheVariants.{Begin, Go, Finish}
+use Rattle.tier_core.specs.declared.call.Step.TheVariants.{Begin, Go}
 use Rattle.tier_core.specs.Machine.{State as Tree}
 use Rattle.tier_core.specs.Run.{after, answer_to, may_finish}
 use Rattle.tier_core.proofs.Turns.{not_both}
 use Rattle.tier_answers.specs.Frame.{flat_of}
 use Rattle.task_lang.specs.Meaning.{Task, Segment, After, Synced, Stopped, Faulted}
 use Rattle.step_core.specs.Program.{Program}
-use Rattle.step_core.specs.Superstep.{State, segments, first_fault, or_later, left, spawned, stopped, record_of, live_paths}
-use Rattle.step_core.specs.JobMeaning.{status, told, report_in}
-use Rattle.step_core.specs.OrderValue.{is_synced, has_synced, spawned_paths}
+use Rattle.step_core.specs.Superstep.{State, first_fault, or_later, left, spawned, stopped, live_paths}
+use Rattle.step_core.specs.JobMeaning.{status, report_in}
+use Rattle.step_core.specs.OrderValue.{is_synced, spawned_paths}
 use Rattle.step_core.specs.Laws.{paths_on, synced_path}
 use Rattle.step_core.proofs.Apart.{live-paths-rise}
 use Rattle.job_seats.specs.Roles.{Role}
@@ -29,21 +29,23 @@ use Rattle.job_schedule.specs.declared.stage.Stage.TheVariants.{Waits, Taken, Po
 use Rattle.job_schedule.specs.declared.stage.Mode.{Mode}
 use Rattle.job_schedule.specs.declared.stage.Mode.TheVariants as mode
 use Rattle.job_schedule.specs.declared.stage.Move.{Move}
-use Rattle.job_schedule.specs.declared.stage.Move.TheVariants.{Takes, Delivers, Calls, Advances, Closes, Ends}
+use Rattle.job_schedule.specs.declared.stage.Move.TheVariants.{Takes, Calls, Closes, Ends}
 use Rattle.job_schedule.specs.declared.step.JobStep.{JobStep}
-use Rattle.job_schedule.specs.AnswerValue.{AnswerValue, Advanced, NotNow}
+use Rattle.job_schedule.specs.AnswerValue.{Advanced, NotNow}
 use Rattle.job_schedule.specs.SeatValue.{SeatValue, no_seat, seat_at, seat_path, all_over, is_delivered, kid_at, own_seat, kid_seat, living_seats}
-use Rattle.job_schedule.specs.World.{World, at_stage, called_by, ended_by, next_job, closed_as, done_by, kind_of, kind_for, if_asked, passing, by_stage, by_seat, by_hand, by_mode, move_of, worker_of, answer_of, reached, opening_world}
+use Rattle.job_schedule.specs.World.{World, at_stage, called_by, ended_by, next_job, closed_as, done_by, kind_of, kind_for, if_asked, by_stage, by_seat, by_hand, by_mode, move_of, worker_of, answer_of, reached, opening_world}
 use Rattle.job_schedule.specs.Laws.{IsStanding}
 use Rattle.job_schedule.proofs.Jobs.{IsOf, run_is_of, opening_is_of}
 use Rattle.job_schedule.proofs.Seated.{living_paths}
 use Rattle.job_schedule.proofs.Standing.{seats_are_the_live_tasks}
-use Rattle.schedule_laws.specs.Working.{IsWorking, IsTurning, IsKept}
-use Rattle.schedule_laws.specs.Laws.{IsDriven, IsWhole, ClosingMissesNothing, deeds, IsCounted, AdvancesAreCounted}
+use Rattle.schedule_laws.specs.Working.{IsWorking, IsKept}
+use Rattle.schedule_laws.specs.Laws.{IsDriven, WorldsAreKept, IsWhole, ClosingMissesNothing, deeds, IsCounted, AdvancesAreCounted}
 use Rattle.schedule_laws.proofs.Advancing.{members_live_on, all_delivered}
 use Rattle.schedule_laws.proofs.Renewing.{over_at}
+use Rattle.schedule_laws.proofs.Few.{are_few}
+use Rattle.schedule_laws.proofs.Room.{AreFew}
 use Rattle.schedule_laws.proofs.Opening.{opening_kept}
-use Rattle.schedule_laws.proofs.Keeping.{Stands, run_kept}
+use Rattle.schedule_laws.proofs.Keeping.{run_kept}
 
 -- what all reached worlds keep
 
@@ -62,12 +64,22 @@ module _ (p : Program) (parents : List ℕ) (limit : ℕ) (driven : IsDriven p p
       (not_some (status limit (reached (opening_world p parents limit) xs).job)
       (ap (λ (n : ℕ). is_some (status n (reached (opening_world p parents limit) xs).job)) (sym (limited xs)) ∙ e))
 
-  kept : (xs : List JobStep) → IsKept parents (reached (opening_world p parents limit) xs) (reached (opening_world p parents limit) xs).mode
+  pub light : (xs : List JobStep) → is_some (status (reached (opening_world p parents limit) xs).limit (reached (opening_world p parents limit) xs).job) ≡ false
+      → AreFew (reached (opening_world p parents limit) xs)
+  light xs e =
+      are_few p limit (reached (opening_world p parents limit) xs) driven.starts
+      (run_is_of p limit (opening_world p parents limit) xs (opening_is_of p parents limit)) (standing xs e)
+
+  pub kept : (xs : List JobStep) → IsKept parents (reached (opening_world p parents limit) xs) (reached (opening_world p parents limit) xs).mode
   kept xs =
-      run_kept parents (opening_world p parents limit) xs
+      run_kept parents (opening_world p parents limit) xs driven.tiers.few
       (λ ys. subst (λ (n : ℕ). n ≤ 2147483648) (sym (limited ys)) driven.few)
+      light
       (λ ys e. (standing ys e).paths)
       (opening_kept p parents limit driven)
+
+pub worlds_are_kept : WorldsAreKept
+worlds_are_kept p parents limit xs driven = kept p parents limit driven xs
 
 -- Closing misses nothing.
 

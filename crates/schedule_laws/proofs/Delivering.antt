@@ -1,5 +1,5 @@
 -- A worker takes a task, and hands in its segment.
-use Rattle.std.proofs.Common.{◌≡◌, ◌≢◌, ℕ, zero, suc, ◌+◌, ◌<◌, ◌≤◌, ◌⊎◌, inl, inr, ⊎_elim, Bool, true, false, List, [], ◌∷◌, ◌++◌, length, set, get_or, refl, sym, ◌∙◌, ap, subst, arith, Some, None, Option}
+use Rattle.std.proofs.Common.{◌≡◌, ◌≢◌, ℕ, zero, suc, ◌+◌, ◌<◌, ◌≤◌, inl, inr, ⊎_elim, Bool, List, [], ◌∷◌, ◌++◌, length, set, get_or, refl, sym, ◌∙◌, ap, subst, arith, Some}
 use Rattle.std.specs.Prelude.{sum_by, ◌%◌}
 use Rattle.std.specs.List.{AllByRecursion}
 use Rattle.std.proofs.lemmas.Bool.{cases_eq, cases_lt}
@@ -7,18 +7,17 @@ use Rattle.std.proofs.lemmas.List.{get_or-set_same, get_or-set_other, length-set
 use Rattle.std.proofs.lemmas.List.Sums.{sum_by-cons, sum_by_push}
 use Rattle.tier_core.specs.Machine.{State as Tree, with_token}
 use Rattle.tier_core.proofs.Opening.{entry_before, entry_last}
-use Rattle.tier_answers.specs.Frame.{flat_of}
 use Rattle.task_lang.specs.Meaning.{Segment}
 use Rattle.step_core.specs.OrderValue.{has_synced, spawned_paths}
 use Rattle.job_seats.specs.Roles.{Role, Out}
 use Rattle.job_seats.specs.Cast.{role_at}
 use Rattle.job_seats.proofs.Turning.{new_tokens_are_out}
 use Rattle.job_schedule.specs.declared.stage.Stage.{Stage}
-use Rattle.job_schedule.specs.declared.stage.Stage.TheVariants.{Waits, Taken, Polling, Joining, Arriving, Leaving, Over}
+use Rattle.job_schedule.specs.declared.stage.Stage.TheVariants.{Waits, Taken, Polling}
 use Rattle.job_schedule.specs.declared.stage.Move.TheVariants.{Takes, Delivers}
 use Rattle.job_schedule.specs.SeatValue.{KidValue, SeatValue, no_seat, no_kid, seat_at, kid_at}
-use Rattle.job_schedule.specs.World.{World, with_seat, at_stage, leaf_at, preferred, number_in, last_number, with_kid, kid_from, with_kids, noted, handed_in, deed_of, done_by}
-use Rattle.schedule_laws.specs.Working.{KidFits, SitsAt, Sits, of_seat, of_all, AreShared, IsWorking}
+use Rattle.job_schedule.specs.World.{World, at_stage, preferred, number_in, last_number, with_kid, kid_from, with_kids, noted, deed_of, done_by}
+use Rattle.schedule_laws.specs.Working.{SitsAt, Sits, of_seat, of_all, IsWorking}
 use Rattle.schedule_laws.proofs.Sharing.{own_in}
 use Rattle.schedule_laws.proofs.Calling.{IsSameTree}
 use Rattle.schedule_laws.proofs.Turning.{turn_works, sits_stay}

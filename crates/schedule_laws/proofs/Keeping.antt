@@ -1,11 +1,12 @@
 -- Each step of a worker keeps what is true of its world.
-use Rattle.std.proofs.Common.{◌≡◌, ℕ, zero, suc, ◌<◌, ◌≤◌, ◌⊎◌, inl, inr, ⊎_elim, Bool, true, false, List, [], ◌∷◌, length, map, refl, sym, ◌∙◌, ap, subst, arith, Some, None, Option}
+use Rattle.std.proofs.Common.{◌+◌, ◌≡◌, ℕ, zero, suc, ◌<◌, ◌≤◌, inr, ⊎_elim, Bool, true, false, List, [], ◌∷◌, length, map, refl, sym, ◌∙◌, ap, subst, arith, Some, None, Option}
 use Rattle.std.specs.Prelude.{if◌then◌else◌, ◌==◌, ◌&&◌, nat_lt, slice_index_or, is_some}
 use Rattle.std.proofs.lemmas.Bool.{ltb-true, ltb-false}
 use Rattle.phase_records.specs.Status.{Status, Ended as HasEnded, Fault as HasFaulted, Limit as IsAtLimit}
 use Rattle.phase_records.specs.ReportValue.{ReportValue}
 use Rattle.tier_core.specs.declared.call.Answer.{Answer as TreeAnswer}
 use Rattle.tier_core.specs.declared.call.Answer.TheVariants as answer
+use Rattle.tier_steps.specs.Tally.{word_at}
 use Rattle.tier_core.specs.declared.call.Call.{Call}
 use Rattle.tier_core.specs.declared.call.Call.TheVariants as call
 use Rattle.tier_core.specs.declared.call.Step.TheVariants.{Begin, Go, Finish}
@@ -26,9 +27,10 @@ use Rattle.job_schedule.specs.declared.stage.Move.TheVariants.{Takes, Delivers, 
 use Rattle.job_schedule.specs.declared.step.JobStep.{JobStep}
 use Rattle.job_schedule.specs.AnswerValue.{NotNow}
 use Rattle.job_schedule.specs.SeatValue.{SeatValue, no_seat, seat_at, seat_path, kid_at, all_over}
-use Rattle.job_schedule.specs.World.{World, deed_of, kid_from, with_kids, noted, called_by, advanced_by, ended_by, next_job, mode_after, closed_as, done_by, kind_of, kind_for, if_asked, passing, by_stage, by_seat, by_hand, by_mode, move_of, worker_of, world_after, reached}
-use Rattle.schedule_laws.specs.Working.{IsWorking, IsTurning, IsKept}
-use Rattle.schedule_laws.proofs.Moving.{Works, polling_works, joining_works, arriving_works, leaving_works}
+use Rattle.job_schedule.specs.World.{World, deed_of, kid_from, with_kids, noted, called_by, advanced_by, ended_by, next_job, mode_after, closed_as, done_by, kind_of, kind_for, if_asked, by_stage, by_seat, by_hand, by_mode, move_of, worker_of, world_after, reached}
+use Rattle.schedule_laws.specs.Working.{IsWorking, IsKept}
+use Rattle.schedule_laws.proofs.Moving.{Works, sits_at, polling_works, joining_works, arriving_works, leaving_works}
+use Rattle.schedule_laws.proofs.Room.{AreFew, has_room}
 use Rattle.schedule_laws.proofs.Delivering.{taking_works, delivering_works}
 use Rattle.schedule_laws.proofs.Advancing.{advancing_turns, advancing_mode}
 use Rattle.schedule_laws.proofs.Renewing.{closing_works, no_status}
@@ -93,12 +95,18 @@ no_seat_beyond [] place h = refl
 no_seat_beyond (g ∷ gs) zero h = absurd (omega arith)
 no_seat_beyond (g ∷ gs) (suc place) h = no_seat_beyond gs place (omega arith)
 
-module _ (parents : List ℕ) (w : World) (worker : ℕ) (few : w.limit ≤ 2147483648) (within : worker < 64) where
+module _ (parents : List ℕ) (w : World) (worker : ℕ) (few : w.limit ≤ 2147483648) (within : worker < 64) (tiers : length parents ≤ 64)
+    (light : is_some (status w.limit w.job) ≡ false → AreFew w) where
   module _ (roles : List Role) (is : IsWorking parents w roles) (below : Below w w.job) (runs : w.mode ≡ mode.Runs) where
     call_kept : (place token : ℕ) (c : Call) → Works parents (done_by w worker (Calls place token c)).1 → Kept parents (done_by w worker (Calls place token c)).1
     call_kept place token c works =
         works_kept parents w (done_by w worker (Calls place token c)).1 runs below
         (called_same w worker place (after (after w.tree (Begin token c)) (Go token)) (answer_to (after w.tree (Begin token c)) (Go token))) works
+
+    join_room : (place n : ℕ) → place < length w.seats → (seat_at w.seats place).stage ≡ Joining n
+        → (word_at w.tree.words (seat_at w.seats place).home).parties + 1 ≤ 65535
+    join_room place n h at =
+        has_room parents w roles place tiers (light below) is h (sits_at parents w roles worker place is h (Joining n) at).own
 
     stage_keeps : (place : ℕ) (due : Bool) (stage : Stage) → place < length w.seats → (seat_at w.seats place).stage ≡ stage
         → may_finish w.tree (seat_at w.seats place).token ≡ due → Keeps parents w worker (by_stage (seat_at w.seats place) place due stage)
@@ -110,7 +118,7 @@ module _ (parents : List ℕ) (w : World) (worker : ℕ) (few : w.limit ≤ 2147
         (delivering_works parents w roles worker place is h at)
     stage_keeps place due Polling h at e = λ s. call_kept place (seat_at w.seats place).token call.Poll (polling_works parents w roles worker place is h at)
     stage_keeps place due (Joining n) h at e = λ s. call_kept place (kid_at (seat_at w.seats place).kids n).token (call.Join (kid_at (seat_at w.seats place).kids n).home 1)
-        (joining_works parents w roles worker place is h n at)
+        (joining_works parents w roles worker place is h n at (join_room place n h at))
     stage_keeps place due (Arriving n) h at e = λ s. call_kept place (kid_at (seat_at w.seats place).kids n).token call.Arrive (arriving_works parents w roles worker place is h n at)
     stage_keeps place true Leaving h at e = λ s.
         subst (λ (m : Mode). IsKept parents (done_by w worker (Advances place)).1 m) (sym (advancing_mode parents w roles worker place is h at e)) (
@@ -184,15 +192,17 @@ module _ (parents : List ℕ) (w : World) (worker : ℕ) (few : w.limit ≤ 2147
       by false = tt
   mode_keeps mode.Over e k = tt
 
-move_keeps : (parents : List ℕ) (w : World) (worker : ℕ) → w.limit ≤ 2147483648 → Kept parents w → Keeps parents w worker (move_of w worker)
-move_keeps parents w worker few k = by (nat_lt worker 64) refl
+move_keeps : (parents : List ℕ) (w : World) (worker : ℕ) → w.limit ≤ 2147483648 → length parents ≤ 64
+    → (is_some (status w.limit w.job) ≡ false → AreFew w) → Kept parents w → Keeps parents w worker (move_of w worker)
+move_keeps parents w worker few tiers light k = by (nat_lt worker 64) refl
   where
     by : (b : Bool) → nat_lt worker 64 ≡ b → Keeps parents w worker (if b then by_mode w worker w.mode else None)
-    by true e = mode_keeps parents w worker few (ltb-true worker 64 e) w.mode refl k
+    by true e = mode_keeps parents w worker few (ltb-true worker 64 e) tiers light w.mode refl k
     by false e = tt
 
-step_kept : (parents : List ℕ) (w : World) (x : JobStep) → w.limit ≤ 2147483648 → Stands (world_after w x) → Kept parents w → Kept parents (world_after w x)
-step_kept parents w x few s k = by (move_of w (worker_of x)) (move_keeps parents w (worker_of x) few k) s
+step_kept : (parents : List ℕ) (w : World) (x : JobStep) → w.limit ≤ 2147483648 → length parents ≤ 64
+    → (is_some (status w.limit w.job) ≡ false → AreFew w) → Stands (world_after w x) → Kept parents w → Kept parents (world_after w x)
+step_kept parents w x few tiers light s k = by (move_of w (worker_of x)) (move_keeps parents w (worker_of x) few tiers light k) s
   where
     if_so : (m : Move) (b : Bool) → Keeps parents w (worker_of x) (Some m) → Stands (if b then done_by w (worker_of x) m else (NotNow, w)).1
         → Kept parents (if b then done_by w (worker_of x) m else (NotNow, w)).1
@@ -203,8 +213,10 @@ step_kept parents w x few s k = by (move_of w (worker_of x)) (move_keeps parents
     by None h t = k
     by (Some m) h t = if_so m (kind_of x == kind_for m) h t
 
-pub run_kept : (parents : List ℕ) (w : World) (xs : List JobStep) → ((ys : List JobStep) → (reached w ys).limit ≤ 2147483648)
+pub run_kept : (parents : List ℕ) (w : World) (xs : List JobStep) → length parents ≤ 64 → ((ys : List JobStep) → (reached w ys).limit ≤ 2147483648)
+    → ((ys : List JobStep) → is_some (status (reached w ys).limit (reached w ys).job) ≡ false → AreFew (reached w ys))
     → ((ys : List JobStep) → Stands (reached w ys)) → Kept parents w → Kept parents (reached w xs)
-run_kept parents w [] few s k = k
-run_kept parents w (x ∷ xs) few s k =
-    run_kept parents (world_after w x) xs (λ ys. few (x ∷ ys)) (λ ys. s (x ∷ ys)) (step_kept parents w x (few []) (s (x ∷ [])) k)
+run_kept parents w [] tiers few light s k = k
+run_kept parents w (x ∷ xs) tiers few light s k =
+    run_kept parents (world_after w x) xs tiers (λ ys. few (x ∷ ys)) (λ ys. light (x ∷ ys)) (λ ys. s (x ∷ ys))
+    (step_kept parents w x (few []) tiers (light []) (s (x ∷ [])) k)

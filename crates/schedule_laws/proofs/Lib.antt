@@ -7,6 +7,9 @@ pub mod Moving
 pub mod Delivering
 pub mod Advancing
 pub mod Renewing
+pub mod Room
 pub mod Keeping
 pub mod Opening
+pub mod Few
 pub mod Claiming
+pub mod Spawning

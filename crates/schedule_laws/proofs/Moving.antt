@@ -1,34 +1,37 @@
 -- Steps of calls in a superstep.
-use Rattle.std.proofs.Common.{◌≡◌, ◌≢◌, ℕ, zero, suc, ◌+◌, ◌<◌, ◌≤◌, ◌⊎◌, inl, inr, ⊎_elim, Bool, true, false, List, length, set, get_or, refl, sym, ◌∙◌, ap, subst, arith}
+use Rattle.std.proofs.Common.{◌≡◌, ◌≢◌, ℕ, ◌+◌, ◌<◌, ◌≤◌, ◌⊎◌, inl, inr, ⊎_elim, Bool, true, false, List, length, set, refl, sym, ◌∙◌, ap, subst, arith}
 use Rattle.std.specs.Prelude.{if◌then◌else◌, ◌&&◌}
-use Rattle.std.proofs.lemmas.Bool.{lt-ltb, cases_lt}
-use Rattle.std.proofs.lemmas.List.{get_or-set_same, get_or-set_other, length-set}
+use Rattle.std.proofs.lemmas.Bool.{lt-ltb, cases_eq, cases_lt}
+use Rattle.std.proofs.lemmas.List.{get_or-set_same, get_or-set_other}
 use Rattle.tier_steps.specs.declared.view.Trip.{Trip}
-use Rattle.tier_steps.specs.declared.view.Trip.TheVariants.{Arrival, Departure}
+use Rattle.tier_steps.specs.declared.view.Trip.TheVariants.{Arrival}
 use Rattle.tier_core.specs.declared.call.Call.{Call}
 use Rattle.tier_core.specs.declared.call.Call.TheVariants as call
 use Rattle.tier_core.specs.declared.call.Played.{Played}
 use Rattle.tier_core.specs.declared.call.Answer.{Answer as TreeAnswer}
+use Rattle.tier_core.specs.declared.call.Answer.TheVariants as answer
+use Rattle.tier_core.specs.declared.call.Played.TheVariants.{Done}
+use Rattle.tier_steps.specs.Tally.{word_at}
 use Rattle.tier_core.specs.declared.call.Step.TheVariants.{Begin, Go}
 use Rattle.tier_core.specs.Machine.{State as Tree, call_at, is_due}
-use Rattle.tier_core.specs.Run.{after, may_finish}
+use Rattle.tier_core.specs.Run.{after, answer_to, may_finish}
 use Rattle.tier_core.proofs.Turns.{not_both}
 use Rattle.tier_answers.specs.Frame.{flat_of}
 use Rattle.tier_answers.specs.Calls.{call_by}
-use Rattle.job_seats.specs.Roles.{Role, Out, Joins, Seeks, Settles, GivesBack, Late, Polls, Ready, Here, Looks, Passes, Owes, Leads, Past, Plays}
-use Rattle.job_seats.specs.Cast.{role_at, IsCast, is_awaited, is_leading, is_on_its_way}
-use Rattle.job_seats.specs.Shop.{IsOwnPassing, trip_if}
+use Rattle.job_seats.specs.Roles.{Role, Out, Joins, Seeks, Late, Polls, Ready, Here, Looks, Leads, Plays, is_refused as turns_away}
+use Rattle.job_seats.specs.Cast.{role_at, IsCast, is_awaited, is_leading}
+use Rattle.job_seats.specs.Shop.{trip_if}
 use Rattle.job_seats.proofs.Playing.{nobody_leads, home_within, leads_is_due}
 use Rattle.job_schedule.specs.declared.stage.Stage.{Stage}
 use Rattle.job_schedule.specs.declared.stage.Stage.TheVariants.{Waits, Taken, Polling, Joining, Arriving, Leaving, Over}
 use Rattle.job_schedule.specs.declared.stage.Move.TheVariants.{Calls}
-use Rattle.job_schedule.specs.SeatValue.{KidValue, SeatValue, seat_at, kid_at, answered, is_done}
-use Rattle.job_schedule.specs.World.{World, with_seat, called_by, hand_after, done_by}
+use Rattle.job_schedule.specs.SeatValue.{KidValue, SeatValue, seat_at, kid_at, answered}
+use Rattle.job_schedule.specs.World.{World, called_by, hand_after, done_by}
 use Rattle.schedule_laws.specs.Working.{ComesTo, ArrivesAt, SitsAt, Sits, of_seat, IsWorking}
 use Rattle.schedule_laws.proofs.Sharing.{one, own_in, kid_in, known_in, kid_not_own, kids_differ}
-use Rattle.schedule_laws.proofs.Calling.{two_steps, IsCalled, call_goes_on, call_begins}
+use Rattle.schedule_laws.proofs.Calling.{two_steps, IsCalled, call_goes_on, call_begins, call_admitted}
 use Rattle.schedule_laws.proofs.Turning.{turn_works}
-use Rattle.schedule_laws.proofs.Answering.{poll_next, on_same, goes_same, IsJoining, joining_goes, join_next, IsPassing, passing_goes, pass_next, PassEnds}
+use Rattle.schedule_laws.proofs.Answering.{done_stays, poll_next, goes_on_same, IsClaiming, claiming_goes, JoinEnds, look_next, claim_next, IsPassing, passing_goes, pass_next}
 use Rattle.schedule_laws.proofs.Staging.{answer_count, after_poll, after_pass, after_join, after_arrival}
 
 abbrev pub is_ready : Stage → Bool
@@ -122,7 +125,7 @@ module _ (parents : List ℕ) (w : World) (roles : List Role) (worker place : �
       let next = poll_next (flat_of w.tree).phase g.home step.1.0 step.0 step.1.1.follows in
       call_works i call.Poll (Polls g.home) step.0 step.1.0 (ap is_ready at) mine step.1.1
       (after_poll (seat_at w.seats place) roles (set roles i step.0) (length parents) step.0 step.1.0 (now_plays i step.0 mine) (kids_stay step.0) at sits
-      (⊎_elim (λ q. inl (on_same step.1.0 q.0, q.1)) (λ q. inr q) next))
+      (⊎_elim (λ q. inl (goes_on_same step.1.0 q.0, q.1)) (λ q. inr q) next))
 
   -- a join of a spawned task's token
   own_tier : role_at roles (seat_at w.seats place).token ≡ Here (seat_at w.seats place).home → (seat_at w.seats place).home < length parents
@@ -133,38 +136,96 @@ module _ (parents : List ℕ) (w : World) (roles : List Role) (worker place : �
       let b : length w.tree.words ≡ length w.tree.parents = is.cast.core.tally.long in
       let c : length w.tree.parents ≡ length parents = ap length is.built.shape in omega arith
 
-  pub joining_works : (n : ℕ) → (seat_at w.seats place).stage ≡ Joining n
+  -- how it goes, by what it is: at the tier of its spawner it is never refused
+  record IsJoinStep (home i : ℕ) : Type 0 where
+    role : Role
+    next : Role
+    a : Played
+    called : IsCalled w.tree roles i (call.Join home 1) role next a
+    ends : JoinEnds (seat_at w.seats place).home home a next
+
+  abbrev HasRoom : Type 0
+  HasRoom = (word_at w.tree.words (seat_at w.seats place).home).parties + 1 ≤ 65535
+
+  join_step : (i home : ℕ) → i < length w.tree.views → home < length w.tree.parents
+      → role_at roles (seat_at w.seats place).token ≡ Here (seat_at w.seats place).home → HasRoom
+      → ComesTo (seat_at w.seats place).home home (role_at roles i) → IsJoinStep home i
+  join_step i home m there own room f = ⊎_elim
+      (λ (q : role_at roles i ≡ Out).
+      looked (call_begins w.tree roles i (call.Join home 1) (Joins home) is.cast m (inr (inr (home, there, q, refl, refl))) refl))
+      (λ q. ⊎_elim
+      (λ (q : role_at roles i ≡ Joins home). looked (call_goes_on w.tree roles i (call.Join home 1) (Joins home) is.cast m q refl))
+      (λ q. ⊎_elim
+      (λ (q : role_at roles i ≡ Seeks home 0). ⊎_elim
+      (λ (e : home ≡ (seat_at w.seats place).home). record {
+        role = Seeks home 0;
+        next = Ready home;
+        a = Done (flat_of w.tree).phase;
+        called = call_admitted w.tree roles (seat_at w.seats place).token i home (call.Join home 1) is.cast
+            (known (seat_at w.seats place).token (own_in (seat_at w.seats place))) m (own ∙ ap Here (sym e)) q
+            (subst (λ (t : ℕ). (word_at w.tree.words t).parties + 1 ≤ 65535) (sym e) room);
+        ends = inl (refl, refl);
+      })
+      (λ (n : home ≢ (seat_at w.seats place).home). elsewhere n (inl (0, q)))
+      (cases_eq home (seat_at w.seats place).home))
+      (λ q. elsewhere q.0 q.1)
+      q) q) f
+    where
+      looked : (next : Role) × ((a : Played) × IsCalled w.tree roles i (call.Join home 1) (Joins home) next a) → IsJoinStep home i
+      looked step = record {
+        role = Joins home;
+        next = step.0;
+        a = step.1.0;
+        called = step.1.1;
+        ends = look_next (flat_of w.tree).phase (seat_at w.seats place).home home step.1.0 step.0 step.1.1.follows;
+      }
+
+      elsewhere : home ≢ (seat_at w.seats place).home → IsClaiming home (role_at roles i) → IsJoinStep home i
+      elsewhere n q =
+          let step = call_goes_on w.tree roles i (call.Join home 1) (role_at roles i) is.cast m refl (claiming_goes home (role_at roles i) q) in
+          record {
+            role = role_at roles i;
+            next = step.0;
+            a = step.1.0;
+            called = step.1.1;
+            ends = claim_next (flat_of w.tree).phase (seat_at w.seats place).home home (role_at roles i) step.1.0 step.0 n q step.1.1.follows;
+          }
+
+  kid_step : (n : ℕ) → (seat_at w.seats place).stage ≡ Joining n → HasRoom
+      → IsJoinStep (kid_at (seat_at w.seats place).kids n).home (kid_at (seat_at w.seats place).kids n).token
+  kid_step n at room =
+      let k : KidValue = kid_at (seat_at w.seats place).kids n in
+      let sits = sits_at (Joining n) at in
+      let turn : n < length (seat_at w.seats place).kids = sits.turn in
+      let there : k.home < length w.tree.parents = (let a = sits.homes n turn in let b : length w.tree.parents ≡ length parents = ap length is.built.shape in omega arith) in
+      join_step k.token k.home (known k.token (kid_in (seat_at w.seats place) n turn)) there sits.own room ((sits.each n turn).1 refl)
+
+  pub joining_works : (n : ℕ) → (seat_at w.seats place).stage ≡ Joining n → HasRoom
       → Works parents (done_by w worker (Calls place (kid_at (seat_at w.seats place).kids n).token (call.Join (kid_at (seat_at w.seats place).kids n).home 1))).1
-  joining_works n at =
+  joining_works n at room =
       let g : SeatValue = seat_at w.seats place in
       let k : KidValue = kid_at (seat_at w.seats place).kids n in
-      let c : Call = call.Join (kid_at (seat_at w.seats place).kids n).home 1 in
       let sits = sits_at (Joining n) at in
       let turn : n < length g.kids = sits.turn in
       let mine = kid_in (seat_at w.seats place) n turn in
-      let there : k.home < length w.tree.parents = (let a = sits.homes n turn in let b : length w.tree.parents ≡ length parents = ap length is.built.shape in omega arith) in
-      let step : (role : Role) × (IsJoining k.home role × ((next : Role) × ((a : Played) × IsCalled w.tree roles k.token c role next a))) =
-      on_way k.token k.home (known k.token mine) there ((sits.each n turn).1 refl) in
-      let next : Role = step.1.1.0 in
-      let a : Played = step.1.1.1.0 in
-      let called = step.1.1.1.1 in
-      call_works k.token c step.0 step.1.1.0 step.1.1.1.0 (ap is_ready at) mine called
-      (after_join (seat_at w.seats place) roles (set roles k.token step.1.1.0) (length parents) n step.1.1.0 step.1.1.1.0 (own_stays step.1.1.0 n turn)
-      (now_plays k.token step.1.1.0 mine) (λ j l o. others_stay step.1.1.0 n j turn l o) at sits (own_tier sits.own)
-      (join_next (flat_of w.tree).phase k.home step.0 step.1.1.1.0 step.1.1.0 step.1.0 called.follows))
+      let step = kid_step n at room in
+      call_works k.token (call.Join k.home 1) step.role step.next step.a (ap is_ready at) mine step.called
+      (after_join (seat_at w.seats place) roles (set roles k.token step.next) (length parents) n step.next step.a (own_stays step.next n turn)
+      (now_plays k.token step.next mine) (λ j l o. others_stay step.next n j turn l o) at sits (own_tier sits.own) step.ends)
+
+  -- at the tier of its spawner it is never refused
+  pub home_admits : (n : ℕ) (played : Played) → (seat_at w.seats place).stage ≡ Joining n → HasRoom
+      → (kid_at (seat_at w.seats place).kids n).home ≡ (seat_at w.seats place).home
+      → answer_to (after w.tree (Begin (kid_at (seat_at w.seats place).kids n).token (call.Join (kid_at (seat_at w.seats place).kids n).home 1)))
+      (Go (kid_at (seat_at w.seats place).kids n).token) ≡ answer.Played played
+      → turns_away played ≡ false
+  home_admits n played at room e told =
+      let step = kid_step n at room in
+      let same : step.a ≡ played = played_same (sym step.called.told ∙ told) in
+      ap turns_away (sym same) ∙ ⊎_elim (λ q. done_stays step.a q.0) (λ q. ⊎_elim (λ q. absurd (q.1 e)) (λ q. ap turns_away q.0) q) step.ends
     where
-      on_way : (i home : ℕ) → i < length w.tree.views → home < length w.tree.parents → ComesTo home (role_at roles i)
-          → (role : Role) × (IsJoining home role × ((next : Role) × ((a : Played) × IsCalled w.tree roles i (call.Join home 1) role next a)))
-      on_way i home m there f = ⊎_elim
-          (λ (q : role_at roles i ≡ Out). (
-            Joins home,
-            (inl refl, call_begins w.tree roles i (call.Join home 1) (Joins home) is.cast m (inr (inr (home, there, q, refl, refl))) refl),
-          ))
-          (λ (q : IsJoining home (role_at roles i)). (
-            role_at roles i,
-            (q, call_goes_on w.tree roles i (call.Join home 1) (role_at roles i) is.cast m refl (joining_goes home (role_at roles i) q)),
-          ))
-          f
+      played_same : {a b : Played} → ◌≡◌ {A = TreeAnswer} (answer.Played a) (answer.Played b) → a ≡ b
+      played_same e = cc
 
   -- a token on its trip begins it, or is on its way
   passing : (i home : ℕ) (trip : Trip) → i < length w.tree.views

@@ -1,11 +1,11 @@
 -- Each start task joins its leaf, one after another.
-use Rattle.std.proofs.Common.{◌≡◌, ◌≢◌, ℕ, zero, suc, ◌+◌, ◌<◌, ◌≤◌, ◌⊎◌, inl, inr, ⊎_elim, Bool, true, false, List, [], ◌∷◌, ◌++◌, length, get_or, map, refl, sym, ◌∙◌, ap, subst, arith, Some, None, Option}
+use Rattle.std.proofs.Common.{◌≡◌, ℕ, zero, suc, ◌+◌, ◌<◌, ◌≤◌, ◌⊎◌, inl, inr, ⊎_elim, Bool, true, false, List, [], ◌∷◌, ◌++◌, length, map, refl, sym, ◌∙◌, ap, subst, arith, Some, None}
 use Rattle.std.specs.Prelude.{sum_by, if◌then◌else◌, ◌&&◌, ◌%◌, nat_lt, nat_le, replicate, is_some}
 use Rattle.std.specs.List.{AllByRecursion, filter, range_with_len}
-use Rattle.std.proofs.lemmas.Bool.{ltb-true, leb-true, lt-ltb, cases_lt}
+use Rattle.std.proofs.lemmas.Bool.{ltb-true, leb-true, cases_lt}
 use Rattle.std.proofs.lemmas.List.{length-append, length-map}
-use Rattle.std.proofs.lemmas.List.Sums.{sum_by-cons, sum_by_push}
-use Rattle.tier_shape.specs.Leaves.{leaves_of, is_leaf_of}
+use Rattle.std.proofs.lemmas.List.Sums.{sum_by_push}
+use Rattle.tier_shape.specs.Leaves.{is_leaf_of}
 use Rattle.tier_shape.specs.Paths.{IsTiers}
 use Rattle.tier_steps.specs.declared.view.View.{View}
 use Rattle.tier_steps.specs.View.{new_view}
@@ -14,12 +14,12 @@ use Rattle.tier_core.specs.declared.call.Call.TheVariants as call
 use Rattle.tier_core.specs.declared.call.Progress.TheVariants.{Idle}
 use Rattle.tier_core.specs.declared.call.Step.TheVariants.{Begin, Go}
 use Rattle.tier_core.specs.Machine.{State as Tree, IsCore, view_at, call_at, is_active, turn_at, played, opened, with_token}
-use Rattle.tier_core.specs.Run.{after, may_go}
+use Rattle.tier_core.specs.Run.{after}
 use Rattle.tier_core.proofs.Turns.{not_both}
 use Rattle.tier_core.proofs.Opening.{opened_core, token_core, entry_before, entry_last}
 use Rattle.tier_answers.specs.Frame.{flat_of}
 use Rattle.tier_answers.specs.Fresh.{IsFresh, IsJoined, join_alone}
-use Rattle.tier_answers.specs.Moments.{Event, Takes, run_of, moments}
+use Rattle.tier_answers.specs.Moments.{Takes, run_of, moments}
 use Rattle.tier_answers.specs.Calls.{IsSeated}
 use Rattle.tier_answers.proofs.Opens.{joins_are_done_alone, new_trees_are_fresh, new_tokens_keep_it_fresh}
 use Rattle.tier_answers.proofs.Holding.{is_awaited as awaited_by}
@@ -32,13 +32,11 @@ use Rattle.task_lang.specs.Meaning.{Plan, Task}
 use Rattle.task_lang.specs.declared.job.Start.{Start}
 use Rattle.job_seats.specs.Roles.{Role, Out, Late, Plays}
 use Rattle.job_seats.specs.Cast.{role_at}
-use Rattle.job_schedule.specs.declared.stage.Stage.TheVariants.{Waits}
-use Rattle.job_schedule.specs.declared.stage.Mode.TheVariants as mode
 use Rattle.job_schedule.specs.SeatValue.{SeatValue, no_seat, seat_at, waiting}
 use Rattle.job_schedule.specs.World.{World, gone, joined_at, leaf_at, plan_for, empty_world, with_start, with_starts, opening_world}
 use Rattle.schedule_laws.specs.Working.{Sits, of_seat, of_all, AreShared, IsBuilt, IsWorking, IsKept}
 use Rattle.schedule_laws.specs.Laws.{IsDriven}
-use Rattle.schedule_laws.proofs.Calling.{IsSameTree, one_step}
+use Rattle.schedule_laws.proofs.Calling.{one_step}
 use Rattle.schedule_laws.proofs.Delivering.{leaf_within}
 
 -- sixteen steps where fourteen are enough
@@ -225,7 +223,7 @@ start_works parents w is first =
       waits = λ j a h. ap (λ (g : SeatValue). g.stage) (is.each j h).2;
     }
 
-starts_long : (plans : List Plan) (number : ℕ) (ss : List Start) → length (start_tasks plans number ss) ≡ length ss
+pub starts_long : (plans : List Plan) (number : ℕ) (ss : List Start) → length (start_tasks plans number ss) ≡ length ss
 starts_long plans number [] = refl
 starts_long plans number (s ∷ ss) = ap suc (starts_long plans (suc number) ss)
 

@@ -1,28 +1,28 @@
 -- The round is closed: the next tasks wait, each with the token of its task or the one that joined for it.
-use Rattle.std.proofs.Common.{◌≡◌, ℕ, zero, suc, ◌+◌, ◌<◌, ◌≤◌, ◌⊎◌, inl, inr, ⊎_elim, Bool, true, false, List, [], ◌∷◌, ◌++◌, length, get_or, map, refl, sym, ◌∙◌, ap, subst, arith, Some, None, Option}
-use Rattle.std.specs.Prelude.{sum_by, if◌then◌else◌, ◌&&◌, nat_lt, nat_le, is_some}
+use Rattle.std.proofs.Common.{◌≡◌, ℕ, zero, suc, ◌+◌, ◌<◌, ◌≤◌, ⊎_elim, Bool, true, false, List, [], ◌∷◌, ◌++◌, length, map, refl, sym, ◌∙◌, ap, subst, arith, Some, None, Option}
+use Rattle.std.specs.Prelude.{sum_by, if◌then◌else◌, ◌&&◌, nat_lt, is_some}
 use Rattle.std.specs.List.{AllByRecursion}
 use Rattle.std.proofs.lemmas.List.{length-map}
 use Rattle.std.proofs.lemmas.List.Sums.{sum_by-cons, sum_by-append}
 use Rattle.superstep_memory.specs.Paths.{path_lt}
 use Rattle.superstep_memory.specs.PathOrder.{put_in, in_path_order}
-use Rattle.phase_records.specs.Status.{Status, Limit as IsAtLimit}
-use Rattle.tier_steps.specs.declared.view.Trip.TheVariants.{Arrival, Departure}
+use Rattle.phase_records.specs.Status.{Status}
+use Rattle.tier_steps.specs.declared.view.Trip.TheVariants.{Arrival}
 use Rattle.tier_core.proofs.Turns.{not_both}
 use Rattle.tier_answers.specs.Frame.{flat_of}
 use Rattle.task_lang.specs.Meaning.{Task, Segment}
 use Rattle.step_core.specs.Program.{Program}
-use Rattle.step_core.specs.Superstep.{State, segments, first_fault, superstep, closed, unless_many, next_live, live_paths, ended_by, gone_on}
+use Rattle.step_core.specs.Superstep.{State, segments, first_fault, superstep, closed, next_live, live_paths, ended_by, gone_on}
 use Rattle.step_core.specs.JobMeaning.{status, status_of, told, report_in}
 use Rattle.job_seats.specs.Roles.{Role, Out, Late, Past}
 use Rattle.job_seats.specs.Cast.{role_at, turned}
 use Rattle.job_seats.specs.Shop.{trip_if}
 use Rattle.job_schedule.specs.declared.stage.Stage.{Stage}
 use Rattle.job_schedule.specs.declared.stage.Stage.TheVariants.{Waits, Taken, Polling, Joining, Arriving, Leaving, Over}
-use Rattle.job_schedule.specs.SeatValue.{KidValue, SeatValue, no_seat, seat_at, kid_at, seat_path, is_over, all_over, waiting, own_seat, kid_seat, living_seats, next_seats, freed}
+use Rattle.job_schedule.specs.SeatValue.{KidValue, SeatValue, seat_at, kid_at, seat_path, is_over, all_over, waiting, own_seat, kid_seat, living_seats, next_seats, freed}
 use Rattle.job_schedule.specs.World.{World, next_job, renewed}
 use Rattle.job_schedule.proofs.Closing.{one_superstep}
-use Rattle.schedule_laws.specs.Working.{SitsAt, Sits, of_seat, AreShared, IsWorking, IsTurning}
+use Rattle.schedule_laws.specs.Working.{SitsAt, Sits, of_seat, IsWorking, IsTurning}
 use Rattle.schedule_laws.proofs.Advancing.{AllOver, running_step}
 
 -- in path order: the same sums, and what is true of each

@@ -1,20 +1,19 @@
 -- A task after an answer of a call of its own token, or of a spawned one's.
-use Rattle.std.proofs.Common.{◌≡◌, ◌≢◌, ℕ, zero, suc, ◌+◌, ◌<◌, ◌≤◌, ◌⊎◌, inl, inr, ⊎_elim, Bool, true, false, List, length, set, get_or, refl, sym, ◌∙◌, ap, subst, arith}
+use Rattle.std.proofs.Common.{◌≡◌, ◌≢◌, ℕ, suc, ◌+◌, ◌<◌, ◌≤◌, ◌⊎◌, inl, inr, ⊎_elim, Bool, true, false, List, length, set, refl, sym, ◌∙◌, ap, subst, arith}
 use Rattle.std.specs.Prelude.{if◌then◌else◌, nat_lt}
 use Rattle.std.proofs.lemmas.Bool.{ltb-true, ltb-false, cases_eq}
 use Rattle.std.proofs.lemmas.List.{get_or-set_same, get_or-set_other, length-set}
-use Rattle.tier_steps.specs.declared.view.Trip.{Trip}
-use Rattle.tier_steps.specs.declared.view.Trip.TheVariants.{Arrival, Departure}
+use Rattle.tier_steps.specs.declared.view.Trip.TheVariants.{Arrival}
 use Rattle.tier_core.specs.declared.call.Played.{Played}
-use Rattle.job_seats.specs.Roles.{Role, Out, Late, Polls, Ready, Here, Looks, Passes, Owes, Leads, Past, is_refused as turns_away}
+use Rattle.job_seats.specs.Roles.{Role, Out, Polls, Ready, Here, Past}
 use Rattle.job_seats.specs.Cast.{role_at}
 use Rattle.job_seats.specs.Shop.{trip_if}
 use Rattle.job_schedule.specs.declared.stage.Stage.{Stage}
 use Rattle.job_schedule.specs.declared.stage.Stage.TheVariants.{Waits, Taken, Polling, Joining, Arriving, Leaving, Over}
 use Rattle.job_schedule.specs.SeatValue.{KidValue, SeatValue, no_kid, kid_at, is_done, is_refused, next_stage, sent_home, answered, arriving, joining}
-use Rattle.schedule_laws.specs.Working.{OwnFits, KidFits, ComesTo, ArrivesAt, SitsAt, Sits, of_seat}
+use Rattle.schedule_laws.specs.Working.{ComesTo, ArrivesAt, SitsAt, Sits, of_seat}
 use Rattle.schedule_laws.proofs.Turning.{sum_set_same}
-use Rattle.schedule_laws.proofs.Answering.{done_answer, refused_answer, kept_answer, goes_same, IsJoining, IsPassing, JoinEnds, PassEnds}
+use Rattle.schedule_laws.proofs.Answering.{done_answer, refused_answer, kept_answer, goes_same, JoinEnds, PassEnds}
 
 -- an answer changes none of its tokens
 pub answer_count : (measure : ℕ → ℕ) (g : SeatValue) (a : Played) → of_seat measure (answered g a) ≡ of_seat measure g
@@ -151,13 +150,13 @@ module _ (g : SeatValue) (roles roles' : List Role) (tiers n : ℕ) (next : Role
         λ l. place (λ r home. r ≡ Ready home) k h (λ q. absurd (omega arith)) (λ o. (is.each k h).2 (omega arith)),
       ))
 
-  still_joins : SitsAt (Joining n) roles tiers g.token g.home g.kids g.synced → ComesTo (kid_at g.kids n).home next
+  still_joins : SitsAt (Joining n) roles tiers g.token g.home g.kids g.synced → ComesTo g.home (kid_at g.kids n).home next
       → SitsAt (Joining n) roles' tiers g.token g.home g.kids g.synced
   still_joins is e = record {
     own = own ∙ is.own;
     each = λ k h. (
       λ l. place (λ r home. r ≡ Ready home) k h (λ q. absurd (omega arith)) (λ o. (is.each k h).0 l),
-      λ l. place (λ r home. ComesTo home r) k h (λ q. e) (λ o. absurd (o l)),
+      λ l. place (λ r home. ComesTo g.home home r) k h (λ q. e) (λ o. absurd (o l)),
       λ l. place (λ r home. r ≡ Out) k h (λ q. absurd (omega arith)) (λ o. (is.each k h).2 l),
     );
     turn = is.turn;
@@ -193,8 +192,8 @@ module _ (g : SeatValue) (roles roles' : List Role) (tiers n : ℕ) (next : Role
         each = λ k h. (
           λ l. subst (λ (x : KidValue). role_at roles' x.token ≡ Ready x.home) (sym (there k (λ q. absurd (omega arith))))
               (same k (omega arith) (λ q. absurd (omega arith)) ∙ (is.each k (omega arith)).0 l),
-          λ l. subst (λ (m : ℕ). ComesTo (kid_at kids' m).home (role_at roles' (kid_at kids' m).token)) (sym l)
-              (subst (λ (x : KidValue). ComesTo x.home (role_at roles' x.token)) (sym here') (inl (here ∙ e))),
+          λ l. subst (λ (m : ℕ). ComesTo g.home (kid_at kids' m).home (role_at roles' (kid_at kids' m).token)) (sym l)
+              (subst (λ (x : KidValue). ComesTo g.home x.home (role_at roles' x.token)) (sym here') (inl (here ∙ e))),
           λ l. subst (λ (x : KidValue). role_at roles' x.token ≡ Out) (sym (there k (λ q. absurd (omega arith))))
               (same k (omega arith) (λ q. absurd (omega arith)) ∙ (is.each k (omega arith)).2 l),
         );
@@ -206,11 +205,11 @@ module _ (g : SeatValue) (roles roles' : List Role) (tiers n : ℕ) (next : Role
       })
 
   pub after_join : g.stage ≡ Joining n → SitsAt (Joining n) roles tiers g.token g.home g.kids g.synced → g.home < tiers
-      → JoinEnds (kid_at g.kids n).home a next → Sits roles' tiers (answered g a)
+      → JoinEnds g.home (kid_at g.kids n).home a next → Sits roles' tiers (answered g a)
   after_join at is tier f = ⊎_elim
       (λ q. done_sits g a roles' tiers (Joining n) at q.0 (joined is q.1))
       (λ q. ⊎_elim
-      (λ q. subst (λ (x : SeatValue). Sits roles' tiers x) (sym (refused_answer g a q.0 ∙ ap (sent_home g) at)) (goes_home at is q.1 tier))
+      (λ q. subst (λ (x : SeatValue). Sits roles' tiers x) (sym (refused_answer g a q.0 ∙ ap (sent_home g) at)) (goes_home at is q.2 tier))
       (λ q. kept_sits g a roles' tiers (Joining n) at (ap is_done q.0, ap is_refused q.0) (still_joins is q.1))
       q) f
 

@@ -1,5 +1,5 @@
 -- What a step of one token leaves of its own task, and of the others.
-use Rattle.std.proofs.Common.{◌≡◌, ◌≢◌, ℕ, zero, suc, ◌+◌, ◌<◌, ◌≤◌, ◌⊎◌, ⊎_elim, Bool, true, false, List, [], ◌∷◌, ◌++◌, length, set, get_or, map, refl, sym, ◌∙◌, ap, subst, arith, Option}
+use Rattle.std.proofs.Common.{◌≡◌, ◌≢◌, ℕ, zero, suc, ◌<◌, ◌≤◌, ⊎_elim, Bool, List, [], ◌∷◌, length, set, get_or, refl, sym, ◌∙◌, ap, subst, arith, Option}
 use Rattle.std.specs.Prelude.{sum_by}
 use Rattle.std.specs.List.{AllByRecursion}
 use Rattle.std.proofs.lemmas.Bool.{cases_eq}
@@ -7,15 +7,13 @@ use Rattle.std.proofs.lemmas.List.{get_or-set_same, get_or-set_other, length-set
 use Rattle.std.proofs.lemmas.List.Sums.{sum_by-cons}
 use Rattle.tier_core.specs.Machine.{State}
 use Rattle.tier_answers.specs.Frame.{flat_of}
-use Rattle.job_seats.specs.Roles.{Role, Out, Late, Polls, Ready, Here, Past}
+use Rattle.job_seats.specs.Roles.{Role, Out}
 use Rattle.job_seats.specs.Cast.{role_at, IsCast}
-use Rattle.job_seats.specs.Shop.{IsOwnPassing, trip_if}
 use Rattle.job_schedule.specs.declared.stage.Stage.{Stage}
-use Rattle.job_schedule.specs.declared.stage.Stage.TheVariants.{Waits, Taken, Polling, Joining, Arriving, Leaving, Over}
-use Rattle.job_schedule.specs.SeatValue.{KidValue, SeatValue, no_seat, no_kid, seat_at, kid_at}
+use Rattle.job_schedule.specs.SeatValue.{KidValue, SeatValue, no_seat, seat_at, kid_at}
 use Rattle.job_schedule.specs.World.{World, with_seat}
-use Rattle.schedule_laws.specs.Working.{OwnFits, KidFits, HasTurn, SitsAt, Sits, of_seat, AreShared, IsBuilt, IsWorking}
-use Rattle.schedule_laws.proofs.Sharing.{one, known_in, others_own, others_kid, free_not}
+use Rattle.schedule_laws.specs.Working.{OwnFits, KidFits, SitsAt, Sits, of_seat, AreShared, IsWorking}
+use Rattle.schedule_laws.proofs.Sharing.{one, others_own, others_kid, free_not}
 use Rattle.schedule_laws.proofs.Calling.{IsSameTree}
 
 -- the same roles for its tokens
@@ -25,7 +23,7 @@ pub sits_stay : (stage : Stage) (roles roles' : List Role) (tiers token home : �
     → SitsAt stage roles tiers token home kids synced → SitsAt stage roles' tiers token home kids synced
 sits_stay stage roles roles' tiers token home kids synced e each is = record {
   own = subst (λ (r : Role). OwnFits stage home synced r) (sym e) is.own;
-  each = λ k h. subst (λ (r : Role). KidFits stage k (kid_at kids k).home r) (sym (each k h)) (is.each k h);
+  each = λ k h. subst (λ (r : Role). KidFits stage home k (kid_at kids k).home r) (sym (each k h)) (is.each k h);
   turn = is.turn;
   homes = is.homes;
 }

@@ -2,6 +2,7 @@
 use Rattle.std.specs.Prelude.{◌≡◌, ℕ, ◌+◌, ◌≤◌, ◌<◌, true, false, List, None, Some, length}
 use Rattle.flat_phaser.specs.Flat.{registered}
 use Rattle.tier_shape.specs.Paths.{IsTiers}
+use Rattle.tier_core.specs.declared.call.Call.TheVariants as call
 use Rattle.tier_core.specs.declared.call.Played.{Played}
 use Rattle.tier_answers.specs.Frame.{flat_of}
 use Rattle.task_lang.specs.Meaning.{Segment}
@@ -9,10 +10,11 @@ use Rattle.step_core.specs.Program.{Program}
 use Rattle.step_core.specs.Superstep.{segments, first_fault, record_of}
 use Rattle.job_schedule.specs.declared.stage.Mode.TheVariants as mode
 use Rattle.job_schedule.specs.declared.step.JobStep.{JobStep}
-use Rattle.job_schedule.specs.SeatValue.{all_over, is_delivered, seat_at}
-use Rattle.job_schedule.specs.AnswerValue.{Advanced}
-use Rattle.job_schedule.specs.declared.stage.Move.TheVariants.{Closes}
-use Rattle.job_schedule.specs.World.{World, opening_world, answer_of, move_of, reached}
+use Rattle.job_schedule.specs.SeatValue.{is_delivered, is_refused, seat_at}
+use Rattle.job_schedule.specs.AnswerValue.{Advanced, Stepped}
+use Rattle.job_schedule.specs.declared.stage.Move.TheVariants.{Calls, Closes}
+use Rattle.job_schedule.specs.World.{World, opening_world, answer_of, move_of, worker_of, reached}
+use Rattle.schedule_laws.specs.Working.{IsKept}
 
 -- a job with a limit on a tree, as it may be driven
 pub record IsDriven (p : Program) (parents : List ℕ) (limit : ℕ) : Type 0 where
@@ -20,6 +22,12 @@ pub record IsDriven (p : Program) (parents : List ℕ) (limit : ℕ) : Type 0 wh
   pub starts : length p.starts ≤ 4096
   pub some : 1 ≤ limit
   pub few : limit ≤ 2147483648
+
+-- Each world that a schedule reaches is kept: while its job runs, its superstep works or has turned.
+abbrev pub WorldsAreKept : Type 0
+WorldsAreKept =
+    (p : Program) (parents : List ℕ) (limit : ℕ) (xs : List JobStep) → IsDriven p parents limit
+    → IsKept parents (reached (opening_world p parents limit) xs) (reached (opening_world p parents limit) xs).mode
 
 -- Whoever has advanced the root may close the round at once: each live task was handed in, and all its calls have their answers.
 pub record IsWhole (w : World) (worker token : ℕ) : Type 0 where
@@ -32,18 +40,28 @@ ClosingMissesNothing =
     → (reached (opening_world p parents limit) xs).mode ≡ mode.Advanced worker token
     → IsWhole (reached (opening_world p parents limit) xs) worker token
 
--- The root advances in the phase of the superstep; where no task of it faults, its members are the parties of the superstep's record but
--- those that left.
+-- what the live tasks do in this superstep
 abbrev pub deeds : World → List (List ℕ × Segment)
 deeds w = segments w.program w.job.arrays w.job.step w.job.live
 
+-- The root is in the phase of the superstep; where no task of it faults, its members are the parties of the superstep's record but those
+-- that left.
 pub record IsCounted (w : World) : Type 0 where
   pub phase : (flat_of w.tree).phase ≡ w.job.step
   pub members : first_fault (deeds w) ≡ None
       → (record_of w.job.step (deeds w)).parties ≡ registered (flat_of w.tree) + (record_of w.job.step (deeds w)).left
 
+-- So it is at each advance.
 abbrev pub AdvancesAreCounted : Type 0
 AdvancesAreCounted =
     (p : Program) (parents : List ℕ) (limit : ℕ) (xs : List JobStep) (x : JobStep) (played : Played) → IsDriven p parents limit
     → answer_of (reached (opening_world p parents limit) xs) x ≡ Advanced played
     → IsCounted (reached (opening_world p parents limit) xs)
+
+-- A spawned task's join at the tier of its spawner is never refused.
+abbrev pub SpawnsHaveRoomAtHome : Type 0
+SpawnsHaveRoomAtHome =
+    (p : Program) (parents : List ℕ) (limit : ℕ) (xs : List JobStep) (x : JobStep) (place token : ℕ) (played : Played) → IsDriven p parents limit
+    → move_of (reached (opening_world p parents limit) xs) (worker_of x)
+    ≡ Some (Calls place token (call.Join (seat_at (reached (opening_world p parents limit) xs).seats place).home 1))
+    → answer_of (reached (opening_world p parents limit) xs) x ≡ Stepped played → is_refused played ≡ false

@@ -1,8 +1,7 @@
 -- What is true of a world between two steps of workers, while its job runs (own).
-use Rattle.std.specs.Prelude.{◌≡◌, ℕ, zero, suc, ◌+◌, ◌<◌, ◌≤◌, ◌⊎◌, Bool, true, false, List, length, slice_index_or, map, sum_by, is_some}
+use Rattle.std.specs.Prelude.{◌≡◌, ◌≢◌, ℕ, zero, suc, ◌+◌, ◌<◌, ◌≤◌, ◌⊎◌, Bool, true, false, List, length, map, sum_by, is_some}
 use Rattle.std.specs.List.{AllByRecursion}
 use Rattle.tier_steps.specs.declared.view.Trip.TheVariants.{Arrival}
-use Rattle.tier_core.specs.Machine.{State}
 use Rattle.tier_answers.specs.Frame.{flat_of}
 use Rattle.step_core.specs.JobMeaning.{status}
 use Rattle.job_seats.specs.Roles.{Role, Out, Joins, Seeks, Settles, GivesBack, Late, Polls, Ready, Here, Looks, Passes, Owes, Past}
@@ -25,25 +24,28 @@ OwnFits (Arriving arrived) home synced own = own ≡ Here home
 OwnFits Leaving home synced own = IsOwnPassing home (trip_if synced) own
 OwnFits Over home synced own = own ≡ Past home (trip_if synced)
 
--- a token that is to join there, or is on its way
-abbrev pub ComesTo : ℕ → Role → Type 0
-ComesTo home kid = (kid ≡ Out) ⊎ (kid ≡ Joins home) ⊎ ((claimed : ℕ) × (kid ≡ Seeks home claimed)) ⊎ (kid ≡ Settles home) ⊎ (kid ≡ GivesBack)
+-- A token that is to join at this tier, or is on its way. At the tier of its own spawner it joins at once: only elsewhere it may have claimed
+-- tiers on its way, settle them, or give them back.
+abbrev pub ComesTo : ℕ → ℕ → Role → Type 0
+ComesTo own home kid =
+    (kid ≡ Out) ⊎ (kid ≡ Joins home) ⊎ (kid ≡ Seeks home 0)
+    ⊎ ((home ≢ own) × (((claimed : ℕ) × (kid ≡ Seeks home claimed)) ⊎ (kid ≡ Settles home) ⊎ (kid ≡ GivesBack)))
 
 -- one that is to arrive there, or is on its way
 abbrev pub ArrivesAt : ℕ → Role → Type 0
 ArrivesAt home kid = (kid ≡ Ready home) ⊎ (kid ≡ Looks home Arrival) ⊎ (kid ≡ Passes home Arrival) ⊎ (kid ≡ Owes home Arrival)
 
 -- the role of the token of the spawned task of this number, one after another
-abbrev pub KidFits : Stage → ℕ → ℕ → Role → Type 0
-KidFits Waits number home kid = ⊥
-KidFits Taken number home kid = ⊥
-KidFits Polling number home kid = kid ≡ Out
-KidFits (Joining joined) number home kid =
-    (number < joined → kid ≡ Ready home) × (number ≡ joined → ComesTo home kid) × (joined < number → kid ≡ Out)
-KidFits (Arriving arrived) number home kid =
+abbrev pub KidFits : Stage → ℕ → ℕ → ℕ → Role → Type 0
+KidFits Waits own number home kid = ⊥
+KidFits Taken own number home kid = ⊥
+KidFits Polling own number home kid = kid ≡ Out
+KidFits (Joining joined) own number home kid =
+    (number < joined → kid ≡ Ready home) × (number ≡ joined → ComesTo own home kid) × (joined < number → kid ≡ Out)
+KidFits (Arriving arrived) own number home kid =
     (number < arrived → kid ≡ Past home Arrival) × (number ≡ arrived → ArrivesAt home kid) × (arrived < number → kid ≡ Ready home)
-KidFits Leaving number home kid = kid ≡ Past home Arrival
-KidFits Over number home kid = kid ≡ Past home Arrival
+KidFits Leaving own number home kid = kid ≡ Past home Arrival
+KidFits Over own number home kid = kid ≡ Past home Arrival
 
 -- the one that joins, or arrives, is one of them
 abbrev pub HasTurn : Stage → ℕ → Type 0
@@ -58,7 +60,7 @@ HasTurn Over kids = Unit {0}
 -- a task at this stage, whose token has its member at this tier, and those of the spawned tasks each at theirs, of so many tiers
 pub record SitsAt (stage : Stage) (roles : List Role) (tiers token home : ℕ) (kids : List KidValue) (synced : Bool) : Type 0 where
   pub own : OwnFits stage home synced (role_at roles token)
-  pub each : (number : ℕ) → number < length kids → KidFits stage number (kid_at kids number).home (role_at roles (kid_at kids number).token)
+  pub each : (number : ℕ) → number < length kids → KidFits stage home number (kid_at kids number).home (role_at roles (kid_at kids number).token)
   pub turn : HasTurn stage (length kids)
   pub homes : (number : ℕ) → number < length kids → (kid_at kids number).home < tiers
 

@@ -1,0 +1,68 @@
+-- A job has at most 4096 live tasks, each of which spawns at most 8 in a superstep.
+use Rattle.std.proofs.Common.{◌≡◌, ℕ, zero, suc, ◌≤◌, Bool, true, false, List, [], ◌∷◌, length, map, refl, ap, arith, Some, None, Option}
+use Rattle.std.specs.Prelude.{ℤ, if◌then◌else◌, nat_lt}
+use Rattle.std.specs.Str.{bytes_eq}
+use Rattle.std.proofs.lemmas.Bool.{ltb-false}
+use Rattle.std.proofs.lemmas.List.{length-map}
+use Rattle.phase_records.specs.Status.{Status}
+use Rattle.task_lang.specs.Meaning.{Task, Segment, segment_of}
+use Rattle.task_lang.proofs.AllSegments.{numbers-its-spawns}
+use Rattle.step_core.specs.Program.{Program}
+use Rattle.step_core.specs.Superstep.{State, segments, first_fault, superstep, closed, next_live, ended_by, gone_on, live_paths}
+use Rattle.step_core.specs.JobMeaning.{status, unless_ended, so_far}
+use Rattle.step_core.specs.OrderValue.{spawned_paths}
+use Rattle.job_schedule.specs.SeatValue.{SeatValue, seat_at, seat_path, kid_path}
+use Rattle.job_schedule.specs.World.{World, deed_in, deed_of}
+use Rattle.job_schedule.specs.Laws.{IsStanding}
+use Rattle.job_schedule.proofs.Jobs.{IsOf}
+use Rattle.schedule_laws.proofs.Opening.{starts_long}
+use Rattle.schedule_laws.proofs.Room.{AreFew}
+
+step_few : (p : Program) (st : State) → length st.live ≤ 4096 → length (superstep p st).live ≤ 4096
+step_few p st h = by (first_fault (segments p st.arrays st.step st.live))
+  where
+    unless : (b : Bool) → nat_lt 4096 (length (next_live (segments p st.arrays st.step st.live))) ≡ b
+        → length (if b then ended_by st (7, []) else gone_on st (segments p st.arrays st.step st.live) (next_live (segments p st.arrays st.step st.live))).live ≤ 4096
+    unless true e = h
+    unless false e = ltb-false 4096 (length (next_live (segments p st.arrays st.step st.live))) e
+
+    by : (o : Option (ℕ × List ℕ)) → length (closed st (segments p st.arrays st.step st.live) o).live ≤ 4096
+    by (Some f) = h
+    by None = unless (nat_lt 4096 (length (next_live (segments p st.arrays st.step st.live)))) refl
+
+live_few : (p : Program) (limit n : ℕ) → length p.starts ≤ 4096 → length (so_far p limit n).live ≤ 4096
+live_few p limit zero h = let a = starts_long p.plans 0 p.starts in omega arith
+live_few p limit (suc n) h = by (status limit (so_far p limit n)) (live_few p limit n h)
+  where
+    by : (o : Option Status) → length (so_far p limit n).live ≤ 4096 → length (unless_ended o (so_far p limit n) (superstep p (so_far p limit n))).live ≤ 4096
+    by (Some s) k = k
+    by None k = step_few p (so_far p limit n) k
+
+deed_few : (p : Program) (arrays : List (List ℕ × List ℤ)) (step : ℕ) (ts : List Task) (path : List ℕ) → length (deed_in (segments p arrays step ts) path).spawns ≤ 8
+deed_few p arrays step [] path = omega arith
+deed_few p arrays step (t ∷ ts) path = by (bytes_eq t.path path) (deed_few p arrays step ts path)
+  where
+    by : (b : Bool) → length (deed_in (segments p arrays step ts) path).spawns ≤ 8
+        → length (if b then segment_of p.plans t arrays step else deed_in (segments p arrays step ts) path).spawns ≤ 8
+    by true k = (numbers-its-spawns p.plans t arrays step).0
+    by false k = k
+
+pub are_few : (p : Program) (limit : ℕ) (w : World) → length p.starts ≤ 4096 → IsOf p limit w → IsStanding w → AreFew w
+are_few p limit w h of stands = record {
+  seats =
+      let a : length (map seat_path w.seats) ≡ length w.seats = length-map w.seats seat_path in
+      let b : length (live_paths w.job) ≡ length w.job.live = length-map w.job.live (λ (t : Task). t.path) in
+      let c : length (map seat_path w.seats) ≡ length (live_paths w.job) = ap length stands.paths in
+      let d = live_few p limit of.job.0 h in
+      let e : length w.job.live ≡ length (so_far p limit of.job.0).live = ap (λ (st : State). length st.live) of.job.1 in
+      omega arith;
+  kids = λ q l d.
+      let n = stands.noted q l d in
+      let g : SeatValue = seat_at w.seats q in
+      let s : Segment = deed_of w (seat_at w.seats q).path in
+      let a : length (map kid_path g.kids) ≡ length g.kids = length-map g.kids kid_path in
+      let b : length (spawned_paths s) ≡ length s.spawns = length-map (deed_of w (seat_at w.seats q).path).spawns (λ (t : Task). t.path) in
+      let c : length (map kid_path g.kids) ≡ length (spawned_paths s) = ap length n.kids in
+      let e = deed_few w.program w.job.arrays w.job.step w.job.live (seat_at w.seats q).path in
+      omega arith;
+}

@@ -1,0 +1,17 @@
+//! What the laws are about.
+ghost use Rattle.std.specs.Prelude.{◌≤◌};
+ghost use Rattle.step_core.specs.Program.{program_of};
+ghost use Rattle.schedule_laws.specs.Laws.{IsDriven};
+
+use task_lang::job::Job;
+use tier_shape::Shape;
+
+/// Whatever job, shape and limit `drive_job` takes is one that the laws speak of: they hold in each of its schedules.
+pub fn jobs_are_driven(job: &Job, shape: &Shape, limit: u32)
+    requires some { 1 ≤ limit }
+    requires few { limit ≤ 2147483648 }
+    ensures { IsDriven (program_of job.now) shape.now limit }
+{
+    let _bodies = job.bodies();
+    let _tiers = shape.count();
+}
