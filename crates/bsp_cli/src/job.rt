@@ -100,8 +100,10 @@ fn leave<T: Threads + Wait + Sync>(
     ensures started { IfErr result (IsOfWorkers workers) }
 {
     if workers == 1 {
-        let report = run_alone(alloc, job, limit)?;
-        return Ok(report);
+        return match run_alone(alloc, job, limit) {
+            Ok(report) => Ok(report),
+            Err(_) => Err(Refused::Memory),
+        };
     }
     let last = limit - 1;
     let plan = EndPlan {

@@ -32,8 +32,8 @@ impl Running for Brand {
     ghost limit = { 1 };
 
     ghost tree = { record {
-        id = record { words = 0; slots = 0; views_name = 0; atom = 0; block = 0; offset = 0; slot_names = [] };
-        key = record { shape = []; phase = 0; plan = record { when_empty = false; at = None } };
+      id = record { words = 0; slots = 0; views_name = 0; atom = 0; block = 0; offset = 0; slot_names = [] };
+      key = record { shape = []; phase = 0; plan = record { when_empty = false; at = None } };
     } };
 }
 

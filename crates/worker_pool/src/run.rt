@@ -1,5 +1,5 @@
 //! A job on worker threads.
-ghost use Rattle.std.specs.Prelude.{◌≡◌, ◌≤◌, ℕ, false, Some, IfOk, IfErr};
+ghost use Rattle.std.specs.Prelude.{◌≡◌, ◌≤◌, false, Some, IfOk, IfErr};
 ghost use Rattle.advance_rule.specs.Stored.{Answers};
 ghost use Rattle.advance_rule.specs.Plan.{end_ends_at};
 ghost use Rattle.step_core.specs.Program.{program_of};
@@ -8,7 +8,7 @@ ghost use Rattle.worker_pool.specs.JobPlan.{limit_of, IsJobPlan};
 ghost use Rattle.worker_pool.specs.Refusals.{IsOfWorkers};
 
 use crate::board::{Board, Running};
-use crate::fault::Refused;
+use crate::fault::{Note, Refused};
 use crate::hooks::{Gate, Starter};
 use crate::leaves::Leaves;
 use crate::seat::{Key, Seat};
@@ -43,18 +43,13 @@ fn seat_all<J: Running, R: Wait, F: Fn(u32, u32) -> bool>(
     meeting: &Meeting<J, F>,
     key: &mut Key<J>,
     round: &Round<'_>,
-) -> Result<VecDeque<Seat<J>>, Refused>
-    ensures { (workers : ℕ) → IfErr result (IsOfWorkers workers) }
-{
+) -> Result<VecDeque<Seat<J>>, Note> {
     let paths = round.live(alloc)?;
     let mut seats = Vec::with_capacity(alloc, paths.len())?;
     for (number, path) in paths.into_iter().enumerate() {
-        let seat = match meeting.register_start(rt, key, path, number) {
-            Ok(seat) => seat,
-            Err(note) => return Err(note.refusal()),
-        };
+        let seat = meeting.register_start(rt, key, path, number)?;
         if seats.push(seat).is_err() {
-            return Err(Refused::Memory);
+            return Err(Note::Memory);
         }
     }
     Ok(VecDeque::from_vec(seats))
@@ -91,10 +86,15 @@ fn run_shared<
         Err(BarrierFault::Memory) => return Err(Refused::Memory),
         Err(_) => return Err(Refused::Internal),
     };
-    let leaves = Leaves::of(alloc, tree.shape())?;
+    let Ok(leaves) = Leaves::of(alloc, tree.shape()) else {
+        return Err(Refused::Memory);
+    };
     let meeting: Meeting<J, F> = Meeting::new(tree, leaves);
     let mut key = Key::new(door);
-    let seats = seat_all(rt, alloc, &meeting, &mut key, &round)?;
+    let seats = match seat_all(rt, alloc, &meeting, &mut key, &round) {
+        Ok(seats) => seats,
+        Err(note) => return Err(note.refusal()),
+    };
     let board: Board<'j, J> = Board::new(alloc, round, seats);
     let shop = Shop {
         board: Mutex::new(board),
@@ -132,8 +132,12 @@ pub fn run_job<
     ensures report { IfOk result (λ report. report_of (program_of job.now) (limit_of advance.plan) ≡ Some report) }
     ensures started { IfErr result (IsOfWorkers workers) }
 {
-    let round = Round::new(alloc, job, limit_in(advance.plan()))?;
-    let (tree, door) = Tree::new(alloc, shape, 0, advance)?;
+    let Ok(round) = Round::new(alloc, job, limit_in(advance.plan())) else {
+        return Err(Refused::Memory);
+    };
+    let Ok((tree, door)) = Tree::new(alloc, shape, 0, advance) else {
+        return Err(Refused::Memory);
+    };
     run_shared::<Brand, R, F, G, S>(rt, alloc, round, tree, door, workers, gate, starter)
 }
 

@@ -82,8 +82,15 @@ impl<'j, J: Running, F: Fn(u32, u32) -> bool> Shop<'j, J, F> {
         self.meeting.come_in(&mut seat.crew)?;
         passed.reserve(spawned.len())?;
         for path in spawned {
-            let kid = self.meeting.register_spawned(rt, &mut seat.crew, seat.leaf, path)?;
-            let Seat { path, leaf, crew, of: _ } = kid;
+            let kid = self
+                .meeting
+                .register_spawned(rt, &mut seat.crew, seat.leaf, path)?;
+            let Seat {
+                path,
+                leaf,
+                crew,
+                of: _,
+            } = kid;
             let (crew, _led) = self.meeting.arrive(rt, crew)?;
             if passed.push_back(Seat::new(path, leaf, crew)).is_err() {
                 return Err(Note::Memory);
@@ -107,7 +114,12 @@ impl<'j, J: Running, F: Fn(u32, u32) -> bool> Shop<'j, J, F> {
             synced,
         } = task;
         self.bring_in(rt, &mut seat, spawned, passed)?;
-        let Seat { path, leaf, crew, of: _ } = seat;
+        let Seat {
+            path,
+            leaf,
+            crew,
+            of: _,
+        } = seat;
         if !synced {
             return self.meeting.leave(rt, crew);
         }

@@ -9,7 +9,6 @@ use std::sync::Wait;
 use superstep_memory::path::Path;
 use tier_table::forcing::Forced;
 use tier_table::joining::{Opened, Registered};
-use tier_table::polling::Polled;
 use tier_table::tokens::{Crew, Door, Opening};
 use tier_table::tree::Tree;
 use tier_table::waiting::Counted;
@@ -153,10 +152,11 @@ impl<J: Running, F: Fn(u32, u32) -> bool> Meeting<J, F> {
         ensures same { crew.new.tree ≡ J.tree }
         ensures unarrived { OnOk result (crew.new.view.arrived < crew.new.view.size) }
     {
-        match self.tree.poll(crew) {
-            Polled::Passed(_) | Polled::Here(_) => Ok(()),
-            Polled::Waiting | Polled::Ended(_) => Err(Note::Internal),
+        let _polled = self.tree.poll(crew);
+        if crew.unarrived() == 0 {
+            return Err(Note::Internal);
         }
+        Ok(())
     }
 
     /// Lets the member of a crew arrive. Whether it took the advance.
