@@ -21,6 +21,7 @@ use tier_steps::view::Trip;
 const TRIES: u32 = 16;
 
 /// What a registration that waits answers.
+#[derive(Drop)]
 pub enum Admitted {
     /// The members have joined, in this phase.
     Joined(Crew, u32),
@@ -31,6 +32,7 @@ pub enum Admitted {
 }
 
 /// What an arrival or a departure that waits answers.
+#[derive(Drop)]
 pub enum Counted {
     /// A member has arrived or left in this phase; whether the call took the advance.
     Done(Crew, u32, bool),

@@ -1,0 +1,79 @@
+//! What tokens are asked, and what they are told.
+
+use tier_core::call::Cause;
+use tier_table::tokens::{Crew, Door, Errand, Opening};
+
+/// A token, whatever it is in.
+pub enum Slot {
+    /// Without members.
+    Outside(Door),
+    /// With members.
+    Inside(Crew),
+    /// In an arrival or a departure.
+    Owing(Errand),
+    /// In a registration.
+    Opening(Opening),
+}
+
+/// What a token is asked.
+#[derive(Clone, Copy, PartialEq, Eq)]
+pub enum Ask {
+    /// To register so many members at a tier.
+    Register(u16, u32),
+    /// To go on with a registration.
+    Open,
+    /// To let a member arrive.
+    Arrive,
+    /// To let a member leave.
+    Leave,
+    /// To go on with an arrival or a departure.
+    Resume,
+    /// To see whether its phase has passed.
+    Poll,
+    /// To end the tree.
+    Force,
+}
+
+/// What it is told.
+#[derive(Clone, Copy, PartialEq, Eq)]
+pub enum Told {
+    /// Nothing is done yet.
+    Busy,
+    /// Something is owed.
+    Owing,
+    /// Members joined in this phase.
+    Joined(u32),
+    /// They are held off in this phase.
+    Held(u32, Cause),
+    /// There is no room beside so many parties.
+    Full(u32),
+    /// A member arrived or left in this phase; whether that led.
+    Done(u32, bool),
+    /// The last member left.
+    Left(u32, bool),
+    /// All members had arrived.
+    AlreadyArrived(u32),
+    /// The next phase.
+    Passed(u32),
+    /// All members have arrived, and others have not.
+    Waiting,
+    /// A member is unarrived.
+    Here(u32),
+    /// The tree has ended.
+    Ended(i32),
+}
+
+/// Numbers one after another from a seed.
+#[derive(Drop)]
+pub struct Numbers {
+    /// The number before the next.
+    pub seed: u32,
+}
+
+impl Numbers {
+    /// The next number below a bound.
+    pub fn below(&mut self, bound: u32) -> u32 {
+        self.seed = self.seed.wrapping_mul(1664525).wrapping_add(1013904223);
+        (self.seed >> 16) % bound.max(1)
+    }
+}
