@@ -3,8 +3,4 @@ pub mod Quiet
 pub mod Steps
 pub mod Turning
 pub mod Joining
-pub mod Seats
-pub mod Turns
 pub mod Admitting
-pub mod Starting
-pub mod Kids

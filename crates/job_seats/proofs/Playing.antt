@@ -1,5 +1,5 @@
 -- What the roles say of the tree, and that others' steps leave them.
-use Rattle.std.proofs.Common.{◌≡◌, ◌≢◌, ℕ, suc, ◌<◌, true, false, List, [], ◌∷◌, length, get_or, refl, sym, ◌∙◌, ap, subst, arith}
+use Rattle.std.proofs.Common.{◌≡◌, ◌≢◌, ℕ, suc, ◌<◌, ⊎_elim, true, false, List, [], ◌∷◌, length, get_or, refl, sym, ◌∙◌, ap, subst, arith}
 use Rattle.std.specs.Prelude.{sum_by}
 use Rattle.std.proofs.lemmas.List.Sums.{sum_by-cons}
 use Rattle.tier_steps.specs.declared.view.View.{View}
@@ -18,9 +18,11 @@ use Rattle.tier_answers.specs.Frame.{flat_of, actor}
 use Rattle.tier_answers.specs.Hold.{IsAwaited}
 use Rattle.tier_answers.specs.Calls.{RootStays, is_poll}
 use Rattle.tier_answers.proofs.Framing.{others_stay}
-use Rattle.tier_answers.proofs.Holding.{awaited_tokens_hold, members_are_the_tokens, fits_at}
+use Rattle.tier_answers.proofs.Stepping.{fitting}
+use Rattle.tier_steps.specs.Told.{is_under_way}
+use Rattle.tier_answers.proofs.Holding.{awaited_tokens_hold, advances_are_alone, members_are_the_tokens, fits_at}
 use Rattle.job_seats.specs.Roles.{Role, Out, Joins, Seeks, Settles, GivesBack, Late, Polls, Ready, Here, Looks, Passes, Owes, Leads, Past, Plays, IsOut, IsLate, IsReady, HasCounted}
-use Rattle.job_seats.specs.Cast.{role_at, members_in, is_awaited, is_leading, NobodyLeads, MembersAreInRoles}
+use Rattle.job_seats.specs.Cast.{role_at, members_in, is_awaited, is_leading, NobodyLeads, LeadersAreAlone, MembersAreInRoles}
 
 pub awaited_of : (s : State) (i : ℕ) (r : Role) → Plays s i r → is_awaited r ≡ true → IsAwaited s i
 awaited_of s i Out p e = not_both false e refl
@@ -82,6 +84,23 @@ pub nobody_leads : NobodyLeads
 nobody_leads s roles i j cast h k e =
     sym (leads_is_due s j (role_at roles j) (cast.plays j k))
     ∙ (awaited_tokens_hold s i j cast.core cast.going (awaited_of s i (role_at roles i) (cast.plays i h) e) k).call
+
+-- no other owes anything
+pub leaders_are_alone : LeadersAreAlone
+leaders_are_alone s roles i j home trip cast h k n leads e =
+    let due : is_due (call_at s.calls i) ≡ true = leads_is_due s i (role_at roles i) (cast.plays i h) ∙ leads in
+    let owes = due_owes s.parents (call_at s.calls i) (view_at s.views i) due (cast.core.calls i h) in
+    let still = advances_are_alone s i j cast.core cast.going h owes k n in
+    ⊎_elim
+    (λ (q : role_at roles j ≡ Owes home trip).
+    let p : Plays s j (Owes home trip) = subst (λ (r : Role). Plays s j r) q (cast.plays j k) in
+    let fits = fitting s j (Owing trip) cast.core k p.1 in
+    not_both true refl (sym (ap is_under_way fits.2) ∙ still.errand))
+    (λ (q : role_at roles j ≡ Leads home trip).
+    let p : Plays s j (Leads home trip) = subst (λ (r : Role). Plays s j r) q (cast.plays j k) in
+    let fits = fitting s j (Due trip) cast.core k p.1 in
+    not_both true refl (sym (ap is_under_way fits) ∙ still.errand))
+    e
 
 -- the members of a token
 pub size_of : (s : State) (i : ℕ) (r : Role) → Plays s i r → (view_at s.views i).size ≡ members_in r

@@ -1,5 +1,5 @@
 -- All tokens of a tree in a superstep, each with its role, and how the roles go on (own).
-use Rattle.std.specs.Prelude.{◌≡◌, ℕ, ◌+◌, ◌<◌, ◌≤◌, ◌⊎◌, Bool, true, false, List, [], ◌∷◌, ◌++◌, length, slice_index_or, slice_set, map, sum_by}
+use Rattle.std.specs.Prelude.{◌≡◌, ◌≢◌, ℕ, ◌+◌, ◌<◌, ◌≤◌, ◌⊎◌, Bool, true, false, List, [], ◌∷◌, ◌++◌, length, slice_index_or, slice_set, map, sum_by}
 use Rattle.flat_phaser.specs.Flat.{registered}
 use Rattle.phaser_word.specs.Phase.{next_phase_of}
 use Rattle.tier_steps.specs.declared.view.Trip.{Trip}
@@ -142,11 +142,18 @@ BeginningsKeepTheCast =
     → (may_begin s token c ≡ true) × IsCast (after s (Begin token c)) (slice_set roles token next)
     × ((flat_of (after s (Begin token c))).phase ≡ (flat_of s).phase)
 
--- Where a member is awaited nobody leads; where one token leads all others have passed or have no members.
+-- Where a member is awaited nobody leads.
 abbrev pub NobodyLeads : Type 0
 NobodyLeads =
     (s : State) (roles : List Role) (token other : ℕ) → IsCast s roles → token < length s.views → other < length s.views
     → is_awaited (role_at roles token) ≡ true → is_leading (role_at roles other) ≡ false
+
+-- Where one token leads no other climbs, or leads.
+abbrev pub LeadersAreAlone : Type 0
+LeadersAreAlone =
+    (s : State) (roles : List Role) (token other home : ℕ) (trip : Trip) → IsCast s roles → token < length s.views → other < length s.views
+    → other ≢ token → is_leading (role_at roles token) ≡ true
+    → (role_at roles other ≡ Owes home trip) ⊎ (role_at roles other ≡ Leads home trip) → ⊥
 
 -- the role at the beginning of the next superstep
 abbrev pub turned : Role → Role

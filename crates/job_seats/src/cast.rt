@@ -1,11 +1,16 @@
 //! What each token of a tree does in a superstep. Each law is the contract of a function without parameters
 //! that does nothing.
 
-ghost use Rattle.job_seats.specs.Cast.{NobodyLeads, MembersAreInRoles, StepsKeepTheCast, BeginningsKeepTheCast, AdvancesTurnTheCast, NewTokensAreOut, HomesAdmit};
+ghost use Rattle.job_seats.specs.Cast.{NobodyLeads, LeadersAreAlone, MembersAreInRoles, StepsKeepTheCast, BeginningsKeepTheCast, AdvancesTurnTheCast, NewTokensAreOut, HomesAdmit};
 
 /// Where a member is awaited no token has to advance the root.
 pub fn nobody_leads()
     ensures { NobodyLeads }
+{}
+
+/// Where a token has to advance the root no other climbs, or has to advance it.
+pub fn leaders_are_alone()
+    ensures { LeadersAreAlone }
 {}
 
 /// The tree has as many members as the roles of its tokens say.
