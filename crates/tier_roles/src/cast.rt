@@ -1,7 +1,7 @@
 //! What each token of a tree does in a superstep. Each law is the contract of a function without parameters
 //! that does nothing.
 
-ghost use Rattle.job_seats.specs.Cast.{NobodyLeads, LeadersAreAlone, MembersAreInRoles, StepsKeepTheCast, BeginningsKeepTheCast, AdvancesTurnTheCast, NewTokensAreOut, HomesAdmit};
+ghost use Rattle.tier_roles.specs.Cast.{NobodyLeads, LeadersAreAlone, MembersAreInRoles, StepsKeepTheCast, BeginningsKeepTheCast, AdvancesTurnTheCast, NewTokensAreOut, HomesAdmit};
 
 /// Where a member is awaited no token has to advance the root.
 pub fn nobody_leads()

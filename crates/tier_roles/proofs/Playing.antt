@@ -21,8 +21,8 @@ use Rattle.tier_answers.proofs.Framing.{others_stay}
 use Rattle.tier_answers.proofs.Stepping.{fitting}
 use Rattle.tier_steps.specs.Told.{is_under_way}
 use Rattle.tier_answers.proofs.Holding.{awaited_tokens_hold, advances_are_alone, members_are_the_tokens, fits_at}
-use Rattle.job_seats.specs.Roles.{Role, Out, Joins, Seeks, Settles, GivesBack, Late, Polls, Ready, Here, Looks, Passes, Owes, Leads, Past, Plays, IsOut, IsLate, IsReady, HasCounted}
-use Rattle.job_seats.specs.Cast.{role_at, members_in, is_awaited, is_leading, NobodyLeads, LeadersAreAlone, MembersAreInRoles}
+use Rattle.tier_roles.specs.Roles.{Role, Out, Joins, Seeks, Settles, GivesBack, Late, Polls, Ready, Here, Looks, Passes, Owes, Leads, Past, Plays, IsOut, IsLate, IsReady, HasCounted}
+use Rattle.tier_roles.specs.Cast.{role_at, members_in, is_awaited, is_leading, NobodyLeads, LeadersAreAlone, MembersAreInRoles}
 
 pub awaited_of : (s : State) (i : ℕ) (r : Role) → Plays s i r → is_awaited r ≡ true → IsAwaited s i
 awaited_of s i Out p e = not_both false e refl

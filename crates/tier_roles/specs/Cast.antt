@@ -15,7 +15,7 @@ use Rattle.tier_core.specs.Run.{after, may_begin}
 use Rattle.tier_answers.specs.Frame.{flat_of}
 use Rattle.tier_answers.specs.Plan.{flat_ends}
 use Rattle.tier_answers.specs.Calls.{answer_then, call_by}
-use Rattle.job_seats.specs.Roles.{Role, Out, Joins, Seeks, Settles, GivesBack, Late, Polls, Ready, Here, Looks, Passes, Owes, Leads, Past, Plays, is_refused}
+use Rattle.tier_roles.specs.Roles.{Role, Out, Joins, Seeks, Settles, GivesBack, Late, Polls, Ready, Here, Looks, Passes, Owes, Leads, Past, Plays, is_refused}
 
 abbrev pub role_at : List Role → ℕ → Role
 role_at roles token = slice_index_or roles token Out

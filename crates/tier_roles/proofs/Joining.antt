@@ -27,8 +27,8 @@ use Rattle.tier_answers.proofs.Memory.{by_turn}
 use Rattle.tier_answers.proofs.Stepping.{Gone, gone, fitting}
 use Rattle.tier_answers.proofs.Seeking.{joined_phase}
 use Rattle.tier_answers.proofs.Members.{joins_begin_with_a_look, settling_keeps_members, refused_size, still_going}
-use Rattle.job_seats.specs.Roles.{Role, Out, Joins, Seeks, Settles, GivesBack, Ready, Plays, is_refused}
-use Rattle.job_seats.proofs.Quiet.{core_after, Goes, known_after}
+use Rattle.tier_roles.specs.Roles.{Role, Out, Joins, Seeks, Settles, GivesBack, Ready, Plays, is_refused}
+use Rattle.tier_roles.proofs.Quiet.{core_after, Goes, known_after}
 
 pub joins_go : (s : State) (i home : ℕ) → IsCore s → (flat_of s).ended ≡ false → RootStays s (after s (Go i)) → Plays s i (Joins home)
     → (next : Role) × Goes s i (Joins home) next

@@ -34,9 +34,9 @@ use Rattle.tier_answers.specs.Frame.{flat_of, actor}
 use Rattle.tier_answers.specs.Calls.{moves_root, RootStays, answer_then}
 use Rattle.tier_answers.proofs.Framing.{others_stay}
 use Rattle.tier_answers.proofs.Stepping.{only_advances_move}
-use Rattle.job_seats.specs.Roles.{Role, Out, Plays}
-use Rattle.job_seats.specs.Cast.{role_at, IsCast, Follows}
-use Rattle.job_seats.proofs.Playing.{plays_stay, kept_by_others}
+use Rattle.tier_roles.specs.Roles.{Role, Out, Plays}
+use Rattle.tier_roles.specs.Cast.{role_at, IsCast, Follows}
+use Rattle.tier_roles.proofs.Playing.{plays_stay, kept_by_others}
 
 abbrev pub is_forcing : Progress → Bool
 is_forcing Idle = false

@@ -18,10 +18,10 @@ use Rattle.tier_answers.specs.Calls.{RootStays, view_then, call_then, answer_the
 use Rattle.tier_answers.proofs.Holding.{is_awaited as awaited_by, fits_at}
 use Rattle.tier_answers.proofs.Stepping.{polls_follow_the_root, fitting, gone}
 use Rattle.tier_answers.proofs.Members.{passes_begin_with_a_look, climbs_keep_members, pass_goes, counted, own_errand, still_going}
-use Rattle.job_seats.specs.Roles.{Role, Out, Joins, Seeks, Settles, GivesBack, Late, Polls, Ready, Here, Looks, Passes, Owes, Leads, Past, Plays, IsLate, IsReady, HasCounted}
-use Rattle.job_seats.specs.Cast.{role_at, is_on_its_way, StepsKeepTheCast}
-use Rattle.job_seats.proofs.Quiet.{is_forcing, goes_stay, core_after, keeps_the_cast, Goes, known_after}
-use Rattle.job_seats.proofs.Joining.{joins_go, seeks_go, settles_go, gives_back_go}
+use Rattle.tier_roles.specs.Roles.{Role, Out, Joins, Seeks, Settles, GivesBack, Late, Polls, Ready, Here, Looks, Passes, Owes, Leads, Past, Plays, IsLate, IsReady, HasCounted}
+use Rattle.tier_roles.specs.Cast.{role_at, is_on_its_way, StepsKeepTheCast}
+use Rattle.tier_roles.proofs.Quiet.{is_forcing, goes_stay, core_after, keeps_the_cast, Goes, known_after}
+use Rattle.tier_roles.proofs.Joining.{joins_go, seeks_go, settles_go, gives_back_go}
 
 polls_go : (s : State) (i home : ℕ) → IsCore s → (flat_of s).ended ≡ false → RootStays s (after s (Go i)) → Plays s i (Polls home)
     → (next : Role) × Goes s i (Polls home) next

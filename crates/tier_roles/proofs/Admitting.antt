@@ -10,10 +10,10 @@ use Rattle.tier_core.specs.Machine.{view_at}
 use Rattle.tier_answers.proofs.Stepping.{fitting}
 use Rattle.tier_answers.proofs.Members.{open_tiers_admit}
 use Rattle.tier_answers.proofs.Opens.{awaited_tiers_wait}
-use Rattle.job_seats.specs.Roles.{Role, Here, Seeks, Ready, Plays}
-use Rattle.job_seats.specs.Cast.{HomesAdmit}
-use Rattle.job_seats.proofs.Quiet.{is_forcing, goes_stay, keeps_the_cast}
-use Rattle.job_seats.proofs.Joining.{seated}
+use Rattle.tier_roles.specs.Roles.{Role, Here, Seeks, Ready, Plays}
+use Rattle.tier_roles.specs.Cast.{HomesAdmit}
+use Rattle.tier_roles.proofs.Quiet.{is_forcing, goes_stay, keeps_the_cast}
+use Rattle.tier_roles.proofs.Joining.{seated}
 
 pub homes_admit : HomesAdmit
 homes_admit s roles own i home cast k h e f room =

@@ -24,10 +24,10 @@ use Rattle.tier_answers.proofs.Holding.{advances_are_alone}
 use Rattle.tier_answers.proofs.Stepping.{only_advances_move, fitting}
 use Rattle.tier_answers.proofs.Members.{advances_keep_members}
 use Rattle.tier_answers.proofs.Rounding.{advances_begin_the_phase}
-use Rattle.job_seats.specs.Roles.{Role, Out, Joins, Seeks, Settles, GivesBack, Late, Polls, Ready, Here, Looks, Passes, Owes, Leads, Past, Plays, IsLate, IsReady}
-use Rattle.job_seats.specs.Cast.{role_at, IsCast, is_awaited, is_leading, is_settled, turned, BeginningsKeepTheCast, AdvancesTurnTheCast, NewTokensAreOut}
-use Rattle.job_seats.proofs.Playing.{kept_by_others, plays_stay, leads_is_due, due_owes, nobody_leads}
-use Rattle.job_seats.proofs.Quiet.{core_after, tokens_stay, keeps_the_cast}
+use Rattle.tier_roles.specs.Roles.{Role, Out, Joins, Seeks, Settles, GivesBack, Late, Polls, Ready, Here, Looks, Passes, Owes, Leads, Past, Plays, IsLate, IsReady}
+use Rattle.tier_roles.specs.Cast.{role_at, IsCast, is_awaited, is_leading, is_settled, turned, BeginningsKeepTheCast, AdvancesTurnTheCast, NewTokensAreOut}
+use Rattle.tier_roles.proofs.Playing.{kept_by_others, plays_stay, leads_is_due, due_owes, nobody_leads}
+use Rattle.tier_roles.proofs.Quiet.{core_after, tokens_stay, keeps_the_cast}
 
 -- a call of a token with one member
 record Started (s : State) (i : ℕ) (c : Call) : Type 0 where
