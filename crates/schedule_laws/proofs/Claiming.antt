@@ -158,17 +158,17 @@ abbrev Tells : World → ℕ → Option Move → Type 0
 Tells w worker None = Unit {0}
 Tells w worker (Some m) = (played : Played) → (done_by w worker m).0 ≡ Advanced played → IsCounted w
 
-not_called : {A : Type 0} (w : World) (worker place : ℕ) (tree : Tree) (a : TreeAnswer) (played : Played) → (called_by w worker place tree a).0 ≡ Advanced played → A
+pub not_called : {A : Type 0} (w : World) (worker place : ℕ) (tree : Tree) (a : TreeAnswer) (played : Played) → (called_by w worker place tree a).0 ≡ Advanced played → A
 not_called w worker place tree answer.Begun played h = cc
 not_called w worker place tree (answer.Played a) played h = cc
 not_called w worker place tree answer.NotNow played h = cc
 
-not_forced : {A : Type 0} (w : World) (tree : Tree) (a : TreeAnswer) (played : Played) → (ended_by w tree a).0 ≡ Advanced played → A
+pub not_forced : {A : Type 0} (w : World) (tree : Tree) (a : TreeAnswer) (played : Played) → (ended_by w tree a).0 ≡ Advanced played → A
 not_forced w tree answer.Begun played h = cc
 not_forced w tree (answer.Played a) played h = cc
 not_forced w tree answer.NotNow played h = cc
 
-not_closed : {A : Type 0} (w : World) (worker token : ℕ) (job : State) (o : Option ReportValue) (played : Played) → (closed_as w worker token job o).0 ≡ Advanced played → A
+pub not_closed : {A : Type 0} (w : World) (worker token : ℕ) (job : State) (o : Option ReportValue) (played : Played) → (closed_as w worker token job o).0 ≡ Advanced played → A
 not_closed w worker token job None played h = cc
 not_closed w worker token job (Some r) played h = cc
 
