@@ -23,19 +23,17 @@ use Rattle.tier_answers.specs.Plan.{flat_ends}
 use Rattle.tier_answers.proofs.Planning.{known_due}
 use Rattle.step_core.specs.Superstep.{State}
 use Rattle.step_core.specs.JobMeaning.{status, status_of}
-use Rattle.job_seats.specs.Roles.{Role, Out, Late, Polls, Here, Looks, Passes, Owes, Leads, Past}
-use Rattle.job_seats.specs.Cast.{role_at, IsCast, IsTurned, members_in, is_awaited, is_leading, is_settled, turned}
-use Rattle.job_seats.specs.Shop.{trip_if}
-use Rattle.job_seats.proofs.Playing.{nobody_leads, leads_is_due, members_are_in_roles}
-use Rattle.job_seats.proofs.Seats.{alone, leads_only}
-use Rattle.job_seats.proofs.Turning.{advances_turn_the_cast}
+use Rattle.tier_roles.specs.Roles.{Role, Out, Late, Polls, Here, Looks, Passes, Owes, Leads, Past}
+use Rattle.tier_roles.specs.Cast.{role_at, IsCast, IsTurned, members_in, is_awaited, is_leading, is_settled, turned}
+use Rattle.tier_roles.proofs.Playing.{nobody_leads, leaders_are_alone, leads_is_due, members_are_in_roles}
+use Rattle.tier_roles.proofs.Turning.{advances_turn_the_cast}
 use Rattle.job_schedule.specs.declared.stage.Stage.{Stage}
 use Rattle.job_schedule.specs.declared.stage.Stage.TheVariants.{Waits, Taken, Polling, Joining, Arriving, Leaving, Over}
 use Rattle.job_schedule.specs.declared.stage.Move.TheVariants.{Advances}
 use Rattle.job_schedule.specs.declared.stage.Mode.TheVariants as mode
 use Rattle.job_schedule.specs.SeatValue.{KidValue, SeatValue, no_seat, seat_at, kid_at, is_over, all_over, waiting, own_seat, kid_seat, living_seats}
 use Rattle.job_schedule.specs.World.{World, at_stage, advanced_by, has_advanced, done_by}
-use Rattle.schedule_laws.specs.Working.{OwnFits, SitsAt, Sits, of_seat, of_all, AreShared, IsWorking, IsTurning}
+use Rattle.schedule_laws.specs.Working.{trip_if, IsOwnPassing, OwnFits, SitsAt, Sits, of_seat, of_all, AreShared, IsWorking, IsTurning}
 use Rattle.schedule_laws.proofs.Sharing.{own_in, known_in, others_own}
 use Rattle.schedule_laws.proofs.Calling.{one_step}
 use Rattle.schedule_laws.proofs.Turning.{IsNext, next_sits, next_shared, next_free, sum_set_same}
@@ -167,6 +165,13 @@ same_members : (home : ℕ) (trip : Trip) → members_in (Past home trip) ≡ me
 same_members home Arrival = refl
 same_members home Departure = refl
 
+-- of all that it may do, it leads
+leads_only : (home : ℕ) (trip : Trip) (own : Role) → IsOwnPassing home trip own → is_leading own ≡ true → own ≡ Leads home trip
+leads_only home trip own f e = ⊎_elim (λ (q : own ≡ Here home). not_both (is_leading own) e (ap is_leading q))
+    (λ q. ⊎_elim (λ (q : own ≡ Looks home trip). not_both (is_leading own) e (ap is_leading q))
+    (λ q. ⊎_elim (λ (q : own ≡ Passes home trip). not_both (is_leading own) e (ap is_leading q))
+    (λ q. ⊎_elim (λ (q : own ≡ Owes home trip). not_both (is_leading own) e (ap is_leading q)) (λ q. q) q) q) q) f
+
 module _ (parents : List ℕ) (w : World) (roles : List Role) (worker place : ℕ) (is : IsWorking parents w roles) (h : place < length w.seats)
     (at : (seat_at w.seats place).stage ≡ Leaving) (due : may_finish w.tree (seat_at w.seats place).token ≡ true) where
   own_known : (q : ℕ) → q < length w.seats → (seat_at w.seats q).token < length w.tree.views
@@ -196,9 +201,8 @@ module _ (parents : List ℕ) (w : World) (roles : List Role) (worker place : �
 
       owes : {A : Type 0} (home : ℕ) (trip : Trip)
           → (role_at roles (seat_at w.seats q).token ≡ Owes home trip) ⊎ (role_at roles (seat_at w.seats q).token ≡ Leads home trip) → A
-      owes home trip e = absurd (alone w.tree roles (seat_at w.seats place).token (seat_at w.seats q).token home trip is.cast (own_known place h) (own_known q l)
-          (known_due w.tree (seat_at w.seats place).token due).1
-          (others_own w.seats w.free (length w.tree.views) is.shared place q (seat_at w.seats place).token h l o (own_in (seat_at w.seats place))) e)
+      owes home trip e = absurd (leaders_are_alone w.tree roles (seat_at w.seats place).token (seat_at w.seats q).token home trip is.cast (own_known place h) (own_known q l)
+          (others_own w.seats w.free (length w.tree.views) is.shared place q (seat_at w.seats place).token h l o (own_in (seat_at w.seats place))) leading e)
 
       go : (s : Stage) → OwnFits s (seat_at w.seats q).home (seat_at w.seats q).synced (role_at roles (seat_at w.seats q).token) → s ≡ Over
       go Waits f = awaits (Late (seat_at w.seats q).home) f refl

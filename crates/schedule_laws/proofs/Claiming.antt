@@ -23,7 +23,7 @@ use Rattle.step_core.specs.JobMeaning.{status, report_in}
 use Rattle.step_core.specs.OrderValue.{is_synced, spawned_paths}
 use Rattle.step_core.specs.Laws.{paths_on, synced_path}
 use Rattle.step_core.proofs.Apart.{live-paths-rise}
-use Rattle.job_seats.specs.Roles.{Role}
+use Rattle.tier_roles.specs.Roles.{Role}
 use Rattle.job_schedule.specs.declared.stage.Stage.{Stage}
 use Rattle.job_schedule.specs.declared.stage.Stage.TheVariants.{Waits, Taken, Polling, Joining, Arriving, Leaving, Over}
 use Rattle.job_schedule.specs.declared.stage.Mode.{Mode}
@@ -32,7 +32,7 @@ use Rattle.job_schedule.specs.declared.stage.Move.{Move}
 use Rattle.job_schedule.specs.declared.stage.Move.TheVariants.{Takes, Calls, Closes, Ends}
 use Rattle.job_schedule.specs.declared.step.JobStep.{JobStep}
 use Rattle.job_schedule.specs.AnswerValue.{Advanced, NotNow}
-use Rattle.job_schedule.specs.SeatValue.{SeatValue, no_seat, seat_at, seat_path, all_over, is_delivered, kid_at, own_seat, kid_seat, living_seats}
+use Rattle.job_schedule.specs.SeatValue.{SeatValue, seat_at, seat_path, all_over, is_delivered, kid_at, own_seat, kid_seat, living_seats}
 use Rattle.job_schedule.specs.World.{World, at_stage, called_by, ended_by, next_job, closed_as, done_by, kind_of, kind_for, if_asked, by_stage, by_seat, by_hand, by_mode, move_of, worker_of, answer_of, reached, opening_world}
 use Rattle.job_schedule.specs.Laws.{IsStanding}
 use Rattle.job_schedule.proofs.Jobs.{IsOf, run_is_of, opening_is_of}
@@ -40,6 +40,7 @@ use Rattle.job_schedule.proofs.Seated.{living_paths}
 use Rattle.job_schedule.proofs.Standing.{seats_are_the_live_tasks}
 use Rattle.schedule_laws.specs.Working.{IsWorking, IsKept}
 use Rattle.schedule_laws.specs.Laws.{IsDriven, WorldsAreKept, IsWhole, ClosingMissesNothing, deeds, IsCounted, AdvancesAreCounted}
+use Rattle.schedule_laws.proofs.Sharing.{no_seat_beyond}
 use Rattle.schedule_laws.proofs.Advancing.{members_live_on, all_delivered}
 use Rattle.schedule_laws.proofs.Renewing.{over_at}
 use Rattle.schedule_laws.proofs.Few.{are_few}
@@ -157,24 +158,19 @@ abbrev Tells : World → ℕ → Option Move → Type 0
 Tells w worker None = Unit {0}
 Tells w worker (Some m) = (played : Played) → (done_by w worker m).0 ≡ Advanced played → IsCounted w
 
-not_called : {A : Type 0} (w : World) (worker place : ℕ) (tree : Tree) (a : TreeAnswer) (played : Played) → (called_by w worker place tree a).0 ≡ Advanced played → A
+pub not_called : {A : Type 0} (w : World) (worker place : ℕ) (tree : Tree) (a : TreeAnswer) (played : Played) → (called_by w worker place tree a).0 ≡ Advanced played → A
 not_called w worker place tree answer.Begun played h = cc
 not_called w worker place tree (answer.Played a) played h = cc
 not_called w worker place tree answer.NotNow played h = cc
 
-not_forced : {A : Type 0} (w : World) (tree : Tree) (a : TreeAnswer) (played : Played) → (ended_by w tree a).0 ≡ Advanced played → A
+pub not_forced : {A : Type 0} (w : World) (tree : Tree) (a : TreeAnswer) (played : Played) → (ended_by w tree a).0 ≡ Advanced played → A
 not_forced w tree answer.Begun played h = cc
 not_forced w tree (answer.Played a) played h = cc
 not_forced w tree answer.NotNow played h = cc
 
-not_closed : {A : Type 0} (w : World) (worker token : ℕ) (job : State) (o : Option ReportValue) (played : Played) → (closed_as w worker token job o).0 ≡ Advanced played → A
+pub not_closed : {A : Type 0} (w : World) (worker token : ℕ) (job : State) (o : Option ReportValue) (played : Played) → (closed_as w worker token job o).0 ≡ Advanced played → A
 not_closed w worker token job None played h = cc
 not_closed w worker token job (Some r) played h = cc
-
-no_seat_beyond : (gs : List SeatValue) (place : ℕ) → length gs ≤ place → seat_at gs place ≡ no_seat
-no_seat_beyond [] place h = refl
-no_seat_beyond (g ∷ gs) zero h = absurd (omega arith)
-no_seat_beyond (g ∷ gs) (suc place) h = no_seat_beyond gs place (omega arith)
 
 module _ (parents : List ℕ) (p : Program) (limit : ℕ) (w : World) (worker : ℕ) (of : IsOf p limit w)
     (stands : is_some (status w.limit w.job) ≡ false → IsStanding w) where

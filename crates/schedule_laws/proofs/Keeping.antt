@@ -1,5 +1,5 @@
 -- Each step of a worker keeps what is true of its world.
-use Rattle.std.proofs.Common.{◌+◌, ◌≡◌, ℕ, zero, suc, ◌<◌, ◌≤◌, inr, ⊎_elim, Bool, true, false, List, [], ◌∷◌, length, map, refl, sym, ◌∙◌, ap, subst, arith, Some, None, Option}
+use Rattle.std.proofs.Common.{◌+◌, ◌≡◌, ℕ, ◌<◌, ◌≤◌, inr, ⊎_elim, Bool, true, false, List, [], ◌∷◌, length, map, refl, sym, ◌∙◌, ap, subst, arith, Some, None, Option}
 use Rattle.std.specs.Prelude.{if◌then◌else◌, ◌==◌, ◌&&◌, nat_lt, slice_index_or, is_some}
 use Rattle.std.proofs.lemmas.Bool.{ltb-true, ltb-false}
 use Rattle.phase_records.specs.Status.{Status, Ended as HasEnded, Fault as HasFaulted, Limit as IsAtLimit}
@@ -16,8 +16,8 @@ use Rattle.tier_core.proofs.Turns.{not_both}
 use Rattle.step_core.specs.Superstep.{State, superstep, live_paths}
 use Rattle.step_core.specs.JobMeaning.{status, told, report_in, unless_ended}
 use Rattle.step_core.specs.OrderValue.{has_synced, spawned_paths}
-use Rattle.job_seats.specs.Roles.{Role}
-use Rattle.job_seats.specs.Cast.{turned}
+use Rattle.tier_roles.specs.Roles.{Role}
+use Rattle.tier_roles.specs.Cast.{turned}
 use Rattle.job_schedule.specs.declared.stage.Stage.{Stage}
 use Rattle.job_schedule.specs.declared.stage.Stage.TheVariants.{Waits, Taken, Polling, Joining, Arriving, Leaving, Over}
 use Rattle.job_schedule.specs.declared.stage.Mode.{Mode}
@@ -26,9 +26,10 @@ use Rattle.job_schedule.specs.declared.stage.Move.{Move}
 use Rattle.job_schedule.specs.declared.stage.Move.TheVariants.{Takes, Delivers, Calls, Advances, Closes, Ends}
 use Rattle.job_schedule.specs.declared.step.JobStep.{JobStep}
 use Rattle.job_schedule.specs.AnswerValue.{NotNow}
-use Rattle.job_schedule.specs.SeatValue.{SeatValue, no_seat, seat_at, seat_path, kid_at, all_over}
+use Rattle.job_schedule.specs.SeatValue.{SeatValue, seat_at, seat_path, kid_at, all_over}
 use Rattle.job_schedule.specs.World.{World, deed_of, kid_from, with_kids, noted, called_by, advanced_by, ended_by, next_job, mode_after, closed_as, done_by, kind_of, kind_for, if_asked, by_stage, by_seat, by_hand, by_mode, move_of, worker_of, world_after, reached}
 use Rattle.schedule_laws.specs.Working.{IsWorking, IsKept}
+use Rattle.schedule_laws.proofs.Sharing.{no_seat_beyond}
 use Rattle.schedule_laws.proofs.Moving.{Works, sits_at, polling_works, joining_works, arriving_works, leaving_works}
 use Rattle.schedule_laws.proofs.Room.{AreFew, has_room}
 use Rattle.schedule_laws.proofs.Delivering.{taking_works, delivering_works}
@@ -36,10 +37,10 @@ use Rattle.schedule_laws.proofs.Advancing.{advancing_turns, advancing_mode}
 use Rattle.schedule_laws.proofs.Renewing.{closing_works, no_status}
 
 -- the same mode and job
-record IsSame (w v : World) : Type 0 where
-  mode : v.mode ≡ w.mode
-  limit : v.limit ≡ w.limit
-  job : v.job ≡ w.job
+pub record IsSame (w v : World) : Type 0 where
+  pub mode : v.mode ≡ w.mode
+  pub limit : v.limit ≡ w.limit
+  pub job : v.job ≡ w.job
 
 and_then : (u v w : World) → IsSame u v → IsSame v w → IsSame u w
 and_then u v w h k = record { mode = k.mode ∙ h.mode; limit = k.limit ∙ h.limit; job = k.job ∙ h.job }
@@ -89,11 +90,6 @@ Stands v = is_some (status v.limit v.job) ≡ false → map seat_path v.seats �
 abbrev Keeps : List ℕ → World → ℕ → Option Move → Type 0
 Keeps parents w worker None = Unit {0}
 Keeps parents w worker (Some m) = Stands (done_by w worker m).1 → Kept parents (done_by w worker m).1
-
-no_seat_beyond : (gs : List SeatValue) (place : ℕ) → length gs ≤ place → seat_at gs place ≡ no_seat
-no_seat_beyond [] place h = refl
-no_seat_beyond (g ∷ gs) zero h = absurd (omega arith)
-no_seat_beyond (g ∷ gs) (suc place) h = no_seat_beyond gs place (omega arith)
 
 module _ (parents : List ℕ) (w : World) (worker : ℕ) (few : w.limit ≤ 2147483648) (within : worker < 64) (tiers : length parents ≤ 64)
     (light : is_some (status w.limit w.job) ≡ false → AreFew w) where

@@ -13,3 +13,4 @@ pub mod Opening
 pub mod Few
 pub mod Claiming
 pub mod Spawning
+pub mod Following

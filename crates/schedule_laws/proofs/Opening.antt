@@ -30,12 +30,13 @@ use Rattle.step_core.specs.Superstep.{live_paths}
 use Rattle.step_core.specs.JobMeaning.{opening, start_tasks, status, status_of}
 use Rattle.task_lang.specs.Meaning.{Plan, Task}
 use Rattle.task_lang.specs.declared.job.Start.{Start}
-use Rattle.job_seats.specs.Roles.{Role, Out, Late, Plays}
-use Rattle.job_seats.specs.Cast.{role_at}
+use Rattle.tier_roles.specs.Roles.{Role, Out, Late, Plays}
+use Rattle.tier_roles.specs.Cast.{role_at}
 use Rattle.job_schedule.specs.SeatValue.{SeatValue, no_seat, seat_at, waiting}
 use Rattle.job_schedule.specs.World.{World, gone, joined_at, leaf_at, plan_for, empty_world, with_start, with_starts, opening_world}
 use Rattle.schedule_laws.specs.Working.{Sits, of_seat, of_all, AreShared, IsBuilt, IsWorking, IsKept}
 use Rattle.schedule_laws.specs.Laws.{IsDriven}
+use Rattle.schedule_laws.proofs.Keeping.{IsSame}
 use Rattle.schedule_laws.proofs.Calling.{one_step}
 use Rattle.schedule_laws.proofs.Delivering.{leaf_within}
 
@@ -231,12 +232,6 @@ seats_long : (w : World) (paths : List (List ℕ)) → length (with_starts w pat
 seats_long w [] = omega arith
 seats_long w (path ∷ paths) =
     let a = seats_long (with_start w path) paths in let b : length (with_start w path).seats ≡ length w.seats + 1 = length-append w.seats _ in omega arith
-
--- the same mode and job
-record IsSame (w v : World) : Type 0 where
-  mode : v.mode ≡ w.mode
-  limit : v.limit ≡ w.limit
-  job : v.job ≡ w.job
 
 starts_same : (w : World) (paths : List (List ℕ)) → IsSame w (with_starts w paths)
 starts_same w [] = record { mode = refl; limit = refl; job = refl }

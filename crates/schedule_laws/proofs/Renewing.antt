@@ -14,15 +14,14 @@ use Rattle.task_lang.specs.Meaning.{Task, Segment}
 use Rattle.step_core.specs.Program.{Program}
 use Rattle.step_core.specs.Superstep.{State, segments, first_fault, superstep, closed, next_live, live_paths, ended_by, gone_on}
 use Rattle.step_core.specs.JobMeaning.{status, status_of, told, report_in}
-use Rattle.job_seats.specs.Roles.{Role, Out, Late, Past}
-use Rattle.job_seats.specs.Cast.{role_at, turned}
-use Rattle.job_seats.specs.Shop.{trip_if}
+use Rattle.tier_roles.specs.Roles.{Role, Out, Late, Past}
+use Rattle.tier_roles.specs.Cast.{role_at, turned}
 use Rattle.job_schedule.specs.declared.stage.Stage.{Stage}
 use Rattle.job_schedule.specs.declared.stage.Stage.TheVariants.{Waits, Taken, Polling, Joining, Arriving, Leaving, Over}
 use Rattle.job_schedule.specs.SeatValue.{KidValue, SeatValue, seat_at, kid_at, seat_path, is_over, all_over, waiting, own_seat, kid_seat, living_seats, next_seats, freed}
 use Rattle.job_schedule.specs.World.{World, next_job, renewed}
 use Rattle.job_schedule.proofs.Closing.{one_superstep}
-use Rattle.schedule_laws.specs.Working.{SitsAt, Sits, of_seat, IsWorking, IsTurning}
+use Rattle.schedule_laws.specs.Working.{trip_if, SitsAt, Sits, of_seat, IsWorking, IsTurning}
 use Rattle.schedule_laws.proofs.Advancing.{AllOver, running_step}
 
 -- in path order: the same sums, and what is true of each

@@ -7,6 +7,12 @@ use Rattle.std.proofs.lemmas.List.Sums.{sum_by-cons}
 use Rattle.job_schedule.specs.SeatValue.{KidValue, SeatValue, no_seat, no_kid, seat_at, kid_at}
 use Rattle.schedule_laws.specs.Working.{of_seat, of_all, AreShared}
 
+-- no task stands behind the last
+pub no_seat_beyond : (gs : List SeatValue) (place : ℕ) → length gs ≤ place → seat_at gs place ≡ no_seat
+no_seat_beyond [] place h = refl
+no_seat_beyond (g ∷ gs) zero h = absurd (omega arith)
+no_seat_beyond (g ∷ gs) (suc place) h = no_seat_beyond gs place (omega arith)
+
 -- the measure of one token alone
 abbrev pub one : ℕ → ℕ → ℕ
 one i t = cond (eqb t i) 1 0

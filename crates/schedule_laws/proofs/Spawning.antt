@@ -1,5 +1,5 @@
 -- A spawned task is never refused at the tier of its spawner.
-use Rattle.std.proofs.Common.{◌≡◌, ℕ, zero, suc, ◌<◌, ◌≤◌, ⊎_elim, Bool, true, false, List, [], ◌∷◌, length, refl, sym, ◌∙◌, ap, subst, arith, Some, None, Option}
+use Rattle.std.proofs.Common.{◌≡◌, ℕ, ◌<◌, ◌≤◌, ⊎_elim, Bool, true, false, List, length, refl, sym, ◌∙◌, ap, subst, arith, Some, None, Option}
 use Rattle.std.specs.Prelude.{if◌then◌else◌, ◌==◌, ◌&&◌, nat_lt, slice_index_or, is_some}
 use Rattle.std.proofs.lemmas.Bool.{ltb-true, ltb-false}
 use Rattle.tier_core.specs.declared.call.Call.{Call}
@@ -12,7 +12,7 @@ use Rattle.tier_core.specs.declared.call.Step.TheVariants.{Begin, Go}
 use Rattle.tier_core.specs.Machine.{State as Tree}
 use Rattle.tier_core.specs.Run.{after, answer_to}
 use Rattle.step_core.specs.JobMeaning.{status}
-use Rattle.job_seats.specs.Roles.{Role, is_refused as turns_away}
+use Rattle.tier_roles.specs.Roles.{Role, is_refused as turns_away}
 use Rattle.job_schedule.specs.declared.stage.Stage.{Stage}
 use Rattle.job_schedule.specs.declared.stage.Stage.TheVariants.{Waits, Taken, Polling, Joining, Arriving, Leaving, Over}
 use Rattle.job_schedule.specs.declared.stage.Mode.{Mode}
@@ -21,10 +21,11 @@ use Rattle.job_schedule.specs.declared.stage.Move.{Move}
 use Rattle.job_schedule.specs.declared.stage.Move.TheVariants.{Takes, Calls, Closes, Ends}
 use Rattle.job_schedule.specs.declared.step.JobStep.{JobStep}
 use Rattle.job_schedule.specs.AnswerValue.{Stepped, NotNow}
-use Rattle.job_schedule.specs.SeatValue.{SeatValue, no_seat, seat_at, kid_at, is_refused, all_over}
+use Rattle.job_schedule.specs.SeatValue.{SeatValue, seat_at, kid_at, is_refused, all_over}
 use Rattle.job_schedule.specs.World.{World, called_by, done_by, kind_of, kind_for, if_asked, by_stage, by_seat, by_hand, by_mode, move_of, worker_of, answer_of, reached, opening_world}
 use Rattle.schedule_laws.specs.Working.{IsWorking, IsKept}
 use Rattle.schedule_laws.specs.Laws.{SpawnsHaveRoomAtHome}
+use Rattle.schedule_laws.proofs.Sharing.{no_seat_beyond}
 use Rattle.schedule_laws.proofs.Moving.{home_admits, sits_at}
 use Rattle.schedule_laws.proofs.Room.{AreFew, has_room}
 use Rattle.schedule_laws.proofs.Claiming.{kept, light}
@@ -51,11 +52,6 @@ abbrev Admits : World → ℕ → Option Move → Type 0
 Admits w worker o =
     (place token : ℕ) (played : Played) → o ≡ Some (Calls place token (call.Join (seat_at w.seats place).home 1))
     → (done_by w worker (Calls place token (call.Join (seat_at w.seats place).home 1))).0 ≡ Stepped played → is_refused played ≡ false
-
-no_seat_beyond : (gs : List SeatValue) (place : ℕ) → length gs ≤ place → seat_at gs place ≡ no_seat
-no_seat_beyond [] place h = refl
-no_seat_beyond (g ∷ gs) zero h = absurd (omega arith)
-no_seat_beyond (g ∷ gs) (suc place) h = no_seat_beyond gs place (omega arith)
 
 same_place : (a b i j : ℕ) (c d : Call) → ◌≡◌ {A = Option Move} (Some (Calls a i c)) (Some (Calls b j d)) → (a ≡ b) × (i ≡ j) × (c ≡ d)
 same_place a b i j c d e = (cc, cc, cc)

@@ -1,5 +1,5 @@
 -- What holds in every schedule of a job over a tree (own).
-use Rattle.std.specs.Prelude.{◌≡◌, ℕ, ◌+◌, ◌≤◌, ◌<◌, true, false, List, None, Some, length}
+use Rattle.std.specs.Prelude.{◌≡◌, ◌≢◌, ℕ, ◌+◌, ◌≤◌, ◌<◌, true, false, List, None, Some, length}
 use Rattle.flat_phaser.specs.Flat.{registered}
 use Rattle.tier_shape.specs.Paths.{IsTiers}
 use Rattle.tier_core.specs.declared.call.Call.TheVariants as call
@@ -10,10 +10,11 @@ use Rattle.step_core.specs.Program.{Program}
 use Rattle.step_core.specs.Superstep.{segments, first_fault, record_of}
 use Rattle.job_schedule.specs.declared.stage.Mode.TheVariants as mode
 use Rattle.job_schedule.specs.declared.step.JobStep.{JobStep}
+use Rattle.job_schedule.specs.declared.step.JobStep.TheVariants.{Close}
 use Rattle.job_schedule.specs.SeatValue.{is_delivered, is_refused, seat_at}
-use Rattle.job_schedule.specs.AnswerValue.{Advanced, Stepped}
+use Rattle.job_schedule.specs.AnswerValue.{Advanced, Stepped, NotNow}
 use Rattle.job_schedule.specs.declared.stage.Move.TheVariants.{Calls, Closes}
-use Rattle.job_schedule.specs.World.{World, opening_world, answer_of, move_of, worker_of, reached}
+use Rattle.job_schedule.specs.World.{World, opening_world, answer_of, move_of, worker_of, world_after, reached}
 use Rattle.schedule_laws.specs.Working.{IsKept}
 
 -- a job with a limit on a tree, as it may be driven
@@ -39,6 +40,13 @@ ClosingMissesNothing =
     (p : Program) (parents : List ℕ) (limit : ℕ) (xs : List JobStep) (worker token : ℕ) → IsDriven p parents limit
     → (reached (opening_world p parents limit) xs).mode ≡ mode.Advanced worker token
     → IsWhole (reached (opening_world p parents limit) xs) worker token
+
+-- So whoever has advanced the root is answered to its next step, where that is to close the round.
+abbrev pub ClosesFollowAdvances : Type 0
+ClosesFollowAdvances =
+    (p : Program) (parents : List ℕ) (limit : ℕ) (xs : List JobStep) (x : JobStep) (played : Played) → IsDriven p parents limit
+    → answer_of (reached (opening_world p parents limit) xs) x ≡ Advanced played
+    → answer_of (world_after (reached (opening_world p parents limit) xs) x) (Close (worker_of x)) ≢ NotNow
 
 -- what the live tasks do in this superstep
 abbrev pub deeds : World → List (List ℕ × Segment)

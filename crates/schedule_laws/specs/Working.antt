@@ -1,18 +1,27 @@
 -- What is true of a world between two steps of workers, while its job runs (own).
 use Rattle.std.specs.Prelude.{◌≡◌, ◌≢◌, ℕ, zero, suc, ◌+◌, ◌<◌, ◌≤◌, ◌⊎◌, Bool, true, false, List, length, map, sum_by, is_some}
 use Rattle.std.specs.List.{AllByRecursion}
-use Rattle.tier_steps.specs.declared.view.Trip.TheVariants.{Arrival}
+use Rattle.tier_steps.specs.declared.view.Trip.{Trip}
+use Rattle.tier_steps.specs.declared.view.Trip.TheVariants.{Arrival, Departure}
 use Rattle.tier_answers.specs.Frame.{flat_of}
 use Rattle.step_core.specs.JobMeaning.{status}
-use Rattle.job_seats.specs.Roles.{Role, Out, Joins, Seeks, Settles, GivesBack, Late, Polls, Ready, Here, Looks, Passes, Owes, Past}
-use Rattle.job_seats.specs.Cast.{role_at, IsCast, turned}
-use Rattle.job_seats.specs.Shop.{trip_if, IsOwnPassing}
+use Rattle.tier_roles.specs.Roles.{Role, Out, Joins, Seeks, Settles, GivesBack, Late, Polls, Ready, Here, Looks, Passes, Owes, Leads, Past}
+use Rattle.tier_roles.specs.Cast.{role_at, IsCast, turned}
 use Rattle.job_schedule.specs.declared.stage.Mode.{Mode}
 use Rattle.job_schedule.specs.declared.stage.Mode.TheVariants as mode
 use Rattle.job_schedule.specs.declared.stage.Stage.{Stage}
 use Rattle.job_schedule.specs.declared.stage.Stage.TheVariants.{Waits, Taken, Polling, Joining, Arriving, Leaving, Over}
 use Rattle.job_schedule.specs.SeatValue.{KidValue, SeatValue, kid_at, seat_at, all_over, living_seats}
 use Rattle.job_schedule.specs.World.{World, plan_for}
+
+-- a task that synced arrives, any other leaves
+abbrev pub trip_if : Bool → Trip
+trip_if true = Arrival
+trip_if false = Departure
+
+-- a token that is to take such a trip from its tier, or is on its way
+abbrev pub IsOwnPassing : ℕ → Trip → Role → Type 0
+IsOwnPassing home trip own = (own ≡ Here home) ⊎ (own ≡ Looks home trip) ⊎ (own ≡ Passes home trip) ⊎ (own ≡ Owes home trip) ⊎ (own ≡ Leads home trip)
 
 -- the role of a task's own token, by how far the task has come
 abbrev pub OwnFits : Stage → ℕ → Bool → Role → Type 0

@@ -1,7 +1,7 @@
 //! What holds of every world that schedules of a job reach. Each law is the contract of a function without parameters
 //! that does nothing.
 
-ghost use Rattle.schedule_laws.specs.Laws.{WorldsAreKept, ClosingMissesNothing, AdvancesAreCounted, SpawnsHaveRoomAtHome};
+ghost use Rattle.schedule_laws.specs.Laws.{WorldsAreKept, ClosingMissesNothing, ClosesFollowAdvances, AdvancesAreCounted, SpawnsHaveRoomAtHome};
 
 /// In every schedule each token of the tree is a live task's, a spawned one's or free, and does what the stage of its task
 /// says. The other laws here follow from this one.
@@ -13,6 +13,11 @@ pub fn worlds_are_kept()
 /// advanced it may close the round at once, and no delivery is missing.
 pub fn closing_misses_nothing()
     ensures { ClosingMissesNothing }
+{}
+
+/// So an advance is answered, and then the close of the same worker is: never NotNow.
+pub fn closes_follow_advances()
+    ensures { ClosesFollowAdvances }
 {}
 
 /// The root advances in the phase of the superstep, which is its number; where none of its tasks faults, the members of

@@ -1,5 +1,0 @@
-use Rattle.job_seats.proofs.Turning.{beginnings_keep_the_cast}
-use Rattle.job_seats.proofs.cast.beginnings_keep_the_cast.Goals as goal
-
-pub returns : goal.returns
-returns c = beginnings_keep_the_cast

@@ -1,3 +1,0 @@
-pub mod Roles
-pub mod Cast
-pub mod Shop
