@@ -55,9 +55,16 @@ fn holding(held: u16, awaited: u16) -> HoldsBack {
 #[test]
 fn two_workers_overlap(rt: HostRuntime) -> Result<(), Fail> {
     let job = job_of(rt.alloc(), SWAP)?;
-    for (held, awaited) in [(0, 1), (1, 0)] {
+    for (held, awaited, widths) in [
+        (0, 1, "flat"),
+        (1, 0, "flat"),
+        (0, 1, "2"),
+        (1, 0, "2"),
+        (0, 1, "2x3"),
+        (1, 0, "2x3"),
+    ] {
         let gate = holding(held, awaited);
-        let ran = pooled(&rt, rt.alloc(), &job, "flat", 2, 999999, &gate, &AllStart)?;
+        let ran = pooled(&rt, rt.alloc(), &job, widths, 2, 999999, &gate, &AllStart)?;
         let report = ran?;
         assert!(rt; matches!(report.status, JobStatus::Ended(2)));
         assert!(rt; gate.left.load(Ordering::SeqCst));
