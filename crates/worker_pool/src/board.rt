@@ -91,26 +91,27 @@ impl<'j, J: Running> Board<'j, J> {
     }
 
     /// Takes the first ready task; `None` where none is ready.
-    pub(crate) fn take(&mut self, alloc: Global) -> Result<Option<Taken<'j, J>>, Note>
+    pub(crate) fn take(&mut self) -> Result<Option<Taken<'j, J>>, Note>
         ensures { self.new ≡ self.old }
     {
         let Some(seat) = self.ready.pop_front() else {
             return Ok(None);
         };
-        let order = self.order(alloc, seat.path.as_slice())?;
+        // Ready tasks are taken in path order, so that a task's number among the taken is its place.
         let number = self.staying.len();
+        let order = self.order(number, seat.path.as_slice())?;
         match self.staying.push(None) {
             Ok(()) => Ok(Some(Taken::new(seat, number, order))),
             Err(_) => Err(Note::Memory),
         }
     }
 
-    // What the segment of the task of this path needs.
-    fn order(&self, alloc: Global, path: &[u16]) -> Result<Order<'j>, Note>
+    // What the segment of the task of this path needs, which is expected at this place of the live tasks.
+    fn order(&self, place: usize, path: &[u16]) -> Result<Order<'j>, Note>
         ensures order { IfOk result (λ o. IsOrderOf self.now path.now o) }
         ensures job { IfOk result (λ o. o.job ≡ J.job) }
     {
-        match self.round.order(alloc, path) {
+        match self.round.order_near(place, path) {
             Ok(Some(order)) => Ok(order),
             Ok(None) => Err(Note::Internal),
             Err(_) => Err(Note::Memory),

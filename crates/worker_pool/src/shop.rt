@@ -40,7 +40,6 @@ impl<'j, J: Running> Shop<'j, J> {
     pub(crate) fn next<R: Wait>(
         &self,
         rt: &R,
-        alloc: Global,
         hand: &mut Hand<'j, J>,
     ) -> Result<Next<'j, J>, Note> {
         let mut board = self.board.lock(rt);
@@ -56,7 +55,7 @@ impl<'j, J: Running> Shop<'j, J> {
         if hand.is_full() {
             return Ok(Next::Pass);
         }
-        match board.take(alloc)? {
+        match board.take()? {
             Some(taken) => Ok(Next::Task(taken)),
             None => Ok(Next::Pass),
         }

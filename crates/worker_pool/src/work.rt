@@ -52,7 +52,7 @@ fn do_next<'j, J: Running, R: Wait, F: Fn(u32, u32) -> bool, G: Gate>(
 ) -> Result<bool, Note>
     requires rule { Answers (F.pre advance.now.closure) (F.post advance.now.closure) (end_ends_at advance.now.plan) }
 {
-    match shop.next(rt, alloc, hand)? {
+    match shop.next(rt, hand)? {
         Next::Task(taken) => hand.run(rt, alloc, gate, taken)?,
         Next::Pass => {
             if let Some(due) = shop.pass(rt, alloc, hand)? {
