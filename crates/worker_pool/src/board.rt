@@ -44,6 +44,8 @@ pub(crate) struct Board<'j, J: Running> {
     round: Round<'j>,
     // The seats of the round's tasks that nobody has taken.
     ready: VecDeque<Seat<J>>,
+    // How many of its tasks were taken.
+    taken: usize,
     // The seats of the next round's tasks, as far as they are back from the tree.
     coming: VecDeque<Seat<J>>,
     note: Option<Note>,
@@ -80,6 +82,7 @@ impl<'j, J: Running> Board<'j, J> {
         Board {
             round,
             ready,
+            taken: 0,
             coming: VecDeque::new(alloc),
             note: None,
             of: PhantomData,
@@ -97,22 +100,24 @@ impl<'j, J: Running> Board<'j, J> {
     }
 
     /// Takes the first ready task; `None` where none is ready.
-    pub(crate) fn take(&mut self, alloc: Global) -> Result<Option<Taken<'j, J>>, Note>
+    pub(crate) fn take(&mut self) -> Result<Option<Taken<'j, J>>, Note>
         ensures { self.new ≡ self.old }
     {
         let Some(seat) = self.ready.pop_front() else {
             return Ok(None);
         };
-        let order = self.order(alloc, seat.path.as_slice())?;
+        let near = self.taken;
+        self.taken = near.wrapping_add(1);
+        let order = self.order(near, seat.path.as_slice())?;
         Ok(Some(Taken::new(seat, order)))
     }
 
-    // What the segment of the task of this path needs.
-    fn order(&self, alloc: Global, path: &[u16]) -> Result<Order<'j>, Note>
+    // What the segment of the task of this path needs. Where tasks come in path order, it is at this place.
+    fn order(&self, near: usize, path: &[u16]) -> Result<Order<'j>, Note>
         ensures order { IfOk result (λ o. IsOrderOf self.now path.now o) }
         ensures job { IfOk result (λ o. o.job ≡ J.job) }
     {
-        match self.round.order(alloc, path) {
+        match self.round.order_near(near, path) {
             Ok(Some(order)) => Ok(order),
             Ok(None) => Err(Note::Internal),
             Err(_) => Err(Note::Memory),
@@ -174,6 +179,7 @@ impl<'j, J: Running> Board<'j, J> {
         match self.round.close_round(alloc) {
             Ok(outcome) => {
                 mem::swap(&mut self.ready, &mut self.coming);
+                self.taken = 0;
                 Ok(outcome)
             }
             Err(fault) => Err(note_of_closing(fault)),

@@ -63,7 +63,7 @@ pub(crate) struct Passing<J: Running> {
 pub(crate) struct Hand<'j, J: Running> {
     pub(crate) made: Option<Made<'j, J>>,
     pub(crate) step: u32,
-    pub(crate) passing: Vec<Passing<J>>,
+    pub(crate) passing: VecDeque<Passing<J>>,
     pub(crate) passed: VecDeque<Seat<J>>,
 }
 
@@ -94,7 +94,7 @@ impl<'j, J: Running> Made<'j, J> {
 impl<'j, J: Running> Hand<'j, J> {
     /// An empty hand, with room for all that it will pass.
     pub(crate) fn new(alloc: Global) -> Result<Self, AllocError> {
-        let passing = Vec::with_capacity(alloc, MOST_IN_HAND)?;
+        let passing = VecDeque::with_capacity(alloc, MOST_IN_HAND)?;
         Ok(Hand {
             made: None,
             step: 0,
@@ -129,7 +129,7 @@ impl<'j, J: Running> Hand<'j, J> {
             delivery,
             of: PhantomData,
         });
-        match self.passing.push(Passing {
+        match self.passing.push_back(Passing {
             seat,
             spawned,
             synced,

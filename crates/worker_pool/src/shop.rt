@@ -44,7 +44,6 @@ impl<'j, J: Running, F: Fn(u32, u32) -> bool> Shop<'j, J, F> {
     pub(crate) fn next<R: Wait>(
         &self,
         rt: &R,
-        alloc: Global,
         hand: &mut Hand<'j, J>,
     ) -> Result<Next<'j, J>, Note> {
         let mut board = self.board.lock(rt);
@@ -60,7 +59,7 @@ impl<'j, J: Running, F: Fn(u32, u32) -> bool> Shop<'j, J, F> {
         if hand.is_full() {
             return Ok(Next::Pass);
         }
-        match board.take(alloc)? {
+        match board.take()? {
             Some(taken) => Ok(Next::Task(taken)),
             None => Ok(Next::Pass),
         }
@@ -144,7 +143,7 @@ impl<'j, J: Running, F: Fn(u32, u32) -> bool> Shop<'j, J, F> {
         requires rule { Answers (F.pre self.now.meeting.tree.rule.closure) (F.post self.now.meeting.tree.rule.closure) (end_ends_at self.now.meeting.tree.rule.plan) }
     {
         let mut led = false;
-        while let Some(task) = hand.passing.pop() {
+        while let Some(task) = hand.passing.pop_front() {
             if self.pass(rt, task, &mut hand.passed)? {
                 led = true;
             }

@@ -48,7 +48,7 @@ fn do_next<'j, J: Running, R: Wait, F: Fn(u32, u32) -> bool, G: Gate>(
 ) -> Result<bool, Note>
     requires rule { Answers (F.pre shop.now.meeting.tree.rule.closure) (F.post shop.now.meeting.tree.rule.closure) (end_ends_at shop.now.meeting.tree.rule.plan) }
 {
-    match shop.next(rt, alloc, hand)? {
+    match shop.next(rt, hand)? {
         Next::Task(taken) => hand.run(rt, alloc, gate, taken)?,
         Next::Pass => shop.pass_all(rt, alloc, key, hand)?,
         Next::Home => return Ok(false),
