@@ -14,7 +14,8 @@ use Rattle.job_reader.specs.Reading.{job_in}
 use Rattle.step_core.specs.Program.{Program, program_of}
 use Rattle.step_core.specs.JobMeaning.{report_of}
 use Rattle.bsp_cli.specs.Jobs.{plan_of, program_of_tree, status_number}
-use Rattle.bsp_cli.specs.Ends.{Reports, Runs, Does, end_result}
+use Rattle.std.specs.Io.KnownBytes.{Keeps}
+use Rattle.bsp_cli.specs.Ends.{IsOfPool, ReadCause, WriteCause, Reports, Runs, Does, end_result}
 use Rattle.bsp_cli.specs.declared.asked.Asked.TheVariants.{Run}
 use Rattle.bsp_cli.specs.declared.fault.RunFault.{RunFault}
 use Rattle.bsp_cli.specs.declared.fault.RunFault.TheVariants.{Text, Read, Write, Memory, NotStarted, Internal}
@@ -63,3 +64,33 @@ does workers limit input old new (Err Write) h = h
 does workers limit input old new (Err Memory) h = h
 does workers limit input old new (Err (NotStarted k)) h = h
 does workers limit input old new (Err Internal) h = h
+
+keeps : (o : Option (List ℕ)) → Keeps o o
+keeps None = tt
+keeps (Some xs) = refl
+
+-- where workers leave nothing, nothing was written
+pub pool_runs : (workers limit : ℕ) (input old : Option (List ℕ)) (fault : RunFault) → IsOfPool workers fault → Runs workers limit input old old (Err fault)
+pool_runs workers limit input old (Text r) h = absurd h
+pool_runs workers limit input old Read h = absurd h
+pool_runs workers limit input old Write h = absurd h
+pool_runs workers limit input old Memory h = keeps old
+pool_runs workers limit input old (NotStarted k) h = (keeps old, h)
+pool_runs workers limit input old Internal h = keeps old
+
+-- and no device failed
+pub pool_reads : (workers old new : ℕ) (fault : RunFault) → IsOfPool workers fault → new ≡ old → ReadCause {T = JobStatus} old new (Err fault)
+pool_reads workers old new (Text r) h e = absurd h
+pool_reads workers old new Read h e = absurd h
+pool_reads workers old new Write h e = absurd h
+pool_reads workers old new Memory h e = e
+pool_reads workers old new (NotStarted k) h e = e
+pool_reads workers old new Internal h e = e
+
+pub pool_writes : (workers old : ℕ) (fault : RunFault) → IsOfPool workers fault → WriteCause {T = JobStatus} old old (Err fault)
+pool_writes workers old (Text r) h = absurd h
+pool_writes workers old Read h = absurd h
+pool_writes workers old Write h = absurd h
+pool_writes workers old Memory h = refl
+pool_writes workers old (NotStarted k) h = refl
+pool_writes workers old Internal h = refl
