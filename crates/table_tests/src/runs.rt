@@ -198,7 +198,7 @@ fn a_force_in_mid_climb(rt: HostRuntime) -> Result<(), Fail> {
     assert!(rt; tree.force(&mut two, 0) == Forced::Busy);
     assert!(rt; tree.force(&mut two, 16) == Forced::Ended(i32::MIN));
     assert!(rt; tree.force(&mut two, 0) == Forced::Ended(i32::MIN));
-    let zero = resumes(&rt, &tree, zero, 16, 0, false);
+    let zero = resumes(&rt, &tree, zero, 1, 0, false);
     assert!(rt; tree.poll(&mut one) == Polled::Ended(i32::MIN));
     let zero = has_ended(&rt, &tree, zero, i32::MIN);
     let tokens = vec![in rt.alloc(); Token::Crew(zero), Token::Crew(one), Token::Door(two)]?;

@@ -1,4 +1,3 @@
-use Rattle.std.proofs.Common.{◌≡◌}
 use Rattle.table_lists.specs.Slots.{AreOf}
 use Rattle.table_lists.proofs.lists.played.Given as goal
 
