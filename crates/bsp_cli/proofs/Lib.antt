@@ -1,5 +1,6 @@
 mod Faulted
 mod Limits
+mod Numbers
 mod Parsed
 mod Refusals
 mod RunJobs

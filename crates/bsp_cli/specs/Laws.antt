@@ -1,5 +1,7 @@
 -- What words ask for, and words that are refused (own).
-use Rattle.std.specs.Prelude.{◌≡◌, ℕ, true, List, [], ◌∷◌, codes}
+use Rattle.std.specs.Prelude.{◌≡◌, ◌≤◌, ℕ, true, false, List, [], ◌∷◌, codes, decimal}
+use Rattle.std.specs.Str.Parse.{digits_value, starts_with_minus, without_leading_plus}
+use Rattle.clap.specs.ValueTests.{is_unsigned_in}
 use Rattle.bsp_cli.specs.CommandLine.{asked_in, refused_by, tree_asked}
 use Rattle.bsp_cli.specs.Did.{are_refused}
 use Rattle.clap.specs.declared.error.kind.ErrorKind.TheVariants.{DisplayHelp, DisplayVersion}
@@ -76,3 +78,25 @@ EachNameAsks = (name : List ℕ) → WordsAsk name
 
 abbrev pub EachNameRefuses : Type 0
 EachNameRefuses = (name : List ℕ) → WordsAreRefused name
+
+-- each number from 1 to 1000000, in digits behind a plus or none, is the limit that it writes
+abbrev pub EachLimitAsks : Type 0
+EachLimitAsks = (name digits : List ℕ) → is_unsigned_in 1 1000000 digits ≡ true
+    → Asks (name ∷ codes "run" ∷ codes "--limit" ∷ digits ∷ []) (Run 1 (digits_value 10 (without_leading_plus digits)))
+
+-- each number from 1 to 64 is that many workers
+abbrev pub EachNumberOfWorkersAsks : Type 0
+EachNumberOfWorkersAsks = (name digits : List ℕ) → is_unsigned_in 1 64 digits ≡ true
+    → Asks (name ∷ codes "run" ∷ codes "--workers" ∷ digits ∷ []) (Run (digits_value 10 (without_leading_plus digits)) 1000000)
+
+-- the same of a number in decimal
+abbrev pub EachNumberAsks : Type 0
+EachNumberAsks = (name : List ℕ) (n : ℕ) → 1 ≤ n
+    → (n ≤ 1000000 → Asks (name ∷ codes "run" ∷ codes "--limit" ∷ decimal n ∷ []) (Run 1 n))
+    × (n ≤ 64 → Asks (name ∷ codes "run" ∷ codes "--workers" ∷ decimal n ∷ []) (Run n 1000000))
+
+-- any other text that doesn't begin with a hyphen is refused, as a limit and as a number of workers
+abbrev pub EachOtherNumberIsRefused : Type 0
+EachOtherNumberIsRefused = (name text : List ℕ) → starts_with_minus text ≡ false
+    → (is_unsigned_in 1 1000000 text ≡ false → AreRefused (name ∷ codes "run" ∷ codes "--limit" ∷ text ∷ []))
+    × (is_unsigned_in 1 64 text ≡ false → AreRefused (name ∷ codes "run" ∷ codes "--workers" ∷ text ∷ []))

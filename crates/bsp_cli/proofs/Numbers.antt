@@ -1,0 +1,169 @@
+-- What `run` makes of a number behind an option, whatever the number is.
+use Rattle.std.proofs.Common.{◌≡◌, ℕ, ◌<◌, ◌≤◌, ◌^◌, Bool, true, false, true≢false, List, [], ◌∷◌, ◌==◌, ◌&&◌, codes, cond, decimal, drop, length, nat_lt, nat_le, refl, sym, ap, ◌∙◌, subst, arith, Some}
+use Rattle.std.specs.Prelude.{if◌then◌else◌}
+use Rattle.std.specs.Char.{digit_value}
+use Rattle.std.specs.Str.Parse.{AllDigits, IsNumeral, digits_value, without_leading_plus}
+use Rattle.std.proofs.lemmas.Bool.{eqb-true, leb-true, lt-ltb}
+use Rattle.std.proofs.lemmas.Fmt.{decimal_is_IsNumeral}
+use Rattle.clap.specs.ValueTests.{is_numeral, is_unsigned_in}
+use Rattle.clap.specs.declared.builder.value_parser.ValueParser.TheVariants as vp
+use Rattle.clap.specs.declared.error.kind.ErrorKind.TheVariants.{ValueValidation}
+use Rattle.clap.proofs.OnLiterals.{clap_on_literals}
+use Rattle.clap.proofs.ValueTestLemmas.{Accepts-accepts}
+use Rattle.clap.proofs.WalkLemmas.{both}
+use Rattle.bsp_cli.specs.CommandLine.{asked_in, number_from, refused_by}
+use Rattle.bsp_cli.specs.Did.{are_refused}
+use Rattle.bsp_cli.specs.Laws.{Asks, EachLimitAsks, EachNumberAsks, EachNumberOfWorkersAsks, EachOtherNumberIsRefused}
+use Rattle.bsp_cli.specs.declared.asked.Asked.TheVariants.{Run}
+
+-- a number from 1 to the most, as the parser tests a text that doesn't begin with a hyphen
+abbrev is_taken : ℕ → List ℕ → Bool
+is_taken most text =
+    let n = digits_value 10 (without_leading_plus text) in
+    is_numeral (without_leading_plus text) && (nat_lt n (2 ^ 63) && (nat_le 1 n && nat_le n most))
+
+never : (a b : Bool) → (a && (b && false)) ≡ false
+never true true = refl
+never true false = refl
+never false b = refl
+
+ends : (most n : ℕ) → most ≤ 1000000 → (b : Bool) → nat_le n most ≡ b
+    → (nat_lt n (2 ^ 63) && (nat_le 1 n && nat_le n most)) ≡ (nat_lt n (2 ^ 64) && (nat_le 1 n && nat_le n most))
+ends most n small true e =
+    let below : n ≤ most = leb-true _ _ e in
+    rw (lt-ltb n (2 ^ 63) (omega arith), lt-ltb n (2 ^ 64) (omega arith)) refl
+ends most n small false e = rw e (never _ _ ∙ sym (never _ _))
+
+same : (most : ℕ) (text : List ℕ) → most ≤ 1000000 → is_taken most text ≡ is_unsigned_in 1 most text
+same most text small =
+    ap (λ (b : Bool). is_numeral (without_leading_plus text) && b)
+    (ends most (digits_value 10 (without_leading_plus text)) small (nat_le (digits_value 10 (without_leading_plus text)) most) refl)
+
+-- a hyphen is no digit
+nothing : (a : Bool) → (a && false) ≡ false
+nothing true = refl
+nothing false = refl
+
+hyphened : (ds : List ℕ) → is_numeral (45 ∷ ds) ≡ false
+hyphened ds = nothing (nat_lt 0 (length (45 ∷ ds)))
+
+numeral : (most : ℕ) (text : List ℕ) → is_unsigned_in 1 most text ≡ true → is_numeral (without_leading_plus text) ≡ true
+numeral most text e =
+    let n = digits_value 10 (without_leading_plus text) in
+    (both (is_numeral (without_leading_plus text)) (nat_lt n (2 ^ 64) && (nat_le 1 n && nat_le n most)) e).0
+
+no-hyphen : (most d : ℕ) (ds : List ℕ) → is_unsigned_in 1 most (d ∷ ds) ≡ true → (d == 45) ≡ false
+no-hyphen most d ds e = go (d == 45) refl
+  where
+    go : (b : Bool) → (d == 45) ≡ b → b ≡ false
+    go true h =
+        let here : is_unsigned_in 1 most (45 ∷ ds) ≡ true = subst (λ (x : ℕ). is_unsigned_in 1 most (x ∷ ds) ≡ true) (eqb-true d 45 h) e in
+        sym (numeral most (45 ∷ ds) here) ∙ hyphened ds
+    go false h = refl
+
+-- ---- `--limit`
+
+limit-asked : (name : List ℕ) (d : ℕ) (ds : List ℕ) → (d == 45) ≡ false
+    → asked_in (name ∷ codes "run" ∷ codes "--limit" ∷ (d ∷ ds) ∷ []) ≡ Run 1 (number_from 1000000 1000000 (Some (d ∷ ds)))
+unfolding clap_on_literals
+limit-asked name d ds e = simp e refl
+
+limit-taken : (name : List ℕ) (d : ℕ) (ds : List ℕ) → (d == 45) ≡ false → is_taken 1000000 (d ∷ ds) ≡ true
+    → refused_by (name ∷ codes "run" ∷ codes "--limit" ∷ (d ∷ ds) ∷ []) ≡ []
+unfolding clap_on_literals
+limit-taken name d ds e a = simp e (rw a refl)
+
+limit-refused : (name : List ℕ) (d : ℕ) (ds : List ℕ) → (d == 45) ≡ false → is_taken 1000000 (d ∷ ds) ≡ false
+    → refused_by (name ∷ codes "run" ∷ codes "--limit" ∷ (d ∷ ds) ∷ []) ≡ ValueValidation ∷ []
+unfolding clap_on_literals
+limit-refused name d ds e a = simp e (rw a refl)
+
+no-limit : (name : List ℕ) → refused_by (name ∷ codes "run" ∷ codes "--limit" ∷ [] ∷ []) ≡ ValueValidation ∷ []
+unfolding clap_on_literals
+no-limit name = refl
+
+pub limits-ask : EachLimitAsks
+limits-ask name [] e = absurd (true≢false (sym e))
+limits-ask name (d ∷ ds) e =
+    let first = no-hyphen 1000000 d ds e in
+    (
+      limit-taken name d ds first (same 1000000 (d ∷ ds) (omega arith) ∙ e),
+      limit-asked name d ds first ∙ ap (λ (b : Bool). Run 1 (if b then digits_value 10 (without_leading_plus (d ∷ ds)) else 1000000)) e,
+    )
+
+-- ---- `--workers`
+
+workers-asked : (name : List ℕ) (d : ℕ) (ds : List ℕ) → (d == 45) ≡ false
+    → asked_in (name ∷ codes "run" ∷ codes "--workers" ∷ (d ∷ ds) ∷ []) ≡ Run (number_from 64 1 (Some (d ∷ ds))) 1000000
+unfolding clap_on_literals
+workers-asked name d ds e = simp e refl
+
+workers-taken : (name : List ℕ) (d : ℕ) (ds : List ℕ) → (d == 45) ≡ false → is_taken 64 (d ∷ ds) ≡ true
+    → refused_by (name ∷ codes "run" ∷ codes "--workers" ∷ (d ∷ ds) ∷ []) ≡ []
+unfolding clap_on_literals
+workers-taken name d ds e a = simp e (rw a refl)
+
+workers-refused : (name : List ℕ) (d : ℕ) (ds : List ℕ) → (d == 45) ≡ false → is_taken 64 (d ∷ ds) ≡ false
+    → refused_by (name ∷ codes "run" ∷ codes "--workers" ∷ (d ∷ ds) ∷ []) ≡ ValueValidation ∷ []
+unfolding clap_on_literals
+workers-refused name d ds e a = simp e (rw a refl)
+
+no-workers : (name : List ℕ) → refused_by (name ∷ codes "run" ∷ codes "--workers" ∷ [] ∷ []) ≡ ValueValidation ∷ []
+unfolding clap_on_literals
+no-workers name = refl
+
+pub workers-ask : EachNumberOfWorkersAsks
+workers-ask name [] e = absurd (true≢false (sym e))
+workers-ask name (d ∷ ds) e =
+    let first = no-hyphen 64 d ds e in
+    (
+      workers-taken name d ds first (same 64 (d ∷ ds) (omega arith) ∙ e),
+      workers-asked name d ds first ∙ ap (λ (b : Bool). Run (if b then digits_value 10 (without_leading_plus (d ∷ ds)) else 1) 1000000) e,
+    )
+
+-- ---- other texts
+
+pub others-refused : EachOtherNumberIsRefused
+others-refused name [] first = (λ e. ap are_refused (no-limit name), λ e. ap are_refused (no-workers name))
+others-refused name (d ∷ ds) first = (
+  λ e. ap are_refused (limit-refused name d ds first (same 1000000 (d ∷ ds) (omega arith) ∙ e)),
+  λ e. ap are_refused (workers-refused name d ds first (same 64 (d ∷ ds) (omega arith) ∙ e)),
+)
+
+-- ---- numbers in decimal
+
+without-plus : (ds : List ℕ) → AllDigits 10 ds → without_leading_plus ds ≡ ds
+without-plus [] h = refl
+without-plus (d ∷ ds) h = go (d == 43) refl
+  where
+    go : (b : Bool) → (d == 43) ≡ b → drop (cond b 1 0) (d ∷ ds) ≡ d ∷ ds
+    go true e =
+        let plus : digit_value 43 < 10 = subst (λ (x : ℕ). digit_value x < 10) (eqb-true d 43 e) h.0 in
+        absurd (omega arith)
+    go false e = refl
+
+module _ (n : ℕ) (low : 1 ≤ n) (most : ℕ) (high : n ≤ most) (small : most ≤ 1000000) where
+  read : IsNumeral 10 (decimal n) × (digits_value 10 (decimal n) ≡ n)
+  read = decimal_is_IsNumeral n (omega arith)
+
+  bare : without_leading_plus (decimal n) ≡ decimal n
+  bare = without-plus (decimal n) read.0.1
+
+  value : digits_value 10 (without_leading_plus (decimal n)) ≡ n
+  value = ap (digits_value 10) bare ∙ read.1
+
+  in-bounds : is_unsigned_in 1 most (decimal n) ≡ true
+  in-bounds = Accepts-accepts false (vp.Unsigned 1 most) (decimal n) (
+    subst (IsNumeral 10) (sym bare) read.0,
+    omega (arith, value),
+    omega (arith, value),
+    omega (arith, value),
+  )
+
+pub numbers-ask : EachNumberAsks
+numbers-ask name n low = (
+  λ high. subst (λ (m : ℕ). Asks (name ∷ codes "run" ∷ codes "--limit" ∷ decimal n ∷ []) (Run 1 m)) (value n low 1000000 high (omega arith))
+  (limits-ask name (decimal n) (in-bounds n low 1000000 high (omega arith))),
+  λ high. subst (λ (m : ℕ). Asks (name ∷ codes "run" ∷ codes "--workers" ∷ decimal n ∷ []) (Run m 1000000)) (value n low 64 high (omega arith))
+  (workers-ask name (decimal n) (in-bounds n low 64 high (omega arith))),
+)
