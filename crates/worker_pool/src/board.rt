@@ -44,8 +44,6 @@ pub(crate) struct Board<'j, J: Running> {
     round: Round<'j>,
     // The seats of the round's tasks that nobody has taken.
     ready: VecDeque<Seat<J>>,
-    // How many of its tasks were taken.
-    taken: usize,
     // The seats of the next round's tasks, as far as they are back from the tree.
     coming: VecDeque<Seat<J>>,
     note: Option<Note>,
@@ -82,7 +80,6 @@ impl<'j, J: Running> Board<'j, J> {
         Board {
             round,
             ready,
-            taken: 0,
             coming: VecDeque::new(alloc),
             note: None,
             of: PhantomData,
@@ -103,16 +100,15 @@ impl<'j, J: Running> Board<'j, J> {
     pub(crate) fn take(&mut self) -> Result<Option<Taken<'j, J>>, Note>
         ensures { self.new ≡ self.old }
     {
-        let Some(seat) = self.ready.pop_front() else {
+        let Some(mut seat) = self.ready.pop_front() else {
             return Ok(None);
         };
-        let near = self.taken;
-        self.taken = near.wrapping_add(1);
-        let order = self.order(near, seat.path.as_slice())?;
+        let order = self.order(seat.place, seat.path.as_slice())?;
+        seat.place = order.place();
         Ok(Some(Taken::new(seat, order)))
     }
 
-    // What the segment of the task of this path needs. Where tasks come in path order, it is at this place.
+    // What the segment of the task of this path needs. Where no task came or left before it, it is at this place.
     fn order(&self, near: usize, path: &[u16]) -> Result<Order<'j>, Note>
         ensures order { IfOk result (λ o. IsOrderOf self.now path.now o) }
         ensures job { IfOk result (λ o. o.job ≡ J.job) }
@@ -179,7 +175,6 @@ impl<'j, J: Running> Board<'j, J> {
         match self.round.close_round(alloc) {
             Ok(outcome) => {
                 mem::swap(&mut self.ready, &mut self.coming);
-                self.taken = 0;
                 Ok(outcome)
             }
             Err(fault) => Err(note_of_closing(fault)),

@@ -83,15 +83,19 @@ impl<'j, J: Running, F: Fn(u32, u32) -> bool> Shop<'j, J, F> {
         for path in spawned {
             let kid = self
                 .meeting
-                .register_spawned(rt, &mut seat.crew, seat.leaf, path)?;
+                .register_spawned(rt, &mut seat.crew, seat.place, seat.leaf, path)?;
             let Seat {
                 path,
+                place,
                 leaf,
                 crew,
                 of: _,
             } = kid;
             let (crew, _led) = self.meeting.arrive(rt, crew)?;
-            if passed.push_back(Seat::new(path, leaf, crew)).is_err() {
+            if passed
+                .push_back(Seat::new(path, place, leaf, crew))
+                .is_err()
+            {
                 return Err(Note::Memory);
             }
         }
@@ -115,6 +119,7 @@ impl<'j, J: Running, F: Fn(u32, u32) -> bool> Shop<'j, J, F> {
         self.bring_in(rt, &mut seat, spawned, passed)?;
         let Seat {
             path,
+            place,
             leaf,
             crew,
             of: _,
@@ -124,7 +129,7 @@ impl<'j, J: Running, F: Fn(u32, u32) -> bool> Shop<'j, J, F> {
         }
         passed.reserve(1)?;
         let (crew, led) = self.meeting.arrive(rt, crew)?;
-        match passed.push_back(Seat::new(path, leaf, crew)) {
+        match passed.push_back(Seat::new(path, place, leaf, crew)) {
             Ok(()) => Ok(led),
             Err(_) => Err(Note::Memory),
         }

@@ -107,7 +107,7 @@ impl<J: Running, F: Fn(u32, u32) -> bool> Meeting<J, F> {
         unreachable!()
     }
 
-    /// Registers a start task at this leaf. Nothing refuses it, since nobody has arrived there.
+    /// Registers the start task of this number at the leaf of this number. Nothing refuses it, since nobody has arrived there.
     pub(crate) fn register_start<R: Wait>(
         &self,
         rt: &R,
@@ -117,7 +117,7 @@ impl<J: Running, F: Fn(u32, u32) -> bool> Meeting<J, F> {
     ) -> Result<Seat<J>, Note> {
         let fresh = self.tree.split(&mut key.door);
         match self.register(rt, fresh, self.leaves.tier(leaf)) {
-            Entry::In(crew) => Ok(Seat::new(path, leaf, crew)),
+            Entry::In(crew) => Ok(Seat::new(path, leaf, leaf, crew)),
             Entry::Off(_) | Entry::Over => Err(Note::Internal),
         }
     }
@@ -127,6 +127,7 @@ impl<J: Running, F: Fn(u32, u32) -> bool> Meeting<J, F> {
         &self,
         rt: &R,
         crew: &mut Crew,
+        place: usize,
         spawner: usize,
         path: Path,
     ) -> Result<Seat<J>, Note>
@@ -137,10 +138,10 @@ impl<J: Running, F: Fn(u32, u32) -> bool> Meeting<J, F> {
         let fresh = self.tree.split_crew(crew);
         let leaf = self.leaves.preferred(spawner, path.as_slice());
         match self.register(rt, fresh, self.leaves.tier(leaf)) {
-            Entry::In(kid) => Ok(Seat::new(path, leaf, kid)),
+            Entry::In(kid) => Ok(Seat::new(path, place, leaf, kid)),
             Entry::Off(door) => {
                 let kid = self.join_here(rt, crew, door)?;
-                Ok(Seat::new(path, spawner, kid))
+                Ok(Seat::new(path, place, spawner, kid))
             }
             Entry::Over => Err(Note::Internal),
         }
