@@ -85,8 +85,7 @@ no-limit name = refl
 pub limits-ask : EachLimitAsks
 limits-ask name [] e = absurd (true≢false (sym e))
 limits-ask name (d ∷ ds) e =
-    let first = no-hyphen 1000000 d ds e in
-    (
+    let first = no-hyphen 1000000 d ds e in (
       limit-taken name d ds first (same 1000000 (d ∷ ds) (omega arith) ∙ e),
       limit-asked name d ds first ∙ ap (λ (b : Bool). Run 1 (if b then digits_value 10 (without_leading_plus (d ∷ ds)) else 1000000)) e,
     )
@@ -115,8 +114,7 @@ no-workers name = refl
 pub workers-ask : EachNumberOfWorkersAsks
 workers-ask name [] e = absurd (true≢false (sym e))
 workers-ask name (d ∷ ds) e =
-    let first = no-hyphen 64 d ds e in
-    (
+    let first = no-hyphen 64 d ds e in (
       workers-taken name d ds first (same 64 (d ∷ ds) (omega arith) ∙ e),
       workers-asked name d ds first ∙ ap (λ (b : Bool). Run (if b then digits_value 10 (without_leading_plus (d ∷ ds)) else 1) 1000000) e,
     )
@@ -163,7 +161,7 @@ module _ (n : ℕ) (low : 1 ≤ n) (most : ℕ) (high : n ≤ most) (small : mos
 pub numbers-ask : EachNumberAsks
 numbers-ask name n low = (
   λ high. subst (λ (m : ℕ). Asks (name ∷ codes "run" ∷ codes "--limit" ∷ decimal n ∷ []) (Run 1 m)) (value n low 1000000 high (omega arith))
-  (limits-ask name (decimal n) (in-bounds n low 1000000 high (omega arith))),
+      (limits-ask name (decimal n) (in-bounds n low 1000000 high (omega arith))),
   λ high. subst (λ (m : ℕ). Asks (name ∷ codes "run" ∷ codes "--workers" ∷ decimal n ∷ []) (Run m 1000000)) (value n low 64 high (omega arith))
-  (workers-ask name (decimal n) (in-bounds n low 64 high (omega arith))),
+      (workers-ask name (decimal n) (in-bounds n low 64 high (omega arith))),
 )

@@ -76,4 +76,3 @@ pub(crate) fn job_of(
     starts.push(Start { body: 0, arg: 0 })?;
     Ok(Job::new(arrays, bodies, starts))
 }
-
