@@ -3,11 +3,5 @@ pub mod PrintedLines
 pub mod MentionedLocals
 pub mod CanonicalItems
 pub mod CanonicalJob
-pub mod ReadWords
-pub mod BodyCounts
-pub mod NotedNames
-pub mod KeptJobs
-pub mod KeptLines
-pub mod LegalBodies
 pub mod ReadJobs
 pub mod MentionsBelow

@@ -31,6 +31,7 @@ use Rattle.text_lines.proofs.NumbersLemmas.{number-begins}
 use Rattle.job_words.proofs.WrittenExprs.{is_plain, plain-cell, cell-bracket, plain-bracket, name-plain, number-plain, IndexIs, AreGood, CellIs, OperandIs, ExprIs}
 use Rattle.job_words.proofs.WrittenLines.{ActionIs, LineIs}
 use Rattle.job_reader.specs.Writing.{code_lines}
+use Rattle.job_reader.proofs.NotedNames.{among-below, among-beyond, take-next, same-number}
 
 number-mentions : (w : Word) (a b c : Bool) → a ≡ true → (if a || b || c then [] else w ∷ []) ≡ []
 number-mentions w true b c e = refl
@@ -133,47 +134,6 @@ code-mentions s (l ∷ ls) g h =
     ap (λ (x : List Word). x ++ flat_map mentions_of (code_lines s ls)) (line-mentions s l g h.0)
     ∙ ap (λ (x : List Word). map (name_at s.locals) (mentions.in_line l) ++ x) (code-mentions s ls g h.1)
     ∙ sym (map-append (name_at s.locals) (mentions.in_line l) (mentions.mentions ls))
-
-or-true : (a b : Bool) → b ≡ true → (a || b) ≡ true
-or-true true b e = refl
-or-true false b e = e
-
-or-true-left : (a b : Bool) → a ≡ true → (a || b) ≡ true
-or-true-left true b e = refl
-or-true-left false b e = absurd cc
-
-or-false : (a b : Bool) → a ≡ false → b ≡ false → (a || b) ≡ false
-or-false true b e f = absurd cc
-or-false false b e f = f
-
--- the first names hold each name in front of their end
-pub among-below : (ns : List Word) (k i : ℕ) → i < k → i < length ns → is_among (take k ns) (name_at ns i) ≡ true
-among-below [] k i h l = absurd (omega arith)
-among-below (n ∷ ns) zero i h l = absurd (omega arith)
-among-below (n ∷ ns) (suc k) zero h l = or-true-left (bytes_eq n n) (is_among (take k ns) n) (same-bytes n)
-among-below (n ∷ ns) (suc k) (suc i) h l = or-true (bytes_eq n (name_at ns i)) _ (among-below ns k i (omega arith) (omega arith))
-
-first-other : (b : Bool) (k i : ℕ) (o : Option ℕ) → i ≡ suc k → (if b then Some 0 else o) ≡ Some i → b ≡ false
-first-other true k i o h e = let same : 0 ≡ i = cc in absurd (omega arith)
-first-other false k i o h e = refl
-
--- and none from their end on
-pub among-beyond : (ns : List Word) (k i : ℕ) → are_names ns ≡ true → k ≤ i → i < length ns → is_among (take k ns) (name_at ns i) ≡ false
-among-beyond [] k i e h l = absurd (omega arith)
-among-beyond (n ∷ ns) zero i e h l = refl
-among-beyond (n ∷ ns) (suc k) zero e h l = absurd (omega arith)
-among-beyond (n ∷ ns) (suc k) (suc i) e h l =
-    or-false (bytes_eq n (name_at ns i)) _
-    (first-other (bytes_eq n (name_at ns i)) i (0 + suc i) (place_from 1 ns (name_at ns i)) (omega arith) (place-name 0 (n ∷ ns) (suc i) e l))
-    (among-beyond ns k i (and-right _ (are_names ns) e) (omega arith) (omega arith))
-
-pub take-next : (ns : List Word) (k : ℕ) → k < length ns → take k ns ++ name_at ns k ∷ [] ≡ take (suc k) ns
-take-next [] k h = absurd (omega arith)
-take-next (n ∷ ns) zero h = refl
-take-next (n ∷ ns) (suc k) h = ap (λ (x : List Word). n ∷ x) (take-next ns k (omega arith))
-
-pub same-number : (i k : ℕ) → nat_eq i k ≡ true → i ≡ k
-same-number i k e = grind (arith, common_steps)
 
 -- locals behind those that the first mention of the rest is of
 abbrev pub NotesFirsts : List Word → ℕ → List ℕ → Type 0

@@ -13,3 +13,13 @@ pub mod ToldText
 pub mod ToldNames
 pub mod ToldWhole
 pub mod JobLemmas
+pub mod NotedNames
+pub mod ReadWords
+pub mod MentionsSaid
+pub mod BodyCounts
+pub mod KeptJobs
+pub mod KeptLines
+pub mod LegalBodies
+pub mod ReadJobs
+pub mod AsciiNames
+pub mod NewArrays

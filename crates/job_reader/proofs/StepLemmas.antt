@@ -9,17 +9,19 @@ use Rattle.job_reader.specs.Trees.{JobTree}
 use Rattle.job_reader.specs.Above.{Above}
 use Rattle.job_reader.specs.Reading.{◌>>=◌, at, kept_step, read_lines}
 use Rattle.job_reader.specs.Relates.{IsAt}
+use Rattle.job_reader.specs.Kept.{KeptAt}
 use Rattle.job_reader.specs.Gives.{FitsOk}
+use Rattle.job_reader.proofs.KeptLines.{step-kept}
 
 module _ (bodies : List Word) (n : ℕ) (a : Above) (l : Word) (ls : List Word) (s : State) where
-  stepped : (r : Result Above Code) → kept_step bodies n a (words_of l) ≡ r → FitsOk (λ b. IsAt b s) r
-      → (x : Above) × IsAt x s × (read_lines bodies n a (l ∷ ls) ≡ read_lines bodies (n + 1) x ls)
-  stepped (Ok b) e f = (b, f, ap (λ (r : Result Above Code). at n r >>= λ b. read_lines bodies (n + 1) b ls) e)
-  stepped (Err c) e f = absurd f
+  stepped : KeptAt a.job a.inside → (r : Result Above Code) → kept_step bodies n a (words_of l) ≡ r → FitsOk (λ b. IsAt b s) r
+      → (x : Above) × IsAt x s × KeptAt x.job x.inside × (read_lines bodies n a (l ∷ ls) ≡ read_lines bodies (n + 1) x ls)
+  stepped g (Ok b) e f = (b, f, step-kept bodies n a b (words_of l) g e, ap (λ (r : Result Above Code). at n r >>= λ b. read_lines bodies (n + 1) b ls) e)
+  stepped g (Err c) e f = absurd f
 
   -- a line that was read leaves the rest to be read
-  pub line-next : (all : Result JobTree Refusal) (rest : List Word) → FitsOk (λ b. IsAt b s) (kept_step bodies n a (words_of l))
-      → all ≡ read_lines bodies n a rest → rest ≡ l ∷ ls → (x : Above) × IsAt x s × (all ≡ read_lines bodies (n + 1) x ls)
-  line-next all rest f e r =
-      let next = stepped _ refl f in
-      (next.0, next.1, e ∙ ap (read_lines bodies n a) r ∙ next.2)
+  pub line-next : (all : Result JobTree Refusal) (rest : List Word) → FitsOk (λ b. IsAt b s) (kept_step bodies n a (words_of l)) → KeptAt a.job a.inside
+      → all ≡ read_lines bodies n a rest → rest ≡ l ∷ ls → (x : Above) × IsAt x s × KeptAt x.job x.inside × (all ≡ read_lines bodies (n + 1) x ls)
+  line-next all rest f g e r =
+      let next = stepped g _ refl f in
+      (next.0, next.1, next.2, e ∙ ap (read_lines bodies n a) r ∙ next.3)

@@ -1,6 +1,7 @@
 pub mod Above
 pub mod Gives
 pub mod Grammar
+pub mod Kept
 pub mod Laws
 pub mod Legal
 pub mod Reading

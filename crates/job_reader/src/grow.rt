@@ -1,10 +1,14 @@
 //! Lines that the job grows by.
-ghost use Rattle.std.specs.Prelude.{◌≡◌, ◌≤◌, ◌∷◌, [], ◌++◌, length, map, string_bytes, IfOk, IfErr, IfSome, OnOk, ◌<◌, Option, true};
+ghost use Rattle.std.specs.Prelude.{◌≡◌, ◌≤◌, ◌∷◌, [], ◌++◌, length, map, string_bytes, IfOk, IfErr, IfSome, IsTrue, OnOk, ◌<◌, Option, true};
 ghost use Rattle.std.specs.Option.{ForSome};
+ghost use Rattle.std.specs.List.{list_all};
 ghost use Rattle.text_lines.specs.Text.{words_of};
+ghost use Rattle.superstep_memory.specs.Cells.{IsNew};
+ghost use Rattle.task_lang.specs.Names.{is_free};
 ghost use Rattle.job_words.specs.Views.{lent};
 ghost use Rattle.job_reader.specs.Trees.{JobTree, body_tree, job_tree};
 ghost use Rattle.job_reader.specs.Above.{Inside, nothing, can_else, sits, ended, statements_behind};
+ghost use Rattle.job_reader.specs.Kept.{HasSoFar, HasKept, HasKeptInside, HasWhole, HasEnding};
 ghost use Rattle.job_reader.specs.Reading as spec;
 ghost use Rattle.job_reader.specs.Relates.{IsSoFar, IsInside, IsOpened, IsBehind};
 ghost use Rattle.job_reader.specs.Gives.{LineGives};
@@ -32,17 +36,20 @@ const MOST_BODIES: usize = 64;
 const MOST_STARTS: usize = 4096;
 
 // A name as a string of its own.
+#[tactic(auto, using(crate::proofs::AsciiNames::ascii_steps))]
 fn name_text(alloc: Global, name: &[u8]) -> Result<String, AllocError>
+    requires { IsTrue (is_free name.now) }
     ensures { IfOk result (λ text. string_bytes text ≡ name.now) }
 {
     match str::from_utf8(name) {
         Ok(text) => String::from_str(alloc, text),
-        Err(_) => Err(AllocError),
+        Err(_) => unreachable!(),
     }
 }
 
 // Names as strings of their own.
 fn name_texts(alloc: Global, names: &[&[u8]]) -> Result<Vec<String>, AllocError>
+    requires { IsTrue (list_all is_free (lent names.now)) }
     ensures { IfOk result (λ texts. map string_bytes texts.items ≡ lent names.now) }
 {
     let mut texts = Vec::new(alloc);
@@ -54,6 +61,7 @@ fn name_texts(alloc: Global, names: &[&[u8]]) -> Result<Vec<String>, AllocError>
 
 // The body that an open one is, where no line is open in it.
 fn finished(alloc: Global, inner: OpenBody<'_>) -> Result<Body, AllocError>
+    requires { HasWhole inner }
     ensures { IfOk result (λ body. (o : Inside) → IsInside o inner.entry → o.frames ≡ [] → body_tree body ≡ ended o) }
 {
     let OpenBody {
@@ -66,7 +74,7 @@ fn finished(alloc: Global, inner: OpenBody<'_>) -> Result<Body, AllocError>
     let locals = name_texts(alloc, &locals)?;
     match Body::new(alloc, name, locals, builder.code)? {
         Some(body) => Ok(body),
-        None => Err(AllocError),
+        None => unreachable!(),
     }
 }
 
@@ -124,11 +132,12 @@ impl<'a> SoFar<'a> {
     ) -> Result<(), AllocError>
         requires text { string_bytes text ≡ name.now }
         requires few { length self.old.array_names.items < 16 }
+        requires new { IsNew self.old.arrays (string_bytes text) cells.items }
         ensures { OnOk result ((j : JobTree) → IsSoFar j self.old
             → IsSoFar (record j { arrays = j.arrays ++ (name.entry.now, cells.items) ∷ [] }) self.new) }
     {
         if !self.arrays.add(text, cells)? {
-            return Err(AllocError);
+            unreachable!();
         }
         self.array_names.push(name)?;
         Ok(())
@@ -136,6 +145,7 @@ impl<'a> SoFar<'a> {
 
     // A line with an array.
     fn add_array(&mut self, alloc: Global, line: &'a [u8]) -> Result<(), LineFault>
+        requires { HasSoFar self.old }
         ensures { (j : JobTree) → IsSoFar j self.old
             → LineGives (λ _ k. IsSoFar k self.new) result (spec.array_line j (words_of line.entry.now)) }
     {
@@ -199,6 +209,7 @@ impl<'a> SoFar<'a> {
 
     // The end of a body.
     fn add_body(&mut self, alloc: Global, inner: OpenBody<'a>) -> Result<(), AllocError>
+        requires { HasWhole inner }
         ensures { OnOk result ((j : JobTree) (o : Inside) → IsSoFar j self.old → IsInside o inner.entry → o.frames ≡ []
             → IsSoFar (record j { bodies = j.bodies ++ ended o ∷ [] }) self.new) }
     {
@@ -217,7 +228,8 @@ impl<'a> SoFar<'a> {
         begins: Option<Outer>,
         line: &'a [u8],
     ) -> Result<Option<OpenBody<'a>>, LineFault>
-        requires { length bodies.now ≤ 64 }
+        requires bodies { length bodies.now ≤ 64 }
+        requires kept { HasSoFar self.old }
         ensures line { (j : JobTree) → IsSoFar j self.old
             → LineGives (λ w p. IsBehind p self.new w) result (spec.outer_line (lent bodies.now) j begins (words_of line.entry.now)) }
         ensures few { IfOk result (λ o. IfSome o (λ w. length w.locals.items ≤ 32)) }
@@ -248,7 +260,8 @@ impl<'a> SoFar<'a> {
         inner: OpenBody<'a>,
         line: Line,
     ) -> Result<Option<OpenBody<'a>>, AllocError>
-        requires { statements_behind inner.statements line ≤ 1024 }
+        requires few { statements_behind inner.statements line ≤ 1024 }
+        requires ends { HasEnding inner line }
         ensures line { IfOk result (λ w. (j : JobTree) (o : Inside) → IsSoFar j self.old → IsInside o inner.entry
             → sits (can_else o.frames) line ≡ true → IsBehind (spec.with_line j o line) self.new w) }
         ensures few { IfOk result (λ o. IfSome o (λ w. w.locals ≡ inner.entry.locals)) }
@@ -274,6 +287,7 @@ impl<'a> SoFar<'a> {
     ) -> Result<Option<OpenBody<'a>>, LineFault>
         requires bodies { length bodies.now ≤ 64 }
         requires few { length inner.locals.items ≤ 32 }
+        requires kept { HasKeptInside self.old inner }
         ensures line { (j : JobTree) (o : Inside) → IsSoFar j self.old → IsInside o inner.entry
             → LineGives (λ w p. IsBehind p self.new w) result (spec.inner_line (lent bodies.now) j o keyword (lent words.now)) }
         ensures few { IfOk result (λ o. IfSome o (λ w. length w.locals.items ≤ 32)) }
@@ -303,6 +317,7 @@ impl<'a> SoFar<'a> {
     ) -> Result<Option<OpenBody<'a>>, LineFault>
         requires bodies { length bodies.now ≤ 64 }
         requires few { ForSome inside (λ w. length w.locals.items ≤ 32) }
+        requires kept { HasKept self.old inside }
         ensures line { (j : JobTree) (i : Option Inside) → IsSoFar j self.old → IsOpened i inside.entry
             → LineGives (λ w p. IsBehind p self.new w) result (spec.any_line (lent bodies.now) j i (first.entry.now ∷ words_of rest.entry.now)) }
         ensures few { IfOk result (λ o. IfSome o (λ w. length w.locals.items ≤ 32)) }

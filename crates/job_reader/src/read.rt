@@ -6,6 +6,7 @@ ghost use Rattle.job_words.specs.Views.{lent};
 ghost use Rattle.job_reader.specs.Trees.{job_tree};
 ghost use Rattle.job_reader.specs.Above.{Above, nothing};
 ghost use Rattle.job_reader.specs.Begins.{has_header, BeginsWell};
+ghost use Rattle.job_reader.specs.Kept.{HasKept};
 ghost use Rattle.job_reader.specs.Reading as spec;
 ghost use Rattle.job_reader.specs.Relates.{IsAt};
 ghost use Rattle.job_reader.specs.Gives.{LineGives, Gives};
@@ -88,7 +89,8 @@ impl<'a> State<'a> {
         line: usize,
         this: &'a [u8],
     ) -> Result<(), LineFault>
-        requires { length bodies.now ≤ 64 }
+        requires bodies { length bodies.now ≤ 64 }
+        requires kept { HasKept self.old.so_far self.old.inside }
         ensures { (a : Above) → IsAt a self.old
             → LineGives (λ _ b. IsAt b self.new) result (spec.kept_step (lent bodies.now) line a (words_of this.entry.now)) }
     {

@@ -2,6 +2,7 @@ use Rattle.std.proofs.Common.{◌∙◌, ap}
 use Rattle.job_words.specs.Views.{lent}
 use Rattle.job_reader.specs.Reading.{mentioning}
 use Rattle.job_reader.proofs.LineLemmas.{said-stands, line-refused, line-put}
+use Rattle.job_reader.proofs.KeptJobs.{line-ends}
 use Rattle.job_reader.proofs.so_far.SoFar.inner_line.Goals as goal
 
 pub returns-in-Err-clause-line : goal.returns-in-Err-clause-line
@@ -19,3 +20,8 @@ returns-in-Ok-put_line-clause-line c = λ j o s i.
     (ap lent c.deref.ensures.value ∙ s.array_names)
     said
     (c.in-Ok-put_line.ensures.line j noted s inside (said-stands _ _ noted c.args.keyword (lent c.args.words.now) c.in-Ok-said.line said))
+
+pub put_line-requires-clause-ends : goal.put_line-requires-clause-ends
+put_line-requires-clause-ends c =
+    line-ends _ (lent c.args.bodies.now) c.args.inner c.note.new.self c.args.keyword (lent c.args.words.now) c.in-Ok-said.line
+    c.in-Ok.ensures.noted c.in-Ok-said.ensures.said c.args.self.now c.requires.kept

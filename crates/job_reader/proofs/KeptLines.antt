@@ -22,6 +22,7 @@ use Rattle.job_reader.specs.declared.outer.Outer.{Outer}
 use Rattle.job_reader.specs.declared.outer.Outer.TheVariants as outer
 use Rattle.job_reader.specs.Trees.{JobTree, array_names, body_names}
 use Rattle.job_reader.specs.Above.{Inside, Above, nothing, begun}
+use Rattle.job_reader.specs.Kept.{KeptJob, KeptOpen, KeptAt}
 use Rattle.job_reader.specs.Reading.{
   ◌>>=◌,
   refused,
@@ -43,6 +44,8 @@ use Rattle.job_reader.specs.Reading.{
   start_line,
   outer_line,
   any_line,
+  line_step,
+  kept_step,
   read_lines,
   read_from,
   unless_bad,
@@ -50,10 +53,10 @@ use Rattle.job_reader.specs.Reading.{
 }
 use Rattle.job_reader.proofs.ToldOuter.{bind-ok}
 use Rattle.job_reader.proofs.ToldText.{finished-ok, next}
-use Rattle.job_canonical.proofs.ReadWords.{free-named, number-fits}
-use Rattle.job_canonical.proofs.BodyCounts.{counted-none}
-use Rattle.job_canonical.proofs.NotedNames.{names-put}
-use Rattle.job_canonical.proofs.KeptJobs.{KeptJob, KeptOpen, KeptAt, kept-nothing, inner-kept}
+use Rattle.job_reader.proofs.ReadWords.{free-named, number-fits}
+use Rattle.job_reader.proofs.BodyCounts.{counted-none}
+use Rattle.job_reader.proofs.NotedNames.{names-put}
+use Rattle.job_reader.proofs.KeptJobs.{kept-nothing, inner-kept}
 
 below : (a b : ℕ) → nat_le b a ≡ false → a < b
 below a b e = grind (arith, common_steps)
@@ -113,7 +116,7 @@ cells-read len values cells e =
     by-sign (negsuc n) vs f e = absurd cc
     by-sign (pos m) vs f e = filled-cells (nat_le 1 m && nat_le m 4096 && nat_le (length vs) m) m vs cells refl f e
 
-array-read : (ws : Words) (x : Word × List ℤ) → array_of ws ≡ Ok x → (is_free x.0 ≡ true) × (is_array x ≡ true) × (list_all fits_i64 x.1 ≡ true)
+pub array-read : (ws : Words) (x : Word × List ℤ) → array_of ws ≡ Ok x → (is_free x.0 ≡ true) × (is_array x ≡ true) × (list_all fits_i64 x.1 ≡ true)
 array-read [] x e = absurd cc
 array-read (name ∷ []) x e = absurd cc
 array-read (name ∷ len ∷ values) x e =
@@ -165,6 +168,7 @@ body-kept j o (name ∷ []) e =
       room = below (length (body_names j)) 64 p.1;
       locals = refl;
       few = omega arith;
+      order = refl;
       counted = counted-none;
     })
 
@@ -209,12 +213,24 @@ outer-kept bodies j (Some outer.Start) ws p g e =
     let m = made-ok (λ (k : JobTree). (k, None)) (start_line bodies j ws) p e in
     subst (λ (q : JobTree × Option Inside). KeptAt q.0 q.1) m.2 (start-kept bodies j m.0 ws g m.1)
 
-any-kept : (bodies : List Word) (j : JobTree) (i : Option Inside) (ws : Words) (p : JobTree × Option Inside) → KeptAt j i
+-- a line
+pub any-kept : (bodies : List Word) (j : JobTree) (i : Option Inside) (ws : Words) (p : JobTree × Option Inside) → KeptAt j i
     → any_line bodies j i ws ≡ Ok p → KeptAt p.0 p.1
 any-kept bodies j None [] p g e = absurd cc
 any-kept bodies j (Some o) [] p g e = absurd cc
 any-kept bodies j None (k ∷ ws) p g e = outer-kept bodies j (outer_of k) ws p g e
 any-kept bodies j (Some o) (k ∷ ws) p g e = inner-kept bodies j o (keyword_of k) ws p g.0 g.1 e
+
+step-cases : (bodies : List Word) (n : ℕ) (a y : Above) (ws : Words) (b : Bool) → KeptAt a.job a.inside
+    → ◌≡◌ {A = Result Above Code} (if b then Ok a else line_step bodies n a ws) (Ok y) → KeptAt y.job y.inside
+step-cases bodies n a y ws true g e = let same : a ≡ y = cc in subst (λ (x : Above). KeptAt x.job x.inside) same g
+step-cases bodies n a y ws false g e =
+    let m = made-ok _ (any_line bodies a.job a.inside ws) y e in
+    subst (λ (x : Above). KeptAt x.job x.inside) m.2 (any-kept bodies a.job a.inside ws m.0 g m.1)
+
+-- a line, whether it is skipped or not
+pub step-kept : (bodies : List Word) (n : ℕ) (a y : Above) (ws : Words) → KeptAt a.job a.inside → kept_step bodies n a ws ≡ Ok y → KeptAt y.job y.inside
+step-kept bodies n a y ws g e = step-cases bodies n a y ws (is_skipped ws) g e
 
 lines-kept : (bodies : List Word) (ls : List (List ℕ)) (n : ℕ) (a : Above) (j : JobTree) → KeptAt a.job a.inside → read_lines bodies n a ls ≡ Ok j → KeptJob j
 lines-kept bodies [] n a j g e =

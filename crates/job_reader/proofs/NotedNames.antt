@@ -18,6 +18,7 @@ use Rattle.std.proofs.Common.{
   length,
   map,
   take,
+  Option,
   Some,
   None,
   refl,
@@ -35,11 +36,10 @@ use Rattle.std.proofs.lemmas.List.{length-take-le}
 use Rattle.std.proofs.lemmas.Grind.{common_steps}
 use Rattle.task_lang.specs.Names.{is_free, is_among, are_names}
 use Rattle.task_lang.specs.Mentions.{mentioned}
-use Rattle.job_words.specs.Words.{Word, name_at, noted}
+use Rattle.job_words.specs.Words.{Word, place_from, name_at, noted}
 use Rattle.job_words.proofs.SaidLemmas.{and-true, same-word}
 use Rattle.job_words.proofs.GrowLemmas.{and-left, and-right, noted-grows}
-use Rattle.job_words.proofs.WrittenLemmas.{same-bytes}
-use Rattle.job_canonical.proofs.MentionedLocals.{among-below, among-beyond, take-next, same-number}
+use Rattle.job_words.proofs.WrittenLemmas.{same-bytes, place-name}
 
 not-true : (b : Bool) → not b ≡ true → b ≡ false
 not-true true e = absurd cc
@@ -49,19 +49,56 @@ false-not : (b : Bool) → b ≡ false → not b ≡ true
 false-not true e = absurd cc
 false-not false e = refl
 
-or-false : (a b : Bool) → a ≡ false → b ≡ false → (a || b) ≡ false
+pub or-false : (a b : Bool) → a ≡ false → b ≡ false → (a || b) ≡ false
 or-false true b e f = absurd cc
 or-false false b e f = f
 
-or-left : (a b : Bool) → (a || b) ≡ false → a ≡ false
+or-true : (a b : Bool) → b ≡ true → (a || b) ≡ true
+or-true true b e = refl
+or-true false b e = e
+
+or-true-left : (a b : Bool) → a ≡ true → (a || b) ≡ true
+or-true-left true b e = refl
+or-true-left false b e = absurd cc
+
+-- the first names hold each name in front of their end
+pub among-below : (ns : List Word) (k i : ℕ) → i < k → i < length ns → is_among (take k ns) (name_at ns i) ≡ true
+among-below [] k i h l = absurd (omega arith)
+among-below (n ∷ ns) zero i h l = absurd (omega arith)
+among-below (n ∷ ns) (suc k) zero h l = or-true-left (bytes_eq n n) (is_among (take k ns) n) (same-bytes n)
+among-below (n ∷ ns) (suc k) (suc i) h l = or-true (bytes_eq n (name_at ns i)) _ (among-below ns k i (omega arith) (omega arith))
+
+first-other : (b : Bool) (k i : ℕ) (o : Option ℕ) → i ≡ suc k → (if b then Some 0 else o) ≡ Some i → b ≡ false
+first-other true k i o h e = let same : 0 ≡ i = cc in absurd (omega arith)
+first-other false k i o h e = refl
+
+-- and none from their end on
+pub among-beyond : (ns : List Word) (k i : ℕ) → are_names ns ≡ true → k ≤ i → i < length ns → is_among (take k ns) (name_at ns i) ≡ false
+among-beyond [] k i e h l = absurd (omega arith)
+among-beyond (n ∷ ns) zero i e h l = refl
+among-beyond (n ∷ ns) (suc k) zero e h l = absurd (omega arith)
+among-beyond (n ∷ ns) (suc k) (suc i) e h l =
+    or-false (bytes_eq n (name_at ns i)) _
+    (first-other (bytes_eq n (name_at ns i)) i (0 + suc i) (place_from 1 ns (name_at ns i)) (omega arith) (place-name 0 (n ∷ ns) (suc i) e l))
+    (among-beyond ns k i (and-right _ (are_names ns) e) (omega arith) (omega arith))
+
+pub take-next : (ns : List Word) (k : ℕ) → k < length ns → take k ns ++ name_at ns k ∷ [] ≡ take (suc k) ns
+take-next [] k h = absurd (omega arith)
+take-next (n ∷ ns) zero h = refl
+take-next (n ∷ ns) (suc k) h = ap (λ (x : List Word). n ∷ x) (take-next ns k (omega arith))
+
+pub same-number : (i k : ℕ) → nat_eq i k ≡ true → i ≡ k
+same-number i k e = grind (arith, common_steps)
+
+pub or-left : (a b : Bool) → (a || b) ≡ false → a ≡ false
 or-left true b e = absurd cc
 or-left false b e = refl
 
-or-right : (a b : Bool) → (a || b) ≡ false → b ≡ false
+pub or-right : (a b : Bool) → (a || b) ≡ false → b ≡ false
 or-right true b e = absurd cc
 or-right false b e = e
 
-turned : (v w : Word) (b : Bool) → bytes_eq w v ≡ b → bytes_eq v w ≡ false → b ≡ false
+pub turned : (v w : Word) (b : Bool) → bytes_eq w v ≡ b → bytes_eq v w ≡ false → b ≡ false
 turned v w true e f =
     let same : bytes_eq v w ≡ true = ap (bytes_eq v) (same-word w v e) ∙ same-bytes v in
     let both : true ≡ false = sym same ∙ f in absurd cc

@@ -11,10 +11,11 @@ use Rattle.task_lang.specs.declared.code.Line.{Line}
 use Rattle.task_lang.specs.declared.code.Line.TheVariants as line
 use Rattle.job_words.proofs.SaidLemmas.{and-true}
 use Rattle.job_reader.specs.Above.{statements_behind}
+use Rattle.job_reader.specs.Kept.{open_behind, Counted}
 use Rattle.job_reader.proofs.StepCode.{step-map}
 
 -- what a line does to the number of open lines
-pub data Change : Type 0 where
+data Change : Type 0 where
   Stays : Change
   Opens : Change
   Closes : Change
@@ -105,13 +106,9 @@ length-step line.EndIf (f ∷ fs) b s e = let same : fs ≡ s.0 = cc in ap (λ (
 length-step (line.EndWhile t n) [] b s e = absurd cc
 length-step (line.EndWhile t n) (f ∷ fs) b s e = let same : fs ≡ s.0 = cc in ap (λ (x : List Frame). length x) (sym same) ∙ omega arith
 
--- an open body of so many statements is within the limits, and its numbers fit
-pub record Counted (fs : List Frame) (b : Block) (n : ℕ) : Type 0 where
-  pub counts : statements (open_code fs b) ≡ n
-  pub few : n ≤ 1024
-  pub open_lines : after 0 (map change_of (open_code fs b)) ≡ length fs
-  pub shallow : deepest 0 (open_code fs b) ≤ 16
-  pub numbers : list_all fits_line (open_code fs b) ≡ true
+open-after : (k : ℕ) (code : List Line) → open_behind k code ≡ after k (map change_of code)
+open-after k [] = refl
+open-after k (l ∷ ls) = ap (λ (x : ℕ). open_behind x ls) (opened-turned k l) ∙ open-after (turned k (change_of l)) ls
 
 pub counted-none : Counted [] Done 0
 counted-none = record { counts = refl; few = omega arith; open_lines = refl; shallow = omega arith; numbers = refl }
@@ -129,14 +126,14 @@ counted-step l fs b s n h e fits few shallow =
     let kinds = step-map is_statement (λ e n m. refl) (λ n m. refl) (λ e n m. refl) (λ e n. refl) l fs b s e in
     let numbers = step-map fits_line (λ e n m. refl) (λ n m. refl) (λ e n m. refl) (λ e n. refl) l fs b s e in
     let level : turned (after 0 (map change_of code)) (change_of l) ≡ opened (length fs) l =
-    sym (opened-turned (after 0 (map change_of code)) l) ∙ ap (λ (k : ℕ). opened k l) h.open_lines in
+    sym (opened-turned (after 0 (map change_of code)) l) ∙ ap (λ (k : ℕ). opened k l) (sym (open-after 0 code) ∙ h.open_lines) in
     let before : highest 0 (map change_of code) ≤ 16 = subst (λ (k : ℕ). k ≤ 16) (deepest-highest 0 code) h.shallow in
     let here : turned (after 0 (map change_of code)) (change_of l) ≤ 16 = subst (λ (k : ℕ). k ≤ 16) (sym level) shallow in
     record {
       counts = statements-count (open_code s.0 s.1) ∙ ap count kinds ∙ count-one (map is_statement code) (is_statement l)
           ∙ ap (λ (k : ℕ). k + one_if (is_statement l)) (sym (statements-count code) ∙ h.counts) ∙ sym (behind-count n l);
       few = few;
-      open_lines = ap (after 0) changes ∙ after-one 0 (map change_of code) (change_of l) ∙ level ∙ sym (length-step l fs b s e);
+      open_lines = open-after 0 (open_code s.0 s.1) ∙ ap (after 0) changes ∙ after-one 0 (map change_of code) (change_of l) ∙ level ∙ sym (length-step l fs b s e);
       shallow = subst (λ (k : ℕ). k ≤ 16) (sym (deepest-highest 0 (open_code s.0 s.1) ∙ ap (highest 0) changes))
           (highest-one 0 (map change_of code) (change_of l) 16 before here);
       numbers = sym (all-mapped fits_line (open_code s.0 s.1)) ∙ ap (λ (c : List Bool). list_all (λ (b : Bool). b) c) numbers

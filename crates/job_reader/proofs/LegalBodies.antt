@@ -1,13 +1,11 @@
 -- Bodies of sound items name what is there, and their locals stand by first mention.
-use Rattle.std.proofs.Common.{◌≡◌, ℕ, ◌+◌, ◌<◌, ◌≤◌, Bool, true, List, [], ◌∷◌, ◌++◌, length, map, refl, sym, ap, ◌∙◌, arith, append_assoc, length-append}
+use Rattle.std.proofs.Common.{◌≡◌, ℕ, ◌+◌, ◌<◌, ◌≤◌, Bool, true, List, [], ◌∷◌, ◌++◌, length, refl, sym, ◌∙◌, arith, length-append}
 use Rattle.std.specs.Prelude.{nat_lt}
 use Rattle.std.specs.List.{list_all}
 use Rattle.std.proofs.lemmas.Bool.{ltb-true}
 use Rattle.std.proofs.lemmas.List.Folds.{list_all-append}
-use Rattle.task_lang.specs.Names.{are_names}
 use Rattle.task_lang.specs.Limits.{is_operand, is_expr, is_action, is_line}
-use Rattle.task_lang.specs.Mentions.{in_line, mentions}
-use Rattle.task_lang.specs.Rules.{IsByMention}
+use Rattle.task_lang.specs.Mentions.{in_line}
 use Rattle.task_lang.specs.Tree.{Block, Done, Do, If, IfElse, While, flat}
 use Rattle.task_lang.specs.declared.code.Operand.{Operand}
 use Rattle.task_lang.specs.declared.code.Operand.TheVariants as operand
@@ -17,20 +15,13 @@ use Rattle.task_lang.specs.declared.code.Action.{Action}
 use Rattle.task_lang.specs.declared.code.Action.TheVariants as action
 use Rattle.task_lang.specs.declared.code.Line.{Line}
 use Rattle.task_lang.specs.declared.code.Line.TheVariants as line
-use Rattle.job_words.specs.Words.{Word, name_at, noted}
+use Rattle.job_words.specs.Words.{Word}
 use Rattle.job_words.specs.Exprs.{Names}
 use Rattle.job_words.specs.Lines.{line_names, line_fits}
-use Rattle.job_words.proofs.SaidLemmas.{and-true, below-true, all-both, AllBelow}
+use Rattle.job_words.proofs.SaidLemmas.{and-true, below-true}
 use Rattle.job_words.proofs.GrowLemmas.{and-left, and-right}
-use Rattle.job_words.proofs.WrittenExprs.{AreGood}
 use Rattle.job_reader.specs.Trees.{BodyTree, array_names}
-use Rattle.job_reader.specs.Legal.{flat_body}
-use Rattle.job_reader.specs.Grammar.{Item, AnArray, ABody, AStart, names_above, mentioned_by, IsSoundBody, AreSound, job_of}
-use Rattle.job_reader.proofs.CodeLemmas.{block-code}
-use Rattle.job_canonical.proofs.MentionedLocals.{AllLines, code-mentions}
-use Rattle.job_canonical.proofs.CanonicalJob.{all-lines}
-use Rattle.job_canonical.proofs.NotedNames.{names-front, firsts-noted}
-use Rattle.job_canonical.proofs.KeptJobs.{KeptBody, AreKept}
+use Rattle.job_reader.specs.Grammar.{Item, AnArray, ABody, AStart, names_above, IsSoundBody, AreSound, job_of}
 
 -- with more arrays
 
@@ -93,49 +84,26 @@ lines-named s [] e = refl
 lines-named s (l ∷ ls) e =
     and-true _ _ (and-left _ (list_all (λ i. nat_lt i (length s.locals)) (in_line l)) (and-left _ (list_all (line_fits s) ls) e)) (lines-named s ls (and-right (line_fits s l) _ e))
 
-lines-inside : (s : Names) (code : List Line) → list_all (line_fits s) code ≡ true → AllBelow s (mentions code)
-lines-inside s [] e = refl
-lines-inside s (l ∷ ls) e =
-    all-both (λ i. nat_lt i (length s.locals)) (in_line l) (mentions ls)
-    (and-right (line_names (length s.arrays) (length s.bodies) l) _ (and-left _ (list_all (line_fits s) ls) e)) (lines-inside s ls (and-right (line_fits s l) _ e))
-
 -- a body among so many arrays and bodies
-pub record WholeBody (n m : ℕ) (b : BodyTree) : Type 0 where
-  pub lines : list_all (is_line n m) (flat b.block) ≡ true
-  pub order : IsByMention (flat_body b)
+abbrev WholeBody : ℕ → ℕ → BodyTree → Type 0
+WholeBody n m b = list_all (is_line n m) (flat b.block) ≡ true
 
-body-whole : (arrays bodies : List Word) (n : ℕ) (b : BodyTree) → are_names arrays ≡ true → are_names bodies ≡ true → length arrays ≤ n → IsSoundBody arrays bodies b
-    → KeptBody b → WholeBody n (length bodies) b
-body-whole arrays bodies n b named others few sound kept =
-    let s : Names = names_above arrays bodies b in
-    let code : List Line = flat b.block in
-    let good : AreGood s = record { arrays = named; bodies = others; locals = kept.locals } in
-    let all : AllLines s code = all-lines s code sound.0 kept.numbers in
-    let inside : AllBelow s (mentions code) = lines-inside s code sound.0 in
-    let whole : noted [] (map (name_at b.locals) (mentions code)) ≡ b.locals =
-    ap (noted []) (sym (code-mentions s code good all)) ∙ ap mentioned_by (block-code s b.block) ∙ sound.1 in
-    record {
-      lines = block-there (length arrays) n (length bodies) b.block few (lines-named s code sound.0);
-      order = firsts-noted b.locals (mentions code) kept.locals inside 0 (omega arith) whole;
-    }
+body-whole : (arrays bodies : List Word) (n : ℕ) (b : BodyTree) → length arrays ≤ n → IsSoundBody arrays bodies b → WholeBody n (length bodies) b
+body-whole arrays bodies n b few sound =
+    block-there (length arrays) n (length bodies) b.block few (lines-named (names_above arrays bodies b) (flat b.block) sound.0)
 
 abbrev pub AreWhole : ℕ → ℕ → List BodyTree → Type 0
 AreWhole n m [] = Unit {0}
 AreWhole n m (b ∷ bs) = WholeBody n m b × AreWhole n m bs
 
--- the arrays above items and those that they say, each of a name of its own
-abbrev pub Named : List Word → List Item → Type 0
-Named above items = are_names (above ++ array_names (job_of items)) ≡ true
-
-pub items-whole : (above bodies : List Word) (n : ℕ) (items : List Item) → Named above items → are_names bodies ≡ true
-    → length above + length (array_names (job_of items)) ≡ n → AreSound above bodies items → AreKept (job_of items).bodies → AreWhole n (length bodies) (job_of items).bodies
-items-whole above bodies n [] e f many h k = tt
-items-whole above bodies n (AnArray name given cells ∷ is) e f many h k =
-    items-whole (above ++ name ∷ []) bodies n is (ap are_names (append_assoc above (name ∷ []) (array_names (job_of is))) ∙ e) f
-    (omega (arith, many, length-append above (name ∷ []))) h.1 k
-items-whole above bodies n (ABody b ∷ is) e f many h k =
-    (body-whole above bodies n b (names-front above (array_names (job_of is)) e) f (omega arith) h.0 k.0, items-whole above bodies n is e f many h.1 k.1)
-items-whole above bodies n (AStart s ∷ is) e f many h k = items-whole above bodies n is e f many h.1 k
+pub items-whole : (above bodies : List Word) (n : ℕ) (items : List Item) → length above + length (array_names (job_of items)) ≡ n → AreSound above bodies items
+    → AreWhole n (length bodies) (job_of items).bodies
+items-whole above bodies n [] many h = tt
+items-whole above bodies n (AnArray name given cells ∷ is) many h =
+    items-whole (above ++ name ∷ []) bodies n is (omega (arith, many, length-append above (name ∷ []))) h.1
+items-whole above bodies n (ABody b ∷ is) many h =
+    (body-whole above bodies n b (omega arith) h.0, items-whole above bodies n is many h.1)
+items-whole above bodies n (AStart s ∷ is) many h = items-whole above bodies n is many h.1
 
 pub starts-there : (above bodies : List Word) (items : List Item) → AreSound above bodies items
     → list_all (λ s. nat_lt s.body (length bodies)) (job_of items).starts ≡ true

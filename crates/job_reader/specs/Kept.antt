@@ -1,0 +1,85 @@
+-- What the job so far and its open body keep while lines are read (own): all limits, names of their own, numbers that fit.
+use Rattle.std.specs.Prelude.{◌≡◌, ◌≤◌, ◌<◌, ℕ, true, false, List, [], ◌∷◌, length, Option, Some, None}
+use Rattle.std.specs.List.{list_all}
+use Rattle.text_lines.specs.Number.{fits_i64}
+use Rattle.task_lang.specs.Names.{is_free, is_among, are_names}
+use Rattle.task_lang.specs.Mentions.{mentions, mentioned}
+use Rattle.task_lang.specs.Limits.{statements, opened, deepest, fits_line}
+use Rattle.task_lang.specs.Rules.{IsBody, is_array}
+use Rattle.task_lang.specs.Tree.{Block}
+use Rattle.task_lang.specs.Open.{Frame, open_code}
+use Rattle.task_lang.specs.declared.code.Line.{Line}
+use Rattle.job_reader.specs.Trees.{BodyTree, JobTree, array_names, body_names}
+use Rattle.job_reader.specs.Above.{Inside, belongs, ended}
+use Rattle.job_reader.specs.Legal.{flat_body}
+use Rattle.job_reader.specs.Relates.{IsSoFar, IsInside, IsOpened}
+use Rattle.job_reader.specs.declared.inside.OpenBody.{OpenBody}
+use Rattle.job_reader.specs.declared.so_far.SoFar.{SoFar}
+
+abbrev pub AreKept : List BodyTree → Type 0
+AreKept [] = Unit {0}
+AreKept (b ∷ bs) = IsBody (flat_body b) × AreKept bs
+
+-- the job so far
+pub record KeptJob (j : JobTree) : Type 0 where
+  pub few_arrays : length j.arrays ≤ 16
+  pub few_bodies : length (body_names j) ≤ 64
+  pub few_starts : length j.starts ≤ 4096
+  pub arrays : list_all is_array j.arrays ≡ true
+  pub arrays_named : are_names (array_names j) ≡ true
+  pub cells : list_all (λ a. list_all fits_i64 a.1) j.arrays ≡ true
+  pub bodies_named : are_names (body_names j) ≡ true
+  pub bodies : AreKept j.bodies
+  pub args : list_all (λ s. fits_i64 s.arg) j.starts ≡ true
+
+-- how many lines are open behind code, where so many are in front
+abbrev pub open_behind : ℕ → List Line → ℕ
+open_behind k [] = k
+open_behind k (l ∷ ls) = open_behind (opened k l) ls
+
+-- an open body of so many statements is within the limits, and its numbers fit
+pub record Counted (fs : List Frame) (b : Block) (n : ℕ) : Type 0 where
+  pub counts : statements (open_code fs b) ≡ n
+  pub few : n ≤ 1024
+  pub open_lines : open_behind 0 (open_code fs b) ≡ length fs
+  pub shallow : deepest 0 (open_code fs b) ≤ 16
+  pub numbers : list_all fits_line (open_code fs b) ≡ true
+
+-- the open body: its locals are those that its lines mention, by first mention
+pub record KeptOpen (j : JobTree) (o : Inside) : Type 0 where
+  pub name : is_free o.name ≡ true
+  pub new : is_among (body_names j) o.name ≡ false
+  pub room : length (body_names j) < 64
+  pub locals : are_names o.locals ≡ true
+  pub few : length o.locals ≤ 32
+  pub order : mentioned 0 (mentions (open_code o.frames o.block)) ≡ Some (length o.locals)
+  pub counted : Counted o.frames o.block o.statements
+
+abbrev pub KeptAt : JobTree → Option Inside → Type 0
+KeptAt j None = KeptJob j
+KeptAt j (Some o) = KeptJob j × KeptOpen j o
+
+-- no line is open, and what is read is a body
+pub record IsWhole (o : Inside) : Type 0 where
+  pub closed : o.frames ≡ []
+  pub body : IsBody (flat_body (ended o))
+
+-- a line that belongs to no open line ends a body
+abbrev pub EndsWhole : Inside → Line → Type 0
+EndsWhole o l = belongs l o.frames ≡ false → IsWhole o
+
+-- what the reader has, is kept so
+abbrev pub HasSoFar : SoFar → Type 0
+HasSoFar r = (j : JobTree) × IsSoFar j r
+
+abbrev pub HasKept : SoFar → Option OpenBody → Type 0
+HasKept r w = (j : JobTree) × (i : Option Inside) × IsSoFar j r × IsOpened i w × KeptAt j i
+
+abbrev pub HasKeptInside : SoFar → OpenBody → Type 0
+HasKeptInside r w = HasKept r (Some w)
+
+abbrev pub HasWhole : OpenBody → Type 0
+HasWhole w = (o : Inside) × IsInside o w × IsWhole o
+
+abbrev pub HasEnding : OpenBody → Line → Type 0
+HasEnding w l = (o : Inside) × IsInside o w × EndsWhole o l
