@@ -1,12 +1,11 @@
 -- Written lines mention the locals that their code does.
-use Rattle.std.proofs.Common.{◌≡◌, ℕ, zero, suc, ◌+◌, ◌<◌, ◌≤◌, Bool, true, false, List, [], ◌∷◌, ◌++◌, length, map, take, Option, Some, None, Result, Ok, Err, ℤ, refl, sym, ap, ◌∙◌, arith, codes, nat_eq}
+use Rattle.std.proofs.Common.{◌≡◌, ℕ, suc, ◌+◌, ◌<◌, Bool, true, false, List, [], ◌∷◌, ◌++◌, length, map, take, Some, None, Result, Ok, Err, ℤ, refl, sym, ap, ◌∙◌, arith, codes, nat_eq}
 use Rattle.std.specs.Prelude.{if◌then◌else◌, nat_lt, ◌||◌}
 use Rattle.std.specs.List.{list_all, flat_map}
 use Rattle.std.specs.Fmt.{signed_decimal}
 use Rattle.std.specs.Str.{bytes_eq}
 use Rattle.std.proofs.lemmas.Bool.{ltb-true}
 use Rattle.std.proofs.lemmas.List.{map-append}
-use Rattle.std.proofs.lemmas.Grind.{common_steps}
 use Rattle.text_lines.specs.declared.refusal.Code.{Code}
 use Rattle.task_lang.specs.Names.{is_among, are_names}
 use Rattle.task_lang.specs.Mentions as mentions
@@ -22,11 +21,11 @@ use Rattle.task_lang.specs.declared.code.Action.TheVariants as action
 use Rattle.task_lang.specs.declared.code.Line.{Line}
 use Rattle.task_lang.specs.declared.code.Line.TheVariants as line
 use Rattle.job_words.specs.Faults.{made}
-use Rattle.job_words.specs.Words.{Word, begins_number, numbered, declared_at, place_from, name_at, index_word, index_of, in_index, noted}
+use Rattle.job_words.specs.Words.{Word, begins_number, numbered, declared_at, name_at, index_word, index_of, in_index, noted}
 use Rattle.job_words.specs.Exprs.{Names, cell_parts, cell_word, has_bracket, operand_word, expr_words, in_parts, in_operand, in_expr}
 use Rattle.job_words.specs.Lines.{keyword_of, line_words, action_words, mentions_behind, mentions_of}
 use Rattle.job_words.proofs.GrowLemmas.{and-left, and-right}
-use Rattle.job_words.proofs.WrittenLemmas.{same-bytes, place-name, names-free, local-written}
+use Rattle.job_words.proofs.WrittenLemmas.{names-free, local-written}
 use Rattle.text_lines.proofs.NumbersLemmas.{number-begins}
 use Rattle.job_words.proofs.WrittenExprs.{is_plain, plain-cell, cell-bracket, plain-bracket, name-plain, number-plain, IndexIs, AreGood, CellIs, OperandIs, ExprIs}
 use Rattle.job_words.proofs.WrittenLines.{ActionIs, LineIs}

@@ -1,38 +1,12 @@
 -- The open lines of a body.
-use Rattle.std.proofs.Common.{
-  ◌≡◌,
-  ℕ,
-  ◌+◌,
-  Bool,
-  true,
-  false,
-  List,
-  [],
-  ◌∷◌,
-  ◌++◌,
-  length,
-  Option,
-  Some,
-  None,
-  Result,
-  Ok,
-  Err,
-  refl,
-  sym,
-  ap,
-  ◌∙◌,
-  arith,
-  length-append,
-}
+use Rattle.std.proofs.Common.{◌≡◌, ℕ, Bool, true, false, List, [], ◌∷◌, length, Option, Some, None, Result, Ok, Err, refl, sym, ap, ◌∙◌, arith, length-append}
 use Rattle.std.specs.Prelude.{IfSome}
 use Rattle.text_lines.specs.declared.refusal.Code.{Code}
 use Rattle.task_lang.specs.declared.code.Line.{Line}
 use Rattle.task_lang.specs.declared.code.Line.TheVariants as line
 use Rattle.task_lang.specs.Tree.{Block, flat}
 use Rattle.task_lang.specs.Open.{Frame, place_of, open_places, open_code, step_of}
-use Rattle.task_lang.specs.Reading.{tree_of}
 use Rattle.task_lang.specs.BodyValue.{BodyValue}
-use Rattle.task_lang.proofs.Reading.{tree-flat}
 use Rattle.job_words.specs.Words.{Word, Words}
 use Rattle.job_words.specs.Views.{lent}
 use Rattle.job_words.specs.Faults.{made}
@@ -41,7 +15,7 @@ use Rattle.job_words.specs.declared.lines.Keyword.{Keyword}
 use Rattle.job_words.specs.declared.lines.Keyword.TheVariants.{Let, Put, Print, Spawn, Sync, Stop, If, Else, While, End}
 use Rattle.job_words.specs.Lines.{line_behind, alone}
 use Rattle.job_reader.specs.declared.inside.OpenBody.{OpenBody}
-use Rattle.job_reader.specs.Trees.{BodyTree, body_tree}
+use Rattle.job_reader.specs.Legal.{flat_body}
 use Rattle.job_reader.specs.Above.{Inside, can_else, belongs, sits, ended}
 use Rattle.job_reader.specs.Relates.{IsInside}
 
@@ -56,12 +30,12 @@ depth-places places fs e = ap (λ (x : List ℕ). length x) e ∙ length-places 
 
 pub ruleset depth_steps = (depth-places)
 
-tree-parts : (n m : Word) (k l : List Word) (a b : Block) → n ≡ m → k ≡ l → a ≡ b
-    → ◌≡◌ {A = BodyTree} (record { name = n; locals = k; block = a }) (record { name = m; locals = l; block = b })
-tree-parts n m k l a b e f g =
-    ap (λ (x : Word). record { name = x; locals = k; block = a }) e
-    ∙ ap (λ (x : List Word). record { name = m; locals = x; block = a }) f
-    ∙ ap (λ (x : Block). record { name = m; locals = l; block = x }) g
+value-parts : (n m : Word) (k l : List Word) (a b : List Line) → n ≡ m → k ≡ l → a ≡ b
+    → ◌≡◌ {A = BodyValue} (record { name = n; locals = k; code = a }) (record { name = m; locals = l; code = b })
+value-parts n m k l a b e f g =
+    ap (λ (x : Word). record { name = x; locals = k; code = a }) e
+    ∙ ap (λ (x : List Word). record { name = m; locals = x; code = a }) f
+    ∙ ap (λ (x : List Line). record { name = m; locals = l; code = x }) g
 
 pub if-some : (r : Option BodyValue) (b v : BodyValue) → r ≡ Some b → IfSome r (λ x. x ≡ v) → b ≡ v
 if-some None b v e h = absurd cc
@@ -70,10 +44,10 @@ if-some (Some x) b v e h = let same : x ≡ b = cc in sym same ∙ h
 -- a body in which no line is open says its block
 pub body-ended : (o : Inside) (w : OpenBody) (b : BodyValue) → IsInside o w → o.frames ≡ [] → b.name ≡ w.name.now
     → b.locals ≡ lent w.locals.items → b.code ≡ w.builder.code.items
-    → body_tree b ≡ ended o
+    → b ≡ flat_body (ended o)
 body-ended o w b i none n l c =
     let code : b.code ≡ flat o.block = c ∙ i.built.code ∙ ap (λ (fs : List Frame). open_code fs o.block) none in
-    tree-parts b.name o.name b.locals o.locals (tree_of b.code) o.block (n ∙ i.name) (l ∙ i.locals) (ap tree_of code ∙ tree-flat o.block)
+    value-parts b.name o.name b.locals o.locals b.code (flat o.block) (n ∙ i.name) (l ∙ i.locals) code
 
 -- a line that doesn't belong to the open lines, and isn't an `else` out of place, ends the body
 pub ends-body : (l : Line) (fs : List Frame) (b : Block) → belongs l fs ≡ false → sits (can_else fs) l ≡ true → (fs ≡ []) × (step_of l fs b ≡ None)

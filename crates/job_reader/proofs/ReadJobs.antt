@@ -1,20 +1,32 @@
 -- What a text is read as is a job.
-use Rattle.std.proofs.Common.{◌≡◌, ℕ, true, List, [], ◌∷◌, length, map, Ok, refl, sym, ap, subst, ◌∙◌, arith}
-use Rattle.std.specs.Prelude.{nat_lt}
+use Rattle.std.proofs.Common.{◌≡◌, ℕ, ◌≤◌, true, List, [], ◌∷◌, length, map, Ok, refl, sym, ap, subst, ◌∙◌, arith, Bool, false, Option, None, Result, ℤ}
+use Rattle.std.specs.Prelude.{nat_lt, if◌then◌else◌}
 use Rattle.std.specs.List.{list_all, AllByRecursion}
 use Rattle.std.proofs.lemmas.List.{length-map}
+use Rattle.std.proofs.lemmas.Grind.{common_steps}
 use Rattle.std.proofs.lemmas.Simd.{map-map}
 use Rattle.task_lang.specs.Names.{are_names}
 use Rattle.task_lang.specs.Limits.{is_line}
 use Rattle.task_lang.specs.Rules.{IsBody}
+use Rattle.task_lang.proofs.Reading.{tree-flat}
+use Rattle.task_lang.specs.Tree.{Block}
 use Rattle.job_words.specs.Words.{Word}
 use Rattle.job_words.proofs.SaidLemmas.{and-true}
-use Rattle.job_reader.specs.Trees.{BodyTree, JobTree, array_names, body_names}
-use Rattle.job_reader.specs.Legal.{flat_body, IsJobTree}
+use Rattle.job_reader.specs.Trees.{BodyTree, JobTree, body_tree, job_tree, array_names, body_names}
+use Rattle.job_reader.specs.Legal.{flat_body, flat_job, IsJobTree}
 use Rattle.job_reader.specs.Grammar.{job_of}
 use Rattle.job_reader.proofs.ToldWhole.{text-told}
-use Rattle.job_reader.specs.Kept.{AreKept, KeptJob}
-use Rattle.job_reader.specs.Reading.{job_in}
+use Rattle.job_reader.specs.Kept.{AreKept, KeptJob, SaysJobs}
+use Rattle.job_reader.specs.Reading.{refused, unless_bad, declared, read_lines, read_from, job_in}
+use Rattle.job_reader.specs.Above.{nothing}
+use Rattle.job_reader.specs.Relates.{IsSoFar}
+use Rattle.job_reader.specs.declared.so_far.SoFar.{SoFar}
+use Rattle.text_lines.specs.Text.{lines_of, bad_byte_line}
+use Rattle.text_lines.specs.declared.refusal.Code.TheVariants.{TooLong}
+use Rattle.text_lines.specs.declared.refusal.Refusal.{Refusal}
+use Rattle.task_lang.specs.BodyValue.{BodyValue}
+use Rattle.task_lang.specs.JobValue.{JobValue, job_value}
+use Rattle.task_lang.specs.declared.job.Start.{Start}
 use Rattle.job_reader.proofs.KeptLines.{text-kept}
 use Rattle.job_reader.proofs.LegalBodies.{AreWhole, items-whole, starts-there}
 
@@ -61,3 +73,40 @@ read-jobs text j e =
       cells = k.cells;
       args = k.args;
     }
+
+value-parts : (a b : List (Word × List ℤ)) (k l : List BodyValue) (s t : List Start) → a ≡ b → k ≡ l → s ≡ t
+    → ◌≡◌ {A = JobValue} (record { arrays = a; bodies = k; starts = s }) (record { arrays = b; bodies = l; starts = t })
+value-parts a b k l s t e f g =
+    ap (λ (x : List (Word × List ℤ)). record { arrays = x; bodies = k; starts = s }) e
+    ∙ ap (λ (x : List BodyValue). record { arrays = b; bodies = x; starts = s }) f
+    ∙ ap (λ (x : List Start). record { arrays = b; bodies = l; starts = x }) g
+
+same-job : (j : JobTree) (r : SoFar) → IsSoFar j r → job_value r.arrays r.bodies r.starts ≡ flat_job j
+same-job j r s = value-parts r.arrays j.arrays r.bodies.items (map flat_body j.bodies) r.starts.items j.starts s.arrays s.bodies s.starts
+
+trees-back : (bs : List BodyTree) → map body_tree (map flat_body bs) ≡ bs
+trees-back [] = refl
+trees-back (b ∷ bs) =
+    ap (λ (x : Block). record b { block = x } ∷ map body_tree (map flat_body bs)) (tree-flat b.block) ∙ ap (λ (xs : List BodyTree). b ∷ xs) (trees-back bs)
+
+-- what the type of a job takes is the job that the reader has
+pub job-back : (j : JobTree) (r : SoFar) (v : JobValue) → IsSoFar j r → v ≡ job_value r.arrays r.bodies r.starts → job_tree v ≡ j
+job-back j r v s e =
+    ap job_tree (e ∙ same-job j r s) ∙ ap (λ (bs : List BodyTree). record j { bodies = bs }) (trees-back j.bodies)
+
+short-enough : (n : ℕ) → n ≤ 1048576 → nat_lt 1048576 n ≡ false
+short-enough n h = grind (arith, common_steps)
+
+-- a text's lines behind the header say a job, if anything
+pub text-says : (text : List ℕ) (n : ℕ) (rest : List (List ℕ)) (bodies : List Word) → length text ≤ 1048576 → bad_byte_line 1 text ≡ None
+    → ((bodies : List Word) → read_from bodies 1 (lines_of text) ≡ read_lines bodies n nothing rest) → bodies ≡ declared (lines_of text)
+    → SaysJobs (read_lines bodies n nothing rest)
+unfolding job_in
+text-says text n rest bodies short clean header same =
+    λ j e.
+    let all : List Word = declared (lines_of text) in
+    let read : Result JobTree Refusal = read_from all 1 (lines_of text) in
+    read-jobs text j
+    (ap (λ (b : Bool). if b then refused 1 TooLong else unless_bad (bad_byte_line 1 text) read) (short-enough (length text) short)
+    ∙ ap (λ (o : Option ℕ). unless_bad o read) clean ∙ header all
+    ∙ ap (λ (x : List Word). read_lines x n nothing rest) (sym same) ∙ e)

@@ -1,7 +1,8 @@
 -- What the job so far and its open body keep while lines are read (own): all limits, names of their own, numbers that fit.
-use Rattle.std.specs.Prelude.{◌≡◌, ◌≤◌, ◌<◌, ℕ, true, false, List, [], ◌∷◌, length, Option, Some, None}
+use Rattle.std.specs.Prelude.{◌≡◌, ◌≤◌, ◌<◌, ℕ, true, false, List, [], ◌∷◌, length, Option, Some, None, Result, Ok}
 use Rattle.std.specs.List.{list_all}
 use Rattle.text_lines.specs.Number.{fits_i64}
+use Rattle.text_lines.specs.declared.refusal.Refusal.{Refusal}
 use Rattle.task_lang.specs.Names.{is_free, is_among, are_names}
 use Rattle.task_lang.specs.Mentions.{mentions, mentioned}
 use Rattle.task_lang.specs.Limits.{statements, opened, deepest, fits_line}
@@ -10,11 +11,13 @@ use Rattle.task_lang.specs.Tree.{Block}
 use Rattle.task_lang.specs.Open.{Frame, open_code}
 use Rattle.task_lang.specs.declared.code.Line.{Line}
 use Rattle.job_reader.specs.Trees.{BodyTree, JobTree, array_names, body_names}
-use Rattle.job_reader.specs.Above.{Inside, belongs, ended}
-use Rattle.job_reader.specs.Legal.{flat_body}
-use Rattle.job_reader.specs.Relates.{IsSoFar, IsInside, IsOpened}
+use Rattle.job_reader.specs.Above.{Inside, Above, belongs, ended}
+use Rattle.job_reader.specs.Legal.{flat_body, IsJobTree}
+use Rattle.job_reader.specs.Relates.{IsSoFar, IsInside, IsOpened, IsAt}
+use Rattle.job_reader.specs.Reading.{finished}
 use Rattle.job_reader.specs.declared.inside.OpenBody.{OpenBody}
 use Rattle.job_reader.specs.declared.so_far.SoFar.{SoFar}
+use Rattle.job_reader.specs.declared.state.State.{State}
 
 abbrev pub AreKept : List BodyTree → Type 0
 AreKept [] = Unit {0}
@@ -68,18 +71,31 @@ pub record IsWhole (o : Inside) : Type 0 where
 abbrev pub EndsWhole : Inside → Line → Type 0
 EndsWhole o l = belongs l o.frames ≡ false → IsWhole o
 
--- what the reader has, is kept so
+-- the reader has a job so far
 abbrev pub HasSoFar : SoFar → Type 0
 HasSoFar r = (j : JobTree) × IsSoFar j r
 
+-- and an open body or none, and they are kept so
 abbrev pub HasKept : SoFar → Option OpenBody → Type 0
 HasKept r w = (j : JobTree) × (i : Option Inside) × IsSoFar j r × IsOpened i w × KeptAt j i
 
 abbrev pub HasKeptInside : SoFar → OpenBody → Type 0
 HasKeptInside r w = HasKept r (Some w)
 
+-- the reader has an open body that is whole, or will be where this line ends it
 abbrev pub HasWhole : OpenBody → Type 0
 HasWhole w = (o : Inside) × IsInside o w × IsWhole o
 
 abbrev pub HasEnding : OpenBody → Line → Type 0
 HasEnding w l = (o : Inside) × IsInside o w × EndsWhole o l
+
+-- what is read, if anything, is a job
+abbrev pub SaysJobs : Result JobTree Refusal → Type 0
+SaysJobs read = (j : JobTree) → read ≡ Ok j → IsJobTree j
+
+-- the reader has a job; or one at the end of the text, unless it is refused there
+abbrev pub HasJob : SoFar → Type 0
+HasJob r = (j : JobTree) × IsSoFar j r × IsJobTree j
+
+abbrev pub HasEnd : ℕ → State → Type 0
+HasEnd line s = (a : Above) × IsAt a s × SaysJobs (finished line a a.inside a.missing)

@@ -6,7 +6,8 @@ use Rattle.task_lang.specs.Open.{Frame, IsOpen}
 use Rattle.job_reader.specs.declared.inside.OpenBody.{OpenBody}
 use Rattle.job_reader.specs.declared.so_far.SoFar.{SoFar}
 use Rattle.job_reader.specs.declared.state.State.{State}
-use Rattle.job_reader.specs.Trees.{JobTree, body_tree, array_names, body_names}
+use Rattle.job_reader.specs.Trees.{JobTree, array_names, body_names}
+use Rattle.job_reader.specs.Legal.{flat_body}
 use Rattle.job_reader.specs.Above.{Inside, Above, grown}
 
 -- an open body
@@ -26,7 +27,7 @@ IsOpened (Some o) (Some w) = IsInside o w
 pub record IsSoFar (j : JobTree) (r : SoFar) : Type 0 where
   pub arrays : r.arrays ≡ j.arrays
   pub array_names : lent r.array_names.items ≡ array_names j
-  pub bodies : map body_tree r.bodies.items ≡ j.bodies
+  pub bodies : r.bodies.items ≡ map flat_body j.bodies
   pub body_names : lent r.body_names.items ≡ body_names j
   pub starts : r.starts.items ≡ j.starts
 

@@ -1,19 +1,20 @@
 //! Lines that the job grows by.
-ghost use Rattle.std.specs.Prelude.{◌≡◌, ◌≤◌, ◌∷◌, [], ◌++◌, length, map, string_bytes, IfOk, IfErr, IfSome, IsTrue, OnOk, ◌<◌, Option, true};
+ghost use Rattle.std.specs.Prelude.{◌≡◌, ◌≤◌, ◌∷◌, [], ◌++◌, length, map, string_bytes, IfOk, IfSome, IsTrue, OnOk, ◌<◌, Option, true};
 ghost use Rattle.std.specs.Option.{ForSome};
 ghost use Rattle.std.specs.List.{list_all};
 ghost use Rattle.text_lines.specs.Text.{words_of};
 ghost use Rattle.superstep_memory.specs.Cells.{IsNew};
 ghost use Rattle.task_lang.specs.Names.{is_free};
 ghost use Rattle.job_words.specs.Views.{lent};
-ghost use Rattle.job_reader.specs.Trees.{JobTree, body_tree, job_tree};
+ghost use Rattle.job_reader.specs.Trees.{JobTree, job_tree};
+ghost use Rattle.job_reader.specs.Legal.{flat_body};
 ghost use Rattle.job_reader.specs.Above.{Inside, nothing, can_else, sits, ended, statements_behind};
-ghost use Rattle.job_reader.specs.Kept.{HasSoFar, HasKept, HasKeptInside, HasWhole, HasEnding};
+ghost use Rattle.job_reader.specs.Kept.{HasJob, HasSoFar, HasKept, HasKeptInside, HasWhole, HasEnding};
 ghost use Rattle.job_reader.specs.Reading as spec;
 ghost use Rattle.job_reader.specs.Relates.{IsSoFar, IsInside, IsOpened, IsBehind};
 ghost use Rattle.job_reader.specs.Gives.{LineGives};
 
-use crate::fault::{LineFault, ReadJobFault};
+use crate::fault::LineFault;
 use crate::inside::OpenBody;
 use crate::outer::{Outer, array_of, body_of, outer_of, start_of};
 use crate::so_far::SoFar;
@@ -62,7 +63,7 @@ fn name_texts(alloc: Global, names: &[&[u8]]) -> Result<Vec<String>, AllocError>
 // The body that an open one is, where no line is open in it.
 fn finished(alloc: Global, inner: OpenBody<'_>) -> Result<Body, AllocError>
     requires { HasWhole inner }
-    ensures { IfOk result (λ body. (o : Inside) → IsInside o inner.entry → o.frames ≡ [] → body_tree body ≡ ended o) }
+    ensures { IfOk result (λ body. (o : Inside) → IsInside o inner.entry → o.frames ≡ [] → body ≡ flat_body (ended o)) }
 {
     let OpenBody {
         name,
@@ -106,9 +107,9 @@ impl<'a> SoFar<'a> {
     }
 
     /// The job.
-    pub(crate) fn job(self) -> Result<Job, ReadJobFault>
-        ensures job { (j : JobTree) → IsSoFar j self.entry → IfOk result (λ job. job_tree job ≡ j) }
-        ensures memory { IfErr result (λ fault. fault ≡ ReadJobFault.Memory) }
+    pub(crate) fn job(self) -> Job
+        requires { HasJob self }
+        ensures { (j : JobTree) → IsSoFar j self.entry → job_tree result ≡ j }
     {
         let SoFar {
             arrays,
@@ -118,8 +119,8 @@ impl<'a> SoFar<'a> {
             starts,
         } = self;
         match Job::new(arrays, bodies, starts) {
-            Some(job) => Ok(job),
-            None => Err(ReadJobFault::Memory),
+            Some(job) => job,
+            None => unreachable!(),
         }
     }
 

@@ -6,7 +6,7 @@ ghost use Rattle.job_words.specs.Views.{lent};
 ghost use Rattle.job_reader.specs.Trees.{job_tree};
 ghost use Rattle.job_reader.specs.Above.{Above, nothing};
 ghost use Rattle.job_reader.specs.Begins.{has_header, BeginsWell};
-ghost use Rattle.job_reader.specs.Kept.{HasKept};
+ghost use Rattle.job_reader.specs.Kept.{HasKept, HasEnd, SaysJobs};
 ghost use Rattle.job_reader.specs.Reading as spec;
 ghost use Rattle.job_reader.specs.Relates.{IsAt};
 ghost use Rattle.job_reader.specs.Gives.{LineGives, Gives};
@@ -110,6 +110,7 @@ impl<'a> State<'a> {
 
     // The job, where no body is open and each that is named is there.
     fn finished(self, line: usize) -> Result<Job, ReadJobFault>
+        requires { HasEnd line self }
         ensures { (a : Above) → IsAt a self.entry → Gives job_tree result (spec.finished line a a.inside a.missing) }
     {
         let State {
@@ -125,7 +126,7 @@ impl<'a> State<'a> {
             let code = Code::UnknownName;
             return Err(ReadJobFault::Text(Refusal { line, code }));
         }
-        so_far.job()
+        Ok(so_far.job())
     }
 }
 
@@ -138,6 +139,7 @@ fn read_lines<'a>(
 ) -> Result<Job, ReadJobFault>
     requires bodies { length bodies.now ≤ 64 }
     requires lines { first + length text.now < 2 ^ 32 }
+    requires jobs { SaysJobs (spec.read_lines (lent bodies.now) first nothing (lines_of text.now)) }
     ensures { Gives job_tree result (spec.read_lines (lent bodies.now) first nothing (lines_of text.entry.now)) }
 {
     let mut state = State::new(alloc);
