@@ -1,0 +1,9 @@
+//! Laws on refusals of a job's text: that of a line holds whatever follows it. Each function does nothing: its contract
+//! is the law.
+#![tactic(auto)]
+
+mod laws;
+
+pub use laws::{
+    lines_above_are_read, plain_texts_are_refused_alike, refusals_hold_for_all_that_follows,
+};
