@@ -61,7 +61,7 @@ line-next : (bodies : List Word) (n : ℕ) (ls : List (List ℕ)) (r : Result Ab
 line-next bodies n ls (Ok a) = refl
 line-next bodies n ls (Err c) = refl
 
-read-next : (bodies : List Word) (n : ℕ) (p : Option Above) (l : List ℕ) (ls : List (List ℕ))
+pub read-next : (bodies : List Word) (n : ℕ) (p : Option Above) (l : List ℕ) (ls : List (List ℕ))
     → read bodies n p (l ∷ ls) ≡ (at n (step bodies n p (words_of l)) >>= λ q. read bodies (n + 1) q ls)
 read-next bodies n None l ls = header-next bodies n ls (is_skipped (words_of l)) (is_header (words_of l))
 read-next bodies n (Some a) l ls = line-next bodies n ls (kept_step bodies n a (words_of l))
@@ -77,7 +77,7 @@ some-seen : (r : Result Above Code) → made glance (made (λ b. Some b) r) ≡ 
 some-seen (Ok a) = refl
 some-seen (Err c) = refl
 
-step-seen : (bodies : List Word) (n : ℕ) (p : Option Above) (ws : Words) → made glance (step bodies n p ws) ≡ see_words (glance p) ws
+pub step-seen : (bodies : List Word) (n : ℕ) (p : Option Above) (ws : Words) → made glance (step bodies n p ws) ≡ see_words (glance p) ws
 step-seen bodies n None ws = header-seen (is_skipped ws) (is_header ws)
 step-seen bodies n (Some a) ws =
     some-seen (kept_step bodies n a ws) ∙ ap (λ (r : Result Seen Code). made (λ w. Some w) r) (line-seen bodies n a ws)
@@ -120,11 +120,11 @@ first-kept bodies all n (Some k) b h e m f = h m f
 first-kept bodies all n None true h e m f = let same : n ≡ m = cc in subst (λ (k : ℕ). is_missing bodies (words_at all k) ≡ true) same e
 first-kept bodies all n None false h e m f = absurd cc
 
-skip-ok : {A : Type 0} (b : Bool) (a x : A) (r : Result A Code) → (if b then Ok a else r) ≡ Ok x → (a ≡ x) ⊎ (r ≡ Ok x)
+pub skip-ok : {A : Type 0} (b : Bool) (a x : A) (r : Result A Code) → (if b then Ok a else r) ≡ Ok x → (a ≡ x) ⊎ (r ≡ Ok x)
 skip-ok true a x r e = inl cc
 skip-ok false a x r e = inr e
 
-header-missing : (b c : Bool) (q : Option Above) → ◌≡◌ {A = Result (Option Above) Code} (if b then Ok None else if c then Ok (Some nothing) else Err BadHeader) (Ok q) → missing_in q ≡ None
+pub header-missing : (b c : Bool) (q : Option Above) → ◌≡◌ {A = Result (Option Above) Code} (if b then Ok None else if c then Ok (Some nothing) else Err BadHeader) (Ok q) → missing_in q ≡ None
 header-missing true c q e = let same : None ≡ q = cc in ap missing_in (sym same)
 header-missing false true q e = let same : Some nothing ≡ q = cc in ap missing_in (sym same)
 header-missing false false q e = absurd cc

@@ -19,7 +19,7 @@ short-text : (n : ℕ) → n ≤ 1048576 → nat_lt 1048576 n ≡ false
 short-text n h = grind (arith, common_steps)
 
 -- a short text is read behind its bytes
-short-read : (text : List ℕ) → length text ≤ 1048576
+pub short-read : (text : List ℕ) → length text ≤ 1048576
     → job_in text ≡ unless_bad (bad_byte_line 1 text) (read_from (declared (lines_of text)) 1 (lines_of text))
 unfolding job_in
 short-read text h =
@@ -27,7 +27,7 @@ short-read text h =
     (short-text (length text) h)
 
 -- a refused text has a byte that isn't allowed in this line, or has none and is refused by its lines
-by-byte : (o : Option ℕ) (read : Result JobTree Refusal) (r : Refusal) → unless_bad o read ≡ Err r → (o ≡ Some r.line) ⊎ ((o ≡ None) × (read ≡ Err r))
+pub by-byte : (o : Option ℕ) (read : Result JobTree Refusal) (r : Refusal) → unless_bad o read ≡ Err r → (o ≡ Some r.line) ⊎ ((o ≡ None) × (read ≡ Err r))
 by-byte None read r e = inr (refl, e)
 by-byte (Some n) read r e =
     let same : record { line = n; code = BadByte } ≡ r = cc in inl (ap (λ (x : Refusal). Some x.line) same)
@@ -64,7 +64,7 @@ fault-stays bodies ls other r f h =
     ∙ stays bodies f.front f.line (drop r.line other) 1 None f.there r.code f.reads f.fault
     ∙ ap (λ (k : ℕ). Err (record { line = k; code = r.code })) (sym f.place)
 
-not-late : (text : List ℕ) (r : Refusal) → IsRefusedOfALine text r → IsLate (declared (lines_of text)) (lines_of text) 1 (lines_of text) r → ⊥
+pub not-late : (text : List ℕ) (r : Refusal) → IsRefusedOfALine text r → IsLate (declared (lines_of text)) (lines_of text) 1 (lines_of text) r → ⊥
 not-late text r h (inl e) = let low : r.line ≤ length (lines_of text) = h.within in absurd omega (arith, e, low)
 not-late text r h (inr m) = let no : true ≡ false = sym m.1 ∙ h.named m.0 in absurd cc
 
@@ -76,7 +76,7 @@ line-stays text r h e bodies other alike =
       | inr late ↦ absurd (not-late text r h late)
     ]
 
-why : (text : List ℕ) (r : Refusal) → IsRefusedOfALine text r
+pub why : (text : List ℕ) (r : Refusal) → IsRefusedOfALine text r
     → (bad_byte_line 1 text ≡ Some r.line) ⊎ ((bad_byte_line 1 text ≡ None) × (read_from (declared (lines_of text)) 1 (lines_of text) ≡ Err r))
 why text r h =
     by-byte (bad_byte_line 1 text) (read_from (declared (lines_of text)) 1 (lines_of text)) r (sym (short-read text h.short) ∙ h.refused)

@@ -1,5 +1,5 @@
 //! Laws on refusals. Each function does nothing: its contract is the law.
-ghost use Rattle.job_refusals.specs.Laws.{RefusalsHoldForAllThatFollows, PlainTextsAreRefusedAlike, LinesAboveAreRead};
+ghost use Rattle.job_refusals.specs.Laws.{RefusalsHoldForAllThatFollows, PlainTextsAreRefusedAlike, LinesAboveAreRead, LinesAboveAreAJobs};
 
 /// Where a text is refused of one of its lines, no text that has the same lines up to it is a text of a job.
 pub fn refusals_hold_for_all_that_follows()
@@ -16,4 +16,10 @@ pub fn plain_texts_are_refused_alike()
 /// one of those.
 pub fn lines_above_are_read()
     ensures { LinesAboveAreRead }
+{}
+
+/// The lines above a line that a text of allowed bytes is refused of, where they have the header and declare the bodies
+/// that they name, are a job's once what is open is ended, where there is room for the ends.
+pub fn lines_above_are_a_jobs()
+    ensures { LinesAboveAreAJobs }
 {}

@@ -5,5 +5,6 @@
 mod laws;
 
 pub use laws::{
-    lines_above_are_read, plain_texts_are_refused_alike, refusals_hold_for_all_that_follows,
+    lines_above_are_a_jobs, lines_above_are_read, plain_texts_are_refused_alike,
+    refusals_hold_for_all_that_follows,
 };
