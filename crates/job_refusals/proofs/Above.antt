@@ -1,7 +1,7 @@
--- The lines above a line that is refused are a job's with the ends of what is open.
-use Rattle.std.proofs.Common.{◌≡◌, ◌≢◌, inl, inr, ℕ, suc, zero, ◌-◌, ◌≤◌, Bool, true, false, List, [], ◌∷◌, ◌++◌, length, replicate, take, drop, Option, Some, None, Result, Ok, Err, refl, sym, ap, subst, ◌∙◌, arith, append-nil}
+-- The lines above a line that is refused are a job's with the ends of what is open and the bodies that are missing.
+use Rattle.std.proofs.Common.{◌≡◌, ◌≢◌, inl, inr, ℕ, suc, zero, ◌-◌, ◌≤◌, Bool, true, false, List, [], ◌∷◌, ◌++◌, length, replicate, take, drop, Option, Some, None, Result, Ok, Err, refl, sym, ap, subst, ◌∙◌, arith, append-nil, append_assoc, take_all}
 use Rattle.std.specs.Prelude.{if◌then◌else◌}
-use Rattle.std.specs.List.{list_all, filter_map}
+use Rattle.std.specs.List.{list_all}
 use Rattle.std.proofs.lemmas.List.{take-append-drop}
 use Rattle.std.proofs.lemmas.List.Elements.{filter_map-append}
 use Rattle.std.proofs.lemmas.List.Folds.{list_all-append}
@@ -10,19 +10,22 @@ use Rattle.text_lines.specs.declared.refusal.Code.{Code}
 use Rattle.text_lines.specs.declared.refusal.Code.TheVariants.{BadHeader}
 use Rattle.text_lines.specs.declared.refusal.Refusal.{Refusal}
 use Rattle.text_lines.specs.Text.{lines_of, words_of, is_skipped, bad_byte_line}
-use Rattle.text_lines.specs.Laws.{is_line}
+use Rattle.text_lines.specs.Laws.{is_line, joined}
 use Rattle.text_lines.proofs.Readings.{lines_back}
+use Rattle.task_lang.specs.Names.{is_free}
 use Rattle.job_words.specs.Words.{Word, Words}
 use Rattle.job_words.proofs.SaidLemmas.{and-true}
 use Rattle.job_words.proofs.GrowLemmas.{and-left}
 use Rattle.job_reader.specs.Above.{nothing}
 use Rattle.job_reader.specs.Reading.{is_header, outer_of, declared_by, declared, read_from}
 use Rattle.job_texts.specs.Laws.{IsAJobs}
-use Rattle.job_refusals.specs.Laws.{IsRefusedOfALine, are_there, with_ends, LinesAboveAreAJobs}
-use Rattle.job_refusals.proofs.Seen.{Seen, seen}
+use Rattle.job_refusals.specs.Laws.{IsRefusedOfALine, declared_in, named_in, missing_in, empty_bodies, LinesAboveAreAJobs}
+use Rattle.job_refusals.proofs.Named.{open_name, so_far, lines-tell}
+use Rattle.job_refusals.proofs.Lacking.{lacking-read, lacking-free, empty-declare, empty-whole, empty-allowed, empty-found, all-known, lines-found}
+use Rattle.job_refusals.proofs.Seen.{SeenBody, Seen, seen}
 use Rattle.job_refusals.proofs.Folds.{IsFault, see_words, see_lines, told}
 use Rattle.job_refusals.proofs.BadLines.{by-lines}
-use Rattle.job_refusals.proofs.Closing.{end_line, ends, ends-few, lines-within, closes}
+use Rattle.job_refusals.proofs.Closing.{IsClosed, lines-append, end_line, ends, ends-few, lines-within, closes}
 use Rattle.job_refusals.proofs.Whole.{are_found, are_allowed, none-bad, text-read}
 use Rattle.job_refusals.proofs.Held.{short-read, not-late, by-byte}
 
@@ -37,22 +40,39 @@ all-again : (p : List ℕ → Bool) (n : ℕ) (l : List ℕ) → p l ≡ true �
 all-again p zero l e = refl
 all-again p (suc n) l e = and-true _ _ e (all-again p n l e)
 
-all-joined : (p : List ℕ → Bool) (ls : List (List ℕ)) (n : ℕ) (l : List ℕ) → list_all p ls ≡ true → p l ≡ true → list_all p (ls ++ replicate n l) ≡ true
-all-joined p ls n l e f = list_all-append p ls (replicate n l) ∙ and-true _ _ e (all-again p n l f)
+all-joined : (p : List ℕ → Bool) (ls : List (List ℕ)) (n : ℕ) (l : List ℕ) (more : List (List ℕ)) → list_all p ls ≡ true → p l ≡ true
+    → list_all p more ≡ true
+    → list_all p (ls ++ (replicate n l ++ more)) ≡ true
+all-joined p ls n l more e f g =
+    list_all-append p ls (replicate n l ++ more)
+    ∙ and-true _ _ e (list_all-append p (replicate n l) more ∙ and-true _ _ (all-again p n l f) g)
 
-abbrev names_in : List (List ℕ) → List Word
-names_in ls = filter_map (λ l. declared_by (words_of l)) ls
-
-ends-none : (n : ℕ) → names_in (replicate n end_line) ≡ []
+ends-none : (n : ℕ) → declared_in (replicate n end_line) ≡ []
 unfolding outer_of
 ends-none zero = refl
 ends-none (suc n) = ends-none n
 
-ends-declare : (ls : List (List ℕ)) (n : ℕ) → declared (ls ++ replicate n end_line) ≡ declared ls
+-- ends declare nothing
+ends-declare : (ls : List (List ℕ)) (n : ℕ) → declared_in (ls ++ replicate n end_line) ≡ declared_in ls
 ends-declare ls n =
-    ap (take 64)
-    (filter_map-append (λ l. declared_by (words_of l)) ls (replicate n end_line) ∙ ap (λ (x : List Word). names_in ls ++ x) (ends-none n)
-    ∙ append-nil (names_in ls))
+    filter_map-append (λ l. declared_by (words_of l)) ls (replicate n end_line) ∙ ap (λ (x : List Word). declared_in ls ++ x) (ends-none n)
+    ∙ append-nil (declared_in ls)
+
+all-declare : (ls : List (List ℕ)) (n : ℕ) (ns : List Word) → list_all is_free ns ≡ true
+    → declared_in (ls ++ (replicate n end_line ++ empty_bodies ns)) ≡ declared_in ls ++ ns
+all-declare ls n ns e =
+    ap declared_in (sym (append_assoc ls (replicate n end_line) (empty_bodies ns)))
+    ∙ filter_map-append (λ l. declared_by (words_of l)) (ls ++ replicate n end_line) (empty_bodies ns)
+    ∙ ap (λ (x : List Word). x ++ declared_in (empty_bodies ns)) (ends-declare ls n)
+    ∙ ap (λ (x : List Word). declared_in ls ++ x) (empty-declare ns e)
+
+-- where no body is open
+closed-as : (w : Seen) (names : List Word) → w.inside ≡ None → so_far w ≡ names
+    → w ≡ record { arrays = w.arrays; bodies = names; starts = w.starts; inside = None }
+closed-as w names e f =
+    let bodies : w.bodies ≡ names = sym (append-nil w.bodies) ∙ ap (λ (i : Option SeenBody). w.bodies ++ open_name i) (sym e) ∙ f in
+    ap (λ (i : Option SeenBody). record { arrays = w.arrays; bodies = w.bodies; starts = w.starts; inside = i }) e
+    ∙ ap (λ (x : List Word). record { arrays = w.arrays; bodies = x; starts = w.starts; inside = None }) bodies
 
 -- a header is in front of each line that is refused of anything else
 header-bad : (b c : Bool) (x : Code) → ◌≡◌ {A = Result (Option Seen) Code} (if b then Ok None else if c then Ok (Some (seen nothing)) else Err BadHeader) (Err x) → x ≡ BadHeader
@@ -95,22 +115,65 @@ module _ (text : List ℕ) (r : Refusal) (h : IsRefusedOfALine text r) (clean : 
       let b = begun fault.there (words_of fault.line) r.code fault.fault other in
       (b.0, ap (see_lines None) front-is ∙ fault.reads ∙ ap (λ (p : Option Seen). Ok p) b.1)
 
-  above-closed : are_there Front ≡ true → (n : ℕ) × (n ≤ 17) × (length (with_ends Front n) ≤ 1048576 → IsAJobs (with_ends Front n))
-  above-closed found =
-      let v : Seen = seen-above.0 in
-      let n : ℕ = ends v.inside in
-      let c = closes Front v seen-above.1 in
-      let whole : list_all is_line (Front ++ replicate n end_line) ≡ true =
-      all-joined is_line Front n end_line (all-taken is_line (r.line - 1) Lines (lines_back text).0) refl in
-      let allowed : are_allowed (Front ++ replicate n end_line) ≡ true =
-      all-joined _ Front n end_line (all-taken _ (r.line - 1) Lines (none-bad Lines 1 (sym (by-lines text 1) ∙ clean))) refl in
-      let named : are_found (declared Front) (Front ++ replicate n end_line) ≡ true = all-joined _ Front n end_line found refl in
-      let there : are_found (declared (Front ++ replicate n end_line)) (Front ++ replicate n end_line) ≡ true =
-      subst (λ (x : List Word). are_found x (Front ++ replicate n end_line) ≡ true) (sym (ends-declare Front n)) named in (
-        n,
-        ends-few v.inside (lines-within Front None (Some v) tt seen-above.1),
-        λ short. text-read (Front ++ replicate n end_line) c.0 whole allowed there c.1 c.2 short,
+  abbrev Names : List Word
+  Names = declared_in Front
+
+  abbrev Missing : List Word
+  Missing = missing_in Front
+
+  names-free : list_all is_free (named_in Front) ≡ true
+  names-free = (lines-tell Front None (Some seen-above.0) seen-above.1).1
+
+  missing-free : list_all is_free Missing ≡ true
+  missing-free = lacking-free Names (named_in Front) names-free
+
+  abbrev Ends : ℕ
+  Ends = ends seen-above.0.inside
+
+  abbrev Closed : List (List ℕ)
+  Closed = Front ++ replicate Ends end_line
+
+  abbrev Whole : List (List ℕ)
+  Whole = Front ++ (replicate Ends end_line ++ empty_bodies Missing)
+
+  all-read : length (Names ++ Missing) ≤ 64 → IsClosed (see_lines None Whole)
+  all-read room =
+      let c = closes Front seen-above.0 seen-above.1 in
+      let names : so_far c.0 ≡ Names = (lines-tell Closed None (Some c.0) c.1).0 ∙ ends-declare Front Ends in
+      let shape : c.0 ≡ record { arrays = c.0.arrays; bodies = Names; starts = c.0.starts; inside = None } = closed-as c.0 Names c.2 names in
+      let r = lacking-read (named_in Front) c.0.arrays Names c.0.starts names-free room in (
+        r.0,
+        ap (see_lines None) (sym (append_assoc Front (replicate Ends end_line) (empty_bodies Missing)))
+            ∙ lines-append Closed (empty_bodies Missing) None (Some c.0) c.1
+            ∙ ap (λ (v : Seen). see_lines (Some v) (empty_bodies Missing)) shape
+            ∙ r.1,
+        r.2,
       )
 
+  all-found : length (Names ++ Missing) ≤ 64 → are_found (declared Whole) Whole ≡ true
+  all-found room =
+      let names : declared Whole ≡ Names ++ Missing = ap (take 64) (all-declare Front Ends Missing missing-free) ∙ take_all 64 (Names ++ Missing) room in
+      subst (λ (x : List Word). are_found x Whole ≡ true) (sym names)
+      (all-joined _ Front Ends end_line (empty_bodies Missing) (lines-found (Names ++ Missing) Front (all-known Names (named_in Front))) refl
+      (empty-found (Names ++ Missing) Missing missing-free))
+
+  all-whole : list_all is_line Whole ≡ true
+  all-whole =
+      all-joined is_line Front Ends end_line (empty_bodies Missing) (all-taken is_line (r.line - 1) Lines (lines_back text).0) refl
+      (empty-whole Missing missing-free)
+
+  all-allowed : are_allowed Whole ≡ true
+  all-allowed =
+      all-joined _ Front Ends end_line (empty_bodies Missing)
+      (all-taken _ (r.line - 1) Lines (none-bad Lines 1 (sym (by-lines text 1) ∙ clean))) refl
+      (empty-allowed Missing missing-free)
+
+  few-ends : Ends ≤ 17
+  few-ends = ends-few seen-above.0.inside (lines-within Front None (Some seen-above.0) tt seen-above.1)
+
+  above-completed : length (Names ++ Missing) ≤ 64 → length (joined Whole) ≤ 1048576 → IsAJobs (joined Whole)
+  above-completed room short =
+      let c = all-read room in text-read Whole c.0 all-whole all-allowed (all-found room) c.1 c.2 short
+
 pub lines-above-are : LinesAboveAreAJobs
-lines-above-are text r h clean other found = above-closed text r h clean other found
+lines-above-are text r h clean other = (Ends text r h clean other, few-ends text r h clean other, above-completed text r h clean other)

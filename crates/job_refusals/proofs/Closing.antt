@@ -94,7 +94,7 @@ body-after v name w e = if-both (is_among v.bodies name) (nat_le 64 (length v.bo
 pub start-after : (v : Seen) (s : Start) (w : Seen) → see_start v s ≡ Ok w → after_start v ≡ w
 start-after v s w e = (if-ok (nat_le 4096 v.starts) TooMany (after_start v) w e).1
 
-begun-within : (name : Word) → IsWithin (Some (begun_body name))
+pub begun-within : (name : Word) → IsWithin (Some (begun_body name))
 begun-within name = (omega arith, omega arith, omega arith)
 
 outer-within : (v : Seen) (k : Option Outer) (ws : Words) (w : Seen) → see_outer v k ws ≡ Ok w → IsWithin w.inside
@@ -147,7 +147,7 @@ lines-within (l ∷ ls) p q h e =
 abbrev pub end_line : List ℕ
 end_line = codes "end"
 
-end-read : (v : Seen) (o : SeenBody) → IsWithin (Some o)
+pub end-read : (v : Seen) (o : SeenBody) → IsWithin (Some o)
     → see_any v (Some o) (words_of end_line) ≡ Ok (see_behind v o o.statements (see_step line.EndIf o.open_lines))
 unfolding keyword_of line_behind mentions_behind
 end-read v o h =
@@ -201,7 +201,7 @@ closed-by : (arrays bodies : List Word) (starts : ℕ) (i : Option SeenBody) →
 closed-by arrays bodies starts None h = (record { arrays = arrays; bodies = bodies; starts = starts; inside = None }, refl, refl)
 closed-by arrays bodies starts (Some o) h = ends-read o.open_lines arrays bodies starts o.name o.locals o.statements h.0 h.1 h.2
 
-lines-append : (ls more : List (List ℕ)) (p q : Option Seen) → see_lines p ls ≡ Ok q → see_lines p (ls ++ more) ≡ see_lines q more
+pub lines-append : (ls more : List (List ℕ)) (p q : Option Seen) → see_lines p ls ≡ Ok q → see_lines p (ls ++ more) ≡ see_lines q more
 lines-append [] more p q e = let same : p ≡ q = cc in ap (λ (x : Option Seen). see_lines x more) same
 lines-append (l ∷ ls) more p q e =
     let m = bind-ok (see_words p (words_of l)) (λ (w : Option Seen). see_lines w ls) q e in

@@ -6,3 +6,5 @@ pub mod Held
 pub mod Closing
 pub mod Whole
 pub mod Above
+pub mod Named
+pub mod Lacking

@@ -1,13 +1,15 @@
--- That a refusal of a line holds whatever follows the line.
-use Rattle.std.specs.Prelude.{◌≡◌, ◌≢◌, ◌≤◌, ℕ, ◌-◌, Bool, true, false, not, List, [], ◌++◌, length, replicate, codes, take, slice_get, unwrap_or, None, Err}
-use Rattle.std.specs.List.{list_all}
+-- That a refusal of a line holds whatever follows the line, and that it is the first line that a job can't have there.
+use Rattle.std.specs.Prelude.{◌≡◌, ◌≢◌, ◌≤◌, ℕ, ◌-◌, false, List, [], ◌++◌, length, replicate, codes, take, slice_get, unwrap_or, if◌then◌else◌, ◌||◌, ◌∷◌, Option, None, Some, Err}
+use Rattle.std.specs.List.{filter_map}
+use Rattle.std.specs.Str.{bytes_eq}
 use Rattle.text_lines.specs.declared.refusal.Code.TheVariants.{BadHeader, UnknownName}
 use Rattle.text_lines.specs.declared.refusal.Refusal.{Refusal}
 use Rattle.text_lines.specs.Text.{lines_of, words_of, bad_byte_line}
 use Rattle.text_lines.specs.Laws.{joined}
-use Rattle.job_words.specs.Words.{Words}
+use Rattle.task_lang.specs.Names.{is_among}
+use Rattle.job_words.specs.Words.{Word, Words}
 use Rattle.job_reader.specs.Trees.{JobTree}
-use Rattle.job_reader.specs.Reading.{declared, is_missing, job_in}
+use Rattle.job_reader.specs.Reading.{declared_by, declared, is_missing, job_in}
 use Rattle.job_texts.specs.Laws.{IsTextOfJob, IsAJobs}
 
 -- the words of the line of this number
@@ -43,19 +45,45 @@ LinesAboveAreRead =
     → IsRefusedOfALine other s
     → r.line ≤ s.line
 
--- each body that a line of these names is declared by one of them
-abbrev pub are_there : List (List ℕ) → Bool
-are_there lines = list_all (λ l. not (is_missing (declared lines) (words_of l))) lines
+-- the body that a line names, if it is a `spawn` or a start line
+abbrev pub named_by : Words → Option Word
+named_by [] = None
+named_by (k ∷ []) = None
+named_by (k ∷ b ∷ ws) = if bytes_eq k (codes "spawn") || bytes_eq k (codes "start") then Some b else None
 
--- the text of these lines, and of so many ends
-abbrev pub with_ends : List (List ℕ) → ℕ → List ℕ
-with_ends lines n = joined (lines ++ replicate n (codes "end"))
+-- the bodies that lines declare, and those that they name
+abbrev pub declared_in : List (List ℕ) → List Word
+declared_in lines = filter_map (λ l. declared_by (words_of l)) lines
 
--- The lines above that line, where they have the header and declare the bodies that they name, are a job's with the ends
--- of what is open, which are at most 17, where there is room for those.
+abbrev pub named_in : List (List ℕ) → List Word
+named_in lines = filter_map (λ l. named_by (words_of l)) lines
+
+-- the names that aren't among others, each once
+abbrev pub lacking : List Word → List Word → List Word
+lacking others [] = []
+lacking others (w ∷ ws) = if is_among others w then lacking others ws else w ∷ lacking (others ++ w ∷ []) ws
+
+abbrev pub missing_in : List (List ℕ) → List Word
+missing_in lines = lacking (declared_in lines) (named_in lines)
+
+-- bodies without statements
+abbrev pub empty_bodies : List Word → List (List ℕ)
+empty_bodies [] = []
+empty_bodies (n ∷ ns) = (codes "body " ++ n) ∷ codes "end" ∷ empty_bodies ns
+
+-- the text of these lines, of so many ends, and of a body of each name that is missing
+abbrev pub completed : List (List ℕ) → ℕ → List ℕ
+completed lines n = joined (lines ++ (replicate n (codes "end") ++ empty_bodies (missing_in lines)))
+
+-- the lines above a line
+abbrev pub above : List ℕ → ℕ → List (List ℕ)
+above text n = take (n - 1) (lines_of text)
+
+-- The lines above that line, unless it should have been the header, are a job's with the ends of what is open, at most 17,
+-- and empty bodies of the names that are missing, where a text has room for all.
 abbrev pub LinesAboveAreAJobs : Type 0
 LinesAboveAreAJobs =
     (text : List ℕ) (r : Refusal) → IsRefusedOfALine text r → bad_byte_line 1 text ≡ None → r.code ≢ BadHeader
-    → are_there (take (r.line - 1) (lines_of text)) ≡ true
     → (n : ℕ) × (n ≤ 17)
-    × (length (with_ends (take (r.line - 1) (lines_of text)) n) ≤ 1048576 → IsAJobs (with_ends (take (r.line - 1) (lines_of text)) n))
+    × (length (declared_in (above text r.line) ++ missing_in (above text r.line)) ≤ 64 → length (completed (above text r.line) n) ≤ 1048576
+    → IsAJobs (completed (above text r.line) n))

@@ -18,8 +18,8 @@ pub fn lines_above_are_read()
     ensures { LinesAboveAreRead }
 {}
 
-/// The lines above a line that a text of allowed bytes is refused of, where they have the header and declare the bodies
-/// that they name, are a job's once what is open is ended, where there is room for the ends.
+/// Where a text of allowed bytes is refused of one of its lines, the lines above it are a job's with an `end` for all that
+/// is open and an empty body of each name that is missing, where a text has room for these.
 pub fn lines_above_are_a_jobs()
     ensures { LinesAboveAreAJobs }
 {}

@@ -1,5 +1,5 @@
-//! Laws on refusals of a job's text: that of a line holds whatever follows it. Each function does nothing: its contract
-//! is the law.
+//! Laws on refusals of a job's text: that of a line holds whatever follows it, and no line above it could be refused. Each
+//! function does nothing: its contract is the law.
 #![tactic(auto)]
 
 mod laws;
