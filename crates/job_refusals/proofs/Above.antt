@@ -1,5 +1,5 @@
 -- The lines above a line that is refused are a job's with the ends of what is open and the bodies that are missing.
-use Rattle.std.proofs.Common.{◌≡◌, ◌≢◌, inl, inr, ℕ, suc, zero, ◌-◌, ◌≤◌, Bool, true, false, List, [], ◌∷◌, ◌++◌, length, replicate, take, drop, Option, Some, None, Result, Ok, Err, refl, sym, ap, subst, ◌∙◌, arith, append-nil, append_assoc, take_all}
+use Rattle.std.proofs.Common.{◌≡◌, ◌≢◌, ◌⊎◌, ◌+◌, ◌<◌, length-append, inl, inr, ℕ, suc, zero, ◌-◌, ◌≤◌, Bool, true, false, List, [], ◌∷◌, ◌++◌, length, replicate, take, drop, Option, Some, None, Result, Ok, Err, refl, sym, ap, subst, ◌∙◌, arith, append-nil, append_assoc, take_all}
 use Rattle.std.specs.Prelude.{if◌then◌else◌}
 use Rattle.std.specs.List.{list_all}
 use Rattle.std.proofs.lemmas.List.{take-append-drop}
@@ -10,24 +10,25 @@ use Rattle.text_lines.specs.declared.refusal.Code.{Code}
 use Rattle.text_lines.specs.declared.refusal.Code.TheVariants.{BadHeader}
 use Rattle.text_lines.specs.declared.refusal.Refusal.{Refusal}
 use Rattle.text_lines.specs.Text.{lines_of, words_of, is_skipped, bad_byte_line}
-use Rattle.text_lines.specs.Laws.{is_line, joined}
+use Rattle.text_lines.specs.Laws.{is_line}
 use Rattle.text_lines.proofs.Readings.{lines_back}
 use Rattle.task_lang.specs.Names.{is_free}
 use Rattle.job_words.specs.Words.{Word, Words}
-use Rattle.job_words.proofs.SaidLemmas.{and-true}
+use Rattle.job_words.proofs.SaidLemmas.{made-ok, and-true}
 use Rattle.job_words.proofs.GrowLemmas.{and-left}
-use Rattle.job_reader.specs.Above.{nothing}
-use Rattle.job_reader.specs.Reading.{is_header, outer_of, declared_by, declared, read_from}
-use Rattle.job_texts.specs.Laws.{IsAJobs}
-use Rattle.job_refusals.specs.Laws.{IsRefusedOfALine, declared_in, named_in, missing_in, empty_bodies, LinesAboveAreAJobs}
+use Rattle.job_reader.specs.Trees.{JobTree}
+use Rattle.job_reader.proofs.ToldOuter.{bind-ok}
+use Rattle.job_reader.specs.Above.{Above, nothing}
+use Rattle.job_reader.specs.Reading.{◌>>=◌, at, refused, is_header, outer_of, declared_by, declared, read_from}
+use Rattle.job_refusals.specs.Laws.{IsRefusedOfALine, IsABeginning, above, declared_in, named_in, missing_in, empty_bodies, LinesAboveGoOn, EndedTextsGoOn}
 use Rattle.job_refusals.proofs.Named.{open_name, so_far, lines-tell}
 use Rattle.job_refusals.proofs.Lacking.{lacking-read, lacking-free, empty-declare, empty-whole, empty-allowed, empty-found, all-known, lines-found}
 use Rattle.job_refusals.proofs.Seen.{SeenBody, Seen, seen}
-use Rattle.job_refusals.proofs.Folds.{IsFault, see_words, see_lines, told}
+use Rattle.job_refusals.proofs.Folds.{IsFault, step, read, glance, see_words, see_lines, told, read-next, step-seen}
 use Rattle.job_refusals.proofs.BadLines.{by-lines}
 use Rattle.job_refusals.proofs.Closing.{IsClosed, lines-append, end_line, ends, ends-few, lines-within, closes}
 use Rattle.job_refusals.proofs.Whole.{are_found, are_allowed, none-bad, text-read}
-use Rattle.job_refusals.proofs.Held.{short-read, not-late, by-byte}
+use Rattle.job_refusals.proofs.Held.{short-read, fault-stays, not-late, by-byte}
 
 -- all of a list is all of its front
 all-front : {A : Type 0} (p : A → Bool) (xs ys : List A) → list_all p (xs ++ ys) ≡ true → list_all p xs ≡ true
@@ -87,12 +88,68 @@ begun : (p : Option Seen) (ws : Words) (x : Code) → see_words p ws ≡ Err x �
 begun None ws x e h = absurd (h (header-bad (is_skipped ws) (is_header ws) x e))
 begun (Some v) ws x e h = (v, refl)
 
+module _ (Front : List (List ℕ)) (v : Seen) (reads : see_lines None Front ≡ Ok (Some v)) (whole : list_all is_line Front ≡ true) (allowed : are_allowed Front ≡ true) where
+  abbrev Names : List Word
+  Names = declared_in Front
+
+  abbrev Missing : List Word
+  Missing = missing_in Front
+
+  names-free : list_all is_free (named_in Front) ≡ true
+  names-free = (lines-tell Front None (Some v) reads).1
+
+  missing-free : list_all is_free Missing ≡ true
+  missing-free = lacking-free Names (named_in Front) names-free
+
+  abbrev Ends : ℕ
+  Ends = ends v.inside
+
+  abbrev Closed : List (List ℕ)
+  Closed = Front ++ replicate Ends end_line
+
+  abbrev Whole : List (List ℕ)
+  Whole = Front ++ (replicate Ends end_line ++ empty_bodies Missing)
+
+  all-read : length (Names ++ Missing) ≤ 64 → IsClosed (see_lines None Whole)
+  all-read room =
+      let c = closes Front v reads in
+      let names : so_far c.0 ≡ Names = (lines-tell Closed None (Some c.0) c.1).0 ∙ ends-declare Front Ends in
+      let shape : c.0 ≡ record { arrays = c.0.arrays; bodies = Names; starts = c.0.starts; inside = None } = closed-as c.0 Names c.2 names in
+      let r = lacking-read (named_in Front) c.0.arrays Names c.0.starts names-free room in (
+        r.0,
+        ap (see_lines None) (sym (append_assoc Front (replicate Ends end_line) (empty_bodies Missing)))
+            ∙ lines-append Closed (empty_bodies Missing) None (Some c.0) c.1
+            ∙ ap (λ (w : Seen). see_lines (Some w) (empty_bodies Missing)) shape
+            ∙ r.1,
+        r.2,
+      )
+
+  all-found : length (Names ++ Missing) ≤ 64 → are_found (declared Whole) Whole ≡ true
+  all-found room =
+      let names : declared Whole ≡ Names ++ Missing = ap (take 64) (all-declare Front Ends Missing missing-free) ∙ take_all 64 (Names ++ Missing) room in
+      subst (λ (x : List Word). are_found x Whole ≡ true) (sym names)
+      (all-joined _ Front Ends end_line (empty_bodies Missing) (lines-found (Names ++ Missing) Front (all-known Names (named_in Front))) refl
+      (empty-found (Names ++ Missing) Missing missing-free))
+
+  all-whole : list_all is_line Whole ≡ true
+  all-whole = all-joined is_line Front Ends end_line (empty_bodies Missing) whole refl (empty-whole Missing missing-free)
+
+  all-allowed : are_allowed Whole ≡ true
+  all-allowed = all-joined _ Front Ends end_line (empty_bodies Missing) allowed refl (empty-allowed Missing missing-free)
+
+  few-ends : Ends ≤ 17
+  few-ends = ends-few v.inside (lines-within Front None (Some v) tt reads)
+
+  -- lines that are read may go on to a job
+  beginning : IsABeginning Front
+  beginning = (Ends, few-ends, λ room short. let c = all-read room in text-read Whole c.0 all-whole all-allowed (all-found room) c.1 c.2 short)
+
 module _ (text : List ℕ) (r : Refusal) (h : IsRefusedOfALine text r) (clean : bad_byte_line 1 text ≡ None) (other : r.code ≢ BadHeader) where
   abbrev Lines : List (List ℕ)
   Lines = lines_of text
 
   abbrev Front : List (List ℕ)
-  Front = take (r.line - 1) Lines
+  Front = above text r.line
 
   fault : IsFault None 1 Lines r
   fault =
@@ -115,65 +172,84 @@ module _ (text : List ℕ) (r : Refusal) (h : IsRefusedOfALine text r) (clean : 
       let b = begun fault.there (words_of fault.line) r.code fault.fault other in
       (b.0, ap (see_lines None) front-is ∙ fault.reads ∙ ap (λ (p : Option Seen). Ok p) b.1)
 
-  abbrev Names : List Word
-  Names = declared_in Front
+text-allowed : (text : List ℕ) → bad_byte_line 1 text ≡ None → are_allowed (lines_of text) ≡ true
+text-allowed text clean = none-bad (lines_of text) 1 (sym (by-lines text 1) ∙ clean)
 
-  abbrev Missing : List Word
-  Missing = missing_in Front
+pub lines-above-go-on : LinesAboveGoOn
+lines-above-go-on text r h clean other =
+    let s = seen-above text r h clean other in
+    beginning (above text r.line) s.0 s.1 (all-taken is_line (r.line - 1) (lines_of text) (lines_back text).0)
+    (all-taken _ (r.line - 1) (lines_of text) (text-allowed text clean))
 
-  names-free : list_all is_free (named_in Front) ≡ true
-  names-free = (lines-tell Front None (Some seen-above.0) seen-above.1).1
+-- lines are read, or one is refused
+abbrev Either : List (List ℕ) → Option Seen → Type 0
+Either ls p = ((q : Option Seen) × (see_lines p ls ≡ Ok q)) ⊎ ((r : Refusal) × IsFault p 1 ls r)
 
-  missing-free : list_all is_free Missing ≡ true
-  missing-free = lacking-free Names (named_in Front) names-free
+step-or : (l : List ℕ) (ls : List (List ℕ)) (p : Option Seen) (s : Result (Option Seen) Code) → see_words p (words_of l) ≡ s
+    → ((q : Option Seen) → see_words p (words_of l) ≡ Ok q → Either ls q)
+    → Either (l ∷ ls) p
+step-or l ls p (Err c) e later =
+    inr (record { line = 1; code = c }, record { front = []; line = l; back = ls; there = p; parts = refl; reads = refl; fault = e; place = omega arith })
+step-or l ls p (Ok q) e later =
+    elim (later q e) [
+      | inl x ↦ inl (x.0, ap (λ (r : Result (Option Seen) Code). r >>= λ w. see_lines w ls) e ∙ x.1)
+      | inr x ↦
+          inr (
+            record { line = x.0.line + 1; code = x.0.code },
+            record {
+              front = l ∷ x.1.front;
+              line = x.1.line;
+              back = x.1.back;
+              there = x.1.there;
+              parts = ap (λ (y : List (List ℕ)). l ∷ y) x.1.parts;
+              reads = ap (λ (r : Result (Option Seen) Code). r >>= λ w. see_lines w x.1.front) e ∙ x.1.reads;
+              fault = x.1.fault;
+              place = omega (arith, x.1.place);
+            },
+          )
+    ]
 
-  abbrev Ends : ℕ
-  Ends = ends seen-above.0.inside
+either : (ls : List (List ℕ)) (p : Option Seen) → Either ls p
+either [] p = inl (p, refl)
+either (l ∷ ls) p = step-or l ls p (see_words p (words_of l)) refl (λ q e. either ls q)
 
-  abbrev Closed : List (List ℕ)
-  Closed = Front ++ replicate Ends end_line
+no-header : (bodies : List Word) (ls : List (List ℕ)) (n : ℕ) (p : Option Above) → see_lines (glance p) ls ≡ Ok None
+    → read bodies n p ls ≡ refused (n + length ls) BadHeader
+no-header bodies [] n None e = ap (λ (k : ℕ). refused k BadHeader) (omega arith)
+no-header bodies [] n (Some a) e = absurd cc
+no-header bodies (l ∷ ls) n p e =
+    let m = bind-ok (see_words (glance p) (words_of l)) (λ (v : Option Seen). see_lines v ls) None e in
+    let s = made-ok glance (step bodies n p (words_of l)) m.0 (step-seen bodies n p (words_of l) ∙ m.1) in
+    read-next bodies n p l ls
+    ∙ ap (λ (r : Result (Option Above) Code). at n r >>= λ q. read bodies (n + 1) q ls) s.1
+    ∙ no-header bodies ls (n + 1) s.0 (ap (λ (v : Option Seen). see_lines v ls) s.2 ∙ m.2)
+    ∙ ap (λ (k : ℕ). refused k BadHeader) (omega arith)
 
-  abbrev Whole : List (List ℕ)
-  Whole = Front ++ (replicate Ends end_line ++ empty_bodies Missing)
+same-refusal : (x : Result JobTree Refusal) (r s : Refusal) → x ≡ Err r → x ≡ Err s → r ≡ s
+same-refusal x r s e f = let both : ◌≡◌ {A = Result JobTree Refusal} (Err r) (Err s) = sym e ∙ f in cc
 
-  all-read : length (Names ++ Missing) ≤ 64 → IsClosed (see_lines None Whole)
-  all-read room =
-      let c = closes Front seen-above.0 seen-above.1 in
-      let names : so_far c.0 ≡ Names = (lines-tell Closed None (Some c.0) c.1).0 ∙ ends-declare Front Ends in
-      let shape : c.0 ≡ record { arrays = c.0.arrays; bodies = Names; starts = c.0.starts; inside = None } = closed-as c.0 Names c.2 names in
-      let r = lacking-read (named_in Front) c.0.arrays Names c.0.starts names-free room in (
-        r.0,
-        ap (see_lines None) (sym (append_assoc Front (replicate Ends end_line) (empty_bodies Missing)))
-            ∙ lines-append Closed (empty_bodies Missing) None (Some c.0) c.1
-            ∙ ap (λ (v : Seen). see_lines (Some v) (empty_bodies Missing)) shape
-            ∙ r.1,
-        r.2,
-      )
+module _ (text : List ℕ) (r : Refusal) (lines : read_from (declared (lines_of text)) 1 (lines_of text) ≡ Err r) (late : length (lines_of text) < r.line) (other : r.code ≢ BadHeader) where
+  not-in : (s : Refusal) → IsFault None 1 (lines_of text) s → ⊥
+  not-in s f =
+      let same : r ≡ s = same-refusal _ r s lines (fault-stays (declared (lines_of text)) (lines_of text) (lines_of text) s f refl) in
+      let line : r.line ≡ s.line = ap (λ (x : Refusal). x.line) same in
+      let long : length (lines_of text) ≡ length (f.front ++ f.line ∷ f.back) = ap length f.parts in
+      absurd (omega (arith, late, line, f.place, long, length-append f.front (f.line ∷ f.back)))
 
-  all-found : length (Names ++ Missing) ≤ 64 → are_found (declared Whole) Whole ≡ true
-  all-found room =
-      let names : declared Whole ≡ Names ++ Missing = ap (take 64) (all-declare Front Ends Missing missing-free) ∙ take_all 64 (Names ++ Missing) room in
-      subst (λ (x : List Word). are_found x Whole ≡ true) (sym names)
-      (all-joined _ Front Ends end_line (empty_bodies Missing) (lines-found (Names ++ Missing) Front (all-known Names (named_in Front))) refl
-      (empty-found (Names ++ Missing) Missing missing-free))
+  seen-all : (q : Option Seen) → see_lines None (lines_of text) ≡ Ok q → (v : Seen) × (see_lines None (lines_of text) ≡ Ok (Some v))
+  seen-all None e =
+      let bad : read_from (declared (lines_of text)) 1 (lines_of text) ≡ refused (1 + length (lines_of text)) BadHeader =
+      no-header (declared (lines_of text)) (lines_of text) 1 None e in
+      absurd (other (ap (λ (x : Refusal). x.code) (same-refusal _ r (record { line = 1 + length (lines_of text); code = BadHeader }) lines bad)))
+  seen-all (Some v) e = (v, e)
 
-  all-whole : list_all is_line Whole ≡ true
-  all-whole =
-      all-joined is_line Front Ends end_line (empty_bodies Missing) (all-taken is_line (r.line - 1) Lines (lines_back text).0) refl
-      (empty-whole Missing missing-free)
+  seen-whole : (v : Seen) × (see_lines None (lines_of text) ≡ Ok (Some v))
+  seen-whole = elim (either (lines_of text) None) [ inl x ↦ seen-all x.0 x.1 | inr x ↦ absurd (not-in x.0 x.1) ]
 
-  all-allowed : are_allowed Whole ≡ true
-  all-allowed =
-      all-joined _ Front Ends end_line (empty_bodies Missing)
-      (all-taken _ (r.line - 1) Lines (none-bad Lines 1 (sym (by-lines text 1) ∙ clean))) refl
-      (empty-allowed Missing missing-free)
-
-  few-ends : Ends ≤ 17
-  few-ends = ends-few seen-above.0.inside (lines-within Front None (Some seen-above.0) tt seen-above.1)
-
-  above-completed : length (Names ++ Missing) ≤ 64 → length (joined Whole) ≤ 1048576 → IsAJobs (joined Whole)
-  above-completed room short =
-      let c = all-read room in text-read Whole c.0 all-whole all-allowed (all-found room) c.1 c.2 short
-
-pub lines-above-are : LinesAboveAreAJobs
-lines-above-are text r h clean other = (Ends text r h clean other, few-ends text r h clean other, above-completed text r h clean other)
+pub ended-texts-go-on : EndedTextsGoOn
+ended-texts-go-on text r refusal short clean late other =
+    let e = by-byte (bad_byte_line 1 text) (read_from (declared (lines_of text)) 1 (lines_of text)) r (sym (short-read text short) ∙ refusal) in
+    let lines : read_from (declared (lines_of text)) 1 (lines_of text) ≡ Err r =
+    elim e [ inl bad ↦ let no : ◌≡◌ {A = Option ℕ} None (Some r.line) = sym clean ∙ bad in absurd cc | inr x ↦ x.1 ] in
+    let s = seen-whole text r lines late other in
+    beginning (lines_of text) s.0 s.1 (lines_back text).0 (text-allowed text clean)

@@ -55,7 +55,7 @@ alike-parts front l back ls n e h =
     ∙ ap (λ (x : List (List ℕ)). x ++ drop n ls) (sym h ∙ mine)
     ∙ append_assoc front (l ∷ []) (drop n ls)
 
-fault-stays : (bodies : List Word) (ls other : List (List ℕ)) (r : Refusal) → IsFault None 1 ls r → take r.line ls ≡ take r.line other
+pub fault-stays : (bodies : List Word) (ls other : List (List ℕ)) (r : Refusal) → IsFault None 1 ls r → take r.line ls ≡ take r.line other
     → read_from bodies 1 other ≡ Err r
 fault-stays bodies ls other r f h =
     let parts : other ≡ f.front ++ f.line ∷ drop r.line other =

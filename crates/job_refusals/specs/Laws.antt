@@ -1,5 +1,5 @@
 -- That a refusal of a line holds whatever follows the line, and that it is the first line that a job can't have there.
-use Rattle.std.specs.Prelude.{◌≡◌, ◌≢◌, ◌≤◌, ℕ, ◌-◌, false, List, [], ◌++◌, length, replicate, codes, take, slice_get, unwrap_or, if◌then◌else◌, ◌||◌, ◌∷◌, Option, None, Some, Err}
+use Rattle.std.specs.Prelude.{◌≡◌, ◌≢◌, ◌≤◌, ◌<◌, ℕ, ◌-◌, false, List, [], ◌++◌, length, replicate, codes, take, slice_get, unwrap_or, if◌then◌else◌, ◌||◌, ◌∷◌, Option, None, Some, Err}
 use Rattle.std.specs.List.{filter_map}
 use Rattle.std.specs.Str.{bytes_eq}
 use Rattle.text_lines.specs.declared.refusal.Code.TheVariants.{BadHeader, UnknownName}
@@ -79,11 +79,21 @@ completed lines n = joined (lines ++ (replicate n (codes "end") ++ empty_bodies 
 abbrev pub above : List ℕ → ℕ → List (List ℕ)
 above text n = take (n - 1) (lines_of text)
 
--- The lines above that line, unless it should have been the header, are a job's with the ends of what is open, at most 17,
--- and empty bodies of the names that are missing, where a text has room for all.
-abbrev pub LinesAboveAreAJobs : Type 0
-LinesAboveAreAJobs =
-    (text : List ℕ) (r : Refusal) → IsRefusedOfALine text r → bad_byte_line 1 text ≡ None → r.code ≢ BadHeader
-    → (n : ℕ) × (n ≤ 17)
-    × (length (declared_in (above text r.line) ++ missing_in (above text r.line)) ≤ 64 → length (completed (above text r.line) n) ≤ 1048576
-    → IsAJobs (completed (above text r.line) n))
+-- Lines may go on to a job: with the ends of what is open, at most 17, and empty bodies of the names that are missing they
+-- are a job's, where a text has room for all.
+abbrev pub IsABeginning : List (List ℕ) → Type 0
+IsABeginning lines =
+    (n : ℕ) × (n ≤ 17)
+    × (length (declared_in lines ++ missing_in lines) ≤ 64 → length (completed lines n) ≤ 1048576 → IsAJobs (completed lines n))
+
+-- The lines above that line, unless it should have been the header, may go on to a job.
+abbrev pub LinesAboveGoOn : Type 0
+LinesAboveGoOn =
+    (text : List ℕ) (r : Refusal) → IsRefusedOfALine text r → bad_byte_line 1 text ≡ None → r.code ≢ BadHeader → IsABeginning (above text r.line)
+
+-- A text that is refused at its end, unless for want of a header, may go on to a job.
+abbrev pub EndedTextsGoOn : Type 0
+EndedTextsGoOn =
+    (text : List ℕ) (r : Refusal) → job_in text ≡ Err r → length text ≤ 1048576 → bad_byte_line 1 text ≡ None → length (lines_of text) < r.line
+    → r.code ≢ BadHeader
+    → IsABeginning (lines_of text)

@@ -1,5 +1,5 @@
 //! Laws on refusals. Each function does nothing: its contract is the law.
-ghost use Rattle.job_refusals.specs.Laws.{RefusalsHoldForAllThatFollows, PlainTextsAreRefusedAlike, LinesAboveAreRead, LinesAboveAreAJobs};
+ghost use Rattle.job_refusals.specs.Laws.{RefusalsHoldForAllThatFollows, PlainTextsAreRefusedAlike, LinesAboveAreRead, LinesAboveGoOn, EndedTextsGoOn};
 
 /// Where a text is refused of one of its lines, no text that has the same lines up to it is a text of a job.
 pub fn refusals_hold_for_all_that_follows()
@@ -20,6 +20,12 @@ pub fn lines_above_are_read()
 
 /// Where a text of allowed bytes is refused of one of its lines, the lines above it are a job's with an `end` for all that
 /// is open and an empty body of each name that is missing, where a text has room for these.
-pub fn lines_above_are_a_jobs()
-    ensures { LinesAboveAreAJobs }
+pub fn lines_above_go_on()
+    ensures { LinesAboveGoOn }
+{}
+
+/// A text of allowed bytes that is refused at its end, and not for want of a header, is in the same way the beginning of a
+/// job's text.
+pub fn ended_texts_go_on()
+    ensures { EndedTextsGoOn }
 {}

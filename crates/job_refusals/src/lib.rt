@@ -5,6 +5,6 @@
 mod laws;
 
 pub use laws::{
-    lines_above_are_a_jobs, lines_above_are_read, plain_texts_are_refused_alike,
+    ended_texts_go_on, lines_above_are_read, lines_above_go_on, plain_texts_are_refused_alike,
     refusals_hold_for_all_that_follows,
 };
