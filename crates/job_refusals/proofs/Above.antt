@@ -1,5 +1,5 @@
 -- The lines above a line that is refused are a job's with the ends of what is open and the bodies that are missing.
-use Rattle.std.proofs.Common.{◌≡◌, ◌≢◌, ◌⊎◌, ◌+◌, ◌<◌, length-append, inl, inr, ℕ, suc, zero, ◌-◌, ◌≤◌, Bool, true, false, List, [], ◌∷◌, ◌++◌, length, replicate, take, drop, Option, Some, None, Result, Ok, Err, refl, sym, ap, subst, ◌∙◌, arith, append-nil, append_assoc, take_all}
+use Rattle.std.proofs.Common.{◌≡◌, ◌≢◌, ◌⊎◌, ◌+◌, length-append, inl, inr, ℕ, suc, zero, ◌-◌, ◌≤◌, Bool, true, false, List, [], ◌∷◌, ◌++◌, length, replicate, take, drop, Option, Some, None, Result, Ok, Err, refl, sym, ap, subst, ◌∙◌, arith, append-nil, append_assoc, take_all}
 use Rattle.std.specs.Prelude.{if◌then◌else◌}
 use Rattle.std.specs.List.{list_all}
 use Rattle.std.proofs.lemmas.List.{take-append-drop}
@@ -19,8 +19,10 @@ use Rattle.job_words.proofs.GrowLemmas.{and-left}
 use Rattle.job_reader.specs.Trees.{JobTree}
 use Rattle.job_reader.proofs.ToldOuter.{bind-ok}
 use Rattle.job_reader.specs.Above.{Above, nothing}
-use Rattle.job_reader.specs.Reading.{◌>>=◌, at, refused, is_header, outer_of, declared_by, declared, read_from}
-use Rattle.job_refusals.specs.Laws.{IsRefusedOfALine, IsABeginning, above, declared_in, named_in, missing_in, empty_bodies, LinesAboveGoOn, EndedTextsGoOn}
+use Rattle.job_reader.specs.Reading.{◌>>=◌, at, refused, is_header, outer_of, declared_by, declared, read_from, unless_bad, job_in}
+use Rattle.job_texts.specs.Laws.{IsTextOfJob}
+use Rattle.job_texts.proofs.Joined.{texts-are-read}
+use Rattle.job_refusals.specs.Laws.{IsRefusedOfALine, IsABeginning, above, declared_in, named_in, missing_in, empty_bodies, LinesAboveGoOn, BeginAlike, IsOfItsLine, RefusalsAreOfALineOrTextsGoOn}
 use Rattle.job_refusals.proofs.Named.{open_name, so_far, lines-tell}
 use Rattle.job_refusals.proofs.Lacking.{lacking-read, lacking-free, empty-declare, empty-whole, empty-allowed, empty-found, all-known, lines-found}
 use Rattle.job_refusals.proofs.Seen.{SeenBody, Seen, seen}
@@ -144,42 +146,38 @@ module _ (Front : List (List ℕ)) (v : Seen) (reads : see_lines None Front ≡ 
   beginning : IsABeginning Front
   beginning = (Ends, few-ends, λ room short. let c = all-read room in text-read Whole c.0 all-whole all-allowed (all-found room) c.1 c.2 short)
 
-module _ (text : List ℕ) (r : Refusal) (h : IsRefusedOfALine text r) (clean : bad_byte_line 1 text ≡ None) (other : r.code ≢ BadHeader) where
-  abbrev Lines : List (List ℕ)
-  Lines = lines_of text
+fault-of : (text : List ℕ) (r : Refusal) → IsRefusedOfALine text r → bad_byte_line 1 text ≡ None → IsFault None 1 (lines_of text) r
+fault-of text r h clean =
+    elim (by-byte (bad_byte_line 1 text) (read_from (declared (lines_of text)) 1 (lines_of text)) r (sym (short-read text h.short) ∙ h.refused)) [
+      | inl bad ↦ let no : ◌≡◌ {A = Option ℕ} None (Some r.line) = sym clean ∙ bad in absurd cc
+      | inr e ↦
+          elim (told (declared (lines_of text)) (lines_of text) (lines_of text) [] 1 None r refl refl (λ m t. absurd cc) e.1) [
+            | inl f ↦ f
+            | inr late ↦ absurd (not-late text r h late)
+          ]
+    ]
 
-  abbrev Front : List (List ℕ)
-  Front = above text r.line
-
-  fault : IsFault None 1 Lines r
-  fault =
-      elim (by-byte (bad_byte_line 1 text) (read_from (declared Lines) 1 Lines) r (sym (short-read text h.short) ∙ h.refused)) [
-        | inl bad ↦ let no : ◌≡◌ {A = Option ℕ} None (Some r.line) = sym clean ∙ bad in absurd cc
-        | inr e ↦
-            elim (told (declared Lines) Lines Lines [] 1 None r refl refl (λ m t. absurd cc) e.1) [
-              | inl f ↦ f
-              | inr late ↦ absurd (not-late text r h late)
-            ]
-      ]
-
-  front-is : Front ≡ fault.front
+module _ (text : List ℕ) (r : Refusal) (fault : IsFault None 1 (lines_of text) r) (clean : bad_byte_line 1 text ≡ None) (other : r.code ≢ BadHeader) where
+  front-is : above text r.line ≡ fault.front
   front-is =
       let count : r.line - 1 ≡ length fault.front = omega (arith, fault.place) in
-      ap (λ (k : ℕ). take k Lines) count ∙ ap (take (length fault.front)) fault.parts ∙ take-append_seam fault.front (fault.line ∷ fault.back)
+      ap (λ (k : ℕ). take k (lines_of text)) count ∙ ap (take (length fault.front)) fault.parts ∙ take-append_seam fault.front (fault.line ∷ fault.back)
 
-  seen-above : (v : Seen) × (see_lines None Front ≡ Ok (Some v))
+  seen-above : (v : Seen) × (see_lines None (above text r.line) ≡ Ok (Some v))
   seen-above =
       let b = begun fault.there (words_of fault.line) r.code fault.fault other in
       (b.0, ap (see_lines None) front-is ∙ fault.reads ∙ ap (λ (p : Option Seen). Ok p) b.1)
+
+  above-goes-on : IsABeginning (above text r.line)
+  above-goes-on =
+      beginning (above text r.line) seen-above.0 seen-above.1 (all-taken is_line (r.line - 1) (lines_of text) (lines_back text).0)
+      (all-taken _ (r.line - 1) (lines_of text) (none-bad (lines_of text) 1 (sym (by-lines text 1) ∙ clean)))
 
 text-allowed : (text : List ℕ) → bad_byte_line 1 text ≡ None → are_allowed (lines_of text) ≡ true
 text-allowed text clean = none-bad (lines_of text) 1 (sym (by-lines text 1) ∙ clean)
 
 pub lines-above-go-on : LinesAboveGoOn
-lines-above-go-on text r h clean other =
-    let s = seen-above text r h clean other in
-    beginning (above text r.line) s.0 s.1 (all-taken is_line (r.line - 1) (lines_of text) (lines_back text).0)
-    (all-taken _ (r.line - 1) (lines_of text) (text-allowed text clean))
+lines-above-go-on text r h clean other = above-goes-on text r (fault-of text r h clean) clean other
 
 -- lines are read, or one is refused
 abbrev Either : List (List ℕ) → Option Seen → Type 0
@@ -228,28 +226,43 @@ no-header bodies (l ∷ ls) n p e =
 same-refusal : (x : Result JobTree Refusal) (r s : Refusal) → x ≡ Err r → x ≡ Err s → r ≡ s
 same-refusal x r s e f = let both : ◌≡◌ {A = Result JobTree Refusal} (Err r) (Err s) = sym e ∙ f in cc
 
-module _ (text : List ℕ) (r : Refusal) (lines : read_from (declared (lines_of text)) 1 (lines_of text) ≡ Err r) (late : length (lines_of text) < r.line) (other : r.code ≢ BadHeader) where
-  not-in : (s : Refusal) → IsFault None 1 (lines_of text) s → ⊥
-  not-in s f =
-      let same : r ≡ s = same-refusal _ r s lines (fault-stays (declared (lines_of text)) (lines_of text) (lines_of text) s f refl) in
-      let line : r.line ≡ s.line = ap (λ (x : Refusal). x.line) same in
-      let long : length (lines_of text) ≡ length (f.front ++ f.line ∷ f.back) = ap length f.parts in
-      absurd (omega (arith, late, line, f.place, long, length-append f.front (f.line ∷ f.back)))
+fault-within : (ls : List (List ℕ)) (r : Refusal) → IsFault None 1 ls r → r.line ≤ length ls
+fault-within ls r f =
+    let long : length ls ≡ length (f.front ++ f.line ∷ f.back) = ap length f.parts in
+    omega (arith, f.place, long, length-append f.front (f.line ∷ f.back))
 
-  seen-all : (q : Option Seen) → see_lines None (lines_of text) ≡ Ok q → (v : Seen) × (see_lines None (lines_of text) ≡ Ok (Some v))
+fault-holds : (text : List ℕ) (r : Refusal) → IsFault None 1 (lines_of text) r → (other : List ℕ) (j : JobTree) → BeginAlike r.line text other
+    → IsTextOfJob j other
+    → ⊥
+fault-holds text r f other j alike job =
+    let lines : read_from (declared (lines_of other)) 1 (lines_of other) ≡ Err r = fault-stays (declared (lines_of other)) (lines_of text) (lines_of other) r f alike in
+    let refusal : job_in other ≡ Err r =
+    short-read other job.short
+    ∙ ap (λ (o : Option ℕ). unless_bad o (read_from (declared (lines_of other)) 1 (lines_of other))) job.clean
+    ∙ lines in
+    let no : ◌≡◌ {A = Result JobTree Refusal} (Ok j) (Err r) = sym ((texts-are-read other j).1 job) ∙ refusal in
+    absurd cc
+
+module _ (text : List ℕ) (r : Refusal) (lines : read_from (declared (lines_of text)) 1 (lines_of text) ≡ Err r) (clean : bad_byte_line 1 text ≡ None) (other : r.code ≢ BadHeader) where
+  of-line : (s : Refusal) → IsFault None 1 (lines_of text) s → IsOfItsLine text r
+  of-line s f =
+      let same : s ≡ r = sym (same-refusal _ r s lines (fault-stays (declared (lines_of text)) (lines_of text) (lines_of text) s f refl)) in
+      let g : IsFault None 1 (lines_of text) r = subst (λ (x : Refusal). IsFault None 1 (lines_of text) x) same f in
+      record { within = fault-within (lines_of text) r g; holds = fault-holds text r g; above = above-goes-on text r g clean other }
+
+  seen-all : (q : Option Seen) → see_lines None (lines_of text) ≡ Ok q → IsABeginning (lines_of text)
   seen-all None e =
       let bad : read_from (declared (lines_of text)) 1 (lines_of text) ≡ refused (1 + length (lines_of text)) BadHeader =
       no-header (declared (lines_of text)) (lines_of text) 1 None e in
       absurd (other (ap (λ (x : Refusal). x.code) (same-refusal _ r (record { line = 1 + length (lines_of text); code = BadHeader }) lines bad)))
-  seen-all (Some v) e = (v, e)
+  seen-all (Some v) e = beginning (lines_of text) v e (lines_back text).0 (text-allowed text clean)
 
-  seen-whole : (v : Seen) × (see_lines None (lines_of text) ≡ Ok (Some v))
-  seen-whole = elim (either (lines_of text) None) [ inl x ↦ seen-all x.0 x.1 | inr x ↦ absurd (not-in x.0 x.1) ]
+  either-way : IsOfItsLine text r ⊎ IsABeginning (lines_of text)
+  either-way = elim (either (lines_of text) None) [ inl x ↦ inr (seen-all x.0 x.1) | inr x ↦ inl (of-line x.0 x.1) ]
 
-pub ended-texts-go-on : EndedTextsGoOn
-ended-texts-go-on text r refusal short clean late other =
+pub of-a-line-or-go-on : RefusalsAreOfALineOrTextsGoOn
+of-a-line-or-go-on text r refusal short clean other =
     let e = by-byte (bad_byte_line 1 text) (read_from (declared (lines_of text)) 1 (lines_of text)) r (sym (short-read text short) ∙ refusal) in
     let lines : read_from (declared (lines_of text)) 1 (lines_of text) ≡ Err r =
     elim e [ inl bad ↦ let no : ◌≡◌ {A = Option ℕ} None (Some r.line) = sym clean ∙ bad in absurd cc | inr x ↦ x.1 ] in
-    let s = seen-whole text r lines late other in
-    beginning (lines_of text) s.0 s.1 (lines_back text).0 (text-allowed text clean)
+    either-way text r lines clean other

@@ -172,15 +172,11 @@ with-seen j o l =
     behind-seen j o (statements_behind o.statements l) (step_of l o.frames o.block)
     ∙ ap (see_behind (seen_of (j, Some o)) (seen_body o) (statements_behind o.statements l)) (step-seen l o.frames o.block)
 
-over-seen : (j : JobTree) (o : Inside) (l : Line) (c : Bool) (v : Seen) → seen_of (with_line j o l) ≡ v
-    → made seen_of (made (with_line j o) (if c then Err TooMany else Ok l)) ≡ (if c then Err TooMany else Ok v)
-over-seen j o l c v e = one-limit (with_line j o) c l v e
-
 said-seen : (j : JobTree) (o : Inside) (l : Line) → made seen_of (made (with_line j o) (within_limits o l)) ≡ see_said (seen_of (j, Some o)) (seen_body o) l
 said-seen j o l =
     let n : ℕ = statements_behind o.statements l in
     let v : Seen = see_behind (seen_of (j, Some o)) (seen_body o) n (see_step l (kinds o.frames)) in
-    over-seen j o l (is_over n (length o.locals) (opened (length o.frames) l)) v (with-seen j o l)
+    one-limit (with_line j o) (is_over n (length o.locals) (opened (length o.frames) l)) l v (with-seen j o l)
     ∙ ap (λ (d : ℕ). if is_over n (length o.locals) (opened d l) then Err TooMany else Ok v) (sym (length-map o.frames kind_of))
 
 bind-seen : (j : JobTree) (o : Inside) (r : Result Line Code)

@@ -1,5 +1,5 @@
--- That a refusal of a line holds whatever follows the line, and that it is the first line that a job can't have there.
-use Rattle.std.specs.Prelude.{◌≡◌, ◌≢◌, ◌≤◌, ◌<◌, ℕ, ◌-◌, false, List, [], ◌++◌, length, replicate, codes, take, slice_get, unwrap_or, if◌then◌else◌, ◌||◌, ◌∷◌, Option, None, Some, Err}
+-- That a refusal of a line holds whatever follows the line, and that the lines above it may go on to a job.
+use Rattle.std.specs.Prelude.{◌≡◌, ◌≢◌, ◌⊎◌, ◌≤◌, ℕ, ◌-◌, false, List, [], ◌++◌, length, replicate, codes, take, slice_get, unwrap_or, if◌then◌else◌, ◌||◌, ◌∷◌, Option, None, Some, Err}
 use Rattle.std.specs.List.{filter_map}
 use Rattle.std.specs.Str.{bytes_eq}
 use Rattle.text_lines.specs.declared.refusal.Code.TheVariants.{BadHeader, UnknownName}
@@ -91,9 +91,15 @@ abbrev pub LinesAboveGoOn : Type 0
 LinesAboveGoOn =
     (text : List ℕ) (r : Refusal) → IsRefusedOfALine text r → bad_byte_line 1 text ≡ None → r.code ≢ BadHeader → IsABeginning (above text r.line)
 
--- A text that is refused at its end, unless for want of a header, may go on to a job.
-abbrev pub EndedTextsGoOn : Type 0
-EndedTextsGoOn =
-    (text : List ℕ) (r : Refusal) → job_in text ≡ Err r → length text ≤ 1048576 → bad_byte_line 1 text ≡ None → length (lines_of text) < r.line
-    → r.code ≢ BadHeader
-    → IsABeginning (lines_of text)
+-- No text with the same lines up to the refused one is a job's, and the lines above it may go on to one.
+pub record IsOfItsLine (text : List ℕ) (r : Refusal) : Type 0 where
+  pub within : r.line ≤ length (lines_of text)
+  pub holds : (other : List ℕ) (j : JobTree) → BeginAlike r.line text other → IsTextOfJob j other → ⊥
+  pub above : IsABeginning (above text r.line)
+
+-- Each refusal of a short text of allowed bytes, unless for want of the header, is of its line, or the whole text may go on to
+-- a job.
+abbrev pub RefusalsAreOfALineOrTextsGoOn : Type 0
+RefusalsAreOfALineOrTextsGoOn =
+    (text : List ℕ) (r : Refusal) → job_in text ≡ Err r → length text ≤ 1048576 → bad_byte_line 1 text ≡ None → r.code ≢ BadHeader
+    → IsOfItsLine text r ⊎ IsABeginning (lines_of text)
