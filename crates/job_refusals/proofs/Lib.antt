@@ -1,0 +1,10 @@
+pub mod Seen
+pub mod SeenLines
+pub mod Folds
+pub mod BadLines
+pub mod Held
+pub mod Closing
+pub mod Whole
+pub mod Above
+pub mod Named
+pub mod Lacking
