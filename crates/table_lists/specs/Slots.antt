@@ -3,9 +3,9 @@ use Rattle.std.specs.Prelude.{◌≡◌}
 use Rattle.tier_table.specs.Holding.{Named}
 use Rattle.tier_table.specs.declared.tokens.Token.{Token}
 use Rattle.tier_table.specs.Closes.{held}
-use Rattle.table_lists.specs.declared.lists.Eight.{Eight}
-use Rattle.table_lists.specs.declared.ask.Slot.{Slot}
-use Rattle.table_lists.specs.declared.ask.Slot.TheVariants.{Outside, Inside, Owing, Opening}
+use Rattle.table_lists.specs.declared.slots.Eight.{Eight}
+use Rattle.table_lists.specs.declared.slots.Slot.{Slot}
+use Rattle.table_lists.specs.declared.slots.Slot.TheVariants.{Outside, Inside, Owing, Opening}
 
 -- the tree of a token
 abbrev pub tree_of : Slot → Named

@@ -5,8 +5,9 @@ ghost use Rattle.advance_rule.specs.Stored.{Answers};
 ghost use Rattle.advance_rule.specs.Plan.{end_ends_at};
 ghost use Rattle.table_lists.specs.Slots.{tree_of};
 
-use crate::ask::{Ask, Numbers, Slot, Told};
+use crate::ask::{Ask, Numbers, Told};
 use crate::mirror::Mirror;
+use crate::slots::Slot;
 use std::process::Abort;
 use tier_table::arriving::{Arrived, Resumed};
 use tier_table::forcing::Forced;

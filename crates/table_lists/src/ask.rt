@@ -1,19 +1,6 @@
 //! What tokens are asked, and what they are told.
 
 use tier_core::call::Cause;
-use tier_table::tokens::{Crew, Door, Errand, Opening};
-
-/// A token, whatever it is in.
-pub enum Slot {
-    /// Without members.
-    Outside(Door),
-    /// With members.
-    Inside(Crew),
-    /// In an arrival or a departure.
-    Owing(Errand),
-    /// In a registration.
-    Opening(Opening),
-}
 
 /// What a token is asked.
 #[derive(Clone, Copy, PartialEq, Eq)]

@@ -9,3 +9,4 @@ mod ask;
 mod lists;
 #[cfg(test)]
 mod mirror;
+pub mod slots;

@@ -7,8 +7,9 @@ ghost use Rattle.table_lists.specs.Slots.{tree_of, FourOf, AllOf, AreOf};
 ghost use Rattle.tier_table.specs.Closes.{held};
 
 use crate::act::act;
-use crate::ask::{Numbers, Slot};
+use crate::ask::Numbers;
 use crate::mirror::{Mirror, words_of};
+use crate::slots::{Eight, Slot};
 use advance_rule::{EndPlan, StoredAdvance};
 use phaser_word::Word;
 use std::alloc::{AllocError, Global};
@@ -68,14 +69,6 @@ fn mirror_of(
         core,
         last: [None; 8],
     })
-}
-
-// Eight tokens of one tree.
-pub struct Eight {
-    /// The first four.
-    pub front: (Slot, Slot, Slot, Slot),
-    /// The last four.
-    pub back: (Slot, Slot, Slot, Slot),
 }
 
 // One call of the token with this number.
