@@ -59,7 +59,7 @@ pub struct Numbers {
 
 impl Numbers {
     /// The next number below a bound.
-    pub fn below(&mut self, bound: u32) -> u32 {
+    pub(crate) fn below(&mut self, bound: u32) -> u32 {
         self.seed = self.seed.wrapping_mul(1664525).wrapping_add(1013904223);
         (self.seed >> 16) % bound.max(1)
     }

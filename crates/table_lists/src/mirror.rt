@@ -18,7 +18,7 @@ pub struct Mirror {
 }
 
 /// The words of the tiers, of up to nine.
-pub fn words_of(core: &Core) -> [u64; 9] {
+pub(crate) fn words_of(core: &Core) -> [u64; 9] {
     let mut words = [0; 9];
     for tier in 0..9 {
         if tier < core.tiers() {
@@ -59,7 +59,7 @@ fn told_by(ask: Ask, view: View, answer: Played) -> Told {
 
 impl Mirror {
     /// How many tiers there are.
-    pub fn tiers(&self) -> u32 {
+    pub(crate) fn tiers(&self) -> u32 {
         self.core.tiers() as u32
     }
 
@@ -171,7 +171,7 @@ impl Mirror {
     }
 
     /// What a token is told of a call with so many tries, or of one that was busy.
-    pub fn told(
+    pub(crate) fn told(
         &mut self,
         rt: &impl Abort,
         token: usize,
