@@ -1,5 +1,5 @@
 -- The line of an advance stands in front of its answer.
-use Rattle.std.proofs.Common.{◌≡◌, ◌≢◌, ℕ, ◌+◌, Bool, true, false, cond, List, [], ◌++◌, Option, Some, None, pos, negsuc, refl, sym, ap, subst, ◌∙◌, arith}
+use Rattle.std.proofs.Common.{◌≡◌, ◌≢◌, ℕ, ◌+◌, Bool, true, false, cond, List, ◌++◌, Some, None, pos, negsuc, refl, sym, ◌∙◌, arith}
 use Rattle.std.specs.Prelude.{◌==◌, if◌then◌else◌}
 use Rattle.std.proofs.lemmas.Bool.{false≢true}
 use Rattle.std.proofs.lemmas.Grind.{common_steps}
@@ -11,9 +11,9 @@ use Rattle.flat_phaser.specs.declared.FlatStep.TheVariants.{Join, Arrive, Leave,
 use Rattle.flat_phaser.specs.Step.{taken, flat_step}
 use Rattle.phaser_one.specs.declared.call.Call.{Call}
 use Rattle.phaser_one.specs.declared.call.Call.TheVariants as call
-use Rattle.phaser_one.specs.Calls.{answer, is_refused, step_of, taken_by, called, settled, after}
+use Rattle.phaser_one.specs.Calls.{answer, is_refused, step_of, taken_by, called}
 use Rattle.trace_text.specs.Lines.{advance_line}
-use Rattle.trace_text.specs.Answers.{advance_text, reply_text, command_text}
+use Rattle.trace_text.specs.Answers.{advance_text, reply_text}
 use Rattle.trace_laws.specs.Advances.{AdvancesComeFirst}
 
 -- before an advance a call leaves the phase, and has made one due only where the phaser goes on

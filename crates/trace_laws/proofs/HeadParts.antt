@@ -1,13 +1,11 @@
 -- The parts of a head: words that are taken, and the numbers that they say.
-use Rattle.std.proofs.Common.{◌≡◌, ℕ, ◌≤◌, ◌^◌, ◌⊎◌, inl, inr, Bool, true, false, cond, nat_lt, nat_le, List, [], ◌∷◌, ◌++◌, Option, None, Some, Result, Ok, Err, refl, sym, ap, subst, ◌∙◌, arith, ℤ, pos, negsuc, FitsSigned, w64}
-use Rattle.std.specs.Prelude.{codes, decimal, option_map, option_and_then}
-use Rattle.std.specs.Fmt.{signed_decimal}
+use Rattle.std.proofs.Common.{◌≡◌, ℕ, ◌≤◌, inl, inr, Bool, true, false, cond, nat_le, List, [], ◌∷◌, ◌++◌, Option, None, Some, Result, Ok, Err, refl, sym, ap, subst, ◌∙◌, arith, ℤ, pos, negsuc, FitsSigned, w64}
+use Rattle.std.specs.Prelude.{decimal, option_map, option_and_then}
 use Rattle.std.specs.Str.{bytes_eq}
 use Rattle.std.proofs.lemmas.Int.{ints}
 use Rattle.std.proofs.lemmas.Grind.{common_steps}
 use Rattle.std.proofs.lemmas.Slice.Eq.{bytes_eq-Decides}
 use Rattle.text_lines.specs.declared.refusal.Code.{Code}
-use Rattle.text_lines.specs.declared.refusal.Code.TheVariants.{BadNumber}
 use Rattle.text_lines.specs.Number.{number_of}
 use Rattle.text_lines.proofs.NumbersLemmas.{numbers_law, decimal-begins}
 use Rattle.trace_text.specs.Words.{Word, up_to, begins_number, take_number, take_behind, ended, number_or, number_if, or_else}

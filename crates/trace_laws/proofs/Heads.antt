@@ -1,17 +1,16 @@
 -- Heads written and read back.
-use Rattle.std.proofs.Common.{◌≡◌, ℕ, ◌≤◌, ◌^◌, Bool, true, false, not, cond, List, [], ◌∷◌, ◌++◌, Option, None, Some, Result, Ok, Err, ℤ, refl, sym, ap, subst, ◌∙◌, arith, append-nil}
-use Rattle.std.specs.Prelude.{codes, option_and_then, if◌then◌else◌}
+use Rattle.std.proofs.Common.{◌≡◌, Bool, true, false, not, List, [], ◌∷◌, ◌++◌, Option, None, Some, Result, Ok, Err, refl, ap, subst, ◌∙◌, arith, append-nil}
+use Rattle.std.specs.Prelude.{codes, if◌then◌else◌}
 use Rattle.std.specs.Fmt.{signed_decimal}
 use Rattle.std.specs.Str.{bytes_eq}
 use Rattle.std.proofs.lemmas.Slice.Eq.{bytes_eq-Decides}
-use Rattle.advance_rule.specs.declared.EndPlan.{EndPlan}
 use Rattle.text_lines.specs.declared.refusal.Code.{Code}
 use Rattle.text_lines.specs.declared.refusal.Code.TheVariants.{BadHeader, BadLine, BadNumber}
 use Rattle.text_lines.specs.Number.{number_of}
 use Rattle.text_lines.proofs.NumbersLemmas.{numbers_law}
 use Rattle.trace_text.specs.declared.words.PhaserHead.{PhaserHead}
 use Rattle.trace_text.specs.declared.barrier_words.BarrierHead.{BarrierHead}
-use Rattle.trace_text.specs.Words.{Word, HeadWords, begins_number, take_number, take_behind, words_after, head_words, number_or, number_if, head_numbers, numbered, or_else}
+use Rattle.trace_text.specs.Words.{Word, HeadWords, take_number, take_behind, words_after, head_words, number_or, number_if, head_numbers, numbered, or_else}
 use Rattle.trace_text.specs.TreeWords.{TreeHeadWords, TreeAsked, take_keyword, words_after_phase, tree_head_words, tree_head_numbers, tree_numbered, made}
 use Rattle.trace_text.specs.BarrierWords.{BarrierHeadWords, barrier_head_words, generation_if, barrier_head_numbers, barrier_numbered}
 use Rattle.trace_text.specs.Trace.{Head, OfPhaser, OfTree, OfBarrier, head_of}

@@ -2,3 +2,4 @@ pub mod Whole
 pub mod HeadParts
 pub mod Heads
 pub mod Advances
+pub mod TreeAdvances

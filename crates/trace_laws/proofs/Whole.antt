@@ -32,7 +32,7 @@ not_underway (played.AlreadyArrived phase) e = refl
 not_underway (played.Ended shown) e = refl
 not_underway (played.MustAdvance phase parties) e = cc
 
-answered : (s : State) (token : ℕ) → IsAnswered s token → is_underway (answer_to s (going_on s token)) ≡ false
+pub answered : (s : State) (token : ℕ) → IsAnswered s token → is_underway (answer_to s (going_on s token)) ≡ false
 answered s token a = ap is_underway a.answer ∙ not_underway a.played a.last
 
 -- where it goes on, what comes is the same
@@ -43,14 +43,14 @@ same_part false x y z h = refl
 no_more : {A : Type 0} (b : Bool) → b ≡ false → b ≡ true → A
 no_more b f t = let bad : true ≡ false = sym t ∙ f in absurd cc
 
-text_step : (steps token : ℕ) (s : State)
+pub text_step : (steps token : ℕ) (s : State)
     → rest_text (suc steps) token s
     ≡ advance_told s token
     ++ (if is_underway (answer_to s (going_on s token)) then rest_text steps token (after s (going_on s token)) else answer_text (answer_to s (going_on s token)))
 unfolding rest_text
 text_step steps token s = refl
 
-after_step : (steps token : ℕ) (s : State)
+pub after_step : (steps token : ℕ) (s : State)
     → rest_after (suc steps) token s
     ≡ (if is_underway (answer_to s (going_on s token)) then rest_after steps token (after s (going_on s token)) else after s (going_on s token))
 unfolding rest_after
@@ -95,7 +95,7 @@ runs_reach s token more tiers core known going =
       ap (λ (b : Bool). if b then rest_after 16 token s else s) is ∙ sym (same_after 16 more token s within),
     )
 
-begun_goes : (s : State) (token : ℕ) (c : Call) → IsCore s → may_begin s token c ≡ true → is_idle (call_at (begun s token c).calls token) ≡ false
+pub begun_goes : (s : State) (token : ℕ) (c : Call) → IsCore s → may_begin s token c ≡ true → is_idle (call_at (begun s token c).calls token) ≡ false
 begun_goes s token c core may =
     subst (λ (p : Progress). is_idle p ≡ false)
     (sym (get_or-set_same s.calls token (Begun c) Idle (let l = core.long in let h = begun_known s token c may in omega arith))) refl

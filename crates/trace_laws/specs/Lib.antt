@@ -1,3 +1,4 @@
 pub mod Enough
 pub mod Heads
 pub mod Advances
+pub mod TreeAdvances

@@ -4,6 +4,7 @@
 ghost use Rattle.trace_laws.specs.Advances.{AdvancesComeFirst};
 ghost use Rattle.trace_laws.specs.Enough.{RunsReachTheirAnswer, CallsDoneReachTheirAnswer};
 ghost use Rattle.trace_laws.specs.Heads.{HeadsAreSpelled};
+ghost use Rattle.trace_laws.specs.TreeAdvances.{AdvancesOfTreesComeFirst};
 
 /// `run` goes on to its call's answer: more steps would print nothing more, and leave the same tree.
 pub fn runs_reach_their_answer()
@@ -25,4 +26,10 @@ pub fn heads_are_spelled()
 /// phase prints first the phase that it ended, with the parties that it left, and one that doesn't prints its answer alone.
 pub fn advances_come_first()
     ensures { AdvancesComeFirst }
+{}
+
+/// The same of trees: a command that moves the root's phase prints first the phase that ended, with the root's parties, and
+/// then `done` in that phase; one that doesn't prints its answer alone.
+pub fn advances_of_trees_come_first()
+    ensures { AdvancesOfTreesComeFirst }
 {}
