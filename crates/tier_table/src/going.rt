@@ -46,39 +46,28 @@ impl Tiers {
     }
 
     /// How a call stands after a look.
-    fn looked(&self, token: Seated, progress: Progress, before: View) -> Going
-        ensures token { result.token ≡ token }
-        ensures next { After self.now.key.shape progress before result }
+    fn looked(&self, at: &mut Going, before: View)
+        ensures token { at.new.token ≡ at.old.token }
+        ensures next { After self.now.key.shape at.old.progress before at.new }
     {
-        let turn = turn_here(self.shape(), false, token.word(), progress, before);
+        let turn = turn_here(self.shape(), false, at.token.word(), at.progress, before);
         if only_looks(turn.kind) {
-            return Going {
-                token,
-                progress: turn.next,
-                answer: turn.answer,
-            };
-        }
-        Going {
-            token,
-            progress,
-            answer: Played::GoesOn,
+            at.progress = turn.next;
+            at.answer = turn.answer;
+        } else {
+            at.answer = Played::GoesOn;
         }
     }
 
     /// A look of a call at the tier of its next step.
-    fn look_on(&self, at: Going) -> Going
-        requires at { IsAt self.now at }
-        requires going { is_going at.progress ≡ true }
-        ensures { LooksOn self.now 0 at result }
+    fn look_on(&self, at: &mut Going)
+        requires at { IsAt self.now at.old }
+        requires going { is_going at.old.progress ≡ true }
+        ensures { LooksOn self.now 0 at.old at.new }
     {
-        let Going {
-            mut token,
-            progress,
-            answer: _,
-        } = at;
-        let before = token.view();
-        self.look_next(&mut token, progress);
-        self.looked(token, progress, before)
+        let before = at.token.view();
+        self.look_next(&mut at.token, at.progress);
+        self.looked(at, before);
     }
 
     /// Whether the token of a call stands at the tier of its next step, which is no look.
@@ -94,47 +83,50 @@ impl Tiers {
     }
 
     /// Looks until the token stands at the tier of the call's next step, or the call is over.
-    fn stand(&self, at: Going) -> Going
-        requires at { IsAt self.now at }
-        requires going { is_going at.progress ≡ true }
-        ensures { Stood self.now at result }
+    fn stand(&self, at: &mut Going)
+        requires at { IsAt self.now at.old }
+        requires going { is_going at.old.progress ≡ true }
+        ensures { Stood self.now at.old at.new }
     {
-        if self.stands(&at) {
-            return at;
+        if self.stands(at) {
+            return;
         }
-        let at = self.look_on(at);
-        if !gives_back(at.progress) || self.stands(&at) {
-            return at;
+        self.look_on(at);
+        if !gives_back(at.progress) || self.stands(at) {
+            return;
         }
-        self.look_on(at)
+        self.look_on(at);
     }
 
     /// One try of a call's next step, at whose tier its token stands.
-    fn try_on(&self, at: Going, ends: bool) -> Going
-        requires at { IsAt self.now at }
-        requires stands { Stands self.now.key at }
-        requires ends { EndsAsPlanned self.now.key ends at }
-        ensures { WentOn self.now 1 at result }
+    fn try_on(&self, at: &mut Going, ends: bool)
+        requires at { IsAt self.now at.old }
+        requires stands { Stands self.now.key at.old }
+        requires ends { EndsAsPlanned self.now.key ends at.old }
+        ensures { WentOn self.now 1 at.old at.new }
     {
-        let Going {
-            mut token,
-            progress,
-            answer: _,
-        } = at;
-        let turn = turn_here(self.shape(), ends, token.word(), progress, token.view());
-        let before = token.view();
-        if self.attempt(&mut token, turn.kind) {
-            return Going {
-                token,
-                progress: turn.next,
-                answer: turn.answer,
-            };
+        let turn = turn_here(
+            self.shape(),
+            ends,
+            at.token.word(),
+            at.progress,
+            at.token.view(),
+        );
+        let before = at.token.view();
+        if self.attempt(&mut at.token, turn.kind) {
+            at.progress = turn.next;
+            at.answer = turn.answer;
+        } else {
+            self.looked(at, before);
         }
-        self.looked(token, progress, before)
     }
 
     /// What the plan says of the advance that a call has to take, by its closure.
-    fn planned<F: Fn(u32, u32) -> bool>(&self, at: &Going, rule: &StoredAdvance<F>) -> bool
+    pub(crate) fn planned<F: Fn(u32, u32) -> bool>(
+        &self,
+        at: &Going,
+        rule: &StoredAdvance<F>,
+    ) -> bool
         requires rule { Answers (F.pre rule.now.closure) (F.post rule.now.closure) (end_ends_at rule.now.plan) }
         requires plan { rule.now.plan ≡ self.now.key.plan }
         ensures { EndsAsPlanned self.now.key result at.now }
@@ -146,7 +138,41 @@ impl Tiers {
         rule.call(word.phase, word.parties)
     }
 
+    /// The next step of any call, by one try at most.
+    #[cold]
+    fn go_anyhow<F: Fn(u32, u32) -> bool>(&self, at: &mut Going, rule: &StoredAdvance<F>)
+        requires at { IsAt self.now at.old }
+        requires going { is_going at.old.progress ≡ true }
+        requires rule { Answers (F.pre rule.now.closure) (F.post rule.now.closure) (end_ends_at rule.now.plan) }
+        requires plan { rule.now.plan ≡ self.now.key.plan }
+        ensures { Ran self.now 1 at.old at.new }
+    {
+        self.stand(at);
+        if goes_on(at.progress) {
+            let ends = self.planned(at, rule);
+            self.try_on(at, ends);
+        }
+    }
+
+    /// The next step of a call, by one try at most.
+    #[inline(always)]
+    fn go_once<F: Fn(u32, u32) -> bool>(&self, at: &mut Going, rule: &StoredAdvance<F>)
+        requires at { IsAt self.now at.old }
+        requires going { is_going at.old.progress ≡ true }
+        requires rule { Answers (F.pre rule.now.closure) (F.post rule.now.closure) (end_ends_at rule.now.plan) }
+        requires plan { rule.now.plan ≡ self.now.key.plan }
+        ensures { Ran self.now 1 at.old at.new }
+    {
+        match at.progress {
+            Progress::Passing(own) => self.pass_own(at, own),
+            Progress::Owing(own) => self.climb(at, own),
+            Progress::Due(_) => self.advance(at, rule),
+            _ => self.go_anyhow(at, rule),
+        }
+    }
+
     /// Takes the steps of a call until it is over, or so many tries were made.
+    #[inline(always)]
     pub(crate) fn go_on<F: Fn(u32, u32) -> bool>(
         &self,
         at: Going,
@@ -161,12 +187,7 @@ impl Tiers {
     {
         let mut at = at;
         for _ in 0..tries {
-            at = self.stand(at);
-            if !goes_on(at.progress) {
-                return at;
-            }
-            let ends = self.planned(&at, rule);
-            at = self.try_on(at, ends);
+            self.go_once(&mut at, rule);
             if !goes_on(at.progress) {
                 return at;
             }
@@ -183,11 +204,11 @@ impl Tiers {
     {
         let mut at = at;
         for _ in 0..tries {
-            at = self.stand(at);
+            self.stand(&mut at);
             if !goes_on(at.progress) {
                 return at;
             }
-            at = self.try_on(at, false);
+            self.try_on(&mut at, false);
             if !goes_on(at.progress) {
                 return at;
             }
