@@ -2,12 +2,12 @@
 use Rattle.std.proofs.Common.{◌≡◌, ℕ, zero, suc, ◌≤◌, ◌⊎◌, inl, inr, ⊎_elim, Bool, true, false, cond, List, refl, sym, ◌∙◌, ap, subst, arith}
 use Rattle.phaser_word.specs.Fields.{Fields}
 use Rattle.tier_shape.specs.Parents.{parent_of}
-use Rattle.tier_steps.specs.Step.{owed, passed}
+use Rattle.tier_steps.specs.Step.{owed, passed, view_after}
 use Rattle.tier_steps.specs.declared.kind.Kind.{Kind}
 use Rattle.tier_steps.specs.declared.kind.Kind.TheVariants.{Look, Advance, Climb, Refresh}
 use Rattle.tier_steps.specs.declared.view.View.{View}
 use Rattle.tier_steps.specs.declared.view.Errand.{Errand}
-use Rattle.tier_steps.specs.declared.view.Errand.TheVariants.{Climbing}
+use Rattle.tier_steps.specs.declared.view.Errand.TheVariants.{Rest, Opening, Climbing, Advancing}
 use Rattle.tier_steps.specs.declared.view.Trip.{Trip}
 use Rattle.tier_core.specs.declared.call.Played.{Played}
 use Rattle.tier_core.specs.declared.call.Played.TheVariants.{GoesOn, Done}
@@ -22,8 +22,8 @@ use Rattle.table_rule.specs.Look.{looking}
 use Rattle.tier_table.specs.Holding.{Named, Holding, Took, Lost}
 use Rattle.tier_table.specs.Calls.{IsAt}
 use Rattle.tier_table.specs.declared.going.Going.{Going}
-use Rattle.tier_table.specs.Next.{meant, is_look, is_passing}
-use Rattle.tier_table.specs.Goes.{Stands, Stood, WentOn, Ran, EndsAsPlanned, is_back, After, over_at}
+use Rattle.tier_table.specs.Next.{meant, is_look, is_owing, is_passing}
+use Rattle.tier_table.specs.Goes.{Position, position, Goes, starts, steps, looks, Stands, Stood, WentOn, Ran, EndsAsPlanned, is_back, After, over_at}
 use Rattle.tier_table.proofs.Turning.{by_cond, pass_tries}
 use Rattle.tier_table.proofs.Running.{quiet_own, looks_on, lost_on, went_then}
 
@@ -206,3 +206,57 @@ stands_by {n} {g} {g'} s e = ⊎_elim (λ (z : is_going g'.progress ≡ false). 
 
 pub ran_once : {n : Named} {g g' g'' : Going} → WentOn n 0 g g' → WentOn n 1 g' g'' → Ran n 1 g g''
 ran_once {n} {g} {g'} {g''} a b = record { used = 1; went = went_then n 0 1 g g' g'' a b; few = omega arith; all = λ e. refl }
+
+-- an arrival or a departure goes on as one
+abbrev OnlyPasses : Progress → Type 0
+OnlyPasses p = is_going p ≡ true → is_passing p ≡ true
+
+owed_passes : (own : Trip) (e : Errand) → OnlyPasses (goes_on own e)
+owed_passes own Rest g = not_both false g refl
+owed_passes own Advancing g = refl
+owed_passes own (Climbing t trip) g = refl
+owed_passes own (Opening tier claimed stage size) g = not_both false g refl
+
+pass_passes : (ps : List ℕ) (own : Trip) (t : ℕ) (trip : Trip) (kind : Kind) (here : Progress) (over : Played) (w : Fields) (v : View) → OnlyPasses here
+    → OnlyPasses (pass_turn ps own t trip kind here over w v).next
+pass_passes ps own t trip kind here over w v h =
+    by_cond (λ (r : Turn). OnlyPasses r.next) w.ended _ _ (λ e g. not_both false g refl)
+    (λ e. by_cond (λ (r : Turn). OnlyPasses r.next) (lags w v) _ _ (λ f. h) (λ f. owed_passes own (owed (parent_of ps t) t trip w)))
+
+next_passes : (ps : List ℕ) (b : Bool) (w : Fields) (p : Progress) (v : View) → CallFits ps p v → is_passing p ≡ true → OnlyPasses (turn_by ps b w p v).next
+next_passes ps b w Idle v fits q = not_both false q refl
+next_passes ps b w (Begun c) v fits q = not_both false q refl
+next_passes ps b w (ToSeek tier size) v fits q = not_both false q refl
+next_passes ps b w Settling v fits q = not_both false q refl
+next_passes ps b w (ToGiveBack answer) v fits q = not_both false q refl
+next_passes ps b w (Passing trip) v fits q = pass_passes ps trip v.tier trip (own_kind trip) (Passing trip) (end_shown w) w v (λ g. refl)
+next_passes ps b w (Owing own) v fits q =
+    subst (λ (e : Errand). OnlyPasses (climb_turn ps own w v e).next) (sym fits.2) (pass_passes ps own fits.0 fits.1 (Climb fits.1) (Owing own) (Done v.phase) w v (λ g. refl))
+next_passes ps b w (Due own) v fits q = λ g. not_both false g refl
+next_passes ps b w (Refreshing passed_on) v fits q = not_both false q refl
+
+passing_stays : (k : Key) (from at : Position) → is_passing from.progress ≡ true → Goes k from at → OnlyPasses at.progress
+passing_stays k from at q starts = λ g. q
+passing_stays k from at q (steps at' w b go fits g beside says) = next_passes k.shape b w at'.progress at'.view fits (passing_stays k from at' q go g)
+passing_stays k from at q (looks at' w go fits g beside) =
+    let r : Turn = turn_by k.shape false w at'.progress at'.view in
+    let t : ℕ = place k.shape at'.progress at'.view in
+    let u : View = view_after (parent_of k.shape t) (looking (meant at'.progress at'.view) t w) t w at'.view in
+    by_test (λ c. OnlyPasses (cond {A = Position} c (record { progress = r.next; view = u; answer = r.answer }) (record { progress = at'.progress; view = u; answer = GoesOn })).progress)
+    (is_look r.kind)
+    (λ e. next_passes k.shape false w at'.progress at'.view fits (passing_stays k from at' q go g))
+    (λ e. passing_stays k from at' q go)
+
+pub passing_on : {n : Named} {used : ℕ} {from at : Going} → WentOn n used from at → is_passing from.progress ≡ true → is_going at.progress ≡ true → is_passing at.progress ≡ true
+passing_on {n} {used} {from} {at} went q g = passing_stays n.key (position from) (position at) q (went.goes (position from) starts) g
+
+pub owing_passing : (p : Progress) → is_owing p ≡ true → is_passing p ≡ true
+owing_passing Idle o = not_both false o refl
+owing_passing (Begun c) o = not_both false o refl
+owing_passing (ToSeek tier size) o = not_both false o refl
+owing_passing Settling o = not_both false o refl
+owing_passing (ToGiveBack answer) o = not_both false o refl
+owing_passing (Passing trip) o = not_both false o refl
+owing_passing (Owing own) o = refl
+owing_passing (Due own) o = refl
+owing_passing (Refreshing passed_on) o = not_both false o refl

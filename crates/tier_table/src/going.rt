@@ -6,7 +6,7 @@ ghost use Rattle.tier_core.specs.Machine.{CallFits, is_going};
 ghost use Rattle.tier_core.specs.Turn.{place};
 ghost use Rattle.tier_table.specs.Holding.{Looked};
 ghost use Rattle.tier_table.specs.Calls.{IsAt};
-ghost use Rattle.tier_table.specs.Next.{meant};
+ghost use Rattle.tier_table.specs.Next.{meant, is_passing};
 ghost use Rattle.tier_table.specs.Joins.{is_joining};
 ghost use Rattle.tier_table.specs.Goes.{Stands, LooksOn, WentOn, EndsAsPlanned, Stood, Ran, After};
 ghost use Rattle.advance_rule.specs.Stored.{Answers};
@@ -122,6 +122,7 @@ impl Tiers {
     }
 
     /// What the plan says of the advance that a call has to take, by its closure.
+    #[inline(always)]
     pub(crate) fn planned<F: Fn(u32, u32) -> bool>(
         &self,
         at: &Going,
@@ -138,27 +139,11 @@ impl Tiers {
         rule.call(word.phase, word.parties)
     }
 
-    /// The next step of any call, by one try at most.
-    #[cold]
-    fn go_anyhow<F: Fn(u32, u32) -> bool>(&self, at: &mut Going, rule: &StoredAdvance<F>)
-        requires at { IsAt self.now at.old }
-        requires going { is_going at.old.progress ≡ true }
-        requires rule { Answers (F.pre rule.now.closure) (F.post rule.now.closure) (end_ends_at rule.now.plan) }
-        requires plan { rule.now.plan ≡ self.now.key.plan }
-        ensures { Ran self.now 1 at.old at.new }
-    {
-        self.stand(at);
-        if goes_on(at.progress) {
-            let ends = self.planned(at, rule);
-            self.try_on(at, ends);
-        }
-    }
-
-    /// The next step of a call, by one try at most.
+    /// The next step of an arrival or a departure, by one try at most.
     #[inline(always)]
     fn go_once<F: Fn(u32, u32) -> bool>(&self, at: &mut Going, rule: &StoredAdvance<F>)
         requires at { IsAt self.now at.old }
-        requires going { is_going at.old.progress ≡ true }
+        requires passing { is_passing at.old.progress ≡ true }
         requires rule { Answers (F.pre rule.now.closure) (F.post rule.now.closure) (end_ends_at rule.now.plan) }
         requires plan { rule.now.plan ≡ self.now.key.plan }
         ensures { Ran self.now 1 at.old at.new }
@@ -167,11 +152,12 @@ impl Tiers {
             Progress::Passing(own) => self.pass_own(at, own),
             Progress::Owing(own) => self.climb(at, own),
             Progress::Due(_) => self.advance(at, rule),
-            _ => self.go_anyhow(at, rule),
+            _ => unreachable!(),
         }
     }
 
-    /// Takes the steps of a call until it is over, or so many tries were made.
+    /// Takes the steps of an arrival or a departure until it is over, or so many tries were made. All that
+    /// it calls is inlined, so that the token stays in registers.
     #[inline(always)]
     pub(crate) fn go_on<F: Fn(u32, u32) -> bool>(
         &self,
@@ -180,7 +166,7 @@ impl Tiers {
         tries: u32,
     ) -> Going
         requires at { IsAt self.now at }
-        requires going { is_going at.progress ≡ true }
+        requires passing { is_passing at.progress ≡ true }
         requires rule { Answers (F.pre rule.now.closure) (F.post rule.now.closure) (end_ends_at rule.now.plan) }
         requires plan { rule.now.plan ≡ self.now.key.plan }
         ensures { Ran self.now tries at result }

@@ -48,6 +48,7 @@ fn passed_answer(phase: u32, parties: u32, errand: Errand) -> Played
 }
 
 /// How it stands after a look in place of its step, before which its token was in this phase.
+#[inline(always)]
 fn missed(at: &mut Going, phase: u32)
     ensures token { at.new.token ≡ at.old.token }
     ensures progress { at.new.progress ≡ (if at.old.token.word.ended then progress.Idle else at.old.progress) }

@@ -1,5 +1,6 @@
 use Rattle.std.proofs.Common.{sym, ◌∙◌, arith}
 use Rattle.tier_table.proofs.Running.{went_then, ran_over}
+use Rattle.tier_table.proofs.Tries.{passing_on}
 use Rattle.tier_table.proofs.tiers.Tiers.go_on.Goals as goal
 
 pub returns-then-not-goes_on : goal.returns-then-not-goes_on
@@ -12,4 +13,4 @@ loop-preserved g c =
     let r = c.go_once.ensures in
     let on = sym c.goes_on.ensures ∙ c.if-not-goes_on.false in
     let w = went_then _ _ r.used _ _ _ c.loop.invariant.0 r.went in
-    (record { at = w.at; tried = (let a = w.tried in let b = r.all on in omega arith); goes = w.goes }, on)
+    (record { at = w.at; tried = (let a = w.tried in let b = r.all on in omega arith); goes = w.goes }, passing_on w c.requires.passing on)

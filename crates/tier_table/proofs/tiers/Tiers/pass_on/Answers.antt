@@ -4,7 +4,11 @@ use Rattle.tier_table.specs.declared.going.Going.{Going}
 use Rattle.tier_table.specs.Calls.{IsErrand}
 use Rattle.tier_table.specs.Goes.{Ran}
 use Rattle.tier_table.proofs.Settling.{may_end, resumes}
+use Rattle.tier_table.proofs.Tries.{owing_passing}
 use Rattle.tier_table.proofs.tiers.Tiers.pass_on.Goals as goal
+
+pub go_on-requires-clause-passing : goal.go_on-requires-clause-passing
+go_on-requires-clause-passing g c = owing_passing _ c.errand.invariant.owes
 
 pub answer_resumed-requires : goal.answer_resumed-requires
 answer_resumed-requires g c =
