@@ -1,5 +1,5 @@
 -- The steps of arrivals and departures, each with the kind that it has.
-use Rattle.std.proofs.Common.{◌≡◌, ℕ, zero, suc, ◌≤◌, ◌⊎◌, inl, inr, ⊎_elim, Bool, true, false, cond, List, refl, sym, ◌∙◌, ap, subst, arith}
+use Rattle.std.proofs.Common.{◌≡◌, ℕ, zero, suc, ◌+◌, ◌≤◌, ◌⊎◌, inl, inr, ⊎_elim, Bool, true, false, cond, List, refl, sym, ◌∙◌, ap, subst, arith}
 use Rattle.phaser_word.specs.Fields.{Fields}
 use Rattle.tier_shape.specs.Parents.{parent_of}
 use Rattle.tier_steps.specs.Step.{owed, passed, view_after}
@@ -260,3 +260,24 @@ owing_passing (Passing trip) o = not_both false o refl
 owing_passing (Owing own) o = refl
 owing_passing (Due own) o = refl
 owing_passing (Refreshing passed_on) o = not_both false o refl
+
+-- some tries more
+pub ran_more : {n : Named} {a b : ℕ} {g g' g'' : Going} → Ran n a g g' → is_going g'.progress ≡ true → Ran n b g' g'' → Ran n (a + b) g g''
+ran_more {n} {a} {b} {g} {g'} {g''} r on s = record {
+  used = r.used + s.used;
+  went = went_then n r.used s.used g g' g'' r.went s.went;
+  few = (let x = r.few in let y = s.few in omega arith);
+  all = λ e. (let x = r.all on in let y = s.all e in omega arith);
+}
+
+pub ran_all : {n : Named} {a b : ℕ} {g g' : Going} → a ≡ b → Ran n a g g' → Ran n b g g'
+ran_all {n} {a} {b} {g} {g'} is r = subst (λ (c : ℕ). Ran n c g g') is r
+
+-- one that is over needed no more
+pub ran_less : {n : Named} {a b : ℕ} {g g' : Going} → a ≤ b → is_going g'.progress ≡ false → Ran n a g g' → Ran n b g g'
+ran_less {n} {a} {b} {g} {g'} few off r = record {
+  used = r.used;
+  went = r.went;
+  few = (let x = r.few in omega arith);
+  all = λ e. not_both (is_going g'.progress) e off;
+}

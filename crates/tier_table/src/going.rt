@@ -4,6 +4,7 @@ ghost use Rattle.std.specs.Prelude.{◌≡◌, true};
 ghost use Rattle.table_rule.specs.Tell.{Beside};
 ghost use Rattle.tier_core.specs.Machine.{CallFits, is_going};
 ghost use Rattle.tier_core.specs.Turn.{place};
+ghost use Rattle.tier_core.specs.declared.call.Progress.TheVariants.{Passing};
 ghost use Rattle.tier_table.specs.Holding.{Looked};
 ghost use Rattle.tier_table.specs.Calls.{IsAt};
 ghost use Rattle.tier_table.specs.Next.{meant, is_passing};
@@ -18,7 +19,7 @@ use crate::tiers::Tiers;
 use advance_rule::StoredAdvance;
 use tier_core::call::{Played, Progress};
 use tier_core::turn::{tier_of, turn_here};
-use tier_steps::view::View;
+use tier_steps::view::{Trip, View};
 
 /// A token in a call.
 pub struct Going {
@@ -158,7 +159,7 @@ impl Tiers {
 
     /// Takes the steps of an arrival or a departure until it is over, or so many tries were made. All that
     /// it calls is inlined, so that the token stays in registers.
-    #[inline(always)]
+    #[inline(never)]
     pub(crate) fn go_on<F: Fn(u32, u32) -> bool>(
         &self,
         at: Going,
@@ -179,6 +180,39 @@ impl Tiers {
             }
         }
         at
+    }
+
+    /// The same from its own step on, with a straight way where that is its last, or the advance is.
+    #[inline(always)]
+    pub(crate) fn go_straight<F: Fn(u32, u32) -> bool>(
+        &self,
+        at: Going,
+        own: Trip,
+        rule: &StoredAdvance<F>,
+        tries: u32,
+    ) -> Going
+        requires at { IsAt self.now at }
+        requires passing { at.progress ≡ Passing own }
+        requires rule { Answers (F.pre rule.now.closure) (F.post rule.now.closure) (end_ends_at rule.now.plan) }
+        requires plan { rule.now.plan ≡ self.now.key.plan }
+        ensures { Ran self.now tries at result }
+    {
+        if tries < 2 {
+            return self.go_on(at, rule, tries);
+        }
+        let mut at = at;
+        self.pass_own(&mut at, own);
+        if !goes_on(at.progress) {
+            return at;
+        }
+        if !matches!(at.progress, Progress::Due(_)) {
+            return self.go_on(at, rule, tries - 1);
+        }
+        self.advance(&mut at, rule);
+        if !goes_on(at.progress) {
+            return at;
+        }
+        self.go_on(at, rule, tries - 2)
     }
 
     /// Takes the steps of a call that never advances the root, until it is over, or so many tries were made.
