@@ -1,6 +1,6 @@
 //! Calls that go on step by step.
 
-ghost use Rattle.std.specs.Prelude.{◌≡◌, true};
+ghost use Rattle.std.specs.Prelude.{◌≡◌, ◌≤◌, true};
 ghost use Rattle.table_rule.specs.Tell.{Beside};
 ghost use Rattle.tier_core.specs.Machine.{CallFits, is_going};
 ghost use Rattle.tier_core.specs.Turn.{place};
@@ -140,23 +140,6 @@ impl Tiers {
         rule.call(word.phase, word.parties)
     }
 
-    /// The next step of an arrival or a departure, by one try at most.
-    #[inline(always)]
-    fn go_once<F: Fn(u32, u32) -> bool>(&self, at: &mut Going, rule: &StoredAdvance<F>)
-        requires at { IsAt self.now at.old }
-        requires passing { is_passing at.old.progress ≡ true }
-        requires rule { Answers (F.pre rule.now.closure) (F.post rule.now.closure) (end_ends_at rule.now.plan) }
-        requires plan { rule.now.plan ≡ self.now.key.plan }
-        ensures { Ran self.now 1 at.old at.new }
-    {
-        match at.progress {
-            Progress::Passing(own) => self.pass_own(at, own),
-            Progress::Owing(own) => self.climb(at, own),
-            Progress::Due(_) => self.advance(at, rule),
-            _ => unreachable!(),
-        }
-    }
-
     /// Takes the steps of an arrival or a departure until it is over, or so many tries were made. All that
     /// it calls is inlined, so that the token stays in registers.
     #[inline(never)]
@@ -174,12 +157,45 @@ impl Tiers {
     {
         let mut at = at;
         for _ in 0..tries {
-            self.go_once(&mut at, rule);
+            match at.progress {
+                Progress::Passing(own) => self.pass_own(&mut at, own),
+                Progress::Owing(own) => self.climb(&mut at, own),
+                Progress::Due(_) => self.advance(&mut at, rule),
+                _ => unreachable!(),
+            }
             if !goes_on(at.progress) {
                 return at;
             }
         }
         at
+    }
+
+    /// The own step of an arrival or a departure, and the advance where that is owed then; how many tries
+    /// that took, at most so many.
+    #[inline(always)]
+    fn start<F: Fn(u32, u32) -> bool>(
+        &self,
+        at: &mut Going,
+        own: Trip,
+        rule: &StoredAdvance<F>,
+        tries: u32,
+    ) -> u32
+        requires at { IsAt self.now at.old }
+        requires passing { at.old.progress ≡ Passing own }
+        requires rule { Answers (F.pre rule.now.closure) (F.post rule.now.closure) (end_ends_at rule.now.plan) }
+        requires plan { rule.now.plan ≡ self.now.key.plan }
+        ensures ran { Ran self.now result at.old at.new }
+        ensures few { result ≤ tries }
+    {
+        if tries < 2 {
+            return 0;
+        }
+        self.pass_own(at, own);
+        let Progress::Due(_) = at.progress else {
+            return 1;
+        };
+        self.advance(at, rule);
+        2
     }
 
     /// The same from its own step on, with a straight way where that is its last, or the advance is.
@@ -197,22 +213,12 @@ impl Tiers {
         requires plan { rule.now.plan ≡ self.now.key.plan }
         ensures { Ran self.now tries at result }
     {
-        if tries < 2 {
-            return self.go_on(at, rule, tries);
-        }
         let mut at = at;
-        self.pass_own(&mut at, own);
+        let used = self.start(&mut at, own, rule, tries);
         if !goes_on(at.progress) {
             return at;
         }
-        if !matches!(at.progress, Progress::Due(_)) {
-            return self.go_on(at, rule, tries - 1);
-        }
-        self.advance(&mut at, rule);
-        if !goes_on(at.progress) {
-            return at;
-        }
-        self.go_on(at, rule, tries - 2)
+        self.go_on(at, rule, tries - used)
     }
 
     /// Takes the steps of a call that never advances the root, until it is over, or so many tries were made.
