@@ -250,16 +250,48 @@ passing_stays k from at q (looks at' w go fits g beside) =
 pub passing_on : {n : Named} {used : ℕ} {from at : Going} → WentOn n used from at → is_passing from.progress ≡ true → is_going at.progress ≡ true → is_passing at.progress ≡ true
 passing_on {n} {used} {from} {at} went q g = passing_stays n.key (position from) (position at) q (went.goes (position from) starts) g
 
-pub owing_passing : (p : Progress) → is_owing p ≡ true → is_passing p ≡ true
-owing_passing Idle o = not_both false o refl
-owing_passing (Begun c) o = not_both false o refl
-owing_passing (ToSeek tier size) o = not_both false o refl
-owing_passing Settling o = not_both false o refl
-owing_passing (ToGiveBack answer) o = not_both false o refl
-owing_passing (Passing trip) o = not_both false o refl
-owing_passing (Owing own) o = refl
-owing_passing (Due own) o = refl
-owing_passing (Refreshing passed_on) o = not_both false o refl
+-- one that has passed its own tier never comes back to it
+abbrev OnlyOwes : Progress → Type 0
+OnlyOwes p = is_going p ≡ true → is_owing p ≡ true
+
+owed_owes : (own : Trip) (e : Errand) → OnlyOwes (goes_on own e)
+owed_owes own Rest g = not_both false g refl
+owed_owes own Advancing g = refl
+owed_owes own (Climbing t trip) g = refl
+owed_owes own (Opening tier claimed stage size) g = not_both false g refl
+
+pass_owes : (ps : List ℕ) (own : Trip) (t : ℕ) (trip : Trip) (kind : Kind) (here : Progress) (over : Played) (w : Fields) (v : View) → OnlyOwes here
+    → OnlyOwes (pass_turn ps own t trip kind here over w v).next
+pass_owes ps own t trip kind here over w v h =
+    by_cond (λ (r : Turn). OnlyOwes r.next) w.ended _ _ (λ e g. not_both false g refl)
+    (λ e. by_cond (λ (r : Turn). OnlyOwes r.next) (lags w v) _ _ (λ f. h) (λ f. owed_owes own (owed (parent_of ps t) t trip w)))
+
+next_owes : (ps : List ℕ) (b : Bool) (w : Fields) (p : Progress) (v : View) → CallFits ps p v → is_owing p ≡ true → OnlyOwes (turn_by ps b w p v).next
+next_owes ps b w Idle v fits q = not_both false q refl
+next_owes ps b w (Begun c) v fits q = not_both false q refl
+next_owes ps b w (ToSeek tier size) v fits q = not_both false q refl
+next_owes ps b w Settling v fits q = not_both false q refl
+next_owes ps b w (ToGiveBack answer) v fits q = not_both false q refl
+next_owes ps b w (Passing trip) v fits q = not_both false q refl
+next_owes ps b w (Owing own) v fits q =
+    subst (λ (e : Errand). OnlyOwes (climb_turn ps own w v e).next) (sym fits.2) (pass_owes ps own fits.0 fits.1 (Climb fits.1) (Owing own) (Done v.phase) w v (λ g. refl))
+next_owes ps b w (Due own) v fits q = λ g. not_both false g refl
+next_owes ps b w (Refreshing passed_on) v fits q = not_both false q refl
+
+owing_stays : (k : Key) (from at : Position) → is_owing from.progress ≡ true → Goes k from at → OnlyOwes at.progress
+owing_stays k from at q starts = λ g. q
+owing_stays k from at q (steps at' w b go fits g beside says) = next_owes k.shape b w at'.progress at'.view fits (owing_stays k from at' q go g)
+owing_stays k from at q (looks at' w go fits g beside) =
+    let r : Turn = turn_by k.shape false w at'.progress at'.view in
+    let t : ℕ = place k.shape at'.progress at'.view in
+    let u : View = view_after (parent_of k.shape t) (looking (meant at'.progress at'.view) t w) t w at'.view in
+    by_test (λ c. OnlyOwes (cond {A = Position} c (record { progress = r.next; view = u; answer = r.answer }) (record { progress = at'.progress; view = u; answer = GoesOn })).progress)
+    (is_look r.kind)
+    (λ e. next_owes k.shape false w at'.progress at'.view fits (owing_stays k from at' q go g))
+    (λ e. owing_stays k from at' q go)
+
+pub owing_on : {n : Named} {used : ℕ} {from at : Going} → WentOn n used from at → is_owing from.progress ≡ true → is_going at.progress ≡ true → is_owing at.progress ≡ true
+owing_on {n} {used} {from} {at} went q g = owing_stays n.key (position from) (position at) q (went.goes (position from) starts) g
 
 -- some tries more
 pub ran_more : {n : Named} {a b : ℕ} {g g' g'' : Going} → Ran n a g g' → is_going g'.progress ≡ true → Ran n b g' g'' → Ran n (a + b) g g''

@@ -138,6 +138,6 @@ impl Tiers {
         ensures { Resumes errand tries result }
     {
         let Errand { going } = errand;
-        answer_resumed(self.go_on(going, rule, tries))
+        answer_resumed(self.go_owing(going, rule, tries))
     }
 }

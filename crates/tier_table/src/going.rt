@@ -7,7 +7,7 @@ ghost use Rattle.tier_core.specs.Turn.{place};
 ghost use Rattle.tier_core.specs.declared.call.Progress.TheVariants.{Passing};
 ghost use Rattle.tier_table.specs.Holding.{Looked};
 ghost use Rattle.tier_table.specs.Calls.{IsAt};
-ghost use Rattle.tier_table.specs.Next.{meant, is_passing};
+ghost use Rattle.tier_table.specs.Next.{meant, is_owing, is_passing};
 ghost use Rattle.tier_table.specs.Joins.{is_joining};
 ghost use Rattle.tier_table.specs.Goes.{Stands, LooksOn, WentOn, EndsAsPlanned, Stood, Ran, After};
 ghost use Rattle.advance_rule.specs.Stored.{Answers};
@@ -142,7 +142,7 @@ impl Tiers {
 
     /// Takes the steps of an arrival or a departure until it is over, or so many tries were made. All that
     /// it calls is inlined, so that the token stays in registers.
-    #[inline(never)]
+    #[inline]
     pub(crate) fn go_on<F: Fn(u32, u32) -> bool>(
         &self,
         at: Going,
@@ -159,6 +159,33 @@ impl Tiers {
         for _ in 0..tries {
             match at.progress {
                 Progress::Passing(own) => self.pass_own(&mut at, own),
+                Progress::Owing(own) => self.climb(&mut at, own),
+                Progress::Due(_) => self.advance(&mut at, rule),
+                _ => unreachable!(),
+            }
+            if !goes_on(at.progress) {
+                return at;
+            }
+        }
+        at
+    }
+
+    /// The same of one that has passed its own tier.
+    pub(crate) fn go_owing<F: Fn(u32, u32) -> bool>(
+        &self,
+        at: Going,
+        rule: &StoredAdvance<F>,
+        tries: u32,
+    ) -> Going
+        requires at { IsAt self.now at }
+        requires owing { is_owing at.progress ≡ true }
+        requires rule { Answers (F.pre rule.now.closure) (F.post rule.now.closure) (end_ends_at rule.now.plan) }
+        requires plan { rule.now.plan ≡ self.now.key.plan }
+        ensures { Ran self.now tries at result }
+    {
+        let mut at = at;
+        for _ in 0..tries {
+            match at.progress {
                 Progress::Owing(own) => self.climb(&mut at, own),
                 Progress::Due(_) => self.advance(&mut at, rule),
                 _ => unreachable!(),
