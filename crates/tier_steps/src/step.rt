@@ -300,6 +300,7 @@ fn admit(tier: u16, claimed: u16, size: u32, word: Word, view: View) -> View
 }
 
 /// The view that a step leaves, where `above` is the parent of the tier.
+#[inline(always)]
 pub fn step_view(kind: Kind, tier: u16, above: u16, word: Word, view: View) -> View
     requires { IsRunnable kind tier word view }
     ensures { result ≡ view_after above kind tier word view }

@@ -53,7 +53,7 @@ pass_ends ps own t trip kind here answer w v quiet =
     by_cond EndsOrBacks w.ended _ _ (λ e l. inl refl)
     (λ e. by_cond EndsOrBacks (lags w v) _ _ (λ f l. not_both false l refl) (λ f l. not_both (is_look kind) l quiet))
 
-quiet_own : (trip : Trip) → is_look (own_kind trip) ≡ false
+pub quiet_own : (trip : Trip) → is_look (own_kind trip) ≡ false
 quiet_own Arrival = refl
 quiet_own Departure = refl
 

@@ -153,7 +153,7 @@ seek_tries tier claimed size t w v going admits = go (seek_is tier claimed size 
     go (claims e f k at) = ap is_look k
     go (joins e f k at) = ap is_look k
 
-pass_tries : (ps : List ℕ) (own : Trip) (t : ℕ) (trip : Trip) (kind : Kind) (here : Progress) (answer : Played) (w : Fields) (v : View) → is_look kind ≡ false → w.ended ≡ false
+pub pass_tries : (ps : List ℕ) (own : Trip) (t : ℕ) (trip : Trip) (kind : Kind) (here : Progress) (answer : Played) (w : Fields) (v : View) → is_look kind ≡ false → w.ended ≡ false
     → is_look (pass_turn ps own t trip kind here answer w v).kind ≡ false
 pass_tries ps own t trip kind here answer w v quiet going = go (pass_is ps own t trip kind here answer w v)
   where

@@ -5,13 +5,13 @@ use Rattle.tier_shape.specs.Parents.{parent_of}
 use Rattle.tier_steps.specs.declared.view.View.{View}
 use Rattle.tier_steps.specs.Step.{view_after}
 use Rattle.tier_core.specs.declared.call.Played.{Played}
-use Rattle.tier_core.specs.declared.call.Played.TheVariants.{GoesOn}
+use Rattle.tier_core.specs.declared.call.Played.TheVariants.{GoesOn, Done}
 use Rattle.tier_core.specs.declared.call.Progress.{Progress}
 use Rattle.tier_core.specs.declared.call.Progress.TheVariants.{Idle, Begun, Seeking as ToSeek, Settling, GivingBack as ToGiveBack, Passing, Owing, Due, Refreshing}
 use Rattle.advance_rule.specs.Plan.{end_ends}
 use Rattle.tier_core.specs.declared.call.Turn.{Turn}
 use Rattle.tier_core.specs.Machine.{CallFits, is_due, is_going}
-use Rattle.tier_core.specs.Turn.{place, turn_by}
+use Rattle.tier_core.specs.Turn.{place, turn_by, end_shown}
 use Rattle.table_rule.specs.declared.sight.Key.{Key}
 use Rattle.table_rule.specs.Look.{looking}
 use Rattle.table_rule.specs.Reach.{PlanSays}
@@ -105,3 +105,15 @@ abbrev pub After : List ℕ → Progress → View → Going → Type 0
 After parents p v g =
     let r : Turn = turn_by parents false g.token.word p v in
     (g.progress ≡ (if is_look r.kind then r.next else p)) × (g.answer ≡ (if is_look r.kind then r.answer else GoesOn))
+
+-- what an arrival or a departure answers that finds the root ended, in this phase: nothing was counted before its own step
+abbrev pub over_at : Progress → ℕ → Fields → Played
+over_at Idle phase w = Done phase
+over_at (Begun c) phase w = Done phase
+over_at (ToSeek tier size) phase w = Done phase
+over_at Settling phase w = Done phase
+over_at (ToGiveBack answer) phase w = Done phase
+over_at (Passing trip) phase w = end_shown w
+over_at (Owing own) phase w = Done phase
+over_at (Due own) phase w = Done phase
+over_at (Refreshing moved) phase w = Done phase

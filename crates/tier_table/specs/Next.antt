@@ -45,3 +45,15 @@ is_owing (Passing trip) = false
 is_owing (Owing own) = true
 is_owing (Due own) = true
 is_owing (Refreshing moved) = false
+
+-- an arrival or a departure that goes on
+abbrev pub is_passing : Progress → Bool
+is_passing Idle = false
+is_passing (Begun c) = false
+is_passing (ToSeek tier size) = false
+is_passing Settling = false
+is_passing (ToGiveBack answer) = false
+is_passing (Passing trip) = true
+is_passing (Owing own) = true
+is_passing (Due own) = true
+is_passing (Refreshing moved) = false

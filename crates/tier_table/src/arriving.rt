@@ -122,7 +122,7 @@ impl Tiers {
             progress: Progress::Passing(own),
             answer: Played::GoesOn,
         };
-        answer_settled(self.go_on(at, rule, tries))
+        answer_settled(self.go_straight(at, own, rule, tries))
     }
 
     /// Goes on with what is owed.
@@ -138,6 +138,6 @@ impl Tiers {
         ensures { Resumes errand tries result }
     {
         let Errand { going } = errand;
-        answer_resumed(self.go_on(going, rule, tries))
+        answer_resumed(self.go_owing(going, rule, tries))
     }
 }

@@ -1,12 +1,13 @@
 //! Calls that go on step by step.
 
-ghost use Rattle.std.specs.Prelude.{◌≡◌, true};
+ghost use Rattle.std.specs.Prelude.{◌≡◌, ◌≤◌, true};
 ghost use Rattle.table_rule.specs.Tell.{Beside};
 ghost use Rattle.tier_core.specs.Machine.{CallFits, is_going};
 ghost use Rattle.tier_core.specs.Turn.{place};
+ghost use Rattle.tier_core.specs.declared.call.Progress.TheVariants.{Passing};
 ghost use Rattle.tier_table.specs.Holding.{Looked};
 ghost use Rattle.tier_table.specs.Calls.{IsAt};
-ghost use Rattle.tier_table.specs.Next.{meant};
+ghost use Rattle.tier_table.specs.Next.{meant, is_owing, is_passing};
 ghost use Rattle.tier_table.specs.Joins.{is_joining};
 ghost use Rattle.tier_table.specs.Goes.{Stands, LooksOn, WentOn, EndsAsPlanned, Stood, Ran, After};
 ghost use Rattle.advance_rule.specs.Stored.{Answers};
@@ -18,7 +19,7 @@ use crate::tiers::Tiers;
 use advance_rule::StoredAdvance;
 use tier_core::call::{Played, Progress};
 use tier_core::turn::{tier_of, turn_here};
-use tier_steps::view::View;
+use tier_steps::view::{Trip, View};
 
 /// A token in a call.
 pub struct Going {
@@ -46,39 +47,28 @@ impl Tiers {
     }
 
     /// How a call stands after a look.
-    fn looked(&self, token: Seated, progress: Progress, before: View) -> Going
-        ensures token { result.token ≡ token }
-        ensures next { After self.now.key.shape progress before result }
+    fn looked(&self, at: &mut Going, before: View)
+        ensures token { at.new.token ≡ at.old.token }
+        ensures next { After self.now.key.shape at.old.progress before at.new }
     {
-        let turn = turn_here(self.shape(), false, token.word(), progress, before);
+        let turn = turn_here(self.shape(), false, at.token.word(), at.progress, before);
         if only_looks(turn.kind) {
-            return Going {
-                token,
-                progress: turn.next,
-                answer: turn.answer,
-            };
-        }
-        Going {
-            token,
-            progress,
-            answer: Played::GoesOn,
+            at.progress = turn.next;
+            at.answer = turn.answer;
+        } else {
+            at.answer = Played::GoesOn;
         }
     }
 
     /// A look of a call at the tier of its next step.
-    fn look_on(&self, at: Going) -> Going
-        requires at { IsAt self.now at }
-        requires going { is_going at.progress ≡ true }
-        ensures { LooksOn self.now 0 at result }
+    fn look_on(&self, at: &mut Going)
+        requires at { IsAt self.now at.old }
+        requires going { is_going at.old.progress ≡ true }
+        ensures { LooksOn self.now 0 at.old at.new }
     {
-        let Going {
-            mut token,
-            progress,
-            answer: _,
-        } = at;
-        let before = token.view();
-        self.look_next(&mut token, progress);
-        self.looked(token, progress, before)
+        let before = at.token.view();
+        self.look_next(&mut at.token, at.progress);
+        self.looked(at, before);
     }
 
     /// Whether the token of a call stands at the tier of its next step, which is no look.
@@ -94,47 +84,51 @@ impl Tiers {
     }
 
     /// Looks until the token stands at the tier of the call's next step, or the call is over.
-    fn stand(&self, at: Going) -> Going
-        requires at { IsAt self.now at }
-        requires going { is_going at.progress ≡ true }
-        ensures { Stood self.now at result }
+    fn stand(&self, at: &mut Going)
+        requires at { IsAt self.now at.old }
+        requires going { is_going at.old.progress ≡ true }
+        ensures { Stood self.now at.old at.new }
     {
-        if self.stands(&at) {
-            return at;
+        if self.stands(at) {
+            return;
         }
-        let at = self.look_on(at);
-        if !gives_back(at.progress) || self.stands(&at) {
-            return at;
+        self.look_on(at);
+        if !gives_back(at.progress) || self.stands(at) {
+            return;
         }
-        self.look_on(at)
+        self.look_on(at);
     }
 
     /// One try of a call's next step, at whose tier its token stands.
-    fn try_on(&self, at: Going, ends: bool) -> Going
-        requires at { IsAt self.now at }
-        requires stands { Stands self.now.key at }
-        requires ends { EndsAsPlanned self.now.key ends at }
-        ensures { WentOn self.now 1 at result }
+    fn try_on(&self, at: &mut Going, ends: bool)
+        requires at { IsAt self.now at.old }
+        requires stands { Stands self.now.key at.old }
+        requires ends { EndsAsPlanned self.now.key ends at.old }
+        ensures { WentOn self.now 1 at.old at.new }
     {
-        let Going {
-            mut token,
-            progress,
-            answer: _,
-        } = at;
-        let turn = turn_here(self.shape(), ends, token.word(), progress, token.view());
-        let before = token.view();
-        if self.attempt(&mut token, turn.kind) {
-            return Going {
-                token,
-                progress: turn.next,
-                answer: turn.answer,
-            };
+        let turn = turn_here(
+            self.shape(),
+            ends,
+            at.token.word(),
+            at.progress,
+            at.token.view(),
+        );
+        let before = at.token.view();
+        if self.attempt(&mut at.token, turn.kind) {
+            at.progress = turn.next;
+            at.answer = turn.answer;
+        } else {
+            self.looked(at, before);
         }
-        self.looked(token, progress, before)
     }
 
     /// What the plan says of the advance that a call has to take, by its closure.
-    fn planned<F: Fn(u32, u32) -> bool>(&self, at: &Going, rule: &StoredAdvance<F>) -> bool
+    #[inline(always)]
+    pub(crate) fn planned<F: Fn(u32, u32) -> bool>(
+        &self,
+        at: &Going,
+        rule: &StoredAdvance<F>,
+    ) -> bool
         requires rule { Answers (F.pre rule.now.closure) (F.post rule.now.closure) (end_ends_at rule.now.plan) }
         requires plan { rule.now.plan ≡ self.now.key.plan }
         ensures { EndsAsPlanned self.now.key result at.now }
@@ -146,7 +140,9 @@ impl Tiers {
         rule.call(word.phase, word.parties)
     }
 
-    /// Takes the steps of a call until it is over, or so many tries were made.
+    /// Takes the steps of an arrival or a departure until it is over, or so many tries were made. All that
+    /// it calls is inlined, so that the token stays in registers.
+    #[inline]
     pub(crate) fn go_on<F: Fn(u32, u32) -> bool>(
         &self,
         at: Going,
@@ -154,24 +150,102 @@ impl Tiers {
         tries: u32,
     ) -> Going
         requires at { IsAt self.now at }
-        requires going { is_going at.progress ≡ true }
+        requires passing { is_passing at.progress ≡ true }
         requires rule { Answers (F.pre rule.now.closure) (F.post rule.now.closure) (end_ends_at rule.now.plan) }
         requires plan { rule.now.plan ≡ self.now.key.plan }
         ensures { Ran self.now tries at result }
     {
         let mut at = at;
         for _ in 0..tries {
-            at = self.stand(at);
-            if !goes_on(at.progress) {
-                return at;
+            match at.progress {
+                Progress::Passing(own) => self.pass_own(&mut at, own),
+                Progress::Owing(own) => self.climb(&mut at, own),
+                Progress::Due(_) => self.advance(&mut at, rule),
+                _ => unreachable!(),
             }
-            let ends = self.planned(&at, rule);
-            at = self.try_on(at, ends);
             if !goes_on(at.progress) {
                 return at;
             }
         }
         at
+    }
+
+    /// The same of one that has passed its own tier.
+    pub(crate) fn go_owing<F: Fn(u32, u32) -> bool>(
+        &self,
+        at: Going,
+        rule: &StoredAdvance<F>,
+        tries: u32,
+    ) -> Going
+        requires at { IsAt self.now at }
+        requires owing { is_owing at.progress ≡ true }
+        requires rule { Answers (F.pre rule.now.closure) (F.post rule.now.closure) (end_ends_at rule.now.plan) }
+        requires plan { rule.now.plan ≡ self.now.key.plan }
+        ensures { Ran self.now tries at result }
+    {
+        let mut at = at;
+        for _ in 0..tries {
+            match at.progress {
+                Progress::Owing(own) => self.climb(&mut at, own),
+                Progress::Due(_) => self.advance(&mut at, rule),
+                _ => unreachable!(),
+            }
+            if !goes_on(at.progress) {
+                return at;
+            }
+        }
+        at
+    }
+
+    /// The own step of an arrival or a departure, and the advance where that is owed then; how many tries
+    /// that took, at most so many.
+    #[inline(always)]
+    fn start<F: Fn(u32, u32) -> bool>(
+        &self,
+        at: &mut Going,
+        own: Trip,
+        rule: &StoredAdvance<F>,
+        tries: u32,
+    ) -> u32
+        requires at { IsAt self.now at.old }
+        requires passing { at.old.progress ≡ Passing own }
+        requires rule { Answers (F.pre rule.now.closure) (F.post rule.now.closure) (end_ends_at rule.now.plan) }
+        requires plan { rule.now.plan ≡ self.now.key.plan }
+        ensures ran { Ran self.now result at.old at.new }
+        ensures few { result ≤ tries }
+    {
+        if tries < 2 {
+            return 0;
+        }
+        self.pass_own(at, own);
+        let Progress::Due(_) = at.progress else {
+            return 1;
+        };
+        self.advance(at, rule);
+        2
+    }
+
+    /// The same from its own step on, with a straight way where that is its last, or the advance is.
+    #[inline(always)]
+    pub(crate) fn go_straight<F: Fn(u32, u32) -> bool>(
+        &self,
+        at: Going,
+        own: Trip,
+        rule: &StoredAdvance<F>,
+        tries: u32,
+    ) -> Going
+        requires at { IsAt self.now at }
+        requires passing { at.progress ≡ Passing own }
+        requires rule { Answers (F.pre rule.now.closure) (F.post rule.now.closure) (end_ends_at rule.now.plan) }
+        requires plan { rule.now.plan ≡ self.now.key.plan }
+        ensures { Ran self.now tries at result }
+    {
+        let mut at = at;
+        let used = self.start(&mut at, own, rule, tries);
+        if !goes_on(at.progress) {
+            return at;
+        }
+        self.go_on(at, rule, tries - used)
     }
 
     /// Takes the steps of a call that never advances the root, until it is over, or so many tries were made.
@@ -183,11 +257,11 @@ impl Tiers {
     {
         let mut at = at;
         for _ in 0..tries {
-            at = self.stand(at);
+            self.stand(&mut at);
             if !goes_on(at.progress) {
                 return at;
             }
-            at = self.try_on(at, false);
+            self.try_on(&mut at, false);
             if !goes_on(at.progress) {
                 return at;
             }

@@ -10,6 +10,7 @@ pub mod joining;
 pub mod next;
 pub mod polling;
 pub mod seated;
+mod stepping;
 pub mod tiers;
 pub mod tokens;
 pub mod tree;

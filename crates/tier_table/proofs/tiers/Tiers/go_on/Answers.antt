@@ -1,19 +1,27 @@
-use Rattle.std.proofs.Common.{sym, ◌∙◌, arith}
+use Rattle.std.proofs.Common.{sym, subst, ◌∙◌, arith}
+use Rattle.tier_table.specs.declared.going.Going.{Going}
+use Rattle.tier_table.specs.Goes.{Ran}
 use Rattle.tier_table.proofs.Running.{went_then, ran_over}
+use Rattle.tier_table.proofs.Tries.{passing_on}
 use Rattle.tier_table.proofs.tiers.Tiers.go_on.Goals as goal
+use Rattle.tier_table.proofs.tiers.Tiers.go_on.Goals.{in-Passing, in-Owing, in-Due}
 
 pub returns-then-not-goes_on : goal.returns-then-not-goes_on
 returns-then-not-goes_on g c =
-    ran_over (went_then _ _ 0 _ _ _ c.loop.invariant.0 c.stand-at.ensures.went) (let a = c.loop-test.true in omega arith) c.goes_on.ensures c.if-not-goes_on.true
-
-pub returns-then-not-goes_on-2 : goal.returns-then-not-goes_on-2
-returns-then-not-goes_on-2 g c =
-    ran_over (went_then _ _ 1 _ _ _ (went_then _ _ 0 _ _ _ c.loop.invariant.0 c.stand-at.ensures.went) c.try_on-at.ensures) (let a = c.loop-test.true in omega arith)
-    c.goes_on-in-loop.ensures c.if-not-goes_on-2.true
+    let r : Ran c.args.self.now 1 c.loop.at c.match-at.at = elim c.match-at.branch [
+      in-Passing w ↦ subst (λ (z : Going). Ran c.args.self.now 1 c.loop.at z) (sym w.at-is) w.pass_own.ensures
+      | in-Owing w ↦ subst (λ (z : Going). Ran c.args.self.now 1 c.loop.at z) (sym w.at-is) w.climb.ensures
+      | in-Due w ↦ subst (λ (z : Going). Ran c.args.self.now 1 c.loop.at z) (sym w.at-is) w.advance.ensures
+    ] in
+    ran_over (went_then _ _ r.used _ _ _ c.loop.invariant.0 r.went) (let a = c.loop-test.true in let b = r.few in omega arith) c.goes_on.ensures c.if-not-goes_on.true
 
 pub loop-preserved : goal.loop-preserved
 loop-preserved g c =
-    let w = went_then _ _ 1 _ _ _ (went_then _ _ 0 _ _ _ c.loop.invariant.0 c.stand-at.ensures.went) c.try_on-at.ensures in (
-      record { at = w.at; tried = (let a = w.tried in omega arith); goes = w.goes },
-      sym c.goes_on-in-loop.ensures ∙ c.if-not-goes_on-2.false,
-    )
+    let r : Ran c.args.self.now 1 c.loop.at c.match-at.at = elim c.match-at.branch [
+      in-Passing w ↦ subst (λ (z : Going). Ran c.args.self.now 1 c.loop.at z) (sym w.at-is) w.pass_own.ensures
+      | in-Owing w ↦ subst (λ (z : Going). Ran c.args.self.now 1 c.loop.at z) (sym w.at-is) w.climb.ensures
+      | in-Due w ↦ subst (λ (z : Going). Ran c.args.self.now 1 c.loop.at z) (sym w.at-is) w.advance.ensures
+    ] in
+    let on = sym c.goes_on.ensures ∙ c.if-not-goes_on.false in
+    let w = went_then _ _ r.used _ _ _ c.loop.invariant.0 r.went in
+    (record { at = w.at; tried = (let a = w.tried in let b = r.all on in omega arith); goes = w.goes }, passing_on w c.requires.passing on)

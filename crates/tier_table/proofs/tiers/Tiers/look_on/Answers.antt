@@ -6,5 +6,5 @@ use Rattle.tier_table.proofs.tiers.Tiers.look_on.Goals as goal
 
 pub returns : goal.returns
 returns c =
-    looks_on c.args.self.now 0 c.args.at c.looked.result c.look_next.new.token c.requires.at c.requires.going c.look_next.ensures c.looked.ensures.token
-    (subst (λ (v : View). After c.args.self.now.key.shape c.args.at.progress v c.looked.result) c.view-before.ensures c.looked.ensures.next)
+    looks_on c.args.self.now 0 c.args.at.now c.looked.new.at c.look_next.new.token c.requires.at c.requires.going c.look_next.ensures c.looked.ensures.token
+    (subst (λ (v : View). After c.args.self.now.key.shape c.args.at.now.progress v c.looked.new.at) c.view-before.ensures c.looked.ensures.next)

@@ -10,13 +10,13 @@ returns-then-view-clause-ended g c = λ p e. unseen (took_by c.crew.view_is c.lo
 
 pub answer_settled-requires : goal.answer_settled-requires
 answer_settled-requires g c =
-    may_settle c.args.self.now c.args.own c.args.tries c.args.crew c.look.new.token c.go_on.result c.requires.own (subst IsCrew c.crew.view_is c.crew.invariant) (took_by c.crew.view_is c.look.ensures)
-    (λ e. c.if-view.false (ap (λ (v : View). v.arrived) c.view-view.ensures ∙ (e ∙ sym (ap (λ (v : View). v.size) c.view-view.ensures)))) c.go_on.ensures
+    may_settle c.args.self.now c.args.own c.args.tries c.args.crew c.look.new.token c.go_straight.result c.requires.own (subst IsCrew c.crew.view_is c.crew.invariant) (took_by c.crew.view_is c.look.ensures)
+    (λ e. c.if-view.false (ap (λ (v : View). v.arrived) c.view-view.ensures ∙ (e ∙ sym (ap (λ (v : View). v.size) c.view-view.ensures)))) c.go_straight.ensures
 
 pub returns-clause-answer : goal.returns-clause-answer
 returns-clause-answer g c =
-    arrives c.args.self.now c.args.own c.args.tries c.args.crew c.look.new.token c.go_on.result c.requires.own (subst IsCrew c.crew.view_is c.crew.invariant) (took_by c.crew.view_is c.look.ensures)
-    (λ e. c.if-view.false (ap (λ (v : View). v.arrived) c.view-view.ensures ∙ (e ∙ sym (ap (λ (v : View). v.size) c.view-view.ensures)))) c.go_on.ensures c.answer_settled.result c.answer_settled.ensures
+    arrives c.args.self.now c.args.own c.args.tries c.args.crew c.look.new.token c.go_straight.result c.requires.own (subst IsCrew c.crew.view_is c.crew.invariant) (took_by c.crew.view_is c.look.ensures)
+    (λ e. c.if-view.false (ap (λ (v : View). v.arrived) c.view-view.ensures ∙ (e ∙ sym (ap (λ (v : View). v.size) c.view-view.ensures)))) c.go_straight.ensures c.answer_settled.result c.answer_settled.ensures
 
 pub returns-clause-ended : goal.returns-clause-ended
 returns-clause-ended g c = λ p e. unseen (took_by c.crew.view_is c.look.ensures) (not_ended c.word.view_is c.word-word.ensures.word c.if-word.false) p e
