@@ -9,7 +9,7 @@ use Rattle.tier_table.proofs.tiers.Tiers.go_on.Goals.{in-Passing, in-Owing, in-D
 pub returns-then-not-goes_on : goal.returns-then-not-goes_on
 returns-then-not-goes_on g c =
     let r : Ran c.args.self.now 1 c.loop.at c.match-at.at = elim c.match-at.branch [
-      in-Passing w ↦ subst (λ (z : Going). Ran c.args.self.now 1 c.loop.at z) (sym w.at-is) w.pass_own.ensures
+      | in-Passing w ↦ subst (λ (z : Going). Ran c.args.self.now 1 c.loop.at z) (sym w.at-is) w.pass_own.ensures
       | in-Owing w ↦ subst (λ (z : Going). Ran c.args.self.now 1 c.loop.at z) (sym w.at-is) w.climb.ensures
       | in-Due w ↦ subst (λ (z : Going). Ran c.args.self.now 1 c.loop.at z) (sym w.at-is) w.advance.ensures
     ] in
@@ -18,7 +18,7 @@ returns-then-not-goes_on g c =
 pub loop-preserved : goal.loop-preserved
 loop-preserved g c =
     let r : Ran c.args.self.now 1 c.loop.at c.match-at.at = elim c.match-at.branch [
-      in-Passing w ↦ subst (λ (z : Going). Ran c.args.self.now 1 c.loop.at z) (sym w.at-is) w.pass_own.ensures
+      | in-Passing w ↦ subst (λ (z : Going). Ran c.args.self.now 1 c.loop.at z) (sym w.at-is) w.pass_own.ensures
       | in-Owing w ↦ subst (λ (z : Going). Ran c.args.self.now 1 c.loop.at z) (sym w.at-is) w.climb.ensures
       | in-Due w ↦ subst (λ (z : Going). Ran c.args.self.now 1 c.loop.at z) (sym w.at-is) w.advance.ensures
     ] in

@@ -9,7 +9,7 @@ use Rattle.tier_table.proofs.tiers.Tiers.go_owing.Goals.{in-Owing, in-Due}
 pub returns-then-not-goes_on : goal.returns-then-not-goes_on
 returns-then-not-goes_on g c =
     let r : Ran c.args.self.now 1 c.loop.at c.match-at.at = elim c.match-at.branch [
-      in-Owing w ↦ subst (λ (z : Going). Ran c.args.self.now 1 c.loop.at z) (sym w.at-is) w.climb.ensures
+      | in-Owing w ↦ subst (λ (z : Going). Ran c.args.self.now 1 c.loop.at z) (sym w.at-is) w.climb.ensures
       | in-Due w ↦ subst (λ (z : Going). Ran c.args.self.now 1 c.loop.at z) (sym w.at-is) w.advance.ensures
     ] in
     ran_over (went_then _ _ r.used _ _ _ c.loop.invariant.0 r.went) (let a = c.loop-test.true in let b = r.few in omega arith) c.goes_on.ensures c.if-not-goes_on.true
@@ -17,7 +17,7 @@ returns-then-not-goes_on g c =
 pub loop-preserved : goal.loop-preserved
 loop-preserved g c =
     let r : Ran c.args.self.now 1 c.loop.at c.match-at.at = elim c.match-at.branch [
-      in-Owing w ↦ subst (λ (z : Going). Ran c.args.self.now 1 c.loop.at z) (sym w.at-is) w.climb.ensures
+      | in-Owing w ↦ subst (λ (z : Going). Ran c.args.self.now 1 c.loop.at z) (sym w.at-is) w.climb.ensures
       | in-Due w ↦ subst (λ (z : Going). Ran c.args.self.now 1 c.loop.at z) (sym w.at-is) w.advance.ensures
     ] in
     let on = sym c.goes_on.ensures ∙ c.if-not-goes_on.false in
