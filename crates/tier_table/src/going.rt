@@ -225,7 +225,8 @@ impl Tiers {
         2
     }
 
-    /// The same from its own step on, with a straight way where that is its last, or the advance is.
+    /// Takes the steps of an arrival or a departure from its own step on, with a straight way where that step, or the
+    /// advance behind it, is the last.
     #[inline(always)]
     pub(crate) fn go_straight<F: Fn(u32, u32) -> bool>(
         &self,
