@@ -8,6 +8,8 @@ mod barriers;
 #[cfg(test)]
 mod landing;
 #[cfg(test)]
+mod rounds;
+#[cfg(test)]
 mod tables;
 #[cfg(test)]
 mod trees;
