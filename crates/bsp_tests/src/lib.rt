@@ -1,15 +1,11 @@
-//! Tests that need Rust: devices that fail, fronts of a text, help, the makers of words and shapes, and phasers beside
-//! the plain flat phaser. What a row can say stands in `examples/rows.txt`.
+//! Tests that need Rust: help, the makers of words and shapes, and phasers beside the plain flat phaser. What a row can
+//! say stands in `examples/rows.txt`.
 #![tactic(auto)]
 
-#[cfg(test)]
-mod devices;
 #[cfg(test)]
 mod help;
 #[cfg(test)]
 mod interleaved;
-#[cfg(test)]
-mod jobs;
 #[cfg(test)]
 mod parts;
 #[cfg(test)]
@@ -20,22 +16,8 @@ mod runs {
     use bsp_cli::run;
     use phase_records::{Reader, Writer};
     use std::alloc::Global;
-    use std::io::Read;
     use std::sync::Wait;
     use std::thread::Threads;
-
-    /// A job of two tasks that swap two cells.
-    pub const SWAP: &str = "bsp 1
-array a 2 10 20
-body swap
-let other = 1 - arg
-put a[arg] = a[other]
-sync
-print a[arg]
-end
-start swap 0
-start swap 1
-";
 
     /// What a run of the program left.
     #[derive(Drop)]
@@ -45,16 +27,16 @@ start swap 1
         pub errors: Vec<u8>,
     }
 
-    /// Runs the program on what a reader gives.
-    pub fn run_on<T: Threads + Wait + Sync, R: Read + Drop>(
+    /// Runs the program on a text.
+    pub fn run_text<T: Threads + Wait + Sync>(
         rt: &T,
         alloc: Global,
         words: &[&str],
-        input: R,
+        text: &str,
     ) -> Ran {
         let mut out = Vec::new(alloc);
         let mut errors = Vec::new(alloc);
-        let mut reader = Reader::new(input);
+        let mut reader = Reader::new(text.as_bytes());
         let mut writer = Writer::new(&mut out);
         let mut error_writer = Writer::new(&mut errors);
         let status = run(
@@ -70,15 +52,5 @@ start swap 1
             out,
             errors,
         }
-    }
-
-    /// Runs the program on a text.
-    pub fn run_text<T: Threads + Wait + Sync>(
-        rt: &T,
-        alloc: Global,
-        words: &[&str],
-        text: &str,
-    ) -> Ran {
-        run_on(rt, alloc, words, text.as_bytes())
     }
 }

@@ -1,5 +1,5 @@
 //! Devices that give or take little, and that fail.
-use crate::runs::{SWAP, run_on, run_text};
+use crate::runs::{SWAP, run_on, run_text, texts};
 use bsp_cli::run;
 use phase_records::{Reader, Writer};
 use std::alloc::Global;
@@ -9,8 +9,6 @@ use std::process::Abort;
 use std::sync::Wait;
 use std::test::Fail;
 use std::thread::Threads;
-
-const TRACE: &str = "phaser 2\narrive\narrive\nshow\nbulk -1\nawait 1\n";
 
 // Gives a byte a read, and fails once so many have been given.
 #[derive(Drop)]
@@ -93,7 +91,7 @@ fn reads_fail<R: Abort + Threads + Wait + Sync>(rt: &R, alloc: Global, words: &[
 
 #[test]
 fn a_reader_that_fails_leaves_no_output(rt: HostRuntime) -> Result<(), Fail> {
-    for (word, text) in [("trace", TRACE), ("check", SWAP), ("run", SWAP)] {
+    for (word, text) in texts() {
         reads_fail(&rt, rt.alloc(), &["bsp", word], text);
     }
     Ok(())
@@ -135,7 +133,7 @@ fn writes_fail<R: Abort + Threads + Wait + Sync>(
 
 #[test]
 fn a_writer_that_fails_has_the_first_bytes(rt: HostRuntime) -> Result<(), Fail> {
-    for (word, text) in [("trace", TRACE), ("check", SWAP), ("run", SWAP)] {
+    for (word, text) in texts() {
         writes_fail(&rt, rt.alloc(), &["bsp", word], text, true);
         writes_fail(&rt, rt.alloc(), &["bsp", word], text, false);
     }
@@ -229,18 +227,28 @@ impl Read for Stumbling<'_> {
     }
 }
 
+// Runs the program on readers that fail at one read of a text each, and work behind it.
+fn reads_fail_once<R: Abort + Threads + Wait + Sync>(
+    rt: &R,
+    alloc: Global,
+    word: &str,
+    text: &str,
+) {
+    for before in 0..text.len() + 1 {
+        let input = Stumbling {
+            rest: text.as_bytes(),
+            before,
+        };
+        let left = run_on(rt, alloc, &["bsp", word], input);
+        assert_eq!(rt; left.status, 8, "{before}");
+        assert!(rt; left.out.is_empty(), "{before}");
+    }
+}
+
 #[test]
 fn a_reader_that_fails_once_has_failed(rt: HostRuntime) -> Result<(), Fail> {
-    for (word, text) in [("trace", TRACE), ("check", SWAP), ("run", SWAP)] {
-        for before in 0..text.len() + 1 {
-            let input = Stumbling {
-                rest: text.as_bytes(),
-                before,
-            };
-            let left = run_on(&rt, rt.alloc(), &["bsp", word], input);
-            assert_eq!(rt; left.status, 8, "{before}");
-            assert!(rt; left.out.is_empty(), "{before}");
-        }
+    for (word, text) in texts() {
+        reads_fail_once(&rt, rt.alloc(), word, text);
     }
     Ok(())
 }
@@ -273,7 +281,7 @@ impl Write for Skipping<'_> {
 
 #[test]
 fn a_writer_that_fails_once_has_failed(rt: HostRuntime) -> Result<(), Fail> {
-    for (word, text) in [("trace", TRACE), ("check", SWAP), ("run", SWAP)] {
+    for (word, text) in texts() {
         let whole = run_text(&rt, rt.alloc(), &["bsp", word], text);
         for before in 0..whole.out.len() {
             let mut taken = Vec::new(rt.alloc());

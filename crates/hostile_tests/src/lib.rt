@@ -1,0 +1,10 @@
+//! Hostile use of the program: devices that give or take little or fail, at each byte, once or always, and texts that are
+//! cut at each byte. What a row of `examples/rows.txt` can say stands there.
+#![tactic(auto)]
+
+#[cfg(test)]
+mod devices;
+#[cfg(test)]
+mod fronts;
+#[cfg(test)]
+mod runs;

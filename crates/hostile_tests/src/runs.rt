@@ -1,0 +1,129 @@
+//! Texts, and runs of the program on them.
+use bsp_cli::run;
+use phase_records::{Reader, Writer};
+use std::alloc::Global;
+use std::io::Read;
+use std::sync::Wait;
+use std::thread::Threads;
+
+// Calls of a single phaser.
+const PHASER: &str = "phaser 2\narrive\narrive\nshow\nbulk -1\nawait 1\n";
+
+// An arrival in flight in a tree, while another token joins.
+const IN_FLIGHT: &str = "tree 2
+token
+token
+token
+do 0 join 1 1
+do 1 join 2 1
+do 1 arrive
+begin 0 arrive
+go 0
+go 0
+do 2 join 0 1
+run 0
+show 0
+do 2 arrive
+show 0
+";
+
+// A trip of a barrier, a caller that leaves early, a reset and a trip.
+const BARRIER: &str = "barrier 3
+await 0
+await 1
+await 2
+await 0
+await 1
+abandon 1
+await 2
+reset
+await 0
+await 1
+await 2
+show
+";
+
+/// A job of two tasks that swap two cells.
+pub(crate) const SWAP: &str = "bsp 1
+array a 2 10 20
+body swap
+let other = 1 - arg
+put a[arg] = a[other]
+sync
+print a[arg]
+end
+start swap 0
+start swap 1
+";
+
+// A job of a task that spawns eight.
+const SPAWNS: &str = "bsp 1
+body p
+let i = 0
+while i < 8
+spawn c i
+let i = i + 1
+end
+sync
+end
+body c
+end
+start p 0
+";
+
+/// Texts that each subcommand takes, behind its name.
+pub(crate) fn texts() -> [(&'static str, &'static str); 6] {
+    [
+        ("trace", PHASER),
+        ("trace", IN_FLIGHT),
+        ("trace", BARRIER),
+        ("check", SWAP),
+        ("run", SWAP),
+        ("run", SPAWNS),
+    ]
+}
+
+/// What a run of the program left.
+#[derive(Drop)]
+pub(crate) struct Ran {
+    pub(crate) status: u8,
+    pub(crate) out: Vec<u8>,
+    pub(crate) errors: Vec<u8>,
+}
+
+/// Runs the program on what a reader gives.
+pub(crate) fn run_on<T: Threads + Wait + Sync, R: Read + Drop>(
+    rt: &T,
+    alloc: Global,
+    words: &[&str],
+    input: R,
+) -> Ran {
+    let mut out = Vec::new(alloc);
+    let mut errors = Vec::new(alloc);
+    let mut reader = Reader::new(input);
+    let mut writer = Writer::new(&mut out);
+    let mut error_writer = Writer::new(&mut errors);
+    let status = run(
+        rt,
+        alloc,
+        words,
+        &mut reader,
+        &mut writer,
+        &mut error_writer,
+    );
+    Ran {
+        status,
+        out,
+        errors,
+    }
+}
+
+/// Runs the program on a text.
+pub(crate) fn run_text<T: Threads + Wait + Sync>(
+    rt: &T,
+    alloc: Global,
+    words: &[&str],
+    text: &str,
+) -> Ran {
+    run_on(rt, alloc, words, text.as_bytes())
+}

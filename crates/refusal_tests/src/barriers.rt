@@ -1,0 +1,63 @@
+//! Callers who come to a barrier, and to a gate.
+ghost use Rattle.std.specs.Prelude.{◌≡◌};
+ghost use Rattle.advance_rule.specs.Action.{AnswersAction};
+
+use advance_rule::StoredAction;
+use cyclic_gate::{Awaited, BarrierCore, BarrierFault, CyclicGate, GateFault};
+use std::process::Abort;
+use std::sync::Wait;
+use std::test::Fail;
+
+// A caller comes while others wait, and comes again where there was no memory.
+fn comes<F: Fn(u64) -> bool>(rt: &impl Abort, core: &mut BarrierCore<F>, caller: u32)
+    requires rule { AnswersAction (F.pre core.old.action.closure) (F.post core.old.action.closure) core.old.action.plan }
+    ensures rule { core.new.action ≡ core.old.action }
+{
+    let (waiting, generation) = (core.waiting(), core.generation());
+    let mut awaited = core.await_step(caller);
+    if matches!(awaited, Err(BarrierFault::Memory)) {
+        assert_eq!(rt; core.waiting(), waiting);
+        assert_eq!(rt; core.generation(), generation);
+        assert!(rt; !core.is_broken());
+        awaited = core.await_step(caller);
+    }
+    match awaited {
+        Ok(Awaited::Waits(_)) => assert_eq!(rt; core.generation(), generation),
+        Ok(Awaited::Tripped(all)) => assert_eq!(rt; all.len(), 3),
+        _ => panic!(rt; "neither waits nor trips"),
+    }
+}
+
+#[test]
+fn callers_come_to_a_barrier(rt: HostRuntime) -> Result<(), Fail> {
+    let action = StoredAction::new(|_generation: u64| false, None);
+    let mut core = BarrierCore::new(rt.alloc(), 3, action)?;
+    for caller in 0..9 {
+        comes(&rt, &mut core, caller);
+    }
+    assert_eq!(rt; core.generation(), 3);
+    assert_eq!(rt; core.waiting(), 0);
+    Ok(())
+}
+
+// The one caller of a gate comes, and again where there was no memory.
+fn turns<R: Wait + Abort, F: Fn(u64) -> bool>(rt: &R, gate: &CyclicGate<F>)
+    requires { AnswersAction (F.pre gate.now.action.closure) (F.post gate.now.action.closure) gate.now.action.plan }
+{
+    let mut turn = gate.await_turn(rt, 0);
+    if turn == Err(GateFault::Memory) {
+        assert!(rt; matches!(gate.abandon(rt, 0), Err(BarrierFault::NotWaiting)));
+        turn = gate.await_turn(rt, 0);
+    }
+    assert!(rt; turn == Ok(0));
+}
+
+#[test]
+fn a_caller_comes_to_a_gate(rt: HostRuntime) -> Result<(), Fail> {
+    let action = StoredAction::new(|_generation: u64| false, None);
+    let gate = CyclicGate::new(rt.alloc(), 1, action)?;
+    for _ in 0..9 {
+        turns(&rt, &gate);
+    }
+    Ok(())
+}

@@ -1,0 +1,87 @@
+//! Puts that land.
+use smallvec::SmallVec;
+use std::alloc::{AllocError, Global};
+use std::process::Abort;
+use std::test::Fail;
+use superstep_memory::arrays::{Arrays, Put, PutLog};
+use superstep_memory::landing::{LandFault, land};
+use superstep_memory::path::Path;
+use superstep_memory::runs::{Run, land_runs};
+
+// An array of the cells 1 2 3.
+fn three_cells(alloc: Global) -> Result<Arrays, AllocError> {
+    let mut arrays = Arrays::new(alloc);
+    let cells = Vec::from_slice(alloc, &[1, 2, 3])?;
+    let _added = arrays.add(String::from_str(alloc, "a")?, cells)?;
+    Ok(arrays)
+}
+
+// The cells of this array.
+fn cells_of(arrays: &Arrays) -> [Option<i64>; 3] {
+    [arrays.cell(0, 0), arrays.cell(0, 1), arrays.cell(0, 2)]
+}
+
+// What the task of this path has put: a cell and a value each.
+fn entry(alloc: Global, path: &[u16], puts: &[(u32, i64)]) -> Result<(Path, PutLog), AllocError> {
+    let path = SmallVec::from_slice(alloc, path)?;
+    let mut log = Vec::new(alloc);
+    for (index, value) in puts {
+        log.push(Put {
+            array: 0,
+            index: *index,
+            value: *value,
+        })?;
+    }
+    Ok((path, log))
+}
+
+// What three tasks have put: one of them to the first cell alone, the others to two cells each.
+fn entries(alloc: Global) -> Result<Run, AllocError> {
+    let mut entries = Vec::new(alloc);
+    entries.push(entry(alloc, &[0], &[(0, 5), (2, 6), (0, 7)])?)?;
+    entries.push(entry(alloc, &[0, 3], &[(2, 8), (1, 4)])?)?;
+    entries.push(entry(alloc, &[1], &[(0, 9)])?)?;
+    Ok(entries)
+}
+
+// What stood there before.
+const BEFORE: [Option<i64>; 3] = [Some(1), Some(2), Some(3)];
+
+// What these puts leave.
+const AFTER: [Option<i64>; 3] = [Some(9), Some(4), Some(8)];
+
+// Looks at what a call left that found no memory.
+fn is_as_it_was(rt: &impl Abort, arrays: &Arrays, fault: LandFault) {
+    assert!(rt; matches!(fault, LandFault::Memory(_)));
+    assert_eq!(rt; cells_of(arrays), BEFORE);
+}
+
+#[test]
+fn logs_land(rt: HostRuntime) -> Result<(), Fail> {
+    let alloc = rt.alloc();
+    let mut arrays = three_cells(alloc)?;
+    let entries = entries(alloc)?;
+    if let Err(fault) = land(alloc, &mut arrays, &entries) {
+        is_as_it_was(&rt, &arrays, fault);
+        assert!(rt; land(alloc, &mut arrays, &entries).is_ok());
+    }
+    assert_eq!(rt; cells_of(&arrays), AFTER);
+    Ok(())
+}
+
+#[test]
+fn runs_of_logs_land(rt: HostRuntime) -> Result<(), Fail> {
+    let alloc = rt.alloc();
+    let mut arrays = three_cells(alloc)?;
+    let mut runs = Vec::new(alloc);
+    let mut last = Vec::new(alloc);
+    last.push(entry(alloc, &[0, 2], &[(2, 0)])?)?;
+    runs.push(entries(alloc)?)?;
+    runs.push(last)?;
+    if let Err(fault) = land_runs(alloc, &mut arrays, &runs) {
+        is_as_it_was(&rt, &arrays, fault);
+        assert!(rt; land_runs(alloc, &mut arrays, &runs).is_ok());
+    }
+    assert_eq!(rt; cells_of(&arrays), AFTER);
+    Ok(())
+}
