@@ -1,9 +1,10 @@
-//! Devices whose failures are counted, and texts read and written whole.
+//! Devices whose calls and failures are counted, and texts read and written whole.
 ghost use Rattle.std.specs.Prelude.{◌≡◌, ℕ, ◌+◌, ◌≤◌, ◌<◌, List, Option, length, IfOk, IfSome, IsErrOf, OnOk, is_err};
 ghost use Rattle.std.specs.Io.KnownBytes.{ReadConsumes, Appends};
 ghost use Rattle.phase_records.specs.Device.{CountsFailure, TakesSome, AppendsBeginning, ReadCause, BlamesReader};
 
-use crate::failures::Failures;
+use crate::asked::Asked;
+use crate::count::Count;
 use std::alloc::Global;
 use std::io::{Read, Write};
 
@@ -11,58 +12,69 @@ use std::io::{Read, Write};
 #[derive(Clone, Copy, Debug, PartialEq, Eq)]
 pub struct DeviceFailed;
 
-/// A reader that counts its failures.
+/// A reader that counts how often it is asked and fails.
 pub trait CountedRead {
     // the bytes that reads will give from here on, where they are known
     ghost remaining: { Self → Option (List ℕ) };
 
+    // how often the device was asked
+    ghost asks: { Self → ℕ };
+
     // how often the device has failed
     ghost failures: { Self → ℕ };
 
-    /// Reads some bytes into the buffer; none only at the end, or where the buffer has no room.
+    /// Reads some bytes into the buffer; none only at the end, or where the buffer has no room. The device is asked once.
     fn read_some(&mut self, buffer: &mut [u8]) -> Result<usize, DeviceFailed>
         ensures bound { IfOk result (λ n. n ≤ length buffer.new) }
         ensures bytes { ReadConsumes (remaining self.old) (remaining self.new) result buffer.new }
+        ensures asks { asks self.new ≡ asks self.old + 1 }
         ensures failures { CountsFailure (failures self.old) (failures self.new) result };
 }
 
-/// A writer that counts its failures.
+/// A writer that counts how often it is asked and fails.
 pub trait CountedWrite {
     // the bytes that the writer holds, where they are known
     ghost contents: { Self → Option (List ℕ) };
 
+    // how often the device was asked
+    ghost asks: { Self → ℕ };
+
     // how often the device has failed
     ghost failures: { Self → ℕ };
 
-    /// Writes some of the bytes from their front, and says how many.
+    /// Writes some of the bytes from their front, and says how many. The device is asked once.
     fn write_some(&mut self, bytes: &[u8]) -> Result<usize, DeviceFailed>
         requires { 0 < length bytes.now }
         ensures bytes { TakesSome (contents self.old) (contents self.new) result bytes.now }
+        ensures asks { asks self.new ≡ asks self.old + 1 }
         ensures failures { CountsFailure (failures self.old) (failures self.new) result };
 }
 
-/// Any reader, with a count of its failures.
+/// Any reader, with counts of its calls and its failures.
 #[derive(Drop)]
 pub struct Reader<R: Read> {
-    inner: R,
-    failures: Failures,
+    inner: Asked<R>,
+    failures: Count,
 }
 
 impl<R: Read> Reader<R> {
-    /// This reader, which has not failed.
+    /// This reader, which was not asked and has not failed.
     pub fn new(inner: R) -> Self
-        ensures inner { result.inner ≡ inner }
+        ensures inner { result.inner.device ≡ inner }
+        ensures asks { result.inner.asks.count ≡ 0 }
         ensures failures { result.failures.count ≡ 0 }
     {
         Reader {
-            inner,
-            failures: Failures::new(),
+            inner: Asked::new(inner),
+            failures: Count::new(),
         }
     }
 }
 
 impl<R: Read> CountedRead for Reader<R> {
-    ghost remaining = { λ r. R.remaining r.inner };
+    ghost remaining = { λ r. R.remaining r.inner.device };
+
+    ghost asks = { λ r. r.inner.asks.count };
 
     ghost failures = { λ r. r.failures.count };
 
@@ -72,28 +84,31 @@ impl<R: Read> CountedRead for Reader<R> {
     }
 }
 
-/// Any writer, with a count of its failures.
+/// Any writer, with counts of its calls and its failures.
 #[derive(Drop)]
 pub struct Writer<W: Write> {
-    inner: W,
-    failures: Failures,
+    inner: Asked<W>,
+    failures: Count,
 }
 
 impl<W: Write> Writer<W> {
-    /// This writer, which has not failed.
+    /// This writer, which was not asked and has not failed.
     pub fn new(inner: W) -> Self
-        ensures inner { result.inner ≡ inner }
+        ensures inner { result.inner.device ≡ inner }
+        ensures asks { result.inner.asks.count ≡ 0 }
         ensures failures { result.failures.count ≡ 0 }
     {
         Writer {
-            inner,
-            failures: Failures::new(),
+            inner: Asked::new(inner),
+            failures: Count::new(),
         }
     }
 }
 
 impl<W: Write> CountedWrite for Writer<W> {
-    ghost contents = { λ w. W.contents w.inner };
+    ghost contents = { λ w. W.contents w.inner.device };
+
+    ghost asks = { λ w. w.inner.asks.count };
 
     ghost failures = { λ w. w.failures.count };
 
@@ -120,6 +135,7 @@ fn without_memory<R: CountedRead>(reader: &mut R, room: usize) -> ReadFault
     requires { room ≤ MOST_BYTES }
     ensures too_long { result ≡ ReadFault.TooLong → IfSome (R.remaining reader.old) (λ bytes. room < length bytes) }
     ensures memory { result ≡ ReadFault.Memory → IfSome (R.remaining reader.old) (λ bytes. length bytes ≤ room) }
+    ensures asks { R.asks reader.new ≤ R.asks reader.old + room + 1 }
     ensures failures { BlamesReader (R.failures reader.old) (R.failures reader.new) result }
 {
     let mut buffer = [0u8; 8192];
@@ -147,6 +163,7 @@ pub fn read_all<R: CountedRead>(alloc: Global, reader: &mut R) -> Result<Vec<u8>
     ensures short { IfOk result (λ text. length text.items ≤ MOST_BYTES) }
     ensures too_long { IsErrOf result ReadFault.TooLong → IfSome (R.remaining reader.old) (λ bytes. MOST_BYTES < length bytes) }
     ensures memory { IsErrOf result ReadFault.Memory → IfSome (R.remaining reader.old) (λ bytes. length bytes ≤ MOST_BYTES) }
+    ensures asks { R.asks reader.new ≤ R.asks reader.old + MOST_BYTES + 1 }
     ensures failures { ReadCause (R.failures reader.old) (R.failures reader.new) result }
 {
     let mut text = Vec::new(alloc);
@@ -170,11 +187,12 @@ pub fn read_all<R: CountedRead>(alloc: Global, reader: &mut R) -> Result<Vec<u8>
     Err(ReadFault::TooLong)
 }
 
-/// Writes all the bytes.
+/// Writes all the bytes, by at most as many calls as there are bytes.
 #[tactic(auto, using(crate::proofs::PassedBytes::passed_steps))]
 pub fn write_all<W: CountedWrite>(writer: &mut W, bytes: &[u8]) -> Result<(), DeviceFailed>
     ensures ok { OnOk result (Appends (W.contents writer.old) (W.contents writer.new) bytes.now) }
     ensures err { AppendsBeginning (W.contents writer.old) (W.contents writer.new) bytes.now }
+    ensures asks { W.asks writer.new ≤ W.asks writer.old + length bytes.now }
     ensures failures { CountsFailure (W.failures writer.old) (W.failures writer.new) result }
 {
     let mut rest = bytes;
