@@ -23,3 +23,4 @@ pub mod Once
 pub mod Waiting
 pub mod Driven
 pub mod Sixteen
+pub mod Worked

@@ -12,3 +12,4 @@ pub mod Tokens
 pub mod Ended
 pub mod Waits
 pub mod Driven
+pub mod Worked

@@ -6,6 +6,7 @@ ghost use Rattle.tier_answers.specs.Told.{AnswersTell};
 ghost use Rattle.tier_answers.specs.Driven.{RunsAnswerAsTheFlatPhaser, NewTreesAdvanceWhenAllArrived};
 ghost use Rattle.tier_answers.specs.Once.{CallsCountOnce, JoinsSeatWhereAsked, RefusalsAreNoted};
 ghost use Rattle.tier_answers.specs.Count.{CallsAreShort, SixteenStepsAreEnough};
+ghost use Rattle.tier_answers.specs.Worked.{EachAnswerIsGiven};
 
 /// What a run answers to a step of a token is the answer of the moment that the step is.
 pub fn moments_are_answers()
@@ -62,4 +63,10 @@ pub fn calls_are_short()
 /// Wherever a call stands, 16 steps of its token alone are enough for its answer.
 pub fn sixteen_steps_are_enough()
     ensures { SixteenStepsAreEnough }
+{}
+
+/// On a new tree there is a run in which each call is made and each answer given: what these laws ask for is
+/// met, and none of them is about nothing.
+pub fn each_answer_is_given()
+    ensures { EachAnswerIsGiven }
 {}
