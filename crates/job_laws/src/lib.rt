@@ -8,6 +8,7 @@ ghost use Rattle.job_laws.specs.Reports.{
   RecordsTellSupersteps,
   FaultsTellTheFirst,
 };
+ghost use Rattle.job_laws.specs.Worked.{JobsAreWorkedOut};
 
 /// The records of a job are those of phases 0, 1, 2, .., one for each superstep taken, and its prints stand by superstep.
 pub fn reports_are_by_superstep()
@@ -32,4 +33,9 @@ pub fn records_tell_supersteps()
 /// A fault that ends a job is that of the first faulting live task, with its code and path; or over 4096 tasks would live on.
 pub fn faults_tell_the_first()
     ensures { FaultsTellTheFirst }
+{}
+
+/// What six jobs leave is written down and not said by a rule: a swap, a conflict in both orders, a spawn, a fault, and a limit.
+pub fn jobs_are_worked_out()
+    ensures { JobsAreWorkedOut }
 {}
