@@ -14,3 +14,4 @@ pub mod Few
 pub mod Claiming
 pub mod Spawning
 pub mod Following
+pub mod Worked

@@ -2,6 +2,7 @@
 ghost use Rattle.std.specs.Prelude.{◌≤◌};
 ghost use Rattle.step_core.specs.Program.{program_of};
 ghost use Rattle.schedule_laws.specs.Laws.{IsDriven};
+ghost use Rattle.schedule_laws.specs.Worked.{SchedulesAreWorkedOut};
 
 use task_lang::job::Job;
 use tier_shape::Shape;
@@ -15,3 +16,9 @@ pub fn jobs_are_driven(job: &Job, shape: &Shape, limit: u32)
     let _bodies = job.bodies();
     let _tiers = shape.count();
 }
+
+/// Two schedules, by one worker on one tier and by two workers on three, with the answer of each step written down: such
+/// schedules exist, and none of these laws is about nothing.
+pub fn schedules_are_worked_out()
+    ensures { SchedulesAreWorkedOut }
+{}
