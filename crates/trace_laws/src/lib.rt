@@ -5,6 +5,7 @@ ghost use Rattle.trace_laws.specs.Advances.{AdvancesComeFirst};
 ghost use Rattle.trace_laws.specs.Enough.{RunsReachTheirAnswer, CallsDoneReachTheirAnswer};
 ghost use Rattle.trace_laws.specs.Heads.{HeadsAreSpelled};
 ghost use Rattle.trace_laws.specs.TreeAdvances.{AdvancesOfTreesComeFirst};
+ghost use Rattle.trace_laws.specs.Worked.{TracesAreWorkedOut};
 
 /// `run` goes on to its call's answer: more steps would print nothing more, and leave the same tree.
 pub fn runs_reach_their_answer()
@@ -32,4 +33,9 @@ pub fn advances_come_first()
 /// then `done` in that phase; one that doesn't prints its answer alone.
 pub fn advances_of_trees_come_first()
     ensures { AdvancesOfTreesComeFirst }
+{}
+
+/// What three traces print, one of a phaser, one of a tree and one of a barrier, is written down and not said by a rule.
+pub fn traces_are_worked_out()
+    ensures { TracesAreWorkedOut }
 {}
