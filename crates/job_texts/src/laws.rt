@@ -7,6 +7,7 @@ ghost use Rattle.job_texts.specs.Laws.{
   CanonicalTextsAreRead,
   WritingTwiceIsWritingOnce,
 };
+ghost use Rattle.job_texts.specs.Worked.{TextsAreWorkedOut};
 
 /// A text of a job, which is short, has allowed bytes only, and whose lines that aren't skipped are the job's as they
 /// are written, is read as that job.
@@ -37,4 +38,10 @@ pub fn canonical_texts_are_read()
 /// What the canonical text of a read job is read as is that same job, and so has that same canonical text.
 pub fn writing_twice_is_writing_once()
     ensures { WritingTwiceIsWritingOnce }
+{}
+
+/// What a text with each statement is read as, and written as again, is written down and not said by a rule; so are two
+/// refusals.
+pub fn texts_are_worked_out()
+    ensures { TextsAreWorkedOut }
 {}
