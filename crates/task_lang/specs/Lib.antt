@@ -4,6 +4,7 @@ pub mod FaultCode
 pub mod JobValue
 pub mod JobView
 pub mod Laws
+pub mod Operands
 pub mod Limits
 pub mod Meaning
 pub mod Mentions

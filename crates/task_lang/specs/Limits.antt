@@ -6,11 +6,11 @@ use Rattle.task_lang.specs.declared.code.Index.TheVariants as index
 use Rattle.task_lang.specs.declared.code.Operand.{Operand}
 use Rattle.task_lang.specs.declared.code.Operand.TheVariants as operand
 use Rattle.task_lang.specs.declared.code.Expr.{Expr}
-use Rattle.task_lang.specs.declared.code.Expr.TheVariants as expr
 use Rattle.task_lang.specs.declared.code.Action.{Action}
 use Rattle.task_lang.specs.declared.code.Action.TheVariants as action
 use Rattle.task_lang.specs.declared.code.Line.{Line}
 use Rattle.task_lang.specs.declared.code.Line.TheVariants as line
+use Rattle.task_lang.specs.Operands.{over_expr, over_action, over_line}
 
 -- each line but `else` and the ends is a statement
 abbrev pub is_statement : Line → Bool
@@ -45,26 +45,23 @@ module _ (arrays : ℕ) where
   is_operand (operand.Cell c) = nat_lt c.array arrays
 
   abbrev pub is_expr : Expr → Bool
-  is_expr (expr.One a) = is_operand a
-  is_expr (expr.Two a o b) = is_operand a && is_operand b
+  is_expr e = over_expr ◌&&◌ true is_operand e
 
 -- the arrays and bodies that these name are among so many
 module _ (arrays bodies : ℕ) where
+  abbrev pub has_body : Action → Bool
+  has_body (action.Let i e) = true
+  has_body (action.Put c e) = true
+  has_body (action.Print e) = true
+  has_body (action.Spawn b e) = nat_lt b bodies
+  has_body action.Sync = true
+  has_body action.Stop = true
+
   abbrev pub is_action : Action → Bool
-  is_action (action.Let i e) = is_expr arrays e
-  is_action (action.Put c e) = nat_lt c.array arrays && is_expr arrays e
-  is_action (action.Print e) = is_expr arrays e
-  is_action (action.Spawn b e) = nat_lt b bodies && is_expr arrays e
-  is_action action.Sync = true
-  is_action action.Stop = true
+  is_action a = has_body a && over_action ◌&&◌ true (is_operand arrays) a
 
   abbrev pub is_line : Line → Bool
-  is_line (line.Do a) = is_action a
-  is_line (line.If e n) = is_expr arrays e
-  is_line (line.Else n) = true
-  is_line line.EndIf = true
-  is_line (line.While e n) = is_expr arrays e
-  is_line (line.EndWhile e n) = is_expr arrays e
+  is_line l = over_line ◌&&◌ true (is_operand arrays) is_action (is_expr arrays) l
 
 -- the numbers of a line are of 64 signed bits
 abbrev pub fits_index : Index → Bool
@@ -78,22 +75,10 @@ fits_operand (operand.Plain i) = fits_index i
 fits_operand (operand.Cell c) = fits_index c.index
 
 abbrev pub fits_expr : Expr → Bool
-fits_expr (expr.One a) = fits_operand a
-fits_expr (expr.Two a o b) = fits_operand a && fits_operand b
+fits_expr e = over_expr ◌&&◌ true fits_operand e
 
 abbrev pub fits_action : Action → Bool
-fits_action (action.Let i e) = fits_expr e
-fits_action (action.Put c e) = fits_index c.index && fits_expr e
-fits_action (action.Print e) = fits_expr e
-fits_action (action.Spawn b e) = fits_expr e
-fits_action action.Sync = true
-fits_action action.Stop = true
+fits_action a = over_action ◌&&◌ true fits_operand a
 
--- the end of a loop says again what its first line does
 abbrev pub fits_line : Line → Bool
-fits_line (line.Do a) = fits_action a
-fits_line (line.If e n) = fits_expr e
-fits_line (line.Else n) = true
-fits_line line.EndIf = true
-fits_line (line.While e n) = fits_expr e
-fits_line (line.EndWhile e n) = true
+fits_line l = over_line ◌&&◌ true fits_operand fits_action (λ e. true) l

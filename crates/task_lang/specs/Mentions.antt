@@ -6,11 +6,10 @@ use Rattle.task_lang.specs.declared.code.Index.TheVariants as index
 use Rattle.task_lang.specs.declared.code.Operand.{Operand}
 use Rattle.task_lang.specs.declared.code.Operand.TheVariants as operand
 use Rattle.task_lang.specs.declared.code.Expr.{Expr}
-use Rattle.task_lang.specs.declared.code.Expr.TheVariants as expr
 use Rattle.task_lang.specs.declared.code.Action.{Action}
 use Rattle.task_lang.specs.declared.code.Action.TheVariants as action
 use Rattle.task_lang.specs.declared.code.Line.{Line}
-use Rattle.task_lang.specs.declared.code.Line.TheVariants as line
+use Rattle.task_lang.specs.Operands.{over_expr, over_action, over_line}
 
 abbrev pub in_index : Index → List ℕ
 in_index (index.Number z) = []
@@ -23,25 +22,23 @@ in_operand (operand.Plain i) = in_index i
 in_operand (operand.Cell c) = in_index c.index
 
 abbrev pub in_expr : Expr → List ℕ
-in_expr (expr.One a) = in_operand a
-in_expr (expr.Two a o b) = in_operand a ++ in_operand b
+in_expr e = over_expr ◌++◌ [] in_operand e
+
+-- the local that an action sets
+abbrev pub set_by : Action → List ℕ
+set_by (action.Let i e) = i ∷ []
+set_by (action.Put c e) = []
+set_by (action.Print e) = []
+set_by (action.Spawn b e) = []
+set_by action.Sync = []
+set_by action.Stop = []
 
 abbrev pub in_action : Action → List ℕ
-in_action (action.Let i e) = (i ∷ []) ++ in_expr e
-in_action (action.Put c e) = in_index c.index ++ in_expr e
-in_action (action.Print e) = in_expr e
-in_action (action.Spawn b e) = in_expr e
-in_action action.Sync = []
-in_action action.Stop = []
+in_action a = set_by a ++ over_action ◌++◌ [] in_operand a
 
 -- the end of a loop mentions what its first line does, as the text doesn't say it again
 abbrev pub in_line : Line → List ℕ
-in_line (line.Do a) = in_action a
-in_line (line.If e n) = in_expr e
-in_line (line.Else n) = []
-in_line line.EndIf = []
-in_line (line.While e n) = in_expr e
-in_line (line.EndWhile e n) = []
+in_line l = over_line ◌++◌ [] in_operand in_action (λ e. []) l
 
 abbrev pub mentions : List Line → List ℕ
 mentions [] = []

@@ -1,5 +1,5 @@
 -- What the types of a body and of a job keep (own).
-use Rattle.std.specs.Prelude.{◌≡◌, ◌≤◌, ℕ, ℤ, Bool, ◌&&◌, nat_lt, nat_le, IsTrue, List, [], ◌∷◌, length, map, Some}
+use Rattle.std.specs.Prelude.{◌≡◌, ◌≤◌, ℕ, ℤ, Bool, ◌&&◌, nat_lt, nat_le, IsTrue, List, length, map, Some}
 use Rattle.std.specs.List.{list_all, AllByRecursion}
 use Rattle.text_lines.specs.Number.{fits_i64}
 use Rattle.task_lang.specs.BodyValue.{BodyValue}

@@ -1,4 +1,4 @@
-use Rattle.std.proofs.Common.{List, ℕ, ℤ, ap, sym, ◌∙◌}
+use Rattle.std.proofs.Common.{List, ℕ, ℤ, sym, ◌∙◌}
 use Rattle.std.specs.List.{list_all}
 use Rattle.text_lines.specs.Number.{fits_i64}
 use Rattle.task_lang.proofs.Alls.{all-next, all-not, all-none}
