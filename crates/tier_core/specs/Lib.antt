@@ -1,3 +1,4 @@
 pub mod Turn
 pub mod Machine
 pub mod Run
+pub mod CoreView

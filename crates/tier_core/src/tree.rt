@@ -27,13 +27,15 @@ pub struct Core {
 }
 
 impl Model for Core {
-    ghost use Rattle.tier_core.specs.Machine.{State, IsCore};
+    ghost use Rattle.tier_core.specs.Machine.{State};
 
     ghost Value = { State };
 
-    ghost view = { λ c. record { parents = c.shape; words = c.words.items; views = c.views.items; calls = c.calls.items; plan = c.plan } };
+    ghost use Rattle.tier_core.specs.CoreView.{core_of, IsCoreInside};
 
-    ghost invariant = { λ c. IsCore record { parents = c.shape; words = c.words.items; views = c.views.items; calls = c.calls.items; plan = c.plan } };
+    ghost view = { core_of };
+
+    ghost invariant = { IsCoreInside };
 }
 
 /// Whether a token may begin this call in a tree of so many tiers.

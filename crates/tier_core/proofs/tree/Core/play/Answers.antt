@@ -1,17 +1,10 @@
-use Rattle.tier_core.specs.Machine.{State}
+use Rattle.tier_core.specs.CoreView.{core_of}
 use Rattle.tier_core.proofs.Places.{read_runnable, written_core}
 use Rattle.tier_core.proofs.tree.Core.play.Goals as goal
 
 pub step_word-requires : goal.step_word-requires
 step_word-requires c =
-    let inside : State = record {
-      parents = c.self.inside.shape;
-      words = c.self.inside.words.items;
-      views = c.self.inside.views.items;
-      calls = c.self.inside.calls.items;
-      plan = c.self.inside.plan;
-    } in
-    read_runnable c.args.self.now inside c.args.token c.from-tier.result c.args.turn c.index-word.result.now c.index.result.now (record {
+    read_runnable c.args.self.now (core_of c.self.inside) c.args.token c.from-tier.result c.args.turn c.index-word.result.now c.index.result.now (record {
       same = c.self.view_is;
       core = c.self.invariant;
       known = c.requires.known;
@@ -23,14 +16,7 @@ step_word-requires c =
 
 pub step_view-requires : goal.step_view-requires
 step_view-requires c =
-    let inside : State = record {
-      parents = c.self.inside.shape;
-      words = c.self.inside.words.items;
-      views = c.self.inside.views.items;
-      calls = c.self.inside.calls.items;
-      plan = c.self.inside.plan;
-    } in
-    read_runnable c.args.self.now inside c.args.token c.from-tier.result c.args.turn c.index-word.result.now c.index.result.now (record {
+    read_runnable c.args.self.now (core_of c.self.inside) c.args.token c.from-tier.result c.args.turn c.index-word.result.now c.index.result.now (record {
       same = c.self.view_is;
       core = c.self.invariant;
       known = c.requires.known;
@@ -42,14 +28,7 @@ step_view-requires c =
 
 pub invariant_of-self : goal.invariant_of-self
 invariant_of-self c =
-    let inside : State = record {
-      parents = c.self.inside.shape;
-      words = c.self.inside.words.items;
-      views = c.self.inside.views.items;
-      calls = c.self.inside.calls.items;
-      plan = c.self.inside.plan;
-    } in
-    written_core c.args.self.now inside c.args.token c.from-tier.result c.above-parent.result c.args.turn c.index-word.result.now c.step_word.result
+    written_core c.args.self.now (core_of c.self.inside) c.args.token c.from-tier.result c.above-parent.result c.args.turn c.index-word.result.now c.step_word.result
     c.index.result.now c.step_view.result (record {
       same = c.self.view_is;
       core = c.self.invariant;
