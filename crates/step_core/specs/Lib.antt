@@ -12,3 +12,4 @@ pub mod Taking
 pub mod DeedValue
 pub mod InPlace
 pub mod Course
+pub mod RoundView

@@ -31,18 +31,15 @@ pub struct Round<'j> {
 }
 
 impl<'j> Model for Round<'j> {
-    ghost use Rattle.step_core.specs.RoundValue.{RoundValue, IsRound, whole};
-    ghost use Rattle.std.specs.Arc.{arc_value};
+    ghost use Rattle.step_core.specs.RoundValue.{RoundValue};
 
     ghost Value = { RoundValue };
 
-    ghost view = { λ r. whole r.job.now r.limit r.step (arc_value r.opening) r.live r.finished.items r.fault };
+    ghost use Rattle.step_core.specs.RoundView.{round_of, IsRoundInside};
 
-    ghost use Rattle.std.specs.Prelude.{◌≡◌};
-    ghost use Rattle.step_core.specs.Slots.{missing_in};
+    ghost view = { round_of };
 
-    ghost invariant = { λ r. IsRound (whole r.job.now r.limit r.step (arc_value r.opening) r.live r.finished.items r.fault)
-        × (r.missing ≡ missing_in r.live) };
+    ghost invariant = { IsRoundInside };
 }
 
 impl<'j> Round<'j> {

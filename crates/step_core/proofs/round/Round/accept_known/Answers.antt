@@ -1,15 +1,15 @@
 use Rattle.std.proofs.Common.{◌≡◌, ◌∙◌, ◌<◌, sym, ap, subst, arith, length, slice_get, List}
-use Rattle.std.specs.Arc.{arc_value}
 use Rattle.step_core.specs.SlotValue.{SlotValue}
 use Rattle.step_core.specs.Slots.{with_segment, missing_in}
-use Rattle.step_core.specs.RoundValue.{RoundValue, IsRound, status_in, whole, with_slots}
+use Rattle.step_core.specs.RoundView.{round_of}
+use Rattle.step_core.specs.RoundValue.{RoundValue, IsRound, status_in, with_slots}
 use Rattle.step_core.specs.Taking.{is_done, with_delivery}
 use Rattle.step_core.proofs.Rounds.{Meets, met_below, met_kept, met_fewer, is_double, is_first}
 use Rattle.step_core.proofs.round.Round.accept_known.Goals as goal
 
 pub is_done-requires : goal.is_done-requires
 is_done-requires c =
-    let r = (whole c.self.inside.job.now c.self.inside.limit c.self.inside.step (arc_value c.self.inside.opening) c.self.inside.live c.self.inside.finished.items c.self.inside.fault) in
+    let r = round_of c.self.inside in
     let m : Meets r c.args.delivery = record {
       round = c.self.invariant.0;
       run = ap status_in c.self.view_is ∙ c.requires.running;
@@ -21,7 +21,7 @@ is_done-requires c =
 
 pub returns-then-is_done-clause-refused : goal.returns-then-is_done-clause-refused
 returns-then-is_done-clause-refused c =
-    let r = (whole c.self.inside.job.now c.self.inside.limit c.self.inside.step (arc_value c.self.inside.opening) c.self.inside.live c.self.inside.finished.items c.self.inside.fault) in
+    let r = round_of c.self.inside in
     let m : Meets r c.args.delivery = record {
       round = c.self.invariant.0;
       run = ap status_in c.self.view_is ∙ c.requires.running;
@@ -35,7 +35,7 @@ returns-then-is_done-clause-refused c =
 
 pub put-requires : goal.put-requires
 put-requires c =
-    let r = (whole c.self.inside.job.now c.self.inside.limit c.self.inside.step (arc_value c.self.inside.opening) c.self.inside.live c.self.inside.finished.items c.self.inside.fault) in
+    let r = round_of c.self.inside in
     let m : Meets r c.args.delivery = record {
       round = c.self.invariant.0;
       run = ap status_in c.self.view_is ∙ c.requires.running;
@@ -47,7 +47,7 @@ put-requires c =
 
 pub invariant_of-self : goal.invariant_of-self
 invariant_of-self c =
-    let r = (whole c.self.inside.job.now c.self.inside.limit c.self.inside.step (arc_value c.self.inside.opening) c.self.inside.live c.self.inside.finished.items c.self.inside.fault) in
+    let r = round_of c.self.inside in
     let m : Meets r c.args.delivery = record {
       round = c.self.invariant.0;
       run = ap status_in c.self.view_is ∙ c.requires.running;
@@ -67,7 +67,7 @@ invariant_of-self c =
 
 pub overflow_sub-self : goal.overflow_sub-self
 overflow_sub-self c =
-    let r = (whole c.self.inside.job.now c.self.inside.limit c.self.inside.step (arc_value c.self.inside.opening) c.self.inside.live c.self.inside.finished.items c.self.inside.fault) in
+    let r = round_of c.self.inside in
     let m : Meets r c.args.delivery = record {
       round = c.self.invariant.0;
       run = ap status_in c.self.view_is ∙ c.requires.running;
@@ -82,7 +82,7 @@ overflow_sub-self c =
 
 pub returns-clause-taken : goal.returns-clause-taken
 returns-clause-taken c =
-    let r = (whole c.self.inside.job.now c.self.inside.limit c.self.inside.step (arc_value c.self.inside.opening) c.self.inside.live c.self.inside.finished.items c.self.inside.fault) in
+    let r = round_of c.self.inside in
     let m : Meets r c.args.delivery = record {
       round = c.self.invariant.0;
       run = ap status_in c.self.view_is ∙ c.requires.running;
@@ -96,7 +96,7 @@ returns-clause-taken c =
 
 pub returns-clause-added : goal.returns-clause-added
 returns-clause-added c =
-    let r = (whole c.self.inside.job.now c.self.inside.limit c.self.inside.step (arc_value c.self.inside.opening) c.self.inside.live c.self.inside.finished.items c.self.inside.fault) in
+    let r = round_of c.self.inside in
     let m : Meets r c.args.delivery = record {
       round = c.self.invariant.0;
       run = ap status_in c.self.view_is ∙ c.requires.running;

@@ -7,14 +7,14 @@ use Rattle.step_core.specs.Superstep.{first_fault}
 use Rattle.step_core.specs.SlotValue.{SlotValue}
 use Rattle.step_core.specs.Slots.{slots_of, delivered, missing_in}
 use Rattle.step_core.specs.SlotParts.{path_in, living_in, fresh_slot, AllSmall}
-use Rattle.step_core.specs.RoundValue.{whole}
+use Rattle.step_core.specs.RoundView.{round_of}
 use Rattle.step_core.proofs.Closed.{closes, faulted, ended_by_many, went_on, all_small, closed_now, ended_round, ended_now, found, many_outcome, few_outcome, next_count}
 use Rattle.step_core.proofs.Rounds.{all_missing}
 use Rattle.step_core.proofs.round.Round.close_round.Goals as goal
 
 pub end-requires : goal.end-requires
 end-requires c =
-    let r = (whole c.self.inside.job.now c.self.inside.limit c.self.inside.step (arc_value c.self.inside.opening) c.self.inside.live c.self.inside.finished.items c.self.inside.fault) in
+    let r = round_of c.self.inside in
     let ps = plans c.self.inside.job.now.bodies in
     let all = closes r _ c.self.invariant.0 c.self.view_is c.requires.running c.slots-slots.result c.slots-slots.ensures c.find_missing.result c.find_missing.ensures c.in_default.is in
     let some : first_fault (delivered (slots_of ps c.self.inside.live)) ≡ Some c.in-Some-find_fault.blame =
@@ -23,7 +23,7 @@ end-requires c =
 
 pub returns-in-Some-find_fault-clause-closed : goal.returns-in-Some-find_fault-clause-closed
 returns-in-Some-find_fault-clause-closed c =
-    let r = (whole c.self.inside.job.now c.self.inside.limit c.self.inside.step (arc_value c.self.inside.opening) c.self.inside.live c.self.inside.finished.items c.self.inside.fault) in
+    let r = round_of c.self.inside in
     let ps = plans c.self.inside.job.now.bodies in
     let all = closes r _ c.self.invariant.0 c.self.view_is c.requires.running c.slots-slots.result c.slots-slots.ensures c.find_missing.result c.find_missing.ensures c.in_default.is in
     let some : first_fault (delivered (slots_of ps c.self.inside.live)) ≡ Some c.in-Some-find_fault.blame =
@@ -32,7 +32,7 @@ returns-in-Some-find_fault-clause-closed c =
 
 pub end-requires-then-count-gt4096 : goal.end-requires-then-count-gt4096
 end-requires-then-count-gt4096 c =
-    let r = (whole c.self.inside.job.now c.self.inside.limit c.self.inside.step (arc_value c.self.inside.opening) c.self.inside.live c.self.inside.finished.items c.self.inside.fault) in
+    let r = round_of c.self.inside in
     let ps = plans c.self.inside.job.now.bodies in
     let all = closes r _ c.self.invariant.0 c.self.view_is c.requires.running c.slots-slots.result c.slots-slots.ensures c.find_missing.result c.find_missing.ensures c.in_default.is in
     let none : first_fault (delivered (slots_of ps c.self.inside.live)) ≡ None =
@@ -45,7 +45,7 @@ end-requires-then-count-gt4096 c =
 
 pub returns-then-count-gt4096-clause-closed : goal.returns-then-count-gt4096-clause-closed
 returns-then-count-gt4096-clause-closed c =
-    let r = (whole c.self.inside.job.now c.self.inside.limit c.self.inside.step (arc_value c.self.inside.opening) c.self.inside.live c.self.inside.finished.items c.self.inside.fault) in
+    let r = round_of c.self.inside in
     let ps = plans c.self.inside.job.now.bodies in
     let all = closes r _ c.self.invariant.0 c.self.view_is c.requires.running c.slots-slots.result c.slots-slots.ensures c.find_missing.result c.find_missing.ensures c.in_default.is in
     let none : first_fault (delivered (slots_of ps c.self.inside.live)) ≡ None =
@@ -59,7 +59,7 @@ returns-then-count-gt4096-clause-closed c =
 
 pub returns-then-count-gt4096-clause-outcome : goal.returns-then-count-gt4096-clause-outcome
 returns-then-count-gt4096-clause-outcome c =
-    let r = (whole c.self.inside.job.now c.self.inside.limit c.self.inside.step (arc_value c.self.inside.opening) c.self.inside.live c.self.inside.finished.items c.self.inside.fault) in
+    let r = round_of c.self.inside in
     let ps = plans c.self.inside.job.now.bodies in
     let all = closes r _ c.self.invariant.0 c.self.view_is c.requires.running c.slots-slots.result c.slots-slots.ensures c.find_missing.result c.find_missing.ensures c.in_default.is in
     let none : first_fault (delivered (slots_of ps c.self.inside.live)) ≡ None =
@@ -81,7 +81,7 @@ take_superstep-taken-requires-clause-small c =
 
 pub invariant_of-self-2 : goal.invariant_of-self-2
 invariant_of-self-2 c =
-    let r = (whole c.self.inside.job.now c.self.inside.limit c.self.inside.step (arc_value c.self.inside.opening) c.self.inside.live c.self.inside.finished.items c.self.inside.fault) in
+    let r = round_of c.self.inside in
     let ps = plans c.self.inside.job.now.bodies in
     let all = closes r _ c.self.invariant.0 c.self.view_is c.requires.running c.slots-slots.result c.slots-slots.ensures c.find_missing.result c.find_missing.ensures c.in_default.is in
     let none : first_fault (delivered (slots_of ps c.self.inside.live)) ≡ None =
@@ -102,7 +102,7 @@ invariant_of-self-2 c =
 
 pub returns-clause-closed : goal.returns-clause-closed
 returns-clause-closed c =
-    let r = (whole c.self.inside.job.now c.self.inside.limit c.self.inside.step (arc_value c.self.inside.opening) c.self.inside.live c.self.inside.finished.items c.self.inside.fault) in
+    let r = round_of c.self.inside in
     let ps = plans c.self.inside.job.now.bodies in
     let all = closes r _ c.self.invariant.0 c.self.view_is c.requires.running c.slots-slots.result c.slots-slots.ensures c.find_missing.result c.find_missing.ensures c.in_default.is in
     let none : first_fault (delivered (slots_of ps c.self.inside.live)) ≡ None =
@@ -121,7 +121,7 @@ returns-clause-closed c =
 
 pub returns-clause-outcome : goal.returns-clause-outcome
 returns-clause-outcome c =
-    let r = (whole c.self.inside.job.now c.self.inside.limit c.self.inside.step (arc_value c.self.inside.opening) c.self.inside.live c.self.inside.finished.items c.self.inside.fault) in
+    let r = round_of c.self.inside in
     let ps = plans c.self.inside.job.now.bodies in
     let all = closes r _ c.self.invariant.0 c.self.view_is c.requires.running c.slots-slots.result c.slots-slots.ensures c.find_missing.result c.find_missing.ensures c.in_default.is in
     let none : first_fault (delivered (slots_of ps c.self.inside.live)) ≡ None =
