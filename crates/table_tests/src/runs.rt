@@ -89,7 +89,7 @@ fn one_tier(rt: HostRuntime) {
     one_tier_fills(&rt, rt.alloc(), rule);
 }
 
-// A token begins to open a path, and is at its last tier but one.
+// A token begins to open a path, which holds another off, and goes on by two tries.
 fn a_path_is_begun<F: Fn(u32, u32) -> bool>(
     rt: &impl Abort,
     tree: &Tree<F>,
