@@ -21,6 +21,13 @@ struct Note {
     counted: u32,
 }
 
+// A token that has not begun.
+const BLANK: Note = Note {
+    call: None,
+    looked: 0,
+    counted: 0,
+};
+
 // What a token knows.
 fn view_of(core: &Core, token: usize) -> View {
     if token < core.tokens() {
@@ -45,8 +52,7 @@ fn call_of(view: View, leaf: u16, number: u8) -> Option<Call> {
 #[derive(Clone, Copy)]
 enum Choice {
     Begin(Call),
-    Go,
-    Finish,
+    Go { finish: bool },
 }
 
 // What a digit names: a call's begin, or the next step of the call that the token is in.
@@ -54,8 +60,9 @@ fn choice_of(core: &Core, note: &Note, token: usize, leaf: u16, number: u8) -> O
     match note.call {
         None => Some(Choice::Begin(call_of(view_of(core, token), leaf, number)?)),
         Some(_) if number > 0 => None,
-        Some(_) if core.must_advance(token) => Some(Choice::Finish),
-        Some(_) => Some(Choice::Go),
+        Some(_) => Some(Choice::Go {
+            finish: core.must_advance(token),
+        }),
     }
 }
 
@@ -119,18 +126,20 @@ fn unarrived(core: &Core, token: usize) -> u32 {
     }
 }
 
-// The flat phaser looks like the tree; once they have ended only phase and end are compared.
-fn looks_alike(rt: &impl Abort, core: &Core, flat: &FlatPhaser, path: &[u8]) -> Result<(), Fail> {
-    assert_eq!(rt; core.root().phase, flat.phase(), "{path:?}");
-    assert_eq!(rt; core.root().ended, flat.ended(), "{path:?}");
-    if flat.ended() {
-        return Ok(());
-    }
+// How many members both tokens have, and how many of them are unarrived.
+fn sums(core: &Core) -> (u32, u32) {
     let size = view_of(core, 0).size.saturating_add(view_of(core, 1).size);
-    assert_eq!(rt; size as usize, flat.registered(), "{path:?}");
-    let late = unarrived(core, 0).saturating_add(unarrived(core, 1));
-    assert_eq!(rt; late as usize, flat.unarrived(), "{path:?}");
-    Ok(())
+    (size, unarrived(core, 0).saturating_add(unarrived(core, 1)))
+}
+
+// Whether the flat phaser looks like the tree; once they have ended only phase and end are compared.
+fn is_alike(core: &Core, flat: &FlatPhaser) -> bool {
+    let root = core.root();
+    if root.phase != flat.phase() || root.ended != flat.ended() {
+        return false;
+    }
+    let (size, late) = sums(core);
+    root.ended || (size as usize == flat.registered() && late as usize == flat.unarrived())
 }
 
 // What an answer means: it tells the flat phaser as it was before the step, or at the steps that the
@@ -192,6 +201,41 @@ fn goes_on(
     Ok(())
 }
 
+// Takes the step that a digit names for a token, and says whether it names one.
+fn takes(
+    rt: &impl Abort,
+    alloc: Global,
+    core: &mut Core,
+    flat: &mut FlatPhaser,
+    note: &mut Note,
+    token: usize,
+    leaf: u16,
+    number: u8,
+) -> Result<bool, Fail> {
+    match choice_of(core, note, token, leaf, number) {
+        None => return Ok(false),
+        Some(Choice::Begin(call)) => {
+            assert!(rt; begins(core, token, call));
+            note.call = Some(call);
+            note.looked = flat.phase();
+        }
+        Some(Choice::Go { finish }) => goes_on(rt, alloc, core, flat, note, token, finish)?,
+    }
+    Ok(true)
+}
+
+// A tree with two tokens.
+fn with_two(alloc: Global, widths: &str) -> Result<Core, Fail> {
+    let plan = EndPlan {
+        when_empty: true,
+        at: None,
+    };
+    let mut core = Core::new(alloc, Shape::from_widths(alloc, widths)?, 0, plan)?;
+    core.add_token()?;
+    core.add_token()?;
+    Ok(core)
+}
+
 // Takes the steps that the digits name, and says which digit names none.
 fn follow(
     rt: &impl Abort,
@@ -200,38 +244,27 @@ fn follow(
     leaf: u16,
     path: &[u8],
 ) -> Result<Option<usize>, Fail> {
-    let plan = EndPlan {
-        when_empty: true,
-        at: None,
-    };
-    let mut core = Core::new(alloc, Shape::from_widths(alloc, widths)?, 0, plan)?;
-    core.add_token()?;
-    core.add_token()?;
+    let mut core = with_two(alloc, widths)?;
     let mut flat = FlatPhaser::new(alloc, 0);
-    let blank = Note {
-        call: None,
-        looked: 0,
-        counted: 0,
-    };
-    let mut notes = [blank, blank];
+    let mut notes = [BLANK, BLANK];
     for (place, digit) in path.iter().enumerate() {
         let token = usize::from(*digit / CALLS);
         let Some(note) = notes.get_mut(token) else {
             return Ok(Some(place));
         };
-        let Some(choice) = choice_of(&core, note, token, leaf, *digit % CALLS) else {
+        if !takes(
+            rt,
+            alloc,
+            &mut core,
+            &mut flat,
+            note,
+            token,
+            leaf,
+            *digit % CALLS,
+        )? {
             return Ok(Some(place));
-        };
-        match choice {
-            Choice::Begin(call) => {
-                assert!(rt; begins(&mut core, token, call), "{path:?}");
-                note.call = Some(call);
-                note.looked = flat.phase();
-            }
-            Choice::Go => goes_on(rt, alloc, &mut core, &mut flat, note, token, false)?,
-            Choice::Finish => goes_on(rt, alloc, &mut core, &mut flat, note, token, true)?,
         }
-        looks_alike(rt, &core, &flat, path)?;
+        assert!(rt; is_alike(&core, &flat), "{path:?}");
     }
     Ok(None)
 }

@@ -1,4 +1,9 @@
 //! The single phaser beside the plain flat phaser.
+
+ghost use Rattle.std.specs.Prelude.{◌≡◌};
+ghost use Rattle.advance_rule.specs.Stored.{Answers};
+ghost use Rattle.advance_rule.specs.Plan.{count_ends};
+
 use advance_rule::{CountPlan, StoredCount};
 use flat_phaser::{FlatPhaser, FlatStep};
 use phaser_one::{Call, OneFault, PhaserOne, Reply};
@@ -60,7 +65,54 @@ fn plain_reply(
     Ok(Reply::Number(shown))
 }
 
-// Makes the calls that the digits of a number name on both phasers, from so many parties.
+// Whether both phasers count the same.
+fn is_alike<F: Fn(u32, u32) -> bool>(one: &PhaserOne<F>, flat: &FlatPhaser) -> bool {
+    let sum = u64::from(one.arrived()) + u64::from(one.unarrived());
+    one.registered() as usize == flat.registered()
+        && one.unarrived() as usize == flat.unarrived()
+        && one.ended() == flat.ended()
+        && sum == u64::from(one.registered())
+}
+
+// Makes a call on both phasers.
+fn called<F: Fn(u32, u32) -> bool>(
+    rt: &impl Abort,
+    alloc: Global,
+    one: &mut PhaserOne<F>,
+    flat: &mut FlatPhaser,
+    plan: CountPlan,
+    call: Call,
+) -> Result<(), AllocError>
+    requires rule { Answers (F.pre one.old.rule.closure) (F.post one.old.rule.closure) (count_ends one.old.rule.plan) }
+    ensures rule { one.new.rule ≡ one.old.rule }
+{
+    let want = plain_reply(alloc, flat, plan, call)?;
+    assert_eq!(rt; one.call(call), want);
+    Ok(())
+}
+
+// Makes the calls that the digits of a number name on both phasers, which are alike so far.
+fn all_called<F: Fn(u32, u32) -> bool>(
+    rt: &impl Abort,
+    alloc: Global,
+    one: &mut PhaserOne<F>,
+    flat: &mut FlatPhaser,
+    plan: CountPlan,
+    length: u32,
+    number: u32,
+) -> Result<(), AllocError>
+    requires rule { Answers (F.pre one.old.rule.closure) (F.post one.old.rule.closure) (count_ends one.old.rule.plan) }
+{
+    let mut rest = number;
+    for _ in 0..length {
+        called(rt, alloc, one, flat, plan, CALLS[(rest % 10) as usize])?;
+        assert!(rt; is_alike(one, flat), "calls {number} of {length}");
+        rest /= 10;
+    }
+    Ok(())
+}
+
+// Makes these calls on two phasers of so many parties.
 fn compared(
     rt: &impl Abort,
     alloc: Global,
@@ -70,30 +122,11 @@ fn compared(
     number: u32,
 ) -> Result<(), Fail> {
     let rule = StoredCount::new(|phase: u32, count: u32| plan.ends(phase, count), plan);
-    let mut one = PhaserOne::new(i64::from(parties), 0, rule)
-        .ok()
-        .ok_or("opened")?;
     let mut flat = FlatPhaser::new(alloc, 0);
     flat.step(alloc, FlatStep::Join(0, parties))?;
-    let mut rest = number;
-    for _ in 0..length {
-        let call = CALLS[(rest % 10) as usize];
-        rest /= 10;
-        let want = plain_reply(alloc, &mut flat, plan, call)?;
-        assert_eq!(rt; one.call(call), want, "calls {number} of {length}");
-        assert_eq!(rt;
-            one.registered() as usize,
-            flat.registered(),
-            "calls {number} of {length}"
-        );
-        assert_eq!(rt;
-            one.unarrived() as usize,
-            flat.unarrived(),
-            "calls {number} of {length}"
-        );
-        assert_eq!(rt; one.ended(), flat.ended(), "calls {number} of {length}");
-        let sum = u64::from(one.arrived()) + u64::from(one.unarrived());
-        assert_eq!(rt; sum, u64::from(one.registered()));
+    match PhaserOne::new(i64::from(parties), 0, rule) {
+        Ok(mut one) => all_called(rt, alloc, &mut one, &mut flat, plan, length, number)?,
+        Err(_) => panic!(rt; "not opened"),
     }
     Ok(())
 }

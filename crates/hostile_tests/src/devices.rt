@@ -1,14 +1,31 @@
 //! Devices that give or take little, and that fail.
-use crate::runs::{SWAP, run_on, run_text, texts};
-use bsp_cli::run;
-use phase_records::{Reader, Writer};
+
+ghost use Rattle.std.specs.Prelude.{◌≤◌, length};
+
+use crate::runs::{Ran, SWAP, has_left, run_on, run_with, texts, whole_of};
 use std::alloc::Global;
 use std::io;
 use std::io::{Read, Write};
 use std::process::Abort;
 use std::sync::Wait;
-use std::test::Fail;
 use std::thread::Threads;
+
+// What is printed where a device fails.
+const FAILED: &[u8] = b"read or write failed\n";
+
+// Gives the next byte, where there is one and room for it.
+fn give(rest: &mut &[u8], buffer: &mut [u8]) -> usize
+    ensures { result ≤ length buffer.old }
+{
+    match (*rest, buffer.first_mut()) {
+        ([first, behind @ ..], Some(byte)) => {
+            *byte = *first;
+            *rest = behind;
+            1
+        }
+        _ => 0,
+    }
+}
 
 // Gives a byte a read, and fails once so many have been given.
 #[derive(Drop)]
@@ -23,14 +40,7 @@ impl Read for Dripping<'_> {
             return Err(io::ErrorKind::Other.into());
         }
         self.room -= 1;
-        match (self.rest, buffer.is_empty()) {
-            ([first, rest @ ..], false) => {
-                buffer[0] = *first;
-                self.rest = rest;
-                Ok(1)
-            }
-            _ => Ok(0),
-        }
+        Ok(give(&mut self.rest, buffer))
     }
 }
 
@@ -63,38 +73,57 @@ impl Write for Filling<'_> {
     }
 }
 
+// Runs the program on a reader that has room for so many reads.
+fn run_dripping<R: Abort + Threads + Wait + Sync>(
+    rt: &R,
+    alloc: Global,
+    words: &[&str],
+    text: &str,
+    room: usize,
+) -> Ran {
+    let rest = text.as_bytes();
+    run_on(rt, alloc, words, Dripping { rest, room })
+}
+
 // Runs the program on readers that fail at each read of a text: nothing is written before the text's end was read.
 fn reads_fail<R: Abort + Threads + Wait + Sync>(rt: &R, alloc: Global, words: &[&str], text: &str) {
-    let whole = run_text(rt, alloc, words, text);
-    assert_eq!(rt; whole.status, 0);
+    let whole = whole_of(rt, alloc, words, text);
     for room in 0..text.len() + 1 {
-        let input = Dripping {
-            rest: text.as_bytes(),
-            room,
-        };
-        let left = run_on(rt, alloc, words, input);
-        assert_eq!(rt; left.status, 8, "{room}");
-        assert!(rt; left.out.is_empty(), "{room}");
-        assert_eq!(rt;
-            left.errors.as_slice(),
-            b"read or write failed\n".as_slice()
-        );
+        let left = run_dripping(rt, alloc, words, text, room);
+        has_left(rt, &left, 8, b"", FAILED, room);
     }
-    let input = Dripping {
-        rest: text.as_bytes(),
-        room: text.len() + 1,
-    };
-    let left = run_on(rt, alloc, words, input);
-    assert_eq!(rt; left.status, 0);
-    assert_eq!(rt; left.out.as_slice(), whole.out.as_slice());
+    let left = run_dripping(rt, alloc, words, text, text.len() + 1);
+    has_left(rt, &left, 0, &whole, b"", text.len());
 }
 
 #[test]
-fn a_reader_that_fails_leaves_no_output(rt: HostRuntime) -> Result<(), Fail> {
+fn a_reader_that_fails_leaves_no_output(rt: HostRuntime) {
     for (word, text) in texts() {
         reads_fail(&rt, rt.alloc(), &["bsp", word], text);
     }
-    Ok(())
+}
+
+// Runs the program on a writer that takes so many bytes, which are the first of the whole output.
+fn is_cut<R: Abort + Threads + Wait + Sync>(
+    rt: &R,
+    alloc: Global,
+    words: &[&str],
+    text: &str,
+    fails: bool,
+    front: &[u8],
+) {
+    let room = front.len();
+    let mut out = Vec::new(alloc);
+    let mut errors = Vec::new(alloc);
+    let taken = &mut out;
+    let writer = Filling { taken, room, fails };
+    let status = run_with(rt, alloc, words, text.as_bytes(), writer, &mut errors);
+    let left = Ran {
+        status,
+        out,
+        errors,
+    };
+    has_left(rt, &left, 8, front, FAILED, room);
 }
 
 // Runs the program on writers that stop at each byte: what they took are the first bytes of the whole output.
@@ -103,67 +132,58 @@ fn writes_fail<R: Abort + Threads + Wait + Sync>(
     alloc: Global,
     words: &[&str],
     text: &str,
-    fails: bool,
 ) {
-    let whole = run_text(rt, alloc, words, text);
-    assert_eq!(rt; whole.status, 0);
-    for room in 0..whole.out.len() {
-        let mut taken = Vec::new(alloc);
-        let mut errors = Vec::new(alloc);
-        let mut reader = Reader::new(text.as_bytes());
-        let mut writer = Writer::new(Filling {
-            taken: &mut taken,
-            room,
-            fails,
-        });
-        let mut error_writer = Writer::new(&mut errors);
-        let status = run(
-            rt,
-            alloc,
-            words,
-            &mut reader,
-            &mut writer,
-            &mut error_writer,
-        );
-        assert_eq!(rt; status, 8, "{room}");
-        assert_eq!(rt; Some(taken.as_slice()), whole.out.get(..room), "{room}");
-        assert_eq!(rt; errors.as_slice(), b"read or write failed\n".as_slice());
+    let whole = whole_of(rt, alloc, words, text);
+    for room in 0..whole.len() {
+        is_cut(rt, alloc, words, text, true, &whole[..room]);
+        is_cut(rt, alloc, words, text, false, &whole[..room]);
     }
 }
 
 #[test]
-fn a_writer_that_fails_has_the_first_bytes(rt: HostRuntime) -> Result<(), Fail> {
+fn a_writer_that_fails_has_the_first_bytes(rt: HostRuntime) {
     for (word, text) in texts() {
-        writes_fail(&rt, rt.alloc(), &["bsp", word], text, true);
-        writes_fail(&rt, rt.alloc(), &["bsp", word], text, false);
+        writes_fail(&rt, rt.alloc(), &["bsp", word], text);
     }
-    Ok(())
+}
+
+// Runs the program on a writer of errors that takes four bytes: the status is as it would be.
+fn errors_are_cut<R: Abort + Threads + Wait + Sync>(
+    rt: &R,
+    alloc: Global,
+    words: &[&str],
+    text: &str,
+    reads: usize,
+    want: (u8, &[u8]),
+) {
+    let mut errors = Vec::new(alloc);
+    let rest = text.as_bytes();
+    let input = Dripping { rest, room: reads };
+    let error_writer = Filling {
+        taken: &mut errors,
+        room: 4,
+        fails: true,
+    };
+    let status = run_with(rt, alloc, words, input, &mut Vec::new(alloc), error_writer);
+    assert_eq!(rt; status, want.0);
+    assert_eq!(rt; errors.as_slice(), want.1);
 }
 
 #[test]
-fn a_writer_of_errors_that_fails_leaves_the_status(rt: HostRuntime) -> Result<(), Fail> {
+fn a_writer_of_errors_that_fails_leaves_the_status(rt: HostRuntime) {
+    let alloc = rt.alloc();
     for word in ["trace", "check", "run"] {
-        let mut taken = Vec::new(rt.alloc());
-        let mut out = Vec::new(rt.alloc());
-        let mut reader = Reader::new("phaser\n".as_bytes());
-        let mut writer = Writer::new(&mut out);
-        let mut error_writer = Writer::new(Filling {
-            taken: &mut taken,
-            room: 4,
-            fails: true,
-        });
-        let status = run(
+        errors_are_cut(
             &rt,
-            rt.alloc(),
+            alloc,
             &["bsp", word],
-            &mut reader,
-            &mut writer,
-            &mut error_writer,
+            "phaser\n",
+            usize::MAX,
+            (4, b"refu"),
         );
-        assert_eq!(rt; status, 4, "{word}");
-        assert_eq!(rt; taken.as_slice(), b"refu".as_slice(), "{word}");
     }
-    Ok(())
+    errors_are_cut(&rt, alloc, &["bsp", "walk"], SWAP, usize::MAX, (5, b"comm"));
+    errors_are_cut(&rt, alloc, &["bsp", "check"], SWAP, 0, (8, b"read"));
 }
 
 // Gives one LF a read, for ever, and counts the reads.
@@ -183,23 +203,22 @@ impl Read for Endless<'_> {
     }
 }
 
+// Runs the program on LFs without end.
+fn is_refused_in_time<R: Abort + Threads + Wait + Sync>(rt: &R, alloc: Global, words: &[&str]) {
+    let mut reads = 0;
+    let left = run_on(rt, alloc, words, Endless { reads: &mut reads });
+    assert_eq!(rt;
+        left.errors.as_slice(),
+        b"refused line 1 code 1\n".as_slice()
+    );
+    assert_eq!(rt; reads, 1048577);
+}
+
 #[test]
-fn a_text_is_read_by_at_most_1048577_reads(rt: HostRuntime) -> Result<(), Fail> {
+fn a_text_is_read_by_at_most_1048577_reads(rt: HostRuntime) {
     for word in ["trace", "check", "run"] {
-        let mut reads = 0;
-        let left = run_on(
-            &rt,
-            rt.alloc(),
-            &["bsp", word],
-            Endless { reads: &mut reads },
-        );
-        assert_eq!(rt;
-            left.errors.as_slice(),
-            b"refused line 1 code 1\n".as_slice()
-        );
-        assert_eq!(rt; reads, 1048577, "{word}");
+        is_refused_in_time(&rt, rt.alloc(), &["bsp", word]);
     }
-    Ok(())
 }
 
 // Gives a byte a read, fails at one read, and goes on giving behind it.
@@ -216,14 +235,7 @@ impl Read for Stumbling<'_> {
             return Err(io::ErrorKind::Other.into());
         }
         self.before -= 1;
-        match (self.rest, buffer.is_empty()) {
-            ([first, rest @ ..], false) => {
-                buffer[0] = *first;
-                self.rest = rest;
-                Ok(1)
-            }
-            _ => Ok(0),
-        }
+        Ok(give(&mut self.rest, buffer))
     }
 }
 
@@ -231,26 +243,21 @@ impl Read for Stumbling<'_> {
 fn reads_fail_once<R: Abort + Threads + Wait + Sync>(
     rt: &R,
     alloc: Global,
-    word: &str,
+    words: &[&str],
     text: &str,
 ) {
     for before in 0..text.len() + 1 {
-        let input = Stumbling {
-            rest: text.as_bytes(),
-            before,
-        };
-        let left = run_on(rt, alloc, &["bsp", word], input);
-        assert_eq!(rt; left.status, 8, "{before}");
-        assert!(rt; left.out.is_empty(), "{before}");
+        let rest = text.as_bytes();
+        let left = run_on(rt, alloc, words, Stumbling { rest, before });
+        has_left(rt, &left, 8, b"", FAILED, before);
     }
 }
 
 #[test]
-fn a_reader_that_fails_once_has_failed(rt: HostRuntime) -> Result<(), Fail> {
+fn a_reader_that_fails_once_has_failed(rt: HostRuntime) {
     for (word, text) in texts() {
-        reads_fail_once(&rt, rt.alloc(), word, text);
+        reads_fail_once(&rt, rt.alloc(), &["bsp", word], text);
     }
-    Ok(())
 }
 
 // Takes all bytes but those of one write, which fails.
@@ -279,65 +286,44 @@ impl Write for Skipping<'_> {
     }
 }
 
-#[test]
-fn a_writer_that_fails_once_has_failed(rt: HostRuntime) -> Result<(), Fail> {
-    for (word, text) in texts() {
-        let whole = run_text(&rt, rt.alloc(), &["bsp", word], text);
-        for before in 0..whole.out.len() {
-            let mut taken = Vec::new(rt.alloc());
-            let mut errors = Vec::new(rt.alloc());
-            let mut reader = Reader::new(text.as_bytes());
-            let mut writer = Writer::new(Skipping {
-                taken: &mut taken,
-                before,
-            });
-            let mut error_writer = Writer::new(&mut errors);
-            let words = ["bsp", word];
-            let status = run(
-                &rt,
-                rt.alloc(),
-                &words,
-                &mut reader,
-                &mut writer,
-                &mut error_writer,
-            );
-            assert_eq!(rt; status, 8, "{before}");
-            assert_eq!(rt; Some(taken.as_slice()), whole.out.get(..before), "{before}");
-        }
-    }
-    Ok(())
+// Runs the program on a writer that fails at one byte, and has taken those before it.
+fn is_left_off<R: Abort + Threads + Wait + Sync>(
+    rt: &R,
+    alloc: Global,
+    words: &[&str],
+    text: &str,
+    front: &[u8],
+) {
+    let before = front.len();
+    let mut out = Vec::new(alloc);
+    let mut errors = Vec::new(alloc);
+    let taken = &mut out;
+    let writer = Skipping { taken, before };
+    let status = run_with(rt, alloc, words, text.as_bytes(), writer, &mut errors);
+    let left = Ran {
+        status,
+        out,
+        errors,
+    };
+    has_left(rt, &left, 8, front, FAILED, before);
 }
 
-// A failing standard error leaves the statuses as they are.
-#[test]
-fn a_writer_of_errors_that_fails_leaves_each_status(rt: HostRuntime) -> Result<(), Fail> {
-    let rows: [(&[&str], usize, u8); 2] = [
-        (&["bsp", "walk"], usize::MAX, 5),
-        (&["bsp", "check"], 0, 8),
-    ];
-    for (words, room, want) in rows {
-        let mut taken = Vec::new(rt.alloc());
-        let mut out = Vec::new(rt.alloc());
-        let mut reader = Reader::new(Dripping {
-            rest: SWAP.as_bytes(),
-            room,
-        });
-        let mut writer = Writer::new(&mut out);
-        let mut error_writer = Writer::new(Filling {
-            taken: &mut taken,
-            room: 4,
-            fails: true,
-        });
-        let status = run(
-            &rt,
-            rt.alloc(),
-            words,
-            &mut reader,
-            &mut writer,
-            &mut error_writer,
-        );
-        assert_eq!(rt; status, want);
-        assert_eq!(rt; taken.len(), 4);
+// Runs the program on writers that fail at one byte each, and work behind it.
+fn writes_fail_once<R: Abort + Threads + Wait + Sync>(
+    rt: &R,
+    alloc: Global,
+    words: &[&str],
+    text: &str,
+) {
+    let whole = whole_of(rt, alloc, words, text);
+    for before in 0..whole.len() {
+        is_left_off(rt, alloc, words, text, &whole[..before]);
     }
-    Ok(())
+}
+
+#[test]
+fn a_writer_that_fails_once_has_failed(rt: HostRuntime) {
+    for (word, text) in texts() {
+        writes_fail_once(&rt, rt.alloc(), &["bsp", word], text);
+    }
 }

@@ -1,42 +1,66 @@
 //! Texts that are cut, or that a row can't say.
-use crate::runs::{SWAP, run_on, run_text, texts};
+use crate::runs::{Ran, SWAP, has_left, run_on, texts};
 use std::alloc::Global;
 use std::process::Abort;
 use std::sync::Wait;
-use std::test::Fail;
 use std::thread::Threads;
+
+// Checks so many bytes of a text: they are a job, or refused.
+fn is_job_or_refused<R: Abort + Threads + Wait + Sync>(
+    rt: &R,
+    alloc: Global,
+    front: &[u8],
+    is_job: bool,
+) {
+    let left = run_on(rt, alloc, &["bsp", "check"], front);
+    let length = front.len();
+    assert!(rt; left.status == if is_job { 0 } else { 4 }, "{length}");
+    assert!(rt;
+        left.out.is_empty() != is_job && left.errors.is_empty() == is_job,
+        "{length}"
+    );
+}
 
 // A front of the text is a job where it ends behind its header, behind or in the numbers of its array, behind its body
 // or behind a start line.
 #[test]
-fn a_front_of_a_text_is_a_job_or_refused(rt: HostRuntime) -> Result<(), Fail> {
+fn a_front_of_a_text_is_a_job_or_refused(rt: HostRuntime) {
     let jobs = [5, 6, 15, 16, 17, 18, 19, 20, 21, 22, 95, 96, 108, 109, 121];
     for length in 0..SWAP.len() {
-        let front = SWAP.as_bytes().get(..length).ok_or("front")?;
-        let left = run_on(&rt, rt.alloc(), &["bsp", "check"], front);
         let is_job = jobs.contains(&length);
-        assert_eq!(rt; left.status, if is_job { 0 } else { 4 }, "{length}");
-        assert_eq!(rt; left.out.is_empty(), !is_job, "{length}");
-        assert_eq!(rt; left.errors.is_empty(), is_job, "{length}");
+        is_job_or_refused(&rt, rt.alloc(), &SWAP.as_bytes()[..length], is_job);
     }
-    Ok(())
 }
 
-// Runs each front of a text: it is run to its end, a fault or the limit, or refused, and then nothing is printed.
+// Whether a front of a text was run to its end, a fault or the limit, or refused, and then nothing is printed.
+fn has_ended(left: &Ran) -> bool {
+    match left.status {
+        0 | 2 | 3 => left.errors.is_empty(),
+        4 => left.out.is_empty() && !left.errors.is_empty(),
+        _ => false,
+    }
+}
+
+// Runs a front of a text.
+fn front_ends<R: Abort + Threads + Wait + Sync>(
+    rt: &R,
+    alloc: Global,
+    words: &[&str],
+    front: &[u8],
+) {
+    let left = run_on(rt, alloc, words, front);
+    assert!(rt; has_ended(&left));
+}
+
+// Runs each front of a text.
 fn fronts_end<R: Abort + Threads + Wait + Sync>(rt: &R, alloc: Global, words: &[&str], text: &str) {
     for length in 0..text.len() + 1 {
-        if let Some(front) = text.as_bytes().get(..length) {
-            let left = run_on(rt, alloc, words, front);
-            let is_refused = left.status == 4;
-            assert!(rt; is_refused || matches!(left.status, 0 | 2 | 3), "{length}");
-            assert_eq!(rt; left.errors.is_empty(), !is_refused, "{length}");
-            assert!(rt; left.out.is_empty() || !is_refused, "{length}");
-        }
+        front_ends(rt, alloc, words, &text.as_bytes()[..length]);
     }
 }
 
 #[test]
-fn each_front_of_a_text_ends(rt: HostRuntime) -> Result<(), Fail> {
+fn each_front_of_a_text_ends(rt: HostRuntime) {
     for (word, text) in texts() {
         if word == "run" {
             fronts_end(&rt, rt.alloc(), &["bsp", word, "--limit", "3"], text);
@@ -44,28 +68,30 @@ fn each_front_of_a_text_ends(rt: HostRuntime) -> Result<(), Fail> {
             fronts_end(&rt, rt.alloc(), &["bsp", word], text);
         }
     }
-    Ok(())
 }
 
 // Without the last line end, and with a byte that a file of rows can't have.
 #[test]
-fn texts_that_no_row_says(rt: HostRuntime) -> Result<(), Fail> {
-    let rows = [
-        ("run", "bsp 1\narray a 2 1", 0, "array a 1 0\nended 0\n", ""),
+fn texts_that_no_row_says(rt: HostRuntime) {
+    let rows: [(&str, &str, u8, &[u8], &[u8]); 3] = [
+        (
+            "run",
+            "bsp 1\narray a 2 1",
+            0,
+            b"array a 1 0\nended 0\n",
+            b"",
+        ),
         (
             "check",
             "bsp 1\narray a 2 10 20\nbody sw",
             4,
-            "",
-            "refused line 4 code 10\n",
+            b"",
+            b"refused line 4 code 10\n",
         ),
-        ("check", "bsp 9\n\0", 4, "", "refused line 2 code 2\n"),
+        ("check", "bsp 9\n\0", 4, b"", b"refused line 2 code 2\n"),
     ];
     for (word, text, status, out, errors) in rows {
-        let left = run_text(&rt, rt.alloc(), &["bsp", word], text);
-        assert_eq!(rt; left.status, status, "{text}");
-        assert_eq!(rt; left.out.as_slice(), out.as_bytes(), "{text}");
-        assert_eq!(rt; left.errors.as_slice(), errors.as_bytes(), "{text}");
+        let left = run_on(&rt, rt.alloc(), &["bsp", word], text.as_bytes());
+        has_left(&rt, &left, status, out, errors, text.len());
     }
-    Ok(())
 }

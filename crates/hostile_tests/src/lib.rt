@@ -1,10 +1,12 @@
 //! Hostile use of the program: devices that give or take little or fail, at each byte, once or always, and texts that are
-//! cut at each byte. What a row of `examples/rows.txt` can say stands there.
+//! cut at each byte; and its help. What a row of `examples/rows.txt` can say stands there.
 #![tactic(auto)]
 
 #[cfg(test)]
 mod devices;
 #[cfg(test)]
 mod fronts;
+#[cfg(test)]
+mod help;
 #[cfg(test)]
 mod runs;

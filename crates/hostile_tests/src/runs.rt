@@ -2,7 +2,8 @@
 use bsp_cli::run;
 use phase_records::{Reader, Writer};
 use std::alloc::Global;
-use std::io::Read;
+use std::io::{Read, Write};
+use std::process::Abort;
 use std::sync::Wait;
 use std::thread::Threads;
 
@@ -91,6 +92,28 @@ pub(crate) struct Ran {
     pub(crate) errors: Vec<u8>,
 }
 
+/// Runs the program on these devices.
+pub(crate) fn run_with<T: Threads + Wait + Sync, R: Read + Drop, W: Write + Drop, E: Write + Drop>(
+    rt: &T,
+    alloc: Global,
+    words: &[&str],
+    input: R,
+    out: W,
+    errors: E,
+) -> u8 {
+    let mut reader = Reader::new(input);
+    let mut writer = Writer::new(out);
+    let mut error_writer = Writer::new(errors);
+    run(
+        rt,
+        alloc,
+        words,
+        &mut reader,
+        &mut writer,
+        &mut error_writer,
+    )
+}
+
 /// Runs the program on what a reader gives.
 pub(crate) fn run_on<T: Threads + Wait + Sync, R: Read + Drop>(
     rt: &T,
@@ -100,17 +123,7 @@ pub(crate) fn run_on<T: Threads + Wait + Sync, R: Read + Drop>(
 ) -> Ran {
     let mut out = Vec::new(alloc);
     let mut errors = Vec::new(alloc);
-    let mut reader = Reader::new(input);
-    let mut writer = Writer::new(&mut out);
-    let mut error_writer = Writer::new(&mut errors);
-    let status = run(
-        rt,
-        alloc,
-        words,
-        &mut reader,
-        &mut writer,
-        &mut error_writer,
-    );
+    let status = run_with(rt, alloc, words, input, &mut out, &mut errors);
     Ran {
         status,
         out,
@@ -118,12 +131,28 @@ pub(crate) fn run_on<T: Threads + Wait + Sync, R: Read + Drop>(
     }
 }
 
-/// Runs the program on a text.
-pub(crate) fn run_text<T: Threads + Wait + Sync>(
+/// Runs the program on a text, and sees that it takes it.
+pub(crate) fn whole_of<T: Abort + Threads + Wait + Sync>(
     rt: &T,
     alloc: Global,
     words: &[&str],
     text: &str,
-) -> Ran {
-    run_on(rt, alloc, words, text.as_bytes())
+) -> Vec<u8> {
+    let left = run_on(rt, alloc, words, text.as_bytes());
+    assert_eq!(rt; left.status, 0);
+    left.out
+}
+
+/// What a run left is this.
+pub(crate) fn has_left(
+    rt: &impl Abort,
+    left: &Ran,
+    status: u8,
+    out: &[u8],
+    errors: &[u8],
+    at: usize,
+) {
+    assert!(rt; left.status == status, "{at}");
+    assert!(rt; left.out.as_slice() == out, "{at}");
+    assert!(rt; left.errors.as_slice() == errors, "{at}");
 }

@@ -8,6 +8,27 @@ use std::process::Abort;
 use std::sync::Wait;
 use std::test::Fail;
 
+// Looks at a barrier that found no memory.
+fn is_as_it_was<F: Fn(u64) -> bool>(
+    rt: &impl Abort,
+    core: &BarrierCore<F>,
+    waiting: usize,
+    generation: u64,
+) {
+    assert_eq!(rt; core.waiting(), waiting);
+    assert_eq!(rt; core.generation(), generation);
+    assert!(rt; !core.is_broken());
+}
+
+// Looks at an answer: the caller waits, or three go on.
+fn is_waiting_or_tripped(rt: &impl Abort, awaited: &Result<Awaited, BarrierFault>, is_same: bool) {
+    match awaited {
+        Ok(Awaited::Waits(_)) => assert!(rt; is_same),
+        Ok(Awaited::Tripped(all)) => assert_eq!(rt; all.len(), 3),
+        _ => panic!(rt; "neither waits nor trips"),
+    }
+}
+
 // A caller comes while others wait, and comes again where there was no memory.
 fn comes<F: Fn(u64) -> bool>(rt: &impl Abort, core: &mut BarrierCore<F>, caller: u32)
     requires rule { AnswersAction (F.pre core.old.action.closure) (F.post core.old.action.closure) core.old.action.plan }
@@ -16,16 +37,10 @@ fn comes<F: Fn(u64) -> bool>(rt: &impl Abort, core: &mut BarrierCore<F>, caller:
     let (waiting, generation) = (core.waiting(), core.generation());
     let mut awaited = core.await_step(caller);
     if matches!(awaited, Err(BarrierFault::Memory)) {
-        assert_eq!(rt; core.waiting(), waiting);
-        assert_eq!(rt; core.generation(), generation);
-        assert!(rt; !core.is_broken());
+        is_as_it_was(rt, core, waiting, generation);
         awaited = core.await_step(caller);
     }
-    match awaited {
-        Ok(Awaited::Waits(_)) => assert_eq!(rt; core.generation(), generation),
-        Ok(Awaited::Tripped(all)) => assert_eq!(rt; all.len(), 3),
-        _ => panic!(rt; "neither waits nor trips"),
-    }
+    is_waiting_or_tripped(rt, &awaited, core.generation() == generation);
 }
 
 #[test]

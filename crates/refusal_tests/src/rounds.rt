@@ -5,6 +5,7 @@ use std::alloc::{AllocError, Global};
 use std::process::Abort;
 use std::test::Fail;
 use step_core::{CloseFault, Delivery, Outcome, Round, run_alone};
+use task_lang::job::Job;
 
 // Two tasks that put, print, spawn and sync, and two that they spawn.
 const JOB: &str = "bsp 1
@@ -59,17 +60,34 @@ fn text_of(alloc: Global, report: &Report) -> Result<Vec<u8>, Fail> {
     Ok(out)
 }
 
-#[test]
-fn rounds_are_closed(rt: HostRuntime) -> Result<(), Fail> {
-    let alloc = rt.alloc();
-    let job = read_job(alloc, JOB.as_bytes())?;
-    let mut round = Round::new(alloc, &job, 3)?;
+// The text of a job that is run alone.
+fn text_alone(alloc: Global, job: &Job) -> Result<Vec<u8>, Fail> {
+    let report = run_alone(alloc, job, 3)?;
+    text_of(alloc, &report)
+}
+
+// The text of what a round left.
+fn text_left(alloc: Global, round: &Round<'_>) -> Result<Vec<u8>, Fail> {
+    match round.report(alloc)? {
+        Some(report) => text_of(alloc, &report),
+        None => Err("the job goes on".into()),
+    }
+}
+
+// The text of a job whose two rounds are closed.
+fn text_by_rounds(rt: &impl Abort, alloc: Global, job: &Job) -> Result<Vec<u8>, Fail> {
+    let mut round = Round::new(alloc, job, 3)?;
     for _ in 0..2 {
         hand_all_in(alloc, &mut round)?;
-        closes(&rt, alloc, &mut round);
+        closes(rt, alloc, &mut round);
     }
-    let left = round.report(alloc)?.ok_or("the job goes on")?;
-    let want = run_alone(alloc, &job, 3)?;
-    assert!(rt; text_of(alloc, &left)? == text_of(alloc, &want)?);
+    text_left(alloc, &round)
+}
+
+#[test]
+fn rounds_are_closed(rt: HostRuntime) -> Result<(), Fail> {
+    let job = read_job(rt.alloc(), JOB.as_bytes())?;
+    let left = text_by_rounds(&rt, rt.alloc(), &job)?;
+    assert!(rt; left == text_alone(rt.alloc(), &job)?);
     Ok(())
 }

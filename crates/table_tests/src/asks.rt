@@ -9,6 +9,7 @@ use std::process::Abort;
 use tier_core::call::Cause;
 use tier_table::arriving::{Arrived, Resumed};
 use tier_table::joining::{Opened, Registered};
+use tier_table::polling::Polled;
 use tier_table::tokens::{Crew, Door, Errand, Opening};
 use tier_table::tree::Tree;
 
@@ -273,6 +274,20 @@ pub fn has_ended<F: Fn(u32, u32) -> bool>(
         }
         _ => panic!(rt; "not ended"),
     }
+}
+
+/// A poll of a crew answers so.
+pub fn polls<F: Fn(u32, u32) -> bool>(
+    rt: &impl Abort,
+    tree: &Tree<F>,
+    mut crew: Crew,
+    want: Polled,
+) -> Crew
+    requires own { crew.tree ≡ tree.now.tree }
+    ensures { result.tree ≡ tree.now.tree }
+{
+    assert!(rt; tree.poll(&mut crew) == want);
+    crew
 }
 
 /// One member joins beside a crew that has an unarrived member, in this phase.

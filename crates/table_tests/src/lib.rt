@@ -5,3 +5,5 @@
 mod asks;
 #[cfg(test)]
 mod runs;
+#[cfg(test)]
+mod trees;
