@@ -10,13 +10,13 @@ use task_lang::job::Job;
 use tier_shape::Shape;
 
 // The job of a text.
-pub(crate) fn job_of(alloc: Global, text: &[u8]) -> Result<Job, Fail> {
-    let job = read_job(alloc, text)?;
+pub(crate) fn job_of(alloc: Global, text: &str) -> Result<Job, Fail> {
+    let job = read_job(alloc, text.as_bytes())?;
     Ok(job)
 }
 
 // The text of a report.
-pub(crate) fn report_text(alloc: Global, report: &Report) -> Result<Vec<u8>, Fail> {
+fn report_text(alloc: Global, report: &Report) -> Result<Vec<u8>, Fail> {
     let mut out = Vec::new(alloc);
     let mut writer = Writer::new(&mut out);
     let written = write_report(alloc, report, &mut writer);
@@ -25,7 +25,7 @@ pub(crate) fn report_text(alloc: Global, report: &Report) -> Result<Vec<u8>, Fai
 }
 
 // The text of the report that a job leaves on one thread.
-pub(crate) fn left_alone(alloc: Global, job: &Job, limit: u32) -> Result<Vec<u8>, Fail> {
+fn left_alone(alloc: Global, job: &Job, limit: u32) -> Result<Vec<u8>, Fail> {
     if limit == 0 {
         return Ok(Vec::new(alloc));
     }
@@ -49,22 +49,18 @@ pub(crate) fn answers_of(
     Ok(answers)
 }
 
-// The report of the one answer that finishes a job.
-pub(crate) fn finished(answers: &[Answer]) -> Option<&Report> {
+// The report of the answer that finishes a job, if it is the only one.
+fn finished(answers: &[Answer]) -> Option<&Report> {
+    let mut found = None;
     for answer in answers {
         if let Answer::Finished(report) = answer {
-            return Some(report);
+            if found.is_some() {
+                return None;
+            }
+            found = Some(report);
         }
     }
-    None
-}
-
-// How many answers finish a job.
-pub(crate) fn count_finished(answers: &[Answer]) -> usize {
-    answers
-        .iter()
-        .filter(|answer| matches!(answer, Answer::Finished(_)))
-        .count()
+    found
 }
 
 // The step of this kind by this worker.
@@ -107,9 +103,6 @@ pub(crate) fn is_as_alone(
     let answers = answers_of(alloc, job, widths, limit, steps)?;
     match finished(&answers) {
         None => Ok(false),
-        Some(report) => {
-            let left = report_text(alloc, report)?;
-            Ok(left == want && count_finished(&answers) == 1)
-        }
+        Some(report) => Ok(report_text(alloc, report)? == want),
     }
 }
