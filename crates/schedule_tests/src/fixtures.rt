@@ -33,6 +33,12 @@ fn left_alone(alloc: Global, job: &Job, limit: u32) -> Result<Vec<u8>, Fail> {
     report_text(alloc, &report)
 }
 
+// The shape of a tree of these widths.
+fn shape_of(alloc: Global, widths: &str) -> Result<Shape, Fail> {
+    let shape = Shape::from_widths(alloc, widths)?;
+    Ok(shape)
+}
+
 // The answers of a job to these steps, on a tree of these widths.
 pub(crate) fn answers_of(
     alloc: Global,
@@ -44,7 +50,7 @@ pub(crate) fn answers_of(
     if limit == 0 || limit > 1000000 {
         return Ok(Vec::new(alloc));
     }
-    let shape = Shape::from_widths(alloc, widths)?;
+    let shape = shape_of(alloc, widths)?;
     let answers = drive_job(alloc, job, shape, limit, steps)?;
     Ok(answers)
 }

@@ -23,13 +23,13 @@ impl Numbers {
     }
 }
 
-// A line that starts a task.
-fn start_line(number: u32) -> &'static str {
+// Adds a line that starts a task.
+fn add_start(text: &mut String, number: u32) -> Result<(), AllocError> {
     match number {
-        0 => "start p 0\n",
-        1 => "start p 2\n",
-        2 => "start p 7\n",
-        _ => "start d 5\n",
+        0 => text.push_str("start p 0\n"),
+        1 => text.push_str("start p 2\n"),
+        2 => text.push_str("start p 7\n"),
+        _ => text.push_str("start d 5\n"),
     }
 }
 
@@ -37,7 +37,7 @@ fn start_line(number: u32) -> &'static str {
 fn text_of(alloc: Global, numbers: &mut Numbers) -> Result<String, AllocError> {
     let mut text = String::from_str(alloc, HEAD)?;
     for _ in 0..numbers.below(5) {
-        text.push_str(start_line(numbers.below(4)))?;
+        add_start(&mut text, numbers.below(4))?;
     }
     Ok(text)
 }
