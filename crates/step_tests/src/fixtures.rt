@@ -1,9 +1,10 @@
-//! Jobs by their texts, and the texts of what they leave.
+//! Jobs by their texts, the texts of what they leave, and arrays.
 use job_reader::read_job;
 use phase_records::{Report, Writer, write_report};
-use std::alloc::Global;
+use std::alloc::{AllocError, Global};
 use std::test::Fail;
 use step_core::run_alone;
+use superstep_memory::arrays::Arrays;
 use task_lang::job::Job;
 
 // The job of a text.
@@ -31,8 +32,22 @@ pub(crate) fn left_within(alloc: Global, text: &str, limit: u32) -> Result<Vec<u
     report_text(alloc, &report)
 }
 
-// Whether a job leaves a report of this text within this limit.
-pub(crate) fn leaves(alloc: Global, text: &str, limit: u32, want: &str) -> Result<bool, Fail> {
-    let left = left_within(alloc, text, limit)?;
-    Ok(left.as_slice() == want.as_bytes())
+// One more array of this name with these cells.
+pub(crate) fn add(
+    alloc: Global,
+    arrays: &mut Arrays,
+    name: &str,
+    cells: &[i64],
+) -> Result<bool, AllocError> {
+    let name = String::from_str(alloc, name)?;
+    let cells = Vec::from_slice(alloc, cells)?;
+    arrays.add(name, cells)
+}
+
+// Arrays `a` with the cells 10 and 20, and `b` with this one.
+pub(crate) fn three_cells(alloc: Global, last: i64) -> Result<Arrays, AllocError> {
+    let mut arrays = Arrays::new(alloc);
+    add(alloc, &mut arrays, "a", &[10, 20])?;
+    add(alloc, &mut arrays, "b", &[last])?;
+    Ok(arrays)
 }
