@@ -6,12 +6,19 @@ use std::test::Fail;
 use superstep_memory::arrays::Arrays;
 use superstep_memory::path::is_before;
 
+// Whether the array at this place has this name and these cells.
+fn is_array(arrays: &Arrays, place: usize, want: &str, cells: &[i64]) -> bool {
+    match arrays.get(place) {
+        None => false,
+        Some((name, seen)) => name == want && seen == cells,
+    }
+}
+
 #[test]
 fn arrays_stand_in_declared_order(rt: HostRuntime) -> Result<(), Fail> {
     let arrays = three_cells(rt.alloc(), 30)?;
-    let (name, cells) = arrays.get(1).ok_or("an array")?;
-    assert_eq!(rt; name, "b");
-    assert_eq!(rt; cells, [30].as_slice());
+    assert!(rt; is_array(&arrays, 0, "a", &[10, 20]));
+    assert!(rt; is_array(&arrays, 1, "b", &[30]));
     assert_eq!(rt; (arrays.len(), arrays.get(2).is_none()), (2, true));
     Ok(())
 }

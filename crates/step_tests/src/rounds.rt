@@ -170,20 +170,20 @@ fn a_round_says_what_it_is(rt: HostRuntime) -> Result<(), Fail> {
     Ok(())
 }
 
-// What the round of `TWO` answers to a delivery of the first task of this job.
-fn hand_from(alloc: Global, text: &str) -> Result<Answer, Fail> {
+// What the round of a job answers to a delivery of the first task of the job of this text.
+fn hand_from(alloc: Global, job: &Job, text: &str) -> Result<Answer, Fail> {
     let other = job_of(alloc, text)?;
-    let two = job_of(alloc, TWO)?;
-    let answer = hand_across(alloc, &two, &other)?;
+    let answer = hand_across(alloc, job, &other)?;
     Ok(answer)
 }
 
 #[test]
 fn jobs_are_compared_by_value(rt: HostRuntime) -> Result<(), Fail> {
     let alloc = rt.alloc();
-    assert_eq!(rt; hand_from(alloc, TWO)?, Answer::Taken);
+    let two = job_of(alloc, TWO)?;
+    assert_eq!(rt; hand_from(alloc, &two, TWO)?, Answer::Taken);
     assert_eq!(rt;
-        hand_from(alloc, ONE)?,
+        hand_from(alloc, &two, ONE)?,
         Answer::Refused(AcceptFault::Stranger)
     );
     Ok(())
