@@ -2,7 +2,7 @@
 use job_reader::read_job;
 use job_schedule::drive::drive_job;
 use job_schedule::step::{Answer, JobStep};
-use phase_records::{Report, Writer, write_report};
+use phase_records::{Report, WriteFault, Writer, write_report};
 use std::alloc::{AllocError, Global};
 use std::test::Fail;
 use step_core::run_alone;
@@ -15,12 +15,16 @@ pub(crate) fn job_of(alloc: Global, text: &str) -> Result<Job, Fail> {
     Ok(job)
 }
 
+// Writes a report.
+fn write_to(alloc: Global, report: &Report, out: &mut Vec<u8>) -> Result<(), WriteFault> {
+    let mut writer = Writer::new(out);
+    write_report(alloc, report, &mut writer)
+}
+
 // The text of a report.
 fn report_text(alloc: Global, report: &Report) -> Result<Vec<u8>, Fail> {
     let mut out = Vec::new(alloc);
-    let mut writer = Writer::new(&mut out);
-    let written = write_report(alloc, report, &mut writer);
-    written?;
+    write_to(alloc, report, &mut out)?;
     Ok(out)
 }
 

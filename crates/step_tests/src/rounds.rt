@@ -177,15 +177,18 @@ fn hand_from(alloc: Global, job: &Job, text: &str) -> Result<Answer, Fail> {
     Ok(answer)
 }
 
+// What the round of `TWO` answers to deliveries of the first task of `TWO`, made anew, and of `ONE`.
+fn hand_both(alloc: Global) -> Result<(Answer, Answer), Fail> {
+    let two = job_of(alloc, TWO)?;
+    let same = hand_from(alloc, &two, TWO)?;
+    let other = hand_from(alloc, &two, ONE)?;
+    Ok((same, other))
+}
+
 #[test]
 fn jobs_are_compared_by_value(rt: HostRuntime) -> Result<(), Fail> {
-    let alloc = rt.alloc();
-    let two = job_of(alloc, TWO)?;
-    assert_eq!(rt; hand_from(alloc, &two, TWO)?, Answer::Taken);
-    assert_eq!(rt;
-        hand_from(alloc, &two, ONE)?,
-        Answer::Refused(AcceptFault::Stranger)
-    );
+    let refused = Answer::Refused(AcceptFault::Stranger);
+    assert_eq!(rt; hand_both(rt.alloc())?, (Answer::Taken, refused));
     Ok(())
 }
 
