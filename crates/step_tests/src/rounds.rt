@@ -102,21 +102,38 @@ fn delivery_says(alloc: Global, delivery: &Delivery<'_>) -> Result<bool, AllocEr
     Ok(has_spawned(delivery, &[1, 0]) && lists_spawned(alloc, delivery, &[1, 0])?)
 }
 
+// Whether an order is one of the second task, in the first superstep.
+fn is_second(order: &Order<'_>) -> bool {
+    is_path(order.path(), &[1]) && order.step() == 0
+}
+
 // Whether an order of the second task says what it is, and its delivery what that does.
 fn order_says(alloc: Global, order: Order<'_>) -> Result<bool, AllocError> {
-    let right = is_path(order.path(), &[1]) && order.step() == 0;
+    let right = is_second(&order);
     let delivery = Delivery::of(alloc, order)?;
     Ok(right && delivery_says(alloc, &delivery)?)
+}
+
+// Whether a round is one of this job of two tasks and not of the other, and in its first superstep.
+fn is_as_made(round: &Round<'_>, job: &Job, other: &Job) -> bool {
+    round.is_of(job, 3) && !round.is_of(job, 2) && !round.is_of(other, 3) && round.step() == 0
+}
+
+// How many tasks live in a round.
+fn count_live(alloc: Global, round: &Round<'_>) -> Result<usize, AllocError> {
+    let live = round.live(alloc)?;
+    Ok(live.len())
 }
 
 // Whether a round of a job of two tasks says what it is.
 fn round_says(alloc: Global, job: &Job, other: &Job) -> Result<bool, AllocError> {
     let round = Round::new(alloc, job, 3)?;
-    let right = round.is_of(job, 3) && !round.is_of(job, 2) && !round.is_of(other, 3);
-    let live = round.live(alloc)?.len();
+    if !is_as_made(&round, job, other) || count_live(alloc, &round)? != 2 {
+        return Ok(false);
+    }
     match round.order(alloc, &[1])? {
         None => Ok(false),
-        Some(order) => Ok(right && live == 2 && round.step() == 0 && order_says(alloc, order)?),
+        Some(order) => order_says(alloc, order),
     }
 }
 
