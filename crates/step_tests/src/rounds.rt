@@ -114,9 +114,13 @@ fn order_says(alloc: Global, order: Order<'_>) -> Result<bool, AllocError> {
     Ok(right && delivery_says(alloc, &delivery)?)
 }
 
+fn is_of(round: &Round<'_>, job: &Job, limit: u32) -> bool {
+    round.is_of(job, limit)
+}
+
 // Whether a round is one of this job of two tasks and not of the other, and in its first superstep.
 fn is_as_made(round: &Round<'_>, job: &Job, other: &Job) -> bool {
-    round.is_of(job, 3) && !round.is_of(job, 2) && !round.is_of(other, 3) && round.step() == 0
+    is_of(round, job, 3) && !is_of(round, job, 2) && !is_of(round, other, 3) && round.step() == 0
 }
 
 // How many tasks live in a round.
