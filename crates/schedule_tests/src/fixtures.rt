@@ -2,7 +2,7 @@
 use job_reader::read_job;
 use job_schedule::drive::drive_job;
 use job_schedule::step::{Answer, JobStep};
-use phase_records::{Report, Writer, write_report};
+use phase_records::{Report, WriteFault, Writer, write_report};
 use std::alloc::{AllocError, Global};
 use std::test::Fail;
 use step_core::run_alone;
@@ -10,27 +10,37 @@ use task_lang::job::Job;
 use tier_shape::Shape;
 
 // The job of a text.
-pub(crate) fn job_of(alloc: Global, text: &[u8]) -> Result<Job, Fail> {
-    let job = read_job(alloc, text)?;
+pub(crate) fn job_of(alloc: Global, text: &str) -> Result<Job, Fail> {
+    let job = read_job(alloc, text.as_bytes())?;
     Ok(job)
 }
 
+// Writes a report.
+fn write_to(alloc: Global, report: &Report, out: &mut Vec<u8>) -> Result<(), WriteFault> {
+    let mut writer = Writer::new(out);
+    write_report(alloc, report, &mut writer)
+}
+
 // The text of a report.
-pub(crate) fn report_text(alloc: Global, report: &Report) -> Result<Vec<u8>, Fail> {
+fn report_text(alloc: Global, report: &Report) -> Result<Vec<u8>, Fail> {
     let mut out = Vec::new(alloc);
-    let mut writer = Writer::new(&mut out);
-    let written = write_report(alloc, report, &mut writer);
-    written?;
+    write_to(alloc, report, &mut out)?;
     Ok(out)
 }
 
 // The text of the report that a job leaves on one thread.
-pub(crate) fn left_alone(alloc: Global, job: &Job, limit: u32) -> Result<Vec<u8>, Fail> {
+fn left_alone(alloc: Global, job: &Job, limit: u32) -> Result<Vec<u8>, Fail> {
     if limit == 0 {
         return Ok(Vec::new(alloc));
     }
     let report = run_alone(alloc, job, limit)?;
     report_text(alloc, &report)
+}
+
+// The shape of a tree of these widths.
+fn shape_of(alloc: Global, widths: &str) -> Result<Shape, Fail> {
+    let shape = Shape::from_widths(alloc, widths)?;
+    Ok(shape)
 }
 
 // The answers of a job to these steps, on a tree of these widths.
@@ -44,27 +54,23 @@ pub(crate) fn answers_of(
     if limit == 0 || limit > 1000000 {
         return Ok(Vec::new(alloc));
     }
-    let shape = Shape::from_widths(alloc, widths)?;
+    let shape = shape_of(alloc, widths)?;
     let answers = drive_job(alloc, job, shape, limit, steps)?;
     Ok(answers)
 }
 
-// The report of the one answer that finishes a job.
-pub(crate) fn finished(answers: &[Answer]) -> Option<&Report> {
+// The report of the answer that finishes a job, if it is the only one.
+fn finished(answers: &[Answer]) -> Option<&Report> {
+    let mut found = None;
     for answer in answers {
         if let Answer::Finished(report) = answer {
-            return Some(report);
+            if found.is_some() {
+                return None;
+            }
+            found = Some(report);
         }
     }
-    None
-}
-
-// How many answers finish a job.
-pub(crate) fn count_finished(answers: &[Answer]) -> usize {
-    answers
-        .iter()
-        .filter(|answer| matches!(answer, Answer::Finished(_)))
-        .count()
+    found
 }
 
 // The step of this kind by this worker.
@@ -107,9 +113,6 @@ pub(crate) fn is_as_alone(
     let answers = answers_of(alloc, job, widths, limit, steps)?;
     match finished(&answers) {
         None => Ok(false),
-        Some(report) => {
-            let left = report_text(alloc, report)?;
-            Ok(left == want && count_finished(&answers) == 1)
-        }
+        Some(report) => Ok(report_text(alloc, report)? == want),
     }
 }

@@ -3,6 +3,7 @@ use crate::fixtures::{in_turn, is_as_alone, job_of};
 use std::alloc::Global;
 use std::process::Abort;
 use std::test::Fail;
+use task_lang::job::Job;
 
 const SWAP: &str =
     "bsp 1\narray a 2 10 20\nbody swap\nlet other = 1 - arg\nput a[arg] = a[other]\nsync\nprint a[arg]\nend\nstart swap 0\nstart swap 1\n";
@@ -21,17 +22,25 @@ const ENDLESS: &str = "bsp 1\nbody b\nwhile 1\nsync\nend\nend\nstart b 0\nstart 
 const HANDOVER: &str =
     "bsp 1\nbody p\nspawn c 1\nspawn c 2\nspawn c 3\nend\nbody c\nspawn d 0\nspawn d 0\nend\nbody d\nprint 7\nend\nstart p 0\nstart p 1\n";
 
-// Whether a job leaves what one thread leaves, on both trees, by one worker and by eight.
-fn is_the_same(alloc: Global, text: &str, limit: u32) -> Result<bool, Fail> {
-    let job = job_of(alloc, text.as_bytes())?;
-    let alone = in_turn(alloc, 1, 400)?;
-    let eight = in_turn(alloc, 8, 200)?;
+// Whether so many workers that take so many turns leave what one thread leaves, on both trees.
+fn is_the_same_by(
+    alloc: Global,
+    job: &Job,
+    limit: u32,
+    workers: usize,
+    turns: usize,
+) -> Result<bool, Fail> {
+    let steps = in_turn(alloc, workers, turns)?;
     Ok(
-        is_as_alone(alloc, &job, "flat", limit, &alone)?
-            && is_as_alone(alloc, &job, "2x3", limit, &alone)?
-            && is_as_alone(alloc, &job, "flat", limit, &eight)?
-            && is_as_alone(alloc, &job, "2x3", limit, &eight)?,
+        is_as_alone(alloc, job, "flat", limit, &steps)?
+            && is_as_alone(alloc, job, "2x3", limit, &steps)?,
     )
+}
+
+// Whether a job leaves what one thread leaves, by one worker and by eight.
+fn is_the_same(alloc: Global, text: &str, limit: u32) -> Result<bool, Fail> {
+    let job = job_of(alloc, text)?;
+    Ok(is_the_same_by(alloc, &job, limit, 1, 400)? && is_the_same_by(alloc, &job, limit, 8, 200)?)
 }
 
 #[test]

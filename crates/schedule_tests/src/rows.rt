@@ -1,5 +1,5 @@
 //! A job's worked row: one worker, step by step.
-use crate::fixtures::{answers_of, job_of, report_text};
+use crate::fixtures::{answers_of, job_of};
 use job_schedule::step::{Answer, JobStep};
 use std::alloc::Global;
 use std::process::Abort;
@@ -31,6 +31,16 @@ fn told(answer: &Answer) -> Seen {
     }
 }
 
+// Whether these answers tell this.
+fn are_told(answers: &[Answer], wants: &[Seen]) -> bool {
+    for (answer, want) in answers.iter().zip(wants) {
+        if told(answer) != *want {
+            return false;
+        }
+    }
+    answers.len() == wants.len()
+}
+
 // Whether these are the answers to these steps.
 fn answers_so(
     alloc: Global,
@@ -39,13 +49,9 @@ fn answers_so(
     steps: &[JobStep],
     wants: &[Seen],
 ) -> Result<bool, Fail> {
-    let job = job_of(alloc, text.as_bytes())?;
+    let job = job_of(alloc, text)?;
     let answers = answers_of(alloc, &job, widths, 10, steps)?;
-    let all = answers
-        .iter()
-        .zip(wants)
-        .all(|(answer, want)| told(answer) == *want);
-    Ok(all && answers.len() == wants.len())
+    Ok(are_told(&answers, wants))
 }
 
 #[test]
@@ -173,27 +179,5 @@ fn a_job_without_tasks_is_closed_by_anybody(rt: HostRuntime) -> Result<(), Fail>
     ];
     let wants = [Seen::NotNow, Seen::NotNow, Seen::Finished, Seen::NotNow];
     assert!(rt; answers_so(alloc, "bsp 1\nbody b\nend\n", "2x3", &steps, &wants)?);
-    Ok(())
-}
-
-#[test]
-fn the_report_is_the_jobs(rt: HostRuntime) -> Result<(), Fail> {
-    let alloc = rt.alloc();
-    let steps = [
-        JobStep::Take(0),
-        JobStep::Deliver(0),
-        JobStep::Tree(0),
-        JobStep::Tree(0),
-        JobStep::Tree(0),
-        JobStep::Advance(0),
-        JobStep::Close(0),
-    ];
-    let job = job_of(alloc, b"bsp 1\nbody b\nend\nstart b 0\n")?;
-    let mut answers = answers_of(alloc, &job, "flat", 10, &steps)?;
-    let Some(Answer::Finished(report)) = answers.pop() else {
-        return Err(Fail::from("no report"));
-    };
-    let text = report_text(alloc, &report)?;
-    assert!(rt; text.as_slice() == b"phase 0 parties 1 left 1 spawned 0\nended 1\n".as_slice());
     Ok(())
 }

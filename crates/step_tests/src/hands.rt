@@ -15,6 +15,8 @@ pub(crate) enum Move {
     Close,
     // How the job has ended.
     Status,
+    // How many deliveries are missing.
+    Count,
 }
 
 // What it answers.
@@ -26,6 +28,7 @@ pub(crate) enum Answer {
     Closed(Outcome),
     // The first number of the path that is missing.
     Missing(u16),
+    Missed(usize),
     Running,
     Ended(u32),
     Fault(u8, u32),
@@ -34,6 +37,9 @@ pub(crate) enum Answer {
 
 // How a job has ended, if it has.
 fn status_of(round: &Round<'_>) -> Answer {
+    if !round.has_ended() {
+        return Answer::Running;
+    }
     match round.status() {
         None => Answer::Running,
         Some(JobStatus::Ended(steps)) => Answer::Ended(steps),
@@ -90,25 +96,35 @@ fn answer_to(alloc: Global, round: &mut Round<'_>, call: Move) -> Result<Answer,
         Move::Deliver(number) => deliver(alloc, round, &[number]),
         Move::Close => close(alloc, round),
         Move::Status => Ok(status_of(round)),
+        Move::Count => Ok(Answer::Missed(round.missing())),
     }
 }
 
-// Makes calls one after another.
-fn play(alloc: Global, round: &mut Round<'_>, calls: &[Move]) -> Result<Vec<Answer>, AllocError> {
-    let mut answers = Vec::new(alloc);
-    for call in calls {
+// Makes calls one after another up to the first that is answered otherwise, and says its number and the answer.
+fn play(
+    alloc: Global,
+    round: &mut Round<'_>,
+    calls: &[(Move, Answer)],
+) -> Result<Option<(usize, Answer)>, AllocError> {
+    for (number, (call, want)) in calls.iter().enumerate() {
         let answer = answer_to(alloc, round, *call)?;
-        answers.push(answer)?;
+        if answer != *want {
+            return Ok(Some((number, answer)));
+        }
     }
-    Ok(answers)
+    Ok(None)
 }
 
-// What a round of this job answers to calls, within three supersteps.
-pub(crate) fn answers_of(alloc: Global, text: &str, calls: &[Move]) -> Result<Vec<Answer>, Fail> {
+// The first call that a round of this job answers otherwise, within three supersteps.
+pub(crate) fn first_other(
+    alloc: Global,
+    text: &str,
+    calls: &[(Move, Answer)],
+) -> Result<Option<(usize, Answer)>, Fail> {
     let job = job_of(alloc, text)?;
     let mut round = Round::new(alloc, &job, 3)?;
-    let answers = play(alloc, &mut round, calls)?;
-    Ok(answers)
+    let other = play(alloc, &mut round, calls)?;
+    Ok(other)
 }
 
 // Takes one superstep. The task at this place of the live ones comes first and those behind it next, then those in front of it;

@@ -1,134 +1,166 @@
 //! Landing by itself: the later put wins, and what is refused leaves the arrays as they were.
+use crate::fixtures::three_cells;
 use smallvec::SmallVec;
 use std::alloc::{AllocError, Global};
+use std::process::Abort;
 use std::test::Fail;
-use superstep_memory::arrays::{Arrays, Put, PutLog};
+use superstep_memory::arrays::{Arrays, Put};
 use superstep_memory::landing::{LandFault, land};
 use superstep_memory::path::Path;
 use superstep_memory::runs::{Run, land_runs};
 
-// Arrays `a` with the cells 10 and 20, and `b` with 30.
-fn arrays_to_land_in(alloc: Global) -> Result<Arrays, AllocError> {
-    let mut arrays = Arrays::new(alloc);
-    let cells = Vec::from_slice(alloc, &[10, 20])?;
-    let _added = arrays.add(String::from_str(alloc, "a")?, cells)?;
-    let cells = Vec::from_slice(alloc, &[30])?;
-    let _added = arrays.add(String::from_str(alloc, "b")?, cells)?;
-    Ok(arrays)
+// What a task has put: its path, and an array, a cell and a value of each put.
+#[derive(Clone, Copy)]
+struct Log<'a> {
+    path: &'a [u16],
+    puts: &'a [(u16, u32, i64)],
 }
 
-// What the task of this path has put: an array, a cell and a value each.
-fn entry(
-    alloc: Global,
-    path: &[u16],
-    puts: &[(u16, u32, i64)],
-) -> Result<(Path, PutLog), AllocError> {
-    let path = SmallVec::from_slice(alloc, path)?;
-    let mut log = Vec::new(alloc);
+// What landing says.
+#[derive(Clone, Copy, PartialEq, Eq, Debug)]
+enum Said {
+    Landed,
+    NotInOrder,
+    // The last number of the path, and the place of the put.
+    OutOfRange(u16, usize),
+    NoMemory,
+}
+
+// What landing says, and the cells after it.
+type After = (Said, Option<i64>, Option<i64>, Option<i64>);
+
+// These puts.
+fn puts_of(alloc: Global, puts: &[(u16, u32, i64)]) -> Result<Vec<Put>, AllocError> {
+    let mut all = Vec::new(alloc);
     for (array, index, value) in puts {
-        log.push(Put {
+        all.push(Put {
             array: *array,
             index: *index,
             value: *value,
         })?;
     }
-    Ok((path, log))
+    Ok(all)
+}
+
+// A run of these logs.
+fn run_of(alloc: Global, logs: &[Log<'_>]) -> Result<Run, AllocError> {
+    let mut run = Vec::new(alloc);
+    for log in logs {
+        let path: Path = SmallVec::from_slice(alloc, log.path)?;
+        let puts = puts_of(alloc, log.puts)?;
+        run.push((path, puts))?;
+    }
+    Ok(run)
+}
+
+fn said_of(done: Result<(), LandFault>) -> Said {
+    match done {
+        Ok(()) => Said::Landed,
+        Err(LandFault::NotInOrder) => Said::NotInOrder,
+        Err(LandFault::OutOfRange(path, place)) => {
+            Said::OutOfRange(path.last().copied().unwrap_or(u16::MAX), place)
+        }
+        Err(LandFault::Memory(_)) => Said::NoMemory,
+    }
+}
+
+fn after(arrays: &Arrays, said: Said) -> After {
+    (
+        said,
+        arrays.cell(0, 0),
+        arrays.cell(0, 1),
+        arrays.cell(1, 0),
+    )
+}
+
+// What comes of one run.
+fn land_one(alloc: Global, logs: &[Log<'_>]) -> Result<After, AllocError> {
+    let mut arrays = three_cells(alloc, 30)?;
+    let run = run_of(alloc, logs)?;
+    let said = said_of(land(alloc, &mut arrays, &run));
+    Ok(after(&arrays, said))
+}
+
+// Runs of these logs.
+fn runs_of(alloc: Global, one: &[Log<'_>], other: &[Log<'_>]) -> Result<Vec<Run>, AllocError> {
+    let mut runs = Vec::new(alloc);
+    runs.push(run_of(alloc, one)?)?;
+    runs.push(run_of(alloc, other)?)?;
+    Ok(runs)
+}
+
+// What comes of two runs.
+fn land_two(alloc: Global, one: &[Log<'_>], other: &[Log<'_>]) -> Result<After, AllocError> {
+    let mut arrays = three_cells(alloc, 30)?;
+    let runs = runs_of(alloc, one, other)?;
+    let said = said_of(land_runs(alloc, &mut arrays, &runs));
+    Ok(after(&arrays, said))
+}
+
+fn log_of<'a>(path: &'a [u16], puts: &'a [(u16, u32, i64)]) -> Log<'a> {
+    Log { path, puts }
+}
+
+// What comes of one run where the cells stay as they were.
+fn unchanged(said: Said) -> After {
+    (said, Some(10), Some(20), Some(30))
 }
 
 #[test]
 fn the_last_put_by_path_wins(rt: HostRuntime) -> Result<(), Fail> {
     let alloc = rt.alloc();
-    let mut arrays = arrays_to_land_in(alloc)?;
-    let mut entries = Vec::new(alloc);
-    entries.push(entry(alloc, &[0], &[(0, 0, 1), (0, 0, 2), (0, 1, 3)])?)?;
-    entries.push(entry(alloc, &[0, 3], &[(1, 0, 4)])?)?;
-    entries.push(entry(alloc, &[1], &[(0, 0, 5)])?)?;
-    land(alloc, &mut arrays, &entries)?;
-    assert_eq!(rt; arrays.cell(0, 0), Some(5));
-    assert_eq!(rt; arrays.cell(0, 1), Some(3));
-    assert_eq!(rt; arrays.cell(1, 0), Some(4));
-    land(alloc, &mut arrays, &[])?;
-    assert_eq!(rt; arrays.cell(0, 0), Some(5));
+    let logs = [
+        log_of(&[0], &[(0, 0, 1), (0, 0, 2), (0, 1, 3)]),
+        log_of(&[0, 3], &[(1, 0, 4)]),
+        log_of(&[1], &[(0, 0, 5)]),
+    ];
+    let landed = (Said::Landed, Some(5), Some(3), Some(4));
+    assert_eq!(rt; land_one(alloc, &logs)?, landed);
+    assert_eq!(rt; land_one(alloc, &[])?, unchanged(Said::Landed));
     Ok(())
 }
 
 #[test]
 fn paths_have_to_rise(rt: HostRuntime) -> Result<(), Fail> {
-    let alloc = rt.alloc();
-    let mut arrays = arrays_to_land_in(alloc)?;
-    let mut entries = Vec::new(alloc);
-    entries.push(entry(alloc, &[1], &[(2, 0, 1)])?)?;
-    entries.push(entry(alloc, &[1], &[(0, 0, 2)])?)?;
-    let refused = land(alloc, &mut arrays, &entries);
-    assert!(rt; matches!(refused, Err(LandFault::NotInOrder)));
-    assert_eq!(rt; arrays.cell(0, 0), Some(10));
+    let logs = [log_of(&[1], &[(2, 0, 1)]), log_of(&[1], &[(0, 0, 2)])];
+    assert_eq!(rt; land_one(rt.alloc(), &logs)?, unchanged(Said::NotInOrder));
     Ok(())
 }
 
 #[test]
 fn the_first_put_to_no_cell_is_told(rt: HostRuntime) -> Result<(), Fail> {
-    let alloc = rt.alloc();
-    let mut arrays = arrays_to_land_in(alloc)?;
-    let mut entries = Vec::new(alloc);
-    entries.push(entry(alloc, &[0], &[(0, 0, 1)])?)?;
-    entries.push(entry(alloc, &[0, 7], &[(0, 1, 2), (0, 2, 3)])?)?;
-    entries.push(entry(alloc, &[2], &[(9, 0, 4)])?)?;
-    match land(alloc, &mut arrays, &entries) {
-        Err(LandFault::OutOfRange(path, place)) => {
-            assert_eq!(rt; path.as_slice(), [0, 7].as_slice());
-            assert_eq!(rt; place, 1);
-        }
-        _ => assert!(rt; false, "a put to no cell"),
-    }
-    assert_eq!(rt; arrays.cell(0, 0), Some(10));
-    assert_eq!(rt; arrays.cell(0, 1), Some(20));
+    let logs = [
+        log_of(&[0], &[(0, 0, 1)]),
+        log_of(&[0, 7], &[(0, 1, 2), (0, 2, 3)]),
+        log_of(&[2], &[(9, 0, 4)]),
+    ];
+    assert_eq!(rt;
+        land_one(rt.alloc(), &logs)?,
+        unchanged(Said::OutOfRange(7, 1))
+    );
     Ok(())
-}
-
-// An array of three cells, 1 2 3.
-fn three_cells(alloc: Global) -> Result<Arrays, AllocError> {
-    let mut arrays = Arrays::new(alloc);
-    let cells = Vec::from_slice(alloc, &[1, 2, 3])?;
-    let _added = arrays.add(String::from_str(alloc, "a")?, cells)?;
-    Ok(arrays)
-}
-
-// Two runs: one of the tasks 0 and 1, and one of the task 0.0 and then of this one.
-fn two_runs(alloc: Global, last: &[u16]) -> Result<Vec<Run>, Fail> {
-    let mut first = Vec::new(alloc);
-    first.push(entry(alloc, &[0], &[(0, 0, 5), (0, 2, 6), (0, 0, 7)])?)?;
-    first.push(entry(alloc, &[1], &[(0, 1, 9)])?)?;
-    let mut second = Vec::new(alloc);
-    second.push(entry(alloc, &[0, 0], &[(0, 2, 8)])?)?;
-    second.push(entry(alloc, last, &[])?)?;
-    let mut runs = Vec::new(alloc);
-    runs.push(first)?;
-    runs.push(second)?;
-    Ok(runs)
 }
 
 #[test]
 fn runs_land_by_path(rt: HostRuntime) -> Result<(), Fail> {
     let alloc = rt.alloc();
-    let mut arrays = three_cells(alloc)?;
-    let runs = two_runs(alloc, &[2])?;
-    land_runs(alloc, &mut arrays, &runs)?;
-    assert_eq!(rt; arrays.cell(0, 0), Some(7));
-    assert_eq!(rt; arrays.cell(0, 1), Some(9));
-    assert_eq!(rt; arrays.cell(0, 2), Some(8));
-    Ok(())
-}
-
-#[test]
-fn a_path_in_two_runs_is_refused(rt: HostRuntime) -> Result<(), Fail> {
-    let alloc = rt.alloc();
-    let mut arrays = three_cells(alloc)?;
-    let runs = two_runs(alloc, &[1])?;
-    let refused = land_runs(alloc, &mut arrays, &runs);
-    assert!(rt; matches!(refused, Err(LandFault::NotInOrder)));
-    let runs = two_runs(alloc, &[0])?;
-    let refused = land_runs(alloc, &mut arrays, &runs);
-    assert!(rt; matches!(refused, Err(LandFault::NotInOrder)));
-    assert_eq!(rt; arrays.cell(0, 0), Some(1));
+    let one = [
+        log_of(&[0], &[(0, 0, 5), (1, 0, 6), (0, 0, 7)]),
+        log_of(&[1], &[(0, 1, 9)]),
+    ];
+    let first = log_of(&[0, 0], &[(1, 0, 8)]);
+    let landed = (Said::Landed, Some(7), Some(9), Some(8));
+    let refused = unchanged(Said::NotInOrder);
+    assert_eq!(rt; land_two(alloc, &one, &[first, log_of(&[2], &[])])?, landed);
+    assert_eq!(rt;
+        land_two(alloc, &one, &[first, log_of(&[1], &[])])?,
+        refused,
+        "in both runs"
+    );
+    assert_eq!(rt;
+        land_two(alloc, &one, &[first, log_of(&[0], &[])])?,
+        refused,
+        "falling"
+    );
     Ok(())
 }

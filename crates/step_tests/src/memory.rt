@@ -1,42 +1,78 @@
 //! Arrays and paths: each call once, and the order of paths.
+use crate::fixtures::{add, three_cells};
 use std::alloc::{AllocError, Global};
 use std::process::Abort;
 use std::test::Fail;
-use superstep_memory::arrays::{Arrays, Put};
+use superstep_memory::arrays::Arrays;
 use superstep_memory::path::is_before;
 
-// Arrays `a` with two cells and `b` with one.
-fn two(alloc: Global, last: i64) -> Result<Arrays, AllocError> {
-    let mut arrays = Arrays::new(alloc);
-    let cells = Vec::from_slice(alloc, &[10, 20])?;
-    let _added = arrays.add(String::from_str(alloc, "a")?, cells)?;
-    let cells = Vec::from_slice(alloc, &[last])?;
-    let _added = arrays.add(String::from_str(alloc, "b")?, cells)?;
-    Ok(arrays)
+// Whether the array at this place has this name and these cells.
+fn is_array(arrays: &Arrays, place: usize, want: &str, cells: &[i64]) -> bool {
+    match arrays.get(place) {
+        None => false,
+        Some((name, seen)) => name == want && seen == cells,
+    }
 }
 
 #[test]
 fn arrays_stand_in_declared_order(rt: HostRuntime) -> Result<(), Fail> {
+    let arrays = three_cells(rt.alloc(), 30)?;
+    assert!(rt; is_array(&arrays, 0, "a", &[10, 20]));
+    assert!(rt; is_array(&arrays, 1, "b", &[30]));
+    assert_eq!(rt; (arrays.len(), arrays.get(2).is_none()), (2, true));
+    Ok(())
+}
+
+// The cell of three that has this place, and its number in its array.
+fn cell_at(
+    alloc: Global,
+    array: u16,
+    index: i64,
+) -> Result<(Option<i64>, Option<u32>), AllocError> {
+    let arrays = three_cells(alloc, 30)?;
+    Ok((arrays.cell(array, index), arrays.place(array, index)))
+}
+
+#[test]
+fn cells_have_places(rt: HostRuntime) -> Result<(), Fail> {
     let alloc = rt.alloc();
-    let mut arrays = two(alloc, 30)?;
-    assert_eq!(rt; arrays.len(), 2);
-    let (name, cells) = arrays.get(1).ok_or("an array")?;
-    assert_eq!(rt; name, "b");
-    assert_eq!(rt; cells, [30].as_slice());
-    assert!(rt; arrays.get(2).is_none());
-    assert_eq!(rt; arrays.cell(0, 1), Some(20));
-    assert_eq!(rt; arrays.cell(0, 2), None);
-    assert_eq!(rt; arrays.cell(0, -1), None);
-    assert_eq!(rt; arrays.cell(2, 0), None);
-    assert_eq!(rt; arrays.place(0, 1), Some(1));
-    assert_eq!(rt; arrays.place(0, 2), None);
-    let cells = Vec::from_slice(alloc, &[1])?;
-    assert!(rt; !arrays.add(String::from_str(alloc, "a")?, cells)?);
-    assert_eq!(rt; arrays.cell(0, 0), Some(10));
-    let copy = arrays.copy(alloc)?;
-    assert!(rt; copy.same_as(&arrays));
-    let other = two(alloc, 31)?;
-    assert!(rt; !copy.same_as(&other));
+    assert_eq!(rt; cell_at(alloc, 0, 1)?, (Some(20), Some(1)));
+    assert_eq!(rt; cell_at(alloc, 0, 2)?, (None, None));
+    assert_eq!(rt; cell_at(alloc, 0, -1)?, (None, None));
+    assert_eq!(rt; cell_at(alloc, 2, 0)?, (None, None));
+    Ok(())
+}
+
+// Whether an array of a name that is taken is added, and the first cell of the one that has it.
+fn add_again(alloc: Global) -> Result<(bool, Option<i64>), AllocError> {
+    let mut arrays = three_cells(alloc, 30)?;
+    let added = add(alloc, &mut arrays, "a", &[1])?;
+    Ok((added, arrays.cell(0, 0)))
+}
+
+// A copy of arrays.
+fn copied(alloc: Global) -> Result<Arrays, AllocError> {
+    let arrays = three_cells(alloc, 30)?;
+    arrays.copy(alloc)
+}
+
+// Whether a copy is the same as arrays whose last cell is this.
+fn is_copy(alloc: Global, last: i64) -> Result<bool, AllocError> {
+    let copy = copied(alloc)?;
+    let arrays = three_cells(alloc, last)?;
+    Ok(copy.same_as(&arrays))
+}
+
+#[test]
+fn arrays_have_names_of_their_own(rt: HostRuntime) -> Result<(), Fail> {
+    assert_eq!(rt; add_again(rt.alloc())?, (false, Some(10)));
+    Ok(())
+}
+
+#[test]
+fn copies_are_the_same(rt: HostRuntime) -> Result<(), Fail> {
+    assert!(rt; is_copy(rt.alloc(), 30)?);
+    assert!(rt; !is_copy(rt.alloc(), 31)?);
     Ok(())
 }
 
@@ -47,10 +83,4 @@ fn paths_stand_in_order(rt: HostRuntime) {
     assert!(rt; is_before(&[2], &[10]));
     assert!(rt; is_before(&[0], &[0, 0]));
     assert!(rt; !is_before(&[0], &[0]));
-    let put = Put {
-        array: 0,
-        index: 1,
-        value: -1,
-    };
-    assert_eq!(rt; put, put);
 }

@@ -37,7 +37,7 @@ pub fn made<F: Fn(u32, u32) -> bool + Drop>(
 }
 
 /// The words of a tree that is closed with three tokens.
-pub fn words_of<F: Fn(u32, u32) -> bool + Drop>(
+pub(crate) fn words_of<F: Fn(u32, u32) -> bool + Drop>(
     rt: &impl Abort,
     alloc: Global,
     tree: Tree<F>,
@@ -60,7 +60,7 @@ pub fn words_of<F: Fn(u32, u32) -> bool + Drop>(
 }
 
 /// The words are these: the phase, the parties, how many of them are unarrived, and whether it has ended.
-pub fn are(rt: &impl Abort, words: &[Word], wants: &[(u32, u32, u32, bool)]) {
+pub(crate) fn are(rt: &impl Abort, words: &[Word], wants: &[(u32, u32, u32, bool)]) {
     assert_eq!(rt; words.len(), wants.len());
     for (word, want) in words.iter().zip(wants) {
         is(rt, word, *want);

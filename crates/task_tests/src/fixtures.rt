@@ -2,8 +2,7 @@
 use std::alloc::{AllocError, Global};
 use superstep_memory::arrays::Arrays;
 use task_lang::body::Body;
-use task_lang::builder::Builder;
-use task_lang::code::{Action, Cell, Expr, Index, Line, Operand};
+use task_lang::code::{Action, Expr, Index, Line, Operand};
 use task_lang::job::{Job, Start};
 
 pub(crate) fn number(n: i64) -> Operand {
@@ -14,65 +13,49 @@ pub(crate) fn local(i: u8) -> Operand {
     Operand::Plain(Index::Local(i))
 }
 
-pub(crate) fn cell(index: i64) -> Cell {
-    Cell {
-        array: 0,
-        index: Index::Number(index),
-    }
+pub(crate) fn print(operand: Operand) -> Line {
+    Line::Do(Action::Print(Expr::One(operand)))
 }
 
-pub(crate) fn set(i: u8, expr: Expr) -> Line {
-    Line::Do(Action::Let(i, expr))
-}
-
-pub(crate) fn print(expr: Expr) -> Line {
-    Line::Do(Action::Print(expr))
-}
-
-// A body of these lines, whatever their jumps, with so many locals.
+// The body of this name with these locals and lines, if there is one.
 pub(crate) fn body_of(
     alloc: Global,
     name: &str,
-    locals: usize,
+    locals: &[&str],
     lines: &[Line],
 ) -> Result<Option<Body>, AllocError> {
-    let mut builder = Builder {
-        code: Vec::new(alloc),
-        places: Vec::new(alloc),
-    };
-    for line in lines {
-        if !builder.line(*line)? {
-            return Ok(None);
-        }
-    }
-    let Builder { code, places: _ } = builder;
     let mut names = Vec::new(alloc);
-    for i in 0..locals {
-        names.push(format!(in alloc; "l{i}")?)?;
+    for local in locals {
+        names.push(String::from_str(alloc, local)?)?;
     }
+    let code = Vec::from_slice(alloc, lines)?;
     Body::new(alloc, String::from_str(alloc, name)?, names, code)
 }
 
-// A job of one array of so many cells, a body of these lines, and a body that ends at once.
+// One array of so many cells, or none.
+fn arrays_of(alloc: Global, cells: usize) -> Result<Arrays, AllocError> {
+    let mut arrays = Arrays::new(alloc);
+    if cells > 0 {
+        let name = String::from_str(alloc, "a")?;
+        let _added = arrays.add(name, Vec::from_elem(alloc, 7, cells)?)?;
+    }
+    Ok(arrays)
+}
+
+// The job of one array of so many cells, or of none, of bodies of these names, each with this one line, and of a start
+// of the first body; if there is such a job.
 pub(crate) fn job_of(
     alloc: Global,
     cells: usize,
-    locals: usize,
-    lines: &[Line],
+    names: &[&str],
+    line: Line,
 ) -> Result<Option<Job>, AllocError> {
-    let mut arrays = Arrays::new(alloc);
-    let name = String::from_str(alloc, "a")?;
-    let _added = arrays.add(name, Vec::from_elem(alloc, 7, cells)?)?;
-    let Some(body) = body_of(alloc, "b", locals, lines)? else {
-        return Ok(None);
-    };
-    let Some(last) = body_of(alloc, "last", 0, &[])? else {
-        return Ok(None);
-    };
     let mut bodies = Vec::new(alloc);
-    bodies.push(body)?;
-    bodies.push(last)?;
-    let mut starts = Vec::new(alloc);
-    starts.push(Start { body: 0, arg: 0 })?;
-    Ok(Job::new(arrays, bodies, starts))
+    for name in names {
+        if let Some(body) = body_of(alloc, name, &[], &[line])? {
+            bodies.push(body)?;
+        }
+    }
+    let starts = Vec::from_elem(alloc, Start { body: 0, arg: 0 }, 1)?;
+    Ok(Job::new(arrays_of(alloc, cells)?, bodies, starts))
 }

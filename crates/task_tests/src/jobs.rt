@@ -1,76 +1,60 @@
-//! Jobs at their limits, and jobs compared.
-use crate::fixtures::{body_of, cell, job_of, local, number, print, set};
+//! Jobs whose lines name what isn't there, and jobs compared.
+use crate::fixtures::{job_of, number, print};
 use std::alloc::{AllocError, Global};
 use std::process::Abort;
 use std::test::Fail;
-use superstep_memory::arrays::Arrays;
-use task_lang::code::{Action, Expr, Line, Operand};
-use task_lang::job::{Job, Start};
+use task_lang::code::{Action, Cell, Expr, Index, Line, Operand};
+use task_lang::job::Job;
 
-// Whether there is a job of so many arrays of so many cells, so many bodies of these lines, and so many start lines of
-// the last body but `beyond`.
-fn is_job(
-    alloc: Global,
-    (arrays, cells): (usize, usize),
-    (bodies, locals): (usize, usize),
-    (starts, beyond): (usize, u16),
-    lines: &[Line],
-) -> Result<bool, AllocError> {
-    let mut all = Arrays::new(alloc);
-    for i in 0..arrays {
-        let name = format!(in alloc; "a{i}")?;
-        let _added = all.add(name, Vec::from_elem(alloc, 0, cells)?)?;
-    }
-    let mut made = Vec::new(alloc);
-    for i in 0..bodies {
-        let name = format!(in alloc; "b{i}")?;
-        if let Some(body) = body_of(alloc, name.as_str(), locals, lines)? {
-            made.push(body)?;
-        }
-    }
-    let last = u16::try_from(bodies)
-        .unwrap_or(0)
-        .wrapping_sub(1)
-        .wrapping_add(beyond);
-    let starts = Vec::from_elem(alloc, Start { body: last, arg: 0 }, starts)?;
-    Ok(Job::new(all, made, starts).is_some())
+// Whether there is a job of an array of so many cells, or of none, and of bodies of these names with this line.
+fn is_job(alloc: Global, cells: usize, names: &[&str], line: Line) -> Result<bool, AllocError> {
+    Ok(job_of(alloc, cells, names, line)?.is_some())
 }
 
 #[test]
 fn lines_name_what_is_there(rt: HostRuntime) -> Result<(), Fail> {
     let alloc = rt.alloc();
     let spawn = Line::Do(Action::Spawn(1, Expr::One(number(0))));
-    let read = print(Expr::One(Operand::Cell(cell(0))));
-    let in_order = set(0, Expr::One(local(1)));
-    let out_of_order = set(1, Expr::One(local(0)));
-    let rows = [
-        ((0, 1), (2, 0), spawn, true),
-        ((0, 1), (1, 0), spawn, false),
-        ((1, 1), (1, 0), read, true),
-        ((0, 1), (1, 0), read, false),
-        ((0, 1), (1, 2), in_order, true),
-        ((0, 1), (1, 2), out_of_order, false),
-        ((0, 1), (1, 3), in_order, false),
-    ];
-    for (place, (arrays, bodies, line, want)) in rows.into_iter().enumerate() {
-        let made = is_job(alloc, arrays, bodies, (1, 0), &[line])?;
-        assert_eq!(rt; made, want, "row {place}");
-    }
+    let read = print(Operand::Cell(Cell {
+        array: 0,
+        index: Index::Number(0),
+    }));
+    assert!(rt; is_job(alloc, 0, &["b", "c"], spawn)?);
+    assert!(rt; !is_job(alloc, 0, &["b"], spawn)?);
+    assert!(rt; is_job(alloc, 1, &["b"], read)?);
+    assert!(rt; !is_job(alloc, 0, &["b"], read)?);
     Ok(())
+}
+
+// Whether this job is the one of so many cells whose task prints this number.
+fn is_like(
+    alloc: Global,
+    job: &Job,
+    (cells, printed): (usize, i64),
+) -> Result<Option<bool>, AllocError> {
+    match job_of(alloc, cells, &["b"], print(number(printed)))? {
+        None => Ok(None),
+        Some(other) => Ok(Some(job.same_as(&other))),
+    }
+}
+
+// Whether the jobs of so many cells whose tasks print these numbers are the same.
+fn are_alike(
+    alloc: Global,
+    (cells, printed): (usize, i64),
+    other: (usize, i64),
+) -> Result<Option<bool>, AllocError> {
+    match job_of(alloc, cells, &["b"], print(number(printed)))? {
+        None => Ok(None),
+        Some(job) => is_like(alloc, &job, other),
+    }
 }
 
 #[test]
 fn jobs_compared(rt: HostRuntime) -> Result<(), Fail> {
     let alloc = rt.alloc();
-    let lines = [print(Expr::One(number(1)))];
-    let others = [print(Expr::One(number(2)))];
-    let job = job_of(alloc, 2, 0, &lines)?.ok_or("a job")?;
-    let same = job_of(alloc, 2, 0, &lines)?.ok_or("a job")?;
-    let longer = job_of(alloc, 3, 0, &lines)?.ok_or("a job")?;
-    let other = job_of(alloc, 2, 0, &others)?.ok_or("a job")?;
-    assert!(rt; job.same_as(&same));
-    assert!(rt; !job.same_as(&longer));
-    assert!(rt; !job.same_as(&other));
-    assert_eq!(rt; job.starts().len(), 1);
+    assert_eq!(rt; are_alike(alloc, (2, 1), (2, 1))?, Some(true));
+    assert_eq!(rt; are_alike(alloc, (2, 1), (3, 1))?, Some(false));
+    assert_eq!(rt; are_alike(alloc, (2, 1), (2, 2))?, Some(false));
     Ok(())
 }

@@ -1,4 +1,4 @@
-//! Tests of the task language: values from outside, each call once, and the limits at their borders.
+//! Tests of the task language: bodies and jobs that no text has, and jobs compared.
 #![tactic(auto)]
 
 #[cfg(test)]
@@ -7,5 +7,3 @@ mod bodies;
 mod fixtures;
 #[cfg(test)]
 mod jobs;
-#[cfg(test)]
-mod segments;
