@@ -1,6 +1,7 @@
 //! A job on worker threads.
 ghost use Rattle.std.specs.Prelude.{◌≡◌, ◌≤◌, false, Some, IfOk, IfErr};
 ghost use Rattle.advance_rule.specs.Stored.{Answers};
+ghost use Rattle.advance_rule.specs.Action.{AnswersAction};
 ghost use Rattle.advance_rule.specs.Plan.{end_ends_at};
 ghost use Rattle.step_core.specs.Program.{program_of};
 ghost use Rattle.step_core.specs.JobMeaning.{report_of};
@@ -55,6 +56,50 @@ fn seat_all<J: Running, R: Wait, F: Fn(u32, u32) -> bool>(
     Ok(VecDeque::from_vec(seats))
 }
 
+// Seats the tasks of this round, lets the workers work, who meet at the gate of the start first, and concludes when all
+// have gone.
+fn run_at<
+    'j,
+    J: Running + Send + Sync,
+    R: Threads + Wait + Sync,
+    F: Fn(u32, u32) -> bool + Sync + Drop,
+    A: Fn(u64) -> bool + Sync,
+    G: Gate + Sync,
+    S: Starter,
+>(
+    rt: &R,
+    alloc: Global,
+    round: Round<'j>,
+    meeting: Meeting<J, F>,
+    door: Door,
+    start: &CyclicGate<A>,
+    workers: u32,
+    gate: &G,
+    starter: &S,
+) -> Result<Report, Refused>
+    requires job { round.job ≡ J.job }
+    requires limit { round.limit ≡ J.limit }
+    requires tree { door.tree ≡ J.tree }
+    requires rule { Answers (F.pre meeting.tree.rule.closure) (F.post meeting.tree.rule.closure) (end_ends_at meeting.tree.rule.plan) }
+    requires action { AnswersAction (A.pre start.now.action.closure) (A.post start.now.action.closure) start.now.action.plan }
+    ensures report { IfOk result (λ report. report_of (program_of J.job) J.limit ≡ Some report) }
+    ensures started { IfErr result (IsOfWorkers workers) }
+{
+    let mut key = Key::new(door);
+    let seats = match seat_all(rt, alloc, &meeting, &mut key, &round) {
+        Ok(seats) => seats,
+        Err(note) => return Err(note.refusal()),
+    };
+    let board: Board<'j, J> = Board::new(alloc, round, seats);
+    let shop = Shop {
+        board: Mutex::new(board),
+        changed: Condvar::new(),
+        meeting,
+    };
+    start_all(rt, alloc, &shop, &mut key, gate, start, starter, workers)?;
+    shop.conclude(alloc)
+}
+
 // Runs the job of this round at this tree.
 fn run_shared<
     'j,
@@ -90,19 +135,7 @@ fn run_shared<
         return Err(Refused::Memory);
     };
     let meeting: Meeting<J, F> = Meeting::new(tree, leaves);
-    let mut key = Key::new(door);
-    let seats = match seat_all(rt, alloc, &meeting, &mut key, &round) {
-        Ok(seats) => seats,
-        Err(note) => return Err(note.refusal()),
-    };
-    let board: Board<'j, J> = Board::new(alloc, round, seats);
-    let shop = Shop {
-        board: Mutex::new(board),
-        changed: Condvar::new(),
-        meeting,
-    };
-    start_all(rt, alloc, &shop, &mut key, gate, &start, starter, workers)?;
-    shop.conclude(alloc)
+    run_at(rt, alloc, round, meeting, door, &start, workers, gate, starter)
 }
 
 /// Runs a job on so many worker threads, which meet at a tree of this shape, superstep by superstep: what it answers is

@@ -1,0 +1,7 @@
+use Rattle.worker_pool.proofs.run.run_at.Goals as goal
+
+pub returns-in-Err-clause-started : goal.returns-in-Err-clause-started
+returns-in-Err-clause-started g c = c.refusal.ensures c.args.workers
+
+pub returns-clause-started : goal.returns-clause-started
+returns-clause-started g c = c.conclude.ensures.started c.args.workers
