@@ -135,7 +135,9 @@ fn run_shared<
         return Err(Refused::Memory);
     };
     let meeting: Meeting<J, F> = Meeting::new(tree, leaves);
-    run_at(rt, alloc, round, meeting, door, &start, workers, gate, starter)
+    run_at(
+        rt, alloc, round, meeting, door, &start, workers, gate, starter,
+    )
 }
 
 /// Runs a job on so many worker threads, which meet at a tree of this shape, superstep by superstep: what it answers is
