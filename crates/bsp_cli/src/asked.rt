@@ -10,7 +10,7 @@ use clap::{Arg, ArgAction, ArgMatches, Command, Error};
 use std::alloc::Global;
 
 /// What a command line asks for.
-#[derive(Clone, Copy, Debug, PartialEq, Eq)]
+#[derive(Clone, Copy, PartialEq, Eq)]
 pub enum Asked {
     /// To run a trace.
     Trace,

@@ -27,7 +27,7 @@ pub enum Outcome {
 }
 
 /// A call that changed the barrier.
-#[derive(Clone, Copy, Debug, PartialEq, Eq)]
+#[derive(Clone, Copy, PartialEq, Eq)]
 pub struct Note {
     /// The call.
     pub call: Call,

@@ -7,7 +7,7 @@ use superstep_memory::path::Path;
 use tier_core::call::Played;
 
 /// A step of a worker, by its number from 0 to 63 (own).
-#[derive(Clone, Copy, Debug, PartialEq, Eq)]
+#[derive(Clone, Copy, PartialEq, Eq)]
 pub enum JobStep {
     /// It takes the front ready task.
     Take(usize),
@@ -50,7 +50,7 @@ impl JobStep {
 }
 
 /// What a step answers (own).
-#[derive(Drop)]
+#[derive(Debug, Drop)]
 pub enum Answer {
     /// The worker has taken the task of this path.
     Took(Path),

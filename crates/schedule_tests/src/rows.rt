@@ -7,7 +7,7 @@ use std::test::Fail;
 use tier_core::call::Played;
 
 // An answer, without what it carries but for the tree's.
-#[derive(Clone, Copy, PartialEq, Eq, Debug)]
+#[derive(Clone, Copy, PartialEq, Eq)]
 enum Seen {
     Took(usize),
     Delivered,

@@ -20,7 +20,7 @@ pub(crate) enum Move {
 }
 
 // What it answers.
-#[derive(Clone, Copy, PartialEq, Eq, Debug)]
+#[derive(Clone, Copy, Debug, PartialEq, Eq)]
 pub(crate) enum Answer {
     NoOrder,
     Taken,

@@ -17,7 +17,7 @@ struct Log<'a> {
 }
 
 // What landing says.
-#[derive(Clone, Copy, PartialEq, Eq, Debug)]
+#[derive(Clone, Copy, Debug, PartialEq, Eq)]
 enum Said {
     Landed,
     NotInOrder,

@@ -28,7 +28,7 @@ use std::alloc::{AllocError, Global};
 use std::marker::Model;
 
 /// A value for a cell: the array by its place in declared order, the cell by its number from 0 on.
-#[derive(Clone, Copy, Debug, PartialEq, Eq)]
+#[derive(Clone, Copy, PartialEq, Eq)]
 pub struct Put {
     /// The place of the array, in declared order.
     pub array: u16,
@@ -46,7 +46,7 @@ pub const MOST_CELLS: usize = 4_294_967_296;
 
 /// Arrays of numbers by name, in declared order. No two have one name, and no array has over 4294967296 cells, so that each cell has
 /// a number that a put can hold.
-#[derive(Drop)]
+#[derive(Debug, Drop)]
 pub struct Arrays {
     by_name: IndexMap<String, Vec<i64>>,
 }

@@ -15,7 +15,7 @@ use std::marker::Model;
 use superstep_memory::arrays::Arrays;
 
 /// A task that a job begins with: its body by its place in the job, and its argument.
-#[derive(Clone, Copy, Debug, PartialEq, Eq)]
+#[derive(Clone, Copy, PartialEq, Eq)]
 pub struct Start {
     /// The place of the body in declared order.
     pub body: u16,

@@ -45,7 +45,7 @@ pub enum Counted {
 }
 
 /// What a crew that waits for the next phase is told.
-#[derive(Clone, Copy, Debug, PartialEq, Eq)]
+#[derive(Clone, Copy, PartialEq, Eq)]
 pub enum Awaited {
     /// The phase in which all members had arrived has passed, and this one is the next.
     Passed(u32),
