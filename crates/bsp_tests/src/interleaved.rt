@@ -193,7 +193,7 @@ fn goes_on(
     let late = unarrived(core, token);
     assert!(rt;
         answer_holds(answer, *note, flat, core.root().ended, late),
-        "{answer:?}"
+        "the answer doesn't hold"
     );
     if !matches!(answer, Played::GoesOn | Played::MustAdvance(_, _)) {
         note.call = None;

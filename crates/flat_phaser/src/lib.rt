@@ -32,7 +32,7 @@ pub struct Member {
 }
 
 /// What can happen to a flat phaser (Java SE 21, `Phaser`; the advance as a step of its own is own).
-#[derive(Clone, Copy, PartialEq, Eq)]
+#[derive(Clone, Copy)]
 pub enum FlatStep {
     /// An owner registers so many members, none of which has arrived.
     Join(u32, u32),

@@ -62,12 +62,12 @@ pub enum Played {
 }
 
 /// A step that can't be taken now, and changes nothing (own).
-#[derive(Clone, Copy, Debug, Drop, PartialEq, Eq, Error)]
+#[derive(Clone, Copy, Debug, Drop, Error)]
 #[error("not now")]
 pub struct NotNow;
 
 /// How far the call of a token has come (own).
-#[derive(Clone, Copy, PartialEq, Eq)]
+#[derive(Clone, Copy)]
 pub enum Progress {
     /// The token is in no call.
     Idle,
@@ -95,7 +95,7 @@ pub enum Progress {
 }
 
 /// The next step of a call (own).
-#[derive(Clone, Copy, PartialEq, Eq)]
+#[derive(Clone, Copy)]
 pub struct Turn {
     /// The kind of step.
     pub kind: Kind,
@@ -108,7 +108,7 @@ pub struct Turn {
 }
 
 /// A step of a whole run (own).
-#[derive(Clone, Copy, PartialEq, Eq)]
+#[derive(Clone, Copy)]
 pub enum Step {
     /// A token begins a call.
     Begin(usize, Call),
