@@ -205,19 +205,27 @@ fn run_on(
     }
 }
 
-/// What a job leaves, within this limit of supersteps: each superstep's tasks one after another, by path.
-pub fn run_alone(alloc: Global, job: &Job, limit: u32) -> Result<Report, AllocError>
-    requires { 1 ≤ limit }
-    ensures { IfOk result (λ report. report_of (program_of job.now) limit ≡ Some report) }
+// A job before its first superstep.
+fn begin(alloc: Global, job: &Job) -> Result<Course, AllocError>
+    ensures start { IfOk result (λ course. course_state (program_of job.now) course ≡ opening (program_of job.now)) }
+    ensures few { IfOk result (λ course. length course.tasks.items ≤ 4096) }
 {
-    let mut course = Course {
+    let arrays = job.arrays().copy(alloc)?;
+    let tasks = start_all(alloc, job.bodies(), job.starts())?;
+    Ok(Course {
         step: 0,
-        arrays: job.arrays().copy(alloc)?,
-        tasks: start_all(alloc, job.bodies(), job.starts())?,
+        arrays,
+        tasks,
         prints: Vec::new(alloc),
         records: Vec::new(alloc),
-    };
-    let status = run_on(alloc, job, limit, &mut course)?;
+    })
+}
+
+// What a job leaves that ended so.
+fn leave(course: Course, status: JobStatus) -> Report
+    requires short { IsShort (status_seen status) }
+    ensures { result ≡ left_by course (status_seen status) }
+{
     let Course {
         step: _,
         arrays,
@@ -225,10 +233,20 @@ pub fn run_alone(alloc: Global, job: &Job, limit: u32) -> Result<Report, AllocEr
         prints,
         records,
     } = course;
-    Ok(Report {
+    Report {
         prints,
         records,
         arrays,
         status,
-    })
+    }
+}
+
+/// What a job leaves, within this limit of supersteps: each superstep's tasks one after another, by path.
+pub fn run_alone(alloc: Global, job: &Job, limit: u32) -> Result<Report, AllocError>
+    requires { 1 ≤ limit }
+    ensures { IfOk result (λ report. report_of (program_of job.now) limit ≡ Some report) }
+{
+    let mut course = begin(alloc, job)?;
+    let status = run_on(alloc, job, limit, &mut course)?;
+    Ok(leave(course, status))
 }
