@@ -1,6 +1,7 @@
 //! Names of arrays, bodies and locals.
-ghost use Rattle.std.specs.Prelude.{◌≡◌, map, string_bytes};
+ghost use Rattle.std.specs.Prelude.{◌≡◌, ◌||◌, codes, map, string_bytes};
 ghost use Rattle.std.specs.List.{list_all};
+ghost use Rattle.std.specs.Str.{bytes_eq};
 ghost use Rattle.task_lang.specs.Names as spec;
 
 // Whether a name may have this byte.
@@ -38,6 +39,41 @@ pub fn is_name(word: &[u8]) -> bool
     are_in_name(word)
 }
 
+// Whether a word is a reserved one from `array` on.
+fn is_reserved_from_array(word: &[u8]) -> bool
+    ensures { result ≡ (bytes_eq word.now (codes "array") || bytes_eq word.now (codes "body") || bytes_eq word.now (codes "start") || bytes_eq word.now (codes "bsp")) }
+{
+    word == b"array".as_slice()
+        || word == b"body".as_slice()
+        || word == b"start".as_slice()
+        || word == b"bsp".as_slice()
+}
+
+// Whether a word is a reserved one from `if` on.
+fn is_reserved_from_if(word: &[u8]) -> bool
+    ensures { result ≡ (bytes_eq word.now (codes "if") || bytes_eq word.now (codes "else") || bytes_eq word.now (codes "while") || bytes_eq word.now (codes "end")
+        || bytes_eq word.now (codes "array") || bytes_eq word.now (codes "body") || bytes_eq word.now (codes "start") || bytes_eq word.now (codes "bsp")) }
+{
+    word == b"if".as_slice()
+        || word == b"else".as_slice()
+        || word == b"while".as_slice()
+        || word == b"end".as_slice()
+        || is_reserved_from_array(word)
+}
+
+// Whether a word is a reserved one from `print` on.
+fn is_reserved_from_print(word: &[u8]) -> bool
+    ensures { result ≡ (bytes_eq word.now (codes "print") || bytes_eq word.now (codes "spawn") || bytes_eq word.now (codes "sync") || bytes_eq word.now (codes "stop")
+        || bytes_eq word.now (codes "if") || bytes_eq word.now (codes "else") || bytes_eq word.now (codes "while") || bytes_eq word.now (codes "end")
+        || bytes_eq word.now (codes "array") || bytes_eq word.now (codes "body") || bytes_eq word.now (codes "start") || bytes_eq word.now (codes "bsp")) }
+{
+    word == b"print".as_slice()
+        || word == b"spawn".as_slice()
+        || word == b"sync".as_slice()
+        || word == b"stop".as_slice()
+        || is_reserved_from_if(word)
+}
+
 /// Whether a word is one of the language's own, which no array, body or local may be called by.
 #[tactic(auto, unfolding(crate::specs::Names::is_reserved))]
 pub fn is_reserved(word: &[u8]) -> bool
@@ -48,18 +84,7 @@ pub fn is_reserved(word: &[u8]) -> bool
         || word == b"let".as_slice()
         || word == b"put".as_slice()
         || word == b"add".as_slice()
-        || word == b"print".as_slice()
-        || word == b"spawn".as_slice()
-        || word == b"sync".as_slice()
-        || word == b"stop".as_slice()
-        || word == b"if".as_slice()
-        || word == b"else".as_slice()
-        || word == b"while".as_slice()
-        || word == b"end".as_slice()
-        || word == b"array".as_slice()
-        || word == b"body".as_slice()
-        || word == b"start".as_slice()
-        || word == b"bsp".as_slice()
+        || is_reserved_from_print(word)
 }
 
 /// Whether an array, a body or a local may be called so.
