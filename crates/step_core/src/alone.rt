@@ -205,27 +205,19 @@ fn run_on(
     }
 }
 
-// A job before its first superstep.
-fn begin(alloc: Global, job: &Job) -> Result<Course, AllocError>
-    ensures start { IfOk result (λ course. course_state (program_of job.now) course ≡ opening (program_of job.now)) }
-    ensures few { IfOk result (λ course. length course.tasks.items ≤ 4096) }
+/// What a job leaves, within this limit of supersteps: each superstep's tasks one after another, by path.
+pub fn run_alone(alloc: Global, job: &Job, limit: u32) -> Result<Report, AllocError>
+    requires { 1 ≤ limit }
+    ensures { IfOk result (λ report. report_of (program_of job.now) limit ≡ Some report) }
 {
-    let arrays = job.arrays().copy(alloc)?;
-    let tasks = start_all(alloc, job.bodies(), job.starts())?;
-    Ok(Course {
+    let mut course = Course {
         step: 0,
-        arrays,
-        tasks,
+        arrays: job.arrays().copy(alloc)?,
+        tasks: start_all(alloc, job.bodies(), job.starts())?,
         prints: Vec::new(alloc),
         records: Vec::new(alloc),
-    })
-}
-
-// What a job leaves that ended so.
-fn leave(course: Course, status: JobStatus) -> Report
-    requires short { IsShort (status_seen status) }
-    ensures { result ≡ left_by course (status_seen status) }
-{
+    };
+    let status = run_on(alloc, job, limit, &mut course)?;
     let Course {
         step: _,
         arrays,
@@ -233,20 +225,10 @@ fn leave(course: Course, status: JobStatus) -> Report
         prints,
         records,
     } = course;
-    Report {
+    Ok(Report {
         prints,
         records,
         arrays,
         status,
-    }
-}
-
-/// What a job leaves, within this limit of supersteps: each superstep's tasks one after another, by path.
-pub fn run_alone(alloc: Global, job: &Job, limit: u32) -> Result<Report, AllocError>
-    requires { 1 ≤ limit }
-    ensures { IfOk result (λ report. report_of (program_of job.now) limit ≡ Some report) }
-{
-    let mut course = begin(alloc, job)?;
-    let status = run_on(alloc, job, limit, &mut course)?;
-    Ok(leave(course, status))
+    })
 }

@@ -1,15 +1,12 @@
 //! The live tasks of a round, and what was delivered for them.
-ghost use Rattle.std.specs.Prelude.{◌≡◌, ◌≤◌, ◌++◌, ◌∷◌, List, [], IfOk, OnOk, OnErr, map, length};
+ghost use Rattle.std.specs.Prelude.{◌≡◌, ◌≤◌, ◌++◌, ◌∷◌, List, [], OnOk, OnErr, map, length};
 ghost use Rattle.std.specs.Arc.{arc_value};
 ghost use Rattle.superstep_memory.specs.Landing.{landed, joined};
 ghost use Rattle.task_lang.specs.Meaning.{Plan};
-ghost use Rattle.task_lang.specs.Views.{plans};
 ghost use Rattle.step_core.specs.Superstep.{log_of};
-ghost use Rattle.step_core.specs.JobMeaning.{start_tasks};
-ghost use Rattle.step_core.specs.Slots.{slots_of, delivered, told_by, fresh, missing_in};
+ghost use Rattle.step_core.specs.Slots.{slots_of, delivered, told_by};
 ghost use Rattle.step_core.specs.SlotParts.{AllSmall};
 
-use crate::alone::start_all;
 use crate::closing::{collect_prints, land_opening, record_of};
 use crate::next::{go_on, make_room, set_undone};
 use crate::slot::{Finished, Slots};
@@ -17,7 +14,6 @@ use std::alloc::{AllocError, Global};
 use std::marker::Model;
 use std::sync::Arc;
 use superstep_memory::arrays::Arrays;
-use task_lang::job::Job;
 use task_lang::task::{Segment, Task};
 
 /// The live tasks of a round in path order, and by place what was delivered for them. Orders share the tasks.
@@ -40,18 +36,6 @@ impl Model for Live {
     ghost view = { λ l. beside (arc_value l.tasks).items l.done.items };
 
     ghost invariant = { λ l. length (arc_value l.tasks).items ≡ length l.done.items };
-}
-
-/// The tasks of a job's start lines, with nothing delivered for them.
-pub(crate) fn start_live(alloc: Global, job: &Job) -> Result<Live, AllocError>
-    ensures slots { IfOk result (λ live. slots_of (plans job.now.bodies) live
-        ≡ map fresh (start_tasks (plans job.now.bodies) 0 job.now.starts)) }
-    ensures missing { IfOk result (λ live. missing_in live ≡ length live) }
-    ensures few { length job.now.starts ≤ 4096 }
-{
-    let tasks = start_all(alloc, job.bodies(), job.starts())?;
-    let live = Live::new(alloc, tasks)?;
-    Ok(live)
 }
 
 // Lands what was delivered, and keeps what the superstep printed and its record. Without memory nothing changes.

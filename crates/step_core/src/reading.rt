@@ -144,17 +144,6 @@ fn own_arrays(alloc: Global, shared: Arc<Arrays>) -> Result<Arrays, AllocError>
     }
 }
 
-/// A copy of arrays, to share.
-pub(crate) fn share(alloc: Global, arrays: &Arrays) -> Result<Arc<Arrays>, AllocError>
-    ensures { IfOk result (λ shared. arc_value shared ≡ arrays.now) }
-{
-    let copy = arrays.copy(alloc)?;
-    match Arc::new(alloc, copy) {
-        Ok(shared) => Ok(shared),
-        Err(_) => Err(AllocError),
-    }
-}
-
 /// The report of these arrays, of what these supersteps left, and of how the job ended.
 pub(crate) fn join_report(
     alloc: Global,

@@ -1,10 +1,11 @@
 //! The supersteps of a job, taken one by one.
+use crate::alone::start_all;
 use crate::closing::{find_fault, find_missing, too_many};
 use crate::fault::{AcceptFault, CloseFault, Outcome};
-use crate::live::{Live, start_live};
+use crate::live::Live;
 use crate::next::count_living;
 use crate::order::{Delivery, Order, paths_of};
-use crate::reading::{find_near, join_report, prints_of, records_of, share};
+use crate::reading::{find_near, join_report, prints_of, records_of};
 use crate::slot::{Blame, Finished};
 use phase_records::{JobStatus, Report};
 use std::alloc::{AllocError, Global};
@@ -60,19 +61,23 @@ impl<'j> Round<'j> {
         requires { 1 ≤ limit }
         ensures { IfOk result (λ r. Opens r job.now limit (opening (program_of job.now))) }
     {
-        let live = start_live(alloc, job)?;
-        let missing = live.len();
-        let opening = share(alloc, job.arrays())?;
-        Ok(Round {
-            job,
-            limit,
-            step: 0,
-            opening,
-            live,
-            missing,
-            finished: Vec::new(alloc),
-            fault: None,
-        })
+        let tasks = start_all(alloc, job.bodies(), job.starts())?;
+        let missing = tasks.len();
+        let live = Live::new(alloc, tasks)?;
+        let arrays = job.arrays().copy(alloc)?;
+        match Arc::new(alloc, arrays) {
+            Ok(opening) => Ok(Round {
+                job,
+                limit,
+                step: 0,
+                opening,
+                live,
+                missing,
+                finished: Vec::new(alloc),
+                fault: None,
+            }),
+            Err(_) => Err(AllocError),
+        }
     }
 
     /// Whether the job has ended. It takes no memory.
