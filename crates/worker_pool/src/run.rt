@@ -56,21 +56,6 @@ fn seat_all<J: Running, R: Wait, F: Fn(u32, u32) -> bool>(
     Ok(VecDeque::from_vec(seats))
 }
 
-// The board of a round whose tasks are seated.
-fn open_board<'j, J: Running, R: Wait, F: Fn(u32, u32) -> bool>(
-    rt: &R,
-    alloc: Global,
-    meeting: &Meeting<J, F>,
-    key: &mut Key<J>,
-    round: Round<'j>,
-) -> Result<Board<'j, J>, Note>
-    requires job { round.job ≡ J.job }
-    requires limit { round.limit ≡ J.limit }
-{
-    let seats = seat_all(rt, alloc, meeting, key, &round)?;
-    Ok(Board::new(alloc, round, seats))
-}
-
 // Seats the tasks of this round, lets the workers work, who meet at the gate of the start first, and concludes when all
 // have gone.
 fn run_at<
@@ -101,10 +86,11 @@ fn run_at<
     ensures started { IfErr result (IsOfWorkers workers) }
 {
     let mut key = Key::new(door);
-    let board = match open_board(rt, alloc, &meeting, &mut key, round) {
-        Ok(board) => board,
+    let seats = match seat_all(rt, alloc, &meeting, &mut key, &round) {
+        Ok(seats) => seats,
         Err(note) => return Err(note.refusal()),
     };
+    let board: Board<'j, J> = Board::new(alloc, round, seats);
     let shop = Shop {
         board: Mutex::new(board),
         changed: Condvar::new(),
@@ -112,42 +98,6 @@ fn run_at<
     };
     start_all(rt, alloc, &shop, &mut key, gate, start, starter, workers)?;
     shop.conclude(alloc)
-}
-
-// Runs the job of this round at this meeting.
-fn run_met<
-    'j,
-    J: Running + Send + Sync,
-    R: Threads + Wait + Sync,
-    F: Fn(u32, u32) -> bool + Sync + Drop,
-    G: Gate + Sync,
-    S: Starter,
->(
-    rt: &R,
-    alloc: Global,
-    round: Round<'j>,
-    meeting: Meeting<J, F>,
-    door: Door,
-    workers: u32,
-    gate: &G,
-    starter: &S,
-) -> Result<Report, Refused>
-    requires job { round.job ≡ J.job }
-    requires limit { round.limit ≡ J.limit }
-    requires tree { door.tree ≡ J.tree }
-    requires rule { Answers (F.pre meeting.tree.rule.closure) (F.post meeting.tree.rule.closure) (end_ends_at meeting.tree.rule.plan) }
-    ensures report { IfOk result (λ report. report_of (program_of J.job) J.limit ≡ Some report) }
-    ensures started { IfErr result (IsOfWorkers workers) }
-{
-    let action = StoredAction::new(meet, None);
-    let start = match CyclicGate::new(alloc, i64::from(workers), action) {
-        Ok(start) => start,
-        Err(BarrierFault::Memory) => return Err(Refused::Memory),
-        Err(_) => return Err(Refused::Internal),
-    };
-    run_at(
-        rt, alloc, round, meeting, door, &start, workers, gate, starter,
-    )
 }
 
 // Runs the job of this round at this tree.
@@ -175,11 +125,19 @@ fn run_shared<
     ensures report { IfOk result (λ report. report_of (program_of J.job) J.limit ≡ Some report) }
     ensures started { IfErr result (IsOfWorkers workers) }
 {
+    let action = StoredAction::new(meet, None);
+    let start = match CyclicGate::new(alloc, i64::from(workers), action) {
+        Ok(start) => start,
+        Err(BarrierFault::Memory) => return Err(Refused::Memory),
+        Err(_) => return Err(Refused::Internal),
+    };
     let Ok(leaves) = Leaves::of(alloc, tree.shape()) else {
         return Err(Refused::Memory);
     };
     let meeting: Meeting<J, F> = Meeting::new(tree, leaves);
-    run_met(rt, alloc, round, meeting, door, workers, gate, starter)
+    run_at(
+        rt, alloc, round, meeting, door, &start, workers, gate, starter,
+    )
 }
 
 /// Runs a job on so many worker threads, which meet at a tree of this shape, superstep by superstep: what it answers is
