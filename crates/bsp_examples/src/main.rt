@@ -23,7 +23,7 @@ const SHARED: [&str; 6] = ["bsp", "run", "--workers", "3", "--tree", "2x2"];
 const JOBS: [&str; 5] = ["breadth", "halves", "prefix", "sort", "swap"];
 
 // What the program prints of a text, on its output and behind that on its errors.
-#[derive(Debug, Drop)]
+#[derive(Drop)]
 struct Outcome {
     status: u8,
     output: Vec<u8>,

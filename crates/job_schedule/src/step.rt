@@ -50,7 +50,7 @@ impl JobStep {
 }
 
 /// What a step answers (own).
-#[derive(Debug, Drop)]
+#[derive(Drop)]
 pub enum Answer {
     /// The worker has taken the task of this path.
     Took(Path),

@@ -4,7 +4,7 @@ use superstep_memory::arrays::Arrays;
 use superstep_memory::path::Path;
 
 /// What is recorded of one superstep (own).
-#[derive(Clone, Copy, Debug, PartialEq, Eq)]
+#[derive(Clone, Copy, PartialEq, Eq)]
 pub struct PhaseRecord {
     /// Its number, from 0.
     pub phase: u32,
@@ -17,7 +17,7 @@ pub struct PhaseRecord {
 }
 
 /// A value that a task printed (own). Its type keeps that a path has at most 8 numbers.
-#[derive(Debug, Drop)]
+#[derive(Drop)]
 pub struct Print {
     /// The superstep, from 0.
     pub step: u32,
@@ -40,7 +40,7 @@ impl Model for Print {
 }
 
 /// How a job ends (own).
-#[derive(Debug, Drop)]
+#[derive(Drop)]
 pub enum JobStatus {
     /// No task lived any longer after so many supersteps.
     Ended(u32),
@@ -59,7 +59,7 @@ pub enum JobStatus {
 
 /// What a job leaves: what it printed and the records of its supersteps, in order, its arrays and its status. Its type keeps
 /// that paths have at most 8 numbers.
-#[derive(Debug, Drop)]
+#[derive(Drop)]
 pub struct Report {
     /// What was printed, by superstep, then by path, then in program order.
     pub prints: Vec<Print>,

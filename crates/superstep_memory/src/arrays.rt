@@ -46,7 +46,7 @@ pub const MOST_CELLS: usize = 4_294_967_296;
 
 /// Arrays of numbers by name, in declared order. No two have one name, and no array has over 4294967296 cells, so that each cell has
 /// a number that a put can hold.
-#[derive(Debug, Drop)]
+#[derive(Drop)]
 pub struct Arrays {
     by_name: IndexMap<String, Vec<i64>>,
 }

@@ -39,7 +39,7 @@ pub enum Cause {
 }
 
 /// What a step of a call answers (own).
-#[derive(Clone, Copy, Debug, PartialEq, Eq)]
+#[derive(Clone, Copy, PartialEq, Eq)]
 pub enum Played {
     /// The call goes on.
     GoesOn,
@@ -62,7 +62,7 @@ pub enum Played {
 }
 
 /// A step that can't be taken now, and changes nothing (own).
-#[derive(Clone, Copy, Debug, Drop, Error)]
+#[derive(Clone, Copy, Debug, Drop, PartialEq, Eq, Error)]
 #[error("not now")]
 pub struct NotNow;
 
@@ -119,7 +119,7 @@ pub enum Step {
 }
 
 /// What a step of a whole run answers (own).
-#[derive(Clone, Copy, Debug, PartialEq, Eq)]
+#[derive(Clone, Copy, PartialEq, Eq)]
 pub enum Answer {
     /// The call has begun.
     Begun,

@@ -5,8 +5,8 @@ ghost use Rattle.advance_rule.specs.Stored.{Answers};
 ghost use Rattle.advance_rule.specs.Plan.{end_ends_at};
 ghost use Rattle.phaser_tests.specs.Slots.{tree_of};
 
-use crate::lists::mirror::Mirror;
 use crate::lists::ask::{Ask, Numbers, Told};
+use crate::lists::mirror::Mirror;
 use crate::lists::slots::Slot;
 use std::process::Abort;
 use tier_table::arriving::{Arrived, Resumed};

@@ -6,9 +6,9 @@ ghost use Rattle.advance_rule.specs.Plan.{end_ends_at};
 ghost use Rattle.phaser_tests.specs.Slots.{tree_of, FourOf, AllOf, AreOf};
 ghost use Rattle.tier_table.specs.Closes.{held};
 
-use crate::lists::mirror::{Mirror, words_of};
 use crate::lists::act::act;
 use crate::lists::ask::Numbers;
+use crate::lists::mirror::{Mirror, words_of};
 use crate::lists::slots::{Eight, Slot};
 use advance_rule::{EndPlan, StoredAdvance};
 use phaser_word::Word;
