@@ -16,7 +16,7 @@ pub use action::StoredAction;
 
 /// When a phaser ends at an advance: with fewer registered parties than `least`, or at the end of
 /// phase `at` (own; Java SE 21's default for `Phaser.onAdvance` is `least` 1 and no `at`).
-#[derive(Clone, Copy, Debug, PartialEq, Eq)]
+#[derive(Clone, Copy, PartialEq, Eq)]
 pub struct CountPlan {
     /// The fewest parties with which the phaser goes on.
     pub least: u32,
@@ -80,7 +80,7 @@ impl<F: Fn(u32, u32) -> bool> StoredCount<F> {
 
 /// When a tree of phasers ends at an advance of its root: where it is empty, if `when_empty`, or at the
 /// end of phase `at` (own; Java SE 21's default for `Phaser.onAdvance` is `when_empty` and no `at`).
-#[derive(Clone, Copy, Debug, PartialEq, Eq)]
+#[derive(Clone, Copy, PartialEq, Eq)]
 pub struct EndPlan {
     /// Whether it ends where nobody is registered.
     pub when_empty: bool,

@@ -1,16 +1,16 @@
 //! What a command line asks for.
-ghost use Rattle.std.specs.Prelude.{◌≡◌, ◌≤◌, false, codes, IfOk, IfErr};
-ghost use Rattle.clap.specs.Words.{app_of, found_of, kind_of, rows_of, rule_of, subcommand_rows_of};
+ghost use Rattle.std.specs.Prelude.{◌≡◌, ◌≤◌, false, true, codes, IfOk, IfErr};
+ghost use Rattle.clap.specs.Words.{app_of, found_of, kind_of, new_app, rows_of, rule_of, subcommand_rows_of};
 ghost use Rattle.clap.specs.declared.builder.command.Command.TheViews.{out-Command as fields_of};
 ghost use Rattle.clap.specs.declared.error.kind.ErrorKind.TheVariants as kinds;
-ghost use Rattle.bsp_cli.specs.CommandLine.{asked_by, chosen, limit_in, number_rule, program, run_app, tree_by, tree_in, tree_rule, workers_in};
+ghost use Rattle.bsp_cli.specs.CommandLine.{asked_by, bare, chosen, limit_in, number_rule, program, run_app, tree_by, tree_in, tree_rule, workers_in};
 ghost use Rattle.bsp_cli.specs.Ends.{IsAsked};
 
 use clap::{Arg, ArgAction, ArgMatches, Command, Error};
 use std::alloc::Global;
 
 /// What a command line asks for.
-#[derive(Clone, Copy, Debug, PartialEq, Eq)]
+#[derive(Clone, Copy)]
 pub enum Asked {
     /// To run a trace.
     Trace,
@@ -205,21 +205,60 @@ fn tree_option<'a>(alloc: Global) -> Arg<'a>
         .action(ArgAction::Set)
 }
 
+// The subcommand `run` without its options.
+fn bare_run<'a>(alloc: Global) -> Command<'a>
+    ensures app { app_of result ≡ new_app (codes "run") }
+    ensures local { (fields_of result).has_globals ≡ false }
+{
+    Command::new(alloc, "run")
+        .about(
+            "Runs a job, and prints its supersteps with what they print, its arrays, and how it ended",
+        )
+        .after_help(RUN_LINES)
+}
+
 // The subcommand `run` with its options.
 fn run_command<'a>(alloc: Global) -> Result<Command<'a>, Error>
     ensures app { IfOk result (λ c. app_of c ≡ run_app) }
     ensures local { IfOk result (λ c. (fields_of c).has_globals ≡ false) }
     ensures memory { IfErr result (λ e. kind_of e ≡ kinds.OutOfMemory) }
 {
-    let bare = Command::new(alloc, "run")
-        .about(
-            "Runs a job, and prints its supersteps with what they print, its arrays, and how it ended",
-        )
-        .after_help(RUN_LINES);
-    let with_workers = bare.arg(workers_option(alloc))?;
+    let with_workers = bare_run(alloc).arg(workers_option(alloc))?;
     let with_tree = with_workers.arg(tree_option(alloc))?;
     let with_limit = with_tree.arg(limit_option(alloc))?;
     Ok(with_limit)
+}
+
+// The subcommand `trace`.
+fn trace_command<'a>(alloc: Global) -> Command<'a>
+    ensures app { app_of result ≡ new_app (codes "trace") }
+    ensures local { (fields_of result).has_globals ≡ false }
+{
+    Command::new(alloc, "trace")
+        .about(
+            "Runs the calls of a trace, one a line, on a phaser, a tree of phasers or a barrier, and prints what they answer",
+        )
+        .after_help(TRACE_LINES)
+}
+
+// The subcommand `check`.
+fn check_command<'a>(alloc: Global) -> Command<'a>
+    ensures app { app_of result ≡ new_app (codes "check") }
+    ensures local { (fields_of result).has_globals ≡ false }
+{
+    Command::new(alloc, "check")
+        .about("Checks the text of a job, and prints it in its one canonical form")
+        .after_help(CHECK_LINES)
+}
+
+// The program, which wants a subcommand, without any.
+fn bare_program<'a>(alloc: Global) -> Command<'a>
+    ensures { app_of result ≡ record bare { top = record bare.top { subcommand_required = true; has_version = true } } }
+{
+    Command::new(alloc, "bsp")
+        .about("Phasers and bulk-synchronous jobs, from standard input to standard output")
+        .version(VERSION)
+        .subcommand_required(true)
 }
 
 /// The parser of the command line.
@@ -227,24 +266,10 @@ pub(crate) fn parser<'a>(alloc: Global) -> Result<Command<'a>, Error>
     ensures app { IfOk result (λ c. app_of c ≡ program) }
     ensures memory { IfErr result (λ e. kind_of e ≡ kinds.OutOfMemory) }
 {
-    let trace = Command::new(alloc, "trace")
-        .about(
-            "Runs the calls of a trace, one a line, on a phaser, a tree of phasers or a barrier, and prints what they answer",
-        )
-        .after_help(TRACE_LINES);
-    let check = Command::new(alloc, "check")
-        .about("Checks the text of a job, and prints it in its one canonical form")
-        .after_help(CHECK_LINES);
-    let run = run_command(alloc)?;
-    Ok(
-        Command::new(alloc, "bsp")
-            .about("Phasers and bulk-synchronous jobs, from standard input to standard output")
-            .version(VERSION)
-            .subcommand_required(true)
-            .subcommand(trace)?
-            .subcommand(check)?
-            .subcommand(run)?,
-    )
+    let with_trace = bare_program(alloc).subcommand(trace_command(alloc))?;
+    let with_check = with_trace.subcommand(check_command(alloc))?;
+    let with_run = with_check.subcommand(run_command(alloc)?)?;
+    Ok(with_run)
 }
 
 // The number that was read, where it is one of 1 to `most`; else the usual one.

@@ -6,7 +6,7 @@ use thiserror::Error;
 pub const MOST_PARTIES: u32 = 65535;
 
 /// A call of a barrier. Callers are numbers (own; Java SE 21's `CyclicBarrier` knows them by their threads).
-#[derive(Clone, Copy, Debug, PartialEq, Eq)]
+#[derive(Clone, Copy, PartialEq, Eq)]
 pub enum Call {
     /// This caller arrives.
     Await(u32),
@@ -19,7 +19,7 @@ pub enum Call {
 }
 
 /// What an arrival came to.
-#[derive(Debug, Drop)]
+#[derive(Drop)]
 pub enum Awaited {
     /// The caller waits, with this arrival index.
     Waits(u32),

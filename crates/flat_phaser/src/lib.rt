@@ -23,7 +23,7 @@ use std::alloc::{AllocError, Global};
 use std::marker::Model;
 
 /// One registered party: whose it is, and the phase in which it last arrived, if it has (own).
-#[derive(Clone, Copy, Debug, PartialEq, Eq)]
+#[derive(Clone, Copy, PartialEq, Eq)]
 pub struct Member {
     /// Whose member this is.
     pub owner: u32,
@@ -32,7 +32,7 @@ pub struct Member {
 }
 
 /// What can happen to a flat phaser (Java SE 21, `Phaser`; the advance as a step of its own is own).
-#[derive(Clone, Copy, Debug, PartialEq, Eq)]
+#[derive(Clone, Copy)]
 pub enum FlatStep {
     /// An owner registers so many members, none of which has arrived.
     Join(u32, u32),

@@ -12,7 +12,7 @@ use task_lang::job::Start;
 use text_lines::{Code, split_word};
 
 /// The first word of a line outside bodies.
-#[derive(Clone, Copy, Debug, PartialEq, Eq)]
+#[derive(Clone, Copy)]
 pub enum Outer {
     /// `array`
     Array,

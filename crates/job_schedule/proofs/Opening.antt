@@ -1,6 +1,6 @@
 -- The world before the first step of a worker.
-use Rattle.std.proofs.Common.{◌≡◌, ℕ, zero, suc, ◌-◌, ◌<◌, List, [], ◌∷◌, ◌++◌, length, reverse, sym, ap, ◌∙◌, arith, None, Option}
-use Rattle.std.specs.Prelude.{replicate}
+use Rattle.std.proofs.Common.{◌≡◌, ℕ, zero, suc, ◌-◌, ◌<◌, List, [], ◌∷◌, ◌++◌, length, reverse, sym, ap, ◌∙◌, arith, None, Option, Result, Ok, Err}
+use Rattle.std.specs.Prelude.{OnOk, replicate}
 use Rattle.task_lang.specs.JobValue.{JobValue}
 use Rattle.tier_shape.specs.Leaves.{leaves_of}
 use Rattle.tier_core.specs.declared.call.Call.TheVariants as call
@@ -68,14 +68,21 @@ built_empty r job limit shape core leaves hands is a b c =
 abbrev pub empty_built : World → List SeatValue → List ℕ → World
 empty_built w seats free = record w { seats = seats; free = reverse free }
 
-pub opens : (r : RoundValue) (job : JobValue) (limit : ℕ) (shape : List ℕ) (core : Tree) (leaves : List ℕ) (hands : List (Option ℕ)) (paths : List (List ℕ))
-    (seats : List SeatValue) (free : List ℕ) (w : World)
+pub empty_opens : (r : RoundValue) (job : JobValue) (limit : ℕ) (shape : List ℕ) (core : Tree) (leaves : List ℕ) (hands : List (Option ℕ))
+    (seats : List SeatValue) (free : List ℕ)
     → Opens r job limit (opening (program_of job)) → core ≡ opened shape 0 (plan_for limit) → leaves ≡ leaves_of shape → hands ≡ replicate 64 None
-    → paths ≡ live_paths (state_of r) → seats ≡ [] → free ≡ [] → w ≡ with_starts (empty_built (built r core leaves hands) seats free) paths
-    → w ≡ opening_world (program_of job) shape limit
-opens r job limit shape core leaves hands paths seats free w is a b c d f g e =
-    e
-    ∙ ap (λ (gs : List SeatValue). with_starts (empty_built (built r core leaves hands) gs free) paths) f
-    ∙ ap (λ (fs : List ℕ). with_starts (empty_built (built r core leaves hands) [] fs) paths) g
-    ∙ ap (with_starts (built r core leaves hands)) (d ∙ ap live_paths is.state)
-    ∙ ap (λ (v : World). with_starts v (live_paths (opening (program_of job)))) (built_empty r job limit shape core leaves hands is a b c)
+    → seats ≡ [] → free ≡ [] → empty_built (built r core leaves hands) seats free ≡ empty_world (program_of job) shape limit
+empty_opens r job limit shape core leaves hands seats free is a b c f g =
+    ap (λ (gs : List SeatValue). empty_built (built r core leaves hands) gs free) f
+    ∙ ap (λ (fs : List ℕ). empty_built (built r core leaves hands) [] fs) g
+    ∙ built_empty r job limit shape core leaves hands is a b c
+
+-- the start tasks of an empty world come in
+pub all_live : {A E : Type 0} (result : Result A E) (w v : World) (paths : List (List ℕ)) → paths ≡ live_paths w.job
+    → OnOk result (v ≡ with_starts w paths) → OnOk result (v ≡ with_starts w (live_paths w.job))
+all_live (Ok a) w v paths b e = e ∙ ap (with_starts w) b
+all_live (Err x) w v paths b e = e
+
+pub opens : (job : JobValue) (limit : ℕ) (shape : List ℕ) (w v : World) → w ≡ empty_world (program_of job) shape limit → v ≡ with_starts w (live_paths w.job)
+    → v ≡ opening_world (program_of job) shape limit
+opens job limit shape w v a e = e ∙ ap (λ (u : World). with_starts u (live_paths u.job)) a

@@ -1,11 +1,12 @@
 //! A job by a list of steps of its workers.
-ghost use Rattle.std.specs.Prelude.{◌≡◌, ◌≤◌, Some, IfOk, map};
+ghost use Rattle.std.specs.Prelude.{◌≡◌, ◌≤◌, [], ◌∷◌, ◌++◌, Some, OnOk, IfOk, map};
 ghost use Rattle.std.specs.List.{Contains};
 ghost use Rattle.phase_records.specs.ReportValue.{ReportValue};
 ghost use Rattle.step_core.specs.Program.{program_of};
 ghost use Rattle.step_core.specs.JobMeaning.{report_of};
 ghost use Rattle.job_schedule.specs.AnswerValue.{answer_seen, Finished};
-ghost use Rattle.job_schedule.specs.World.{opening_world, answers};
+ghost use Rattle.job_schedule.specs.Parts.{world_of};
+ghost use Rattle.job_schedule.specs.World.{opening_world, answers, answer_of, world_after};
 
 use crate::schedule::Schedule;
 use crate::step::{Answer, JobStep};
@@ -13,7 +14,39 @@ use std::alloc::{AllocError, Global};
 use task_lang::job::Job;
 use tier_shape::Shape;
 
+// Takes a step, and puts its answer behind those before.
+fn take_step(
+    alloc: Global,
+    schedule: &mut Schedule<'_>,
+    step: JobStep,
+    told: &mut Vec<Answer>,
+) -> Result<(), AllocError>
+    ensures told { OnOk result (map answer_seen told.new.items ≡ map answer_seen told.old.items ++ answer_of (world_of schedule.old) step ∷ []) }
+    ensures after { OnOk result (world_of schedule.new ≡ world_after (world_of schedule.old) step) }
+{
+    let answer = schedule.step(alloc, step)?;
+    told.push(answer)?;
+    Ok(())
+}
+
 // Takes the steps one after another.
+fn take_each(
+    alloc: Global,
+    schedule: &mut Schedule<'_>,
+    steps: &[JobStep],
+) -> Result<Vec<Answer>, AllocError>
+    ensures { IfOk result (λ told. map answer_seen told.items ≡ answers (world_of schedule.old) steps.now) }
+{
+    let mut told = Vec::new(alloc);
+    let mut rest = steps;
+    while let Some((step, after)) = rest.split_first() {
+        take_step(alloc, schedule, *step, &mut told)?;
+        rest = after;
+    }
+    Ok(told)
+}
+
+// Takes the steps on a job from its beginning.
 fn take_steps(
     alloc: Global,
     job: &Job,
@@ -25,14 +58,7 @@ fn take_steps(
     ensures { IfOk result (λ told. map answer_seen told.items ≡ answers (opening_world (program_of job.now) shape limit) steps.now) }
 {
     let mut schedule = Schedule::new(alloc, job, shape, limit)?;
-    let mut told = Vec::new(alloc);
-    let mut rest = steps;
-    while let Some((step, after)) = rest.split_first() {
-        let answer = schedule.step(alloc, *step)?;
-        told.push(answer)?;
-        rest = after;
-    }
-    Ok(told)
+    take_each(alloc, &mut schedule, steps)
 }
 
 /// Runs a job with this limit of supersteps on a tree of phasers of this shape, by steps of its workers in this order,

@@ -1,8 +1,9 @@
 //! A job on a tree between two steps of its workers.
-ghost use Rattle.std.specs.Prelude.{◌≡◌};
+ghost use Rattle.std.specs.Prelude.{◌≡◌, ◌≤◌, IfOk};
 ghost use Rattle.phase_records.specs.StatusSeen.{status_seen};
-ghost use Rattle.tier_core.specs.Machine.{with_token};
-ghost use Rattle.job_schedule.specs.World.{kind_for, taking, mode_after, gone};
+ghost use Rattle.tier_shape.specs.Leaves.{leaves_of};
+ghost use Rattle.tier_core.specs.Machine.{opened, with_token};
+ghost use Rattle.job_schedule.specs.World.{plan_for, kind_for, taking, mode_after, gone};
 
 use crate::hands::{empty_hands, hand_of, set_hand};
 use crate::leaves::{leaf_at, preferred};
@@ -81,9 +82,28 @@ fn go_on(core: &mut Core, token: usize, steps: u32)
     }
 }
 
+// A tree of this shape that ends in the last phase of a limit, and its leaves.
+fn tree_of(alloc: Global, shape: Shape, limit: u32) -> Result<(Core, Vec<u16>), AllocError>
+    requires some { 1 ≤ limit }
+    ensures tree { IfOk result (λ t. t.0 ≡ opened shape 0 (plan_for limit)) }
+    ensures leaves { IfOk result (λ t. t.1.items ≡ leaves_of shape) }
+{
+    let leaves = shape.leaves(alloc)?;
+    let plan = EndPlan {
+        when_empty: true,
+        at: Some(limit - 1),
+    };
+    let core = Core::new(alloc, shape, 0, plan)?;
+    Ok((core, leaves))
+}
+
 impl<'j> Schedule<'j> {
-    ghost use Rattle.std.specs.Prelude.{◌≡◌, ◌≤◌, ◌<◌, OnOk, IfOk, None, length, map, slice_index_or};
+    ghost use Rattle.std.specs.Prelude.{◌<◌, OnOk, None, length, map, slice_index_or};
+    ghost use Rattle.task_lang.specs.JobValue.{JobValue};
     ghost use Rattle.step_core.specs.Program.{program_of};
+    ghost use Rattle.step_core.specs.JobMeaning.{opening};
+    ghost use Rattle.step_core.specs.RoundValue.{Opens};
+    ghost use Rattle.step_core.specs.Superstep.{live_paths};
     ghost use Rattle.job_schedule.specs.AnswerValue.{answer_seen};
     ghost use Rattle.job_schedule.specs.Parts.{path_items, world_of};
     ghost use Rattle.job_schedule.specs.SeatValue.{seat_at};
@@ -118,15 +138,19 @@ impl<'j> Schedule<'j> {
         ensures { IfOk result (λ s. world_of s ≡ opening_world (program_of job.now) shape limit) }
     {
         let round = Round::new(alloc, job, limit)?;
-        let leaves = shape.leaves(alloc)?;
-        let plan = EndPlan {
-            when_empty: true,
-            at: Some(limit - 1),
-        };
-        let core = Core::new(alloc, shape, 0, plan)?;
-        let paths = round.live(alloc)?;
+        let mut schedule = Self::around(alloc, round, shape, limit)?;
+        schedule.start_live(alloc)?;
+        Ok(schedule)
+    }
+
+    // A round on a tree of this shape, before its start tasks come in.
+    fn around(alloc: Global, round: Round<'j>, shape: Shape, limit: u32) -> Result<Self, AllocError>
+        requires some { 1 ≤ limit }
+        ensures { IfOk result (λ s. (job : JobValue) → Opens round.entry job limit (opening (program_of job)) → world_of s ≡ spec.empty_world (program_of job) shape limit) }
+    {
+        let (core, leaves) = tree_of(alloc, shape, limit)?;
         let hands = empty_hands(alloc, 64)?;
-        let mut schedule = Schedule {
+        Ok(Schedule {
             round,
             core,
             leaves,
@@ -135,9 +159,15 @@ impl<'j> Schedule<'j> {
             hands,
             free: Vec::new(alloc),
             mode: Mode::Runs,
-        };
-        schedule.start_all(alloc, &paths)?;
-        Ok(schedule)
+        })
+    }
+
+    // The tokens of the live tasks come in and join their leaves.
+    fn start_live(&mut self, alloc: Global) -> Result<(), AllocError>
+        ensures { OnOk result (world_of self.new ≡ with_starts (world_of self.old) (live_paths (world_of self.old).job)) }
+    {
+        let paths = self.round.live(alloc)?;
+        self.start_all(alloc, &paths)
     }
 
     // The token of a start task comes in and joins its leaf.
@@ -153,13 +183,21 @@ impl<'j> Schedule<'j> {
         Ok(())
     }
 
+    // So does that of a start task of this path.
+    fn start_copy(&mut self, alloc: Global, path: &Path) -> Result<(), AllocError>
+        ensures { OnOk result (world_of self.new ≡ with_start (world_of self.old) path.now.items) }
+    {
+        let path = copy_path(path)?;
+        self.start(alloc, path)
+    }
+
     // So do those of all start tasks.
     fn start_all(&mut self, alloc: Global, paths: &[Path]) -> Result<(), AllocError>
         ensures { OnOk result (world_of self.new ≡ with_starts (world_of self.old) (map path_items paths.now)) }
     {
         let mut rest = paths;
         while let Some((path, after)) = rest.split_first() {
-            self.start(alloc, copy_path(path)?)?;
+            self.start_copy(alloc, path)?;
             rest = after;
         }
         Ok(())

@@ -7,7 +7,7 @@ use superstep_memory::path::Path;
 use tier_core::call::Played;
 
 /// A step of a worker, by its number from 0 to 63 (own).
-#[derive(Clone, Copy, Debug, PartialEq, Eq)]
+#[derive(Clone, Copy)]
 pub enum JobStep {
     /// It takes the front ready task.
     Take(usize),

@@ -10,7 +10,7 @@ use task_lang::code::{Action, Line};
 use text_lines::Code;
 
 /// The first word of a line in a body.
-#[derive(Clone, Copy, Debug, PartialEq, Eq)]
+#[derive(Clone, Copy, PartialEq, Eq)]
 pub enum Keyword {
     /// `let`
     Let,

@@ -4,7 +4,7 @@ use superstep_memory::arrays::Arrays;
 use superstep_memory::path::Path;
 
 /// What is recorded of one superstep (own).
-#[derive(Clone, Copy, Debug, PartialEq, Eq)]
+#[derive(Clone, Copy, PartialEq, Eq)]
 pub struct PhaseRecord {
     /// Its number, from 0.
     pub phase: u32,

@@ -51,13 +51,20 @@ fn push_path(out: &mut Vec<u8>, path: &[u16]) -> Result<(), AllocError>
     Ok(())
 }
 
+// Puts a name and the numbers of a path behind what is there.
+fn push_path_behind(out: &mut Vec<u8>, name: &[u8], path: &[u16]) -> Result<(), AllocError>
+    ensures { OnOk result (out.new.items ≡ out.old.items ++ name.now ++ path_text path.now) }
+{
+    out.extend_from_slice(name)?;
+    push_path(out, path)
+}
+
 // Puts the line of a print behind what is there.
 fn push_print(out: &mut Vec<u8>, print: &Print) -> Result<(), AllocError>
     ensures { OnOk result (out.new.items ≡ out.old.items ++ print_line print.now) }
 {
     push_field(out, b"print ", print.step)?;
-    out.extend_from_slice(b" ")?;
-    push_path(out, print.path.as_slice())?;
+    push_path_behind(out, b" ", print.path.as_slice())?;
     push_field(out, b" ", print.value)?;
     out.extend_from_slice(b"\n")
 }

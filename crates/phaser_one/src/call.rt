@@ -20,7 +20,7 @@ pub enum OneFault {
 }
 
 /// A call of a single phaser.
-#[derive(Clone, Copy, Debug, PartialEq, Eq)]
+#[derive(Clone, Copy, PartialEq, Eq)]
 pub enum Call {
     /// One party registers.
     Register,
@@ -48,7 +48,7 @@ pub enum Reply {
 }
 
 /// What asking for the end of a phase answers.
-#[derive(Clone, Copy, Debug, PartialEq, Eq)]
+#[derive(Clone, Copy, PartialEq, Eq)]
 pub enum Awaited {
     /// It is over, or never was: the phase now, as it is shown, or the negative number asked for.
     Now(i32),
@@ -57,7 +57,7 @@ pub enum Awaited {
 }
 
 /// An advance that a call brought.
-#[derive(Clone, Copy, Debug, PartialEq, Eq)]
+#[derive(Clone, Copy, PartialEq, Eq)]
 pub struct Advance {
     /// The phase that ended.
     pub phase: u32,

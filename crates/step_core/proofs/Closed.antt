@@ -249,6 +249,20 @@ closes r now round is run ss e o h n = record {
   all = none_found (plans r.job.bodies) ss r.slots o (h (plans r.job.bodies)) e n;
 }
 
+-- a round that lands, and how many live then
+pub lands : (r now : RoundValue) → IsRound r → r ≡ now → status_in now ≡ None → first_missing (slots_in now) ≡ None
+    → first_fault (delivered (slots_in now)) ≡ None → (count : ℕ) → count ≡ length (living_in now.slots)
+    → Closes r × (first_fault (deeds r) ≡ None) × (length (map fresh_slot (in_path_order path_in (living_in r.slots))) ≡ count)
+lands r now round is run all none count k = (
+  record {
+    round = round;
+    run = ap status_in is ∙ run;
+    all = ap (λ (x : RoundValue). first_missing (slots_in x)) is ∙ all;
+  },
+  ap (λ (x : RoundValue). first_fault (deeds x)) is ∙ none,
+  next_count r.slots count (k ∙ ap (λ (x : RoundValue). length (living_in x.slots)) (sym is)),
+)
+
 pub many_outcome : (r now : RoundValue) → r ≡ now → first_fault (deeds r) ≡ None → (xs : List SlotValue)
     → xs ≡ map fresh_slot (in_path_order path_in (living_in r.slots)) → 4096 < length xs → TooMany ≡ outcome_of (deeds now)
 many_outcome r now e none xs ex lt =

@@ -184,6 +184,23 @@ pub record Meets (r : RoundValue) (d : DeliveryValue) : Type 0 where
   pub step : d.step ≡ r.step
   pub known : IsDelivery d
 
+-- of a round as it is kept, where it is known as it is seen
+pub meets : (r now : RoundValue) → IsRound r → r ≡ now → status_in now ≡ None → (d : DeliveryValue) → d.job ≡ now.job → d.step ≡ r.step → IsDelivery d → Meets r d
+meets r now h e run d job step known = record {
+  round = h;
+  run = ap status_in e ∙ run;
+  job = job ∙ ap (λ (x : RoundValue). x.job) (sym e);
+  step = step;
+  known = known;
+}
+
+-- of a round that takes it
+pub takes : (r now : RoundValue) → IsRound r → r ≡ now → status_in now ≡ None → (d : DeliveryValue) → Takes now d → IsDelivery d
+    → Meets r d × (is_done (slice_get r.slots d.place) ≡ false)
+takes r now h e run d t known =
+    let k : Takes r d = subst (λ (x : RoundValue). Takes x d) (sym e) t in
+    (meets r now h e run d t.ordered.0 k.step known, k.first)
+
 met_deed : (r : RoundValue) (d : DeliveryValue) → Meets r d → deed_at (program_of r.job) r.step d.place ≡ Some (d.path, meant (plans r.job.bodies) d.segment)
 met_deed r d m = here r d.job d.step d.place d.place d.path d.segment m.job m.step refl m.known
 

@@ -1,12 +1,14 @@
 //! What is read of a round.
-ghost use Rattle.std.specs.Prelude.{◌≡◌, ◌≤◌, ◌++◌, length, false, IfOk, OnOk, MatchOption, map};
+ghost use Rattle.std.specs.Prelude.{◌≡◌, ◌≤◌, ◌++◌, Some, length, false, IfOk, OnOk, MatchOption, map};
 ghost use Rattle.std.specs.Arc.{arc_value};
+ghost use Rattle.phase_records.specs.Status.{IsShort};
+ghost use Rattle.phase_records.specs.StatusSeen.{status_seen};
 ghost use Rattle.step_core.specs.Slots.{all_prints, all_told};
 ghost use Rattle.step_core.specs.SlotParts.{IsPlaceOf};
 ghost use Rattle.step_core.specs.Taking.{is_live};
 
 use crate::slot::{Finished, Slots};
-use phase_records::{PhaseRecord, Print};
+use phase_records::{JobStatus, PhaseRecord, Print, Report};
 use smallvec::SmallVec;
 use std::alloc::{AllocError, Global};
 use std::sync::Arc;
@@ -132,12 +134,38 @@ pub(crate) fn join_prints(alloc: Global, finished: Vec<Finished>) -> Result<Vec<
     Ok(prints)
 }
 
-/// The arrays: themselves where nobody else has them, else a copy.
-pub(crate) fn own_arrays(alloc: Global, shared: Arc<Arrays>) -> Result<Arrays, AllocError>
+// The arrays: themselves where nobody else has them, else a copy.
+fn own_arrays(alloc: Global, shared: Arc<Arrays>) -> Result<Arrays, AllocError>
     ensures { IfOk result (λ arrays. arrays ≡ arc_value shared) }
 {
     match Arc::try_unwrap(shared) {
         Ok(arrays) => Ok(arrays),
         Err(shared) => shared.copy(alloc),
     }
+}
+
+/// The report of these arrays, of what these supersteps left, and of how the job ended.
+pub(crate) fn join_report(
+    alloc: Global,
+    opening: Arc<Arrays>,
+    finished: Vec<Finished>,
+    status: JobStatus,
+) -> Result<Option<Report>, AllocError>
+    requires short { IsShort (status_seen status) }
+    ensures { IfOk result (λ report. report ≡ Some record {
+      prints = all_prints finished.items;
+      records = all_told finished.items;
+      arrays = arc_value opening;
+      status = status_seen status;
+    }) }
+{
+    let records = records_of(alloc, &finished)?;
+    let prints = join_prints(alloc, finished)?;
+    let arrays = own_arrays(alloc, opening)?;
+    Ok(Some(Report {
+        prints,
+        records,
+        arrays,
+        status,
+    }))
 }

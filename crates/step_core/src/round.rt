@@ -5,7 +5,7 @@ use crate::fault::{AcceptFault, CloseFault, Outcome};
 use crate::live::Live;
 use crate::next::count_living;
 use crate::order::{Delivery, Order, paths_of};
-use crate::reading::{find_near, join_prints, own_arrays, prints_of, records_of};
+use crate::reading::{find_near, join_report, prints_of, records_of};
 use crate::slot::{Blame, Finished};
 use phase_records::{JobStatus, Report};
 use std::alloc::{AllocError, Global};
@@ -50,9 +50,9 @@ impl<'j> Round<'j> {
     ghost use Rattle.phase_records.specs.StatusSeen.{status_seen};
     ghost use Rattle.step_core.specs.Program.{program_of};
     ghost use Rattle.step_core.specs.JobMeaning.{opening, report_in};
-    ghost use Rattle.step_core.specs.Superstep.{superstep, live_paths};
+    ghost use Rattle.step_core.specs.Superstep.{superstep, live_paths, first_fault};
     ghost use Rattle.step_core.specs.Slots.{delivered, first_missing, missing_in};
-    ghost use Rattle.step_core.specs.SlotParts.{path_of, IsPlaceOf};
+    ghost use Rattle.step_core.specs.SlotParts.{path_of, living_in, IsPlaceOf};
     ghost use Rattle.step_core.specs.RoundValue.{IsRound, Opens, state_of, status_in, slots_in, with_fault};
     ghost use Rattle.step_core.specs.Taking.{Refuses, Takes, IsDouble, with_delivery, NotClosed, outcome_of, IsOrderOf, IsOrderAt, is_live, task_at};
 
@@ -154,15 +154,7 @@ impl<'j> Round<'j> {
             finished,
             ..
         } = self;
-        let records = records_of(alloc, &finished)?;
-        let prints = join_prints(alloc, finished)?;
-        let arrays = own_arrays(alloc, opening)?;
-        Ok(Some(Report {
-            prints,
-            records,
-            arrays,
-            status,
-        }))
+        join_report(alloc, opening, finished, status)
     }
 
     /// For how many live tasks nothing was delivered yet: none exactly where closing doesn't answer `Missing`. It takes no
@@ -224,13 +216,25 @@ impl<'j> Round<'j> {
         ensures refused { IfErr result (λ fault. Refuses fault self.old delivery.entry) }
         ensures unchanged { OnErr result (self.new ≡ self.old) }
     {
-        if !delivery.is_of_step(self.step) {
-            return Err(AcceptFault::WrongStep);
-        }
-        if !self.job.same_as(delivery.job()) {
-            return Err(AcceptFault::Stranger);
+        if let Some(fault) = self.disowns(&delivery) {
+            return Err(fault);
         }
         self.accept_known(delivery)
+    }
+
+    // Why a delivery isn't of this step and this job, if it isn't.
+    fn disowns(&self, delivery: &Delivery<'j>) -> Option<AcceptFault>
+        ensures { MatchOption result
+            ((delivery.now.step ≡ self.now.step) × (delivery.now.job ≡ self.now.job))
+            (λ fault. Refuses fault self.now delivery.now) }
+    {
+        if !delivery.is_of_step(self.step) {
+            return Some(AcceptFault::WrongStep);
+        }
+        if !self.job.same_as(delivery.job()) {
+            return Some(AcceptFault::Stranger);
+        }
+        None
     }
 
     /// How many supersteps were taken. It takes no memory.
@@ -252,18 +256,57 @@ impl<'j> Round<'j> {
         ensures own { delivery.entry.step ≡ self.old.step → IfErr result IsDouble }
         ensures unchanged { OnErr result (self.new ≡ self.old) }
     {
+        let refusal = self.refuses(&delivery);
+        self.settle(refusal, delivery)
+    }
+
+    // Keeps what was delivered, unless it is refused.
+    fn settle(
+        &mut self,
+        refusal: Option<AcceptFault>,
+        delivery: Delivery<'j>,
+    ) -> Result<(), AcceptFault>
+        requires running { status_in self.old ≡ None }
+        requires taken { refusal ≡ None → Takes self.old delivery }
+        ensures added { OnOk result ((refusal ≡ None) × (self.new ≡ with_delivery self.old delivery.entry)) }
+        ensures refused { IfErr result (λ fault. refusal ≡ Some fault) }
+        ensures unchanged { OnErr result (self.new ≡ self.old) }
+    {
+        if let Some(fault) = refusal {
+            return Err(fault);
+        }
+        self.keep(delivery);
+        Ok(())
+    }
+
+    // Why a delivery of this job isn't taken, if it isn't.
+    fn refuses(&self, delivery: &Delivery<'j>) -> Option<AcceptFault>
+        requires running { status_in self.now ≡ None }
+        requires job { delivery.now.job ≡ self.now.job }
+        ensures told { MatchOption result (Takes self.now delivery.now) (λ fault. Refuses fault self.now delivery.now) }
+        ensures own { delivery.now.step ≡ self.now.step → IfSome result IsDouble }
+    {
         if !delivery.is_of_step(self.step) {
-            return Err(AcceptFault::WrongStep);
+            return Some(AcceptFault::WrongStep);
         }
         let place = delivery.place();
         let _known = delivery.path();
         if self.live.is_done(place) {
-            return Err(AcceptFault::Double);
+            return Some(AcceptFault::Double);
         }
+        None
+    }
+
+    // Keeps what was delivered.
+    fn keep(&mut self, delivery: Delivery<'j>)
+        requires running { status_in self.old ≡ None }
+        requires taken { Takes self.old delivery }
+        ensures { self.new ≡ with_delivery self.old delivery.entry }
+    {
+        let place = delivery.place();
         let segment = delivery.into_segment();
         self.live.put(place, segment);
         self.missing -= 1;
-        Ok(())
     }
 
     // Ends the job by this fault. The superstep leaves nothing else.
@@ -298,6 +341,22 @@ impl<'j> Round<'j> {
             self.end(too_many(alloc));
             return Ok(Outcome::TooMany);
         }
+        self.land(alloc, count)
+    }
+
+    // Takes one superstep in which no task faults, after which so many live, or changes nothing.
+    fn land(&mut self, alloc: Global, count: usize) -> Result<Outcome, CloseFault>
+        requires running { status_in self.old ≡ None }
+        requires whole { first_missing (slots_in self.old) ≡ None }
+        requires faultless { first_fault (delivered (slots_in self.old)) ≡ None }
+        requires count { count ≡ length (living_in self.old.slots) }
+        requires few { count ≤ 4096 }
+        ensures closed { OnOk result (Opens self.new self.old.job self.old.limit
+            (superstep (program_of self.old.job) (state_of self.old))) }
+        ensures outcome { IfOk result (λ outcome. outcome ≡ outcome_of (delivered (slots_in self.old))) }
+        ensures refused { IfErr result (λ fault. NotClosed fault self.old) }
+        ensures unchanged { OnErr result (self.new ≡ self.old) }
+    {
         let taken = self.live.take_superstep(
             alloc,
             self.step,

@@ -28,7 +28,7 @@ use std::alloc::{AllocError, Global};
 use std::marker::Model;
 
 /// A value for a cell: the array by its place in declared order, the cell by its number from 0 on.
-#[derive(Clone, Copy, Debug, PartialEq, Eq)]
+#[derive(Clone, Copy, PartialEq, Eq)]
 pub struct Put {
     /// The place of the array, in declared order.
     pub array: u16,

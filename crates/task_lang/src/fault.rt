@@ -3,7 +3,7 @@ ghost use Rattle.std.specs.Prelude.{◌≡◌};
 ghost use Rattle.task_lang.specs.FaultCode.{code_of};
 
 /// Why a task faults. `code` gives the number that a report has for it (own).
-#[derive(Clone, Copy, Debug, PartialEq, Eq)]
+#[derive(Clone, Copy, PartialEq, Eq)]
 pub enum Fault {
     /// 1: a sum, difference, product or quotient out of 64 signed bits.
     Overflow,

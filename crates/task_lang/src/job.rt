@@ -15,7 +15,7 @@ use std::marker::Model;
 use superstep_memory::arrays::Arrays;
 
 /// A task that a job begins with: its body by its place in the job, and its argument.
-#[derive(Clone, Copy, Debug, PartialEq, Eq)]
+#[derive(Clone, Copy, PartialEq, Eq)]
 pub struct Start {
     /// The place of the body in declared order.
     pub body: u16,
@@ -144,6 +144,23 @@ fn are_args(starts: &[Start]) -> bool
     starts.iter().all(|start| is_number(start.arg))
 }
 
+// Whether a job may have these arrays, bodies and start lines.
+fn is_job(arrays: &Arrays, bodies: &Vec<Body>, starts: &Vec<Start>) -> bool
+    ensures { IsTrue result ↔ IsJob (job_value arrays.now bodies.now starts.now) }
+{
+    let count = bodies.len();
+    if arrays.len() > 16 || count > 64 || starts.len() > 4096 {
+        return false;
+    }
+    if !are_arrays(arrays) || !are_named_apart(bodies) {
+        return false;
+    }
+    if !are_within(bodies, arrays.len(), count) {
+        return false;
+    }
+    are_starts(starts, count) && are_args(starts) && are_cells(arrays)
+}
+
 impl Job {
     /// A job of these arrays, bodies and start lines. `None` where a name isn't one or a body has the name of
     /// another, where an array has no cell or over 4096, where a line names an array or a body that isn't there,
@@ -152,17 +169,7 @@ impl Job {
         ensures refused { IsSome result ↔ IsJob (job_value arrays bodies starts) }
         ensures made { IfSome result (λ job. job ≡ job_value arrays bodies starts) }
     {
-        let count = bodies.len();
-        if arrays.len() > 16 || count > 64 || starts.len() > 4096 {
-            return None;
-        }
-        if !are_arrays(&arrays) || !are_named_apart(&bodies) {
-            return None;
-        }
-        if !are_within(&bodies, arrays.len(), count) {
-            return None;
-        }
-        if !are_starts(&starts, count) || !are_args(&starts) || !are_cells(&arrays) {
+        if !is_job(&arrays, &bodies, &starts) {
             return None;
         }
         Some(Job {

@@ -1,6 +1,7 @@
 //! Names of arrays, bodies and locals.
-ghost use Rattle.std.specs.Prelude.{◌≡◌, map, string_bytes};
+ghost use Rattle.std.specs.Prelude.{◌≡◌, ◌||◌, map, string_bytes};
 ghost use Rattle.std.specs.List.{list_all};
+ghost use Rattle.std.specs.Str.{bytes_eq};
 ghost use Rattle.task_lang.specs.Names as spec;
 
 // Whether a name may have this byte.
@@ -38,28 +39,23 @@ pub fn is_name(word: &[u8]) -> bool
     are_in_name(word)
 }
 
+// Whether a word is one of these four, or else is reserved.
+fn is_one_of(word: &[u8], a: &[u8], b: &[u8], c: &[u8], d: &[u8], or_else: bool) -> bool
+    ensures { result ≡ (bytes_eq word.now a.now || bytes_eq word.now b.now || bytes_eq word.now c.now || bytes_eq word.now d.now || or_else) }
+{
+    word == a || word == b || word == c || word == d || or_else
+}
+
 /// Whether a word is one of the language's own, which no array, body or local may be called by.
 #[tactic(auto, unfolding(crate::specs::Names::is_reserved))]
 pub fn is_reserved(word: &[u8]) -> bool
     ensures { result ≡ spec.is_reserved word.now }
 {
-    word == b"arg".as_slice()
-        || word == b"step".as_slice()
-        || word == b"let".as_slice()
-        || word == b"put".as_slice()
-        || word == b"add".as_slice()
-        || word == b"print".as_slice()
-        || word == b"spawn".as_slice()
-        || word == b"sync".as_slice()
-        || word == b"stop".as_slice()
-        || word == b"if".as_slice()
-        || word == b"else".as_slice()
-        || word == b"while".as_slice()
-        || word == b"end".as_slice()
-        || word == b"array".as_slice()
-        || word == b"body".as_slice()
-        || word == b"start".as_slice()
-        || word == b"bsp".as_slice()
+    let last = word == b"bsp".as_slice();
+    let lines = is_one_of(word, b"end", b"array", b"body", b"start", last);
+    let tests = is_one_of(word, b"stop", b"if", b"else", b"while", lines);
+    let actions = is_one_of(word, b"add", b"print", b"spawn", b"sync", tests);
+    is_one_of(word, b"arg", b"step", b"let", b"put", actions)
 }
 
 /// Whether an array, a body or a local may be called so.

@@ -1,4 +1,5 @@
 pub mod Turns
 pub mod Places
 pub mod Runs
+pub mod Driving
 pub mod Opening

@@ -59,3 +59,16 @@ token_core s core =
           (sym (entry_last s.views (new_view (word_at s.words 0).phase) (new_view 0) token here)) refl))
           (cases_lt token (length s.views));
     }
+
+-- the same tokens, and those with one more, wherever they lie in memory
+pub same_core : (s : State) → IsCore s → (views : List View) (calls : List Progress) → views ≡ s.views → calls ≡ s.calls
+    → IsCore record { parents = s.parents; words = s.words; views = views; calls = calls; plan = s.plan }
+same_core s core views calls same kept =
+    subst (λ (vs : List View). IsCore record { parents = s.parents; words = s.words; views = vs; calls = calls; plan = s.plan }) (sym same)
+    (subst (λ (ps : List Progress). IsCore record { parents = s.parents; words = s.words; views = s.views; calls = ps; plan = s.plan }) (sym kept) core)
+
+pub added_core : (s : State) (phase : ℕ) (v : View) (views : List View) (before calls : List Progress) → IsCore s → phase ≡ (word_at s.words 0).phase → v ≡ new_view phase
+    → views ≡ s.views ++ v ∷ [] → before ≡ s.calls → calls ≡ before ++ Idle ∷ [] → IsCore record { parents = s.parents; words = s.words; views = views; calls = calls; plan = s.plan }
+added_core s phase v views before calls core root new more same one =
+    same_core (with_token s) (token_core s core) views calls (more ∙ ap (λ (u : View). s.views ++ u ∷ []) (new ∙ ap new_view root))
+    (one ∙ ap (λ (ps : List Progress). ps ++ Idle ∷ []) same)

@@ -6,7 +6,7 @@ use tier_steps::view::Trip;
 
 /// What a token is asked to do (own; Java SE 21, `Phaser`: `bulkRegister`, `arrive`,
 /// `arriveAndDeregister`, `forceTermination`; polling is own).
-#[derive(Clone, Copy, Debug, PartialEq, Eq)]
+#[derive(Clone, Copy, PartialEq, Eq)]
 pub enum Call {
     /// To join a tier with members.
     Join {
@@ -39,7 +39,7 @@ pub enum Cause {
 }
 
 /// What a step of a call answers (own).
-#[derive(Clone, Copy, Debug, PartialEq, Eq)]
+#[derive(Clone, Copy, PartialEq, Eq)]
 pub enum Played {
     /// The call goes on.
     GoesOn,
@@ -67,7 +67,7 @@ pub enum Played {
 pub struct NotNow;
 
 /// How far the call of a token has come (own).
-#[derive(Clone, Copy, Debug, PartialEq, Eq)]
+#[derive(Clone, Copy)]
 pub enum Progress {
     /// The token is in no call.
     Idle,
@@ -95,7 +95,7 @@ pub enum Progress {
 }
 
 /// The next step of a call (own).
-#[derive(Clone, Copy, Debug, PartialEq, Eq)]
+#[derive(Clone, Copy)]
 pub struct Turn {
     /// The kind of step.
     pub kind: Kind,
@@ -108,7 +108,7 @@ pub struct Turn {
 }
 
 /// A step of a whole run (own).
-#[derive(Clone, Copy, Debug, PartialEq, Eq)]
+#[derive(Clone, Copy)]
 pub enum Step {
     /// A token begins a call.
     Begin(usize, Call),
@@ -119,7 +119,7 @@ pub enum Step {
 }
 
 /// What a step of a whole run answers (own).
-#[derive(Clone, Copy, Debug, PartialEq, Eq)]
+#[derive(Clone, Copy, PartialEq, Eq)]
 pub enum Answer {
     /// The call has begun.
     Begun,

@@ -102,7 +102,7 @@ impl Core {
         let phase = word_of(&self.words, 0).phase;
         self.calls.reserve(1)?;
         self.views.extend_from_slice(&[View::new(phase)])?;
-        self.calls.push(Progress::Idle)?;
+        self.calls.push_reserved(Progress::Idle);
         Ok(token)
     }
 
@@ -290,7 +290,7 @@ impl Core {
         let _ = &self.shape;
         let mut told = Vec::with_capacity(alloc, steps.len())?;
         for step in steps {
-            told.push(self.step(*step))?;
+            told.push_reserved(self.step(*step));
         }
         Ok(told)
     }

@@ -1,6 +1,6 @@
 //! The next step of a call in code: what a token looks at, and the kind of step that it picks.
 
-ghost use Rattle.std.specs.Prelude.{◌≡◌, ℕ, Bool, List};
+ghost use Rattle.std.specs.Prelude.{◌≡◌, ◌==◌, ℕ, Bool, List, if◌then◌else◌};
 ghost use Rattle.tier_core.specs.declared.call.Call.TheVariants as call;
 ghost use Rattle.tier_core.specs.Turn as spec;
 ghost use Rattle.phaser_word.specs.Fields.{Fields};
@@ -9,6 +9,7 @@ ghost use Rattle.tier_shape.specs.Parents.{parent_of};
 ghost use Rattle.tier_steps.specs.View.{ancestor};
 ghost use Rattle.tier_steps.specs.declared.view.Trip.TheVariants.{Arrival, Departure};
 ghost use Rattle.tier_steps.specs.Tally.{word_at};
+ghost use Rattle.tier_steps.specs.Step.{looked};
 ghost use Rattle.tier_steps.specs.declared.kind.Kind.TheVariants.{Look};
 ghost use Rattle.tier_shape.specs.Parents.{IsShape};
 ghost use Rattle.tier_core.specs.Turn.{
@@ -357,18 +358,15 @@ fn poll_answer(moved: bool, phase: u32) -> Played
     }
 }
 
-/// The first look of a call that arrives or leaves.
-fn look_before(trip: Trip, root: Word, view: View) -> Turn
-    ensures arrives { trip ≡ Arrival → result ≡ first_turn call.Arrive root root view }
-    ensures leaves { trip ≡ Departure → result ≡ first_turn call.Leave root root view }
+/// The look of a call that arrives or leaves, by whether all its members had arrived in this phase.
+fn look_passing(trip: Trip, all: bool, phase: u32) -> Turn
+    ensures kind { result.kind ≡ Look }
+    ensures tier { result.tier ≡ 0 }
+    ensures next { result.next ≡ (if all then spec.Idle else spec.Passing trip) }
+    ensures answer { result.answer ≡ (if all then spec.AlreadyArrived phase else spec.GoesOn) }
 {
-    if root.ended {
-        return look_last(shown_end(root));
-    }
-    let size = view.size;
-    let looked = look(root, view);
-    if looked.arrived == size {
-        return look_last(Played::AlreadyArrived(looked.phase));
+    if all {
+        return look_last(Played::AlreadyArrived(phase));
     }
     Turn {
         kind: Kind::Look,
@@ -376,6 +374,21 @@ fn look_before(trip: Trip, root: Word, view: View) -> Turn
         next: Progress::Passing(trip),
         answer: Played::GoesOn,
     }
+}
+
+/// The first look of a call that arrives or leaves.
+fn look_before(trip: Trip, root: Word, view: View) -> Turn
+    ensures kind { result.kind ≡ Look }
+    ensures tier { result.tier ≡ 0 }
+    ensures next { result.next ≡ (if root.ended then spec.Idle else (if (looked root view).arrived == view.size then spec.Idle else spec.Passing trip)) }
+    ensures answer { result.answer ≡ (if root.ended then end_shown root else (if (looked root view).arrived == view.size then spec.AlreadyArrived (looked root view).phase else spec.GoesOn)) }
+{
+    if root.ended {
+        return look_last(shown_end(root));
+    }
+    let size = view.size;
+    let looked = look(root, view);
+    look_passing(trip, looked.arrived == size, looked.phase)
 }
 
 /// The first step of a poll.

@@ -80,7 +80,7 @@ impl ShapeFault {
 
 /// A tree of tiers: 1 to 64 of them, at most 6 levels below the root, tier 0. A contract sees the list of
 /// their parents, in which the root names itself.
-#[derive(Debug, Drop)]
+#[derive(Drop)]
 pub struct Shape {
     parents: Vec<u16>,
 }

@@ -6,7 +6,7 @@ use crate::view::Trip;
 /// those of Java SE 21, `Phaser`). In the steps of a join `tier` is the tier that the members are to join,
 /// `claimed` how many tiers of its path to the root are claimed before (in `Settle` and `SettleBack`:
 /// after) the step, and `size` how many members there are to be.
-#[derive(Clone, Copy, Debug, PartialEq, Eq)]
+#[derive(Clone, Copy)]
 pub enum Kind {
     /// A look at the root.
     Look,

@@ -5,7 +5,7 @@ ghost use Rattle.std.specs.Prelude.{◌≡◌};
 use phaser_word::Word;
 
 /// What a climb tells the tier above: that a party has arrived there, or that it has left (own).
-#[derive(Clone, Copy, Debug, PartialEq, Eq)]
+#[derive(Clone, Copy, PartialEq, Eq)]
 pub enum Trip {
     /// The tier below has no unarrived party left.
     Arrival,
@@ -14,7 +14,7 @@ pub enum Trip {
 }
 
 /// How far the opening of a path of empty tiers has come (own).
-#[derive(Clone, Copy, Debug, PartialEq, Eq)]
+#[derive(Clone, Copy, PartialEq, Eq)]
 pub enum Stage {
     /// Tiers are claimed, and the join above them is still to come.
     Seeking,
@@ -25,7 +25,7 @@ pub enum Stage {
 }
 
 /// What a token owes (own).
-#[derive(Clone, Copy, Debug, PartialEq, Eq)]
+#[derive(Clone, Copy, PartialEq, Eq)]
 pub enum Errand {
     /// Nothing.
     Rest,
@@ -53,7 +53,7 @@ pub enum Errand {
 }
 
 /// A token's own view of its tree (own). A step changes the word of one tier and the view of one token.
-#[derive(Clone, Copy, Debug, PartialEq, Eq)]
+#[derive(Clone, Copy, PartialEq, Eq)]
 pub struct View {
     /// The tier of its members.
     pub tier: u16,

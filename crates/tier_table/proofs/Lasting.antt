@@ -81,3 +81,10 @@ counted_at_last own h e (Done crew phase led) tree passed told other = (told.0 �
 counted_at_last own h e (Left door phase led) tree passed told other = absurd (other door phase led refl)
 counted_at_last own h e (AlreadyArrived crew phase) tree passed told other = absurd told
 counted_at_last own h e (Ended crew shown) tree passed told other = absurd told
+
+-- What is answered of a crew that was looked at before.
+pub arrives_then : (own : Trip) (h g : Holding) (r : Counted) → 0 < g.view.size → g.tree ≡ h.tree → IsLooked h.view g.view → ArrivesAtLast own g r → ArrivesAtLast own h r
+arrives_then own h g (Done crew phase led) some tree looked told = (told.0 ∙ tree, passed_then some looked told.1, told.2, told.3)
+arrives_then own h g (Left door phase led) some tree looked told = (told.0, told.1 ∙ tree, passed_then some looked told.2, told.3, told.4)
+arrives_then own h g (AlreadyArrived crew phase) some tree looked told = (told.0 ∙ tree, looked_then some looked told.1, told.2, told.3)
+arrives_then own h g (Ended crew shown) some tree looked told = (told.0 ∙ tree, looked_then some looked told.1, told.2)

@@ -1,14 +1,25 @@
 -- What a poll answers.
-use Rattle.std.proofs.Common.{◌≡◌, ◌≢◌, ℕ, ◌<◌, ◌≤◌, ◌+◌, ⊎_elim, length, sym, ◌∙◌, ap, subst, arith}
+use Rattle.std.proofs.Common.{◌≡◌, ◌≢◌, ℕ, zero, suc, ◌<◌, ◌≤◌, ◌+◌, ⊎_elim, inl, Bool, true, false, ltb, eqb, not, ◌&&◌, List, length, refl, sym, ◌∙◌, ap, subst, arith}
+use Rattle.std.specs.Prelude.{MatchBool}
+use Rattle.std.proofs.lemmas.Bool.{ltb-true, eqb-true, eq-eqb}
+use Rattle.flat_phaser.proofs.Everyone.{both_true}
+use Rattle.phaser_word.specs.Fields.{Fields}
+use Rattle.tier_shape.specs.Parents.{parent_of}
+use Rattle.tier_steps.specs.declared.kind.Kind.{Kind}
+use Rattle.tier_steps.specs.declared.view.Errand.TheVariants.{Rest}
+use Rattle.tier_steps.specs.Step.{Needs, view_after}
+use Rattle.tier_core.specs.Turn.{lags}
+use Rattle.tier_core.proofs.Turns.{not_both}
+use Rattle.table_rule.specs.Look.{glance}
 use Rattle.tier_steps.specs.declared.view.View.{View}
-use Rattle.tier_steps.specs.declared.kind.Kind.TheVariants.{Look}
+use Rattle.tier_steps.specs.declared.kind.Kind.TheVariants.{Look, Refresh}
 use Rattle.tier_steps.specs.Word.{next_phase_of}
 use Rattle.tier_steps.proofs.KindLaw.{mine}
 use Rattle.table_rule.specs.Tell.{Beside}
-use Rattle.tier_table.specs.Holding.{Named, Holding, Looked, IsCrew}
+use Rattle.tier_table.specs.Holding.{Named, Holding, Looked, Took, Won, Lost, IsCrew, shape_of}
 use Rattle.tier_table.specs.Arrives.{IsLooked, IsSoon}
 use Rattle.tier_table.specs.Polls.{Polls}
-use Rattle.tier_table.specs.declared.polling.Polled.TheVariants.{Passed, Here}
+use Rattle.tier_table.specs.declared.polling.Polled.TheVariants.{Passed, Waiting, Here}
 use Rattle.tier_table.proofs.Settling.{first}
 
 -- the tier of a token's members is one of the shape
@@ -44,3 +55,44 @@ module _ (h h' new : Holding) (crew : IsCrew h) (took : Looked Look 0 h h') (som
             }) l.phase,
         is ∙ ap (λ (v : View). v.phase) (sym same),
       )
+
+-- A look at a tier below the root leaves the view, and so does a refresh there, whether it is taken or lost.
+below_same : (above t : ℕ) (w : Fields) (v : View) → t ≢ 0 → view_after above (glance t) t w v ≡ v
+below_same above zero w v off = absurd (off refl)
+below_same above (suc t) w v off = refl
+
+pub glanced_view : {h h' : Holding} {t : ℕ} → t ≢ 0 → Looked Look t h h' → h'.view ≡ h.view
+glanced_view {h} {h'} {t} off took = took.view ∙ below_same (parent_of (shape_of h) t) t h'.word h.view off
+
+pub refreshed_view : (b : Bool) (h h' : Holding) → h.tier ≢ 0 → MatchBool b (Won Refresh h h') (Lost Refresh h h') → h'.view ≡ h.view
+refreshed_view true h h' off won = won.view
+refreshed_view false h h' off lost = lost.took.view ∙ below_same (parent_of (shape_of h) h.tier) h.tier h'.word h.view off
+
+lags_parts : (w : Fields) (v : View) → lags w v ≡ true → (0 < w.parties) × (w.unarrived ≡ 0) × (w.phase ≢ v.phase)
+lags_parts w v e =
+    let a = both_true (ltb 0 w.parties) (eqb w.unarrived 0 && not (eqb w.phase v.phase)) e in
+    let b = both_true (eqb w.unarrived 0) (not (eqb w.phase v.phase)) a.1 in
+    (ltb-true 0 w.parties a.0, eqb-true w.unarrived 0 b.0, λ same. not_both (not (eqb w.phase v.phase)) b.1 (ap not (eq-eqb w.phase v.phase same)))
+
+-- where the members' own tier lags, it may be refreshed
+pub may_refresh : (ps : List ℕ) (h h' : Holding) {u : View} {x : Fields} → h'.tier ≡ u.tier → h'.view ≡ h.view → u ≡ h.view → x ≡ h'.word → h.view.errand ≡ Rest → h.view.arrived < h.view.size
+    → lags x u ≡ true → Needs ps Refresh h'.tier h'.word h'.view
+may_refresh ps h h' {u} {x} at same is read rests some behind =
+    let p = lags_parts h'.word h'.view (ap (λ (w : Fields). lags w h'.view) (sym read) ∙ (ap (λ (v : View). lags x v) (same ∙ sym is) ∙ behind)) in
+    record {
+      some = p.0;
+      arrived = p.1;
+      behind = p.2;
+      leave =
+          inl
+          (ap (λ (v : View). v.errand) same ∙ rests, ap (λ (v : View). v.tier) (same ∙ sym is) ∙ sym at, subst (λ (v : View). v.arrived < v.size) (sym same) some);
+    }
+
+pub left_some : {h h' : Holding} {t : ℕ} {kind : Kind} {w : Fields} {tries : ℕ} → Took kind t w tries h h' → h'.view.arrived ≢ h'.view.size → h'.view.arrived < h'.view.size
+left_some {h} {h'} took some =
+    let b = took.after in
+    let fits = (mine h.tree.key.shape b.words b.front b.back h'.view b.tally).within in
+    omega arith
+
+pub polls_waiting : (h h' : Holding) → IsCrew h → Looked Look 0 h h' → h'.view.arrived ≡ h'.view.size → Polls h h' Waiting
+polls_waiting h h' crew took all = (record { tree = took.tree; tried = (let a = took.tried in omega arith) }, (first h h' crew took).looked, all)

@@ -16,7 +16,7 @@ use table_rule::sight::Sights;
 use tier_steps::kind::Kind;
 
 /// A token after its tree was closed.
-#[derive(Clone, Copy, Debug, PartialEq, Eq)]
+#[derive(Clone, Copy, PartialEq, Eq)]
 pub struct ClosedToken {
     /// The tier of its members.
     pub tier: u16,

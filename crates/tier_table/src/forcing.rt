@@ -9,7 +9,7 @@ use crate::tokens::Door;
 use tier_steps::kind::Kind;
 
 /// What a call that ends the tree answers.
-#[derive(Clone, Copy, Debug, PartialEq, Eq)]
+#[derive(Clone, Copy, PartialEq, Eq)]
 pub enum Forced {
     /// The tree has ended; the phase that is shown.
     Ended(i32),

@@ -1,11 +1,13 @@
 //! Calls that wait: they repeat a call of the tree until it has an answer that lasts, and let other threads
 //! run between. That they come to an end is not claimed: a tier may be held by others for ever.
 
-ghost use Rattle.std.specs.Prelude.{◌≡◌, ◌<◌, ◌≤◌, ℕ, Some, length};
+ghost use Rattle.std.specs.Prelude.{◌≡◌, ◌<◌, ◌≤◌, ℕ, Some, length, MatchResult};
 ghost use Rattle.advance_rule.specs.Stored.{Answers};
 ghost use Rattle.advance_rule.specs.Plan.{end_ends_at};
 ghost use Rattle.tier_steps.specs.declared.view.Trip.TheVariants.{Arrival, Departure};
 ghost use Rattle.tier_table.specs.Openings.{asked_tier, asked_size};
+ghost use Rattle.tier_table.specs.Holding.{Holding};
+ghost use Rattle.tier_table.specs.Arrives.{IsLooked, HasPassed};
 ghost use Rattle.tier_table.specs.AtLast.{RegistersAtLast, OpensAtLast, ArrivesAtLast, ResumesAtLast, AwaitsAdvance, HasEndedJoin, HasEndedArrival, HasEndedWait};
 
 use crate::arriving::{Arrived, Resumed};
@@ -45,7 +47,7 @@ pub enum Counted {
 }
 
 /// What a crew that waits for the next phase is told.
-#[derive(Clone, Copy, Debug, PartialEq, Eq)]
+#[derive(Clone, Copy, PartialEq, Eq)]
 pub enum Awaited {
     /// The phase in which all members had arrived has passed, and this one is the next.
     Passed(u32),
@@ -120,6 +122,39 @@ impl<F: Fn(u32, u32) -> bool> Tree<F> {
         unreachable!()
     }
 
+    /// Goes on with an errand of this kind until that is over.
+    fn settle_wait<R: Wait>(&self, rt: &R, errand: Errand, own: Trip) -> Counted
+        requires own { errand.token.tree ≡ self.now.tree }
+        requires rule { Answers (F.pre self.now.rule.closure) (F.post self.now.rule.closure) (end_ends_at self.now.rule.plan) }
+        ensures { (h : Holding) → 0 < h.view.size → errand.token.tree ≡ h.tree → HasPassed own h.view errand.token.view → ArrivesAtLast own h result }
+    {
+        match self.resume_wait(rt, errand) {
+            Counted::Left(door, phase, led) => {
+                let _ = &door.token;
+                Counted::Left(door, phase, led)
+            }
+            answer => answer,
+        }
+    }
+
+    /// Lets a member arrive or leave, by so many tries. Where they did not suffice, the crew is an error.
+    fn pass_once<R: Wait>(&self, rt: &R, crew: Crew, own: Trip) -> Result<Counted, Crew>
+        requires own { crew.tree ≡ self.now.tree }
+        requires rule { Answers (F.pre self.now.rule.closure) (F.post self.now.rule.closure) (end_ends_at self.now.rule.plan) }
+        ensures answer { MatchResult result (λ a. ArrivesAtLast own crew a) (λ next. (next.tree ≡ crew.tree) × IsLooked crew.view next.view) }
+        ensures ended { (phase : ℕ) → crew.view.end_seen ≡ Some phase → MatchResult result HasEndedArrival (λ next. ⊥) }
+    {
+        let _ = &crew.token;
+        match self.tiers.pass(crew, own, &self.rule, TRIES) {
+            Arrived::Done(crew, phase, led) => Ok(Counted::Done(crew, phase, led)),
+            Arrived::Left(door, phase, led) => Ok(Counted::Left(door, phase, led)),
+            Arrived::AlreadyArrived(crew, phase) => Ok(Counted::AlreadyArrived(crew, phase)),
+            Arrived::Ended(crew, shown) => Ok(Counted::Ended(crew, shown)),
+            Arrived::Busy(next) => Err(next),
+            Arrived::Owing(errand) => Ok(self.settle_wait(rt, errand, own)),
+        }
+    }
+
     /// Lets a member arrive or leave.
     fn pass_wait<R: Wait>(&self, rt: &R, crew: Crew, own: Trip) -> Counted
         requires own { crew.tree ≡ self.now.tree }
@@ -127,22 +162,12 @@ impl<F: Fn(u32, u32) -> bool> Tree<F> {
         ensures answer { ArrivesAtLast own crew result }
         ensures ended { (phase : ℕ) → crew.view.end_seen ≡ Some phase → HasEndedArrival result }
     {
-        let _ = &crew.token;
         let mut crew = crew;
         for _ in rt.forever() {
-            match self.tiers.pass(crew, own, &self.rule, TRIES) {
-                Arrived::Done(crew, phase, led) => return Counted::Done(crew, phase, led),
-                Arrived::Left(door, phase, led) => return Counted::Left(door, phase, led),
-                Arrived::AlreadyArrived(crew, phase) => return Counted::AlreadyArrived(crew, phase),
-                Arrived::Ended(crew, shown) => return Counted::Ended(crew, shown),
-                Arrived::Busy(next) => crew = next,
-                Arrived::Owing(errand) => match self.resume_wait(rt, errand) {
-                    Counted::Left(door, phase, led) => {
-                        let _ = &door.token;
-                        return Counted::Left(door, phase, led);
-                    }
-                    answer => return answer,
-                },
+            let _ = &crew.token;
+            match self.pass_once(rt, crew, own) {
+                Ok(answer) => return answer,
+                Err(next) => crew = next,
             }
             thread::yield_now();
         }

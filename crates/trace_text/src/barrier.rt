@@ -2,6 +2,7 @@
 ghost use Rattle.std.specs.Prelude.{◌≡◌, ◌++◌, OnOk};
 ghost use Rattle.advance_rule.specs.Action.{AnswersAction};
 ghost use Rattle.cyclic_gate.specs.Steps.{answer, after, Fails};
+ghost use Rattle.cyclic_gate.specs.Seen.{answer_of};
 ghost use Rattle.cyclic_gate.specs.declared.call.Call.TheVariants.{Await, Abandon, BreakOff, Reset};
 ghost use Rattle.trace_text.specs.BarrierAnswers.{call_text, barrier_text, barrier_after};
 
@@ -22,6 +23,18 @@ fn push_failed(out: &mut Vec<u8>, caller: u32, others: &[u32]) -> Result<(), All
     push_callers_line(out, b" broken", others)
 }
 
+// Puts the line of what an arrival came to behind what is there.
+fn push_awaited(out: &mut Vec<u8>, caller: u32, awaited: &Awaited) -> Result<(), AllocError>
+    ensures { OnOk result (out.new.items ≡ out.old.items ++ call_text (Await caller) (answer_of awaited.now)) }
+{
+    match awaited {
+        Awaited::Waits(index) => push_number_line(out, b"waits ", *index),
+        Awaited::Tripped(turns) => push_tripped(out, turns),
+        Awaited::ActionFailed(others) => push_failed(out, caller, others),
+        Awaited::Broken => out.extend_from_slice(b"broken\n"),
+    }
+}
+
 // Arrives as a caller, and puts the line of the answer behind what is there.
 fn push_await<F: Fn(u64) -> bool>(
     out: &mut Vec<u8>,
@@ -34,10 +47,7 @@ fn push_await<F: Fn(u64) -> bool>(
     ensures action { core.new.action ≡ core.old.action }
 {
     match core.await_step(caller) {
-        Ok(Awaited::Waits(index)) => push_number_line(out, b"waits ", index),
-        Ok(Awaited::Tripped(turns)) => push_tripped(out, &turns),
-        Ok(Awaited::ActionFailed(others)) => push_failed(out, caller, &others),
-        Ok(Awaited::Broken) => out.extend_from_slice(b"broken\n"),
+        Ok(awaited) => push_awaited(out, caller, &awaited),
         Err(BarrierFault::Memory) => Err(AllocError),
         Err(fault) => out.extend_from_slice(barrier_fault_line(fault).as_bytes()),
     }

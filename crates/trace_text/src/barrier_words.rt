@@ -11,7 +11,7 @@ use cyclic_gate::Call;
 use text_lines::{Code, first_word, number, split_word};
 
 /// A command of a trace of a barrier.
-#[derive(Clone, Copy, Debug, PartialEq, Eq)]
+#[derive(Clone, Copy)]
 pub enum BarrierCommand {
     /// A call of the barrier.
     Call(Call),
@@ -20,7 +20,7 @@ pub enum BarrierCommand {
 }
 
 /// The head of a trace of a barrier: what barrier it makes.
-#[derive(Clone, Copy, Debug, PartialEq, Eq)]
+#[derive(Clone, Copy)]
 pub struct BarrierHead {
     /// How many parties meet.
     pub parties: i64,

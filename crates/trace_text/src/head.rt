@@ -10,7 +10,7 @@ use crate::words::{PhaserHead, read_phaser_head};
 use text_lines::{Code, first_word};
 
 /// The head of a trace: what it is a trace of.
-#[derive(Clone, Copy, Debug, PartialEq, Eq)]
+#[derive(Clone, Copy)]
 pub enum Head<'a> {
     /// A single phaser.
     Phaser(PhaserHead),

@@ -1,5 +1,5 @@
 //! Traces run on a phaser, a tree of phasers or a barrier.
-ghost use Rattle.std.specs.Prelude.{◌≡◌, ◌≤◌, [], ◌++◌, All, OnOk};
+ghost use Rattle.std.specs.Prelude.{◌≡◌, ◌≤◌, ℕ, List, [], ◌++◌, length, All, OnOk, Option, IfSome, Err, IfOk, MatchResult, ⊤};
 ghost use Rattle.advance_rule.specs.Plan.{count_ends};
 ghost use Rattle.advance_rule.specs.Action.{AnswersAction};
 ghost use Rattle.advance_rule.specs.Stored.{Answers};
@@ -7,11 +7,12 @@ ghost use Rattle.flat_phaser.specs.Flat.{Flat};
 ghost use Rattle.flat_phaser.specs.Alike.{IsAlike};
 ghost use Rattle.phaser_one.specs.Seen.{flat_of};
 ghost use Rattle.trace_text.specs.BarrierAnswers.{barrier_text, barrier_after, barrier_opened_text};
-ghost use Rattle.trace_text.specs.Answers.{command_text, command_after, opened_text};
+ghost use Rattle.trace_text.specs.Answers.{command_text, command_after, opened_text, output_of};
 ghost use Rattle.trace_text.specs.Runs.{run_text};
 ghost use Rattle.trace_text.specs.TreeAnswers.{tree_text, tree_after, tree_opened_text};
 ghost use Rattle.trace_text.specs.TreeWords.{InRange};
 ghost use Rattle.trace_text.specs.Parts.{tree_asked};
+ghost use Rattle.trace_text.specs.Views.{asked, opening_phase, commands_fit};
 ghost use Rattle.trace_text.specs.Outcome.{WriteCause, Writes, Moves, ReadsCause, Traces};
 
 use crate::barrier::push_barrier_command;
@@ -60,6 +61,17 @@ fn push_command<F: Fn(u32, u32) -> bool>(
             phaser.unarrived(),
             phaser.ended(),
         ),
+    }
+}
+
+// Writes a text.
+fn write_text<W: CountedWrite>(writer: &mut W, text: &[u8]) -> Result<(), TraceFault>
+    ensures writes { Writes (W.contents writer.old) (W.contents writer.new) result text.now }
+    ensures failures { WriteCause (W.failures writer.old) (W.failures writer.new) result }
+{
+    match write_all(writer, text) {
+        Ok(()) => Ok(()),
+        Err(_) => Err(TraceFault::Write),
     }
 }
 
@@ -139,10 +151,7 @@ fn run_opened<F: Fn(u32, u32) -> bool + Drop, W: CountedWrite>(
 {
     match PhaserOne::new(head.parties, head.phase, rule) {
         Ok(mut phaser) => run_commands(alloc, writer, &mut phaser, commands),
-        Err(fault) => match write_all(writer, fault_line(fault).as_bytes()) {
-            Ok(()) => Ok(()),
-            Err(_) => Err(TraceFault::Write),
-        },
+        Err(fault) => write_text(writer, fault_line(fault).as_bytes()),
     }
 }
 
@@ -204,10 +213,7 @@ fn run_tree<W: CountedWrite>(
         Ok(shape) => shape,
         Err(ShapeFault::Memory(_)) => return Err(TraceFault::Memory),
         Err(fault) => {
-            return match write_all(writer, shape_fault_line(&fault).as_bytes()) {
-                Ok(()) => Ok(()),
-                Err(_) => Err(TraceFault::Write),
-            };
+            return write_text(writer, shape_fault_line(&fault).as_bytes());
         }
     };
     match Core::new(alloc, shape, head.phase, head.plan) {
@@ -261,7 +267,7 @@ fn run_barrier_commands<F: Fn(u64) -> bool, W: CountedWrite>(
 }
 
 // Runs the commands on the barrier of a head.
-fn run_barrier<F: Fn(u64) -> bool + Drop, W: CountedWrite>(
+fn run_opened_barrier<F: Fn(u64) -> bool + Drop, W: CountedWrite>(
     alloc: Global,
     writer: &mut W,
     head: BarrierHead,
@@ -275,10 +281,77 @@ fn run_barrier<F: Fn(u64) -> bool + Drop, W: CountedWrite>(
 {
     match BarrierCore::new(alloc, head.parties, action) {
         Ok(mut core) => run_barrier_commands(alloc, writer, &mut core, commands),
-        Err(fault) => match write_all(writer, barrier_fault_line(fault).as_bytes()) {
-            Ok(()) => Ok(()),
-            Err(_) => Err(TraceFault::Write),
-        },
+        Err(fault) => write_text(writer, barrier_fault_line(fault).as_bytes()),
+    }
+}
+
+// Runs the commands on the phaser of a head, by its rule.
+fn run_phaser<W: CountedWrite>(
+    alloc: Global,
+    writer: &mut W,
+    head: PhaserHead,
+    commands: &[PhaserCommand],
+) -> Result<(), TraceFault>
+    requires { head.phase ≤ 2147483647 }
+    ensures writes { Writes (W.contents writer.old) (W.contents writer.new) result (opened_text head.plan commands.now head.phase head.parties) }
+    ensures failures { WriteCause (W.failures writer.old) (W.failures writer.new) result }
+{
+    let plan = head.plan;
+    let rule = StoredCount::new(|phase: u32, count: u32| plan.ends(phase, count), plan);
+    run_opened(alloc, writer, head, rule, commands)
+}
+
+// Runs the commands on the barrier of a head, with its action.
+fn run_barrier<W: CountedWrite>(
+    alloc: Global,
+    writer: &mut W,
+    head: BarrierHead,
+    commands: &[BarrierCommand],
+) -> Result<(), TraceFault>
+    ensures writes { Writes (W.contents writer.old) (W.contents writer.new) result (barrier_opened_text head commands.now) }
+    ensures failures { WriteCause (W.failures writer.old) (W.failures writer.new) result }
+{
+    let fails = head.fails;
+    let action = StoredAction::new(|generation: u64| fails == Some(generation), fails);
+    run_opened_barrier(alloc, writer, head, action, commands)
+}
+
+// Runs what a text asks for.
+#[tactic(auto, unfolding(crate::specs::Answers::output_of))]
+fn run_asked<W: CountedWrite>(
+    alloc: Global,
+    writer: &mut W,
+    trace: &Trace<'_>,
+) -> Result<(), TraceFault>
+    requires phase { opening_phase trace.now ≤ 2147483647 }
+    requires range { commands_fit trace.now }
+    ensures writes { Writes (W.contents writer.old) (W.contents writer.new) result (output_of (asked trace.now)) }
+    ensures failures { WriteCause (W.failures writer.old) (W.failures writer.new) result }
+{
+    match trace {
+        Trace::Phaser(head, commands) => run_phaser(alloc, writer, *head, commands),
+        Trace::Tree(head, commands) => run_tree(alloc, writer, *head, commands),
+        Trace::Barrier(head, commands) => run_barrier(alloc, writer, *head, commands),
+    }
+}
+
+// The text that the reader gives.
+fn read_text<R: CountedRead>(alloc: Global, reader: &mut R) -> Result<Vec<u8>, TraceFault>
+    ensures text { MatchResult result
+        (λ text. IfSome (R.remaining reader.old) (λ bytes. text.items ≡ bytes))
+        (λ fault. (written : Option (List ℕ)) → Traces (R.remaining reader.old) written written (Err fault)) }
+    ensures short { IfOk result (λ text. length text.items ≤ 1048576) }
+    ensures write_failures { MatchResult result (λ _. ⊤) (λ fault. (n : ℕ) → WriteCause {T = Unit {0}} n n (Err fault)) }
+    ensures failures { ReadsCause (R.failures reader.old) (R.failures reader.new) result }
+{
+    match read_all(alloc, reader) {
+        Ok(text) => Ok(text),
+        Err(ReadFault::TooLong) => {
+            let code = Code::TooLong;
+            Err(TraceFault::Text(Refusal { line: 1, code }))
+        }
+        Err(ReadFault::Read) => Err(TraceFault::Read),
+        Err(ReadFault::Memory) => Err(TraceFault::Memory),
     }
 }
 
@@ -293,30 +366,12 @@ pub fn run_trace<R: CountedRead, W: CountedWrite>(
     ensures read_failures { ReadsCause (R.failures reader.old) (R.failures reader.new) result }
     ensures write_failures { WriteCause (W.failures writer.old) (W.failures writer.new) result }
 {
-    let text = match read_all(alloc, reader) {
+    let text = match read_text(alloc, reader) {
         Ok(text) => text,
-        Err(ReadFault::TooLong) => {
-            let code = Code::TooLong;
-            return Err(TraceFault::Text(Refusal { line: 1, code }));
-        }
-        Err(ReadFault::Read) => return Err(TraceFault::Read),
-        Err(ReadFault::Memory) => return Err(TraceFault::Memory),
-    };
-    let trace = match read_trace(alloc, &text) {
-        Ok(trace) => trace,
         Err(fault) => return Err(fault),
     };
-    match trace {
-        Trace::Phaser(head, commands) => {
-            let plan = head.plan;
-            let rule = StoredCount::new(|phase: u32, count: u32| plan.ends(phase, count), plan);
-            run_opened(alloc, writer, head, rule, &commands)
-        }
-        Trace::Tree(head, commands) => run_tree(alloc, writer, head, &commands),
-        Trace::Barrier(head, commands) => {
-            let fails = head.fails;
-            let action = StoredAction::new(|generation: u64| fails == Some(generation), fails);
-            run_barrier(alloc, writer, head, action, &commands)
-        }
+    match read_trace(alloc, &text) {
+        Ok(trace) => run_asked(alloc, writer, &trace),
+        Err(fault) => Err(fault),
     }
 }

@@ -1,8 +1,8 @@
 //! What a text asks for.
-ghost use Rattle.std.specs.Prelude.{◌≡◌, ◌+◌, ◌≤◌, ◌<◌, ◌^◌, not, ◌&&◌, ◌||◌, nat_lt, length, MatchResult, IfOk, All};
-ghost use Rattle.text_lines.specs.Text.{lines_of};
+ghost use Rattle.std.specs.Prelude.{◌≡◌, ◌+◌, ◌≤◌, ◌<◌, ◌^◌, not, ◌&&◌, ◌||◌, nat_lt, length, true, false, Ok, Err, MatchOption, MatchResult, IfOk, IfSome, OnOk, All, ℕ, List, ◌∷◌};
+ghost use Rattle.text_lines.specs.Text.{is_skipped, lines_of, words_of};
 ghost use Rattle.trace_text.specs.Trace as spec;
-ghost use Rattle.trace_text.specs.Gives.{Gives};
+ghost use Rattle.trace_text.specs.Gives.{Gives, Fails};
 ghost use Rattle.trace_text.specs.Views.{asked, head_in, first_phase, opening_phase, commands_fit};
 
 use crate::barrier_words::{BarrierCommand, BarrierHead};
@@ -60,6 +60,55 @@ fn is_too_many<C: Command>(count: usize, tokens: usize, command: C) -> bool
     count >= MOST_COMMANDS || (command.brings_token() && tokens >= MOST_TOKENS)
 }
 
+// The command of this line, behind so many commands and tokens, or none where the line is skipped.
+fn next_command<C: Command>(
+    text: &[u8],
+    line: usize,
+    count: usize,
+    tokens: usize,
+) -> Result<Option<C>, Refusal>
+    ensures range { IfOk result (λ o. IfSome o (λ c. C.fits c)) }
+    ensures value { MatchResult result
+        (λ o. MatchOption o (is_skipped (words_of text.now) ≡ true)
+        (λ c. (is_skipped (words_of text.now) ≡ false) × (spec.at line (spec.counted C.brings count tokens (C.says (words_of text.now))) ≡ Ok c)))
+        (λ r. (is_skipped (words_of text.now) ≡ false) × (spec.at line (spec.counted C.brings count tokens (C.says (words_of text.now))) ≡ Err r)) }
+{
+    match C::read(text) {
+        Ok(Some(command)) if is_too_many(count, tokens, command) => {
+            let code = Code::TooMany;
+            Err(Refusal { line, code })
+        }
+        Ok(command) => Ok(command),
+        Err(code) => Err(Refusal { line, code }),
+    }
+}
+
+// Puts the command of this line behind those that are read, and tells how many tokens there are then.
+fn add_line<C: Command>(
+    commands: &mut Vec<C>,
+    text: &[u8],
+    line: usize,
+    tokens: usize,
+) -> Result<usize, TraceFault>
+    requires few { tokens ≤ 256 }
+    ensures same { (ls : List (List ℕ)) → MatchResult result
+        (λ t. spec.with_front commands.old.items (spec.commands_from C.says C.brings line (length commands.old.items) tokens (text.now ∷ ls))
+        ≡ spec.with_front commands.new.items (spec.commands_from C.says C.brings (line + 1) (length commands.new.items) t ls))
+        (λ fault. Fails fault (spec.with_front commands.old.items (spec.commands_from C.says C.brings line (length commands.old.items) tokens (text.now ∷ ls)))) }
+    ensures few { IfOk result (λ t. t ≤ 256) }
+    ensures range { All C.fits commands.old.items → OnOk result (All C.fits commands.new.items) }
+{
+    match next_command(text, line, commands.len(), tokens) {
+        Ok(None) => Ok(tokens),
+        Ok(Some(command)) => match commands.push(command) {
+            Ok(()) if command.brings_token() => Ok(tokens + 1),
+            Ok(()) => Ok(tokens),
+            Err(_) => Err(TraceFault::Memory),
+        },
+        Err(refusal) => Err(TraceFault::Text(refusal)),
+    }
+}
+
 // The commands of a text that begins in this line.
 fn read_commands<C: Command>(alloc: Global, text: &[u8], first: usize) -> Result<Vec<C>, TraceFault>
     requires { first + length text.now < 2 ^ 32 }
@@ -72,21 +121,9 @@ fn read_commands<C: Command>(alloc: Global, text: &[u8], first: usize) -> Result
     let mut rest = text;
     while let Some((this, after)) = split_line(rest) {
         rest = after;
-        match C::read(this) {
-            Ok(None) => {}
-            Ok(Some(command)) if is_too_many(commands.len(), tokens, command) => {
-                let code = Code::TooMany;
-                return Err(TraceFault::Text(Refusal { line, code }));
-            }
-            Ok(Some(command)) => {
-                if commands.push(command).is_err() {
-                    return Err(TraceFault::Memory);
-                }
-                if command.brings_token() {
-                    tokens += 1;
-                }
-            }
-            Err(code) => return Err(TraceFault::Text(Refusal { line, code })),
+        match add_line(&mut commands, this, line, tokens) {
+            Ok(more) => tokens = more,
+            Err(fault) => return Err(fault),
         }
         line += 1;
     }

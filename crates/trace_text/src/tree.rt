@@ -3,6 +3,7 @@ ghost use Rattle.std.specs.Prelude.{◌≡◌, ◌++◌, ◌<◌, ℕ, List, nat
 ghost use Rattle.tier_core.specs.Run.{after, answer_to, may_begin, IsCall, IsStepOfCalls};
 ghost use Rattle.tier_core.specs.declared.call.Step.TheVariants as step;
 ghost use Rattle.tier_steps.specs.Tally.{word_at};
+ghost use Rattle.trace_text.specs.declared.tree_words.TreeCommand.TheVariants as TreeCommand;
 ghost use Rattle.trace_text.specs.TreeWords.{InRange, HasMembers};
 ghost use Rattle.trace_text.specs.TreeAnswers as spec;
 
@@ -138,6 +139,58 @@ fn known_call(core: &Core, token: u32, call: TokenCall) -> Result<Call, &'static
     call_of(core, call).ok_or("no tier\n")
 }
 
+// Brings a token in, and puts its line behind what is there.
+fn push_token(out: &mut Vec<u8>, core: &mut Core) -> Result<(), AllocError>
+    ensures text { OnOk result (out.new.items ≡ out.old.items ++ spec.tree_text TreeCommand.Token core.old) }
+    ensures after { OnOk result (core.new ≡ spec.tree_after TreeCommand.Token core.old) }
+{
+    let token = core.add_token()?;
+    push_number_line(out, b"token ", token)
+}
+
+// Begins a call of a token, and puts what it prints behind what is there.
+fn push_begin(
+    out: &mut Vec<u8>,
+    core: &mut Core,
+    token: u32,
+    call: TokenCall,
+) -> Result<(), AllocError>
+    requires { HasMembers call }
+    ensures text { OnOk result (out.new.items ≡ out.old.items ++ spec.tree_text (TreeCommand.Begin token call) core.old) }
+    ensures after { OnOk result (core.new ≡ spec.tree_after (TreeCommand.Begin token call) core.old) }
+{
+    match known_call(core, token, call) {
+        Ok(call) => push_step(out, core, Step::Begin(token as usize, call)),
+        Err(refusal) => out.extend_from_slice(refusal.as_bytes()),
+    }
+}
+
+// Does a whole call of a token, and puts what it prints behind what is there.
+fn push_do(
+    out: &mut Vec<u8>,
+    core: &mut Core,
+    token: u32,
+    call: TokenCall,
+) -> Result<(), AllocError>
+    requires { HasMembers call }
+    ensures text { OnOk result (out.new.items ≡ out.old.items ++ spec.tree_text (TreeCommand.Do token call) core.old) }
+    ensures after { OnOk result (core.new ≡ spec.tree_after (TreeCommand.Do token call) core.old) }
+{
+    match known_call(core, token, call) {
+        Ok(call) => push_call(out, core, token as usize, call),
+        Err(refusal) => out.extend_from_slice(refusal.as_bytes()),
+    }
+}
+
+// Takes the advance of a token, and puts what it prints behind what is there.
+fn push_finish(out: &mut Vec<u8>, core: &mut Core, token: usize) -> Result<(), AllocError>
+    ensures text { OnOk result (out.new.items ≡ out.old.items ++ spec.advance_told core.old token ++ spec.answer_text (answer_to core.old (step.Finish token))) }
+    ensures after { OnOk result (core.new ≡ after core.old (step.Finish token)) }
+{
+    push_advance_of(out, core, token)?;
+    push_step(out, core, Step::Finish(token))
+}
+
 /// Does a command, and puts what it prints behind what is there.
 pub(crate) fn push_tree_command(
     out: &mut Vec<u8>,
@@ -149,26 +202,14 @@ pub(crate) fn push_tree_command(
     ensures after { OnOk result (core.new ≡ spec.tree_after command core.old) }
 {
     match command {
-        TreeCommand::Token => {
-            let token = core.add_token()?;
-            push_number_line(out, b"token ", token)
-        }
-        TreeCommand::Begin(token, call) => match known_call(core, token, call) {
-            Ok(call) => push_step(out, core, Step::Begin(token as usize, call)),
-            Err(refusal) => out.extend_from_slice(refusal.as_bytes()),
-        },
-        TreeCommand::Do(token, call) => match known_call(core, token, call) {
-            Ok(call) => push_call(out, core, token as usize, call),
-            Err(refusal) => out.extend_from_slice(refusal.as_bytes()),
-        },
+        TreeCommand::Token => push_token(out, core),
+        TreeCommand::Begin(token, call) => push_begin(out, core, token, call),
+        TreeCommand::Do(token, call) => push_do(out, core, token, call),
         TreeCommand::Show(tier) => push_show_tier(out, core, tier),
         TreeCommand::Go(token) | TreeCommand::Finish(token) | TreeCommand::Run(token)
             if !is_token(core, token) => { out.extend_from_slice(b"no token\n") }
         TreeCommand::Go(token) => push_step(out, core, Step::Go(token as usize)),
-        TreeCommand::Finish(token) => {
-            push_advance_of(out, core, token as usize)?;
-            push_step(out, core, Step::Finish(token as usize))
-        }
+        TreeCommand::Finish(token) => push_finish(out, core, token as usize),
         TreeCommand::Run(token) => push_rest(out, core, token as usize),
     }
 }

@@ -11,7 +11,7 @@ use phaser_word::{LAST_PHASE, MOST_PARTIES};
 use text_lines::{Code, first_word, split_word};
 
 /// What a token of a tree is asked to do; the tier has any number.
-#[derive(Clone, Copy, Debug, PartialEq, Eq)]
+#[derive(Clone, Copy)]
 pub enum TokenCall {
     /// To join a tier with members.
     Join {
@@ -31,7 +31,7 @@ pub enum TokenCall {
 }
 
 /// A command of a trace of a tree; tokens and tiers have any number.
-#[derive(Clone, Copy, Debug, PartialEq, Eq)]
+#[derive(Clone, Copy)]
 pub enum TreeCommand {
     /// A token comes in.
     Token,
@@ -50,7 +50,7 @@ pub enum TreeCommand {
 }
 
 /// The head of a trace of a tree: what tree it makes.
-#[derive(Clone, Copy, Debug, PartialEq, Eq)]
+#[derive(Clone, Copy)]
 pub struct TreeHead<'a> {
     /// The text of its widths.
     pub widths: &'a [u8],

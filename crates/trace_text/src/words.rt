@@ -12,7 +12,7 @@ use phaser_word::LAST_PHASE;
 use text_lines::{Code, begins_number, first_word, number, split_word};
 
 /// A command of a trace.
-#[derive(Clone, Copy, Debug, PartialEq, Eq)]
+#[derive(Clone, Copy)]
 pub enum PhaserCommand {
     /// A call of the phaser.
     Call(Call),
@@ -21,7 +21,7 @@ pub enum PhaserCommand {
 }
 
 /// The head of a trace: what phaser it makes.
-#[derive(Clone, Copy, Debug, PartialEq, Eq)]
+#[derive(Clone, Copy)]
 pub struct PhaserHead {
     /// How many parties it begins with.
     pub parties: i64,

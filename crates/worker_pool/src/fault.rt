@@ -40,7 +40,7 @@ impl From<AllocError> for Refused {
 }
 
 /// Why a worker went home before the job's end.
-#[derive(Clone, Copy, Debug, PartialEq, Eq)]
+#[derive(Clone, Copy, PartialEq, Eq)]
 pub(crate) enum Note {
     /// It found no memory.
     Memory,

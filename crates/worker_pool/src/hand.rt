@@ -1,4 +1,6 @@
 //! What a worker has in hand.
+ghost use Rattle.std.specs.Prelude.{◌≡◌, IfOk};
+
 use crate::board::Running;
 use crate::fault::Note;
 use crate::hooks::Gate;
@@ -92,6 +94,8 @@ impl<'j, J: Running> Made<'j, J> {
 }
 
 impl<'j, J: Running> Hand<'j, J> {
+    ghost use Rattle.std.specs.Prelude.{◌≡◌};
+
     /// An empty hand, with room for all that it will pass.
     pub(crate) fn new(alloc: Global) -> Result<Self, AllocError> {
         let passing = VecDeque::with_capacity(alloc, MOST_IN_HAND)?;
@@ -108,23 +112,16 @@ impl<'j, J: Running> Hand<'j, J> {
         self.passing.len() >= MOST_IN_HAND
     }
 
-    /// Runs the segment of a task between the two calls of a gate, with no lock held, and keeps what it did.
-    pub(crate) fn run<R: Wait, G: Gate>(
+    // Keeps what the segment of a task did.
+    fn keep(
         &mut self,
-        rt: &R,
-        alloc: Global,
-        gate: &G,
-        taken: Taken<'j, J>,
-    ) -> Result<(), Note> {
-        let Taken { seat, order } = taken;
-        let step = order.step();
-        gate.enter(rt, &seat.path, step);
-        let done = Delivery::of(alloc, order);
-        gate.leave(rt, &seat.path, step);
-        let delivery = done?;
-        let spawned = delivery.spawns(alloc)?;
+        seat: Seat<J>,
+        delivery: Delivery<'j>,
+        spawned: Vec<Path>,
+    ) -> Result<(), Note>
+        requires { delivery.job ≡ J.job }
+    {
         let synced = delivery.synced();
-        self.step = step;
         self.made = Some(Made {
             delivery,
             of: PhantomData,
@@ -138,4 +135,37 @@ impl<'j, J: Running> Hand<'j, J> {
             Err(_) => Err(Note::Memory),
         }
     }
+
+    /// Runs the segment of a task between the two calls of a gate, with no lock held, and keeps what it did.
+    pub(crate) fn run<R: Wait, G: Gate>(
+        &mut self,
+        rt: &R,
+        alloc: Global,
+        gate: &G,
+        taken: Taken<'j, J>,
+    ) -> Result<(), Note> {
+        let Taken { seat, order } = taken;
+        let step = order.step();
+        let delivery = passed_by(rt, alloc, gate, &seat.path, order)?;
+        let spawned = delivery.spawns(alloc)?;
+        self.step = step;
+        self.keep(seat, delivery, spawned)
+    }
+}
+
+// Runs the segment of a task between the two calls of a gate.
+fn passed_by<'j, R: Wait, G: Gate>(
+    rt: &R,
+    alloc: Global,
+    gate: &G,
+    path: &Path,
+    order: Order<'j>,
+) -> Result<Delivery<'j>, AllocError>
+    ensures { IfOk result (λ d. d.job ≡ order.entry.job) }
+{
+    let step = order.step();
+    gate.enter(rt, path, step);
+    let done = Delivery::of(alloc, order);
+    gate.leave(rt, path, step);
+    done
 }

@@ -13,7 +13,7 @@ pub trait Gate {
 }
 
 /// Lets each segment pass (own).
-#[derive(Clone, Copy, Debug, Drop)]
+#[derive(Clone, Copy, Drop)]
 pub struct OpenGate;
 
 impl Gate for OpenGate {
@@ -29,7 +29,7 @@ pub trait Starter {
 }
 
 /// Lets each worker be started (own).
-#[derive(Clone, Copy, Debug, Drop)]
+#[derive(Clone, Copy, Drop)]
 pub struct AllStart;
 
 impl Starter for AllStart {

@@ -32,7 +32,7 @@ pub(crate) enum Next<'j, J: Running> {
 }
 
 impl<'j, J: Running, F: Fn(u32, u32) -> bool> Shop<'j, J, F> {
-    ghost use Rattle.std.specs.Prelude.{◌≡◌, ℕ, Some, IfOk, IfErr};
+    ghost use Rattle.std.specs.Prelude.{◌≡◌, ◌<◌, ℕ, Some, IfOk, IfErr};
     ghost use Rattle.advance_rule.specs.Stored.{Answers};
     ghost use Rattle.advance_rule.specs.Plan.{end_ends_at};
     ghost use Rattle.step_core.specs.Program.{program_of};
@@ -65,6 +65,48 @@ impl<'j, J: Running, F: Fn(u32, u32) -> bool> Shop<'j, J, F> {
         }
     }
 
+    // Lets a task arrive that lives on. Whether it took the advance.
+    fn arrive<R: Wait>(
+        &self,
+        rt: &R,
+        seat: Seat<J>,
+        passed: &mut VecDeque<Seat<J>>,
+    ) -> Result<bool, Note>
+        requires rule { Answers (F.pre self.now.meeting.tree.rule.closure) (F.post self.now.meeting.tree.rule.closure) (end_ends_at self.now.meeting.tree.rule.plan) }
+    {
+        let Seat {
+            path,
+            place,
+            leaf,
+            crew,
+            of: _,
+        } = seat;
+        let (crew, led) = self.meeting.arrive(rt, crew)?;
+        match passed.push_back(Seat::new(path, place, leaf, crew)) {
+            Ok(()) => Ok(led),
+            Err(_) => Err(Note::Memory),
+        }
+    }
+
+    // Registers a task that was spawned, and lets it arrive.
+    fn bring_kid<R: Wait>(
+        &self,
+        rt: &R,
+        seat: &mut Seat<J>,
+        path: Path,
+        passed: &mut VecDeque<Seat<J>>,
+    ) -> Result<(), Note>
+        requires rule { Answers (F.pre self.now.meeting.tree.rule.closure) (F.post self.now.meeting.tree.rule.closure) (end_ends_at self.now.meeting.tree.rule.plan) }
+        requires unarrived { seat.old.crew.view.arrived < seat.old.crew.view.size }
+        ensures same { seat.new.crew.view.arrived < seat.new.crew.view.size }
+    {
+        let kid = self
+            .meeting
+            .register_spawned(rt, &mut seat.crew, seat.place, seat.leaf, path)?;
+        self.arrive(rt, kid, passed)?;
+        Ok(())
+    }
+
     // Lets a task that has spawned come in, and registers those tasks and lets them arrive.
     fn bring_in<R: Wait>(
         &self,
@@ -81,23 +123,7 @@ impl<'j, J: Running, F: Fn(u32, u32) -> bool> Shop<'j, J, F> {
         self.meeting.come_in(&mut seat.crew)?;
         passed.reserve(spawned.len())?;
         for path in spawned {
-            let kid = self
-                .meeting
-                .register_spawned(rt, &mut seat.crew, seat.place, seat.leaf, path)?;
-            let Seat {
-                path,
-                place,
-                leaf,
-                crew,
-                of: _,
-            } = kid;
-            let (crew, _led) = self.meeting.arrive(rt, crew)?;
-            if passed
-                .push_back(Seat::new(path, place, leaf, crew))
-                .is_err()
-            {
-                return Err(Note::Memory);
-            }
+            self.bring_kid(rt, seat, path, passed)?;
         }
         Ok(())
     }
@@ -117,22 +143,11 @@ impl<'j, J: Running, F: Fn(u32, u32) -> bool> Shop<'j, J, F> {
             synced,
         } = task;
         self.bring_in(rt, &mut seat, spawned, passed)?;
-        let Seat {
-            path,
-            place,
-            leaf,
-            crew,
-            of: _,
-        } = seat;
         if !synced {
-            return self.meeting.leave(rt, crew);
+            return self.meeting.leave(rt, seat.crew);
         }
         passed.reserve(1)?;
-        let (crew, led) = self.meeting.arrive(rt, crew)?;
-        match passed.push_back(Seat::new(path, place, leaf, crew)) {
-            Ok(()) => Ok(led),
-            Err(_) => Err(Note::Memory),
-        }
+        self.arrive(rt, seat, passed)
     }
 
     /// Passes the tasks of a hand through the tree: those that they have spawned join and arrive, then they arrive or

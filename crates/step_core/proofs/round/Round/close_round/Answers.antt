@@ -1,15 +1,13 @@
-use Rattle.std.proofs.Common.{◌≡◌, ◌≤◌, ◌∙◌, refl, sym, ap, arith, None, Some, List, length, map, subst}
+use Rattle.std.proofs.Common.{◌≡◌, ◌∙◌, refl, sym, ap, arith, None, Some, List, length, map, subst}
 use Rattle.std.specs.Arc.{arc_value}
-use Rattle.std.proofs.lemmas.List.{length-map}
 use Rattle.task_lang.specs.Views.{plans}
 use Rattle.superstep_memory.specs.PathOrder.{in_path_order}
 use Rattle.step_core.specs.Superstep.{first_fault}
 use Rattle.step_core.specs.SlotValue.{SlotValue}
-use Rattle.step_core.specs.Slots.{slots_of, delivered, missing_in}
+use Rattle.step_core.specs.Slots.{slots_of, delivered}
 use Rattle.step_core.specs.SlotParts.{path_in, living_in, fresh_slot, AllSmall}
 use Rattle.step_core.specs.RoundView.{round_of}
-use Rattle.step_core.proofs.Closed.{closes, faulted, ended_by_many, went_on, all_small, closed_now, ended_round, ended_now, found, many_outcome, few_outcome, next_count}
-use Rattle.step_core.proofs.Rounds.{all_missing}
+use Rattle.step_core.proofs.Closed.{closes, faulted, ended_by_many, all_small, ended_round, ended_now, found, many_outcome, next_count}
 use Rattle.step_core.proofs.round.Round.close_round.Goals as goal
 
 pub end-requires : goal.end-requires
@@ -74,60 +72,3 @@ pub count_living-count-requires-clause-small : goal.count_living-count-requires-
 count_living-count-requires-clause-small c =
     subst AllSmall (sym c.slots-slots.ensures)
     (all_small (plans c.self.inside.job.now.bodies) (arc_value c.self.inside.opening) c.self.inside.step c.self.inside.live c.self.invariant.0.fits)
-
-pub take_superstep-taken-requires-clause-small : goal.take_superstep-taken-requires-clause-small
-take_superstep-taken-requires-clause-small c =
-    all_small (plans c.self.inside.job.now.bodies) (arc_value c.self.inside.opening) c.self.inside.step c.self.inside.live c.self.invariant.0.fits
-
-pub invariant_of-self-2 : goal.invariant_of-self-2
-invariant_of-self-2 c =
-    let r = round_of c.self.inside in
-    let ps = plans c.self.inside.job.now.bodies in
-    let all = closes r _ c.self.invariant.0 c.self.view_is c.requires.running c.slots-slots.result c.slots-slots.ensures c.find_missing.result c.find_missing.ensures c.in_default.is in
-    let none : first_fault (delivered (slots_of ps c.self.inside.live)) ≡ None =
-    found ps c.slots-slots.result c.self.inside.live c.find_fault.result None (c.find_fault.ensures ps) c.slots-slots.ensures c.in_default-find_fault.is in
-    let xs = map fresh_slot (in_path_order path_in (living_in c.self.inside.live)) in
-    let count : length xs ≡ c.count_living-count.result =
-    next_count c.self.inside.live c.count_living-count.result
-    (c.count_living-count.ensures ∙ ap (λ (ss : List SlotValue). length (living_in ss)) c.slots-slots.ensures) in
-    let few : length c.take_superstep-taken.new.self ≤ 4096 =
-    let l = ap length c.in_default-taken.ensures.next ∙ count in omega (arith, l) in
-    let on =
-    went_on c.self.inside.job.now c.self.inside.limit c.self.inside.step (arc_value c.self.inside.opening) c.self.inside.live
-    c.self.inside.finished.items c.self.inside.fault all none c.take_superstep-taken.new.self c.in_default-taken.ensures.next few
-    (arc_value c.take_superstep-taken.new.opening) (c.in_default-taken.ensures.lands ps) c.take_superstep-taken.new.finished.items (c.in_default-taken.ensures.tells ps) in
-    let l = ap missing_in c.in_default-taken.ensures.next ∙ all_missing (in_path_order path_in (living_in c.self.inside.live)) in
-    let m = length-map (in_path_order path_in (living_in c.self.inside.live)) fresh_slot in
-    (on.0, omega (arith, l, m, count))
-
-pub returns-clause-closed : goal.returns-clause-closed
-returns-clause-closed c =
-    let r = round_of c.self.inside in
-    let ps = plans c.self.inside.job.now.bodies in
-    let all = closes r _ c.self.invariant.0 c.self.view_is c.requires.running c.slots-slots.result c.slots-slots.ensures c.find_missing.result c.find_missing.ensures c.in_default.is in
-    let none : first_fault (delivered (slots_of ps c.self.inside.live)) ≡ None =
-    found ps c.slots-slots.result c.self.inside.live c.find_fault.result None (c.find_fault.ensures ps) c.slots-slots.ensures c.in_default-find_fault.is in
-    let xs = map fresh_slot (in_path_order path_in (living_in c.self.inside.live)) in
-    let count : length xs ≡ c.count_living-count.result =
-    next_count c.self.inside.live c.count_living-count.result
-    (c.count_living-count.ensures ∙ ap (λ (ss : List SlotValue). length (living_in ss)) c.slots-slots.ensures) in
-    let few : length c.take_superstep-taken.new.self ≤ 4096 =
-    let l = ap length c.in_default-taken.ensures.next ∙ count in omega (arith, l) in
-    let on =
-    went_on c.self.inside.job.now c.self.inside.limit c.self.inside.step (arc_value c.self.inside.opening) c.self.inside.live
-    c.self.inside.finished.items c.self.inside.fault all none c.take_superstep-taken.new.self c.in_default-taken.ensures.next few
-    (arc_value c.take_superstep-taken.new.opening) (c.in_default-taken.ensures.lands ps) c.take_superstep-taken.new.finished.items (c.in_default-taken.ensures.tells ps) in
-    closed_now _ _ _ c.self.view_is on
-
-pub returns-clause-outcome : goal.returns-clause-outcome
-returns-clause-outcome c =
-    let r = round_of c.self.inside in
-    let ps = plans c.self.inside.job.now.bodies in
-    let all = closes r _ c.self.invariant.0 c.self.view_is c.requires.running c.slots-slots.result c.slots-slots.ensures c.find_missing.result c.find_missing.ensures c.in_default.is in
-    let none : first_fault (delivered (slots_of ps c.self.inside.live)) ≡ None =
-    found ps c.slots-slots.result c.self.inside.live c.find_fault.result None (c.find_fault.ensures ps) c.slots-slots.ensures c.in_default-find_fault.is in
-    let xs = map fresh_slot (in_path_order path_in (living_in c.self.inside.live)) in
-    let count : length xs ≡ c.count_living-count.result =
-    next_count c.self.inside.live c.count_living-count.result
-    (c.count_living-count.ensures ∙ ap (λ (ss : List SlotValue). length (living_in ss)) c.slots-slots.ensures) in
-    few_outcome r _ c.self.view_is none xs refl (omega (arith, count))

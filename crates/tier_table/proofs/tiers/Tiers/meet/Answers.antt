@@ -49,3 +49,9 @@ pub returns : goal.returns
 returns c =
     met_busy c.args.tier c.args.size (subst IsDoor c.door.view_is c.door.invariant) (took_by c.door.view_is c.look.ensures) c.if-attempt.ensures
     (not_ended c.word.view_is c.word-word.ensures.word c.if-word.false) (not_ended c.found.view_is c.word-found.ensures.word c.if-found.false) c.requires.unseen
+
+pub invariant_of-result : goal.invariant_of-result
+invariant_of-result c = first_door c.args.tier c.args.size c.door.invariant c.look.ensures
+
+pub invariant_of-result-then-not-is_same : goal.invariant_of-result-then-not-is_same
+invariant_of-result-then-not-is_same c = first_door c.args.tier c.args.size c.door.invariant c.look.ensures

@@ -1,6 +1,6 @@
 use Rattle.std.proofs.Common.{subst, ◌∙◌, arith}
 use Rattle.tier_table.specs.Holding.{IsCrew}
-use Rattle.tier_table.proofs.Lasting.{same_then, waits_same}
+use Rattle.tier_table.proofs.Lasting.{same_then, waits_same, same_looked, same_passed_on}
 use Rattle.tier_table.proofs.tree.Tree.await_advance.Goals as goal
 
 pub loop-preserved : goal.loop-preserved
@@ -14,3 +14,10 @@ loop-preserved g c =
       same_then kept.3 (waits_same (let x = kept.3.size in let y = told.1.size in omega arith) told.2 told.1),
       λ p e. absurd (c.in-Waiting.ensures.ended p (kept.4 p e)),
     )
+
+pub returns-in-Passed-clause-answer : goal.returns-in-Passed-clause-answer
+returns-in-Passed-clause-answer g c =
+    let kept = c.loop.invariant in let told = c.in-Passed.ensures.answer in (same_looked kept.3 told.1, same_passed_on kept.3 told.2, told.3)
+
+pub returns-in-Here-clause-answer : goal.returns-in-Here-clause-answer
+returns-in-Here-clause-answer g c = let told = c.in-Here.ensures.answer in (same_looked c.loop.invariant.3 told.1, told.2, told.3)

@@ -1,0 +1,9 @@
+use Rattle.std.proofs.Common.{◌≡◌, IfOk, map, subst}
+use Rattle.job_schedule.specs.AnswerValue.{answer_seen}
+use Rattle.job_schedule.specs.World.{World, answers}
+use Rattle.job_schedule.proofs.drive.take_steps.Goals as goal
+
+pub returns : goal.returns
+returns c =
+    subst (λ (w : World). IfOk c.take_each.result (λ told. map answer_seen told.items ≡ answers w c.args.steps.now))
+    c.in_ok-schedule.ensures c.take_each.ensures

@@ -1,0 +1,13 @@
+//! Tests of jobs that need Rust: what a row can say stands in `examples/rows.txt`.
+#![tactic(auto)]
+
+#[cfg(test)]
+mod left;
+#[cfg(test)]
+mod pool;
+#[cfg(test)]
+mod schedule;
+#[cfg(test)]
+mod step;
+#[cfg(test)]
+mod task;

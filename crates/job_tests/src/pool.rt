@@ -1,0 +1,11 @@
+//! Jobs on worker threads: what no contract says of them.
+#[cfg(test)]
+mod closures;
+#[cfg(test)]
+mod fixtures;
+#[cfg(test)]
+mod gates;
+#[cfg(test)]
+mod jobs;
+#[cfg(test)]
+mod starters;

@@ -1,0 +1,9 @@
+//! Jobs over a tree, by schedules of their workers.
+#[cfg(test)]
+mod fixtures;
+#[cfg(test)]
+mod orders;
+#[cfg(test)]
+mod random;
+#[cfg(test)]
+mod rows;

@@ -1,0 +1,11 @@
+//! Arrays, landing and rounds: deliveries in any order, and refusals.
+#[cfg(test)]
+mod fixtures;
+#[cfg(test)]
+mod hands;
+#[cfg(test)]
+mod landing;
+#[cfg(test)]
+mod memory;
+#[cfg(test)]
+mod rounds;

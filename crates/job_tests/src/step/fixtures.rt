@@ -1,0 +1,23 @@
+//! Arrays.
+use std::alloc::{AllocError, Global};
+use superstep_memory::arrays::Arrays;
+
+// One more array of this name with these cells.
+pub(crate) fn add(
+    alloc: Global,
+    arrays: &mut Arrays,
+    name: &str,
+    cells: &[i64],
+) -> Result<bool, AllocError> {
+    let name = String::from_str(alloc, name)?;
+    let cells = Vec::from_slice(alloc, cells)?;
+    arrays.add(name, cells)
+}
+
+// Arrays `a` with the cells 10 and 20, and `b` with this one.
+pub(crate) fn three_cells(alloc: Global, last: i64) -> Result<Arrays, AllocError> {
+    let mut arrays = Arrays::new(alloc);
+    add(alloc, &mut arrays, "a", &[10, 20])?;
+    add(alloc, &mut arrays, "b", &[last])?;
+    Ok(arrays)
+}

@@ -1,0 +1,10 @@
+//! The tree on atomic words: random lists of calls on one thread, beside the tree as a machine.
+#[cfg(test)]
+mod act;
+#[cfg(test)]
+mod ask;
+#[cfg(test)]
+mod mirror;
+#[cfg(test)]
+mod played;
+pub mod slots;

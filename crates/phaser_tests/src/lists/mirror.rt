@@ -1,0 +1,190 @@
+//! The same calls on the tree as a machine, step by step.
+
+ghost use Rattle.tier_core.specs.Run.{IsCall};
+
+use crate::lists::ask::{Ask, Told};
+use std::process::Abort;
+use tier_core::call::{Answer, Call, Played, Step};
+use tier_core::tree::Core;
+use tier_steps::view::{Errand, View};
+
+/// The machine, and for each token the tier of its last step that changed a word, with that word.
+#[derive(Drop)]
+pub struct Mirror {
+    /// The machine.
+    pub core: Core,
+    /// The last steps.
+    pub last: [Option<(usize, u64)>; 8],
+}
+
+/// The words of the tiers, of up to nine.
+pub(crate) fn words_of(core: &Core) -> [u64; 9] {
+    let mut words = [0; 9];
+    for tier in 0..9 {
+        if tier < core.tiers() {
+            words[tier] = core.word(tier as u16).pack();
+        }
+    }
+    words
+}
+
+// The tier whose word has changed, and its new word.
+fn changed(before: &[u64; 9], after: &[u64; 9]) -> Option<(usize, u64)> {
+    for tier in 0..9 {
+        if before[tier] != after[tier] {
+            return Some((tier, after[tier]));
+        }
+    }
+    None
+}
+
+// What an answer tells.
+fn told_by(ask: Ask, view: View, answer: Played) -> Told {
+    match answer {
+        Played::GoesOn | Played::MustAdvance(_, _) => Told::Owing,
+        Played::Done(phase) => match ask {
+            Ask::Register(_, _) | Ask::Open => Told::Joined(phase),
+            Ask::Poll => Told::Here(phase),
+            _ if view.size == 0 => Told::Left(phase, view.led),
+            _ => Told::Done(phase, view.led),
+        },
+        Played::Passed(phase) => Told::Passed(phase),
+        Played::Waiting => Told::Waiting,
+        Played::Held(phase, cause) => Told::Held(phase, cause),
+        Played::Full(count) => Told::Full(count),
+        Played::AlreadyArrived(phase) => Told::AlreadyArrived(phase),
+        Played::Ended(shown) => Told::Ended(shown),
+    }
+}
+
+impl Mirror {
+    /// How many tiers there are.
+    pub(crate) fn tiers(&self) -> u32 {
+        self.core.tiers() as u32
+    }
+
+    // What a token knows.
+    fn view(&self, rt: &impl Abort, token: usize) -> View {
+        assert!(rt; token < self.core.tokens());
+        self.core.view(token)
+    }
+
+    // One step of a token's call.
+    fn play(&mut self, rt: &impl Abort, token: usize) -> Played {
+        let step = if self.core.must_advance(token) {
+            Step::Finish(token)
+        } else {
+            Step::Go(token)
+        };
+        match self.core.step(step) {
+            Answer::Played(answer) => answer,
+            _ => panic!(rt; "no step"),
+        }
+    }
+
+    // Steps of a call until it is over, or so many of them have changed a word.
+    fn go(&mut self, rt: &impl Abort, token: usize, tries: u32) -> Option<Played> {
+        assert!(rt; token < 8);
+        let mut left = tries;
+        for _ in 0..64 {
+            if left == 0 {
+                return None;
+            }
+            let before = words_of(&self.core);
+            let answer = self.play(rt, token);
+            if let Some(place) = changed(&before, &words_of(&self.core)) {
+                self.last[token] = Some(place);
+                left -= 1;
+            }
+            match answer {
+                Played::GoesOn | Played::MustAdvance(_, _) => {}
+                answer => return Some(answer),
+            }
+        }
+        None
+    }
+
+    // The tier where a call that goes on loses its first try: another has changed the word that its token left
+    // there. The token has then seen the word.
+    fn lost_at(&mut self, rt: &impl Abort, token: usize) -> Option<usize> {
+        assert!(rt; token < 8);
+        let next = match self.view(rt, token).errand {
+            Errand::Climbing { tier, .. } => usize::from(tier),
+            Errand::Advancing => 0,
+            _ => return None,
+        };
+        assert!(rt; next < 9);
+        let word = words_of(&self.core)[next];
+        match self.last[token] {
+            Some((tier, left)) if tier == next && left != word => {
+                self.last[token] = Some((next, word));
+                Some(next)
+            }
+            _ => None,
+        }
+    }
+
+    // A call goes on. A lost try is a look, and the last step where that finds the end.
+    fn resume(&mut self, rt: &impl Abort, token: usize, tries: u32) -> Option<Played> {
+        if tries == 0 {
+            return None;
+        }
+        match self.lost_at(rt, token) {
+            Some(0) if self.core.root().ended => Some(self.play(rt, token)),
+            Some(_) => self.go(rt, token, tries - 1),
+            None => self.go(rt, token, tries),
+        }
+    }
+
+    // A call begins, with its look at the root.
+    fn begin(&mut self, rt: &impl Abort, token: usize, call: Call, tries: u32) -> Option<Played>
+        requires { IsCall call }
+    {
+        assert!(rt; self.core.begin(token, call).is_ok());
+        match self.play(rt, token) {
+            Played::GoesOn => self.go(rt, token, tries),
+            answer => Some(answer),
+        }
+    }
+
+    // The steps of a call with so many tries, or of one that was busy.
+    fn steps(
+        &mut self,
+        rt: &impl Abort,
+        token: usize,
+        ask: Ask,
+        tries: u32,
+        again: bool,
+    ) -> Option<Played> {
+        match ask {
+            Ask::Force => self.begin(rt, token, Call::Force, 1),
+            Ask::Open | Ask::Resume => self.resume(rt, token, tries),
+            _ if again => self.go(rt, token, tries),
+            Ask::Register(tier, n) => {
+                assert!(rt; n > 0 && n < 65536);
+                self.begin(rt, token, Call::Join { tier, n }, tries)
+            }
+            Ask::Arrive => self.begin(rt, token, Call::Arrive, tries),
+            Ask::Leave => self.begin(rt, token, Call::Leave, tries),
+            Ask::Poll => self.begin(rt, token, Call::Poll, 2),
+        }
+    }
+
+    /// What a token is told of a call with so many tries, or of one that was busy.
+    pub(crate) fn told(
+        &mut self,
+        rt: &impl Abort,
+        token: usize,
+        ask: Ask,
+        tries: u32,
+        again: bool,
+    ) -> Told {
+        let answer = self.steps(rt, token, ask, tries, again);
+        let view = self.view(rt, token);
+        match answer {
+            Some(answer) => told_by(ask, view, answer),
+            None if view.errand == Errand::Rest => Told::Busy,
+            None => Told::Owing,
+        }
+    }
+}

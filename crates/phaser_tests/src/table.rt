@@ -1,0 +1,7 @@
+//! The tree on atomic words: worked runs on one thread.
+#[cfg(test)]
+mod asks;
+#[cfg(test)]
+mod runs;
+#[cfg(test)]
+mod trees;

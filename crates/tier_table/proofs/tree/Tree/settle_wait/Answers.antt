@@ -1,0 +1,15 @@
+use Rattle.std.proofs.Common.{subst, ◌∙◌}
+use Rattle.tier_table.specs.Holding.{IsDoor}
+use Rattle.tier_table.proofs.Lasting.{passed_same, left_departs, counted_at_last}
+use Rattle.tier_table.proofs.tree.Tree.settle_wait.Goals as goal
+
+pub returns-in-Left : goal.returns-in-Left
+returns-in-Left g c h some tree counted =
+    let none = (subst IsDoor c.door.view_is c.door.invariant).none in
+    let told = c.in-Left.ensures in
+    let passed = passed_same counted told.1 in
+    (left_departs c.args.own some passed none, told.0 ∙ tree, passed, told.2, told.3)
+
+pub returns-in_default : goal.returns-in_default
+returns-in_default g c h some tree counted =
+    counted_at_last c.args.own h c.args.errand.token c.resume_wait.result tree counted c.resume_wait.ensures c.in_default.not-Left
