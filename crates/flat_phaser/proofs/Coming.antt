@@ -1,10 +1,9 @@
 -- When an advance is due, and that the last arrival brings it.
-use Rattle.std.proofs.Common.{◌≡◌, ℕ, ◌+◌, ⊎_elim, Bool, true, false, List, [], ◌∷◌, ◌++◌, refl, sym, ◌∙◌, ap, arith}
-use Rattle.std.specs.Prelude.{count_by, not, ◌&&◌, Some}
+use Rattle.std.proofs.Common.{◌≡◌, ℕ, ⊎_elim, Bool, true, false, List, [], ◌∷◌, ◌++◌, refl, ◌∙◌, ap, arith}
+use Rattle.std.specs.Prelude.{count_by, not, Some}
 use Rattle.std.proofs.lemmas.Bool.{eq-eqb}
-use Rattle.phaser_word.specs.Phase.{next_phase_of}
-use Rattle.flat_phaser.specs.Flat.{Flat, Member, has_arrived, everyone_arrived, unarrived}
-use Rattle.flat_phaser.specs.Step.{Arrive, Leave, Advance, IsWaitedFor, taken, flat_step, mark_one, drop_one, with_members}
+use Rattle.flat_phaser.specs.Flat.{Flat, Member, has_arrived, everyone_arrived}
+use Rattle.flat_phaser.specs.Step.{Arrive, Leave, Advance, IsWaitedFor, mark_one, drop_one, with_members}
 use Rattle.flat_phaser.specs.Laws.{TellsDue, DueTellsEveryone, BringsAdvance, TheLastBringsTheAdvance, OneMemberIsLast}
 use Rattle.flat_phaser.proofs.Counts.{bit, count_cons, count_here}
 use Rattle.flat_phaser.proofs.Everyone.{either, everyone_from, everyone_each, and_true}

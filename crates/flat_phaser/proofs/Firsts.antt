@@ -1,5 +1,5 @@
 -- The first member that is awaited, by its place in the list.
-use Rattle.std.proofs.Common.{◌≡◌, ℕ, zero, suc, ◌+◌, ◌<◌, ◌≤◌, Bool, true, false, cond, List, [], ◌∷◌, length, get_or, refl, ap, arith, Some}
+use Rattle.std.proofs.Common.{◌≡◌, ℕ, zero, suc, ◌+◌, ◌<◌, ◌≤◌, Bool, true, false, cond, List, [], ◌∷◌, length, get_or, refl, sym, ap, arith, Some}
 use Rattle.std.specs.Prelude.{◌&&◌, slice_set, remove}
 use Rattle.flat_phaser.specs.Flat.{Member, has_arrived, is_owned, members_of, arrived_of}
 use Rattle.flat_phaser.specs.Step.{is_awaited, IsWaitedFor, mark_one, drop_one}
@@ -14,7 +14,7 @@ use Rattle.std.proofs.Common.{⊎_elim, None, nat_lt}
 use Rattle.flat_phaser.proofs.Everyone.{either}
 
 -- the member at this place is awaited, and none before it is
-pub record IsFirst (owner phase : ℕ) (members : List Member) (place : ℕ) (d : Member) : Type 0 where
+record IsFirst (owner phase : ℕ) (members : List Member) (place : ℕ) (d : Member) : Type 0 where
   pub within : place < length members
   pub here : is_awaited owner phase (get_or members place d) ≡ true
   pub before : (k : ℕ) → k < place → is_awaited owner phase (get_or members k d) ≡ false
@@ -26,7 +26,7 @@ next_first owner phase m ms i d f = record {
   before = λ k h. f.before (suc k) (omega arith);
 }
 
-pub marked_at : (owner phase : ℕ) (ms : List Member) (i : ℕ) (d : Member) → IsFirst owner phase ms i d
+marked_at : (owner phase : ℕ) (ms : List Member) (i : ℕ) (d : Member) → IsFirst owner phase ms i d
     → slice_set ms i (record (get_or ms i d) { mark = Some phase }) ≡ mark_one owner phase ms
 marked_at owner phase [] i d f = absurd (let within : i < length {A = Member} [] = f.within in omega arith)
 marked_at owner phase (m ∷ ms) zero d f = let here : is_awaited owner phase m ≡ true = f.here in rw here refl
@@ -34,14 +34,14 @@ marked_at owner phase (m ∷ ms) (suc i) d f =
     let none : is_awaited owner phase m ≡ false = f.before 0 (omega arith) in
     rw none (ap (λ (l : List Member). m ∷ l) (marked_at owner phase ms i d (next_first owner phase m ms i d f)))
 
-pub dropped_at : (owner phase : ℕ) (ms : List Member) (i : ℕ) (d : Member) → IsFirst owner phase ms i d → remove ms i ≡ drop_one owner phase ms
+dropped_at : (owner phase : ℕ) (ms : List Member) (i : ℕ) (d : Member) → IsFirst owner phase ms i d → remove ms i ≡ drop_one owner phase ms
 dropped_at owner phase [] i d f = absurd (let within : i < length {A = Member} [] = f.within in omega arith)
 dropped_at owner phase (m ∷ ms) zero d f = let here : is_awaited owner phase m ≡ true = f.here in rw here refl
 dropped_at owner phase (m ∷ ms) (suc i) d f =
     let none : is_awaited owner phase m ≡ false = f.before 0 (omega arith) in
     rw none (ap (λ (l : List Member). m ∷ l) (dropped_at owner phase ms i d (next_first owner phase m ms i d f)))
 
-pub waited_at : (owner phase : ℕ) (ms : List Member) (i : ℕ) (d : Member) → IsFirst owner phase ms i d → IsWaitedFor owner phase ms
+waited_at : (owner phase : ℕ) (ms : List Member) (i : ℕ) (d : Member) → IsFirst owner phase ms i d → IsWaitedFor owner phase ms
 waited_at owner phase [] i d f = absurd (let within : i < length {A = Member} [] = f.within in omega arith)
 waited_at owner phase (m ∷ ms) zero d f =
     let arrived = count_cons (λ x. is_owned owner x && has_arrived phase x) m ms in
@@ -57,7 +57,7 @@ waited_at owner phase (m ∷ ms) (suc i) d f =
     let rest = waited_at owner phase ms i d (next_first owner phase m ms i d f) in
     omega arith
 
-pub none_waited : (owner phase : ℕ) (ms : List Member) (d : Member) → ((k : ℕ) → k < length ms → is_awaited owner phase (get_or ms k d) ≡ false)
+none_waited : (owner phase : ℕ) (ms : List Member) (d : Member) → ((k : ℕ) → k < length ms → is_awaited owner phase (get_or ms k d) ≡ false)
     → (mark_one owner phase ms ≡ ms) × (drop_one owner phase ms ≡ ms) × (members_of owner ms ≤ arrived_of phase owner ms)
 none_waited owner phase [] d h = (refl, refl, omega arith)
 none_waited owner phase (m ∷ ms) d h =
@@ -69,7 +69,7 @@ none_waited owner phase (m ∷ ms) d h =
     let counts : members_of owner ms ≤ arrived_of phase owner ms = rest.2 in
     (rw none (ap (λ (l : List Member). m ∷ l) rest.0), rw none (ap (λ (l : List Member). m ∷ l) rest.1), omega arith)
 
-pub first_from : (owner phase : ℕ) (ms : List Member) (i : ℕ) (d : Member) → position (is_awaited owner phase) ms ≡ Some i → IsFirst owner phase ms i d
+first_from : (owner phase : ℕ) (ms : List Member) (i : ℕ) (d : Member) → position (is_awaited owner phase) ms ≡ Some i → IsFirst owner phase ms i d
 first_from owner phase ms i d e =
     let p = position-Some (is_awaited owner phase) ms i d e in
     record { within = p.0; here = p.1; before = p.2 }
@@ -89,8 +89,34 @@ none_pass p (x ∷ xs) h (suc k) d l = ⊎_elim
     (λ (e : p x ≡ false). let here : position_or_len p (x ∷ xs) ≡ 1 + position_or_len p xs = rw e refl in none_pass p xs (omega (arith, here)) k d (omega arith))
     (either (p x))
 
-pub none_from : (owner phase : ℕ) (ms : List Member) (d : Member) → position (is_awaited owner phase) ms ≡ None
+-- stands for a member where a list has none at a place
+nobody : Member
+nobody = record { owner = 0; mark = None }
+
+-- where a place was found, the owner is waited for
+pub found_waited : (owner phase : ℕ) (ms : List Member) (i : ℕ) → position (is_awaited owner phase) ms ≡ Some i → IsWaitedFor owner phase ms
+found_waited owner phase ms i e = waited_at owner phase ms i nobody (first_from owner phase ms i nobody e)
+
+-- the member there is the one that arrives
+pub found_marked : (owner phase : ℕ) (ms : List Member) (i : ℕ) (d : Member) → position (is_awaited owner phase) ms ≡ Some i
+    → slice_set ms i (record (get_or ms i d) { mark = Some phase }) ≡ mark_one owner phase ms
+found_marked owner phase ms i d e = marked_at owner phase ms i d (first_from owner phase ms i d e)
+
+-- and the one that is taken away
+pub found_dropped : (owner phase : ℕ) (ms : List Member) (i : ℕ) → position (is_awaited owner phase) ms ≡ Some i → remove ms i ≡ drop_one owner phase ms
+found_dropped owner phase ms i e = dropped_at owner phase ms i nobody (first_from owner phase ms i nobody e)
+
+-- both of that at once: nothing changes, and all of the owner's have arrived
+none_from : (owner phase : ℕ) (ms : List Member) → position (is_awaited owner phase) ms ≡ None
     → (mark_one owner phase ms ≡ ms) × (drop_one owner phase ms ≡ ms) × (members_of owner ms ≤ arrived_of phase owner ms)
-none_from owner phase ms d e =
+none_from owner phase ms e =
     let test = not_found (nat_lt (position_or_len (is_awaited owner phase) ms) (length ms)) (position_or_len (is_awaited owner phase) ms) e in
-    none_waited owner phase ms d (λ k l. none_pass (is_awaited owner phase) ms (grind (arith, common_steps)) k d l)
+    none_waited owner phase ms nobody (λ k l. none_pass (is_awaited owner phase) ms (grind (arith, common_steps)) k nobody l)
+
+-- where no place was found, the owner isn't waited for
+pub none_is_waited : (owner phase : ℕ) (ms : List Member) → position (is_awaited owner phase) ms ≡ None → ¬ IsWaitedFor owner phase ms
+none_is_waited owner phase ms e = let all : members_of owner ms ≤ arrived_of phase owner ms = (none_from owner phase ms e).2 in λ h. omega arith
+
+-- and no member arrives or is taken away
+pub none_changed : (owner phase : ℕ) (ms : List Member) → position (is_awaited owner phase) ms ≡ None → (ms ≡ mark_one owner phase ms) × (ms ≡ drop_one owner phase ms)
+none_changed owner phase ms e = let same = none_from owner phase ms e in (sym same.0, sym same.1)

@@ -1,34 +1,15 @@
-use Rattle.std.proofs.Common.{◌≡◌, ◌≤◌, List, sym, ◌∙◌, arith, Some, None}
-use Rattle.std.specs.Prelude.{position}
-use Rattle.flat_phaser.specs.Flat.{Member, members_of, arrived_of}
-use Rattle.flat_phaser.specs.Step.{is_awaited}
-use Rattle.flat_phaser.proofs.Firsts.{dropped_at, waited_at, first_from, none_from}
+use Rattle.std.proofs.Common.{◌∙◌}
+use Rattle.flat_phaser.proofs.Firsts.{found_waited, found_dropped, none_is_waited, none_changed}
 use Rattle.flat_phaser.proofs.drop_first.Goals as goal
 
-nobody : Member
-nobody = record { owner = 0; mark = None }
-
 pub returns-in_default-clause-none : goal.returns-in_default-clause-none
-returns-in_default-clause-none c =
-    let items : List Member = c.args.members.now.items in
-    let none : position (is_awaited c.args.owner c.args.phase) items ≡ None = cc in
-    let all : members_of c.args.owner items ≤ arrived_of c.args.phase c.args.owner items = (none_from c.args.owner c.args.phase items nobody none).2 in
-    λ h. omega arith
+returns-in_default-clause-none c = none_is_waited c.args.owner c.args.phase c.args.members.now.items cc
 
 pub returns-in_default-clause-items : goal.returns-in_default-clause-items
-returns-in_default-clause-items c =
-    let items : List Member = c.args.members.now.items in
-    let none : position (is_awaited c.args.owner c.args.phase) items ≡ None = cc in
-    sym (none_from c.args.owner c.args.phase items nobody none).1
+returns-in_default-clause-items c = (none_changed c.args.owner c.args.phase c.args.members.now.items cc).1
 
 pub returns-clause-found : goal.returns-clause-found
-returns-clause-found c =
-    let items : List Member = c.args.members.now.items in
-    let found : position (is_awaited c.args.owner c.args.phase) items ≡ Some c.in-Some.place = cc in
-    waited_at c.args.owner c.args.phase items c.in-Some.place nobody (first_from c.args.owner c.args.phase items c.in-Some.place nobody found)
+returns-clause-found c = found_waited c.args.owner c.args.phase c.args.members.now.items c.in-Some.place cc
 
 pub returns-clause-items : goal.returns-clause-items
-returns-clause-items c =
-    let items : List Member = c.args.members.now.items in
-    let found : position (is_awaited c.args.owner c.args.phase) items ≡ Some c.in-Some.place = cc in
-    c.remove.ensures.items ∙ dropped_at c.args.owner c.args.phase items c.in-Some.place nobody (first_from c.args.owner c.args.phase items c.in-Some.place nobody found)
+returns-clause-items c = c.remove.ensures.items ∙ found_dropped c.args.owner c.args.phase c.args.members.now.items c.in-Some.place cc
