@@ -7,7 +7,7 @@ use Rattle.tier_steps.specs.Tally.{IsShape, blank, word_at, root_phase, ViewFits
 use Rattle.tier_steps.specs.Step.{Look, Glance, Refuse, Join, Arrive, Leave, Advance, Force, Claim, Settle, SettleBack, Climb, Refresh, passed, arrived_view, left_view, climbed_view, added, joined_view, claimed_view, settled_view, looked, refused, forced_view, CanAdvance, advanced_view}
 use Rattle.tier_steps.specs.Laws.{KindsKeepTally}
 use Rattle.tier_steps.proofs.Keeping.{StepFits, tally_kept, all_here, view_later}
-use Rattle.tier_steps.proofs.Pass.{arrive_fits, leave_fits, climb_fits}
+use Rattle.tier_steps.proofs.Pass.{own_pass_fits, climb_fits}
 use Rattle.tier_steps.proofs.Grow.{join_fits}
 use Rattle.tier_steps.proofs.Quiet.{claim_fits, settle_fits, settle_back_fits, refresh_fits}
 use Rattle.tier_steps.proofs.Looking.{look_fits, glance_fits, refuse_fits, force_fits}
@@ -89,12 +89,12 @@ kinds_keep_tally ps ws front v back t Arrive step =
     let w' : Fields = passed t Arrival (word_at ws t) in
     kept ps ws front back v (arrived_view (parent_of ps t) t (word_at ws t) v) t w' step.shape step.within step.tally
     (passed_ended t Arrival (word_at ws t))
-    (λ ok. arrive_fits ps ws front back v t (word_at (set ws t w') 0).ended step.shape step.within step.tally step.needs ok)
+    (λ ok. own_pass_fits ps ws front back v t Arrival (word_at (set ws t w') 0).ended step.shape step.within step.tally step.needs ok)
 kinds_keep_tally ps ws front v back t Leave step =
     let w' : Fields = passed t Departure (word_at ws t) in
     kept ps ws front back v (left_view (parent_of ps t) t (word_at ws t) v) t w' step.shape step.within step.tally
     (passed_ended t Departure (word_at ws t))
-    (λ ok. leave_fits ps ws front back v t (word_at (set ws t w') 0).ended step.shape step.within step.tally step.needs ok)
+    (λ ok. own_pass_fits ps ws front back v t Departure (word_at (set ws t w') 0).ended step.shape step.within step.tally step.needs ok)
 kinds_keep_tally ps ws front v back t (Advance ends) step =
     subst (λ (k : ℕ). CanAdvance (word_at ws k) v → Tallies ps (set ws k (advanced (word_at ws k) ends)) (front ++ advanced_view v ∷ back))
     (sym step.needs.0)

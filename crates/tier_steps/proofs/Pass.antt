@@ -5,7 +5,7 @@ use Rattle.std.proofs.lemmas.Bool.{eq-eqb, ne_eqb}
 use Rattle.tier_steps.specs.Word.{Fields, IsLegal, is_being_opened, late}
 use Rattle.tier_steps.specs.View.{View, Errand, Rest, Climbing, Advancing, Trip, Arrival, Departure, parent_of, absent, only_at, errand_parties, errand_late, is_hidden, party_share, late_share, errand_claims, claim_share, errand_advances, advance_share}
 use Rattle.tier_steps.specs.Tally.{IsShape, word_at, root_phase, ErrandFits, ViewFits, is_zero, Tallies}
-use Rattle.tier_steps.specs.Step.{passed, owed, CanPass, arrived_view, left_view, CanClimb, climbed_view}
+use Rattle.tier_steps.specs.Step.{passed, owed, CanPass, CanClimb, climbed_view}
 use Rattle.tier_steps.proofs.Legal.{legal_open, passed_legal}
 use Rattle.tier_steps.proofs.Balance.{sum_around}
 use Rattle.tier_steps.proofs.Passing.{gone, passed_parties, passed_late, passed_linked_parties, passed_linked_late}
@@ -172,9 +172,6 @@ owed_ok : (ps : List ℕ) (root t : ℕ) (k : Trip) (w : Fields) (v : View) → 
 owed_ok ps root t k w v shape within e = owed_is (ErrandFits ps root v) (parent_of ps t) t k w tt (λ _. e) (λ j h.
     (e, (let a : parent_of ps t < t = shape.earlier t h within in omega arith)))
 
-only_step : (t n u : ℕ) → only_at t (n + 1) u ≡ only_at t n u + only_at t 1 u
-only_step t n u = grind arith
-
 pub only_nothing : (t u : ℕ) → only_at t 0 u ≡ 0
 only_nothing t u = grind arith
 
@@ -200,78 +197,55 @@ own_waits ps ws front back v t within tally can current =
     let e = can.unarrived in
     omega arith)
 
-arrived_ok : (ps : List ℕ) (root : ℕ) (ended : Bool) (t : ℕ) (w : Fields) (v : View) → IsShape ps → t < length ps → v.phase ≡ root
-    → v.arrived < v.size → ViewFits ps root ended v → ViewFits ps root ended (arrived_view (parent_of ps t) t w v)
-arrived_ok ps root ended t w v shape within current h ok = record {
-  within = omega arith;
-  few = ok.few;
-  seated = ok.seated;
-  current = λ _. inl current;
-  seen = ok.seen;
-  errand = owed_ok ps root t Arrival w (arrived_view (parent_of ps t) t w v) shape within current;
-}
+-- how many members a token has after a trip of one of them, and how many of them have arrived
+abbrev size_after : Trip → ℕ → ℕ
+size_after Arrival n = n
+size_after Departure n = n - 1
 
-left_ok : (ps : List ℕ) (root : ℕ) (ended : Bool) (t : ℕ) (w : Fields) (v : View) → IsShape ps → t < length ps → v.phase ≡ root
-    → v.arrived < v.size → ViewFits ps root ended v → ViewFits ps root ended (left_view (parent_of ps t) t w v)
-left_ok ps root ended t w v shape within current h ok = record {
-  within = omega arith;
-  few = (let a = ok.few in omega arith);
+abbrev arrived_after : Trip → ℕ → ℕ
+arrived_after Arrival n = n + 1
+arrived_after Departure n = n
+
+-- a departure takes a member away, and after either trip one is absent no longer
+after_trip : (k : Trip) (n a : ℕ) → a < n
+    → (n ≡ size_after k n + gone k) × (n - a ≡ size_after k n - arrived_after k a + 1) × (arrived_after k a ≤ size_after k n)
+after_trip Arrival n a h = (omega arith, omega arith, omega arith)
+after_trip Departure n a h = (omega arith, omega arith, omega arith)
+
+-- the view of a token after a trip of one of its members
+abbrev pub passed_view : ℕ → ℕ → Trip → Fields → View → View
+passed_view above t k w v = record v { size = size_after k v.size; arrived = arrived_after k v.arrived; errand = owed above t k w }
+
+-- it fits
+passed_ok : (ps : List ℕ) (root : ℕ) (ended : Bool) (t : ℕ) (k : Trip) (w : Fields) (v : View) → IsShape ps → t < length ps → v.phase ≡ root
+    → v.arrived < v.size → ViewFits ps root ended v → ViewFits ps root ended (passed_view (parent_of ps t) t k w v)
+passed_ok ps root ended t k w v shape within current h ok = let a = after_trip k v.size v.arrived h in record {
+  within = a.2;
+  few = (let b = ok.few in let c = a.0 in omega arith);
   seated = λ p. ok.seated (omega arith);
   current = λ _. inl current;
   seen = ok.seen;
-  errand = owed_ok ps root t Departure w (left_view (parent_of ps t) t w v) shape within current;
+  errand = owed_ok ps root t k w (passed_view (parent_of ps t) t k w v) shape within current;
 }
 
--- one member more has arrived, and one is absent no longer
-arrived_shares : (root : ℕ) (ps : List ℕ) (t : ℕ) (w : Fields) (v : View) (u : ℕ) → v.errand ≡ Rest → v.tier ≡ t → v.phase ≡ root → v.arrived < v.size
-    → only_at v.tier (absent root v) u + errand_late ps v.errand u ≡ only_at v.tier
-    (absent root (arrived_view (parent_of ps t) t w v)) u + only_at t 1 u
-arrived_shares root ps t w v u rest own current h =
-    let a : absent root v ≡ absent root (arrived_view (parent_of ps t) t w v) + 1 = absent_current root v current
-    ∙ (let b = absent_current root (arrived_view (parent_of ps t) t w v) current in omega arith) in
-    let c : only_at v.tier (absent root v) u ≡ only_at v.tier (absent root (arrived_view (parent_of ps t) t w v) + 1) u =
-    ap (λ n. only_at v.tier n u) a in
-    let d = only_step v.tier (absent root (arrived_view (parent_of ps t) t w v)) u in
-    let e : only_at v.tier 1 u ≡ only_at t 1 u = ap (λ k. only_at k 1 u) own in
-    let f : errand_late ps v.errand u ≡ 0 = ap (λ x. errand_late ps x u) rest in
-    omega arith
+-- what a token at rest counts at its own tier falls by so many
+rest_share : (s t u n m c e : ℕ) → s ≡ t → n ≡ m + c → e ≡ 0 → only_at s n u + e ≡ only_at s m u + only_at t c u
+rest_share s t u n m c e own less rest = grind arith
 
-left_shares : (root : ℕ) (ps : List ℕ) (t : ℕ) (w : Fields) (v : View) (u : ℕ) → v.errand ≡ Rest → v.tier ≡ t → v.phase ≡ root → v.arrived < v.size
-    → only_at v.tier (absent root v) u + errand_late ps v.errand u ≡ only_at v.tier (absent root (left_view (parent_of ps t) t w v)) u + only_at t 1 u
-left_shares root ps t w v u rest own current h =
-    let a : absent root v ≡ absent root (left_view (parent_of ps t) t w v) + 1 = absent_current root v current
-    ∙ (let b = absent_current root (left_view (parent_of ps t) t w v) current in omega arith) in
-    let c : only_at v.tier (absent root v) u ≡ only_at v.tier (absent root (left_view (parent_of ps t) t w v) + 1) u =
-    ap (λ n. only_at v.tier n u) a in
-    let d = only_step v.tier (absent root (left_view (parent_of ps t) t w v)) u in
-    let e : only_at v.tier 1 u ≡ only_at t 1 u = ap (λ k. only_at k 1 u) own in
-    let f : errand_late ps v.errand u ≡ 0 = ap (λ x. errand_late ps x u) rest in
-    omega arith
-
-left_members : (ps : List ℕ) (t : ℕ) (v : View) (u : ℕ) → v.errand ≡ Rest → v.tier ≡ t → 0 < v.size
-    → only_at v.tier v.size u + errand_parties ps v.errand u ≡ only_at v.tier (v.size - 1) u + only_at t 1 u
-left_members ps t v u rest own h =
-    let a : v.size ≡ v.size - 1 + 1 = omega arith in
-    let c : only_at v.tier v.size u ≡ only_at v.tier (v.size - 1 + 1) u = ap (λ n. only_at v.tier n u) a in
-    let d = only_step v.tier (v.size - 1) u in
-    let e : only_at v.tier 1 u ≡ only_at t 1 u = ap (λ k. only_at k 1 u) own in
-    let f : errand_parties ps v.errand u ≡ 0 = ap (λ x. errand_parties ps x u) rest in
-    omega arith
-
-arrived_members : (ps : List ℕ) (t : ℕ) (v : View) (u : ℕ) → v.errand ≡ Rest
-    → only_at v.tier v.size u + errand_parties ps v.errand u ≡ only_at v.tier v.size u + only_at t 0 u
-arrived_members ps t v u rest = let f : errand_parties ps v.errand u ≡ 0 = ap (λ x. errand_parties ps x u) rest in
-    let g = only_nothing t u in omega arith
-
-pub arrive_fits : (ps : List ℕ) (ws : List Fields) (front back : List View) (v : View) (t : ℕ) (ended : Bool) → IsShape ps → t < length ws
-    → Tallies ps ws (front ++ v ∷ back)
+-- a member arrives or leaves at the tier of its token
+pub own_pass_fits : (ps : List ℕ) (ws : List Fields) (front back : List View) (v : View) (t : ℕ) (k : Trip) (ended : Bool) → IsShape ps
+    → t < length ws → Tallies ps ws (front ++ v ∷ back)
     → CanPass t (word_at ws t) v → ViewFits ps (root_phase ws) ended v
-    → StepFits ps (root_phase ws) ended t (word_at ws t) (passed t Arrival (word_at ws t)) v (arrived_view (parent_of ps t) t (word_at ws t) v)
-arrive_fits ps ws front back v t ended shape within tally can ok =
+    → StepFits ps (root_phase ws) ended t (word_at ws t) (passed t k (word_at ws t)) v (passed_view (parent_of ps t) t k (word_at ws t) v)
+own_pass_fits ps ws front back v t k ended shape within tally can ok =
     let current : v.phase ≡ root_phase ws = unarrived_is_current ps (root_phase ws) ended v ok can.unarrived in
     let waits = own_waits ps ws front back v t within tally can current in
     let inside : t < length ps = subst (λ (n : ℕ). t < n) tally.long within in
-    pass_fits ps (root_phase ws) ended t Arrival (word_at ws t) v (arrived_view (parent_of ps t) t (word_at ws t) v) shape inside
+    let v' : View = passed_view (parent_of ps t) t k (word_at ws t) v in
+    let after = after_trip k v.size v.arrived can.unarrived in
+    let fewer : absent (root_phase ws) v ≡ absent (root_phase ws) v' + 1 =
+    absent_current (root_phase ws) v current ∙ after.1 ∙ ap (λ n. n + 1) (sym (absent_current (root_phase ws) v' current)) in
+    pass_fits ps (root_phase ws) ended t k (word_at ws t) v v' shape inside
     (record {
       legal = tally.legal t within;
       phase = can.current ∙ current;
@@ -281,33 +255,12 @@ arrive_fits ps ws front back v t ended shape within tally can ok =
       plain = ap is_hidden can.rest;
       unclaimed = λ u. ap (errand_claims ps u) can.rest;
       idle = ap errand_advances can.rest;
-      parties = λ u. arrived_members ps t v u can.rest;
-      unarrived = λ u. arrived_shares (root_phase ws) ps t (word_at ws t) v u can.rest can.own current can.unarrived;
+      parties = λ u. rest_share v.tier t u v.size v'.size (gone k) (errand_parties ps v.errand u) can.own after.0
+          (ap (λ x. errand_parties ps x u) can.rest);
+      unarrived = λ u. rest_share v.tier t u (absent (root_phase ws) v) (absent (root_phase ws) v') 1 (errand_late ps v.errand u) can.own fewer
+          (ap (λ x. errand_late ps x u) can.rest);
     })
-    (arrived_ok ps (root_phase ws) ended t (word_at ws t) v shape inside current can.unarrived ok)
-
-pub leave_fits : (ps : List ℕ) (ws : List Fields) (front back : List View) (v : View) (t : ℕ) (ended : Bool) → IsShape ps → t < length ws
-    → Tallies ps ws (front ++ v ∷ back)
-    → CanPass t (word_at ws t) v → ViewFits ps (root_phase ws) ended v
-    → StepFits ps (root_phase ws) ended t (word_at ws t) (passed t Departure (word_at ws t)) v (left_view (parent_of ps t) t (word_at ws t) v)
-leave_fits ps ws front back v t ended shape within tally can ok =
-    let current : v.phase ≡ root_phase ws = unarrived_is_current ps (root_phase ws) ended v ok can.unarrived in
-    let waits = own_waits ps ws front back v t within tally can current in
-    let inside : t < length ps = subst (λ (n : ℕ). t < n) tally.long within in
-    pass_fits ps (root_phase ws) ended t Departure (word_at ws t) v (left_view (parent_of ps t) t (word_at ws t) v) shape inside
-    (record {
-      legal = tally.legal t within;
-      phase = can.current ∙ current;
-      some = waits.0;
-      waits = waits.1;
-      errand = refl;
-      plain = ap is_hidden can.rest;
-      unclaimed = λ u. ap (errand_claims ps u) can.rest;
-      idle = ap errand_advances can.rest;
-      parties = λ u. left_members ps t v u can.rest can.own (let a = can.unarrived in omega arith);
-      unarrived = λ u. left_shares (root_phase ws) ps t (word_at ws t) v u can.rest can.own current can.unarrived;
-    })
-    (left_ok ps (root_phase ws) ended t (word_at ws t) v shape inside current can.unarrived ok)
+    (passed_ok ps (root_phase ws) ended t k (word_at ws t) v shape inside current can.unarrived ok)
 
 climbed_ok : (ps : List ℕ) (root : ℕ) (ended : Bool) (t : ℕ) (k : Trip) (w : Fields) (v : View) → IsShape ps → t < length ps
     → v.phase ≡ root → ViewFits ps root ended v → ViewFits ps root ended (climbed_view (parent_of ps t) t k w v)
