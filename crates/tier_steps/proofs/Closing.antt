@@ -11,6 +11,7 @@ use Rattle.tier_steps.specs.Step.{passed, owed, CanAdvance, advanced_view}
 use Rattle.tier_steps.proofs.Parts.{AlikeParts}
 use Rattle.tier_steps.proofs.Members.{token_counts, token_arrived}
 use Rattle.tier_steps.proofs.Keeping.{all_here, all_map, all_around}
+pub use Rattle.tier_steps.proofs.Passing.{phase_passed, ended_passed}
 use Rattle.tier_steps.proofs.Pass.{share_fits, only_here}
 use Rattle.tier_steps.proofs.Balance.{sum_changes}
 use Rattle.tier_steps.proofs.Chains.{zero_each, both}
@@ -171,16 +172,6 @@ pub root_same : (ws : List Fields) (t : ℕ) (w' : Fields) → t < length ws →
     → root_phase (set ws t w') ≡ root_phase ws
 root_same ws zero w' h e = ap (λ (x : Fields). x.phase) (get_or-set_same ws 0 w' blank h) ∙ e refl
 root_same ws (suc t) w' h e = let other : 0 ≢ suc t = omega arith in ap (λ (x : Fields). x.phase) (get_or-set_other ws (suc t) 0 w' blank other)
-
-pub phase_passed : (t : ℕ) (k : Trip) (w : Fields) → (passed t k w).phase ≡ w.phase
-phase_passed t Arrival w = refl
-phase_passed zero Departure w = refl
-phase_passed (suc t) Departure w = refl
-
-pub ended_passed : (t : ℕ) (k : Trip) (w : Fields) → (passed t k w).ended ≡ w.ended
-ended_passed t Arrival w = refl
-ended_passed zero Departure w = refl
-ended_passed (suc t) Departure w = refl
 
 or_none : (a b : Bool) → cond a true b ≡ false → (a ≡ false) × (b ≡ false)
 or_none true b e = absurd (let f : true ≡ false = e in cc)

@@ -9,11 +9,12 @@ use Rattle.tier_steps.specs.Step.{Kind, Look, Glance, Refuse, Join, Arrive, Leav
 use Rattle.tier_steps.specs.Laws.{IsStep, KindsAreFlat}
 use Rattle.tier_steps.proofs.Parts.{AlikeParts, parts_of, whole_of}
 use Rattle.tier_steps.proofs.Looking.{move_keeps}
+use Rattle.tier_steps.proofs.Passing.{phase_passed, ended_passed}
 use Rattle.tier_steps.proofs.Pass.{own_waits, stands, waiting_word, climbing_late, only_here, unarrived_is_current}
 use Rattle.tier_steps.proofs.Quiet.{settle_fits, refresh_fits}
-use Rattle.tier_steps.proofs.KindLaw.{kinds_keep_tally, ended_same, mine, passed_ended}
+use Rattle.tier_steps.proofs.KindLaw.{kinds_keep_tally, ended_same, mine}
 use Rattle.tier_steps.proofs.Label.{silent, join_label, arrive_label, leave_label, may_pass, members_change, arrived_change, here}
-use Rattle.tier_steps.proofs.Closing.{Ready, ready, image_due, advance_label, phase_passed, over, by_end, climb_same, root_same, someone_after, some_here}
+use Rattle.tier_steps.proofs.Closing.{Ready, ready, image_due, advance_label, over, by_end, climb_same, root_same, someone_after, some_here}
 use Rattle.flat_phaser.specs.declared.FlatStep.TheVariants as flat
 use Rattle.flat_phaser.specs.declared.FlatStep.{FlatStep}
 use Rattle.flat_phaser.specs.Flat.{Flat, members_of, arrived_of, everyone_arrived}
@@ -135,10 +136,10 @@ kinds_are_flat ps ws front v back t Arrive f step alike =
     let v' : View = arrived_view (parent_of ps t) t (word_at ws t) v in (
       (λ e. may_pass ws front back v f (parts_of f (image ws (front ++ v ∷ back)) alike) e can.unarrived),
       stepped ws (front ++ v ∷ back) (front ++ v' ∷ back) t w' f (flat.Arrive (length front)) step.within alike
-          (λ _. phase_passed t Arrival (word_at ws t)) (passed_ended t Arrival (word_at ws t))
+          (λ _. phase_passed t Arrival (word_at ws t)) (ended_passed t Arrival (word_at ws t))
           (λ parts e. arrive_label ws (set ws t w') front back v v' f parts e own.0 can.unarrived refl refl refl
           (root_same ws t w' step.within (λ _. phase_passed t Arrival (word_at ws t)))
-          (ended_same ws t w' step.within (passed_ended t Arrival (word_at ws t)))
+          (ended_same ws t w' step.within (ended_passed t Arrival (word_at ws t)))
           (someone_after ps ws front back v' t Arrival step.shape step.within (kept ps ws front back v t Arrive step) (sym parts.ended ∙ e)
           (step.tally.legal t step.within) (can.current ∙ own.0) (own.1, own.2) refl)),
     )
@@ -149,10 +150,10 @@ kinds_are_flat ps ws front v back t Leave f step alike =
     let v' : View = left_view (parent_of ps t) t (word_at ws t) v in (
       (λ e. may_pass ws front back v f (parts_of f (image ws (front ++ v ∷ back)) alike) e can.unarrived),
       stepped ws (front ++ v ∷ back) (front ++ v' ∷ back) t w' f (flat.Leave (length front)) step.within alike
-          (λ _. phase_passed t Departure (word_at ws t)) (passed_ended t Departure (word_at ws t))
+          (λ _. phase_passed t Departure (word_at ws t)) (ended_passed t Departure (word_at ws t))
           (λ parts e. leave_label ws (set ws t w') front back v v' f parts e own.0 can.unarrived refl refl refl
           (root_same ws t w' step.within (λ _. phase_passed t Departure (word_at ws t)))
-          (ended_same ws t w' step.within (passed_ended t Departure (word_at ws t)))
+          (ended_same ws t w' step.within (ended_passed t Departure (word_at ws t)))
           (someone_after ps ws front back v' t Departure step.shape step.within (kept ps ws front back v t Leave step) (sym parts.ended ∙ e)
           (step.tally.legal t step.within) (can.current ∙ own.0) (own.1, own.2) refl)),
     )
@@ -236,7 +237,7 @@ kinds_are_flat ps ws front v back t (Climb trip) f step alike =
       tt,
       whole_of f (image (set ws t w') (front ++ v' ∷ back))
           (silent ws (set ws t w') front back v v' f parts ok.within ok.within root
-          (ended_same ws t w' step.within (passed_ended t trip (word_at ws t)))
+          (ended_same ws t w' step.within (ended_passed t trip (word_at ws t)))
           (λ _. (refl, refl))
           (λ e every. someone_after ps ws front back v' t trip step.shape step.within (kept ps ws front back v t (Climb trip) step) e
           (step.tally.legal t step.within) (can.current ∙ fit.0) waits refl

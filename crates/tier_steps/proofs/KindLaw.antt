@@ -7,6 +7,7 @@ use Rattle.tier_steps.specs.Tally.{IsShape, blank, word_at, root_phase, ViewFits
 use Rattle.tier_steps.specs.Step.{Look, Glance, Refuse, Join, Arrive, Leave, Advance, Force, Claim, Settle, SettleBack, Climb, Refresh, passed, arrived_view, left_view, climbed_view, added, joined_view, claimed_view, settled_view, looked, refused, forced_view, CanAdvance, advanced_view}
 use Rattle.tier_steps.specs.Laws.{KindsKeepTally}
 use Rattle.tier_steps.proofs.Keeping.{StepFits, tally_kept, all_here, view_later}
+use Rattle.tier_steps.proofs.Passing.{ended_passed}
 use Rattle.tier_steps.proofs.Pass.{own_pass_fits, climb_fits}
 use Rattle.tier_steps.proofs.Grow.{join_fits}
 use Rattle.tier_steps.proofs.Quiet.{claim_fits, settle_fits, settle_back_fits, refresh_fits}
@@ -38,11 +39,6 @@ kept : (ps : List ℕ) (ws : List Fields) (front back : List View) (v v' : View)
     → Tallies ps (set ws t w') (front ++ v' ∷ back)
 kept ps ws front back v v' t w' shape within tally ended fits =
     tally_kept ps ws front back v v' t w' shape within tally (fits (mine_after ps ws front back v t w' within ended tally))
-
-pub passed_ended : (t : ℕ) (k : Trip) (w : Fields) → (passed t k w).ended ≡ w.ended
-passed_ended t Arrival w = refl
-passed_ended zero Departure w = refl
-passed_ended (suc t) Departure w = refl
 
 look_keeps : (ps : List ℕ) (ws : List Fields) (front back : List View) (v : View) → IsShape ps → Tallies ps ws (front ++ v ∷ back)
     → Tallies ps (set ws 0 (word_at ws 0)) (front ++ looked (word_at ws 0) v ∷ back)
@@ -88,12 +84,12 @@ kinds_keep_tally ps ws front v back t (Join tier claimed size) step =
 kinds_keep_tally ps ws front v back t Arrive step =
     let w' : Fields = passed t Arrival (word_at ws t) in
     kept ps ws front back v (arrived_view (parent_of ps t) t (word_at ws t) v) t w' step.shape step.within step.tally
-    (passed_ended t Arrival (word_at ws t))
+    (ended_passed t Arrival (word_at ws t))
     (λ ok. own_pass_fits ps ws front back v t Arrival (word_at (set ws t w') 0).ended step.shape step.within step.tally step.needs ok)
 kinds_keep_tally ps ws front v back t Leave step =
     let w' : Fields = passed t Departure (word_at ws t) in
     kept ps ws front back v (left_view (parent_of ps t) t (word_at ws t) v) t w' step.shape step.within step.tally
-    (passed_ended t Departure (word_at ws t))
+    (ended_passed t Departure (word_at ws t))
     (λ ok. own_pass_fits ps ws front back v t Departure (word_at (set ws t w') 0).ended step.shape step.within step.tally step.needs ok)
 kinds_keep_tally ps ws front v back t (Advance ends) step =
     subst (λ (k : ℕ). CanAdvance (word_at ws k) v → Tallies ps (set ws k (advanced (word_at ws k) ends)) (front ++ advanced_view v ∷ back))
@@ -125,7 +121,7 @@ kinds_keep_tally ps ws front v back t (SettleBack tier claimed size) step =
 kinds_keep_tally ps ws front v back t (Climb trip) step =
     let w' : Fields = passed t trip (word_at ws t) in
     kept ps ws front back v (climbed_view (parent_of ps t) t trip (word_at ws t) v) t w' step.shape step.within step.tally
-    (passed_ended t trip (word_at ws t))
+    (ended_passed t trip (word_at ws t))
     (λ ok. climb_fits ps ws front back v t trip (word_at (set ws t w') 0).ended step.shape step.within step.tally step.needs ok)
 kinds_keep_tally ps ws front v back t Refresh step =
     let w' : Fields = refreshed (word_at ws t) v.phase in

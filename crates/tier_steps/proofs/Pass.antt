@@ -8,7 +8,7 @@ use Rattle.tier_steps.specs.Tally.{IsShape, word_at, root_phase, ErrandFits, Vie
 use Rattle.tier_steps.specs.Step.{passed, owed, CanPass, CanClimb, climbed_view}
 use Rattle.tier_steps.proofs.Legal.{legal_open, passed_legal}
 use Rattle.tier_steps.proofs.Balance.{sum_around}
-use Rattle.tier_steps.proofs.Passing.{gone, passed_parties, passed_late, passed_linked_parties, passed_linked_late}
+use Rattle.tier_steps.proofs.Passing.{gone, phase_passed, ended_passed, passed_parties, passed_late, passed_linked_parties, passed_linked_late}
 use Rattle.tier_steps.proofs.Keeping.{StepFits}
 
 -- what holds of each errand that may be owed holds of the one that is
@@ -29,16 +29,6 @@ only_elsewhere t n u h = let other : t ≢ u = omega arith in ap (λ b. cond b n
 
 pub only_here : (t n : ℕ) → only_at t n t ≡ n
 only_here t n = ap (λ b. cond b n 0) (eq-eqb t t refl)
-
-passed_phase : (t : ℕ) (k : Trip) (w : Fields) → (passed t k w).phase ≡ w.phase
-passed_phase t Arrival w = refl
-passed_phase zero Departure w = refl
-passed_phase (suc t) Departure w = refl
-
-passed_ended : (t : ℕ) (k : Trip) (w : Fields) → (passed t k w).ended ≡ w.ended
-passed_ended t Arrival w = refl
-passed_ended zero Departure w = refl
-passed_ended (suc t) Departure w = refl
 
 passed_not_opened : (t : ℕ) (k : Trip) (w : Fields) → IsLegal w → 0 < w.parties → 0 < w.unarrived → is_being_opened (passed t k w) ≡ false
 passed_not_opened t Arrival w legal p u = grind arith
@@ -98,9 +88,9 @@ pass_fits ps root ended t k w v v' shape within p ok =
     ∙ owed_is (λ e. errand_claims ps u e ≡ 0) (parent_of ps t) t k w refl (λ _. refl) (λ _ _. refl) in
     record {
       legal = passed_legal t k w p.legal;
-      phase = λ _. passed_phase t k w;
-      same_end = λ _. passed_ended t k w;
-      ended_stays = λ _ e. passed_ended t k w ∙ e;
+      phase = λ _. phase_passed t k w;
+      same_end = λ _. ended_passed t k w;
+      ended_stays = λ _ e. ended_passed t k w ∙ e;
       parties_here = λ _.
           let a = plain_party ps t v p.plain in let b = plain_party ps t v' hidden in let c = p.parties t in
           let d = only_here t (gone k) in let e = passed_parties t k w p.some in
@@ -128,7 +118,7 @@ pass_fits ps root ended t k w v v' shape within p ok =
           omega arith;
       claims_there = λ u n. claims_none u ∙ sym (p.unclaimed u);
       root_claims = λ _. passed_not_opened t k w p.legal p.some p.waits;
-      keeps_up = λ _. inl (passed_phase t k w ∙ p.phase);
+      keeps_up = λ _. inl (phase_passed t k w ∙ p.phase);
       advances_here = λ z _.
           let a = passed_advances ps t k w p.waits z in
           let b : advance_share v' ≡ errand_advances (owed (parent_of ps t) t k w) = ap errand_advances p.errand in

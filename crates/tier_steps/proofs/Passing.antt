@@ -1,5 +1,5 @@
 -- One party of a kind of trip passes a tier: what the tier counts falls by one, and what is owed makes up for what the tier tells its parent.
-use Rattle.std.proofs.Common.{◌≡◌, ℕ, zero, suc, ◌+◌, ◌<◌, Bool, true, false, cond, eqb, List, sym, ◌∙◌, ap, arith}
+use Rattle.std.proofs.Common.{◌≡◌, ℕ, zero, suc, ◌+◌, ◌<◌, Bool, true, false, cond, eqb, List, refl, sym, ◌∙◌, ap, arith}
 use Rattle.tier_steps.specs.Word.{Fields, IsLegal, late, left_one}
 use Rattle.tier_steps.specs.View.{Rest, Climbing, Trip, Arrival, Departure, parent_of, errand_parties, errand_late}
 use Rattle.tier_steps.specs.Tally.{counted}
@@ -10,6 +10,17 @@ use Rattle.tier_steps.proofs.Balance.{linked}
 abbrev pub gone : Trip → ℕ
 gone Arrival = 0
 gone Departure = 1
+
+-- neither its phase nor its end mark changes
+pub phase_passed : (t : ℕ) (k : Trip) (w : Fields) → (passed t k w).phase ≡ w.phase
+phase_passed t Arrival w = refl
+phase_passed zero Departure w = refl
+phase_passed (suc t) Departure w = refl
+
+pub ended_passed : (t : ℕ) (k : Trip) (w : Fields) → (passed t k w).ended ≡ w.ended
+ended_passed t Arrival w = refl
+ended_passed zero Departure w = refl
+ended_passed (suc t) Departure w = refl
 
 pub passed_parties : (t : ℕ) (k : Trip) (w : Fields) → 0 < w.parties → (passed t k w).parties + gone k ≡ w.parties
 passed_parties t Arrival w h = omega arith

@@ -17,7 +17,8 @@ use Rattle.tier_steps.proofs.Advance.{all_arrived, is_done, IsDone, zero_field}
 use Rattle.tier_steps.proofs.Due.{nothing_above, sum_zero}
 use Rattle.tier_steps.proofs.KindLaw.{mine}
 use Rattle.tier_steps.proofs.Known.{refresher}
-use Rattle.tier_steps.proofs.Closing.{Ready, ready, image_due, phase_passed}
+use Rattle.tier_steps.proofs.Passing.{phase_passed}
+use Rattle.tier_steps.proofs.Closing.{Ready, ready, image_due}
 use Rattle.flat_phaser.specs.declared.Member.{Member}
 use Rattle.flat_phaser.specs.Flat.{everyone_arrived}
 use Rattle.flat_phaser.specs.Step.{newcomers}
