@@ -5,7 +5,7 @@ use Rattle.std.specs.List.{AllByRecursion}
 use Rattle.std.proofs.lemmas.List.{get_or-set_same, get_or-set_other}
 use Rattle.std.proofs.lemmas.Bool.{cases_eq, eq-eqb}
 use Rattle.tier_steps.specs.Word.{Fields, IsLegal, next_phase_of, late}
-use Rattle.tier_steps.specs.View.{View, Errand, Rest, Opening, Climbing, Advancing, Trip, Arrival, Departure, parent_of, only_at, errand_late, late_share, errand_advances, advance_share}
+use Rattle.tier_steps.specs.View.{View, Errand, Rest, Opening, Climbing, Advancing, Trip, parent_of, only_at, errand_late, late_share, errand_advances, advance_share}
 use Rattle.tier_steps.specs.Tally.{IsShape, blank, word_at, root_phase, ViewFits, is_zero, Tallies}
 use Rattle.tier_steps.specs.Step.{passed, owed, CanAdvance, advanced_view}
 use Rattle.tier_steps.proofs.Parts.{AlikeParts}

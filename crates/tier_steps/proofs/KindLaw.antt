@@ -2,7 +2,7 @@
 use Rattle.std.proofs.Common.{◌≡◌, ◌≢◌, ℕ, zero, suc, ◌<◌, Bool, true, false, List, ◌∷◌, ◌++◌, length, set, refl, sym, ◌∙◌, ap, subst, arith}
 use Rattle.std.proofs.lemmas.List.{get_or-set_same, get_or-set_other}
 use Rattle.tier_steps.specs.Word.{Fields, joined, advanced, refreshed, emptied, claimed_word, settled, forced}
-use Rattle.tier_steps.specs.View.{View, Trip, Arrival, Departure, Joined, GoingBack, parent_of, ancestor}
+use Rattle.tier_steps.specs.View.{View, Arrival, Departure, Joined, GoingBack, parent_of, ancestor}
 use Rattle.tier_steps.specs.Tally.{IsShape, blank, word_at, root_phase, ViewFits, Tallies}
 use Rattle.tier_steps.specs.Step.{Look, Glance, Refuse, Join, Arrive, Leave, Advance, Force, Claim, Settle, SettleBack, Climb, Refresh, passed, arrived_view, left_view, climbed_view, added, joined_view, claimed_view, settled_view, looked, refused, forced_view, CanAdvance, advanced_view}
 use Rattle.tier_steps.specs.Laws.{KindsKeepTally}
