@@ -114,14 +114,17 @@ one_more r c st e =
 by_delivered : (r : RoundValue) → Closes r → next_state r ≡ closed (state_of r) (deeds r) (first_fault (deeds r))
 by_delivered r c = ap (closed_by (state_of r)) (sym (all_delivered (program_of r.job) r.arrays r.step (slots_in r) c.round.fits c.all))
 
--- a round that a fault ended
-by_fault : (r : RoundValue) → Closes r → (f : ℕ × List ℕ) → next_state r ≡ ended_by (state_of r) f → IsClosed r (record r { fault = Some f })
+-- a round that this fault ends
+abbrev pub EndsBy : RoundValue → ℕ × List ℕ → Type 0
+EndsBy r f = IsRound (with_fault r f) × ((new : RoundValue) → new ≡ with_fault r f → Opens new r.job r.limit (next_state r))
+
+by_fault : (r : RoundValue) → Closes r → (f : ℕ × List ℕ) → next_state r ≡ ended_by (state_of r) f → EndsBy r f
 by_fault r c f e = (
   record { reached = one_more r c (ended_by (state_of r) f) (sym e); fits = c.round.fits; few = c.round.few },
-  record { job = refl; limit = refl; state = sym e; none_yet = λ h. cc },
+  λ new is. subst (λ (x : RoundValue). Opens x r.job r.limit (next_state r)) (sym is) (record { job = refl; limit = refl; state = sym e; none_yet = λ h. cc }),
 )
 
-pub faulted : (r : RoundValue) → Closes r → (f : ℕ × List ℕ) → first_fault (deeds r) ≡ Some f → IsClosed r (record r { fault = Some f })
+faulted : (r : RoundValue) → Closes r → (f : ℕ × List ℕ) → first_fault (deeds r) ≡ Some f → EndsBy r f
 faulted r c f h = by_fault r c f (by_delivered r c ∙ ap (closed (state_of r) (deeds r)) h)
 
 chosen : (b : Bool) (x y : State) → b ≡ true → (if b then x else y) ≡ x
@@ -148,13 +151,13 @@ next_length r xs e =
     ∙ slots_length ps xs
 
 -- how many they are
-pub next_count : (ss : List SlotValue) (n : ℕ) → n ≡ length (living_in ss) → length (map fresh_slot (in_path_order path_in (living_in ss))) ≡ n
+next_count : (ss : List SlotValue) (n : ℕ) → n ≡ length (living_in ss) → length (map fresh_slot (in_path_order path_in (living_in ss))) ≡ n
 next_count ss n e = length-map (in_path_order path_in (living_in ss)) fresh_slot ∙ count_in_order path_in (living_in ss) ∙ sym e
 
 -- too many would live on
-pub ended_by_many : (r : RoundValue) → Closes r → first_fault (deeds r) ≡ None → (xs : List SlotValue)
+ended_by_many : (r : RoundValue) → Closes r → first_fault (deeds r) ≡ None → (xs : List SlotValue)
     → xs ≡ map fresh_slot (in_path_order path_in (living_in r.slots)) → 4096 < length xs
-    → (f : ℕ × List ℕ) → f ≡ (7, []) → IsClosed r (record r { fault = Some f })
+    → (f : ℕ × List ℕ) → f ≡ (7, []) → EndsBy r f
 ended_by_many r c none xs ex lt f ef =
     let l = next_length r xs ex in
     let b : nat_lt 4096 (length (next_live (deeds r))) ≡ true = grind arith in
@@ -225,29 +228,52 @@ went_on job limit step arrays slots finished fault c none xs ex le a ea fs ef =
 pub closed_now : (r now new : RoundValue) → r ≡ now → IsClosed r new → Opens new now.job now.limit (next_state now)
 closed_now r now new e h = subst (λ x. Opens new x.job x.limit (next_state x)) e h.1
 
-pub none_found : (ps : List Plan) (xs ss : List SlotValue) (o : Option (SmallVec ℕ)) → option_map path_of o ≡ first_missing (slots_of ps xs) → xs ≡ ss → o ≡ None → first_missing (slots_of ps ss) ≡ None
-none_found ps xs ss o h e n = ap (λ (ys : List SlotValue). first_missing (slots_of ps ys)) (sym e) ∙ sym h ∙ ap (option_map path_of) n
+-- and that is what it tells
+many_outcome : (r : RoundValue) → first_fault (deeds r) ≡ None → (xs : List SlotValue)
+    → xs ≡ map fresh_slot (in_path_order path_in (living_in r.slots)) → 4096 < length xs → TooMany ≡ outcome_of (deeds r)
+many_outcome r none xs ex lt =
+    let l = next_length r xs ex in
+    let b : nat_lt 4096 (length (next_live (deeds r))) ≡ true = grind arith in
+    sym (ap (λ f. outcome_by f (length (next_live (deeds r)))) none ∙ ap (λ t. if t then TooMany else Landed) b)
 
-pub found : (ps : List Plan) (xs ss : List SlotValue) (o p : Option (ℕ × List ℕ)) → o ≡ first_fault (delivered (slots_of ps xs)) → xs ≡ ss → o ≡ p → first_fault (delivered (slots_of ps ss)) ≡ p
-found ps xs ss o p h e n = ap (λ (ys : List SlotValue). first_fault (delivered (slots_of ps ys))) (sym e) ∙ sym h ∙ n
+-- what was found by looking through the slots of a round: nothing is missing, and this is the first fault
+looked_through : {r now : RoundValue} {ss : List SlotValue} {o : Option (SmallVec ℕ)} {p : Option (ℕ × List ℕ)}
+    → IsRound r → r ≡ now → status_in now ≡ None → ss ≡ r.slots
+    → ((ps : List Plan) → option_map path_of o ≡ first_missing (slots_of ps ss)) → o ≡ None
+    → ((ps : List Plan) → p ≡ first_fault (delivered (slots_of ps ss))) → Closes now × (first_fault (deeds now) ≡ p) × (ss ≡ now.slots)
+looked_through {now = now} {o = o} round is run slots missing whole fault =
+    let ps = plans now.job.bodies in
+    let at = slots ∙ ap (λ (x : RoundValue). x.slots) is in (
+      record {
+        round = subst IsRound is round;
+        run = run;
+        all = ap (λ (xs : List SlotValue). first_missing (slots_of ps xs)) (sym at) ∙ sym (missing ps) ∙ ap (option_map path_of) whole;
+      },
+      ap (λ (xs : List SlotValue). first_fault (delivered (slots_of ps xs))) (sym at) ∙ sym (fault ps),
+      at,
+    )
 
--- a round that a fault ended is a round
-pub ended_round : (r now : RoundValue) → r ≡ now → (f : ℕ × List ℕ) → IsClosed r (with_fault r f) → IsRound (with_fault now f)
-ended_round r now e f h = subst (λ x. IsRound (with_fault x f)) e h.0
+-- a round in whose slots a fault was found is ended by it
+pub ends_faulted : {r now : RoundValue} {ss : List SlotValue} {o : Option (SmallVec ℕ)} {p : Option (ℕ × List ℕ)} {f : ℕ × List ℕ}
+    → IsRound r → r ≡ now → status_in now ≡ None → ss ≡ r.slots
+    → ((ps : List Plan) → option_map path_of o ≡ first_missing (slots_of ps ss)) → o ≡ None
+    → ((ps : List Plan) → p ≡ first_fault (delivered (slots_of ps ss))) → p ≡ Some f → EndsBy now f
+ends_faulted {now = now} {f = f} round is run slots missing whole fault some =
+    let at = looked_through round is run slots missing whole fault in
+    faulted now at.0 f (at.1 ∙ some)
 
-pub ended_now : (r now new : RoundValue) → r ≡ now → (f : ℕ × List ℕ) → IsClosed r (with_fault r f) → new ≡ with_fault now f → Opens new now.job now.limit (next_state now)
-ended_now r now new e f h n =
-    subst (λ (x : RoundValue). Opens x now.job now.limit (next_state now)) (sym n)
-    (subst (λ x. Opens (with_fault x f) x.job x.limit (next_state x)) e h.1)
-
--- where no path was found to be missing, the round is to be closed
-pub closes : (r now : RoundValue) → IsRound r → r ≡ now → status_in now ≡ None → (ss : List SlotValue) → ss ≡ r.slots → (o : Option (SmallVec ℕ))
-    → ((ps : List Plan) → option_map path_of o ≡ first_missing (slots_of ps ss)) → o ≡ None → Closes r
-closes r now round is run ss e o h n = record {
-  round = round;
-  run = ap status_in is ∙ run;
-  all = none_found (plans r.job.bodies) ss r.slots o (h (plans r.job.bodies)) e n;
-}
+-- a round in whose slots no fault was found, but after which too many would live, is ended by that
+pub ends_by_many : {r now : RoundValue} {ss : List SlotValue} {o : Option (SmallVec ℕ)} {p : Option (ℕ × List ℕ)} {n : ℕ} {f : ℕ × List ℕ}
+    → IsRound r → r ≡ now → status_in now ≡ None → ss ≡ r.slots
+    → ((ps : List Plan) → option_map path_of o ≡ first_missing (slots_of ps ss)) → o ≡ None
+    → ((ps : List Plan) → p ≡ first_fault (delivered (slots_of ps ss))) → p ≡ None → n ≡ length (living_in ss) → 4096 < n
+    → f ≡ (7, []) → EndsBy now f × (TooMany ≡ outcome_of (deeds now))
+ends_by_many {now = now} {n = n} {f = f} round is run slots missing whole fault none count many seven =
+    let at = looked_through round is run slots missing whole fault in
+    let xs = map fresh_slot (in_path_order path_in (living_in now.slots)) in
+    let living : length xs ≡ n = next_count now.slots n (count ∙ ap (λ (ys : List SlotValue). length (living_in ys)) at.2) in
+    let over : 4096 < length xs = omega (arith, living) in
+    (ended_by_many now at.0 (at.1 ∙ none) xs refl over f seven, many_outcome now (at.1 ∙ none) xs refl over)
 
 -- a round that lands, and how many live then
 pub lands : (r now : RoundValue) → IsRound r → r ≡ now → status_in now ≡ None → first_missing (slots_in now) ≡ None
@@ -262,14 +288,6 @@ lands r now round is run all none count k = (
   ap (λ (x : RoundValue). first_fault (deeds x)) is ∙ none,
   next_count r.slots count (k ∙ ap (λ (x : RoundValue). length (living_in x.slots)) (sym is)),
 )
-
-pub many_outcome : (r now : RoundValue) → r ≡ now → first_fault (deeds r) ≡ None → (xs : List SlotValue)
-    → xs ≡ map fresh_slot (in_path_order path_in (living_in r.slots)) → 4096 < length xs → TooMany ≡ outcome_of (deeds now)
-many_outcome r now e none xs ex lt =
-    let l = next_length r xs ex in
-    let b : nat_lt 4096 (length (next_live (deeds r))) ≡ true = grind arith in
-    sym (ap (λ (x : RoundValue). outcome_of (deeds x)) (sym e) ∙ ap (λ f. outcome_by f (length (next_live (deeds r)))) none
-    ∙ ap (λ t. if t then TooMany else Landed) b)
 
 pub few_outcome : (r now : RoundValue) → r ≡ now → first_fault (deeds r) ≡ None → (xs : List SlotValue)
     → xs ≡ map fresh_slot (in_path_order path_in (living_in r.slots)) → length xs ≤ 4096 → Landed ≡ outcome_of (deeds now)
