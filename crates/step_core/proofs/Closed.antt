@@ -124,9 +124,6 @@ by_fault r c f e = (
   λ new is. subst (λ (x : RoundValue). Opens x r.job r.limit (next_state r)) (sym is) (record { job = refl; limit = refl; state = sym e; none_yet = λ h. cc }),
 )
 
-faulted : (r : RoundValue) → Closes r → (f : ℕ × List ℕ) → first_fault (deeds r) ≡ Some f → EndsBy r f
-faulted r c f h = by_fault r c f (by_delivered r c ∙ ap (closed (state_of r) (deeds r)) h)
-
 chosen : (b : Bool) (x y : State) → b ≡ true → (if b then x else y) ≡ x
 chosen true x y h = refl
 chosen false x y h = cc
@@ -153,16 +150,6 @@ next_length r xs e =
 -- how many they are
 next_count : (ss : List SlotValue) (n : ℕ) → n ≡ length (living_in ss) → length (map fresh_slot (in_path_order path_in (living_in ss))) ≡ n
 next_count ss n e = length-map (in_path_order path_in (living_in ss)) fresh_slot ∙ count_in_order path_in (living_in ss) ∙ sym e
-
--- too many would live on
-ended_by_many : (r : RoundValue) → Closes r → first_fault (deeds r) ≡ None → (xs : List SlotValue)
-    → xs ≡ map fresh_slot (in_path_order path_in (living_in r.slots)) → 4096 < length xs
-    → (f : ℕ × List ℕ) → f ≡ (7, []) → EndsBy r f
-ended_by_many r c none xs ex lt f ef =
-    let l = next_length r xs ex in
-    let b : nat_lt 4096 (length (next_live (deeds r))) ≡ true = grind arith in
-    by_fault r c f
-    (by_delivered r c ∙ ap (closed (state_of r) (deeds r)) none ∙ chosen _ _ _ b ∙ ap (ended_by (state_of r)) (sym ef))
 
 -- the round goes on
 pub gone_further : (r : RoundValue) → Closes r → first_fault (deeds r) ≡ None → (xs : List SlotValue)
@@ -228,52 +215,47 @@ went_on job limit step arrays slots finished fault c none xs ex le a ea fs ef =
 pub closed_now : (r now new : RoundValue) → r ≡ now → IsClosed r new → Opens new now.job now.limit (next_state now)
 closed_now r now new e h = subst (λ x. Opens new x.job x.limit (next_state x)) e h.1
 
--- and that is what it tells
-many_outcome : (r : RoundValue) → first_fault (deeds r) ≡ None → (xs : List SlotValue)
-    → xs ≡ map fresh_slot (in_path_order path_in (living_in r.slots)) → 4096 < length xs → TooMany ≡ outcome_of (deeds r)
-many_outcome r none xs ex lt =
-    let l = next_length r xs ex in
-    let b : nat_lt 4096 (length (next_live (deeds r))) ≡ true = grind arith in
-    sym (ap (λ f. outcome_by f (length (next_live (deeds r)))) none ∙ ap (λ t. if t then TooMany else Landed) b)
+-- the slots of a round were looked through: nothing is missing, and this is the first fault
+pub record IsLookedThrough (r : RoundValue) (ss : List SlotValue) (fault : Option (ℕ × List ℕ)) : Type 0 where
+  pub closes : Closes r
+  pub first : first_fault (deeds r) ≡ fault
+  pub slots : ss ≡ r.slots
 
--- what was found by looking through the slots of a round: nothing is missing, and this is the first fault
-looked_through : {r now : RoundValue} {ss : List SlotValue} {o : Option (SmallVec ℕ)} {p : Option (ℕ × List ℕ)}
+pub looked_through : {r now : RoundValue} {ss : List SlotValue} {o : Option (SmallVec ℕ)} {fault : Option (ℕ × List ℕ)}
     → IsRound r → r ≡ now → status_in now ≡ None → ss ≡ r.slots
     → ((ps : List Plan) → option_map path_of o ≡ first_missing (slots_of ps ss)) → o ≡ None
-    → ((ps : List Plan) → p ≡ first_fault (delivered (slots_of ps ss))) → Closes now × (first_fault (deeds now) ≡ p) × (ss ≡ now.slots)
-looked_through {now = now} {o = o} round is run slots missing whole fault =
+    → ((ps : List Plan) → fault ≡ first_fault (delivered (slots_of ps ss))) → IsLookedThrough now ss fault
+looked_through {now = now} round is run slots missing whole first =
     let ps = plans now.job.bodies in
-    let at = slots ∙ ap (λ (x : RoundValue). x.slots) is in (
-      record {
+    let at = slots ∙ ap (λ (x : RoundValue). x.slots) is in
+    record {
+      closes = record {
         round = subst IsRound is round;
         run = run;
         all = ap (λ (xs : List SlotValue). first_missing (slots_of ps xs)) (sym at) ∙ sym (missing ps) ∙ ap (option_map path_of) whole;
-      },
-      ap (λ (xs : List SlotValue). first_fault (delivered (slots_of ps xs))) (sym at) ∙ sym (fault ps),
-      at,
-    )
+      };
+      first = ap (λ (xs : List SlotValue). first_fault (delivered (slots_of ps xs))) (sym at) ∙ sym (first ps);
+      slots = at;
+    }
 
 -- a round in whose slots a fault was found is ended by it
-pub ends_faulted : {r now : RoundValue} {ss : List SlotValue} {o : Option (SmallVec ℕ)} {p : Option (ℕ × List ℕ)} {f : ℕ × List ℕ}
-    → IsRound r → r ≡ now → status_in now ≡ None → ss ≡ r.slots
-    → ((ps : List Plan) → option_map path_of o ≡ first_missing (slots_of ps ss)) → o ≡ None
-    → ((ps : List Plan) → p ≡ first_fault (delivered (slots_of ps ss))) → p ≡ Some f → EndsBy now f
-ends_faulted {now = now} {f = f} round is run slots missing whole fault some =
-    let at = looked_through round is run slots missing whole fault in
-    faulted now at.0 f (at.1 ∙ some)
+pub ends_faulted : {r : RoundValue} {ss : List SlotValue} {fault : Option (ℕ × List ℕ)} {f : ℕ × List ℕ}
+    → IsLookedThrough r ss fault → fault ≡ Some f → EndsBy r f
+ends_faulted {r = r} {f = f} at some = by_fault r at.closes f (by_delivered r at.closes ∙ ap (closed (state_of r) (deeds r)) (at.first ∙ some))
 
--- a round in whose slots no fault was found, but after which too many would live, is ended by that
-pub ends_by_many : {r now : RoundValue} {ss : List SlotValue} {o : Option (SmallVec ℕ)} {p : Option (ℕ × List ℕ)} {n : ℕ} {f : ℕ × List ℕ}
-    → IsRound r → r ≡ now → status_in now ≡ None → ss ≡ r.slots
-    → ((ps : List Plan) → option_map path_of o ≡ first_missing (slots_of ps ss)) → o ≡ None
-    → ((ps : List Plan) → p ≡ first_fault (delivered (slots_of ps ss))) → p ≡ None → n ≡ length (living_in ss) → 4096 < n
-    → f ≡ (7, []) → EndsBy now f × (TooMany ≡ outcome_of (deeds now))
-ends_by_many {now = now} {n = n} {f = f} round is run slots missing whole fault none count many seven =
-    let at = looked_through round is run slots missing whole fault in
-    let xs = map fresh_slot (in_path_order path_in (living_in now.slots)) in
-    let living : length xs ≡ n = next_count now.slots n (count ∙ ap (λ (ys : List SlotValue). length (living_in ys)) at.2) in
-    let over : 4096 < length xs = omega (arith, living) in
-    (ended_by_many now at.0 (at.1 ∙ none) xs refl over f seven, many_outcome now (at.1 ∙ none) xs refl over)
+-- one in which none was found, but after which too many would live, is ended by that, and tells so
+pub ends_by_many : {r : RoundValue} {ss : List SlotValue} {fault : Option (ℕ × List ℕ)} {n : ℕ} {f : ℕ × List ℕ}
+    → IsLookedThrough r ss fault → fault ≡ None → n ≡ length (living_in ss) → 4096 < n → f ≡ (7, [])
+    → EndsBy r f × (TooMany ≡ outcome_of (deeds r))
+ends_by_many {r = r} {n = n} {f = f} at none count many seven =
+    let l = next_length r (map fresh_slot (in_path_order path_in (living_in r.slots))) refl in
+    let k = next_count r.slots n (count ∙ ap (λ (xs : List SlotValue). length (living_in xs)) at.slots) in
+    let b : nat_lt 4096 (length (next_live (deeds r))) ≡ true = grind arith in
+    let faultless = at.first ∙ none in (
+      by_fault r at.closes f
+          (by_delivered r at.closes ∙ ap (closed (state_of r) (deeds r)) faultless ∙ chosen _ _ _ b ∙ ap (ended_by (state_of r)) (sym seven)),
+      sym (ap (λ e. outcome_by e (length (next_live (deeds r)))) faultless ∙ ap (λ t. if t then TooMany else Landed) b),
+    )
 
 -- a round that lands, and how many live then
 pub lands : (r now : RoundValue) → IsRound r → r ≡ now → status_in now ≡ None → first_missing (slots_in now) ≡ None
