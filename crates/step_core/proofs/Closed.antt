@@ -118,6 +118,7 @@ by_delivered r c = ap (closed_by (state_of r)) (sym (all_delivered (program_of r
 abbrev pub EndsBy : RoundValue → ℕ × List ℕ → Type 0
 EndsBy r f = IsRound (with_fault r f) × ((new : RoundValue) → new ≡ with_fault r f → Opens new r.job r.limit (next_state r))
 
+-- a superstep that this fault ends leaves such a round
 by_fault : (r : RoundValue) → Closes r → (f : ℕ × List ℕ) → next_state r ≡ ended_by (state_of r) f → EndsBy r f
 by_fault r c f e = (
   record { reached = one_more r c (ended_by (state_of r) f) (sym e); fits = c.round.fits; few = c.round.few },
@@ -221,6 +222,7 @@ pub record IsLookedThrough (r : RoundValue) (ss : List SlotValue) (fault : Optio
   pub first : first_fault (deeds r) ≡ fault
   pub slots : ss ≡ r.slots
 
+-- the two searches through the slots of a running round tell that
 pub looked_through : {r now : RoundValue} {ss : List SlotValue} {o : Option (SmallVec ℕ)} {fault : Option (ℕ × List ℕ)}
     → IsRound r → r ≡ now → status_in now ≡ None → ss ≡ r.slots
     → ((ps : List Plan) → option_map path_of o ≡ first_missing (slots_of ps ss)) → o ≡ None

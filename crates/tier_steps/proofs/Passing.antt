@@ -11,12 +11,13 @@ abbrev pub gone : Trip → ℕ
 gone Arrival = 0
 gone Departure = 1
 
--- neither its phase nor its end mark changes
+-- the phase of the tier's word doesn't change
 pub phase_passed : (t : ℕ) (k : Trip) (w : Fields) → (passed t k w).phase ≡ w.phase
 phase_passed t Arrival w = refl
 phase_passed zero Departure w = refl
 phase_passed (suc t) Departure w = refl
 
+-- nor does its end mark
 pub ended_passed : (t : ℕ) (k : Trip) (w : Fields) → (passed t k w).ended ≡ w.ended
 ended_passed t Arrival w = refl
 ended_passed zero Departure w = refl
