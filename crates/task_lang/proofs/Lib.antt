@@ -1,4 +1,5 @@
 pub mod Alls
+pub mod AskedAlong
 pub mod Begins
 pub mod Building
 pub mod Depths

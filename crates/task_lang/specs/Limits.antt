@@ -47,8 +47,8 @@ module _ (arrays : ℕ) where
   abbrev pub is_expr : Expr → Bool
   is_expr e = over_expr ◌&&◌ true is_operand e
 
--- the arrays and bodies that these name are among so many
-module _ (arrays bodies : ℕ) where
+-- the body that these name is among so many
+module _ (bodies : ℕ) where
   abbrev pub has_body : Action → Bool
   has_body (action.Let i e) = true
   has_body (action.Put c e) = true
@@ -57,8 +57,18 @@ module _ (arrays bodies : ℕ) where
   has_body action.Sync = true
   has_body action.Stop = true
 
+  abbrev pub has_body_in : Line → Bool
+  has_body_in (line.Do a) = has_body a
+  has_body_in (line.If e n) = true
+  has_body_in (line.Else n) = true
+  has_body_in line.EndIf = true
+  has_body_in (line.While e n) = true
+  has_body_in (line.EndWhile e n) = true
+
+-- the arrays and bodies that these name are among so many
+module _ (arrays bodies : ℕ) where
   abbrev pub is_action : Action → Bool
-  is_action a = has_body a && over_action ◌&&◌ true (is_operand arrays) a
+  is_action a = has_body bodies a && over_action ◌&&◌ true (is_operand arrays) a
 
   abbrev pub is_line : Line → Bool
   is_line l = over_line ◌&&◌ true (is_operand arrays) is_action (is_expr arrays) l

@@ -9,6 +9,7 @@ use Rattle.task_lang.specs.declared.code.Expr.{Expr}
 use Rattle.task_lang.specs.declared.code.Action.{Action}
 use Rattle.task_lang.specs.declared.code.Action.TheVariants as action
 use Rattle.task_lang.specs.declared.code.Line.{Line}
+use Rattle.task_lang.specs.declared.code.Line.TheVariants as line
 use Rattle.task_lang.specs.Operands.{over_expr, over_action, over_line}
 
 abbrev pub in_index : Index → List ℕ
@@ -32,6 +33,14 @@ set_by (action.Print e) = []
 set_by (action.Spawn b e) = []
 set_by action.Sync = []
 set_by action.Stop = []
+
+abbrev pub set_in : Line → List ℕ
+set_in (line.Do a) = set_by a
+set_in (line.If e n) = []
+set_in (line.Else n) = []
+set_in line.EndIf = []
+set_in (line.While e n) = []
+set_in (line.EndWhile e n) = []
 
 abbrev pub in_action : Action → List ℕ
 in_action a = set_by a ++ over_action ◌++◌ [] in_operand a

@@ -11,6 +11,7 @@ pub mod laws;
 mod limits;
 mod mentions;
 pub mod names;
+mod operands;
 mod same;
 pub mod scene;
 pub mod segment;

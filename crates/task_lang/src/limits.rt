@@ -1,10 +1,12 @@
 //! What the limits of a body count, and which numbers lines may have.
-ghost use Rattle.std.specs.Prelude.{◌≡◌, ◌↔◌, ◌≤◌, IsTrue};
+ghost use Rattle.std.specs.Prelude.{◌≡◌, ◌↔◌, ◌≤◌, ◌&&◌, true, IsTrue};
 ghost use Rattle.std.specs.List.{list_all};
 ghost use Rattle.text_lines.specs.Number.{fits_i64};
 ghost use Rattle.task_lang.specs.Limits as spec;
+ghost use Rattle.task_lang.specs.Operands.{if_any, over_operands};
 
-use crate::code::{Action, Expr, Line, Operand};
+use crate::code::{Action, Line, Operand};
+use crate::operands::{Operands, operands_of};
 
 /// Whether a number is one of 64 signed bits, as each of its type is.
 #[tactic(auto, using(text_lines::proofs::NumbersLemmas::fits_back))]
@@ -68,43 +70,37 @@ pub(crate) fn are_shallow(code: &[Line]) -> bool
     true
 }
 
-fn is_operand(operand: &Operand, arrays: usize) -> bool
-    ensures { result ≡ spec.is_operand arrays operand.now }
+fn is_operand(operand: Option<Operand>, arrays: usize) -> bool
+    ensures { result ≡ if_any true (spec.is_operand arrays) operand }
 {
     match operand {
-        Operand::Plain(_) => true,
-        Operand::Cell(cell) => usize::from(cell.array) < arrays,
+        Some(Operand::Cell(cell)) => usize::from(cell.array) < arrays,
+        Some(Operand::Plain(_)) | None => true,
     }
 }
 
-fn is_expr(expr: &Expr, arrays: usize) -> bool
-    ensures { result ≡ spec.is_expr arrays expr.now }
+fn are_operands(operands: &Operands, arrays: usize) -> bool
+    ensures { result ≡ over_operands ◌&&◌ true (spec.is_operand arrays) operands.now }
 {
-    match expr {
-        Expr::One(a) => is_operand(a, arrays),
-        Expr::Two(a, _, b) => is_operand(a, arrays) && is_operand(b, arrays),
-    }
+    is_operand(operands.cell, arrays)
+        && is_operand(operands.left, arrays)
+        && is_operand(operands.right, arrays)
 }
 
-fn is_action(action: &Action, arrays: usize, bodies: usize) -> bool
-    ensures { result ≡ spec.is_action arrays bodies action.now }
+// Whether the body that a line spawns a task of is among so many.
+fn has_body(line: &Line, bodies: usize) -> bool
+    ensures { result ≡ spec.has_body_in bodies line.now }
 {
-    match action {
-        Action::Let(_, expr) | Action::Print(expr) => is_expr(expr, arrays),
-        Action::Put(cell, expr) => usize::from(cell.array) < arrays && is_expr(expr, arrays),
-        Action::Spawn(body, expr) => usize::from(*body) < bodies && is_expr(expr, arrays),
-        Action::Sync | Action::Stop => true,
+    match line {
+        Line::Do(Action::Spawn(body, _)) => usize::from(*body) < bodies,
+        _ => true,
     }
 }
 
 fn is_line(line: &Line, arrays: usize, bodies: usize) -> bool
     ensures { result ≡ spec.is_line arrays bodies line.now }
 {
-    match line {
-        Line::Do(action) => is_action(action, arrays, bodies),
-        Line::If(expr, _) | Line::While(expr, _) | Line::EndWhile(expr, _) => is_expr(expr, arrays),
-        Line::Else(_) | Line::EndIf => true,
-    }
+    has_body(line, bodies) && are_operands(&operands_of(line, true), arrays)
 }
 
 /// Whether lines name only the first so many arrays and bodies.

@@ -1,81 +1,70 @@
 //! The locals that lines mention.
-ghost use Rattle.std.specs.Prelude.{◌≡◌, ◌↔◌, ◌++◌, IfOk, OnOk, IsTrue, Some};
+ghost use Rattle.std.specs.Prelude.{◌≡◌, ◌↔◌, ◌++◌, ◌&&◌, true, [], IfOk, OnOk, IsTrue, Some};
 ghost use Rattle.std.specs.List.{list_all};
-ghost use Rattle.task_lang.specs.Limits.{fits_index, fits_operand, fits_expr, fits_action, fits_line};
+ghost use Rattle.task_lang.specs.Limits.{fits_index, fits_operand, fits_line};
 ghost use Rattle.task_lang.specs.Mentions as spec;
+ghost use Rattle.task_lang.specs.Operands.{if_any, over_operands};
 
-use crate::code::{Action, Expr, Index, Line, Operand};
+use crate::code::{Action, Index, Line, Operand};
 use crate::limits::is_number;
+use crate::operands::{Operands, operands_of};
 use std::alloc::{AllocError, Global};
 
 // Notes the local of an index, if it is one.
-fn note_index(noted: &mut Vec<u8>, index: &Index) -> Result<(), AllocError>
-    ensures noted { OnOk result (noted.new.items ≡ noted.old.items ++ spec.in_index index.now) }
-    ensures fits { OnOk result (IsTrue (fits_index index.now)) }
+fn note_index(noted: &mut Vec<u8>, index: Index) -> Result<(), AllocError>
+    ensures noted { OnOk result (noted.new.items ≡ noted.old.items ++ spec.in_index index) }
+    ensures fits { OnOk result (IsTrue (fits_index index)) }
 {
     match index {
         Index::Local(local) => {
-            noted.push(*local)?;
+            noted.push(local)?;
             Ok(())
         }
         Index::Number(number) => {
-            let _fits = is_number(*number);
+            let _fits = is_number(number);
             Ok(())
         }
         Index::Arg | Index::Step => Ok(()),
     }
 }
 
-fn note_operand(noted: &mut Vec<u8>, operand: &Operand) -> Result<(), AllocError>
-    ensures noted { OnOk result (noted.new.items ≡ noted.old.items ++ spec.in_operand operand.now) }
-    ensures fits { OnOk result (IsTrue (fits_operand operand.now)) }
+fn note_operand(noted: &mut Vec<u8>, operand: Option<Operand>) -> Result<(), AllocError>
+    ensures noted { OnOk result (noted.new.items ≡ noted.old.items ++ if_any [] spec.in_operand operand) }
+    ensures fits { OnOk result (IsTrue (if_any true fits_operand operand)) }
 {
     match operand {
-        Operand::Plain(index) => note_index(noted, index),
-        Operand::Cell(cell) => note_index(noted, &cell.index),
+        Some(Operand::Plain(index)) => note_index(noted, index),
+        Some(Operand::Cell(cell)) => note_index(noted, cell.index),
+        None => Ok(()),
     }
 }
 
-fn note_expr(noted: &mut Vec<u8>, expr: &Expr) -> Result<(), AllocError>
-    ensures noted { OnOk result (noted.new.items ≡ noted.old.items ++ spec.in_expr expr.now) }
-    ensures fits { OnOk result (IsTrue (fits_expr expr.now)) }
+fn note_operands(noted: &mut Vec<u8>, operands: &Operands) -> Result<(), AllocError>
+    ensures noted { OnOk result (noted.new.items ≡ noted.old.items ++ over_operands ◌++◌ [] spec.in_operand operands.now) }
+    ensures fits { OnOk result (IsTrue (over_operands ◌&&◌ true fits_operand operands.now)) }
 {
-    match expr {
-        Expr::One(a) => note_operand(noted, a),
-        Expr::Two(a, _, b) => {
-            note_operand(noted, a)?;
-            note_operand(noted, b)
-        }
-    }
+    note_operand(noted, operands.cell)?;
+    note_operand(noted, operands.left)?;
+    note_operand(noted, operands.right)
 }
 
-fn note_action(noted: &mut Vec<u8>, action: &Action) -> Result<(), AllocError>
-    ensures noted { OnOk result (noted.new.items ≡ noted.old.items ++ spec.in_action action.now) }
-    ensures fits { OnOk result (IsTrue (fits_action action.now)) }
+// Notes the local that a line sets.
+fn note_set(noted: &mut Vec<u8>, line: &Line) -> Result<(), AllocError>
+    ensures { OnOk result (noted.new.items ≡ noted.old.items ++ spec.set_in line.now) }
 {
-    match action {
-        Action::Let(local, expr) => {
-            noted.push(*local)?;
-            note_expr(noted, expr)
-        }
-        Action::Put(cell, expr) => {
-            note_index(noted, &cell.index)?;
-            note_expr(noted, expr)
-        }
-        Action::Print(expr) | Action::Spawn(_, expr) => note_expr(noted, expr),
-        Action::Sync | Action::Stop => Ok(()),
+    if let Line::Do(Action::Let(local, _)) = line {
+        noted.push(*local)?;
     }
+    Ok(())
 }
 
+#[tactic(auto, using(crate::proofs::AskedAlong::line_fits))]
 fn note_line(noted: &mut Vec<u8>, line: &Line) -> Result<(), AllocError>
     ensures noted { OnOk result (noted.new.items ≡ noted.old.items ++ spec.in_line line.now) }
     ensures fits { OnOk result (IsTrue (fits_line line.now)) }
 {
-    match line {
-        Line::Do(action) => note_action(noted, action),
-        Line::If(expr, _) | Line::While(expr, _) => note_expr(noted, expr),
-        Line::Else(_) | Line::EndIf | Line::EndWhile(_, _) => Ok(()),
-    }
+    note_set(noted, line)?;
+    note_operands(noted, &operands_of(line, false))
 }
 
 /// The locals that lines mention, from left to right and line by line. All the numbers of the lines are seen on the way.
