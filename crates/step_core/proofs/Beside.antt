@@ -29,6 +29,10 @@ beside_living [] (d ∷ ds) e = absurd (omega (arith, e))
 beside_living (t ∷ ts) [] e = absurd (omega (arith, e))
 beside_living (t ∷ ts) (d ∷ ds) e = ap (λ (us : List TaskValue). living_of d ++ us) (beside_living ts ds (omega (arith, e)))
 
+pub shown_living : (ts : List TaskValue) (ds : List (Option SegmentValue)) (ss : List SlotValue) → length ts ≡ length ds → beside ts ds ≡ ss
+    → living_in ss ≡ living_by ds
+shown_living ts ds ss e h = ap living_in (sym h) ∙ beside_living ts ds e
+
 pub beside_fresh : (ts : List TaskValue) → beside ts (map no_segment ts) ≡ map fresh_slot ts
 beside_fresh [] = refl
 beside_fresh (t ∷ ts) = ap (λ (ss : List SlotValue). fresh_slot t ∷ ss) (beside_fresh ts)

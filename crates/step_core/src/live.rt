@@ -1,11 +1,13 @@
 //! The live tasks of a round, and what was delivered for them.
 ghost use Rattle.std.specs.Prelude.{◌≡◌, ◌≤◌, ◌++◌, ◌∷◌, List, [], OnOk, OnErr, map, length};
 ghost use Rattle.std.specs.Arc.{arc_value};
+ghost use Rattle.std.specs.Vec.{vec_capacity};
 ghost use Rattle.superstep_memory.specs.Landing.{landed, joined};
 ghost use Rattle.task_lang.specs.Meaning.{Plan};
 ghost use Rattle.step_core.specs.Superstep.{log_of};
 ghost use Rattle.step_core.specs.Slots.{slots_of, delivered, told_by};
-ghost use Rattle.step_core.specs.SlotParts.{AllSmall};
+ghost use Rattle.superstep_memory.specs.PathOrder.{in_path_order};
+ghost use Rattle.step_core.specs.SlotParts.{AllSmall, beside, living_by, no_segment, path_in};
 
 use crate::closing::{collect_prints, land_opening, record_of};
 use crate::next::{go_on, make_room, set_undone};
@@ -63,6 +65,59 @@ fn finish(
         Ok(()) => Ok(()),
         Err(_) => unreachable!(),
     }
+}
+
+// An empty list for the next tasks, and room for so many beside it. Without memory nothing changes that means something.
+fn list_for(
+    alloc: Global,
+    room: &mut Vec<Task>,
+    done: &mut Vec<Option<Segment>>,
+    count: usize,
+) -> Result<Arc<Vec<Task>>, AllocError>
+    ensures tasks { OnOk result ((room.new.items ≡ []) × (count ≤ vec_capacity room.new)) }
+    ensures places { OnOk result (count ≤ vec_capacity done.new) }
+    ensures same { done.new.items ≡ done.old.items }
+{
+    make_room(room, done, count)?;
+    match Arc::new(alloc, Vec::new(alloc)) {
+        Ok(list) => Ok(list),
+        Err(_) => Err(AllocError),
+    }
+}
+
+// Lands what was delivered for these tasks, and puts the next into a list that nobody else has. Without memory nothing
+// changes.
+fn close_into(
+    alloc: Global,
+    step: u32,
+    tasks: &[Task],
+    done: &mut Vec<Option<Segment>>,
+    room: &mut Vec<Task>,
+    next: &mut Arc<Vec<Task>>,
+    opening: &mut Arc<Arrays>,
+    finished: &mut Vec<Finished>,
+) -> Result<(), AllocError>
+    requires few { length (beside tasks.now done.old.items) ≤ 4096 }
+    requires small { AllSmall (beside tasks.now done.old.items) }
+    requires none_yet { room.old.items ≡ [] }
+    requires room { length (living_by done.old.items) ≤ vec_capacity room.old }
+    requires places { length (living_by done.old.items) ≤ vec_capacity done.old }
+    ensures lands { OnOk result ((ps : List Plan) → arc_value opening.new
+        ≡ landed (joined (map log_of (delivered (slots_of ps (beside tasks.now done.old.items))))) (arc_value opening.old)) }
+    ensures tells { OnOk result ((ps : List Plan) → finished.new.items
+        ≡ finished.old.items ++ told_by step (delivered (slots_of ps (beside tasks.now done.old.items))) ∷ []) }
+    ensures tasks { OnOk result ((arc_value next.new).items ≡ in_path_order path_in (living_by done.old.items)) }
+    ensures none { OnOk result (done.new.items ≡ map no_segment (arc_value next.new).items) }
+    ensures same_done { OnErr result (done.new.items ≡ done.old.items) }
+    ensures same_arrays { OnErr result (arc_value opening.new ≡ arc_value opening.old) }
+    ensures same_tales { OnErr result (finished.new.items ≡ finished.old.items) }
+{
+    let Some(list) = Arc::get_mut(next) else {
+        return Err(AllocError);
+    };
+    finish(alloc, step, &Slots::of(tasks, done), opening, finished)?;
+    go_on(done, room, list);
+    Ok(())
 }
 
 // Keeps the room of a list of tasks that nobody has any more.
@@ -167,16 +222,17 @@ impl Live {
         ensures same_arrays { OnErr result (arc_value opening.new ≡ arc_value opening.old) }
         ensures same_tales { OnErr result (finished.new.items ≡ finished.old.items) }
     {
-        make_room(&mut self.room, &mut self.done, count)?;
-        let Ok(mut next) = Arc::new(alloc, Vec::new(alloc)) else {
-            return Err(AllocError);
-        };
-        let Some(list) = Arc::get_mut(&mut next) else {
-            return Err(AllocError);
-        };
-        let slots = Slots::of(&self.tasks, &self.done);
-        finish(alloc, step, &slots, opening, finished)?;
-        go_on(&mut self.done, &mut self.room, list);
+        let mut next = list_for(alloc, &mut self.room, &mut self.done, count)?;
+        close_into(
+            alloc,
+            step,
+            &self.tasks,
+            &mut self.done,
+            &mut self.room,
+            &mut next,
+            opening,
+            finished,
+        )?;
         let last = std::mem::replace(&mut self.tasks, next);
         reuse(last, &mut self.room);
         Ok(())

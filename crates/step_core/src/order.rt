@@ -81,8 +81,10 @@ fn path_at(tasks: &[Task], place: usize) -> Option<&[u16]>
 }
 
 impl<'j> Order<'j> {
-    ghost use Rattle.std.specs.Prelude.{◌≡◌, ◌<◌, length};
-    ghost use Rattle.step_core.specs.OrderValue.{order_among, IsOrder};
+    ghost use Rattle.std.specs.Prelude.{◌≡◌, ◌<◌, IfOk, length};
+    ghost use Rattle.task_lang.specs.Meaning.{segment_of};
+    ghost use Rattle.task_lang.specs.Views.{plans, meant};
+    ghost use Rattle.step_core.specs.OrderValue.{order_among, ordered_task, IsOrder};
     ghost use Rattle.std.specs.Arc.{arc_value};
 
     /// An order for the task of this place.
@@ -111,6 +113,17 @@ impl<'j> Order<'j> {
         ensures { result.now ≡ self.now.task }
     {
         &self.tasks[self.place]
+    }
+
+    // The path of its task, and what its segment does.
+    fn run(&self, alloc: Global) -> Result<(Path, Segment), AllocError>
+        ensures path { IfOk result (λ r. r.0.items ≡ self.now.task.path) }
+        ensures segment { IfOk result (λ r. meant (plans self.now.job.bodies) r.1
+            ≡ segment_of (plans self.now.job.bodies) (ordered_task self.now) self.now.arrays self.now.step) }
+    {
+        let task = self.task();
+        let done = segment(alloc, self.job, task, &self.arrays, self.superstep)?;
+        Ok((task_path(task), done))
     }
 
     /// The path of its task. It takes no memory.
@@ -152,15 +165,13 @@ impl<'j> Delivery<'j> {
         ensures segment { IfOk result (λ d. delivered_segment d
             ≡ segment_of (plans order.entry.job.bodies) (ordered_task order.entry) order.entry.arrays order.entry.step) }
     {
-        let task = order.task();
-        let done = segment(alloc, order.job, task, &order.arrays, order.superstep)?;
-        let path = task_path(task);
+        let (path, segment) = order.run(alloc)?;
         Ok(Delivery {
             job: order.job,
             step: order.superstep,
             place: order.place,
             path,
-            segment: done,
+            segment,
         })
     }
 
