@@ -3,9 +3,9 @@ use Rattle.std.specs.Prelude.{◌≡◌}
 use Rattle.tier_table.specs.Holding.{Named}
 use Rattle.tier_table.specs.declared.tokens.Token.{Token}
 use Rattle.tier_table.specs.Closes.{held}
-use Rattle.phaser_tests.specs.declared.lists.slots.Eight.{Eight}
-use Rattle.phaser_tests.specs.declared.lists.slots.Slot.{Slot}
-use Rattle.phaser_tests.specs.declared.lists.slots.Slot.TheVariants.{Outside, Inside, Owing, Opening}
+use Rattle.phaser_tests.specs.declared.calls.slots.Eight.{Eight}
+use Rattle.phaser_tests.specs.declared.calls.slots.Slot.{Slot}
+use Rattle.phaser_tests.specs.declared.calls.slots.Slot.TheVariants.{Outside, Inside, Owing, Opening}
 
 -- the tree of a token
 abbrev pub tree_of : Slot → Named
@@ -15,6 +15,9 @@ tree_of (Owing errand) = errand.token.tree
 tree_of (Opening opening) = opening.token.tree
 
 -- tokens of this tree
+abbrev pub ThreeOf : Named → Slot × Slot × Slot → Type 0
+ThreeOf tree slots = (tree_of slots.0 ≡ tree) × (tree_of slots.1 ≡ tree) × (tree_of slots.2 ≡ tree)
+
 abbrev pub FourOf : Named → Slot × Slot × Slot × Slot → Type 0
 FourOf tree slots = (tree_of slots.0 ≡ tree) × (tree_of slots.1 ≡ tree) × (tree_of slots.2 ≡ tree) × (tree_of slots.3 ≡ tree)
 

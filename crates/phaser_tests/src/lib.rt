@@ -3,10 +3,14 @@
 
 #[cfg(test)]
 mod barrier;
+pub mod calls;
 #[cfg(test)]
 mod flat;
-pub mod lists;
+#[cfg(test)]
+mod lists;
 #[cfg(test)]
 mod shared;
 #[cfg(test)]
 mod table;
+#[cfg(test)]
+mod trees;

@@ -2,9 +2,8 @@
 #[cfg(test)]
 mod act;
 #[cfg(test)]
-mod ask;
-#[cfg(test)]
 mod mirror;
 #[cfg(test)]
+mod numbers;
+#[cfg(test)]
 mod played;
-pub mod slots;

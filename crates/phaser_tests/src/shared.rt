@@ -3,3 +3,5 @@
 mod deeds;
 #[cfg(test)]
 mod threads;
+#[cfg(test)]
+mod tokens;

@@ -1,6 +1,6 @@
 //! The tree on atomic words: worked runs on one thread.
 #[cfg(test)]
-mod asks;
+mod rows;
 #[cfg(test)]
 mod runs;
 #[cfg(test)]

@@ -1,73 +1,83 @@
 //! Worked runs of a barrier as a value.
 
+ghost use Rattle.advance_rule.specs.Action.{AnswersAction};
+
+use crate::barrier::rows::Told::{ActionFailed, Breaks, Broken, Refused, Tripped, Waits};
+use crate::barrier::rows::{Row, played};
 use advance_rule::StoredAction;
-use cyclic_gate::{Awaited, BarrierCore, BarrierFault};
+use cyclic_gate::BarrierFault::{AlreadyWaiting, NoParty, NotWaiting, TooMany};
+use cyclic_gate::Call::{Abandon, Await, BreakOff, Reset};
+use cyclic_gate::{BarrierCore, BarrierFault};
+use std::alloc::Global;
+use std::process::Abort;
+
+// Plays rows from the beginning of a barrier of so many parties.
+fn run<F: Fn(u64) -> bool + Drop>(
+    rt: &impl Abort,
+    alloc: Global,
+    parties: u32,
+    action: StoredAction<F>,
+    rows: &[Row],
+)
+    requires { AnswersAction (F.pre action.closure) (F.post action.closure) action.plan }
+{
+    match BarrierCore::new(alloc, i64::from(parties), action) {
+        Ok(mut core) => {
+            played(rt, &mut core, rows);
+            assert_eq!(rt; core.parties(), parties);
+        }
+        Err(_) => panic!(rt; "no barrier"),
+    }
+}
+
+// Three parties trip, are broken by one that is taken away, begin anew, and are broken off.
+const TRIPS_AND_BREAKS: [Row; 12] = [
+    (Await(7), Waits(2), 0, 1, false),
+    (Await(8), Waits(1), 0, 2, false),
+    (Await(7), Refused(AlreadyWaiting), 0, 2, false),
+    (Await(9), Tripped(&[(7, 2), (8, 1), (9, 0)]), 1, 0, false),
+    (Abandon(7), Refused(NotWaiting), 1, 0, false),
+    (Await(8), Waits(2), 1, 1, false),
+    (Await(7), Waits(1), 1, 2, false),
+    (Abandon(8), Breaks(&[7]), 1, 0, true),
+    (Await(7), Broken, 1, 0, true),
+    (Reset, Breaks(&[]), 2, 0, false),
+    (Await(7), Waits(2), 2, 1, false),
+    (BreakOff, Breaks(&[7]), 2, 0, true),
+];
 
 #[test]
 fn trips_and_breaks(rt: HostRuntime) {
     let action = StoredAction::new(|_generation: u64| false, None);
-    let mut core = match BarrierCore::new(rt.alloc(), 3, action) {
-        Ok(core) => core,
-        Err(_) => panic!(rt; "no barrier"),
-    };
-    assert!(rt; matches!(core.await_step(7), Ok(Awaited::Waits(2))));
-    assert!(rt; matches!(core.await_step(8), Ok(Awaited::Waits(1))));
-    assert!(rt; matches!(core.await_step(7), Err(BarrierFault::AlreadyWaiting)));
-    match core.await_step(9) {
-        Ok(Awaited::Tripped(all)) => {
-            assert!(rt; all.as_slice() == [(7, 2), (8, 1), (9, 0)].as_slice());
-        }
-        _ => panic!(rt; "the last trips"),
-    }
-    assert_eq!(rt; core.generation(), 1);
-    assert!(rt; matches!(core.abandon(7), Err(BarrierFault::NotWaiting)));
-    assert!(rt; matches!(core.await_step(8), Ok(Awaited::Waits(2))));
-    assert!(rt; matches!(core.await_step(7), Ok(Awaited::Waits(1))));
-    assert_eq!(rt; core.waiting(), 2);
-    match core.abandon(8) {
-        Ok(others) => assert!(rt; others.as_slice() == [7].as_slice()),
-        Err(_) => panic!(rt; "8 waits"),
-    }
-    assert!(rt; core.is_broken());
-    assert!(rt; matches!(core.await_step(7), Ok(Awaited::Broken)));
-    assert!(rt; core.reset().is_empty());
-    assert!(rt; !core.is_broken());
-    assert_eq!(rt; core.generation(), 2);
-    assert!(rt; matches!(core.await_step(7), Ok(Awaited::Waits(2))));
-    assert!(rt; core.break_off().as_slice() == [7].as_slice());
-    assert_eq!(rt; core.generation(), 2);
-    assert_eq!(rt; core.parties(), 3);
+    run(&rt, rt.alloc(), 3, action, &TRIPS_AND_BREAKS);
 }
+
+// The action fails in the first generation.
+const AN_ACTION_FAILS: [Row; 3] = [
+    (Await(5), Waits(1), 0, 1, false),
+    (Await(6), ActionFailed(&[5]), 0, 0, true),
+    (Await(5), Broken, 0, 0, true),
+];
 
 #[test]
 fn an_action_fails(rt: HostRuntime) {
     let action = StoredAction::new(|generation: u64| generation == 0, Some(0));
-    let mut core = match BarrierCore::new(rt.alloc(), 2, action) {
-        Ok(core) => core,
-        Err(_) => panic!(rt; "no barrier"),
-    };
-    assert!(rt; matches!(core.await_step(5), Ok(Awaited::Waits(1))));
-    match core.await_step(6) {
-        Ok(Awaited::ActionFailed(others)) => assert!(rt; others.as_slice() == [5].as_slice()),
-        _ => panic!(rt; "the action fails"),
+    run(&rt, rt.alloc(), 2, action, &AN_ACTION_FAILS);
+}
+
+// A barrier of so many parties is refused so.
+fn is_refused(rt: &impl Abort, alloc: Global, parties: i64, fault: BarrierFault) {
+    let action = StoredAction::new(|_generation: u64| false, None);
+    match BarrierCore::new(alloc, parties, action) {
+        Ok(_) => panic!(rt; "a barrier of {parties}"),
+        Err(told) => assert_eq!(rt; told, fault),
     }
-    assert!(rt; matches!(core.await_step(5), Ok(Awaited::Broken)));
-    assert_eq!(rt; core.generation(), 0);
-    assert_eq!(rt; core.waiting(), 0);
 }
 
 #[test]
 fn refuses_numbers_of_parties(rt: HostRuntime) {
-    for (parties, fault) in [
-        (-1, BarrierFault::NoParty),
-        (0, BarrierFault::NoParty),
-        (65536, BarrierFault::TooMany),
-        (i64::MAX, BarrierFault::TooMany),
-    ] {
-        let action = StoredAction::new(|_generation: u64| false, None);
-        match BarrierCore::new(rt.alloc(), parties, action) {
-            Ok(_) => panic!(rt; "a barrier of {parties}"),
-            Err(told) => assert_eq!(rt; told, fault),
-        }
-    }
+    is_refused(&rt, rt.alloc(), -1, NoParty);
+    is_refused(&rt, rt.alloc(), 0, NoParty);
+    is_refused(&rt, rt.alloc(), 65536, TooMany);
+    is_refused(&rt, rt.alloc(), i64::MAX, TooMany);
 }

@@ -4,6 +4,7 @@ ghost use Rattle.advance_rule.specs.Action.{AnswersAction};
 
 use advance_rule::StoredAction;
 use cyclic_gate::{BarrierFault, CyclicGate, GateFault};
+use std::process::Abort;
 use std::sync::Wait;
 use std::thread;
 use std::thread::Threads;
@@ -93,7 +94,34 @@ fn two_broken<R: Threads + Wait + Sync, F: Fn(u64) -> bool + Sync>(
 }
 
 fn is_each_once(turns: &[Result<u32, GateFault>; 3]) -> bool {
-    (0..3).all(|index| turns.iter().any(|turn| *turn == Ok(index)))
+    [Ok(0), Ok(1), Ok(2)]
+        .iter()
+        .all(|turn| turns.contains(turn))
+}
+
+// Three threads meet, and each gets one of the three turns.
+fn all_meet<R: Threads + Wait + Abort + Sync, F: Fn(u64) -> bool + Sync>(
+    rt: &R,
+    gate: &CyclicGate<F>,
+)
+    requires { AnswersAction (F.pre gate.now.action.closure) (F.post gate.now.action.closure) gate.now.action.plan }
+{
+    let turns = three_turns(rt, gate);
+    assert!(rt; is_each_once(&turns));
+}
+
+// Of two that wait one is taken away, and all are told that the gate is broken.
+fn all_are_broken<R: Threads + Wait + Abort + Sync, F: Fn(u64) -> bool + Sync>(
+    rt: &R,
+    gate: &CyclicGate<F>,
+)
+    requires { AnswersAction (F.pre gate.now.action.closure) (F.post gate.now.action.closure) gate.now.action.plan }
+{
+    let (first, second, taken) = two_broken(rt, gate);
+    assert!(rt; first == Err(GateFault::Broken));
+    assert!(rt; second == Err(GateFault::Broken));
+    assert!(rt; taken.is_ok());
+    assert!(rt; gate.await_turn(rt, 2) == Err(GateFault::Broken));
 }
 
 #[test]
@@ -103,14 +131,8 @@ fn three_threads_meet_and_are_broken(rt: HostRuntime) {
         Ok(gate) => gate,
         Err(_) => panic!(rt; "no gate"),
     };
-    let turns = three_turns(&rt, &gate);
-    assert!(rt; is_each_once(&turns));
-    let (first, second, taken) = two_broken(&rt, &gate);
-    assert!(rt; first == Err(GateFault::Broken));
-    assert!(rt; second == Err(GateFault::Broken));
-    assert!(rt; taken.is_ok());
-    assert!(rt; gate.await_turn(&rt, 2) == Err(GateFault::Broken));
+    all_meet(&rt, &gate);
+    all_are_broken(&rt, &gate);
     assert!(rt; gate.reset(&rt).is_ok());
-    let turns = three_turns(&rt, &gate);
-    assert!(rt; is_each_once(&turns));
+    all_meet(&rt, &gate);
 }

@@ -2,7 +2,7 @@
 
 ghost use Rattle.tier_core.specs.Run.{IsCall};
 
-use crate::lists::ask::{Ask, Told};
+use crate::calls::ask::{Ask, Told};
 use std::process::Abort;
 use tier_core::call::{Answer, Call, Played, Step};
 use tier_core::tree::Core;

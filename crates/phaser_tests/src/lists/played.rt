@@ -6,11 +6,13 @@ ghost use Rattle.advance_rule.specs.Plan.{end_ends_at};
 ghost use Rattle.phaser_tests.specs.Slots.{tree_of, FourOf, AllOf, AreOf};
 ghost use Rattle.tier_table.specs.Closes.{held};
 
+use crate::calls::call::at_rest;
+use crate::calls::slots::{Eight, Four, Slot};
 use crate::lists::act::act;
-use crate::lists::ask::Numbers;
 use crate::lists::mirror::{Mirror, words_of};
-use crate::lists::slots::{Eight, Slot};
-use advance_rule::{EndPlan, StoredAdvance};
+use crate::lists::numbers::Numbers;
+use crate::trees::{WHEN_EMPTY, left, planted};
+use advance_rule::StoredAdvance;
 use phaser_word::Word;
 use std::alloc::{AllocError, Global};
 use std::process::Abort;
@@ -19,6 +21,9 @@ use tier_core::tree::Core;
 use tier_shape::Shape;
 use tier_table::tokens::{Door, Token};
 use tier_table::tree::Tree;
+
+// Four tokens that are in no call.
+type Settled = (Token, Token, Token, Token);
 
 // Goes on with what a token owes, to its end.
 fn settled<F: Fn(u32, u32) -> bool>(
@@ -41,11 +46,7 @@ fn settled<F: Fn(u32, u32) -> bool>(
             other => slot = act(rt, tree, mirror, token, other, numbers, false),
         }
     }
-    match slot {
-        Slot::Outside(door) => Token::Door(door),
-        Slot::Inside(crew) => Token::Crew(crew),
-        _ => panic!(rt; "it goes on for ever"),
-    }
+    at_rest(rt, slot)
 }
 
 // Whether the words of a closed tree are those of the machine.
@@ -54,14 +55,9 @@ fn are_words(words: &[Word], numbers: &[u64; 9]) -> bool {
 }
 
 // The machine with eight tokens.
-fn mirror_of(
-    rt: &impl Abort,
-    alloc: Global,
-    widths: &str,
-    plan: EndPlan,
-) -> Result<Mirror, AllocError> {
+fn mirror_of(rt: &impl Abort, alloc: Global, widths: &str) -> Result<Mirror, AllocError> {
     let shape = Shape::from_widths(alloc, widths).expect(rt, "a shape");
-    let mut core = Core::new(alloc, shape, 0, plan)?;
+    let mut core = Core::new(alloc, shape, 0, WHEN_EMPTY)?;
     for _ in 0..8 {
         core.add_token()?;
     }
@@ -69,6 +65,30 @@ fn mirror_of(
         core,
         last: [None; 8],
     })
+}
+
+// One call of the token with this number among its four, which are the first or the last.
+fn act_in_four<F: Fn(u32, u32) -> bool>(
+    rt: &impl Abort,
+    tree: &Tree<F>,
+    mirror: &mut Mirror,
+    token: usize,
+    slots: Four,
+    numbers: &mut Numbers,
+    late: bool,
+) -> Four
+    requires own { FourOf tree.now.tree slots }
+    requires rule { Answers (F.pre tree.now.rule.closure) (F.post tree.now.rule.closure) (end_ends_at tree.now.rule.plan) }
+    ensures { FourOf tree.now.tree result }
+{
+    let (mut zero, mut one, mut two, mut three) = slots;
+    match token % 4 {
+        0 => zero = act(rt, tree, mirror, token, zero, numbers, late),
+        1 => one = act(rt, tree, mirror, token, one, numbers, late),
+        2 => two = act(rt, tree, mirror, token, two, numbers, late),
+        _ => three = act(rt, tree, mirror, token, three, numbers, late),
+    }
+    (zero, one, two, three)
 }
 
 // One call of the token with this number.
@@ -86,49 +106,39 @@ fn act_one<F: Fn(u32, u32) -> bool>(
     ensures { AreOf tree.now.tree result }
 {
     let Eight { front, back } = slots;
-    let (mut zero, mut one, mut two, mut three) = front;
-    let (mut four, mut five, mut six, mut seven) = back;
-    match token {
-        0 => zero = act(rt, tree, mirror, 0, zero, numbers, late),
-        1 => one = act(rt, tree, mirror, 1, one, numbers, late),
-        2 => two = act(rt, tree, mirror, 2, two, numbers, late),
-        3 => three = act(rt, tree, mirror, 3, three, numbers, late),
-        4 => four = act(rt, tree, mirror, 4, four, numbers, late),
-        5 => five = act(rt, tree, mirror, 5, five, numbers, late),
-        6 => six = act(rt, tree, mirror, 6, six, numbers, late),
-        _ => seven = act(rt, tree, mirror, 7, seven, numbers, late),
+    if token < 4 {
+        let front = act_in_four(rt, tree, mirror, token, front, numbers, late);
+        return Eight { front, back };
     }
-    Eight {
-        front: (zero, one, two, three),
-        back: (four, five, six, seven),
-    }
+    let back = act_in_four(rt, tree, mirror, token, back, numbers, late);
+    Eight { front, back }
 }
 
-// The eight tokens of a tree after 300 calls in some order.
+// A token without members, and three split off it.
+fn four_doors<F: Fn(u32, u32) -> bool>(tree: &Tree<F>, door: Door) -> Four
+    requires own { door.tree ≡ tree.now.tree }
+    ensures { FourOf tree.now.tree result }
+{
+    let mut zero = door;
+    let one = Slot::Outside(tree.split(&mut zero));
+    let two = Slot::Outside(tree.split(&mut zero));
+    let three = Slot::Outside(tree.split(&mut zero));
+    (Slot::Outside(zero), one, two, three)
+}
+
+// Eight tokens after 300 calls in some order.
 fn played<F: Fn(u32, u32) -> bool>(
     rt: &impl Abort,
     tree: &Tree<F>,
     mirror: &mut Mirror,
-    door: Door,
+    slots: Eight,
     numbers: &mut Numbers,
 ) -> Eight
-    requires own { door.tree ≡ tree.now.tree }
+    requires own { AreOf tree.now.tree slots }
     requires rule { Answers (F.pre tree.now.rule.closure) (F.post tree.now.rule.closure) (end_ends_at tree.now.rule.plan) }
     ensures { AreOf tree.now.tree result }
 {
-    let mut door = door;
-    let one = Slot::Outside(tree.split(&mut door));
-    let two = Slot::Outside(tree.split(&mut door));
-    let three = Slot::Outside(tree.split(&mut door));
-    let four = Slot::Outside(tree.split(&mut door));
-    let five = Slot::Outside(tree.split(&mut door));
-    let six = Slot::Outside(tree.split(&mut door));
-    let seven = Slot::Outside(tree.split(&mut door));
-    let zero = Slot::Outside(door);
-    let mut slots = Eight {
-        front: (zero, one, two, three),
-        back: (four, five, six, seven),
-    };
+    let mut slots = slots;
     for turn in 0..300 {
         let token = numbers.below(8) as usize;
         slots = act_one(rt, tree, mirror, token, slots, numbers, turn > 250);
@@ -142,9 +152,9 @@ fn settled_four<F: Fn(u32, u32) -> bool>(
     tree: &Tree<F>,
     mirror: &mut Mirror,
     first: usize,
-    slots: (Slot, Slot, Slot, Slot),
+    slots: Four,
     numbers: &mut Numbers,
-) -> (Token, Token, Token, Token)
+) -> Settled
     requires own { FourOf tree.now.tree slots }
     requires first { first ≤ 4 }
     requires rule { Answers (F.pre tree.now.rule.closure) (F.post tree.now.rule.closure) (end_ends_at tree.now.rule.plan) }
@@ -158,26 +168,54 @@ fn settled_four<F: Fn(u32, u32) -> bool>(
     (zero, one, two, three)
 }
 
-// The words that a list of calls leaves on a tree of these widths, if they are the machine's.
-fn list(rt: &impl Abort, alloc: Global, widths: &str, seed: u32) -> Result<(), AllocError> {
-    let plan = EndPlan {
-        when_empty: true,
-        at: None,
-    };
-    let rule = StoredAdvance::new(|_phase: u32, count: u32| count == 0, plan);
-    let mut mirror = mirror_of(rt, alloc, widths, plan)?;
-    let shape = Shape::from_widths(alloc, widths).expect(rt, "a shape");
-    let (tree, door) = Tree::new(alloc, shape, 0, rule)?;
+// Eight tokens split off one, after a list of calls.
+fn listed<F: Fn(u32, u32) -> bool>(
+    rt: &impl Abort,
+    tree: &Tree<F>,
+    mirror: &mut Mirror,
+    door: Door,
+    seed: u32,
+) -> (Settled, Settled)
+    requires own { door.tree ≡ tree.now.tree }
+    requires rule { Answers (F.pre tree.now.rule.closure) (F.post tree.now.rule.closure) (end_ends_at tree.now.rule.plan) }
+    ensures { AllOf tree.now.tree result.0 × AllOf tree.now.tree result.1 }
+{
     let mut numbers = Numbers { seed };
-    let tokens = played(rt, &tree, &mut mirror, door, &mut numbers);
-    let Eight { front, back } = tokens;
-    let (zero, one, two, three) = settled_four(rt, &tree, &mut mirror, 0, front, &mut numbers);
-    let (four, five, six, seven) = settled_four(rt, &tree, &mut mirror, 4, back, &mut numbers);
-    let tokens = vec![in alloc; zero, one, two, three, four, five, six, seven]?;
-    let Ok(closed) = tree.close(alloc, tokens) else {
+    let mut door = door;
+    let back = four_doors(tree, tree.split(&mut door));
+    let front = four_doors(tree, door);
+    let slots = Eight { front, back };
+    let Eight { front, back } = played(rt, tree, mirror, slots, &mut numbers);
+    let front = settled_four(rt, tree, mirror, 0, front, &mut numbers);
+    (front, settled_four(rt, tree, mirror, 4, back, &mut numbers))
+}
+
+// The words that a tree leaves that is closed with these tokens.
+fn words_left<F: Fn(u32, u32) -> bool + Drop>(
+    rt: &impl Abort,
+    alloc: Global,
+    tree: Tree<F>,
+    front: Settled,
+    back: Settled,
+) -> Vec<Word>
+    requires own { AllOf tree.tree front × AllOf tree.tree back }
+{
+    let (zero, one, two, three) = front;
+    let (four, five, six, seven) = back;
+    let Ok(tokens) = vec![in alloc; zero, one, two, three, four, five, six, seven] else {
         panic!(rt; "no memory");
     };
-    assert!(rt; are_words(&closed.words, &words_of(&mirror.core)));
+    left(rt, alloc, tree, tokens).words
+}
+
+// The words that a list of calls leaves on a tree of these widths are the machine's.
+fn list(rt: &impl Abort, alloc: Global, widths: &str, seed: u32) -> Result<(), AllocError> {
+    let rule = StoredAdvance::new(|_phase: u32, count: u32| count == 0, WHEN_EMPTY);
+    let mut mirror = mirror_of(rt, alloc, widths)?;
+    let (tree, door) = planted(rt, alloc, widths, 0, rule);
+    let (front, back) = listed(rt, &tree, &mut mirror, door, seed);
+    let words = words_left(rt, alloc, tree, front, back);
+    assert!(rt; are_words(&words, &words_of(&mirror.core)));
     Ok(())
 }
 

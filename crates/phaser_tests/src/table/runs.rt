@@ -1,232 +1,124 @@
-//! Worked runs on one thread, step by step. Each run has three tokens; a test gives it its rule.
+//! Worked runs on one thread, row by row. Each run has three tokens; a test gives it its rule.
 
-ghost use Rattle.std.specs.Prelude.{◌≡◌};
+ghost use Rattle.std.specs.Prelude.{◌≤◌};
 ghost use Rattle.advance_rule.specs.Stored.{Answers};
 ghost use Rattle.advance_rule.specs.Plan.{end_ends_at};
 
-use crate::table::asks::{
-    arrives, begins, full, has_arrived, has_ended, held, joins, joins_here, leaves, opened,
-    opens_on, owes, owes_to_leave, polls, resumes,
+use crate::calls::ask::Ask::{Arrive, Force, Leave, Open, Poll, Register, Resume};
+use crate::calls::ask::Told::{
+    AlreadyArrived, Busy, Done, Ended, Full, Held, Here, Joined, Left, Owing, Passed, Waiting,
 };
-use crate::table::trees::{are, made, words_of};
-use advance_rule::{EndPlan, StoredAdvance};
+use crate::calls::slots::{Slot, Three};
+use crate::table::rows::{Row, joined_beside, played};
+use crate::table::trees::{ends_with, with_three};
+use crate::trees::WHEN_EMPTY;
+use advance_rule::StoredAdvance;
 use std::alloc::Global;
 use std::process::Abort;
 use tier_core::call::Cause;
-use tier_table::forcing::Forced;
-use tier_table::polling::Polled;
-use tier_table::tokens::{Crew, Door, Errand, Opening, Token};
-use tier_table::tree::Tree;
 
-const WHEN_EMPTY: EndPlan = EndPlan {
-    when_empty: true,
-    at: None,
-};
-
-// Two tokens join, and arrive with one member each.
-fn one_member_is_missing<F: Fn(u32, u32) -> bool>(
-    rt: &impl Abort,
-    tree: &Tree<F>,
-    zero: Door,
-    one: Door,
-) -> (Crew, Crew)
-    requires own { (zero.tree ≡ tree.now.tree) × (one.tree ≡ tree.now.tree) }
-    requires rule { Answers (F.pre tree.now.rule.closure) (F.post tree.now.rule.closure) (end_ends_at tree.now.rule.plan) }
-    ensures { (result.0.tree ≡ tree.now.tree) × (result.1.tree ≡ tree.now.tree) }
-{
-    let zero = joins(rt, tree, zero, 0, 1, 0);
-    let one = joins(rt, tree, one, 0, 2, 0);
-    let zero = arrives(rt, tree, zero, 0, false);
-    let zero = has_arrived(rt, tree, zero, 0);
-    let zero = polls(rt, tree, zero, Polled::Waiting);
-    (zero, arrives(rt, tree, one, 0, false))
-}
-
-// The last member arrives, and owes the advance while a third token tries to join.
-fn an_advance_is_owed<F: Fn(u32, u32) -> bool>(
-    rt: &impl Abort,
-    tree: &Tree<F>,
-    one: Crew,
-    two: Door,
-) -> (Crew, Door)
-    requires own { (one.tree ≡ tree.now.tree) × (two.tree ≡ tree.now.tree) }
-    requires rule { Answers (F.pre tree.now.rule.closure) (F.post tree.now.rule.closure) (end_ends_at tree.now.rule.plan) }
-    ensures { (result.0.tree ≡ tree.now.tree) × (result.1.tree ≡ tree.now.tree) }
-{
-    let one = owes(rt, tree, one);
-    let two = held(rt, tree, two, 0, 0, Cause::Advancing);
-    (resumes(rt, tree, one, 1, 0, true), two)
-}
-
-// One tier, with an advance that is owed for a while. Then it is filled.
-fn one_tier_fills<F: Fn(u32, u32) -> bool + Drop>(
+// Plays a run from its first phase to its last words.
+fn run<F: Fn(u32, u32) -> bool + Drop>(
     rt: &impl Abort,
     alloc: Global,
     rule: StoredAdvance<F>,
+    widths: &str,
+    phase: u32,
+    rows: &[Row],
+    words: &[(u32, u32, u32, bool)],
 )
+    requires phase { phase ≤ 2147483647 }
     requires rule { Answers (F.pre rule.closure) (F.post rule.closure) (end_ends_at rule.plan) }
 {
-    let (tree, zero, one, two) = made(rt, alloc, "flat", 0, rule);
-    let (zero, one) = one_member_is_missing(rt, &tree, zero, one);
-    let (one, two) = an_advance_is_owed(rt, &tree, one, two);
-    let zero = polls(rt, &tree, zero, Polled::Passed(1));
-    let two = full(rt, &tree, two, 0, 65533, 3);
-    let two = joins(rt, &tree, two, 0, 65532, 1);
-    let words = words_of(
-        rt,
-        alloc,
-        tree,
-        Token::Crew(zero),
-        Token::Crew(one),
-        Token::Crew(two),
-    );
-    are(rt, &words, &[(1, 65535, 65535, false)]);
+    let (tree, slots) = with_three(rt, alloc, widths, phase, rule);
+    let slots = played(rt, &tree, slots, rows);
+    ends_with(rt, alloc, tree, slots, words);
 }
+
+// One member of two is missing, and the last owes the advance while a third token tries to join. Then the
+// tier is filled.
+const ONE_TIER: [Row; 12] = [
+    (0, Register(0, 1), 16, Joined(0)),
+    (1, Register(0, 2), 16, Joined(0)),
+    (0, Arrive, 16, Done(0, false)),
+    (0, Arrive, 16, AlreadyArrived(0)),
+    (0, Poll, 1, Waiting),
+    (1, Arrive, 16, Done(0, false)),
+    (1, Arrive, 1, Owing),
+    (2, Register(0, 1), 1, Held(0, Cause::Advancing)),
+    (1, Resume, 1, Done(0, true)),
+    (0, Poll, 1, Passed(1)),
+    (2, Register(0, 65533), 16, Full(3)),
+    (2, Register(0, 65532), 16, Joined(1)),
+];
 
 #[test]
 fn one_tier(rt: HostRuntime) {
     let rule = StoredAdvance::new(|_phase: u32, count: u32| count == 0, WHEN_EMPTY);
-    one_tier_fills(&rt, rt.alloc(), rule);
+    let words = [(1, 65535, 65535, false)];
+    run(&rt, rt.alloc(), rule, "flat", 0, &ONE_TIER, &words);
 }
 
-// A token begins to open a path, which holds another off, and goes on by two tries.
-fn a_path_is_begun<F: Fn(u32, u32) -> bool>(
-    rt: &impl Abort,
-    tree: &Tree<F>,
-    zero: Door,
-    one: Door,
-) -> (Opening, Door)
-    requires own { (zero.tree ≡ tree.now.tree) × (one.tree ≡ tree.now.tree) }
-    ensures { (result.0.token.tree ≡ tree.now.tree) × (result.1.tree ≡ tree.now.tree) }
-{
-    let zero = begins(rt, tree, zero, 2);
-    let one = held(rt, tree, one, 2, 0, Cause::BeingOpened);
-    let zero = opens_on(rt, tree, zero);
-    (opens_on(rt, tree, zero), one)
-}
-
-// Another joins at the root and arrives, and then the path is open.
-fn a_path_is_opened<F: Fn(u32, u32) -> bool>(
-    rt: &impl Abort,
-    tree: &Tree<F>,
-    zero: Opening,
-    one: Door,
-) -> (Crew, Crew)
-    requires own { (zero.token.tree ≡ tree.now.tree) × (one.tree ≡ tree.now.tree) }
-    requires rule { Answers (F.pre tree.now.rule.closure) (F.post tree.now.rule.closure) (end_ends_at tree.now.rule.plan) }
-    ensures { (result.0.tree ≡ tree.now.tree) × (result.1.tree ≡ tree.now.tree) }
-{
-    let one = joins(rt, tree, one, 0, 1, 0);
-    let one = arrives(rt, tree, one, 0, false);
-    let zero = opens_on(rt, tree, zero);
-    (opened(rt, tree, zero, 1, 0), one)
-}
-
-// A path of empty tiers, opened by one try at a time, and held off meanwhile.
-fn a_path_opens<F: Fn(u32, u32) -> bool + Drop>(
-    rt: &impl Abort,
-    alloc: Global,
-    rule: StoredAdvance<F>,
-)
-    requires rule { Answers (F.pre rule.closure) (F.post rule.closure) (end_ends_at rule.plan) }
-{
-    let (tree, zero, one, two) = made(rt, alloc, "1x1", 0, rule);
-    let (zero, one) = a_path_is_begun(rt, &tree, zero, one);
-    let (zero, one) = a_path_is_opened(rt, &tree, zero, one);
-    let zero = arrives(rt, &tree, zero, 0, true);
-    let words = words_of(
-        rt,
-        alloc,
-        tree,
-        Token::Crew(zero),
-        Token::Crew(one),
-        Token::Door(two),
-    );
-    are(
-        rt,
-        &words,
-        &[(1, 2, 2, false), (0, 1, 0, false), (0, 1, 0, false)],
-    );
-}
+// A path of empty tiers, opened by one try at a time, which holds another token off. That joins at the root
+// and arrives meanwhile.
+const A_PATH: [Row; 9] = [
+    (0, Register(2, 1), 1, Owing),
+    (1, Register(2, 1), 1, Held(0, Cause::BeingOpened)),
+    (0, Open, 1, Owing),
+    (0, Open, 1, Owing),
+    (1, Register(0, 1), 16, Joined(0)),
+    (1, Arrive, 16, Done(0, false)),
+    (0, Open, 1, Owing),
+    (0, Open, 1, Joined(0)),
+    (0, Arrive, 16, Done(0, true)),
+];
 
 #[test]
 fn a_path(rt: HostRuntime) {
     let rule = StoredAdvance::new(|_phase: u32, count: u32| count == 0, WHEN_EMPTY);
-    a_path_opens(&rt, rt.alloc(), rule);
-}
-
-// Two tokens join a leaf each, and all has arrived but the first, who owes the way up.
-fn an_arrival_is_owed<F: Fn(u32, u32) -> bool>(
-    rt: &impl Abort,
-    tree: &Tree<F>,
-    zero: Door,
-    one: Door,
-) -> (Errand, Crew)
-    requires own { (zero.tree ≡ tree.now.tree) × (one.tree ≡ tree.now.tree) }
-    requires rule { Answers (F.pre tree.now.rule.closure) (F.post tree.now.rule.closure) (end_ends_at tree.now.rule.plan) }
-    ensures { (result.0.token.tree ≡ tree.now.tree) × (result.1.tree ≡ tree.now.tree) }
-{
-    let zero = joins(rt, tree, zero, 1, 1, 0);
-    let one = joins(rt, tree, one, 2, 1, 0);
-    let one = arrives(rt, tree, one, 0, false);
-    (owes(rt, tree, zero), one)
+    let words = [(1, 2, 2, false), (0, 1, 0, false), (0, 1, 0, false)];
+    run(&rt, rt.alloc(), rule, "1x1", 0, &A_PATH, &words);
 }
 
 // An arrival in flight, while another token joins at the root.
-fn an_arrival_lands<F: Fn(u32, u32) -> bool + Drop>(
-    rt: &impl Abort,
-    alloc: Global,
-    rule: StoredAdvance<F>,
-)
-    requires rule { Answers (F.pre rule.closure) (F.post rule.closure) (end_ends_at rule.plan) }
-{
-    let (tree, zero, one, two) = made(rt, alloc, "2", 0, rule);
-    let (zero, one) = an_arrival_is_owed(rt, &tree, zero, one);
-    let two = joins(rt, &tree, two, 0, 1, 0);
-    let zero = resumes(rt, &tree, zero, 16, 0, false);
-    let two = arrives(rt, &tree, two, 0, true);
-    let words = words_of(
-        rt,
-        alloc,
-        tree,
-        Token::Crew(zero),
-        Token::Crew(one),
-        Token::Crew(two),
-    );
-    are(
-        rt,
-        &words,
-        &[(1, 3, 3, false), (0, 1, 0, false), (0, 1, 0, false)],
-    );
-}
+const AN_ARRIVAL: [Row; 7] = [
+    (0, Register(1, 1), 16, Joined(0)),
+    (1, Register(2, 1), 16, Joined(0)),
+    (1, Arrive, 16, Done(0, false)),
+    (0, Arrive, 1, Owing),
+    (2, Register(0, 1), 16, Joined(0)),
+    (0, Resume, 16, Done(0, false)),
+    (2, Arrive, 16, Done(0, true)),
+];
 
 #[test]
 fn an_arrival_in_flight(rt: HostRuntime) {
     let rule = StoredAdvance::new(|_phase: u32, count: u32| count == 0, WHEN_EMPTY);
-    an_arrival_lands(&rt, rt.alloc(), rule);
+    let words = [(1, 3, 3, false), (0, 1, 0, false), (0, 1, 0, false)];
+    run(&rt, rt.alloc(), rule, "2", 0, &AN_ARRIVAL, &words);
 }
 
-// Two tokens join a leaf each and arrive, and a third is held off before and after the advance.
-fn a_leaf_lags<F: Fn(u32, u32) -> bool>(
-    rt: &impl Abort,
-    tree: &Tree<F>,
-    zero: Door,
-    one: Door,
-    two: Door,
-) -> (Crew, Door)
-    requires own { (zero.tree ≡ tree.now.tree) × (one.tree ≡ tree.now.tree) × (two.tree ≡ tree.now.tree) }
-    requires rule { Answers (F.pre tree.now.rule.closure) (F.post tree.now.rule.closure) (end_ends_at tree.now.rule.plan) }
-    ensures { (result.0.tree ≡ tree.now.tree) × (result.1.tree ≡ tree.now.tree) }
-{
-    let zero = joins(rt, tree, zero, 1, 1, 0);
-    let one = joins(rt, tree, one, 2, 1, 0);
-    let zero = arrives(rt, tree, zero, 0, false);
-    let two = held(rt, tree, two, 1, 0, Cause::AllArrived);
-    let _one = arrives(rt, tree, one, 0, true);
-    (zero, held(rt, tree, two, 1, 1, Cause::Lagging))
+// Joins that are held off before the advance and after it, and one that a poll lets in.
+const HELD_OFF: [Row; 8] = [
+    (0, Register(1, 1), 16, Joined(0)),
+    (1, Register(2, 1), 16, Joined(0)),
+    (0, Arrive, 16, Done(0, false)),
+    (2, Register(1, 1), 1, Held(0, Cause::AllArrived)),
+    (1, Arrive, 16, Done(0, true)),
+    (2, Register(1, 1), 1, Held(1, Cause::Lagging)),
+    (0, Poll, 1, Passed(1)),
+    (2, Register(1, 1), 16, Joined(1)),
+];
+
+// The third token has one member at the first leaf, which is unarrived in phase 1.
+fn is_let_in(rt: &impl Abort, slots: &Three) {
+    let Slot::Inside(two) = &slots.2 else {
+        panic!(rt; "no crew");
+    };
+    assert!(rt; two.tier() == 1 && two.size() == 1 && two.unarrived() == 1 && two.phase() == 1);
 }
 
-// Joins that are held off, and one that a poll lets in.
+// Plays the joins that are held off.
 fn a_poll_lets_in<F: Fn(u32, u32) -> bool + Drop>(
     rt: &impl Abort,
     alloc: Global,
@@ -234,11 +126,11 @@ fn a_poll_lets_in<F: Fn(u32, u32) -> bool + Drop>(
 )
     requires rule { Answers (F.pre rule.closure) (F.post rule.closure) (end_ends_at rule.plan) }
 {
-    let (tree, zero, one, two) = made(rt, alloc, "2", 0, rule);
-    let (zero, two) = a_leaf_lags(rt, &tree, zero, one, two);
-    let _zero = polls(rt, &tree, zero, Polled::Passed(1));
-    let two = joins(rt, &tree, two, 1, 1, 1);
-    assert!(rt; two.tier() == 1 && two.size() == 1 && two.unarrived() == 1 && two.phase() == 1);
+    let (tree, slots) = with_three(rt, alloc, "2", 0, rule);
+    let slots = played(rt, &tree, slots, &HELD_OFF);
+    is_let_in(rt, &slots);
+    let words = [(1, 2, 2, false), (1, 2, 2, false), (0, 1, 0, false)];
+    ends_with(rt, alloc, tree, slots, &words);
 }
 
 #[test]
@@ -248,155 +140,69 @@ fn joins_are_held(rt: HostRuntime) {
 }
 
 // A departure in flight, while another token joins where it left.
-fn a_departure_lands<F: Fn(u32, u32) -> bool + Drop>(
-    rt: &impl Abort,
-    alloc: Global,
-    rule: StoredAdvance<F>,
-)
-    requires rule { Answers (F.pre rule.closure) (F.post rule.closure) (end_ends_at rule.plan) }
-{
-    let (tree, zero, one, two) = made(rt, alloc, "1x1", 0, rule);
-    let zero = joins(rt, &tree, zero, 2, 1, 0);
-    let zero = owes_to_leave(rt, &tree, zero);
-    let one = joins(rt, &tree, one, 2, 1, 0);
-    let zero = leaves(rt, &tree, zero, 0);
-    let words = words_of(
-        rt,
-        alloc,
-        tree,
-        Token::Door(zero),
-        Token::Crew(one),
-        Token::Door(two),
-    );
-    are(
-        rt,
-        &words,
-        &[(0, 1, 1, false), (0, 1, 1, false), (0, 1, 1, false)],
-    );
-}
+const A_DEPARTURE: [Row; 4] = [
+    (0, Register(2, 1), 16, Joined(0)),
+    (0, Leave, 1, Owing),
+    (1, Register(2, 1), 16, Joined(0)),
+    (0, Resume, 16, Left(0, false)),
+];
 
 #[test]
 fn a_departure_in_flight(rt: HostRuntime) {
     let rule = StoredAdvance::new(|_phase: u32, count: u32| count == 0, WHEN_EMPTY);
-    a_departure_lands(&rt, rt.alloc(), rule);
-}
-
-// Two tokens join a leaf each in the greatest phase, and arrive.
-fn all_arrive_last<F: Fn(u32, u32) -> bool>(
-    rt: &impl Abort,
-    tree: &Tree<F>,
-    zero: Door,
-    one: Door,
-) -> (Crew, Crew)
-    requires own { (zero.tree ≡ tree.now.tree) × (one.tree ≡ tree.now.tree) }
-    requires rule { Answers (F.pre tree.now.rule.closure) (F.post tree.now.rule.closure) (end_ends_at tree.now.rule.plan) }
-    ensures { (result.0.tree ≡ tree.now.tree) × (result.1.tree ≡ tree.now.tree) }
-{
-    let zero = joins(rt, tree, zero, 1, 1, 2147483647);
-    let one = joins(rt, tree, one, 2, 1, 2147483647);
-    let zero = arrives(rt, tree, zero, 2147483647, false);
-    (zero, arrives(rt, tree, one, 2147483647, true))
+    let words = [(0, 1, 1, false), (0, 1, 1, false), (0, 1, 1, false)];
+    run(&rt, rt.alloc(), rule, "1x1", 0, &A_DEPARTURE, &words);
 }
 
 // After the greatest phase comes 0.
-fn the_last_phase_ends<F: Fn(u32, u32) -> bool + Drop>(
-    rt: &impl Abort,
-    alloc: Global,
-    rule: StoredAdvance<F>,
-)
-    requires rule { Answers (F.pre rule.closure) (F.post rule.closure) (end_ends_at rule.plan) }
-{
-    let (tree, zero, one, two) = made(rt, alloc, "2", 2147483647, rule);
-    let (zero, one) = all_arrive_last(rt, &tree, zero, one);
-    let zero = polls(rt, &tree, zero, Polled::Passed(0));
-    let zero = polls(rt, &tree, zero, Polled::Here(0));
-    let words = words_of(
-        rt,
-        alloc,
-        tree,
-        Token::Crew(zero),
-        Token::Crew(one),
-        Token::Door(two),
-    );
-    are(
-        rt,
-        &words,
-        &[
-            (0, 2, 2, false),
-            (0, 1, 1, false),
-            (2147483647, 1, 0, false),
-        ],
-    );
-}
+const THE_LAST_PHASE: [Row; 6] = [
+    (0, Register(1, 1), 16, Joined(2147483647)),
+    (1, Register(2, 1), 16, Joined(2147483647)),
+    (0, Arrive, 16, Done(2147483647, false)),
+    (1, Arrive, 16, Done(2147483647, true)),
+    (0, Poll, 1, Passed(0)),
+    (0, Poll, 1, Here(0)),
+];
 
 #[test]
 fn phases_wrap(rt: HostRuntime) {
     let rule = StoredAdvance::new(|_phase: u32, count: u32| count == 0, WHEN_EMPTY);
-    the_last_phase_ends(&rt, rt.alloc(), rule);
+    let last = 2147483647;
+    let words = [(0, 2, 2, false), (0, 1, 1, false), (last, 1, 0, false)];
+    run(&rt, rt.alloc(), rule, "2", last, &THE_LAST_PHASE, &words);
 }
 
-// An end by force, at no try, and then twice.
-fn a_force_ends<F: Fn(u32, u32) -> bool>(rt: &impl Abort, tree: &Tree<F>, two: Door) -> Door
-    requires own { two.tree ≡ tree.now.tree }
-    ensures { result.tree ≡ tree.now.tree }
-{
-    let mut two = two;
-    assert!(rt; tree.force(&mut two, 0) == Forced::Busy);
-    assert!(rt; tree.force(&mut two, 16) == Forced::Ended(i32::MIN));
-    assert!(rt; tree.force(&mut two, 0) == Forced::Ended(i32::MIN));
-    two
-}
-
-// What was in flight is done, and all learn of the end.
-fn all_have_ended<F: Fn(u32, u32) -> bool>(
-    rt: &impl Abort,
-    tree: &Tree<F>,
-    zero: Errand,
-    one: Crew,
-) -> (Crew, Crew)
-    requires own { (zero.token.tree ≡ tree.now.tree) × (one.tree ≡ tree.now.tree) }
-    requires rule { Answers (F.pre tree.now.rule.closure) (F.post tree.now.rule.closure) (end_ends_at tree.now.rule.plan) }
-    ensures { (result.0.tree ≡ tree.now.tree) × (result.1.tree ≡ tree.now.tree) }
-{
-    let zero = resumes(rt, tree, zero, 1, 0, false);
-    let one = polls(rt, tree, one, Polled::Ended(i32::MIN));
-    (has_ended(rt, tree, zero, i32::MIN), one)
-}
-
-// An end by force between the steps of an arrival: it is counted, and leads nothing.
-fn a_force_comes_between<F: Fn(u32, u32) -> bool + Drop>(
-    rt: &impl Abort,
-    alloc: Global,
-    rule: StoredAdvance<F>,
-)
-    requires rule { Answers (F.pre rule.closure) (F.post rule.closure) (end_ends_at rule.plan) }
-{
-    let (tree, zero, one, two) = made(rt, alloc, "2", 0, rule);
-    let (zero, one) = an_arrival_is_owed(rt, &tree, zero, one);
-    let two = a_force_ends(rt, &tree, two);
-    let (zero, one) = all_have_ended(rt, &tree, zero, one);
-    let words = words_of(
-        rt,
-        alloc,
-        tree,
-        Token::Crew(zero),
-        Token::Crew(one),
-        Token::Door(two),
-    );
-    are(
-        rt,
-        &words,
-        &[(0, 2, 1, true), (0, 1, 0, false), (0, 1, 0, false)],
-    );
-}
+// An end by force between the steps of an arrival, at no try, and then twice: the arrival is counted, and
+// leads nothing, and all learn of the end.
+const A_FORCE: [Row; 10] = [
+    (0, Register(1, 1), 16, Joined(0)),
+    (1, Register(2, 1), 16, Joined(0)),
+    (1, Arrive, 16, Done(0, false)),
+    (0, Arrive, 1, Owing),
+    (2, Force, 0, Busy),
+    (2, Force, 16, Ended(i32::MIN)),
+    (2, Force, 0, Ended(i32::MIN)),
+    (0, Resume, 1, Done(0, false)),
+    (1, Poll, 1, Ended(i32::MIN)),
+    (0, Arrive, 16, Ended(i32::MIN)),
+];
 
 #[test]
 fn a_force_in_mid_climb(rt: HostRuntime) {
     let rule = StoredAdvance::new(|_phase: u32, count: u32| count == 0, WHEN_EMPTY);
-    a_force_comes_between(&rt, rt.alloc(), rule);
+    let words = [(0, 2, 1, true), (0, 1, 0, false), (0, 1, 0, false)];
+    run(&rt, rt.alloc(), rule, "2", 0, &A_FORCE, &words);
 }
 
-// A member joins beside another, which had not arrived.
+// A member joins a leaf, another beside it, and then both arrive.
+const BEFORE_IT_TAKES_IN: [Row; 1] = [(0, Register(1, 1), 16, Joined(0))];
+
+const AFTER_IT_TOOK_IN: [Row; 2] = [
+    (0, Arrive, 16, Done(0, false)),
+    (1, Arrive, 16, Done(0, true)),
+];
+
+// Plays the member that joins beside another, which had not arrived.
 fn a_crew_takes_in<F: Fn(u32, u32) -> bool + Drop>(
     rt: &impl Abort,
     alloc: Global,
@@ -404,11 +210,12 @@ fn a_crew_takes_in<F: Fn(u32, u32) -> bool + Drop>(
 )
     requires rule { Answers (F.pre rule.closure) (F.post rule.closure) (end_ends_at rule.plan) }
 {
-    let (tree, zero, one, _two) = made(rt, alloc, "2", 0, rule);
-    let mut zero = joins(rt, &tree, zero, 1, 1, 0);
-    let one = joins_here(rt, &tree, &mut zero, one, 0);
-    let _zero = arrives(rt, &tree, zero, 0, false);
-    let _one = arrives(rt, &tree, one, 0, true);
+    let (tree, slots) = with_three(rt, alloc, "2", 0, rule);
+    let slots = played(rt, &tree, slots, &BEFORE_IT_TAKES_IN);
+    let slots = joined_beside(rt, &tree, slots, 0);
+    let slots = played(rt, &tree, slots, &AFTER_IT_TOOK_IN);
+    let words = [(1, 1, 1, false), (0, 2, 0, false), (0, 0, 1, false)];
+    ends_with(rt, alloc, tree, slots, &words);
 }
 
 #[test]

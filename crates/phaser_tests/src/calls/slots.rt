@@ -14,10 +14,16 @@ pub enum Slot {
     Opening(Opening),
 }
 
+/// Three tokens of one tree.
+pub type Three = (Slot, Slot, Slot);
+
+/// Four tokens of one tree.
+pub type Four = (Slot, Slot, Slot, Slot);
+
 /// Eight tokens of one tree.
 pub struct Eight {
     /// The first four.
-    pub front: (Slot, Slot, Slot, Slot),
+    pub front: Four,
     /// The last four.
-    pub back: (Slot, Slot, Slot, Slot),
+    pub back: Four,
 }

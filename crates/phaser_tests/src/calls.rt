@@ -1,0 +1,6 @@
+//! A token in all its states, what it may be asked, and what it is told.
+#[cfg(test)]
+pub(crate) mod ask;
+#[cfg(test)]
+pub(crate) mod call;
+pub mod slots;
