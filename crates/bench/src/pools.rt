@@ -25,6 +25,38 @@ fn turning_job(alloc: Global, tasks: u32, turns: u32) -> Result<Job> {
     job_of(alloc, text.as_str(), tasks)
 }
 
+// How many supersteps workers record.
+fn recorded_by_workers<R: Threads + Wait + Sync>(
+    rt: &R,
+    alloc: Global,
+    job: &Job,
+    widths: &str,
+    workers: u32,
+    last: u32,
+) -> Result<usize>
+    requires workers { (1 ≤ workers) × (workers ≤ 64) }
+    requires last { last ≤ 999999 }
+{
+    let shape = Shape::from_widths(alloc, widths)?;
+    let plan = EndPlan {
+        when_empty: true,
+        at: Some(last),
+    };
+    let advance = StoredAdvance::new(|phase: u32, count: u32| count == 0 || phase == last, plan);
+    let report = run_job(
+        rt, alloc, job, shape, workers, advance, &OpenGate, &AllStart,
+    )?;
+    Ok(report.records.len())
+}
+
+// How many supersteps one thread records without workers.
+fn recorded_alone(alloc: Global, job: &Job, last: u32) -> Result<usize>
+    requires last { last ≤ 999999 }
+{
+    let report = run_alone(alloc, job, last + 1)?;
+    Ok(report.records.len())
+}
+
 // How many supersteps workers record, or one thread where there are none.
 fn recorded<R: Threads + Wait + Sync>(
     rt: &R,
@@ -38,30 +70,69 @@ fn recorded<R: Threads + Wait + Sync>(
     requires last { last ≤ 999999 }
 {
     if workers == 0 {
-        let report = run_alone(alloc, job, last + 1)?;
-        return Ok(report.records.len());
+        recorded_alone(alloc, job, last)
+    } else {
+        recorded_by_workers(rt, alloc, job, widths, workers, last)
     }
-    let shape = Shape::from_widths(alloc, widths)?;
-    let plan = EndPlan {
-        when_empty: true,
-        at: Some(last),
-    };
-    let advance = StoredAdvance::new(|phase: u32, count: u32| count == 0 || phase == last, plan);
-    let report = run_job(
-        rt, alloc, job, shape, workers, advance, &OpenGate, &AllStart,
-    )?;
-    Ok(report.records.len())
 }
 
-// Runs a small job on one thread, and on one, two and four workers.
+// How many supersteps one thread records, and one, two and four workers.
+fn recorded_by_each<R: Threads + Wait + Sync>(
+    rt: &R,
+    alloc: Global,
+    job: &Job,
+) -> Result<[usize; 4]> {
+    Ok([
+        recorded(rt, alloc, job, "flat", 0, 9)?,
+        recorded(rt, alloc, job, "flat", 1, 9)?,
+        recorded(rt, alloc, job, "2x3", 2, 9)?,
+        recorded(rt, alloc, job, "2x3", 4, 9)?,
+    ])
+}
+
+// Runs a small job by each.
 fn run_small<R: Print + Threads + Wait + Sync>(rt: &R, alloc: Global) -> Result<()> {
     let job = turning_job(alloc, 64, 10)?;
-    let alone = recorded(rt, alloc, &job, "flat", 0, 9)?;
-    let one = recorded(rt, alloc, &job, "flat", 1, 9)?;
-    let two = recorded(rt, alloc, &job, "2x3", 2, 9)?;
-    let four = recorded(rt, alloc, &job, "2x3", 4, 9)?;
+    let [alone, one, two, four] = recorded_by_each(rt, alloc, &job)?;
     println!(rt; "{alone} supersteps on one thread; with 1, 2 and 4 workers {one} {two} {four}")?;
     Ok(())
+}
+
+// How many supersteps were recorded, and how many microseconds that took.
+fn timed<R: Clock + Threads + Wait + Sync>(
+    rt: &R,
+    alloc: Global,
+    job: &Job,
+    widths: &str,
+    workers: u32,
+    last: u32,
+) -> Result<(usize, u128)>
+    requires workers { workers ≤ 64 }
+    requires last { last ≤ 999999 }
+{
+    let start = Instant::now(rt)?;
+    let records = recorded(rt, alloc, job, widths, workers, last)?;
+    let took = start.elapsed(rt)?;
+    Ok((records, took.as_micros()))
+}
+
+// What a job is to be: its workers, tasks, turns and supersteps.
+#[derive(Clone, Copy)]
+struct Setting {
+    workers: u32,
+    tasks: u32,
+    turns: u32,
+    steps: u32,
+}
+
+// What the words say of it.
+fn asked(workers: &str, tasks: &str, turns: &str, steps: &str) -> Result<Setting> {
+    Ok(Setting {
+        workers: workers.parse::<u32>()?,
+        tasks: tasks.parse::<u32>()?,
+        turns: turns.parse::<u32>()?,
+        steps: steps.parse::<u32>()?,
+    })
 }
 
 /// Runs a job as the words ask.
@@ -73,21 +144,28 @@ pub(crate) fn run<R: Clock + Print + Threads + Wait + Sync>(
     let [workers, widths, tasks, turns, steps, ..] = words else {
         return run_small(rt, alloc);
     };
-    let workers = workers.parse::<u32>()?;
-    let tasks = tasks.parse::<u32>()?;
-    let turns = turns.parse::<u32>()?;
-    let steps = steps.parse::<u32>()?;
-    if workers > 64 || steps == 0 || steps > 1000000 {
+    let job = asked(
+        workers.as_str(),
+        tasks.as_str(),
+        turns.as_str(),
+        steps.as_str(),
+    )?;
+    if job.workers > 64 || job.steps == 0 || job.steps > 1000000 {
         println!(rt; "at most 64 workers, and 1 to 1000000 supersteps")?;
         return Ok(());
     }
-    let job = turning_job(alloc, tasks, turns)?;
-    let start = Instant::now(rt)?;
-    let records = recorded(rt, alloc, &job, widths.as_str(), workers, steps - 1)?;
-    let took = start.elapsed(rt)?;
+    let turning = turning_job(alloc, job.tasks, job.turns)?;
+    let (records, micros) = timed(
+        rt,
+        alloc,
+        &turning,
+        widths.as_str(),
+        job.workers,
+        job.steps - 1,
+    )?;
     println!(rt;
         "{records} supersteps, each {} us",
-        took.as_micros() / u128::from(steps)
+        micros / u128::from(job.steps)
     )?;
     Ok(())
 }

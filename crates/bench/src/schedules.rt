@@ -64,24 +64,52 @@ fn recorded(alloc: Global, job: &Job, limit: u32, steps: &[JobStep]) -> Result<u
     Ok(0)
 }
 
+// How many supersteps were recorded, and how many microseconds that took.
+fn timed<R: Clock>(
+    rt: &R,
+    alloc: Global,
+    job: &Job,
+    limit: u32,
+    steps: &[JobStep],
+) -> Result<(usize, u128)>
+    requires some { 1 ≤ limit }
+    requires few { limit ≤ 1000000 }
+{
+    let start = Instant::now(rt)?;
+    let records = recorded(alloc, job, limit, steps)?;
+    let took = start.elapsed(rt)?;
+    Ok((records, took.as_micros()))
+}
+
+// Drives the job to so many supersteps, as above.
+fn drive<R: Clock>(rt: &R, alloc: Global, supersteps: u32) -> Result<(usize, u128)>
+    requires some { 1 ≤ supersteps }
+    requires few { supersteps ≤ 1000000 }
+{
+    let job = job_of(alloc, PUTS, TASKS)?;
+    let steps = steps_of(alloc, supersteps)?;
+    timed(rt, alloc, &job, supersteps, steps.as_slice())
+}
+
+// How many supersteps the words ask for: ten where they say nothing.
+fn asked(words: &[String]) -> Result<u32> {
+    match words {
+        [number, ..] => Ok(number.parse::<u32>()?),
+        _ => Ok(10),
+    }
+}
+
 /// Runs as many supersteps as the words ask.
 pub(crate) fn run<R: Clock + Print>(rt: &R, alloc: Global, words: &[String]) -> Result<()> {
-    let supersteps = match words {
-        [number, ..] => number.parse::<u32>()?,
-        _ => 10,
-    };
+    let supersteps = asked(words)?;
     if supersteps == 0 || supersteps > 1000000 {
         println!(rt; "1 to 1000000 supersteps")?;
         return Ok(());
     }
-    let job = job_of(alloc, PUTS, TASKS)?;
-    let steps = steps_of(alloc, supersteps)?;
-    let start = Instant::now(rt)?;
-    let records = recorded(alloc, &job, supersteps, steps.as_slice())?;
-    let took = start.elapsed(rt)?;
+    let (records, micros) = drive(rt, alloc, supersteps)?;
     println!(rt; "{records} supersteps")?;
     if !words.is_empty() {
-        println!(rt; "each {} us", took.as_micros() / u128::from(supersteps))?;
+        println!(rt; "each {} us", micros / u128::from(supersteps))?;
     }
     Ok(())
 }

@@ -2,10 +2,12 @@
 use crate::left::job_of;
 use crate::pool::fixtures::{SWAP, pooled};
 use phase_records::JobStatus;
+use std::alloc::Global;
 use std::sync::Wait;
 use std::sync::atomic::{AtomicBool, Ordering};
 use std::test::Fail;
 use std::thread;
+use std::thread::Threads;
 use superstep_memory::path::Path;
 use worker_pool::{AllStart, Gate};
 
@@ -52,10 +54,29 @@ fn holding(held: u16, awaited: u16) -> HoldsBack {
     }
 }
 
+// Whether it held its task until the other had left, and not for ever.
+fn has_held(gate: &HoldsBack) -> bool {
+    gate.left.load(Ordering::SeqCst) && !gate.gave_up.load(Ordering::SeqCst)
+}
+
+// Whether two workers end a job of two tasks as they should where one task waits for the other.
+fn overlap<R: Threads + Wait + Sync>(
+    rt: &R,
+    alloc: Global,
+    held: u16,
+    awaited: u16,
+    widths: &str,
+) -> Result<bool, Fail> {
+    let job = job_of(alloc, SWAP)?;
+    let gate = holding(held, awaited);
+    let ran = pooled(rt, alloc, &job, widths, 2, 999999, &gate, &AllStart)?;
+    let report = ran?;
+    Ok(matches!(report.status, JobStatus::Ended(2)) && has_held(&gate))
+}
+
 // Two workers hold one task each: either may wait for the other.
 #[test]
 fn two_workers_overlap(rt: HostRuntime) -> Result<(), Fail> {
-    let job = job_of(rt.alloc(), SWAP)?;
     for (held, awaited, widths) in [
         (0, 1, "flat"),
         (1, 0, "flat"),
@@ -64,12 +85,7 @@ fn two_workers_overlap(rt: HostRuntime) -> Result<(), Fail> {
         (0, 1, "2x3"),
         (1, 0, "2x3"),
     ] {
-        let gate = holding(held, awaited);
-        let ran = pooled(&rt, rt.alloc(), &job, widths, 2, 999999, &gate, &AllStart)?;
-        let report = ran?;
-        assert!(rt; matches!(report.status, JobStatus::Ended(2)));
-        assert!(rt; gate.left.load(Ordering::SeqCst));
-        assert!(rt; !gate.gave_up.load(Ordering::SeqCst));
+        assert!(rt; overlap(&rt, rt.alloc(), held, awaited, widths)?);
     }
     Ok(())
 }

@@ -1,11 +1,14 @@
-//! A job's worked row: one worker, step by step.
+//! Worked runs of a job by one worker, row by row.
 use crate::left::job_of;
 use crate::schedule::fixtures::answers_of;
 use job_schedule::step::{Answer, JobStep};
-use std::alloc::Global;
+use std::alloc::{AllocError, Global};
 use std::process::Abort;
 use std::test::Fail;
 use tier_core::call::Played;
+
+// A job of one task that does nothing.
+const NOTHING: &str = "bsp 1\nbody b\nend\nstart b 0\n";
 
 // An answer, without what it carries but for the tree's.
 #[derive(Clone, Copy, PartialEq, Eq)]
@@ -32,153 +35,101 @@ fn told(answer: &Answer) -> Seen {
     }
 }
 
-// Whether these answers tell this.
-fn are_told(answers: &[Answer], wants: &[Seen]) -> bool {
-    for (answer, want) in answers.iter().zip(wants) {
+// A step, and what its answer has to tell.
+type Row = (JobStep, Seen);
+
+// Whether these answers tell what the rows say.
+fn are_told(answers: &[Answer], rows: &[Row]) -> bool {
+    for (answer, (_, want)) in answers.iter().zip(rows) {
         if told(answer) != *want {
             return false;
         }
     }
-    answers.len() == wants.len()
+    answers.len() == rows.len()
 }
 
-// Whether these are the answers to these steps.
-fn answers_so(
-    alloc: Global,
-    text: &str,
-    widths: &str,
-    steps: &[JobStep],
-    wants: &[Seen],
-) -> Result<bool, Fail> {
+// The steps of these rows.
+fn steps_of(alloc: Global, rows: &[Row]) -> Result<Vec<JobStep>, AllocError> {
+    let mut steps = Vec::new(alloc);
+    for (step, _) in rows {
+        steps.push(*step)?;
+    }
+    Ok(steps)
+}
+
+// Whether a job's steps are answered as these rows say.
+fn answers_so(alloc: Global, text: &str, widths: &str, rows: &[Row]) -> Result<bool, Fail> {
+    let steps = steps_of(alloc, rows)?;
     let job = job_of(alloc, text)?;
-    let answers = answers_of(alloc, &job, widths, 10, steps)?;
-    Ok(are_told(&answers, wants))
+    let answers = answers_of(alloc, &job, widths, 10, &steps)?;
+    Ok(are_told(&answers, rows))
 }
 
 #[test]
 fn one_worker_does_a_job(rt: HostRuntime) -> Result<(), Fail> {
-    let alloc = rt.alloc();
-    let steps = [
-        JobStep::Take(0),
-        JobStep::Deliver(0),
-        JobStep::Tree(0),
-        JobStep::Tree(0),
-        JobStep::Tree(0),
-        JobStep::Advance(0),
-        JobStep::Close(0),
-        JobStep::Take(0),
+    let rows = [
+        (JobStep::Take(0), Seen::Took(1)),
+        (JobStep::Deliver(0), Seen::Delivered),
+        (JobStep::Tree(0), Seen::Stepped(Played::Done(0))),
+        (JobStep::Tree(0), Seen::Stepped(Played::GoesOn)),
+        (JobStep::Tree(0), Seen::Stepped(Played::MustAdvance(0, 0))),
+        (JobStep::Advance(0), Seen::Advanced(Played::Done(0))),
+        (JobStep::Close(0), Seen::Finished),
+        (JobStep::Take(0), Seen::NotNow),
     ];
-    let wants = [
-        Seen::Took(1),
-        Seen::Delivered,
-        Seen::Stepped(Played::Done(0)),
-        Seen::Stepped(Played::GoesOn),
-        Seen::Stepped(Played::MustAdvance(0, 0)),
-        Seen::Advanced(Played::Done(0)),
-        Seen::Finished,
-        Seen::NotNow,
-    ];
-    assert!(rt;
-        answers_so(
-            alloc,
-            "bsp 1\nbody b\nend\nstart b 0\n",
-            "flat",
-            &steps,
-            &wants
-        )?
-    );
+    assert!(rt; answers_so(rt.alloc(), NOTHING, "flat", &rows)?);
     Ok(())
 }
 
 #[test]
 fn a_step_that_is_not_next_changes_nothing(rt: HostRuntime) -> Result<(), Fail> {
-    let alloc = rt.alloc();
-    let steps = [
-        JobStep::Close(0),
-        JobStep::Deliver(0),
-        JobStep::Tree(0),
-        JobStep::Take(64),
-        JobStep::Take(63),
-        JobStep::Take(63),
-        JobStep::Take(0),
-        JobStep::Advance(63),
-        JobStep::Tree(63),
-        JobStep::Deliver(63),
-        JobStep::Deliver(63),
-        JobStep::Close(63),
-        JobStep::Tree(63),
+    let rows = [
+        (JobStep::Close(0), Seen::NotNow),
+        (JobStep::Deliver(0), Seen::NotNow),
+        (JobStep::Tree(0), Seen::NotNow),
+        (JobStep::Take(64), Seen::NotNow),
+        (JobStep::Take(63), Seen::Took(1)),
+        (JobStep::Take(63), Seen::NotNow),
+        (JobStep::Take(0), Seen::NotNow),
+        (JobStep::Advance(63), Seen::NotNow),
+        (JobStep::Tree(63), Seen::NotNow),
+        (JobStep::Deliver(63), Seen::Delivered),
+        (JobStep::Deliver(63), Seen::NotNow),
+        (JobStep::Close(63), Seen::NotNow),
+        (JobStep::Tree(63), Seen::Stepped(Played::Done(0))),
     ];
-    let wants = [
-        Seen::NotNow,
-        Seen::NotNow,
-        Seen::NotNow,
-        Seen::NotNow,
-        Seen::Took(1),
-        Seen::NotNow,
-        Seen::NotNow,
-        Seen::NotNow,
-        Seen::NotNow,
-        Seen::Delivered,
-        Seen::NotNow,
-        Seen::NotNow,
-        Seen::Stepped(Played::Done(0)),
-    ];
-    assert!(rt;
-        answers_so(
-            alloc,
-            "bsp 1\nbody b\nend\nstart b 0\n",
-            "flat",
-            &steps,
-            &wants
-        )?
-    );
+    assert!(rt; answers_so(rt.alloc(), NOTHING, "flat", &rows)?);
     Ok(())
 }
 
 #[test]
 fn a_fault_ends_the_tree_by_force(rt: HostRuntime) -> Result<(), Fail> {
-    let alloc = rt.alloc();
-    let steps = [
-        JobStep::Take(2),
-        JobStep::Deliver(2),
-        JobStep::Tree(2),
-        JobStep::Tree(2),
-        JobStep::Tree(2),
-        JobStep::Advance(2),
-        JobStep::Close(1),
-        JobStep::Close(2),
-        JobStep::Tree(1),
-        JobStep::Tree(2),
-        JobStep::Tree(2),
-    ];
-    let wants = [
-        Seen::Took(1),
-        Seen::Delivered,
-        Seen::Stepped(Played::Done(0)),
-        Seen::Stepped(Played::GoesOn),
-        Seen::Stepped(Played::MustAdvance(0, 0)),
-        Seen::Advanced(Played::Done(0)),
-        Seen::NotNow,
-        Seen::Finished,
-        Seen::NotNow,
-        Seen::Stepped(Played::Ended(-2147483647)),
-        Seen::NotNow,
+    let rows = [
+        (JobStep::Take(2), Seen::Took(1)),
+        (JobStep::Deliver(2), Seen::Delivered),
+        (JobStep::Tree(2), Seen::Stepped(Played::Done(0))),
+        (JobStep::Tree(2), Seen::Stepped(Played::GoesOn)),
+        (JobStep::Tree(2), Seen::Stepped(Played::MustAdvance(0, 0))),
+        (JobStep::Advance(2), Seen::Advanced(Played::Done(0))),
+        (JobStep::Close(1), Seen::NotNow),
+        (JobStep::Close(2), Seen::Finished),
+        (JobStep::Tree(1), Seen::NotNow),
+        (JobStep::Tree(2), Seen::Stepped(Played::Ended(-2147483647))),
+        (JobStep::Tree(2), Seen::NotNow),
     ];
     let text = "bsp 1\nbody b\nprint 1 / 0\nend\nstart b 0\n";
-    assert!(rt; answers_so(alloc, text, "flat", &steps, &wants)?);
+    assert!(rt; answers_so(rt.alloc(), text, "flat", &rows)?);
     Ok(())
 }
 
 #[test]
 fn a_job_without_tasks_is_closed_by_anybody(rt: HostRuntime) -> Result<(), Fail> {
-    let alloc = rt.alloc();
-    let steps = [
-        JobStep::Take(5),
-        JobStep::Close(64),
-        JobStep::Close(5),
-        JobStep::Close(5),
+    let rows = [
+        (JobStep::Take(5), Seen::NotNow),
+        (JobStep::Close(64), Seen::NotNow),
+        (JobStep::Close(5), Seen::Finished),
+        (JobStep::Close(5), Seen::NotNow),
     ];
-    let wants = [Seen::NotNow, Seen::NotNow, Seen::Finished, Seen::NotNow];
-    assert!(rt; answers_so(alloc, "bsp 1\nbody b\nend\n", "2x3", &steps, &wants)?);
+    assert!(rt; answers_so(rt.alloc(), "bsp 1\nbody b\nend\n", "2x3", &rows)?);
     Ok(())
 }

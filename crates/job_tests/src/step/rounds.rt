@@ -129,16 +129,21 @@ fn count_live(alloc: Global, round: &Round<'_>) -> Result<usize, AllocError> {
     Ok(live.len())
 }
 
+// Whether the order of its second task says what that is.
+fn second_says(alloc: Global, round: &Round<'_>) -> Result<bool, AllocError> {
+    match round.order(alloc, &[1])? {
+        None => Ok(false),
+        Some(order) => order_says(alloc, order),
+    }
+}
+
 // Whether a round of a job of two tasks says what it is.
 fn round_says(alloc: Global, job: &Job, other: &Job) -> Result<bool, AllocError> {
     let round = Round::new(alloc, job, 3)?;
     if !is_as_made(&round, job, other) || count_live(alloc, &round)? != 2 {
         return Ok(false);
     }
-    match round.order(alloc, &[1])? {
-        None => Ok(false),
-        Some(order) => order_says(alloc, order),
-    }
+    second_says(alloc, &round)
 }
 
 // The order of the first task of a job.
@@ -182,12 +187,16 @@ const ONE: &str = "bsp 1\nbody b\nspawn c 0\nsync\nend\nbody c\nend\nstart b 4\n
 
 const TWO: &str = "bsp 1\nbody b\nspawn c 0\nsync\nend\nbody c\nend\nstart b 4\nstart b 6\n";
 
-#[test]
-fn a_round_says_what_it_is(rt: HostRuntime) -> Result<(), Fail> {
-    let alloc = rt.alloc();
+// Whether a round of `TWO` says what it is, beside `ONE`.
+fn says_beside(alloc: Global) -> Result<bool, Fail> {
     let two = job_of(alloc, TWO)?;
     let one = job_of(alloc, ONE)?;
-    assert!(rt; round_says(alloc, &two, &one)?);
+    Ok(round_says(alloc, &two, &one)?)
+}
+
+#[test]
+fn a_round_says_what_it_is(rt: HostRuntime) -> Result<(), Fail> {
+    assert!(rt; says_beside(rt.alloc())?);
     Ok(())
 }
 
