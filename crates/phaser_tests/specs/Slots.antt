@@ -1,8 +1,6 @@
 -- Tokens, whatever they are in (own).
 use Rattle.std.specs.Prelude.{◌≡◌}
 use Rattle.tier_table.specs.Holding.{Named}
-use Rattle.tier_table.specs.declared.tokens.Token.{Token}
-use Rattle.tier_table.specs.Closes.{held}
 use Rattle.phaser_tests.specs.declared.calls.slots.Eight.{Eight}
 use Rattle.phaser_tests.specs.declared.calls.slots.Slot.{Slot}
 use Rattle.phaser_tests.specs.declared.calls.slots.Slot.TheVariants.{Outside, Inside, Owing, Opening}
@@ -21,8 +19,5 @@ ThreeOf tree slots = (tree_of slots.0 ≡ tree) × (tree_of slots.1 ≡ tree) ×
 abbrev pub FourOf : Named → Slot × Slot × Slot × Slot → Type 0
 FourOf tree slots = (tree_of slots.0 ≡ tree) × (tree_of slots.1 ≡ tree) × (tree_of slots.2 ≡ tree) × (tree_of slots.3 ≡ tree)
 
-abbrev pub AreOf : Named → Eight → Type 0
-AreOf tree slots = FourOf tree slots.front × FourOf tree slots.back
-
-abbrev pub AllOf : Named → Token × Token × Token × Token → Type 0
-AllOf tree tokens = ((held tokens.0).tree ≡ tree) × ((held tokens.1).tree ≡ tree) × ((held tokens.2).tree ≡ tree) × ((held tokens.3).tree ≡ tree)
+abbrev pub EightOf : Named → Eight → Type 0
+EightOf tree slots = FourOf tree slots.front × FourOf tree slots.back

@@ -13,4 +13,6 @@ mod shared;
 #[cfg(test)]
 mod table;
 #[cfg(test)]
+mod tokens;
+#[cfg(test)]
 mod trees;

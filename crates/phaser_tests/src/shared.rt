@@ -3,5 +3,3 @@
 mod deeds;
 #[cfg(test)]
 mod threads;
-#[cfg(test)]
-mod tokens;

@@ -67,7 +67,8 @@ fn finish(
     }
 }
 
-// An empty list for the next tasks, and room for so many beside it. Without memory nothing changes that means something.
+// A list for the next tasks, to be filled where nobody else has it, and room for so many beside it. Without memory nothing
+// changes that means something.
 fn list_for(
     alloc: Global,
     room: &mut Vec<Task>,

@@ -3,7 +3,8 @@
 ghost use Rattle.std.specs.Prelude.{◌≡◌, ◌≤◌};
 ghost use Rattle.advance_rule.specs.Stored.{Answers};
 ghost use Rattle.advance_rule.specs.Plan.{end_ends_at};
-ghost use Rattle.phaser_tests.specs.Slots.{tree_of, FourOf, AllOf, AreOf};
+ghost use Rattle.phaser_tests.specs.Slots.{tree_of, FourOf, EightOf};
+ghost use Rattle.phaser_tests.specs.Tokens.{AreOf};
 ghost use Rattle.tier_table.specs.Closes.{held};
 
 use crate::calls::call::at_rest;
@@ -11,7 +12,8 @@ use crate::calls::slots::{Eight, Four, Slot};
 use crate::lists::act::act;
 use crate::lists::mirror::{Mirror, words_of};
 use crate::lists::numbers::Numbers;
-use crate::trees::{WHEN_EMPTY, left, planted};
+use crate::tokens::{Two, four_doors, left_by_eight};
+use crate::trees::{WHEN_EMPTY, planted};
 use advance_rule::StoredAdvance;
 use phaser_word::Word;
 use std::alloc::{AllocError, Global};
@@ -21,9 +23,6 @@ use tier_core::tree::Core;
 use tier_shape::Shape;
 use tier_table::tokens::{Door, Token};
 use tier_table::tree::Tree;
-
-// Four tokens that are in no call.
-type Settled = (Token, Token, Token, Token);
 
 // Goes on with what a token owes, to its end.
 fn settled<F: Fn(u32, u32) -> bool>(
@@ -101,9 +100,9 @@ fn act_one<F: Fn(u32, u32) -> bool>(
     numbers: &mut Numbers,
     late: bool,
 ) -> Eight
-    requires own { AreOf tree.now.tree slots }
+    requires own { EightOf tree.now.tree slots }
     requires rule { Answers (F.pre tree.now.rule.closure) (F.post tree.now.rule.closure) (end_ends_at tree.now.rule.plan) }
-    ensures { AreOf tree.now.tree result }
+    ensures { EightOf tree.now.tree result }
 {
     let Eight { front, back } = slots;
     if token < 4 {
@@ -114,16 +113,23 @@ fn act_one<F: Fn(u32, u32) -> bool>(
     Eight { front, back }
 }
 
-// A token without members, and three split off it.
-fn four_doors<F: Fn(u32, u32) -> bool>(tree: &Tree<F>, door: Door) -> Four
+// A token as the calls of a list take it.
+fn slot_of(token: Token) -> Slot
+    ensures { tree_of result ≡ (held token).tree }
+{
+    match token {
+        Token::Door(door) => Slot::Outside(door),
+        Token::Crew(crew) => Slot::Inside(crew),
+    }
+}
+
+// Four tokens split off one, as the calls of a list take them.
+fn four_slots<F: Fn(u32, u32) -> bool>(tree: &Tree<F>, door: Door) -> Four
     requires own { door.tree ≡ tree.now.tree }
     ensures { FourOf tree.now.tree result }
 {
-    let mut zero = door;
-    let one = Slot::Outside(tree.split(&mut zero));
-    let two = Slot::Outside(tree.split(&mut zero));
-    let three = Slot::Outside(tree.split(&mut zero));
-    (Slot::Outside(zero), one, two, three)
+    let ((zero, one), (two, three)) = four_doors(tree, door);
+    (slot_of(zero), slot_of(one), slot_of(two), slot_of(three))
 }
 
 // Eight tokens after 300 calls in some order.
@@ -134,9 +140,9 @@ fn played<F: Fn(u32, u32) -> bool>(
     slots: Eight,
     numbers: &mut Numbers,
 ) -> Eight
-    requires own { AreOf tree.now.tree slots }
+    requires own { EightOf tree.now.tree slots }
     requires rule { Answers (F.pre tree.now.rule.closure) (F.post tree.now.rule.closure) (end_ends_at tree.now.rule.plan) }
-    ensures { AreOf tree.now.tree result }
+    ensures { EightOf tree.now.tree result }
 {
     let mut slots = slots;
     for turn in 0..300 {
@@ -154,18 +160,18 @@ fn settled_four<F: Fn(u32, u32) -> bool>(
     first: usize,
     slots: Four,
     numbers: &mut Numbers,
-) -> Settled
+) -> (Two, Two)
     requires own { FourOf tree.now.tree slots }
     requires first { first ≤ 4 }
     requires rule { Answers (F.pre tree.now.rule.closure) (F.post tree.now.rule.closure) (end_ends_at tree.now.rule.plan) }
-    ensures { AllOf tree.now.tree result }
+    ensures { AreOf tree.now.tree result.0 × AreOf tree.now.tree result.1 }
 {
     let (zero, one, two, three) = slots;
     let zero = settled(rt, tree, mirror, first, zero, numbers);
     let one = settled(rt, tree, mirror, first + 1, one, numbers);
     let two = settled(rt, tree, mirror, first + 2, two, numbers);
     let three = settled(rt, tree, mirror, first + 3, three, numbers);
-    (zero, one, two, three)
+    ((zero, one), (two, three))
 }
 
 // Eight tokens split off one, after a list of calls.
@@ -175,37 +181,20 @@ fn listed<F: Fn(u32, u32) -> bool>(
     mirror: &mut Mirror,
     door: Door,
     seed: u32,
-) -> (Settled, Settled)
+) -> ((Two, Two), (Two, Two))
     requires own { door.tree ≡ tree.now.tree }
     requires rule { Answers (F.pre tree.now.rule.closure) (F.post tree.now.rule.closure) (end_ends_at tree.now.rule.plan) }
-    ensures { AllOf tree.now.tree result.0 × AllOf tree.now.tree result.1 }
+    ensures front { AreOf tree.now.tree result.0.0 × AreOf tree.now.tree result.0.1 }
+    ensures back { AreOf tree.now.tree result.1.0 × AreOf tree.now.tree result.1.1 }
 {
     let mut numbers = Numbers { seed };
     let mut door = door;
-    let back = four_doors(tree, tree.split(&mut door));
-    let front = four_doors(tree, door);
+    let back = four_slots(tree, tree.split(&mut door));
+    let front = four_slots(tree, door);
     let slots = Eight { front, back };
     let Eight { front, back } = played(rt, tree, mirror, slots, &mut numbers);
     let front = settled_four(rt, tree, mirror, 0, front, &mut numbers);
     (front, settled_four(rt, tree, mirror, 4, back, &mut numbers))
-}
-
-// The words that a tree leaves that is closed with these tokens.
-fn words_left<F: Fn(u32, u32) -> bool + Drop>(
-    rt: &impl Abort,
-    alloc: Global,
-    tree: Tree<F>,
-    front: Settled,
-    back: Settled,
-) -> Vec<Word>
-    requires own { AllOf tree.tree front × AllOf tree.tree back }
-{
-    let (zero, one, two, three) = front;
-    let (four, five, six, seven) = back;
-    let Ok(tokens) = vec![in alloc; zero, one, two, three, four, five, six, seven] else {
-        panic!(rt; "no memory");
-    };
-    left(rt, alloc, tree, tokens).words
 }
 
 // The words that a list of calls leaves on a tree of these widths are the machine's.
@@ -214,7 +203,7 @@ fn list(rt: &impl Abort, alloc: Global, widths: &str, seed: u32) -> Result<(), A
     let mut mirror = mirror_of(rt, alloc, widths)?;
     let (tree, door) = planted(rt, alloc, widths, 0, rule);
     let (front, back) = listed(rt, &tree, &mut mirror, door, seed);
-    let words = words_left(rt, alloc, tree, front, back);
+    let words = left_by_eight(rt, alloc, tree, front, back).words;
     assert!(rt; are_words(&words, &words_of(&mirror.core)));
     Ok(())
 }

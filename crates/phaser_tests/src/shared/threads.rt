@@ -1,7 +1,7 @@
 //! Threads that share a tree.
 
 use crate::shared::deeds::{Deed, eight, four};
-use crate::shared::tokens::{four_doors, left_by_eight, left_by_four};
+use crate::tokens::{four_doors, left_by_eight, left_by_four};
 use crate::trees::{WHEN_EMPTY, planted};
 use advance_rule::StoredAdvance;
 use phaser_word::Word;

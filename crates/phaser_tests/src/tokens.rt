@@ -1,4 +1,4 @@
-//! The tokens of threads that share a tree: how they begin, and what they leave.
+//! Four and eight tokens of a tree: how they begin, and what a tree leaves that is closed with them.
 
 ghost use Rattle.phaser_tests.specs.Tokens.{AreOf};
 ghost use Rattle.std.specs.Prelude.{◌≡◌};
