@@ -100,12 +100,17 @@ impl<'j, J: Running> Board<'j, J> {
     pub(crate) fn take(&mut self) -> Result<Option<Taken<'j, J>>, Note>
         ensures { self.new ≡ self.old }
     {
-        let Some(mut seat) = self.ready.pop_front() else {
+        let Some(first) = self.ready.front() else {
             return Ok(None);
         };
-        let order = self.order(seat.place, seat.path.as_slice())?;
-        seat.place = order.place();
-        Ok(Some(Taken::new(seat, order)))
+        let order = self.order(first.place, first.path.as_slice())?;
+        match self.ready.pop_front() {
+            Some(mut seat) => {
+                seat.place = order.place();
+                Ok(Some(Taken::new(seat, order)))
+            }
+            None => Ok(None),
+        }
     }
 
     // What the segment of the task of this path needs. Where no task came or left before it, it is at this place.

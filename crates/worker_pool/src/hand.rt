@@ -145,12 +145,27 @@ impl<'j, J: Running> Hand<'j, J> {
         taken: Taken<'j, J>,
     ) -> Result<(), Note> {
         let Taken { seat, order } = taken;
-        let step = order.step();
-        let delivery = passed_by(rt, alloc, gate, &seat.path, order)?;
-        let spawned = delivery.spawns(alloc)?;
-        self.step = step;
-        self.keep(seat, delivery, spawned)
+        self.step = order.step();
+        match made_by(rt, alloc, gate, &seat.path, order) {
+            Ok((delivery, spawned)) => self.keep(seat, delivery, spawned),
+            Err(_) => Err(Note::Memory),
+        }
     }
+}
+
+// Runs the segment of a task between the two calls of a gate. What it did, and the paths of the tasks that it spawned.
+fn made_by<'j, R: Wait, G: Gate>(
+    rt: &R,
+    alloc: Global,
+    gate: &G,
+    path: &Path,
+    order: Order<'j>,
+) -> Result<(Delivery<'j>, Vec<Path>), AllocError>
+    ensures { IfOk result (λ made. made.0.job ≡ order.entry.job) }
+{
+    let delivery = passed_by(rt, alloc, gate, path, order)?;
+    let spawned = delivery.spawns(alloc)?;
+    Ok((delivery, spawned))
 }
 
 // Runs the segment of a task between the two calls of a gate.

@@ -19,12 +19,13 @@ use crate::tree::Meeting;
 use advance_rule::{EndPlan, StoredAction, StoredAdvance};
 use cyclic_gate::{BarrierFault, CyclicGate};
 use phase_records::Report;
-use std::alloc::Global;
+use std::alloc::{AllocError, Global};
 use std::collections::VecDeque;
 use std::marker::Brand;
 use std::sync::{Condvar, Mutex, Wait};
 use std::thread::Threads;
 use step_core::Round;
+use superstep_memory::path::Path;
 use task_lang::job::Job;
 use tier_shape::Shape;
 use tier_table::tokens::Door;
@@ -35,6 +36,22 @@ fn meet(_generation: u64) -> bool
     ensures { result ≡ false }
 {
     false
+}
+
+// Registers a start task.
+fn seat_one<J: Running, R: Wait, F: Fn(u32, u32) -> bool>(
+    rt: &R,
+    meeting: &Meeting<J, F>,
+    key: &mut Key<J>,
+    path: Path,
+    number: usize,
+    seats: &mut Vec<Seat<J>>,
+) -> Result<(), Note> {
+    let seat = meeting.register_start(rt, key, path, number)?;
+    match seats.push(seat) {
+        Ok(()) => Ok(()),
+        Err(_) => Err(Note::Memory),
+    }
 }
 
 // Registers the start tasks, one leaf after another, before any worker is started.
@@ -48,12 +65,29 @@ fn seat_all<J: Running, R: Wait, F: Fn(u32, u32) -> bool>(
     let paths = round.live(alloc)?;
     let mut seats = Vec::with_capacity(alloc, paths.len())?;
     for (number, path) in paths.into_iter().enumerate() {
-        let seat = meeting.register_start(rt, key, path, number)?;
-        if seats.push(seat).is_err() {
-            return Err(Note::Memory);
-        }
+        seat_one(rt, meeting, key, path, number, &mut seats)?;
     }
     Ok(VecDeque::from_vec(seats))
+}
+
+// What the workers of this round share, with its tasks seated at this tree.
+fn shop_of<'j, J: Running, R: Wait, F: Fn(u32, u32) -> bool>(
+    rt: &R,
+    alloc: Global,
+    round: Round<'j>,
+    meeting: Meeting<J, F>,
+    key: &mut Key<J>,
+) -> Result<Shop<'j, J, F>, Note>
+    requires job { round.job ≡ J.job }
+    requires limit { round.limit ≡ J.limit }
+    ensures { IfOk result (λ shop. shop.meeting ≡ meeting) }
+{
+    let seats = seat_all(rt, alloc, &meeting, key, &round)?;
+    Ok(Shop {
+        board: Mutex::new(Board::new(alloc, round, seats)),
+        changed: Condvar::new(),
+        meeting,
+    })
 }
 
 // Seats the tasks of this round, lets the workers work, who meet at the gate of the start first, and concludes when all
@@ -86,18 +120,25 @@ fn run_at<
     ensures started { IfErr result (IsOfWorkers workers) }
 {
     let mut key = Key::new(door);
-    let seats = match seat_all(rt, alloc, &meeting, &mut key, &round) {
-        Ok(seats) => seats,
-        Err(note) => return Err(note.refusal()),
-    };
-    let board: Board<'j, J> = Board::new(alloc, round, seats);
-    let shop = Shop {
-        board: Mutex::new(board),
-        changed: Condvar::new(),
-        meeting,
-    };
-    start_all(rt, alloc, &shop, &mut key, gate, start, starter, workers)?;
-    shop.conclude(alloc)
+    match shop_of(rt, alloc, round, meeting, &mut key) {
+        Ok(shop) => {
+            start_all(rt, alloc, &shop, &mut key, gate, start, starter, workers)?;
+            shop.conclude(alloc)
+        }
+        Err(note) => Err(note.refusal()),
+    }
+}
+
+// A tree with its leaves, as workers meet at it.
+fn meeting_of<J: Running, F: Fn(u32, u32) -> bool>(
+    alloc: Global,
+    tree: Tree<F>,
+) -> Result<Meeting<J, F>, AllocError>
+    requires { tree.tree ≡ J.tree }
+    ensures { IfOk result (λ meeting. meeting.tree ≡ tree) }
+{
+    let leaves = Leaves::of(alloc, tree.shape())?;
+    Ok(Meeting::new(tree, leaves))
 }
 
 // Runs the job of this round at this tree.
@@ -125,19 +166,17 @@ fn run_shared<
     ensures report { IfOk result (λ report. report_of (program_of J.job) J.limit ≡ Some report) }
     ensures started { IfErr result (IsOfWorkers workers) }
 {
-    let action = StoredAction::new(meet, None);
-    let start = match CyclicGate::new(alloc, i64::from(workers), action) {
-        Ok(start) => start,
-        Err(BarrierFault::Memory) => return Err(Refused::Memory),
-        Err(_) => return Err(Refused::Internal),
-    };
-    let Ok(leaves) = Leaves::of(alloc, tree.shape()) else {
+    let Ok(meeting) = meeting_of::<J, F>(alloc, tree) else {
         return Err(Refused::Memory);
     };
-    let meeting: Meeting<J, F> = Meeting::new(tree, leaves);
-    run_at(
-        rt, alloc, round, meeting, door, &start, workers, gate, starter,
-    )
+    let action = StoredAction::new(meet, None);
+    match CyclicGate::new(alloc, i64::from(workers), action) {
+        Ok(start) => run_at(
+            rt, alloc, round, meeting, door, &start, workers, gate, starter,
+        ),
+        Err(BarrierFault::Memory) => Err(Refused::Memory),
+        Err(_) => Err(Refused::Internal),
+    }
 }
 
 /// Runs a job on so many worker threads, which meet at a tree of this shape, superstep by superstep: what it answers is

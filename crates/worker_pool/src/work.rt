@@ -21,20 +21,32 @@ pub(crate) fn work<'j, J: Running, R: Wait, F: Fn(u32, u32) -> bool, G: Gate>(
 )
     requires rule { Answers (F.pre shop.now.meeting.tree.rule.closure) (F.post shop.now.meeting.tree.rule.closure) (end_ends_at shop.now.meeting.tree.rule.plan) }
 {
-    let Ok(mut hand) = Hand::new(alloc) else {
-        shop.give_up(rt, key, Note::Memory);
-        return;
+    let done = match Hand::new(alloc) {
+        Ok(mut hand) => go_on(rt, alloc, shop, gate, key, &mut hand),
+        Err(_) => Err(Note::Memory),
     };
+    if let Err(note) = done {
+        shop.give_up(rt, key, note);
+    }
+}
+
+// Does tasks until the workers go home, or it can't go on.
+fn go_on<'j, J: Running, R: Wait, F: Fn(u32, u32) -> bool, G: Gate>(
+    rt: &R,
+    alloc: Global,
+    shop: &Shop<'j, J, F>,
+    gate: &G,
+    key: &mut Key<J>,
+    hand: &mut Hand<'j, J>,
+) -> Result<(), Note>
+    requires rule { Answers (F.pre shop.now.meeting.tree.rule.closure) (F.post shop.now.meeting.tree.rule.closure) (end_ends_at shop.now.meeting.tree.rule.plan) }
+{
     for _ in rt.forever() {
-        match do_next(rt, alloc, shop, gate, key, &mut hand) {
-            Ok(true) => {}
-            Ok(false) => return,
-            Err(note) => {
-                shop.give_up(rt, key, note);
-                return;
-            }
+        if !do_next(rt, alloc, shop, gate, key, hand)? {
+            return Ok(());
         }
     }
+    Ok(())
 }
 
 // Runs the segment of the next task, or passes the hand on. False where workers go home.
