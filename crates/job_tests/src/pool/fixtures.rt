@@ -1,6 +1,7 @@
 //! Jobs run on worker threads.
 ghost use Rattle.std.specs.Prelude.{◌≤◌};
 
+use crate::left::job_of;
 use advance_rule::{EndPlan, StoredAdvance};
 use phase_records::Report;
 use std::alloc::Global;
@@ -39,8 +40,8 @@ end
 start p 0
 ";
 
-/// What workers leave of a job, whose tree ends in this phase at the latest.
-pub(crate) fn pooled<R: Threads + Wait + Sync, G: Gate + Sync, S: Starter>(
+// What workers leave of a job, whose tree ends in this phase at the latest.
+fn pooled<R: Threads + Wait + Sync, G: Gate + Sync, S: Starter>(
     rt: &R,
     alloc: Global,
     job: &Job,
@@ -60,4 +61,22 @@ pub(crate) fn pooled<R: Threads + Wait + Sync, G: Gate + Sync, S: Starter>(
     };
     let advance = StoredAdvance::new(|phase: u32, count: u32| count == 0 || phase == last, plan);
     Ok(run_job(rt, alloc, job, shape, workers, advance, gate, starter))
+}
+
+/// What workers leave of the job of a text, whose tree ends in this phase at the latest.
+pub(crate) fn left_by<R: Threads + Wait + Sync, G: Gate + Sync, S: Starter>(
+    rt: &R,
+    alloc: Global,
+    text: &str,
+    widths: &str,
+    workers: u32,
+    last: u32,
+    gate: &G,
+    starter: &S,
+) -> Result<Result<Report, Refused>, Fail>
+    requires workers { (1 ≤ workers) × (workers ≤ 64) }
+    requires last { last ≤ 2147483647 }
+{
+    let job = job_of(alloc, text)?;
+    pooled(rt, alloc, &job, widths, workers, last, gate, starter)
 }

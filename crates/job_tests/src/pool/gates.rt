@@ -1,6 +1,5 @@
 //! Segments that overlap: a gate holds one task until another has left.
-use crate::left::job_of;
-use crate::pool::fixtures::{SWAP, pooled};
+use crate::pool::fixtures::{SWAP, left_by};
 use phase_records::JobStatus;
 use std::alloc::Global;
 use std::sync::Wait;
@@ -67,11 +66,9 @@ fn overlap<R: Threads + Wait + Sync>(
     awaited: u16,
     widths: &str,
 ) -> Result<bool, Fail> {
-    let job = job_of(alloc, SWAP)?;
     let gate = holding(held, awaited);
-    let ran = pooled(rt, alloc, &job, widths, 2, 999999, &gate, &AllStart)?;
-    let report = ran?;
-    Ok(matches!(report.status, JobStatus::Ended(2)) && has_held(&gate))
+    let ran = left_by(rt, alloc, SWAP, widths, 2, 999999, &gate, &AllStart)?;
+    Ok(matches!(ran?.status, JobStatus::Ended(2)) && has_held(&gate))
 }
 
 // Two workers hold one task each: either may wait for the other.

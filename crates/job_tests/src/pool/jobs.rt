@@ -1,8 +1,8 @@
 //! What workers leave of jobs is what one thread leaves.
 ghost use Rattle.std.specs.Prelude.{◌≤◌};
 
-use crate::left::{job_of, left_within, report_text};
-use crate::pool::fixtures::{SPAWNS, SWAP, pooled};
+use crate::left::{left_within, report_text};
+use crate::pool::fixtures::{SPAWNS, SWAP, left_by};
 use std::alloc::Global;
 use std::sync::Wait;
 use std::test::Fail;
@@ -78,7 +78,32 @@ start p 1
 start p 2
 ";
 
-// Whether so many workers on a tree of these widths leave what one thread leaves.
+// The text of what so many workers on a tree of these widths leave.
+fn shared_text<R: Threads + Wait + Sync>(
+    rt: &R,
+    alloc: Global,
+    text: &str,
+    widths: &str,
+    workers: u32,
+    limit: u32,
+) -> Result<Vec<u8>, Fail>
+    requires workers { (1 ≤ workers) × (workers ≤ 64) }
+    requires limit { (1 ≤ limit) × (limit ≤ 1000000) }
+{
+    let ran = left_by(
+        rt,
+        alloc,
+        text,
+        widths,
+        workers,
+        limit - 1,
+        &OpenGate,
+        &AllStart,
+    )?;
+    report_text(alloc, &ran?)
+}
+
+// Whether that is what one thread leaves.
 fn leave_the_same<R: Threads + Wait + Sync>(
     rt: &R,
     alloc: Global,
@@ -91,23 +116,28 @@ fn leave_the_same<R: Threads + Wait + Sync>(
     requires limit { (1 ≤ limit) × (limit ≤ 1000000) }
 {
     let want = left_within(alloc, text, limit)?;
-    let job = job_of(alloc, text)?;
-    let ran = pooled(
-        rt,
-        alloc,
-        &job,
-        widths,
-        workers,
-        limit - 1,
-        &OpenGate,
-        &AllStart,
-    )?;
-    let report = ran?;
-    let left = report_text(alloc, &report)?;
+    let left = shared_text(rt, alloc, text, widths, workers, limit)?;
     Ok(left.as_slice() == want.as_slice())
 }
 
-// Whether one, two and eight workers do, each on two trees.
+// Whether one, two and eight workers on a tree of these widths do.
+fn few_and_many<R: Threads + Wait + Sync>(
+    rt: &R,
+    alloc: Global,
+    text: &str,
+    widths: &str,
+    limit: u32,
+) -> Result<bool, Fail>
+    requires { (1 ≤ limit) × (limit ≤ 1000000) }
+{
+    Ok(
+        leave_the_same(rt, alloc, text, widths, 1, limit)?
+            && leave_the_same(rt, alloc, text, widths, 2, limit)?
+            && leave_the_same(rt, alloc, text, widths, 8, limit)?,
+    )
+}
+
+// Whether they do on one tier and on three levels.
 fn all_leave_the_same<R: Threads + Wait + Sync>(
     rt: &R,
     alloc: Global,
@@ -117,12 +147,8 @@ fn all_leave_the_same<R: Threads + Wait + Sync>(
     requires { (1 ≤ limit) × (limit ≤ 1000000) }
 {
     Ok(
-        leave_the_same(rt, alloc, text, "flat", 1, limit)?
-            && leave_the_same(rt, alloc, text, "flat", 2, limit)?
-            && leave_the_same(rt, alloc, text, "flat", 8, limit)?
-            && leave_the_same(rt, alloc, text, "2x3", 1, limit)?
-            && leave_the_same(rt, alloc, text, "2x3", 2, limit)?
-            && leave_the_same(rt, alloc, text, "2x3", 8, limit)?,
+        few_and_many(rt, alloc, text, "flat", limit)?
+            && few_and_many(rt, alloc, text, "2x3", limit)?,
     )
 }
 
