@@ -90,10 +90,15 @@ fn recorded_by_each<R: Threads + Wait + Sync>(
     ])
 }
 
+// How many of a small job each records.
+fn recorded_of_few<R: Threads + Wait + Sync>(rt: &R, alloc: Global) -> Result<[usize; 4]> {
+    let job = turning_job(alloc, 64, 10)?;
+    recorded_by_each(rt, alloc, &job)
+}
+
 // Runs a small job by each.
 fn run_small<R: Print + Threads + Wait + Sync>(rt: &R, alloc: Global) -> Result<()> {
-    let job = turning_job(alloc, 64, 10)?;
-    let [alone, one, two, four] = recorded_by_each(rt, alloc, &job)?;
+    let [alone, one, two, four] = recorded_of_few(rt, alloc)?;
     println!(rt; "{alone} supersteps on one thread; with 1, 2 and 4 workers {one} {two} {four}")?;
     Ok(())
 }
@@ -135,6 +140,20 @@ fn asked(workers: &str, tasks: &str, turns: &str, steps: &str) -> Result<Setting
     })
 }
 
+// Runs such a job. How many supersteps were recorded, and how many microseconds that took.
+fn timed_as<R: Clock + Threads + Wait + Sync>(
+    rt: &R,
+    alloc: Global,
+    widths: &str,
+    asked: Setting,
+) -> Result<(usize, u128)>
+    requires workers { asked.workers ≤ 64 }
+    requires steps { (1 ≤ asked.steps) × (asked.steps ≤ 1000000) }
+{
+    let job = turning_job(alloc, asked.tasks, asked.turns)?;
+    timed(rt, alloc, &job, widths, asked.workers, asked.steps - 1)
+}
+
 /// Runs a job as the words ask.
 pub(crate) fn run<R: Clock + Print + Threads + Wait + Sync>(
     rt: &R,
@@ -154,15 +173,7 @@ pub(crate) fn run<R: Clock + Print + Threads + Wait + Sync>(
         println!(rt; "at most 64 workers, and 1 to 1000000 supersteps")?;
         return Ok(());
     }
-    let turning = turning_job(alloc, job.tasks, job.turns)?;
-    let (records, micros) = timed(
-        rt,
-        alloc,
-        &turning,
-        widths.as_str(),
-        job.workers,
-        job.steps - 1,
-    )?;
+    let (records, micros) = timed_as(rt, alloc, widths.as_str(), job)?;
     println!(rt;
         "{records} supersteps, each {} us",
         micros / u128::from(job.steps)
