@@ -22,35 +22,42 @@ const SHARED: [&str; 6] = ["bsp", "run", "--workers", "3", "--tree", "2x2"];
 
 const JOBS: [&str; 5] = ["breadth", "halves", "prefix", "sort", "swap"];
 
-// What the program prints of a text, on its output and behind that on its errors.
+// What the program left of a text.
 #[derive(Drop)]
-struct Outcome {
+struct Ran {
     status: u8,
     output: Vec<u8>,
+    errors: Vec<u8>,
+}
+
+impl Ran {
+    // Whether this was printed, on the output and behind that on the errors.
+    fn printed(&self, want: &str) -> bool {
+        let (output, errors) = (self.output.as_slice(), self.errors.as_slice());
+        match want.as_bytes().split_at_checked(output.len()) {
+            Some((front, rest)) => front == output && rest == errors,
+            None => false,
+        }
+    }
 }
 
 // Runs the program on a text.
-fn printed<R: Threads + Wait + Sync>(
-    rt: &R,
-    alloc: Global,
-    words: &[&str],
-    text: &[u8],
-) -> Result<Outcome, AllocError> {
+fn run_on<R: Threads + Wait + Sync>(rt: &R, alloc: Global, words: &[&str], text: &[u8]) -> Ran {
     let mut output = Vec::new(alloc);
     let mut errors = Vec::new(alloc);
-    let mut reader = Reader::new(text);
-    let mut writer = Writer::new(&mut output);
-    let mut error_writer = Writer::new(&mut errors);
     let status = run(
         rt,
         alloc,
         words,
-        &mut reader,
-        &mut writer,
-        &mut error_writer,
+        &mut Reader::new(text),
+        &mut Writer::new(&mut output),
+        &mut Writer::new(&mut errors),
     );
-    output.extend_from_slice(errors.as_slice())?;
-    Ok(Outcome { status, output })
+    Ran {
+        status,
+        output,
+        errors,
+    }
 }
 
 // Whether a text, run by these words, ends well and prints what is wanted.
@@ -60,21 +67,30 @@ fn prints<R: Threads + Wait + Sync>(
     words: &[&str],
     text: &str,
     want: &str,
-) -> Result<bool, AllocError> {
-    let got = printed(rt, alloc, words, text.as_bytes())?;
-    Ok(got.status == 0 && got.output.as_slice() == want.as_bytes())
+) -> bool {
+    let left = run_on(rt, alloc, words, text.as_bytes());
+    left.status == 0 && left.printed(want)
 }
 
 // Whether a job's text is taken, and what is printed of it is printed of that again.
-fn is_taken<R: Threads + Wait + Sync>(
+fn is_taken<R: Threads + Wait + Sync>(rt: &R, alloc: Global, text: &str) -> bool {
+    let words = ["bsp", "check"];
+    let once = run_on(rt, alloc, &words, text.as_bytes());
+    match str::from_utf8(once.output.as_slice()) {
+        Ok(canonical) => once.status == 0 && prints(rt, alloc, &words, canonical, canonical),
+        Err(_) => false,
+    }
+}
+
+// What the program leaves of a row's text.
+fn run_row<R: Threads + Wait + Sync>(
     rt: &R,
     alloc: Global,
-    text: &str,
-) -> Result<bool, AllocError> {
-    let words = ["bsp", "check"];
-    let once = printed(rt, alloc, &words, text.as_bytes())?;
-    let twice = printed(rt, alloc, &words, once.output.as_slice())?;
-    Ok(once.status == 0 && twice.status == 0 && once.output.as_slice() == twice.output.as_slice())
+    row: &Row<'_>,
+) -> Result<Ran, AllocError> {
+    let text = row.whole_text(alloc)?;
+    let words = row.command_line(alloc)?;
+    Ok(run_on(rt, alloc, words.as_slice(), text.as_bytes()))
 }
 
 // Whether a row's text gives the row's status and output.
@@ -83,11 +99,9 @@ fn holds<R: Threads + Wait + Sync>(
     alloc: Global,
     row: &Row<'_>,
 ) -> Result<bool, AllocError> {
-    let text = row.whole_text(alloc)?;
+    let left = run_row(rt, alloc, row)?;
     let want = row.whole_output(alloc)?;
-    let words = row.command_line(alloc)?;
-    let got = printed(rt, alloc, words.as_slice(), text.as_bytes())?;
-    Ok(got.status == row.status && got.output.as_slice() == want.as_bytes())
+    Ok(left.status == row.status && left.printed(want.as_str()))
 }
 
 // What is said of an example.
@@ -99,47 +113,77 @@ fn verdict(as_stored: bool) -> &'static str {
     }
 }
 
+// The text of a stored file.
+fn stored<R: AllocGlobal + Files>(rt: &R, name: &str, kind: &str) -> Result<String, Error> {
+    let file = format!(in rt.alloc(); "{name}.{kind}")?;
+    Ok(fs::read_to_string(rt, file)?)
+}
+
+// Whether a trace prints what is stored.
+fn is_trace<R: AllocGlobal + Files + Threads + Wait + Sync>(
+    rt: &R,
+    name: &str,
+) -> Result<bool, Error> {
+    let text = stored(rt, name, "trace")?;
+    let want = stored(rt, name, "out")?;
+    Ok(prints(
+        rt,
+        rt.alloc(),
+        &["bsp", "trace"],
+        text.as_str(),
+        want.as_str(),
+    ))
+}
+
 // Runs the traces.
 fn run_traces<R: AllocGlobal + Files + Print + Threads + Wait + Sync>(rt: &R) -> Result<(), Error> {
     for name in TRACES {
-        let text = fs::read_to_string(rt, format!(in rt.alloc(); "{name}.trace")?)?;
-        let want = fs::read_to_string(rt, format!(in rt.alloc(); "{name}.out")?)?;
-        let words = ["bsp", "trace"];
-        let said = verdict(prints(rt, rt.alloc(), &words, text.as_str(), want.as_str())?);
+        let said = verdict(is_trace(rt, name)?);
         println!(rt; "{name}.trace {said}")?;
     }
     Ok(())
 }
 
-// Runs the jobs, on one worker and on three, and checks their texts.
+// Whether a job prints what is stored, on one worker and on three, and its text is taken.
+fn is_job<R: AllocGlobal + Files + Threads + Wait + Sync>(
+    rt: &R,
+    name: &str,
+) -> Result<bool, Error> {
+    let alloc = rt.alloc();
+    let text = stored(rt, name, "job")?;
+    let want = stored(rt, name, "out")?;
+    Ok(is_taken(rt, alloc, text.as_str())
+        && prints(rt, alloc, &ALONE, text.as_str(), want.as_str())
+        && prints(rt, alloc, &SHARED, text.as_str(), want.as_str()))
+}
+
+// Runs the jobs.
 fn run_jobs<R: AllocGlobal + Files + Print + Threads + Wait + Sync>(rt: &R) -> Result<(), Error> {
     for name in JOBS {
-        let text = fs::read_to_string(rt, format!(in rt.alloc(); "{name}.job")?)?;
-        let want = fs::read_to_string(rt, format!(in rt.alloc(); "{name}.out")?)?;
-        let taken = is_taken(rt, rt.alloc(), text.as_str())?;
-        let runs = prints(rt, rt.alloc(), &ALONE, text.as_str(), want.as_str())?;
-        let shares = prints(rt, rt.alloc(), &SHARED, text.as_str(), want.as_str())?;
-        let said = verdict(taken && runs && shares);
+        let said = verdict(is_job(rt, name)?);
         println!(rt; "{name}.job {said}")?;
     }
     Ok(())
 }
 
+// Whether a line is a row that holds.
+fn is_row<R: Threads + Wait + Sync>(rt: &R, alloc: Global, line: &str) -> Result<bool, AllocError> {
+    match row_of(line) {
+        Some(row) => holds(rt, alloc, &row),
+        None => Ok(false),
+    }
+}
+
 // Runs the rows, and says which print something else and how many don't.
-fn run_rows<R: AllocGlobal + Files + Print + Threads + Wait + Sync>(rt: &R) -> Result<(), Error> {
-    let rows = fs::read_to_string(rt, "rows.txt")?;
+fn run_all<R: AllocGlobal + Print + Threads + Wait + Sync>(rt: &R, rows: &str) -> Result<(), Error> {
     let mut number = 0u64;
     let mut held = 0u64;
-    for line in rows.as_str().lines() {
+    for line in rows.lines() {
         if line.is_empty() || line.starts_with("--") {
             continue;
         }
         number = number.saturating_add(1);
-        let as_stored = match row_of(line) {
-            Some(row) => holds(rt, rt.alloc(), &row)?,
-            None => false,
-        };
-        if as_stored {
+        if is_row(rt, rt.alloc(), line)? {
             held = held.saturating_add(1);
         } else {
             println!(rt; "row {number} prints something else")?;
@@ -147,6 +191,12 @@ fn run_rows<R: AllocGlobal + Files + Print + Threads + Wait + Sync>(rt: &R) -> R
     }
     println!(rt; "{held} rows print what is stored")?;
     Ok(())
+}
+
+// Runs the stored rows.
+fn run_rows<R: AllocGlobal + Files + Print + Threads + Wait + Sync>(rt: &R) -> Result<(), Error> {
+    let rows = fs::read_to_string(rt, "rows.txt")?;
+    run_all(rt, rows.as_str())
 }
 
 fn main(rt: HostRuntime) -> Result<(), Error> {

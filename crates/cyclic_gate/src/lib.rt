@@ -1,16 +1,10 @@
 //! A cyclic barrier after Java's `CyclicBarrier`: as a value, and as a gate at which threads wait.
 #![tactic(auto)]
 
-mod barrier;
-mod call;
 mod gate;
-mod laws;
-mod ledger;
-mod state;
 
-pub use barrier::BarrierCore;
-pub use call::{Awaited, BarrierFault, Call, MOST_PARTIES};
+pub use cyclic_barrier::{
+    Awaited, BarrierCore, BarrierFault, BarrierState, Call, Ledger, MOST_PARTIES, Note, Outcome,
+    ends_name_the_told, late_wakers_are_told, trips_give_each_once,
+};
 pub use gate::{CyclicGate, GateFault};
-pub use laws::{ends_name_the_told, late_wakers_are_told, trips_give_each_once};
-pub use ledger::{Ledger, Note, Outcome};
-pub use state::BarrierState;

@@ -1,5 +1,5 @@
 //! Hostile use of the program: devices that give or take little or fail, at each byte, once or always, and texts that are
-//! cut at each byte; and its help. What a row of `examples/rows.txt` can say stands there.
+//! cut at each byte; its help; and calls that find no memory. What a row of `examples/rows.txt` can say stands there.
 #![tactic(auto)]
 
 #[cfg(test)]
@@ -8,5 +8,7 @@ mod devices;
 mod fronts;
 #[cfg(test)]
 mod help;
+#[cfg(test)]
+mod refused;
 #[cfg(test)]
 mod runs;

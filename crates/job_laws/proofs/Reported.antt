@@ -17,7 +17,7 @@ use Rattle.step_core.specs.Program.{Program}
 use Rattle.step_core.specs.Superstep.{State, superstep, segments, first_fault, closed, ended_by, gone_on, next_live, prints_of, print_of, record_of, spawned, stopped, left}
 use Rattle.step_core.specs.JobMeaning.{opening, so_far, status, told}
 use Rattle.step_core.specs.Laws.{deed}
-use Rattle.step_core.proofs.Runs.{goes, stays, going_on}
+use Rattle.step_parts.proofs.Runs.{goes, stays, going_on}
 use Rattle.job_laws.specs.Reports.{IsBySuperstep, ReportsAreBySuperstep, TextsHaveEveryPrint, PrintsAreOfTheirSuperstep, has_stopped, Tells, TellFrom, RecordsTellSupersteps}
 
 one_along : (p : Program) (limit : ℕ) (P : State → Type 0) (n : ℕ) → P (so_far p limit n)

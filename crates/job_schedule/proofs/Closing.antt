@@ -12,15 +12,18 @@ use Rattle.tier_core.specs.declared.call.Call.TheVariants as call
 use Rattle.tier_core.specs.Run.{after, answer_to}
 use Rattle.step_core.specs.Superstep.{superstep}
 use Rattle.step_core.specs.JobMeaning.{status, unless_ended, told, report_in}
-use Rattle.job_schedule.specs.declared.stage.Mode.{Mode}
-use Rattle.job_schedule.specs.declared.stage.Mode.TheVariants as mode
-use Rattle.job_schedule.specs.declared.stage.Move.{Move}
-use Rattle.job_schedule.specs.declared.stage.Move.TheVariants.{Takes, Delivers, Calls, Advances, Closes, Ends}
+use Rattle.job_seats.specs.declared.stage.Mode.{Mode}
+use Rattle.job_seats.specs.declared.stage.Mode.TheVariants as mode
+use Rattle.job_seats.specs.declared.stage.Move.{Move}
+use Rattle.job_seats.specs.declared.stage.Move.TheVariants.{Takes, Delivers, Calls, Advances, Closes, Ends}
 use Rattle.job_schedule.specs.declared.step.JobStep.{JobStep}
 use Rattle.job_schedule.specs.declared.step.JobStep.TheVariants.{Take, Deliver, Tree as TreeStep, Advance, Close}
 use Rattle.job_schedule.specs.AnswerValue.{Closed, NotNow}
-use Rattle.job_schedule.specs.SeatValue.{Stage, Waits, Taken, Polling, Joining, Arriving, Leaving, Over, SeatValue, seat_at, all_over}
-use Rattle.job_schedule.specs.World.{World, called_by, advanced_by, ended_by, next_job, closed_as, done_by, kind_of, kind_for, if_asked, move_of, worker_of, answer_of, by_mode, by_hand, by_stage, passing, opening_world, reached}
+use Rattle.job_seats.specs.declared.stage.Stage.{Stage}
+use Rattle.job_seats.specs.declared.stage.Stage.TheVariants.{Waits, Taken, Polling, Joining, Arriving, Leaving, Over}
+use Rattle.job_seats.specs.SeatValue.{SeatValue, seat_at, all_over}
+use Rattle.job_seats.specs.Moves.{by_stage, passing}
+use Rattle.job_schedule.specs.World.{World, called_by, advanced_by, ended_by, next_job, closed_as, done_by, kind_of, kind_for, if_asked, move_of, worker_of, answer_of, by_mode, by_hand, opening_world, reached}
 use Rattle.job_schedule.specs.Laws.{IsClosing, RoundsAreClosedOnce}
 
 not_called : (w : World) (worker place : ℕ) (tree : Tree) (a : TreeAnswer) {A : Type 0} → (called_by w worker place tree a).0 ≡ Closed → A

@@ -1,4 +1,3 @@
-pub mod Seating
 pub mod Moves
 pub mod Deeds
 pub mod Opening

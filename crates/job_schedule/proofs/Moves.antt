@@ -3,12 +3,15 @@ use Rattle.std.proofs.Common.{◌≡◌, ℕ, zero, suc, ◌<◌, ◌≤◌, Boo
 use Rattle.std.specs.Prelude.{nat_lt, if◌then◌else◌, ◌==◌, ◌&&◌, slice_index_or, is_some}
 use Rattle.step_core.specs.JobMeaning.{status}
 use Rattle.std.proofs.lemmas.Bool.{ltb-true, ltb-false}
-use Rattle.job_schedule.specs.declared.stage.Mode.{Mode}
-use Rattle.job_schedule.specs.declared.stage.Mode.TheVariants as mode
-use Rattle.job_schedule.specs.declared.stage.Move.{Move}
-use Rattle.job_schedule.specs.declared.stage.Move.TheVariants.{Takes, Closes, Ends}
-use Rattle.job_schedule.specs.SeatValue.{Stage, Waits, Taken, Polling, Joining, Arriving, Leaving, Over, SeatValue, no_seat, seat_at, all_over}
-use Rattle.job_schedule.specs.World.{World, passing, by_stage, by_seat, by_hand, by_mode, move_of}
+use Rattle.job_seats.specs.declared.stage.Mode.{Mode}
+use Rattle.job_seats.specs.declared.stage.Mode.TheVariants as mode
+use Rattle.job_seats.specs.declared.stage.Move.{Move}
+use Rattle.job_seats.specs.declared.stage.Move.TheVariants.{Takes, Closes, Ends}
+use Rattle.job_seats.specs.declared.stage.Stage.{Stage}
+use Rattle.job_seats.specs.declared.stage.Stage.TheVariants.{Waits, Taken, Polling, Joining, Arriving, Leaving, Over}
+use Rattle.job_seats.specs.SeatValue.{SeatValue, no_seat, seat_at, all_over}
+use Rattle.job_seats.specs.Moves.{passing, by_stage}
+use Rattle.job_schedule.specs.World.{World, by_seat, by_hand, by_mode, move_of}
 use Rattle.job_schedule.specs.Parts.{IsAllowed}
 
 abbrev pub Allowed : World → Option Move → Type 0

@@ -11,9 +11,10 @@ use Rattle.step_core.specs.Program.{program_of}
 use Rattle.step_core.specs.Superstep.{State, live_paths}
 use Rattle.step_core.specs.JobMeaning.{opening}
 use Rattle.step_core.specs.RoundValue.{RoundValue, Opens, state_of}
-use Rattle.job_schedule.specs.declared.stage.Mode.TheVariants as mode
-use Rattle.job_schedule.specs.SeatValue.{SeatValue, waiting}
-use Rattle.job_schedule.specs.World.{World, gone, joined_at, leaf_at, with_start, with_starts, plan_for, empty_world, opening_world}
+use Rattle.job_seats.specs.declared.stage.Mode.TheVariants as mode
+use Rattle.job_seats.specs.SeatValue.{SeatValue, waiting}
+use Rattle.job_seats.specs.Moves.{leaf_at}
+use Rattle.job_schedule.specs.World.{World, gone, joined_at, with_start, with_starts, plan_for, empty_world, opening_world}
 
 pub gone_one : (n token : ℕ) (tree : Tree) → 0 < n → gone n token tree ≡ gone (n - 1) token (after tree (Go token))
 gone_one zero token tree h = absurd (omega arith)

@@ -22,12 +22,13 @@ use Rattle.step_core.specs.Program.{Program}
 use Rattle.step_core.specs.Superstep.{live_paths}
 use Rattle.step_core.specs.JobMeaning.{opening, report_in}
 use Rattle.step_core.specs.OrderValue.{has_synced, spawned_paths}
-use Rattle.job_schedule.specs.declared.stage.Move.{Move}
-use Rattle.job_schedule.specs.declared.stage.Move.TheVariants.{Takes, Delivers, Calls, Advances, Closes, Ends}
+use Rattle.job_seats.specs.declared.stage.Move.{Move}
+use Rattle.job_seats.specs.declared.stage.Move.TheVariants.{Takes, Delivers, Calls, Advances, Closes, Ends}
 use Rattle.job_schedule.specs.declared.step.JobStep.{JobStep}
 use Rattle.job_schedule.specs.AnswerValue.{NotNow}
-use Rattle.job_schedule.specs.SeatValue.{seat_at}
-use Rattle.job_schedule.specs.World.{World, gone, joined_at, leaf_at, plan_for, empty_world, opening_world, with_start, with_starts, kid_from, with_kids, noted, deed_of, called_by, advanced_by, ended_by, next_job, closed_as, done_by, kind_of, kind_for, if_asked, move_of, worker_of, answer_of, world_after, reached}
+use Rattle.job_seats.specs.SeatValue.{seat_at}
+use Rattle.job_seats.specs.Moves.{leaf_at}
+use Rattle.job_schedule.specs.World.{World, gone, joined_at, plan_for, empty_world, opening_world, with_start, with_starts, kid_from, with_kids, noted, deed_of, called_by, advanced_by, ended_by, next_job, closed_as, done_by, kind_of, kind_for, if_asked, move_of, worker_of, answer_of, world_after, reached}
 use Rattle.job_schedule.specs.Parts.{IsAllowed}
 use Rattle.job_schedule.specs.Laws.{RefusedStepsChangeNothing}
 use Rattle.job_schedule.proofs.Moves.{Allowed, move_allowed}

@@ -13,8 +13,10 @@ use Rattle.step_core.specs.Program.{Program}
 use Rattle.step_core.specs.Superstep.{segments}
 use Rattle.step_core.specs.OrderValue.{has_synced, spawned_paths}
 use Rattle.step_core.specs.Laws.{paths_on, synced_path}
-use Rattle.step_core.proofs.InOrder.{put_all_mapped}
-use Rattle.job_schedule.specs.SeatValue.{Stage, Waits, Taken, Polling, Joining, Arriving, Leaving, Over, KidValue, SeatValue, seat_at, seat_path, kid_path, waiting, own_seat, kid_seat, living_seats, next_seats, is_over, all_over, is_delivered}
+use Rattle.step_parts.proofs.InOrder.{put_all_mapped}
+use Rattle.job_seats.specs.declared.stage.Stage.{Stage}
+use Rattle.job_seats.specs.declared.stage.Stage.TheVariants.{Waits, Taken, Polling, Joining, Arriving, Leaving, Over}
+use Rattle.job_seats.specs.SeatValue.{KidValue, SeatValue, seat_at, seat_path, kid_path, waiting, own_seat, kid_seat, living_seats, next_seats, is_over, all_over, is_delivered}
 use Rattle.job_schedule.specs.World.{deed_in}
 use Rattle.job_schedule.proofs.Deeds.{not_itself}
 

@@ -20,14 +20,17 @@ use Rattle.step_core.specs.JobMeaning.{opening, status, told, report_in}
 use Rattle.step_core.specs.OrderValue.{has_synced, spawned_paths}
 use Rattle.step_core.proofs.Apart.{live-paths-rise}
 use Rattle.step_core.proofs.LawProofs.{next-live-synced-or-spawned}
-use Rattle.job_schedule.specs.declared.stage.Mode.{Mode}
-use Rattle.job_schedule.specs.declared.stage.Mode.TheVariants as mode
-use Rattle.job_schedule.specs.declared.stage.Move.{Move}
-use Rattle.job_schedule.specs.declared.stage.Move.TheVariants.{Takes, Delivers, Calls, Advances, Closes, Ends}
+use Rattle.job_seats.specs.declared.stage.Mode.{Mode}
+use Rattle.job_seats.specs.declared.stage.Mode.TheVariants as mode
+use Rattle.job_seats.specs.declared.stage.Move.{Move}
+use Rattle.job_seats.specs.declared.stage.Move.TheVariants.{Takes, Delivers, Calls, Advances, Closes, Ends}
 use Rattle.job_schedule.specs.declared.step.JobStep.{JobStep}
 use Rattle.job_schedule.specs.AnswerValue.{NotNow}
-use Rattle.job_schedule.specs.SeatValue.{Stage, Waits, Taken, Polling, Joining, Arriving, Leaving, Over, SeatValue, waiting, no_seat, no_kid, seat_at, seat_path, kid_path, kid_at, is_done, is_refused, next_stage, sent_home, answered, next_seats, all_over, is_delivered}
-use Rattle.job_schedule.specs.World.{World, deed_in, deed_of, at_stage, with_seat, with_kid, kid_from, with_kids, noted, handed_in, called_by, advanced_by, ended_by, next_job, closed_as, done_by, kind_of, kind_for, if_asked, move_of, worker_of, world_after, reached, by_mode, by_hand, by_stage, passing, with_start, with_starts, leaf_at, empty_world, opening_world}
+use Rattle.job_seats.specs.declared.stage.Stage.{Stage}
+use Rattle.job_seats.specs.declared.stage.Stage.TheVariants.{Waits, Taken, Polling, Joining, Arriving, Leaving, Over}
+use Rattle.job_seats.specs.SeatValue.{SeatValue, waiting, no_seat, no_kid, seat_at, seat_path, kid_path, kid_at, is_done, is_refused, next_stage, sent_home, answered, next_seats, all_over, is_delivered}
+use Rattle.job_seats.specs.Moves.{at_stage, by_stage, passing, leaf_at}
+use Rattle.job_schedule.specs.World.{World, deed_in, deed_of, with_seat, with_kid, kid_from, with_kids, noted, handed_in, called_by, advanced_by, ended_by, next_job, closed_as, done_by, kind_of, kind_for, if_asked, move_of, worker_of, world_after, reached, by_mode, by_hand, with_start, with_starts, empty_world, opening_world}
 use Rattle.job_schedule.specs.Laws.{SeatsAreTheLiveTasks}
 use Rattle.job_schedule.proofs.Seated.{Notes, map_set, all_delivered, living_paths, next_paths, next_fresh}
 use Rattle.job_schedule.proofs.Closing.{one_superstep, from_mode}

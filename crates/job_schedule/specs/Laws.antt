@@ -6,10 +6,10 @@ use Rattle.step_core.specs.Program.{Program}
 use Rattle.step_core.specs.Superstep.{superstep, live_paths}
 use Rattle.step_core.specs.OrderValue.{has_synced, spawned_paths}
 use Rattle.step_core.specs.JobMeaning.{status, report_of}
-use Rattle.job_schedule.specs.declared.stage.Mode.TheVariants as mode
+use Rattle.job_seats.specs.declared.stage.Mode.TheVariants as mode
 use Rattle.job_schedule.specs.declared.step.JobStep.{JobStep}
 use Rattle.job_schedule.specs.declared.step.JobStep.TheVariants.{Close}
-use Rattle.job_schedule.specs.SeatValue.{SeatValue, all_over, is_delivered, kid_path, seat_path, seat_at}
+use Rattle.job_seats.specs.SeatValue.{SeatValue, all_over, is_delivered, kid_path, seat_path, seat_at}
 use Rattle.job_schedule.specs.AnswerValue.{Closed, Finished, NotNow}
 use Rattle.job_schedule.specs.World.{World, deed_of, opening_world, worker_of, answer_of, world_after, reached}
 

@@ -9,8 +9,8 @@ use Rattle.step_core.specs.RoundValue.{RoundValue, state_of, status_in}
 use Rattle.task_lang.specs.Meaning.{Segment}
 use Rattle.step_core.specs.Superstep.{segments}
 use Rattle.job_schedule.specs.declared.schedule.Schedule.{Schedule}
-use Rattle.job_schedule.specs.declared.stage.Move.{Move}
-use Rattle.job_schedule.specs.declared.stage.Move.TheVariants.{Takes, Delivers, Calls, Advances, Closes, Ends}
+use Rattle.job_seats.specs.declared.stage.Move.{Move}
+use Rattle.job_seats.specs.declared.stage.Move.TheVariants.{Takes, Delivers, Calls, Advances, Closes, Ends}
 use Rattle.job_schedule.specs.World.{World, deed_in}
 
 -- free tokens stand with the next one last

@@ -1,5 +1,5 @@
 -- A job on a tree, worked at by numbered workers, and what each step of theirs answers and leaves (own).
-use Rattle.std.specs.Prelude.{ℕ, zero, suc, ◌+◌, ◌-◌, ◌%◌, Bool, true, false, ◌==◌, ◌&&◌, nat_lt, if◌then◌else◌, Option, Some, None, List, [], ◌∷◌, ◌++◌, length, slice_index_or, slice_set, replicate, is_some}
+use Rattle.std.specs.Prelude.{ℕ, zero, suc, ◌-◌, Bool, true, ◌==◌, ◌&&◌, nat_lt, if◌then◌else◌, Option, Some, None, List, [], ◌∷◌, ◌++◌, length, slice_index_or, slice_set, replicate, is_some}
 use Rattle.std.specs.Str.{bytes_eq}
 use Rattle.advance_rule.specs.declared.EndPlan.{EndPlan}
 use Rattle.phase_records.specs.ReportValue.{ReportValue}
@@ -16,13 +16,16 @@ use Rattle.step_core.specs.Program.{Program}
 use Rattle.step_core.specs.Superstep.{State, segments, superstep, live_paths}
 use Rattle.step_core.specs.JobMeaning.{opening, status, unless_ended, report_in}
 use Rattle.step_core.specs.OrderValue.{has_synced, spawned_paths}
-use Rattle.job_schedule.specs.declared.stage.Mode.{Mode}
-use Rattle.job_schedule.specs.declared.stage.Mode.TheVariants as mode
-use Rattle.job_schedule.specs.declared.stage.Move.{Move}
-pub use Rattle.job_schedule.specs.declared.stage.Move.TheVariants.{Takes, Delivers, Calls, Advances, Closes, Ends}
+use Rattle.job_seats.specs.declared.stage.Mode.{Mode}
+use Rattle.job_seats.specs.declared.stage.Mode.TheVariants as mode
+use Rattle.job_seats.specs.declared.stage.Move.{Move}
+pub use Rattle.job_seats.specs.declared.stage.Move.TheVariants.{Takes, Delivers, Calls, Advances, Closes, Ends}
+use Rattle.job_seats.specs.Moves.{leaf_at, preferred, by_stage, at_stage}
 use Rattle.job_schedule.specs.declared.step.JobStep.{JobStep}
 use Rattle.job_schedule.specs.declared.step.JobStep.TheVariants.{Take, Deliver, Tree as TreeStep, Advance, Close}
-use Rattle.job_schedule.specs.SeatValue.{Stage, Waits, Taken, Polling, Joining, Arriving, Leaving, Over, SeatValue, waiting, kid_at, seat_at, is_over, all_over, answered, next_seats, freed}
+use Rattle.job_seats.specs.declared.stage.Stage.{Stage}
+use Rattle.job_seats.specs.declared.stage.Stage.TheVariants.{Taken, Polling, Over}
+use Rattle.job_seats.specs.SeatValue.{SeatValue, waiting, seat_at, is_over, all_over, answered, next_seats, freed}
 use Rattle.job_schedule.specs.AnswerValue.{AnswerValue, Took, Delivered, Stepped, Advanced, Closed, Finished, NotNow}
 
 pub record World : Type 0 where
@@ -40,21 +43,6 @@ pub record World : Type 0 where
   -- the tokens of tasks that have left
   pub free : List ℕ
   pub mode : Mode
-
--- Leaves are numbered from 0. The preferred leaf of a spawned task has the number of its spawner's leaf, and 1, and the last number of
--- its own path, from 0 again behind the last leaf.
-abbrev pub leaf_at : List ℕ → ℕ → ℕ
-leaf_at leaves number = slice_index_or leaves (number % length leaves) 0
-
-abbrev pub number_in : List ℕ → ℕ → ℕ
-number_in [] leaf = 0
-number_in (l ∷ ls) leaf = if l == leaf then 0 else suc (number_in ls leaf)
-
-abbrev pub last_number : List ℕ → ℕ
-last_number path = slice_index_or path (length path - 1) 0
-
-abbrev pub preferred : List ℕ → ℕ → List ℕ → ℕ
-preferred leaves home path = leaf_at leaves (number_in leaves home + 1 + last_number path)
 
 -- One start task more: its token comes in, and joins the leaf of its number, in at most 16 steps.
 abbrev pub gone : ℕ → ℕ → Tree → Tree
@@ -99,20 +87,6 @@ opening_world program parents limit = with_starts (empty_world program parents l
 -- What a worker may do next. Without a task it takes the front ready one; a job that is over as it begins is closed by anybody.
 abbrev pub taking : ℕ → ℕ → Bool → Option Move
 taking taken live over = if nat_lt taken live then Some (Takes taken) else (if over then Some (Closes 0) else None)
-
--- Its task is delivered; then come the calls of the task's tree, and the advance where that is due.
-abbrev pub passing : Bool → ℕ → ℕ → Bool → Option Move
-passing true place token synced = Some (Advances place)
-passing false place token synced = Some (Calls place token (if synced then call.Arrive else call.Leave))
-
-abbrev pub by_stage : SeatValue → ℕ → Bool → Stage → Option Move
-by_stage g place due Waits = None
-by_stage g place due Taken = Some (Delivers place)
-by_stage g place due Polling = Some (Calls place g.token call.Poll)
-by_stage g place due (Joining joined) = Some (Calls place (kid_at g.kids joined).token (call.Join (kid_at g.kids joined).home 1))
-by_stage g place due (Arriving arrived) = Some (Calls place (kid_at g.kids arrived).token call.Arrive)
-by_stage g place due Leaving = passing due place g.token g.synced
-by_stage g place due Over = None
 
 abbrev pub by_seat : World → SeatValue → ℕ → Option Move
 by_seat w g place = by_stage g place (may_finish w.tree g.token) g.stage
@@ -160,9 +134,6 @@ with_seat w place g = record w { seats = slice_set w.seats place g }
 
 abbrev pub with_hand : World → ℕ → Option ℕ → World
 with_hand w worker hand = record w { hands = slice_set w.hands worker hand }
-
-abbrev pub at_stage : SeatValue → Stage → SeatValue
-at_stage g stage = record g { stage = stage }
 
 -- A worker takes a task.
 abbrev pub took : World → ℕ → ℕ → World

@@ -5,12 +5,7 @@
 #![tactic(auto)]
 
 pub mod drive;
-mod hands;
 pub mod laws;
-mod leaves;
-mod next;
 mod rounds;
 mod schedule;
-mod seat;
-mod stage;
 pub mod step;

@@ -5,14 +5,14 @@ ghost use Rattle.tier_shape.specs.Leaves.{leaves_of};
 ghost use Rattle.tier_core.specs.Machine.{opened, with_token};
 ghost use Rattle.job_schedule.specs.World.{plan_for, kind_for, taking, mode_after, gone};
 
-use crate::hands::{empty_hands, hand_of, set_hand};
-use crate::leaves::{leaf_at, preferred};
-use crate::next::{free_tokens, next_seats};
 use crate::rounds::{close_round, hand_in};
-use crate::seat::{Kid, Seat, all_over, copy_path, is_over};
-use crate::stage::{Mode, Move, Stage};
 use crate::step::{Answer, JobStep};
 use advance_rule::EndPlan;
+use job_seats::hands::{empty_hands, hand_of, set_hand};
+use job_seats::leaves::{leaf_at, preferred};
+use job_seats::next::{free_tokens, next_seats};
+use job_seats::seat::{Kid, Seat, all_over, copy_path, is_over};
+use job_seats::stage::{Mode, Move, Stage};
 use phase_records::JobStatus;
 use std::alloc::{AllocError, Global};
 use step_core::Round;
@@ -106,7 +106,7 @@ impl<'j> Schedule<'j> {
     ghost use Rattle.step_core.specs.Superstep.{live_paths};
     ghost use Rattle.job_schedule.specs.AnswerValue.{answer_seen};
     ghost use Rattle.job_schedule.specs.Parts.{path_items, world_of};
-    ghost use Rattle.job_schedule.specs.SeatValue.{seat_at};
+    ghost use Rattle.job_seats.specs.SeatValue.{seat_at};
     ghost use Rattle.job_schedule.specs.World as spec;
     ghost use Rattle.job_schedule.specs.World.{
       opening_world,
@@ -123,7 +123,7 @@ impl<'j> Schedule<'j> {
       stepped,
       renewed,
     };
-    ghost use Rattle.job_schedule.specs.SeatValue.{answered};
+    ghost use Rattle.job_seats.specs.SeatValue.{answered};
     ghost use Rattle.job_schedule.specs.Parts.{IsAllowed};
     ghost use Rattle.tier_core.specs.Run.{IsCall};
 

@@ -1,15 +1,13 @@
-//! Jobs by their texts, and the texts of what they leave on one thread.
-use job_reader::read_job;
+//! Jobs by their texts, and whether what they leave is what they leave on one thread.
+use job_reader::{ReadJobFault, read_job};
 use phase_records::{Report, WriteFault, Writer, write_report};
 use std::alloc::Global;
-use std::test::Fail;
 use step_core::run_alone;
 use task_lang::job::Job;
 
 // The job of a text.
-pub(crate) fn job_of(alloc: Global, text: &str) -> Result<Job, Fail> {
-    let job = read_job(alloc, text.as_bytes())?;
-    Ok(job)
+pub(crate) fn job_of(alloc: Global, text: &str) -> Result<Job, ReadJobFault> {
+    read_job(alloc, text.as_bytes())
 }
 
 // Writes a report.
@@ -18,24 +16,35 @@ fn write_to(alloc: Global, report: &Report, out: &mut Vec<u8>) -> Result<(), Wri
     write_report(alloc, report, &mut writer)
 }
 
-// The text of a report.
-pub(crate) fn report_text(alloc: Global, report: &Report) -> Result<Vec<u8>, Fail> {
+// The text of a report; none if it can't be written.
+fn report_text(alloc: Global, report: &Report) -> Option<Vec<u8>> {
     let mut out = Vec::new(alloc);
-    write_to(alloc, report, &mut out)?;
-    Ok(out)
-}
-
-// The text of the report that a job leaves on one thread within this limit; none within 0.
-pub(crate) fn left_alone(alloc: Global, job: &Job, limit: u32) -> Result<Vec<u8>, Fail> {
-    if limit == 0 {
-        return Ok(Vec::new(alloc));
+    match write_to(alloc, report, &mut out) {
+        Ok(()) => Some(out),
+        Err(_) => None,
     }
-    let report = run_alone(alloc, job, limit)?;
-    report_text(alloc, &report)
 }
 
-// The same of the job of a text.
-pub(crate) fn left_within(alloc: Global, text: &str, limit: u32) -> Result<Vec<u8>, Fail> {
-    let job = job_of(alloc, text)?;
-    left_alone(alloc, &job, limit)
+// Whether a report has this text.
+fn has_text(alloc: Global, report: &Report, want: &[u8]) -> bool {
+    match report_text(alloc, report) {
+        Some(text) => text.as_slice() == want,
+        None => false,
+    }
+}
+
+// Whether two reports have the same text.
+fn are_same(alloc: Global, one: &Report, other: &Report) -> bool {
+    match report_text(alloc, one) {
+        Some(text) => has_text(alloc, other, text.as_slice()),
+        None => false,
+    }
+}
+
+// Whether a report is the one that a job leaves on one thread within this limit, which is taken for 1 where it is none.
+pub(crate) fn is_left_alone(alloc: Global, job: &Job, limit: u32, report: &Report) -> bool {
+    match run_alone(alloc, job, limit.max(1)) {
+        Ok(alone) => are_same(alloc, &alone, report),
+        Err(_) => false,
+    }
 }

@@ -1,5 +1,7 @@
 //! Arrays, landing and rounds: deliveries in any order, and refusals.
 #[cfg(test)]
+mod calls;
+#[cfg(test)]
 mod fixtures;
 #[cfg(test)]
 mod hands;
@@ -8,4 +10,8 @@ mod landing;
 #[cfg(test)]
 mod memory;
 #[cfg(test)]
+mod orders;
+#[cfg(test)]
 mod rounds;
+#[cfg(test)]
+mod turns;

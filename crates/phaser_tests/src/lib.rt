@@ -9,10 +9,10 @@ mod flat;
 #[cfg(test)]
 mod lists;
 #[cfg(test)]
+mod machine;
+#[cfg(test)]
 mod shared;
 #[cfg(test)]
 mod table;
-#[cfg(test)]
-mod tokens;
 #[cfg(test)]
 mod trees;

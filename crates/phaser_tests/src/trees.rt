@@ -1,6 +1,6 @@
 //! Trees, how they begin and what they leave.
 
-ghost use Rattle.std.specs.Prelude.{◌≡◌, ◌≤◌, All};
+ghost use Rattle.std.specs.Prelude.{◌≡◌, ◌≤◌, ◌==◌, All};
 ghost use Rattle.tier_table.specs.Closes.{held};
 
 use advance_rule::{EndPlan, StoredAdvance};
@@ -11,40 +11,50 @@ use tier_table::closing::Closed;
 use tier_table::tokens::{Door, Token};
 use tier_table::tree::Tree;
 
+/// A rule of a tree.
+pub type Rule = fn(u32, u32) -> bool;
+
 /// A tree ends where nobody is registered.
 pub const WHEN_EMPTY: EndPlan = EndPlan {
     when_empty: true,
     at: None,
 };
 
+/// Whether nobody is registered.
+pub fn is_empty(_phase: u32, count: u32) -> bool
+    ensures { result ≡ (count == 0) }
+{
+    count == 0
+}
+
 /// A tree of these widths, in this phase, and its first token.
-pub fn planted<F: Fn(u32, u32) -> bool + Drop>(
+pub fn planted(
     rt: &impl Abort,
     alloc: Global,
     widths: &str,
     phase: u32,
-    rule: StoredAdvance<F>,
-) -> (Tree<F>, Door)
+    rule: StoredAdvance<Rule>,
+) -> (Tree<Rule>, Door)
     requires { phase ≤ 2147483647 }
     ensures rule { result.0.rule ≡ rule }
     ensures own { result.1.tree ≡ result.0.tree }
 {
-    let Ok(shape) = Shape::from_widths(alloc, widths) else {
-        panic!(rt; "no shape");
-    };
-    match Tree::new(alloc, shape, phase, rule) {
-        Ok(planted) => planted,
-        Err(_) => panic!(rt; "no memory"),
-    }
+    let shape = Shape::from_widths(alloc, widths).expect(rt, "a shape");
+    Tree::new(alloc, shape, phase, rule).expect(rt, "memory")
+}
+
+/// Puts a token beside others.
+#[tactic(auto, using(crate::proofs::Held::all_pushed))]
+pub(crate) fn put(rt: &impl Abort, tree: &Tree<Rule>, tokens: &mut Vec<Token>, token: Token)
+    requires own { ((held token).tree ≡ tree.now.tree) × All (λ t. (held t).tree ≡ tree.now.tree) tokens.old.items }
+    ensures { All (λ t. (held t).tree ≡ tree.now.tree) tokens.new.items }
+{
+    let _ = tree;
+    tokens.push(token).expect(rt, "memory");
 }
 
 /// What a tree leaves that is closed with these tokens.
-pub(crate) fn left<F: Fn(u32, u32) -> bool + Drop>(
-    rt: &impl Abort,
-    alloc: Global,
-    tree: Tree<F>,
-    tokens: Vec<Token>,
-) -> Closed
+pub(crate) fn left(rt: &impl Abort, alloc: Global, tree: Tree<Rule>, tokens: Vec<Token>) -> Closed
     requires own { All (λ t. (held t).tree ≡ tree.tree) tokens.items }
 {
     match tree.close(alloc, tokens) {

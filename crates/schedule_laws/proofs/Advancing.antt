@@ -27,12 +27,13 @@ use Rattle.tier_roles.specs.Roles.{Role, Out, Late, Polls, Here, Looks, Passes, 
 use Rattle.tier_roles.specs.Cast.{role_at, IsCast, IsTurned, members_in, is_awaited, is_leading, is_settled, turned}
 use Rattle.tier_roles.proofs.Playing.{nobody_leads, leaders_are_alone, leads_is_due, members_are_in_roles}
 use Rattle.tier_roles.proofs.Turning.{advances_turn_the_cast}
-use Rattle.job_schedule.specs.declared.stage.Stage.{Stage}
-use Rattle.job_schedule.specs.declared.stage.Stage.TheVariants.{Waits, Taken, Polling, Joining, Arriving, Leaving, Over}
-use Rattle.job_schedule.specs.declared.stage.Move.TheVariants.{Advances}
-use Rattle.job_schedule.specs.declared.stage.Mode.TheVariants as mode
-use Rattle.job_schedule.specs.SeatValue.{KidValue, SeatValue, no_seat, seat_at, kid_at, is_over, all_over, waiting, own_seat, kid_seat, living_seats}
-use Rattle.job_schedule.specs.World.{World, at_stage, advanced_by, has_advanced, done_by}
+use Rattle.job_seats.specs.declared.stage.Stage.{Stage}
+use Rattle.job_seats.specs.declared.stage.Stage.TheVariants.{Waits, Taken, Polling, Joining, Arriving, Leaving, Over}
+use Rattle.job_seats.specs.declared.stage.Move.TheVariants.{Advances}
+use Rattle.job_seats.specs.declared.stage.Mode.TheVariants as mode
+use Rattle.job_seats.specs.SeatValue.{KidValue, SeatValue, no_seat, seat_at, kid_at, is_over, all_over, waiting, own_seat, kid_seat, living_seats}
+use Rattle.job_seats.specs.Moves.{at_stage}
+use Rattle.job_schedule.specs.World.{World, advanced_by, has_advanced, done_by}
 use Rattle.schedule_laws.specs.Working.{trip_if, IsOwnPassing, OwnFits, SitsAt, Sits, of_seat, of_all, AreShared, IsWorking, IsTurning}
 use Rattle.schedule_laws.proofs.Sharing.{own_in, known_in, others_own}
 use Rattle.schedule_laws.proofs.Calling.{one_step}

@@ -24,16 +24,17 @@ use Rattle.step_core.specs.OrderValue.{is_synced, spawned_paths}
 use Rattle.step_core.specs.Laws.{paths_on, synced_path}
 use Rattle.step_core.proofs.Apart.{live-paths-rise}
 use Rattle.tier_roles.specs.Roles.{Role}
-use Rattle.job_schedule.specs.declared.stage.Stage.{Stage}
-use Rattle.job_schedule.specs.declared.stage.Stage.TheVariants.{Waits, Taken, Polling, Joining, Arriving, Leaving, Over}
-use Rattle.job_schedule.specs.declared.stage.Mode.{Mode}
-use Rattle.job_schedule.specs.declared.stage.Mode.TheVariants as mode
-use Rattle.job_schedule.specs.declared.stage.Move.{Move}
-use Rattle.job_schedule.specs.declared.stage.Move.TheVariants.{Takes, Calls, Closes, Ends}
+use Rattle.job_seats.specs.declared.stage.Stage.{Stage}
+use Rattle.job_seats.specs.declared.stage.Stage.TheVariants.{Waits, Taken, Polling, Joining, Arriving, Leaving, Over}
+use Rattle.job_seats.specs.declared.stage.Mode.{Mode}
+use Rattle.job_seats.specs.declared.stage.Mode.TheVariants as mode
+use Rattle.job_seats.specs.declared.stage.Move.{Move}
+use Rattle.job_seats.specs.declared.stage.Move.TheVariants.{Takes, Calls, Closes, Ends}
 use Rattle.job_schedule.specs.declared.step.JobStep.{JobStep}
 use Rattle.job_schedule.specs.AnswerValue.{Advanced, NotNow}
-use Rattle.job_schedule.specs.SeatValue.{SeatValue, seat_at, seat_path, all_over, is_delivered, kid_at, own_seat, kid_seat, living_seats}
-use Rattle.job_schedule.specs.World.{World, at_stage, called_by, ended_by, next_job, closed_as, done_by, kind_of, kind_for, if_asked, by_stage, by_seat, by_hand, by_mode, move_of, worker_of, answer_of, reached, opening_world}
+use Rattle.job_seats.specs.SeatValue.{SeatValue, seat_at, seat_path, all_over, is_delivered, kid_at, own_seat, kid_seat, living_seats}
+use Rattle.job_seats.specs.Moves.{at_stage, by_stage}
+use Rattle.job_schedule.specs.World.{World, called_by, ended_by, next_job, closed_as, done_by, kind_of, kind_for, if_asked, by_seat, by_hand, by_mode, move_of, worker_of, answer_of, reached, opening_world}
 use Rattle.job_schedule.specs.Laws.{IsStanding}
 use Rattle.job_schedule.proofs.Jobs.{IsOf, run_is_of, opening_is_of}
 use Rattle.job_schedule.proofs.Seated.{living_paths}

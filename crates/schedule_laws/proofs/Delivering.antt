@@ -12,11 +12,12 @@ use Rattle.step_core.specs.OrderValue.{has_synced, spawned_paths}
 use Rattle.tier_roles.specs.Roles.{Role, Out}
 use Rattle.tier_roles.specs.Cast.{role_at}
 use Rattle.tier_roles.proofs.Turning.{new_tokens_are_out}
-use Rattle.job_schedule.specs.declared.stage.Stage.{Stage}
-use Rattle.job_schedule.specs.declared.stage.Stage.TheVariants.{Waits, Taken, Polling}
-use Rattle.job_schedule.specs.declared.stage.Move.TheVariants.{Takes, Delivers}
-use Rattle.job_schedule.specs.SeatValue.{KidValue, SeatValue, no_seat, no_kid, seat_at, kid_at}
-use Rattle.job_schedule.specs.World.{World, at_stage, preferred, number_in, last_number, with_kid, kid_from, with_kids, noted, deed_of, done_by}
+use Rattle.job_seats.specs.declared.stage.Stage.{Stage}
+use Rattle.job_seats.specs.declared.stage.Stage.TheVariants.{Waits, Taken, Polling}
+use Rattle.job_seats.specs.declared.stage.Move.TheVariants.{Takes, Delivers}
+use Rattle.job_seats.specs.SeatValue.{KidValue, SeatValue, no_seat, no_kid, seat_at, kid_at}
+use Rattle.job_seats.specs.Moves.{at_stage, preferred, number_in, last_number}
+use Rattle.job_schedule.specs.World.{World, with_kid, kid_from, with_kids, noted, deed_of, done_by}
 use Rattle.schedule_laws.specs.Working.{SitsAt, Sits, of_seat, of_all, IsWorking}
 use Rattle.schedule_laws.proofs.Sharing.{own_in}
 use Rattle.schedule_laws.proofs.Calling.{IsSameTree}

@@ -11,7 +11,7 @@ use Rattle.step_core.specs.Program.{Program}
 use Rattle.step_core.specs.Superstep.{State, segments, first_fault, superstep, closed, next_live, ended_by, gone_on, live_paths}
 use Rattle.step_core.specs.JobMeaning.{status, unless_ended, so_far}
 use Rattle.step_core.specs.OrderValue.{spawned_paths}
-use Rattle.job_schedule.specs.SeatValue.{SeatValue, seat_at, seat_path, kid_path}
+use Rattle.job_seats.specs.SeatValue.{SeatValue, seat_at, seat_path, kid_path}
 use Rattle.job_schedule.specs.World.{World, deed_in, deed_of}
 use Rattle.job_schedule.specs.Laws.{IsStanding}
 use Rattle.job_schedule.proofs.Jobs.{IsOf}

@@ -18,16 +18,17 @@ use Rattle.step_core.specs.JobMeaning.{status, told, report_in, unless_ended}
 use Rattle.step_core.specs.OrderValue.{has_synced, spawned_paths}
 use Rattle.tier_roles.specs.Roles.{Role}
 use Rattle.tier_roles.specs.Cast.{turned}
-use Rattle.job_schedule.specs.declared.stage.Stage.{Stage}
-use Rattle.job_schedule.specs.declared.stage.Stage.TheVariants.{Waits, Taken, Polling, Joining, Arriving, Leaving, Over}
-use Rattle.job_schedule.specs.declared.stage.Mode.{Mode}
-use Rattle.job_schedule.specs.declared.stage.Mode.TheVariants as mode
-use Rattle.job_schedule.specs.declared.stage.Move.{Move}
-use Rattle.job_schedule.specs.declared.stage.Move.TheVariants.{Takes, Delivers, Calls, Advances, Closes, Ends}
+use Rattle.job_seats.specs.declared.stage.Stage.{Stage}
+use Rattle.job_seats.specs.declared.stage.Stage.TheVariants.{Waits, Taken, Polling, Joining, Arriving, Leaving, Over}
+use Rattle.job_seats.specs.declared.stage.Mode.{Mode}
+use Rattle.job_seats.specs.declared.stage.Mode.TheVariants as mode
+use Rattle.job_seats.specs.declared.stage.Move.{Move}
+use Rattle.job_seats.specs.declared.stage.Move.TheVariants.{Takes, Delivers, Calls, Advances, Closes, Ends}
 use Rattle.job_schedule.specs.declared.step.JobStep.{JobStep}
 use Rattle.job_schedule.specs.AnswerValue.{NotNow}
-use Rattle.job_schedule.specs.SeatValue.{SeatValue, seat_at, seat_path, kid_at, all_over}
-use Rattle.job_schedule.specs.World.{World, deed_of, kid_from, with_kids, noted, called_by, advanced_by, ended_by, next_job, mode_after, closed_as, done_by, kind_of, kind_for, if_asked, by_stage, by_seat, by_hand, by_mode, move_of, worker_of, world_after, reached}
+use Rattle.job_seats.specs.SeatValue.{SeatValue, seat_at, seat_path, kid_at, all_over}
+use Rattle.job_seats.specs.Moves.{by_stage}
+use Rattle.job_schedule.specs.World.{World, deed_of, kid_from, with_kids, noted, called_by, advanced_by, ended_by, next_job, mode_after, closed_as, done_by, kind_of, kind_for, if_asked, by_seat, by_hand, by_mode, move_of, worker_of, world_after, reached}
 use Rattle.schedule_laws.specs.Working.{IsWorking, IsKept}
 use Rattle.schedule_laws.proofs.Sharing.{no_seat_beyond}
 use Rattle.schedule_laws.proofs.Moving.{Works, sits_at, polling_works, joining_works, arriving_works, leaving_works}

@@ -21,10 +21,10 @@ use Rattle.tier_answers.specs.Calls.{call_by}
 use Rattle.tier_roles.specs.Roles.{Role, Out, Joins, Seeks, Late, Polls, Ready, Here, Looks, Leads, Plays, is_refused as turns_away}
 use Rattle.tier_roles.specs.Cast.{role_at, IsCast, is_awaited, is_leading}
 use Rattle.tier_roles.proofs.Playing.{nobody_leads, home_within, leads_is_due}
-use Rattle.job_schedule.specs.declared.stage.Stage.{Stage}
-use Rattle.job_schedule.specs.declared.stage.Stage.TheVariants.{Waits, Taken, Polling, Joining, Arriving, Leaving, Over}
-use Rattle.job_schedule.specs.declared.stage.Move.TheVariants.{Calls}
-use Rattle.job_schedule.specs.SeatValue.{KidValue, SeatValue, seat_at, kid_at, answered}
+use Rattle.job_seats.specs.declared.stage.Stage.{Stage}
+use Rattle.job_seats.specs.declared.stage.Stage.TheVariants.{Waits, Taken, Polling, Joining, Arriving, Leaving, Over}
+use Rattle.job_seats.specs.declared.stage.Move.TheVariants.{Calls}
+use Rattle.job_seats.specs.SeatValue.{KidValue, SeatValue, seat_at, kid_at, answered}
 use Rattle.job_schedule.specs.World.{World, called_by, hand_after, done_by}
 use Rattle.schedule_laws.specs.Working.{trip_if, ComesTo, ArrivesAt, SitsAt, Sits, of_seat, IsWorking}
 use Rattle.schedule_laws.proofs.Sharing.{one, own_in, kid_in, known_in, kid_not_own, kids_differ}

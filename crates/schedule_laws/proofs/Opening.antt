@@ -32,8 +32,9 @@ use Rattle.task_lang.specs.Meaning.{Plan, Task}
 use Rattle.task_lang.specs.declared.job.Start.{Start}
 use Rattle.tier_roles.specs.Roles.{Role, Out, Late, Plays}
 use Rattle.tier_roles.specs.Cast.{role_at}
-use Rattle.job_schedule.specs.SeatValue.{SeatValue, no_seat, seat_at, waiting}
-use Rattle.job_schedule.specs.World.{World, gone, joined_at, leaf_at, plan_for, empty_world, with_start, with_starts, opening_world}
+use Rattle.job_seats.specs.SeatValue.{SeatValue, no_seat, seat_at, waiting}
+use Rattle.job_seats.specs.Moves.{leaf_at}
+use Rattle.job_schedule.specs.World.{World, gone, joined_at, plan_for, empty_world, with_start, with_starts, opening_world}
 use Rattle.schedule_laws.specs.Working.{Sits, of_seat, of_all, AreShared, IsBuilt, IsWorking, IsKept}
 use Rattle.schedule_laws.specs.Laws.{IsDriven}
 use Rattle.schedule_laws.proofs.Keeping.{IsSame}

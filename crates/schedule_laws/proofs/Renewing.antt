@@ -16,9 +16,9 @@ use Rattle.step_core.specs.Superstep.{State, segments, first_fault, superstep, c
 use Rattle.step_core.specs.JobMeaning.{status, status_of, told, report_in}
 use Rattle.tier_roles.specs.Roles.{Role, Out, Late, Past}
 use Rattle.tier_roles.specs.Cast.{role_at, turned}
-use Rattle.job_schedule.specs.declared.stage.Stage.{Stage}
-use Rattle.job_schedule.specs.declared.stage.Stage.TheVariants.{Waits, Taken, Polling, Joining, Arriving, Leaving, Over}
-use Rattle.job_schedule.specs.SeatValue.{KidValue, SeatValue, seat_at, kid_at, seat_path, is_over, all_over, waiting, own_seat, kid_seat, living_seats, next_seats, freed}
+use Rattle.job_seats.specs.declared.stage.Stage.{Stage}
+use Rattle.job_seats.specs.declared.stage.Stage.TheVariants.{Waits, Taken, Polling, Joining, Arriving, Leaving, Over}
+use Rattle.job_seats.specs.SeatValue.{KidValue, SeatValue, seat_at, kid_at, seat_path, is_over, all_over, waiting, own_seat, kid_seat, living_seats, next_seats, freed}
 use Rattle.job_schedule.specs.World.{World, next_job, renewed}
 use Rattle.job_schedule.proofs.Closing.{one_superstep}
 use Rattle.schedule_laws.specs.Working.{trip_if, SitsAt, Sits, of_seat, IsWorking, IsTurning}

@@ -23,9 +23,9 @@ use Rattle.tier_answers.proofs.Stepping.{fitting}
 use Rattle.tier_roles.specs.Roles.{Role, Out, Joins, Seeks, Settles, GivesBack, Late, Polls, Ready, Here, Looks, Passes, Owes, Leads, Past, Plays}
 use Rattle.tier_roles.specs.Cast.{role_at, members_in}
 use Rattle.tier_roles.proofs.Playing.{size_of, sums_alike, home_within}
-use Rattle.job_schedule.specs.declared.stage.Stage.{Stage}
-use Rattle.job_schedule.specs.declared.stage.Stage.TheVariants.{Waits, Taken, Polling, Joining, Arriving, Leaving, Over}
-use Rattle.job_schedule.specs.SeatValue.{KidValue, SeatValue, seat_at, kid_at, is_delivered}
+use Rattle.job_seats.specs.declared.stage.Stage.{Stage}
+use Rattle.job_seats.specs.declared.stage.Stage.TheVariants.{Waits, Taken, Polling, Joining, Arriving, Leaving, Over}
+use Rattle.job_seats.specs.SeatValue.{KidValue, SeatValue, seat_at, kid_at, is_delivered}
 use Rattle.job_schedule.specs.World.{World}
 use Rattle.schedule_laws.specs.Working.{trip_if, ComesTo, ArrivesAt, SitsAt, of_seat, IsWorking}
 use Rattle.schedule_laws.proofs.Sharing.{own_in, known_in}

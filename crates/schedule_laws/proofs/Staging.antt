@@ -7,9 +7,9 @@ use Rattle.tier_steps.specs.declared.view.Trip.TheVariants.{Arrival}
 use Rattle.tier_core.specs.declared.call.Played.{Played}
 use Rattle.tier_roles.specs.Roles.{Role, Out, Polls, Ready, Here, Past}
 use Rattle.tier_roles.specs.Cast.{role_at}
-use Rattle.job_schedule.specs.declared.stage.Stage.{Stage}
-use Rattle.job_schedule.specs.declared.stage.Stage.TheVariants.{Waits, Taken, Polling, Joining, Arriving, Leaving, Over}
-use Rattle.job_schedule.specs.SeatValue.{KidValue, SeatValue, no_kid, kid_at, is_done, is_refused, next_stage, sent_home, answered, arriving, joining}
+use Rattle.job_seats.specs.declared.stage.Stage.{Stage}
+use Rattle.job_seats.specs.declared.stage.Stage.TheVariants.{Waits, Taken, Polling, Joining, Arriving, Leaving, Over}
+use Rattle.job_seats.specs.SeatValue.{KidValue, SeatValue, no_kid, kid_at, is_done, is_refused, next_stage, sent_home, answered, arriving, joining}
 use Rattle.schedule_laws.specs.Working.{trip_if, ComesTo, ArrivesAt, SitsAt, Sits, of_seat}
 use Rattle.schedule_laws.proofs.Turning.{sum_set_same}
 use Rattle.schedule_laws.proofs.Answering.{done_answer, refused_answer, kept_answer, goes_same, JoinEnds, PassEnds}

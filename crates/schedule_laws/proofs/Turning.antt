@@ -9,8 +9,8 @@ use Rattle.tier_core.specs.Machine.{State}
 use Rattle.tier_answers.specs.Frame.{flat_of}
 use Rattle.tier_roles.specs.Roles.{Role, Out}
 use Rattle.tier_roles.specs.Cast.{role_at, IsCast}
-use Rattle.job_schedule.specs.declared.stage.Stage.{Stage}
-use Rattle.job_schedule.specs.SeatValue.{KidValue, SeatValue, no_seat, seat_at, kid_at}
+use Rattle.job_seats.specs.declared.stage.Stage.{Stage}
+use Rattle.job_seats.specs.SeatValue.{KidValue, SeatValue, no_seat, seat_at, kid_at}
 use Rattle.job_schedule.specs.World.{World, with_seat}
 use Rattle.schedule_laws.specs.Working.{OwnFits, KidFits, SitsAt, Sits, of_seat, AreShared, IsWorking}
 use Rattle.schedule_laws.proofs.Sharing.{one, others_own, others_kid, free_not}

@@ -8,12 +8,12 @@ use Rattle.tier_answers.specs.Frame.{flat_of}
 use Rattle.task_lang.specs.Meaning.{Segment}
 use Rattle.step_core.specs.Program.{Program}
 use Rattle.step_core.specs.Superstep.{segments, first_fault, record_of}
-use Rattle.job_schedule.specs.declared.stage.Mode.TheVariants as mode
+use Rattle.job_seats.specs.declared.stage.Mode.TheVariants as mode
 use Rattle.job_schedule.specs.declared.step.JobStep.{JobStep}
 use Rattle.job_schedule.specs.declared.step.JobStep.TheVariants.{Close}
-use Rattle.job_schedule.specs.SeatValue.{is_delivered, is_refused, seat_at}
+use Rattle.job_seats.specs.SeatValue.{is_delivered, is_refused, seat_at}
 use Rattle.job_schedule.specs.AnswerValue.{Advanced, Stepped, NotNow}
-use Rattle.job_schedule.specs.declared.stage.Move.TheVariants.{Calls, Closes}
+use Rattle.job_seats.specs.declared.stage.Move.TheVariants.{Calls, Closes}
 use Rattle.job_schedule.specs.World.{World, opening_world, answer_of, move_of, worker_of, world_after, reached}
 use Rattle.schedule_laws.specs.Working.{IsKept}
 

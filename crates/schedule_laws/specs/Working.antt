@@ -7,11 +7,11 @@ use Rattle.tier_answers.specs.Frame.{flat_of}
 use Rattle.step_core.specs.JobMeaning.{status}
 use Rattle.tier_roles.specs.Roles.{Role, Out, Joins, Seeks, Settles, GivesBack, Late, Polls, Ready, Here, Looks, Passes, Owes, Leads, Past}
 use Rattle.tier_roles.specs.Cast.{role_at, IsCast, turned}
-use Rattle.job_schedule.specs.declared.stage.Mode.{Mode}
-use Rattle.job_schedule.specs.declared.stage.Mode.TheVariants as mode
-use Rattle.job_schedule.specs.declared.stage.Stage.{Stage}
-use Rattle.job_schedule.specs.declared.stage.Stage.TheVariants.{Waits, Taken, Polling, Joining, Arriving, Leaving, Over}
-use Rattle.job_schedule.specs.SeatValue.{KidValue, SeatValue, kid_at, seat_at, all_over, living_seats}
+use Rattle.job_seats.specs.declared.stage.Mode.{Mode}
+use Rattle.job_seats.specs.declared.stage.Mode.TheVariants as mode
+use Rattle.job_seats.specs.declared.stage.Stage.{Stage}
+use Rattle.job_seats.specs.declared.stage.Stage.TheVariants.{Waits, Taken, Polling, Joining, Arriving, Leaving, Over}
+use Rattle.job_seats.specs.SeatValue.{KidValue, SeatValue, kid_at, seat_at, all_over, living_seats}
 use Rattle.job_schedule.specs.World.{World, plan_for}
 
 -- a task that synced arrives, any other leaves

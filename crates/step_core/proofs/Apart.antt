@@ -11,11 +11,11 @@ use Rattle.task_lang.specs.declared.job.Start.{Start}
 use Rattle.task_lang.specs.Meaning.{Plan, Task, After, Synced, Stopped, Faulted, Segment, segment_of}
 use Rattle.task_lang.specs.Laws.{children}
 use Rattle.task_lang.proofs.AllSegments.{numbers-its-spawns, stays-the-same-task}
-use Rattle.step_core.specs.Program.{Program, program_of}
-use Rattle.step_core.specs.RoundValue.{RoundValue, IsRound, state_of}
+use Rattle.step_parts.specs.Program.{Program, program_of}
+use Rattle.step_parts.specs.RoundValue.{RoundValue, IsRound, state_of}
 use Rattle.superstep_memory.specs.PathOrder.{put_in, in_path_order}
-use Rattle.step_core.specs.Superstep.{State, superstep, closed, ended_by, gone_on, segments, first_fault, next_live, living_on, synced, live_paths}
-use Rattle.step_core.specs.JobMeaning.{so_far, status, unless_ended, start_tasks}
+use Rattle.step_parts.specs.Superstep.{State, superstep, closed, ended_by, gone_on, segments, first_fault, next_live, living_on, synced, live_paths}
+use Rattle.step_parts.specs.JobMeaning.{so_far, status, unless_ended, start_tasks}
 use Rattle.step_core.specs.Laws.{LivePathsRise}
 
 -- ---- lists that end alike

@@ -10,25 +10,25 @@ use Rattle.task_lang.specs.SegmentValue.{SegmentValue}
 use Rattle.task_lang.specs.Meaning.{Plan, Task, Segment, segment_of}
 use Rattle.task_lang.specs.Views.{plans, task_of, meant}
 use Rattle.task_lang.proofs.AllSegments.{numbers-its-spawns}
-use Rattle.step_core.specs.Program.{Program, program_of}
+use Rattle.step_parts.specs.Program.{Program, program_of}
 use Rattle.superstep_memory.specs.PathOrder.{in_path_order}
-use Rattle.step_core.specs.Superstep.{State, superstep, closed, closed_by, ended_by, gone_on, segments, first_fault, next_live, log_of, prints_of, record_of}
+use Rattle.step_parts.specs.Superstep.{State, superstep, closed, closed_by, ended_by, gone_on, segments, first_fault, next_live, log_of, prints_of, record_of}
 use Rattle.smallvec.specs.SmallVec.{SmallVec}
 use Rattle.task_lang.specs.JobValue.{JobValue}
 use Rattle.task_lang.specs.declared.job.Start.{Start}
 use Rattle.task_lang.specs.BodyValue.{BodyValue}
-use Rattle.step_core.specs.declared.fault.Outcome.TheVariants.{TooMany, Landed}
-use Rattle.step_core.specs.Taking.{outcome_of, outcome_by}
-use Rattle.step_core.specs.JobMeaning.{so_far, status, opening, start_tasks}
-use Rattle.step_core.specs.SlotValue.{SlotValue}
-use Rattle.step_core.specs.FinishedValue.{FinishedValue}
-use Rattle.step_core.specs.Slots.{Slot, slot_of, slots_of, told_by, task_in, delivered, with_done, first_missing, or_missing, fresh, all_prints, all_told}
-use Rattle.step_core.specs.SlotParts.{path_in, path_of, living_in, fresh_slot, IsSmall, AllSmall}
-use Rattle.step_core.specs.RoundValue.{RoundValue, IsRound, Fits, AllFit, AllFresh, Opens, state_of, status_in, slots_in, whole, with_fault}
-use Rattle.step_core.proofs.Runs.{goes, no_fault}
-use Rattle.step_core.proofs.InOrder.{put_all_mapped, count_in_order}
+use Rattle.step_parts.specs.declared.fault.Outcome.TheVariants.{TooMany, Landed}
+use Rattle.step_parts.specs.Taking.{outcome_of, outcome_by}
+use Rattle.step_parts.specs.JobMeaning.{so_far, status, opening, start_tasks}
+use Rattle.step_parts.specs.SlotValue.{SlotValue}
+use Rattle.step_parts.specs.FinishedValue.{FinishedValue}
+use Rattle.step_parts.specs.Slots.{Slot, slot_of, slots_of, told_by, task_in, delivered, with_done, first_missing, or_missing, fresh, all_prints, all_told}
+use Rattle.step_parts.specs.SlotParts.{path_in, path_of, living_in, fresh_slot, IsSmall, AllSmall}
+use Rattle.step_parts.specs.RoundValue.{RoundValue, IsRound, Fits, AllFit, AllFresh, Opens, state_of, status_in, slots_in, whole, with_fault}
+use Rattle.step_parts.proofs.Runs.{goes, no_fault}
+use Rattle.step_parts.proofs.InOrder.{put_all_mapped, count_in_order}
 use Rattle.std.proofs.lemmas.List.{length-map}
-use Rattle.step_core.proofs.Deeds.{living_mapped}
+use Rattle.step_parts.proofs.Deeds.{living_mapped}
 
 one_delivered : (p : Program) (a : List (List ℕ × List ℤ)) (n : ℕ) (t : Task) (ss : List Slot) (o : Option Segment) → Fits p.plans a n t o
     → or_missing o t.path (first_missing ss) ≡ None → (first_missing ss ≡ None → delivered ss ≡ segments p a n (map task_in ss))

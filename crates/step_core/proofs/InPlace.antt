@@ -3,7 +3,7 @@ use Rattle.std.proofs.Common.{◌≡◌, ℕ, suc, ◌+◌, ◌≤◌, ◌<◌, 
 use Rattle.std.specs.Prelude.{ℤ}
 use Rattle.std.proofs.lemmas.List.{length-map, length-append}
 use Rattle.task_lang.proofs.AllSegments.{numbers-its-spawns}
-use Rattle.step_core.specs.SlotParts.{path_in}
+use Rattle.step_parts.specs.SlotParts.{path_in}
 use Rattle.superstep_memory.specs.declared.arrays.Put.{Put}
 use Rattle.superstep_memory.specs.Landing.{joined}
 use Rattle.phase_records.specs.PrintValue.{PrintValue}
@@ -11,8 +11,8 @@ use Rattle.task_lang.specs.TaskValue.{TaskValue}
 use Rattle.task_lang.specs.Meaning.{Plan, Task, After, Segment, Synced, Stopped, Faulted, segment_of}
 use Rattle.task_lang.specs.Views.{task_of}
 use Rattle.step_core.specs.DeedValue.{DeedValue}
-use Rattle.step_core.specs.Program.{Program}
-use Rattle.step_core.specs.Superstep.{first_fault, or_later, log_of, print_of, prints_of, living_on, synced, stopped, left, spawned}
+use Rattle.step_parts.specs.Program.{Program}
+use Rattle.step_parts.specs.Superstep.{first_fault, or_later, log_of, print_of, prints_of, living_on, synced, stopped, left, spawned}
 use Rattle.step_core.specs.InPlace.{end_of, IsDeed, ToldOne, AllDone, deeds_of, IsAllDone, kept, living_with, one_left, left_in, spawned_in, AllFew}
 
 -- the first tasks are done, and the others stand as they were

@@ -12,9 +12,9 @@ use Rattle.superstep_memory.proofs.LandedLaws as landings
 use Rattle.task_lang.specs.Meaning.{Task, Segment}
 use Rattle.task_lang.specs.Laws.{is_to_cell}
 use Rattle.task_lang.proofs.AllSegments.{puts-into-cells}
-use Rattle.step_core.specs.Program.{Program}
-use Rattle.step_core.specs.Superstep.{State, closed, ended_by, gone_on, segments, first_fault, next_live, log_of}
-use Rattle.step_core.specs.JobMeaning.{so_far}
+use Rattle.step_parts.specs.Program.{Program}
+use Rattle.step_parts.specs.Superstep.{State, closed, ended_by, gone_on, segments, first_fault, next_live, log_of}
+use Rattle.step_parts.specs.JobMeaning.{so_far}
 use Rattle.step_core.specs.Laws.{deed, LaterPathWins, OthersKeepTheirValues}
 use Rattle.step_core.proofs.Apart.{live-paths-rise}
 

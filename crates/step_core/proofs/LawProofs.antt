@@ -6,9 +6,9 @@ use Rattle.superstep_memory.specs.Paths.{path_lt}
 use Rattle.phase_records.specs.Status.{Status, Limit}
 use Rattle.task_lang.specs.Meaning.{Task, After, Synced, Stopped, Faulted, Segment, segment_of}
 use Rattle.task_lang.specs.Views.{plans}
-use Rattle.step_core.specs.Program.{Program, program_of}
+use Rattle.step_parts.specs.Program.{Program, program_of}
 use Rattle.superstep_memory.specs.PathOrder.{put_in, in_path_order}
-use Rattle.step_core.specs.Superstep.{
+use Rattle.step_parts.specs.Superstep.{
   State,
   superstep,
   closed,
@@ -25,12 +25,12 @@ use Rattle.step_core.specs.Superstep.{
   left,
   record_of,
 }
-use Rattle.step_core.specs.JobMeaning.{so_far, status, status_of, unless_ended, report_of}
-use Rattle.step_core.specs.SlotValue.{SlotValue}
-use Rattle.step_core.specs.Slots.{delivered, first_missing}
-use Rattle.step_core.specs.OrderValue.{DeliveryValue, IsDelivery}
-use Rattle.step_core.specs.RoundValue.{RoundValue, IsRound, state_of, status_in, slots_in, with_slots}
-use Rattle.step_core.specs.Taking.{Takes, IsFor, with_delivery}
+use Rattle.step_parts.specs.JobMeaning.{so_far, status, status_of, unless_ended, report_of}
+use Rattle.step_parts.specs.SlotValue.{SlotValue}
+use Rattle.step_parts.specs.Slots.{delivered, first_missing}
+use Rattle.step_parts.specs.OrderValue.{DeliveryValue, IsDelivery}
+use Rattle.step_parts.specs.RoundValue.{RoundValue, IsRound, state_of, status_in, slots_in, with_slots}
+use Rattle.step_parts.specs.Taking.{Takes, IsFor, with_delivery}
 use Rattle.step_core.specs.Laws.{
   after_all,
   TakesAll,
@@ -44,12 +44,12 @@ use Rattle.step_core.specs.Laws.{
 }
 use Rattle.step_core.proofs.Rounds.{taken, set_is_with, here, tasks_stay}
 use Rattle.step_core.proofs.Closed.{all_delivered}
-use Rattle.step_core.proofs.Runs.{always_told}
-use Rattle.step_core.proofs.InOrder.{put_all_mapped}
+use Rattle.step_parts.proofs.Runs.{always_told}
+use Rattle.step_parts.proofs.InOrder.{put_all_mapped}
 use Rattle.std.proofs.lemmas.List.{map-append}
 use Rattle.task_lang.proofs.AllSegments.{stays-the-same-task}
-use Rattle.step_core.specs.OrderValue.{spawned_paths, is_synced}
-use Rattle.step_core.specs.Superstep.{live_paths}
+use Rattle.step_parts.specs.OrderValue.{spawned_paths, is_synced}
+use Rattle.step_parts.specs.Superstep.{live_paths}
 
 -- ---- deliveries in any order
 

@@ -1,7 +1,3 @@
-pub mod InOrder
-pub mod Deeds
-pub mod Beside
-pub mod Runs
 pub mod Rounds
 pub mod Closed
 pub mod LawProofs

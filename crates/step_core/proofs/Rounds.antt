@@ -1,25 +1,24 @@
 -- What a round's orders and deliveries are.
-use Rattle.std.proofs.Common.{◌≡◌, ℕ, zero, suc, ◌+◌, ◌≤◌, ◌<◌, true, false, List, [], ◌∷◌, map, length, Option, Some, None, slice_get, slice_set, drop, add-one, refl, sym, ap, ◌∙◌, subst, arith}
-use Rattle.std.specs.Prelude.{ℤ, is_some, ◌||◌}
+use Rattle.std.proofs.Common.{◌≡◌, ℕ, zero, suc, ◌+◌, ◌≤◌, ◌<◌, true, false, List, [], ◌∷◌, map, length, Option, Some, None, slice_get, slice_set, refl, sym, ap, ◌∙◌, subst, arith}
+use Rattle.std.specs.Prelude.{ℤ, is_some}
 use Rattle.std.specs.Option.{option_map}
-use Rattle.std.specs.Str.{bytes_eq}
-use Rattle.step_core.specs.SlotParts.{IsPlaceOf, IsPath, path_in, fresh_slot}
+use Rattle.step_parts.specs.SlotParts.{path_in, fresh_slot}
 use Rattle.std.proofs.lemmas.List.{length-set}
 use Rattle.task_lang.specs.JobValue.{JobValue}
 use Rattle.task_lang.specs.TaskValue.{TaskValue}
 use Rattle.task_lang.specs.SegmentValue.{SegmentValue}
 use Rattle.task_lang.specs.Meaning.{Plan, Task, Segment, segment_of}
 use Rattle.task_lang.specs.Views.{plans, task_of, meant}
-use Rattle.step_core.specs.Program.{program_of}
-use Rattle.step_core.specs.Superstep.{State}
-use Rattle.step_core.specs.JobMeaning.{state_at, status}
-use Rattle.step_core.specs.SlotValue.{SlotValue}
-use Rattle.step_core.specs.Slots.{slots_of, task_in, with_segment, missing_in, one_missing, first_missing, or_missing}
-use Rattle.step_core.specs.OrderValue.{order_value, IsOrder, deed_of, deed_at, DeliveryValue, IsDelivery}
-use Rattle.step_core.specs.Taking.{IsFor, IsOrdered, is_done, is_live, Takes, task_at}
+use Rattle.step_parts.specs.Program.{program_of}
+use Rattle.step_parts.specs.Superstep.{State}
+use Rattle.step_parts.specs.JobMeaning.{state_at, status}
+use Rattle.step_parts.specs.SlotValue.{SlotValue}
+use Rattle.step_parts.specs.Slots.{slots_of, task_in, with_segment, missing_in, one_missing, first_missing, or_missing}
+use Rattle.step_parts.specs.OrderValue.{order_value, IsOrder, deed_of, deed_at, DeliveryValue, IsDelivery}
+use Rattle.step_parts.specs.Taking.{IsFor, IsOrdered, is_done, Takes, task_at}
 use Rattle.step_core.specs.Laws.{MissingTells, OrdersAreOwn}
-use Rattle.step_core.specs.RoundValue.{RoundValue, IsRound, AllFit, state_of, status_in, with_slots}
-use Rattle.step_core.proofs.Runs.{going_on}
+use Rattle.step_parts.specs.RoundValue.{RoundValue, IsRound, AllFit, state_of, status_in, with_slots}
+use Rattle.step_parts.proofs.Runs.{going_on}
 
 pub running : (r : RoundValue) → IsRound r → status_in r ≡ None → state_of r ≡ state_at (program_of r.job) r.step
 running r h run =
@@ -104,11 +103,6 @@ some_there [] p lt = absurd (omega (arith, lt))
 some_there (x ∷ xs) zero lt = (x, refl)
 some_there (x ∷ xs) (suc p) lt = some_there xs p (omega (arith, lt))
 
-pub there_below : (ss : List SlotValue) (p : ℕ) (s : SlotValue) → slice_get ss p ≡ Some s → p < length ss
-there_below [] p s h = cc
-there_below (x ∷ xs) zero s h = omega arith
-there_below (x ∷ xs) (suc p) s h = let l = there_below xs p s h in omega (arith, l)
-
 pub here : (r : RoundValue) (job : JobValue) (step place q : ℕ) (path : List ℕ) (g : SegmentValue) → job ≡ r.job → step ≡ r.step → place ≡ q
     → deed_at (program_of job) step place ≡ Some (path, meant (plans job.bodies) g) → deed_at (program_of r.job) r.step q ≡ Some (path, meant (plans r.job.bodies) g)
 here r job step place q path g j s p k =
@@ -120,38 +114,6 @@ pub for_task : (r : RoundValue) (job : JobValue) (step place q : ℕ) (path : Li
     → deed_at (program_of job) step place ≡ Some (path, meant (plans job.bodies) g) → s.task.path ≡ path
 for_task r job step place q path s g h run j e p at k =
     ap (λ (x : List ℕ × Segment). x.0) (delivered_is r h run q s path (meant (plans r.job.bodies) g) at (here r job step place q path g j e p k))
-
--- the slot in front of what is left
-pub slot_left : (ss rest after : List SlotValue) (p : ℕ) (s : SlotValue) → rest ≡ drop p ss → rest ≡ s ∷ after → slice_get ss p ≡ Some s
-slot_left ss rest after p s d e = by ss p (sym d ∙ e)
-  where
-    by : (ss : List SlotValue) (p : ℕ) → drop p ss ≡ s ∷ after → slice_get ss p ≡ Some s
-    by [] zero h = cc
-    by [] (suc p) h = cc
-    by (x ∷ xs) zero h = cc
-    by (x ∷ xs) (suc p) h = by xs p h
-
-pub rest_left : (ss rest after : List SlotValue) (p : ℕ) (s : SlotValue) → rest ≡ drop p ss → rest ≡ s ∷ after → after ≡ drop (p + 1) ss
-rest_left ss rest after p s d e = by ss p (sym d ∙ e) ∙ ap (λ (k : ℕ). drop k ss) (sym (add-one p))
-  where
-    by : (ss : List SlotValue) (p : ℕ) → drop p ss ≡ s ∷ after → after ≡ drop (suc p) ss
-    by [] zero h = cc
-    by [] (suc p) h = cc
-    by (x ∷ xs) zero h = cc
-    by (x ∷ xs) (suc p) h = by xs p h
-
--- it is counted
-pub rest_below : (ss rest after : List SlotValue) (p : ℕ) (s : SlotValue) → rest ≡ s ∷ after → p + length rest ≡ length ss → p < length ss
-rest_below ss rest after p s e h = let l : length rest ≡ suc (length after) = ap length e in omega (arith, l, h)
-
-pub rest_count : (ss rest after : List SlotValue) (p : ℕ) (s : SlotValue) → rest ≡ s ∷ after → p + length rest ≡ length ss → (p + 1) + length after ≡ length ss
-rest_count ss rest after p s e h = let l : length rest ≡ suc (length after) = ap length e in omega (arith, l, h)
-
-pub is_place : (ss : List SlotValue) (path : List ℕ) (p : ℕ) (s : SlotValue) → p < length ss → slice_get ss p ≡ Some s → s.task.path ≡ path → IsPlaceOf ss path p
-is_place ss path p s lt at e = record { below = lt; path = subst (IsPath path) (sym at) e }
-
-pub live_left : (rest after : List SlotValue) (path : List ℕ) (s : SlotValue) → rest ≡ s ∷ after → bytes_eq s.task.path path ≡ false → is_live rest path ≡ is_live after path
-live_left rest after path s e h = ap (λ ss. is_live ss path) e ∙ ap (λ b. b || is_live after path) h
 
 -- the paths of the live tasks
 pub paths_at : (ps : List Plan) (ss : List SlotValue) → map path_in (map task_at ss) ≡ map (λ (t : Task). t.path) (map task_in (slots_of ps ss))

@@ -4,8 +4,8 @@ use Rattle.phase_records.specs.ReportValue.{ReportValue}
 use Rattle.phase_records.specs.Status.{Status}
 use Rattle.task_lang.specs.Views.{task_of}
 use Rattle.step_core.specs.declared.alone.Course.{Course}
-use Rattle.step_core.specs.Program.{Program}
-use Rattle.step_core.specs.Superstep.{State, superstep, ended_by}
+use Rattle.step_parts.specs.Program.{Program}
+use Rattle.step_parts.specs.Superstep.{State, superstep, ended_by}
 
 abbrev pub course_state : Program → Course → State
 course_state p c = record {

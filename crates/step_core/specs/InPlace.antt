@@ -12,8 +12,8 @@ use Rattle.task_lang.specs.Meaning.{Plan, Segment, After, Synced, Stopped, fault
 use Rattle.task_lang.specs.Lent.{HasAdded}
 use Rattle.task_lang.specs.Views.{task_of}
 use Rattle.step_core.specs.DeedValue.{DeedValue}
-use Rattle.step_core.specs.Program.{Program}
-use Rattle.step_core.specs.Superstep.{segments, first_fault, log_of, print_of, prints_of}
+use Rattle.step_parts.specs.Program.{Program}
+use Rattle.step_parts.specs.Superstep.{segments, first_fault, log_of, print_of, prints_of}
 
 -- A task's segment ended so: its puts came behind the log, its prints and spawns stand in the buffers, and where it
 -- synced the task goes on as the segment says.

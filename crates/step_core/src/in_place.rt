@@ -2,14 +2,14 @@
 ghost use Rattle.std.specs.Prelude.{◌≡◌, ◌≤◌, ◌++◌, ◌∷◌, [], IfOk, OnOk, length};
 ghost use Rattle.task_lang.specs.Meaning.{segment_of};
 ghost use Rattle.task_lang.specs.Views.{plans, task_of};
-ghost use Rattle.step_core.specs.Program.{program_of};
+ghost use Rattle.step_parts.specs.Program.{program_of};
 ghost use Rattle.step_core.specs.InPlace.{IsDone, ToldOne, Told, deeds_of, told_in, AllFew};
 
-use crate::closing::push_prints;
-use crate::slot::{Blame, task_path};
 use phase_records::{PhaseRecord, Print};
 use std::alloc::{AllocError, Global};
 use std::marker::Model;
+use step_parts::closing::push_prints;
+use step_parts::slot::{Blame, task_path};
 use superstep_memory::arrays::Arrays;
 use task_lang::job::Job;
 use task_lang::scene::{Ending, Work};

@@ -2,18 +2,12 @@
 #![tactic(auto)]
 
 mod alone;
-mod closing;
-mod fault;
 mod in_place;
 pub mod laws;
-mod live;
-mod next;
-mod order;
-mod reading;
+mod regroup;
 mod round;
-mod slot;
 
 pub use alone::run_alone;
-pub use fault::{AcceptFault, CloseFault, Outcome};
-pub use order::{Delivery, Order};
 pub use round::Round;
+pub use step_parts::fault::{AcceptFault, CloseFault, Outcome};
+pub use step_parts::order::{Delivery, Order};

@@ -1,16 +1,16 @@
 //! The supersteps of a job, taken one by one.
 use crate::alone::start_all;
-use crate::closing::{find_fault, find_missing, too_many};
-use crate::fault::{AcceptFault, CloseFault, Outcome};
-use crate::live::Live;
-use crate::next::count_living;
-use crate::order::{Delivery, Order, paths_of};
-use crate::reading::{find_near, join_report, prints_of, records_of};
-use crate::slot::{Blame, Finished};
 use phase_records::{JobStatus, Report};
 use std::alloc::{AllocError, Global};
 use std::marker::Model;
 use std::sync::Arc;
+use step_parts::closing::{find_fault, find_missing, too_many};
+use step_parts::fault::{AcceptFault, CloseFault, Outcome};
+use step_parts::live::Live;
+use step_parts::next::count_living;
+use step_parts::order::{Delivery, Order, paths_of};
+use step_parts::reading::{find_near, join_report, prints_of, records_of};
+use step_parts::slot::{Blame, Finished};
 use superstep_memory::arrays::Arrays;
 use superstep_memory::path::Path;
 use task_lang::job::Job;
@@ -31,7 +31,7 @@ pub struct Round<'j> {
 }
 
 impl<'j> Model for Round<'j> {
-    ghost use Rattle.step_core.specs.RoundValue.{RoundValue};
+    ghost use Rattle.step_parts.specs.RoundValue.{RoundValue};
 
     ghost Value = { RoundValue };
 
@@ -48,13 +48,13 @@ impl<'j> Round<'j> {
     ghost use Rattle.superstep_memory.specs.Paths.{is_rising};
     ghost use Rattle.phase_records.specs.Status.{IsShort};
     ghost use Rattle.phase_records.specs.StatusSeen.{status_seen};
-    ghost use Rattle.step_core.specs.Program.{program_of};
-    ghost use Rattle.step_core.specs.JobMeaning.{opening, report_in};
-    ghost use Rattle.step_core.specs.Superstep.{superstep, live_paths, first_fault};
-    ghost use Rattle.step_core.specs.Slots.{delivered, first_missing, missing_in};
-    ghost use Rattle.step_core.specs.SlotParts.{path_of, living_in, IsPlaceOf};
-    ghost use Rattle.step_core.specs.RoundValue.{IsRound, Opens, state_of, status_in, slots_in, with_fault};
-    ghost use Rattle.step_core.specs.Taking.{Refuses, Takes, IsDouble, with_delivery, NotClosed, outcome_of, IsOrderOf, IsOrderAt, is_live, task_at};
+    ghost use Rattle.step_parts.specs.Program.{program_of};
+    ghost use Rattle.step_parts.specs.JobMeaning.{opening, report_in};
+    ghost use Rattle.step_parts.specs.Superstep.{superstep, live_paths, first_fault};
+    ghost use Rattle.step_parts.specs.Slots.{delivered, first_missing, missing_in};
+    ghost use Rattle.step_parts.specs.SlotParts.{path_of, living_in, IsPlaceOf};
+    ghost use Rattle.step_parts.specs.RoundValue.{IsRound, Opens, state_of, status_in, slots_in, with_fault};
+    ghost use Rattle.step_parts.specs.Taking.{Refuses, Takes, IsDouble, with_delivery, NotClosed, outcome_of, IsOrderOf, IsOrderAt, is_live, task_at};
 
     /// A round of this job with this limit of supersteps, before the first of them.
     pub fn new(alloc: Global, job: &'j Job, limit: u32) -> Result<Self, AllocError>

@@ -26,7 +26,7 @@ use crate::tree_print::shape_fault_line;
 use crate::tree_words::{TreeCommand, TreeHead};
 use crate::words::{PhaserCommand, PhaserHead};
 use advance_rule::{StoredAction, StoredCount};
-use cyclic_gate::BarrierCore;
+use cyclic_barrier::BarrierCore;
 use phase_records::{CountedRead, CountedWrite, ReadFault, read_all, write_all};
 use phaser_one::PhaserOne;
 use std::alloc::{AllocError, Global};

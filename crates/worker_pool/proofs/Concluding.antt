@@ -7,7 +7,7 @@ use Rattle.step_core.specs.Program.{Program, program_of}
 use Rattle.step_core.specs.Superstep.{State}
 use Rattle.step_core.specs.JobMeaning.{report_in, report_of, so_far, status}
 use Rattle.step_core.specs.RoundValue.{RoundValue, IsRound, state_of, status_in}
-use Rattle.step_core.proofs.Runs.{ended_is_last}
+use Rattle.step_parts.proofs.Runs.{ended_is_last}
 
 -- a state so far that has ended tells the job's report
 told_at_end : (p : Program) (limit n : ℕ) (st : State) (s : Status) → st ≡ so_far p limit n → status limit st ≡ Some s → report_of p limit ≡ report_in limit st

@@ -1,22 +1,25 @@
 //! Segments that overlap: a gate holds one task until another has left.
+use crate::left::job_of;
 use crate::pool::fixtures::{SWAP, left_by};
-use phase_records::JobStatus;
+use phase_records::{JobStatus, Report};
 use std::alloc::Global;
 use std::sync::Wait;
-use std::sync::atomic::{AtomicBool, Ordering};
-use std::test::Fail;
+use std::sync::atomic::{AtomicBool, AtomicU32, AtomicU64, Ordering};
 use std::thread;
 use std::thread::Threads;
 use superstep_memory::path::Path;
-use worker_pool::{AllStart, Gate};
+use task_lang::job::Job;
+use worker_pool::{AllStart, Gate, Refused};
 
-// Holds the segment of one start task in superstep 0 until that of another was left. After many turns it gives up.
+// Holds the segment of one start task in superstep 0 until that of another was left. After many turns it gives up. It
+// counts the segments that are entered.
 #[derive(Drop)]
-struct HoldsBack {
+pub(crate) struct HoldsBack {
     held: u16,
     awaited: u16,
     left: AtomicBool,
     gave_up: AtomicBool,
+    entered: AtomicU32,
 }
 
 fn is_start(path: &Path, number: u16) -> bool {
@@ -25,6 +28,7 @@ fn is_start(path: &Path, number: u16) -> bool {
 
 impl Gate for HoldsBack {
     fn enter<R: Wait>(&self, _rt: &R, path: &Path, step: u32) {
+        self.entered.fetch_add(1, Ordering::SeqCst);
         if step != 0 || !is_start(path, self.held) {
             return;
         }
@@ -44,45 +48,69 @@ impl Gate for HoldsBack {
     }
 }
 
-fn holding(held: u16, awaited: u16) -> HoldsBack {
+pub(crate) fn holding(held: u16, awaited: u16) -> HoldsBack {
     HoldsBack {
         held,
         awaited,
         left: AtomicBool::new(false),
         gave_up: AtomicBool::new(false),
+        entered: AtomicU32::new(0),
     }
 }
 
-// Whether it held its task until the other had left, and not for ever.
+// Whether a gate held its task until the other had left, and not for ever.
 fn has_held(gate: &HoldsBack) -> bool {
     gate.left.load(Ordering::SeqCst) && !gate.gave_up.load(Ordering::SeqCst)
+}
+
+// How many segments were entered.
+pub(crate) fn count_entered(gate: &HoldsBack) -> u32 {
+    gate.entered.load(Ordering::SeqCst)
+}
+
+// Whether a job ended after two supersteps.
+fn has_ended(ran: &Result<Report, Refused>) -> bool {
+    match ran {
+        Ok(report) => matches!(report.status, JobStatus::Ended(2)),
+        Err(_) => false,
+    }
 }
 
 // Whether two workers end a job of two tasks as they should where one task waits for the other.
 fn overlap<R: Threads + Wait + Sync>(
     rt: &R,
     alloc: Global,
-    held: u16,
-    awaited: u16,
+    job: &Job,
     widths: &str,
-) -> Result<bool, Fail> {
-    let gate = holding(held, awaited);
-    let ran = left_by(rt, alloc, SWAP, widths, 2, 999999, &gate, &AllStart)?;
-    Ok(matches!(ran?.status, JobStatus::Ended(2)) && has_held(&gate))
+    gate: &HoldsBack,
+) -> bool {
+    let sum = AtomicU64::new(0);
+    let ran = left_by(rt, alloc, job, widths, 2, 1000000, gate, &AllStart, &sum);
+    has_ended(&ran) && has_held(gate)
+}
+
+// Whether they do where either waits for the other, on each of three trees.
+fn all_overlap<R: Threads + Wait + Sync>(rt: &R, alloc: Global, job: &Job) -> bool {
+    for widths in ["flat", "2", "2x3"] {
+        for held in 0..2 {
+            if !overlap(rt, alloc, job, widths, &holding(held, 1 - held)) {
+                return false;
+            }
+        }
+    }
+    true
+}
+
+// Whether two workers of a swap do.
+fn swaps_overlap<R: Threads + Wait + Sync>(rt: &R, alloc: Global) -> bool {
+    match job_of(alloc, SWAP) {
+        Ok(job) => all_overlap(rt, alloc, &job),
+        Err(_) => false,
+    }
 }
 
 // Two workers hold one task each: either may wait for the other.
 #[test]
-fn two_workers_overlap(rt: HostRuntime) -> Result<(), Fail> {
-    for (held, awaited, widths) in [
-        (0, 1, "flat"),
-        (1, 0, "flat"),
-        (0, 1, "2"),
-        (1, 0, "2"),
-        (0, 1, "2x3"),
-        (1, 0, "2x3"),
-    ] {
-        assert!(rt; overlap(&rt, rt.alloc(), held, awaited, widths)?);
-    }
-    Ok(())
+fn two_workers_overlap(rt: HostRuntime) {
+    assert!(rt; swaps_overlap(&rt, rt.alloc()));
 }

@@ -1,12 +1,11 @@
 //! What workers leave of jobs is what one thread leaves.
-ghost use Rattle.std.specs.Prelude.{◌≤◌};
-
-use crate::left::{left_within, report_text};
+use crate::left::{is_left_alone, job_of};
 use crate::pool::fixtures::{SPAWNS, SWAP, left_by};
 use std::alloc::Global;
 use std::sync::Wait;
-use std::test::Fail;
+use std::sync::atomic::AtomicU64;
 use std::thread::Threads;
+use task_lang::job::Job;
 use worker_pool::{AllStart, OpenGate};
 
 // A task that faults beside one that puts and one that prints.
@@ -78,102 +77,80 @@ start p 1
 start p 2
 ";
 
-// The text of what so many workers on a tree of these widths leave.
-fn shared_text<R: Threads + Wait + Sync>(
-    rt: &R,
-    alloc: Global,
-    text: &str,
-    widths: &str,
-    workers: u32,
-    limit: u32,
-) -> Result<Vec<u8>, Fail>
-    requires workers { (1 ≤ workers) × (workers ≤ 64) }
-    requires limit { (1 ≤ limit) × (limit ≤ 1000000) }
-{
-    let ran = left_by(
-        rt,
-        alloc,
-        text,
-        widths,
-        workers,
-        limit - 1,
-        &OpenGate,
-        &AllStart,
-    )?;
-    report_text(alloc, &ran?)
-}
+// A job, a limit, on which trees by how many workers it is run, and how often on each.
+type Row = (&'static str, u32, &'static [(&'static str, u32)], u32);
 
-// Whether that is what one thread leaves.
+// One tier and three levels, each by one, two and eight workers.
+const FEW_AND_MANY: &[(&str, u32)] = &[
+    ("flat", 1),
+    ("flat", 2),
+    ("flat", 8),
+    ("2x3", 1),
+    ("2x3", 2),
+    ("2x3", 8),
+];
+
+// The tree may be deep, a path of seven tiers, and the workers more than the tasks. Many runs leave the same.
+const ROWS: [Row; 8] = [
+    (SWAP, 1000000, FEW_AND_MANY, 1),
+    (SPAWNS, 1000000, FEW_AND_MANY, 1),
+    (FAULT, 1000000, FEW_AND_MANY, 1),
+    (FOR_EVER, 3, FEW_AND_MANY, 1),
+    (TOO_MANY, 1000000, FEW_AND_MANY, 1),
+    ("bsp 1\n", 1000000, FEW_AND_MANY, 1),
+    (CONFLICTS, 1000000, &[("1x1x1x1x1x1", 64)], 1),
+    (CONFLICTS, 1000000, &[("2x3", 4)], 200),
+];
+
+// Whether so many workers on a tree of these widths leave what one thread leaves.
 fn leave_the_same<R: Threads + Wait + Sync>(
     rt: &R,
     alloc: Global,
-    text: &str,
+    job: &Job,
+    limit: u32,
     widths: &str,
     workers: u32,
-    limit: u32,
-) -> Result<bool, Fail>
-    requires workers { (1 ≤ workers) × (workers ≤ 64) }
-    requires limit { (1 ≤ limit) × (limit ≤ 1000000) }
-{
-    let want = left_within(alloc, text, limit)?;
-    let left = shared_text(rt, alloc, text, widths, workers, limit)?;
-    Ok(left.as_slice() == want.as_slice())
+) -> bool {
+    let sum = AtomicU64::new(0);
+    match left_by(
+        rt, alloc, job, widths, workers, limit, &OpenGate, &AllStart, &sum,
+    ) {
+        Ok(report) => is_left_alone(alloc, job, limit, &report),
+        Err(_) => false,
+    }
 }
 
-// Whether one, two and eight workers on a tree of these widths do.
-fn few_and_many<R: Threads + Wait + Sync>(
-    rt: &R,
-    alloc: Global,
-    text: &str,
-    widths: &str,
-    limit: u32,
-) -> Result<bool, Fail>
-    requires { (1 ≤ limit) × (limit ≤ 1000000) }
-{
-    Ok(
-        leave_the_same(rt, alloc, text, widths, 1, limit)?
-            && leave_the_same(rt, alloc, text, widths, 2, limit)?
-            && leave_the_same(rt, alloc, text, widths, 8, limit)?,
-    )
-}
-
-// Whether they do on one tier and on three levels.
+// Whether so many runs of each kind do.
 fn all_leave_the_same<R: Threads + Wait + Sync>(
     rt: &R,
     alloc: Global,
-    text: &str,
+    job: &Job,
     limit: u32,
-) -> Result<bool, Fail>
-    requires { (1 ≤ limit) × (limit ≤ 1000000) }
-{
-    Ok(
-        few_and_many(rt, alloc, text, "flat", limit)?
-            && few_and_many(rt, alloc, text, "2x3", limit)?,
-    )
-}
-
-#[test]
-fn workers_leave_what_one_thread_leaves(rt: HostRuntime) -> Result<(), Fail> {
-    assert!(rt; all_leave_the_same(&rt, rt.alloc(), SWAP, 1000000)?);
-    assert!(rt; all_leave_the_same(&rt, rt.alloc(), SPAWNS, 1000000)?);
-    assert!(rt; all_leave_the_same(&rt, rt.alloc(), FAULT, 1000000)?);
-    assert!(rt; all_leave_the_same(&rt, rt.alloc(), FOR_EVER, 3)?);
-    assert!(rt; all_leave_the_same(&rt, rt.alloc(), TOO_MANY, 1000000)?);
-    assert!(rt; all_leave_the_same(&rt, rt.alloc(), "bsp 1\n", 1000000)?);
-    Ok(())
-}
-
-// On a path of seven tiers, and with more workers than tasks.
-#[test]
-fn the_tree_may_be_deep_and_the_workers_many(rt: HostRuntime) -> Result<(), Fail> {
-    assert!(rt; leave_the_same(&rt, rt.alloc(), CONFLICTS, "1x1x1x1x1x1", 64, 1000000)?);
-    Ok(())
-}
-
-#[test]
-fn two_hundred_runs_leave_the_same(rt: HostRuntime) -> Result<(), Fail> {
-    for _ in 0..200u32 {
-        assert!(rt; leave_the_same(&rt, rt.alloc(), CONFLICTS, "2x3", 4, 1000000)?);
+    runs: &[(&str, u32)],
+    times: u32,
+) -> bool {
+    for (widths, workers) in runs {
+        for _ in 0..times {
+            if !leave_the_same(rt, alloc, job, limit, widths, *workers) {
+                return false;
+            }
+        }
     }
-    Ok(())
+    true
+}
+
+// Whether the runs of a row do.
+fn is_so<R: Threads + Wait + Sync>(rt: &R, alloc: Global, row: &Row) -> bool {
+    let (text, limit, runs, times) = row;
+    match job_of(alloc, text) {
+        Ok(job) => all_leave_the_same(rt, alloc, &job, *limit, runs, *times),
+        Err(_) => false,
+    }
+}
+
+#[test]
+fn workers_leave_what_one_thread_leaves(rt: HostRuntime) {
+    for row in &ROWS {
+        assert!(rt; is_so(&rt, rt.alloc(), row));
+    }
 }

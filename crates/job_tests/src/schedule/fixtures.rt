@@ -1,33 +1,38 @@
 //! Schedules, and what a schedule leaves.
-use crate::left::{left_alone, report_text};
+use crate::left::is_left_alone;
 use job_schedule::drive::drive_job;
 use job_schedule::step::{Answer, JobStep};
 use phase_records::Report;
 use std::alloc::{AllocError, Global};
-use std::test::Fail;
 use task_lang::job::Job;
 use tier_shape::Shape;
 
-// The shape of a tree of these widths.
-fn shape_of(alloc: Global, widths: &str) -> Result<Shape, Fail> {
-    let shape = Shape::from_widths(alloc, widths)?;
-    Ok(shape)
+// The answers of a job to these steps, on a tree of this shape; none where the limit is none.
+fn drive(
+    alloc: Global,
+    job: &Job,
+    shape: Shape,
+    limit: u32,
+    steps: &[JobStep],
+) -> Result<Vec<Answer>, AllocError> {
+    if limit == 0 || limit > 1000000 {
+        return Ok(Vec::new(alloc));
+    }
+    drive_job(alloc, job, shape, limit, steps)
 }
 
-// The answers of a job to these steps, on a tree of these widths.
+// The answers of a job to these steps, on a tree of these widths, if there are any.
 pub(crate) fn answers_of(
     alloc: Global,
     job: &Job,
     widths: &str,
     limit: u32,
     steps: &[JobStep],
-) -> Result<Vec<Answer>, Fail> {
-    if limit == 0 || limit > 1000000 {
-        return Ok(Vec::new(alloc));
+) -> Result<Vec<Answer>, AllocError> {
+    match Shape::from_widths(alloc, widths) {
+        Ok(shape) => drive(alloc, job, shape, limit, steps),
+        Err(_) => Ok(Vec::new(alloc)),
     }
-    let shape = shape_of(alloc, widths)?;
-    let answers = drive_job(alloc, job, shape, limit, steps)?;
-    Ok(answers)
 }
 
 // The report of the answer that finishes a job, if it is the only one.
@@ -55,21 +60,32 @@ pub(crate) fn step_of(kind: usize, worker: usize) -> JobStep {
     }
 }
 
-// Each of so many workers in turn tries each kind of step, so many times.
-pub(crate) fn in_turn(
-    alloc: Global,
+// The try of this number of workers in turn, each of which tries these kinds in its turn.
+fn try_at(number: usize, workers: usize, kinds: &[usize]) -> JobStep {
+    let each = kinds.len().max(1);
+    let kind = kinds.get(number % each).copied().unwrap_or(0);
+    step_of(kind, number / each % workers.max(1))
+}
+
+// Adds so many tries of workers in turn.
+pub(crate) fn add_tries(
+    steps: &mut Vec<JobStep>,
     workers: usize,
-    turns: usize,
-) -> Result<Vec<JobStep>, AllocError> {
-    let mut steps = Vec::new(alloc);
-    for _ in 0..turns {
-        for worker in 0..workers {
-            for kind in 0..5 {
-                steps.push(step_of(kind, worker))?;
-            }
-        }
+    kinds: &[usize],
+    tries: usize,
+) -> Result<(), AllocError> {
+    for number in 0..tries {
+        steps.push(try_at(number, workers, kinds))?;
     }
-    Ok(steps)
+    Ok(())
+}
+
+// Whether these answers finish a job once, with what one thread leaves.
+fn are_as_alone(alloc: Global, job: &Job, limit: u32, answers: &[Answer]) -> bool {
+    match finished(answers) {
+        Some(report) => is_left_alone(alloc, job, limit, report),
+        None => false,
+    }
 }
 
 // Whether this schedule leaves what one thread leaves, and finishes the job once.
@@ -79,11 +95,9 @@ pub(crate) fn is_as_alone(
     widths: &str,
     limit: u32,
     steps: &[JobStep],
-) -> Result<bool, Fail> {
-    let want = left_alone(alloc, job, limit)?;
-    let answers = answers_of(alloc, job, widths, limit, steps)?;
-    match finished(&answers) {
-        None => Ok(false),
-        Some(report) => Ok(report_text(alloc, report)? == want),
+) -> bool {
+    match answers_of(alloc, job, widths, limit, steps) {
+        Ok(answers) => are_as_alone(alloc, job, limit, &answers),
+        Err(_) => false,
     }
 }

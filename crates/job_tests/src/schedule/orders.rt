@@ -1,9 +1,9 @@
 //! Jobs under written schedules: one worker alone, and eight workers in turn.
 use crate::left::job_of;
-use crate::schedule::fixtures::{in_turn, is_as_alone};
-use std::alloc::Global;
+use crate::schedule::fixtures::{add_tries, is_as_alone};
+use job_schedule::step::JobStep;
+use std::alloc::{AllocError, Global};
 use std::process::Abort;
-use std::test::Fail;
 use task_lang::job::Job;
 
 const SWAP: &str =
@@ -23,59 +23,56 @@ const ENDLESS: &str = "bsp 1\nbody b\nwhile 1\nsync\nend\nend\nstart b 0\nstart 
 const HANDOVER: &str =
     "bsp 1\nbody p\nspawn c 1\nspawn c 2\nspawn c 3\nend\nbody c\nspawn d 0\nspawn d 0\nend\nbody d\nprint 7\nend\nstart p 0\nstart p 1\n";
 
-// Whether so many workers that take so many turns leave what one thread leaves, on both trees.
-fn is_the_same_by(
+// Each job, and its limit.
+const JOBS: [(&str, u32); 6] = [
+    (SWAP, 10),
+    (CONFLICT, 10),
+    (SPAWNS, 10),
+    (FAULTS, 10),
+    (ENDLESS, 3),
+    (HANDOVER, 10),
+];
+
+// So many tries of workers in turn, each of which tries each kind of step in its turn.
+fn tries_of(alloc: Global, workers: usize, tries: usize) -> Result<Vec<JobStep>, AllocError> {
+    let mut steps = Vec::new(alloc);
+    add_tries(&mut steps, workers, &[0, 1, 2, 3, 4], tries)?;
+    Ok(steps)
+}
+
+// Whether these steps leave of a job what one thread leaves, on both trees.
+fn leave_the_same(alloc: Global, job: &Job, limit: u32, steps: &[JobStep]) -> bool {
+    is_as_alone(alloc, job, "flat", limit, steps) && is_as_alone(alloc, job, "2x3", limit, steps)
+}
+
+// Whether so many tries of workers in turn do.
+fn tries_leave_the_same(
     alloc: Global,
     job: &Job,
     limit: u32,
     workers: usize,
-    turns: usize,
-) -> Result<bool, Fail> {
-    let steps = in_turn(alloc, workers, turns)?;
-    Ok(
-        is_as_alone(alloc, job, "flat", limit, &steps)?
-            && is_as_alone(alloc, job, "2x3", limit, &steps)?,
-    )
+    tries: usize,
+) -> bool {
+    match tries_of(alloc, workers, tries) {
+        Ok(steps) => leave_the_same(alloc, job, limit, &steps),
+        Err(_) => false,
+    }
 }
 
-// Whether a job leaves what one thread leaves, by one worker and by eight.
-fn is_the_same(alloc: Global, text: &str, limit: u32) -> Result<bool, Fail> {
-    let job = job_of(alloc, text)?;
-    Ok(is_the_same_by(alloc, &job, limit, 1, 400)? && is_the_same_by(alloc, &job, limit, 8, 200)?)
-}
-
-#[test]
-fn a_swap_is_the_same(rt: HostRuntime) -> Result<(), Fail> {
-    assert!(rt; is_the_same(rt.alloc(), SWAP, 10)?);
-    Ok(())
-}
-
-#[test]
-fn a_conflict_is_the_same(rt: HostRuntime) -> Result<(), Fail> {
-    assert!(rt; is_the_same(rt.alloc(), CONFLICT, 10)?);
-    Ok(())
+// Whether 400 turns of one worker do, and 200 of each of eight.
+fn is_so(alloc: Global, text: &str, limit: u32) -> bool {
+    match job_of(alloc, text) {
+        Ok(job) => {
+            tries_leave_the_same(alloc, &job, limit, 1, 2000)
+                && tries_leave_the_same(alloc, &job, limit, 8, 8000)
+        }
+        Err(_) => false,
+    }
 }
 
 #[test]
-fn spawns_are_the_same(rt: HostRuntime) -> Result<(), Fail> {
-    assert!(rt; is_the_same(rt.alloc(), SPAWNS, 10)?);
-    Ok(())
-}
-
-#[test]
-fn a_fault_is_the_same(rt: HostRuntime) -> Result<(), Fail> {
-    assert!(rt; is_the_same(rt.alloc(), FAULTS, 10)?);
-    Ok(())
-}
-
-#[test]
-fn a_limit_is_the_same(rt: HostRuntime) -> Result<(), Fail> {
-    assert!(rt; is_the_same(rt.alloc(), ENDLESS, 3)?);
-    Ok(())
-}
-
-#[test]
-fn a_handover_is_the_same(rt: HostRuntime) -> Result<(), Fail> {
-    assert!(rt; is_the_same(rt.alloc(), HANDOVER, 10)?);
-    Ok(())
+fn written_orders_leave_the_same(rt: HostRuntime) {
+    for (text, limit) in &JOBS {
+        assert!(rt; is_so(rt.alloc(), text, *limit));
+    }
 }

@@ -1,97 +1,116 @@
 //! Random schedules of random jobs.
 use crate::left::job_of;
-use crate::schedule::fixtures::{is_as_alone, step_of};
+use crate::schedule::fixtures::{add_tries, is_as_alone, step_of};
 use job_schedule::step::JobStep;
 use std::alloc::{AllocError, Global};
 use std::process::Abort;
-use std::test::Fail;
 use task_lang::job::Job;
 
 const HEAD: &str =
     "bsp 1\narray a 4 3 1 4 1\nbody p\nlet i = 0\nwhile i < arg\nspawn c i\nlet i = i + 1\nend\nput a[0] = arg\nsync\nprint a[0]\nend\nbody c\nput a[1] = arg\nsync\nspawn d arg\nsync\nprint a[1]\nend\nbody d\nput a[2] = arg\nprint a[3] / arg\nend\n";
 
-// Numbers one after another from a seed.
-#[derive(Drop)]
-struct Numbers {
-    seed: u32,
+// The number that comes after one.
+fn next(number: u32) -> u32 {
+    number.wrapping_mul(1664525).wrapping_add(1013904223)
 }
 
-impl Numbers {
-    // The next number, below a bound.
-    fn below(&mut self, bound: u32) -> u32 {
-        self.seed = self.seed.wrapping_mul(1664525).wrapping_add(1013904223);
-        (self.seed >> 16) % bound.max(1)
+// What a number says below a bound.
+fn below(number: u32, bound: u32) -> usize {
+    ((number >> 16) % bound.max(1)) as usize
+}
+
+// The number that comes so many after one.
+fn skip(number: u32, count: usize) -> u32 {
+    let mut number = number;
+    for _ in 0..count {
+        number = next(number);
     }
+    number
 }
 
-// Adds a line that starts a task.
-fn add_start(text: &mut String, number: u32) -> Result<(), AllocError> {
-    match number {
-        0 => text.push_str("start p 0\n"),
-        1 => text.push_str("start p 2\n"),
-        2 => text.push_str("start p 7\n"),
-        _ => text.push_str("start d 5\n"),
-    }
+// The lines that start a task.
+const STARTS: [&str; 4] = ["start p 0\n", "start p 2\n", "start p 7\n", "start d 5\n"];
+
+fn start_of(number: u32) -> &'static str {
+    STARTS[below(number, 4) % 4]
 }
 
-// A job of up to four start tasks.
-fn text_of(alloc: Global, numbers: &mut Numbers) -> Result<String, AllocError> {
+// The text of a job of so many start tasks, by the numbers after this.
+fn text_of(alloc: Global, starts: usize, number: u32) -> Result<String, AllocError> {
     let mut text = String::from_str(alloc, HEAD)?;
-    for _ in 0..numbers.below(5) {
-        add_start(&mut text, numbers.below(4))?;
+    let mut number = number;
+    for _ in 0..starts {
+        number = next(number);
+        text.push_str(start_of(number))?;
     }
     Ok(text)
 }
 
-// A kind of step, most often a tree's.
-fn kind_of(numbers: &mut Numbers) -> usize {
-    match numbers.below(10) {
-        0 => 0,
-        1 => 1,
-        2 => 3,
-        3 => 4,
-        _ => 2,
-    }
-}
+// Of which kinds random steps are, most often a tree's.
+const KINDS: [usize; 10] = [0, 1, 3, 4, 2, 2, 2, 2, 2, 2];
 
 // What each worker tries in its turn.
 const TRIES: [usize; 10] = [0, 1, 2, 2, 2, 2, 2, 2, 3, 4];
 
-// Steps of up to eight workers, in any order, and then of all in turn until the job is done.
-fn steps_of(alloc: Global, numbers: &mut Numbers) -> Result<Vec<JobStep>, AllocError> {
+// The step of one of eight workers, by the two numbers after this.
+fn step_by(number: u32) -> JobStep {
+    let first = next(number);
+    step_of(KINDS[below(next(first), 10) % 10], below(first, 8))
+}
+
+// 3000 steps of up to eight workers, in any order, and then of all in turn until the job is done.
+fn steps_of(alloc: Global, number: u32) -> Result<Vec<JobStep>, AllocError> {
     let mut steps = Vec::new(alloc);
+    let mut number = number;
     for _ in 0..3000 {
-        let worker = numbers.below(8) as usize;
-        let kind = kind_of(numbers);
-        steps.push(step_of(kind, worker))?;
+        steps.push(step_by(number))?;
+        number = skip(number, 2);
     }
-    for turn in 0..700 {
-        for kind in &TRIES {
-            steps.push(step_of(*kind, turn % 8))?;
-        }
-    }
+    add_tries(&mut steps, 8, &TRIES, 7000)?;
     Ok(steps)
 }
 
-// The first tree on which a random schedule doesn't leave what one thread leaves.
-fn other_on(alloc: Global, job: &Job, numbers: &mut Numbers) -> Result<Option<&'static str>, Fail> {
-    for widths in &["flat", "3", "2x3", "1x4x2"] {
-        let steps = steps_of(alloc, numbers)?;
-        if !is_as_alone(alloc, job, widths, 6, &steps)? {
-            return Ok(Some(widths));
-        }
+// Whether the random schedule by the numbers after this leaves what one thread leaves.
+fn leaves_the_same(alloc: Global, job: &Job, widths: &str, number: u32) -> bool {
+    match steps_of(alloc, number) {
+        Ok(steps) => is_as_alone(alloc, job, widths, 6, &steps),
+        Err(_) => false,
     }
-    Ok(None)
+}
+
+// Whether those on each tree do, one after another.
+fn all_leave_the_same(alloc: Global, job: &Job, number: u32) -> bool {
+    let mut number = number;
+    for widths in ["flat", "3", "2x3", "1x4x2"] {
+        if !leaves_the_same(alloc, job, widths, number) {
+            return false;
+        }
+        number = skip(number, 6000);
+    }
+    true
+}
+
+// Whether they do of the job of this text.
+fn is_so(alloc: Global, text: &str, number: u32) -> bool {
+    match job_of(alloc, text) {
+        Ok(job) => all_leave_the_same(alloc, &job, number),
+        Err(_) => false,
+    }
+}
+
+// Whether they do of the random job of up to four start tasks by the numbers after this.
+fn is_so_by(alloc: Global, number: u32) -> bool {
+    let first = next(number);
+    let starts = below(first, 5);
+    match text_of(alloc, starts, first) {
+        Ok(text) => is_so(alloc, text.as_str(), skip(first, starts)),
+        Err(_) => false,
+    }
 }
 
 #[test]
-fn random_schedules_leave_the_same(rt: HostRuntime) -> Result<(), Fail> {
-    let alloc = rt.alloc();
+fn random_schedules_leave_the_same(rt: HostRuntime) {
     for seed in 0..100 {
-        let mut numbers = Numbers { seed };
-        let text = text_of(alloc, &mut numbers)?;
-        let job = job_of(alloc, text.as_str())?;
-        assert_eq!(rt; other_on(alloc, &job, &mut numbers)?, None, "seed {seed}");
+        assert!(rt; is_so_by(rt.alloc(), seed));
     }
-    Ok(())
 }

@@ -4,11 +4,8 @@ use crate::schedule::fixtures::answers_of;
 use job_schedule::step::{Answer, JobStep};
 use std::alloc::{AllocError, Global};
 use std::process::Abort;
-use std::test::Fail;
+use task_lang::job::Job;
 use tier_core::call::Played;
-
-// A job of one task that does nothing.
-const NOTHING: &str = "bsp 1\nbody b\nend\nstart b 0\n";
 
 // An answer, without what it carries but for the tree's.
 #[derive(Clone, Copy, PartialEq, Eq)]
@@ -38,6 +35,71 @@ fn told(answer: &Answer) -> Seen {
 // A step, and what its answer has to tell.
 type Row = (JobStep, Seen);
 
+// One worker does a job.
+const A_WHOLE_JOB: [Row; 8] = [
+    (JobStep::Take(0), Seen::Took(1)),
+    (JobStep::Deliver(0), Seen::Delivered),
+    (JobStep::Tree(0), Seen::Stepped(Played::Done(0))),
+    (JobStep::Tree(0), Seen::Stepped(Played::GoesOn)),
+    (JobStep::Tree(0), Seen::Stepped(Played::MustAdvance(0, 0))),
+    (JobStep::Advance(0), Seen::Advanced(Played::Done(0))),
+    (JobStep::Close(0), Seen::Finished),
+    (JobStep::Take(0), Seen::NotNow),
+];
+
+// A step that isn't next changes nothing.
+const NOT_NEXT: [Row; 13] = [
+    (JobStep::Close(0), Seen::NotNow),
+    (JobStep::Deliver(0), Seen::NotNow),
+    (JobStep::Tree(0), Seen::NotNow),
+    (JobStep::Take(64), Seen::NotNow),
+    (JobStep::Take(63), Seen::Took(1)),
+    (JobStep::Take(63), Seen::NotNow),
+    (JobStep::Take(0), Seen::NotNow),
+    (JobStep::Advance(63), Seen::NotNow),
+    (JobStep::Tree(63), Seen::NotNow),
+    (JobStep::Deliver(63), Seen::Delivered),
+    (JobStep::Deliver(63), Seen::NotNow),
+    (JobStep::Close(63), Seen::NotNow),
+    (JobStep::Tree(63), Seen::Stepped(Played::Done(0))),
+];
+
+// A fault ends the tree by force.
+const A_FAULT: [Row; 11] = [
+    (JobStep::Take(2), Seen::Took(1)),
+    (JobStep::Deliver(2), Seen::Delivered),
+    (JobStep::Tree(2), Seen::Stepped(Played::Done(0))),
+    (JobStep::Tree(2), Seen::Stepped(Played::GoesOn)),
+    (JobStep::Tree(2), Seen::Stepped(Played::MustAdvance(0, 0))),
+    (JobStep::Advance(2), Seen::Advanced(Played::Done(0))),
+    (JobStep::Close(1), Seen::NotNow),
+    (JobStep::Close(2), Seen::Finished),
+    (JobStep::Tree(1), Seen::NotNow),
+    (JobStep::Tree(2), Seen::Stepped(Played::Ended(-2147483647))),
+    (JobStep::Tree(2), Seen::NotNow),
+];
+
+// A job without tasks is closed by anybody.
+const NO_TASKS: [Row; 4] = [
+    (JobStep::Take(5), Seen::NotNow),
+    (JobStep::Close(64), Seen::NotNow),
+    (JobStep::Close(5), Seen::Finished),
+    (JobStep::Close(5), Seen::NotNow),
+];
+
+// A job of one task that does nothing.
+const NOTHING: &str = "bsp 1\nbody b\nend\nstart b 0\n";
+
+const FAULTS: &str = "bsp 1\nbody b\nprint 1 / 0\nend\nstart b 0\n";
+
+// Each run: its job, its tree, and its rows.
+const RUNS: [(&str, &str, &[Row]); 4] = [
+    (NOTHING, "flat", &A_WHOLE_JOB),
+    (NOTHING, "flat", &NOT_NEXT),
+    (FAULTS, "flat", &A_FAULT),
+    ("bsp 1\nbody b\nend\n", "2x3", &NO_TASKS),
+];
+
 // Whether these answers tell what the rows say.
 fn are_told(answers: &[Answer], rows: &[Row]) -> bool {
     for (answer, (_, want)) in answers.iter().zip(rows) {
@@ -58,78 +120,32 @@ fn steps_of(alloc: Global, rows: &[Row]) -> Result<Vec<JobStep>, AllocError> {
 }
 
 // Whether a job's steps are answered as these rows say.
-fn answers_so(alloc: Global, text: &str, widths: &str, rows: &[Row]) -> Result<bool, Fail> {
-    let steps = steps_of(alloc, rows)?;
-    let job = job_of(alloc, text)?;
-    let answers = answers_of(alloc, &job, widths, 10, &steps)?;
-    Ok(are_told(&answers, rows))
+fn answers_so(alloc: Global, job: &Job, widths: &str, rows: &[Row], steps: &[JobStep]) -> bool {
+    match answers_of(alloc, job, widths, 10, steps) {
+        Ok(answers) => are_told(&answers, rows),
+        Err(_) => false,
+    }
+}
+
+// Whether the steps of these rows are.
+fn plays_so(alloc: Global, job: &Job, widths: &str, rows: &[Row]) -> bool {
+    match steps_of(alloc, rows) {
+        Ok(steps) => answers_so(alloc, job, widths, rows, &steps),
+        Err(_) => false,
+    }
+}
+
+// Whether those of the job of this text are.
+fn is_so(alloc: Global, text: &str, widths: &str, rows: &[Row]) -> bool {
+    match job_of(alloc, text) {
+        Ok(job) => plays_so(alloc, &job, widths, rows),
+        Err(_) => false,
+    }
 }
 
 #[test]
-fn one_worker_does_a_job(rt: HostRuntime) -> Result<(), Fail> {
-    let rows = [
-        (JobStep::Take(0), Seen::Took(1)),
-        (JobStep::Deliver(0), Seen::Delivered),
-        (JobStep::Tree(0), Seen::Stepped(Played::Done(0))),
-        (JobStep::Tree(0), Seen::Stepped(Played::GoesOn)),
-        (JobStep::Tree(0), Seen::Stepped(Played::MustAdvance(0, 0))),
-        (JobStep::Advance(0), Seen::Advanced(Played::Done(0))),
-        (JobStep::Close(0), Seen::Finished),
-        (JobStep::Take(0), Seen::NotNow),
-    ];
-    assert!(rt; answers_so(rt.alloc(), NOTHING, "flat", &rows)?);
-    Ok(())
-}
-
-#[test]
-fn a_step_that_is_not_next_changes_nothing(rt: HostRuntime) -> Result<(), Fail> {
-    let rows = [
-        (JobStep::Close(0), Seen::NotNow),
-        (JobStep::Deliver(0), Seen::NotNow),
-        (JobStep::Tree(0), Seen::NotNow),
-        (JobStep::Take(64), Seen::NotNow),
-        (JobStep::Take(63), Seen::Took(1)),
-        (JobStep::Take(63), Seen::NotNow),
-        (JobStep::Take(0), Seen::NotNow),
-        (JobStep::Advance(63), Seen::NotNow),
-        (JobStep::Tree(63), Seen::NotNow),
-        (JobStep::Deliver(63), Seen::Delivered),
-        (JobStep::Deliver(63), Seen::NotNow),
-        (JobStep::Close(63), Seen::NotNow),
-        (JobStep::Tree(63), Seen::Stepped(Played::Done(0))),
-    ];
-    assert!(rt; answers_so(rt.alloc(), NOTHING, "flat", &rows)?);
-    Ok(())
-}
-
-#[test]
-fn a_fault_ends_the_tree_by_force(rt: HostRuntime) -> Result<(), Fail> {
-    let rows = [
-        (JobStep::Take(2), Seen::Took(1)),
-        (JobStep::Deliver(2), Seen::Delivered),
-        (JobStep::Tree(2), Seen::Stepped(Played::Done(0))),
-        (JobStep::Tree(2), Seen::Stepped(Played::GoesOn)),
-        (JobStep::Tree(2), Seen::Stepped(Played::MustAdvance(0, 0))),
-        (JobStep::Advance(2), Seen::Advanced(Played::Done(0))),
-        (JobStep::Close(1), Seen::NotNow),
-        (JobStep::Close(2), Seen::Finished),
-        (JobStep::Tree(1), Seen::NotNow),
-        (JobStep::Tree(2), Seen::Stepped(Played::Ended(-2147483647))),
-        (JobStep::Tree(2), Seen::NotNow),
-    ];
-    let text = "bsp 1\nbody b\nprint 1 / 0\nend\nstart b 0\n";
-    assert!(rt; answers_so(rt.alloc(), text, "flat", &rows)?);
-    Ok(())
-}
-
-#[test]
-fn a_job_without_tasks_is_closed_by_anybody(rt: HostRuntime) -> Result<(), Fail> {
-    let rows = [
-        (JobStep::Take(5), Seen::NotNow),
-        (JobStep::Close(64), Seen::NotNow),
-        (JobStep::Close(5), Seen::Finished),
-        (JobStep::Close(5), Seen::NotNow),
-    ];
-    assert!(rt; answers_so(rt.alloc(), "bsp 1\nbody b\nend\n", "2x3", &rows)?);
-    Ok(())
+fn workers_are_answered_as_the_rows_say(rt: HostRuntime) {
+    for (text, widths, rows) in &RUNS {
+        assert!(rt; is_so(rt.alloc(), text, widths, rows));
+    }
 }

@@ -21,3 +21,8 @@ pub(crate) fn three_cells(alloc: Global, last: i64) -> Result<Arrays, AllocError
     add(alloc, &mut arrays, "b", &[last])?;
     Ok(arrays)
 }
+
+// Whether a cell has this value, or isn't there.
+pub(crate) fn is_cell(arrays: &Arrays, array: u16, index: i64, want: Option<i64>) -> bool {
+    arrays.cell(array, index) == want
+}

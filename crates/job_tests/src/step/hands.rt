@@ -1,165 +1,160 @@
 //! Calls of a round, and what it answers to them.
-use crate::left::job_of;
-use phase_records::{JobStatus, Report};
-use std::alloc::{AllocError, Global};
-use std::test::Fail;
+use phase_records::JobStatus;
+use std::alloc::Global;
 use step_core::{AcceptFault, CloseFault, Delivery, Order, Outcome, Round};
 use task_lang::job::Job;
 
-// What is asked of a round.
-#[derive(Clone, Copy)]
-pub(crate) enum Move {
-    // The delivery of the start line of this number.
-    Deliver(u16),
-    // That it is closed.
-    Close,
-    // How the job has ended.
-    Status,
-    // How many deliveries are missing.
-    Count,
-}
+// What a round answers: one of these, and a number.
+pub(crate) type Answer = (u32, u64);
 
-// What it answers.
-#[derive(Clone, Copy, Debug, PartialEq, Eq)]
-pub(crate) enum Answer {
-    NoOrder,
-    Taken,
-    Refused(AcceptFault),
-    Closed(Outcome),
-    // The first number of the path that is missing.
-    Missing(u16),
-    Missed(usize),
-    Running,
-    Ended(u32),
-    Fault(u8, u32),
-    Limit(u32),
+pub(crate) const NO_ORDER: Answer = (0, 0);
+
+pub(crate) const NO_MEMORY: Answer = (1, 0);
+
+pub(crate) const KEPT: Answer = (2, 0);
+
+pub(crate) const TAKEN: Answer = (3, 0);
+
+pub(crate) const WRONG_STEP: Answer = (4, 0);
+
+pub(crate) const STRANGER: Answer = (5, 0);
+
+pub(crate) const DOUBLE: Answer = (6, 0);
+
+pub(crate) const LANDED: Answer = (7, 0);
+
+pub(crate) const FAULTED: Answer = (8, 0);
+
+pub(crate) const TOO_MANY: Answer = (9, 0);
+
+pub(crate) const RUNNING: Answer = (10, 0);
+
+// With the first number of the path that is missing.
+pub(crate) const MISSING: u32 = 11;
+
+// With how many are missing.
+pub(crate) const MISSED: u32 = 12;
+
+// With the superstep.
+pub(crate) const ENDED: u32 = 13;
+
+// With the superstep.
+pub(crate) const LIMIT: u32 = 14;
+
+// To which the number of the fault is added; with the superstep.
+pub(crate) const FAULT: u32 = 100;
+
+// How a job has ended.
+fn told(status: &JobStatus) -> Answer {
+    match status {
+        JobStatus::Ended(step) => (ENDED, u64::from(*step)),
+        JobStatus::Fault { code, step, .. } => (FAULT + u32::from(*code), u64::from(*step)),
+        JobStatus::Limit(step) => (LIMIT, u64::from(*step)),
+    }
 }
 
 // How a job has ended, if it has.
-fn status_of(round: &Round<'_>) -> Answer {
+pub(crate) fn status_of(round: &Round<'_>) -> Answer {
     if !round.has_ended() {
-        return Answer::Running;
+        return RUNNING;
     }
     match round.status() {
-        None => Answer::Running,
-        Some(JobStatus::Ended(steps)) => Answer::Ended(steps),
-        Some(JobStatus::Fault { code, step, .. }) => Answer::Fault(code, step),
-        Some(JobStatus::Limit(steps)) => Answer::Limit(steps),
+        Some(status) => told(&status),
+        None => RUNNING,
     }
 }
 
-// Hands in what this order says.
+fn refused(fault: AcceptFault) -> Answer {
+    match fault {
+        AcceptFault::WrongStep => WRONG_STEP,
+        AcceptFault::Stranger => STRANGER,
+        AcceptFault::Double => DOUBLE,
+    }
+}
+
+// Takes a delivery.
+fn accept<'j>(round: &mut Round<'j>, delivery: Delivery<'j>) -> Answer {
+    if round.has_ended() {
+        return NO_ORDER;
+    }
+    match round.accept(delivery) {
+        Ok(()) => TAKEN,
+        Err(fault) => refused(fault),
+    }
+}
+
+// Hands in what this order says, if there is one.
 pub(crate) fn hand_in<'j>(
     alloc: Global,
     round: &mut Round<'j>,
-    order: Order<'j>,
-) -> Result<Answer, AllocError> {
-    if round.status().is_some() {
-        return Ok(Answer::NoOrder);
-    }
-    let delivery = Delivery::of(alloc, order)?;
-    match round.accept(delivery) {
-        Ok(()) => Ok(Answer::Taken),
-        Err(fault) => Ok(Answer::Refused(fault)),
+    order: Option<Order<'j>>,
+) -> Answer {
+    match order {
+        Some(order) => match Delivery::of(alloc, order) {
+            Ok(delivery) => accept(round, delivery),
+            Err(_) => NO_MEMORY,
+        },
+        None => NO_ORDER,
     }
 }
 
 // Hands in what the task of this path does.
-pub(crate) fn deliver(
-    alloc: Global,
-    round: &mut Round<'_>,
-    path: &[u16],
-) -> Result<Answer, AllocError> {
-    match round.order(alloc, path)? {
-        None => Ok(Answer::NoOrder),
-        Some(order) => hand_in(alloc, round, order),
+pub(crate) fn deliver(alloc: Global, round: &mut Round<'_>, path: &[u16]) -> Answer {
+    match round.order(alloc, path) {
+        Ok(order) => hand_in(alloc, round, order),
+        Err(_) => NO_MEMORY,
+    }
+}
+
+fn closed(outcome: Outcome) -> Answer {
+    match outcome {
+        Outcome::Landed => LANDED,
+        Outcome::Faulted => FAULTED,
+        Outcome::TooMany => TOO_MANY,
+    }
+}
+
+fn not_closed(fault: &CloseFault) -> Answer {
+    match fault {
+        CloseFault::Missing(path) => match path.first() {
+            Some(number) => (MISSING, u64::from(*number)),
+            None => NO_ORDER,
+        },
+        CloseFault::Memory(_) => NO_MEMORY,
     }
 }
 
 // Closes a round.
-pub(crate) fn close(alloc: Global, round: &mut Round<'_>) -> Result<Answer, AllocError> {
-    if round.status().is_some() {
-        return Ok(Answer::NoOrder);
+pub(crate) fn close(alloc: Global, round: &mut Round<'_>) -> Answer {
+    if round.has_ended() {
+        return NO_ORDER;
     }
     match round.close_round(alloc) {
-        Ok(outcome) => Ok(Answer::Closed(outcome)),
-        Err(CloseFault::Missing(path)) => {
-            Ok(Answer::Missing(path.first().copied().unwrap_or(u16::MAX)))
+        Ok(outcome) => closed(outcome),
+        Err(fault) => not_closed(&fault),
+    }
+}
+
+// Keeps the order of a start line.
+pub(crate) fn keep<'j>(
+    alloc: Global,
+    round: &Round<'j>,
+    kept: &mut Option<Order<'j>>,
+    number: u16,
+) -> Answer {
+    match round.order(alloc, &[number]) {
+        Ok(order) => {
+            *kept = order;
+            KEPT
         }
-        Err(CloseFault::Memory(fault)) => Err(fault),
+        Err(_) => NO_MEMORY,
     }
 }
 
-// Makes one call.
-fn answer_to(alloc: Global, round: &mut Round<'_>, call: Move) -> Result<Answer, AllocError> {
-    match call {
-        Move::Deliver(number) => deliver(alloc, round, &[number]),
-        Move::Close => close(alloc, round),
-        Move::Status => Ok(status_of(round)),
-        Move::Count => Ok(Answer::Missed(round.missing())),
+// Keeps the order of the first task of a job, from a round of two supersteps.
+pub(crate) fn keep_first<'j>(alloc: Global, job: &'j Job, kept: &mut Option<Order<'j>>) -> Answer {
+    match Round::new(alloc, job, 2) {
+        Ok(round) => keep(alloc, &round, kept, 0),
+        Err(_) => NO_MEMORY,
     }
-}
-
-// Makes calls one after another up to the first that is answered otherwise, and says its number and the answer.
-fn play(
-    alloc: Global,
-    round: &mut Round<'_>,
-    calls: &[(Move, Answer)],
-) -> Result<Option<(usize, Answer)>, AllocError> {
-    for (number, (call, want)) in calls.iter().enumerate() {
-        let answer = answer_to(alloc, round, *call)?;
-        if answer != *want {
-            return Ok(Some((number, answer)));
-        }
-    }
-    Ok(None)
-}
-
-// The first call that a round of this job answers otherwise, within three supersteps.
-pub(crate) fn first_other(
-    alloc: Global,
-    text: &str,
-    calls: &[(Move, Answer)],
-) -> Result<Option<(usize, Answer)>, Fail> {
-    let job = job_of(alloc, text)?;
-    let mut round = Round::new(alloc, &job, 3)?;
-    let other = play(alloc, &mut round, calls)?;
-    Ok(other)
-}
-
-// Takes one superstep. The task at this place of the live ones comes first and those behind it next, then those in front of it;
-// or the other way round.
-fn superstep_from(
-    alloc: Global,
-    round: &mut Round<'_>,
-    first: usize,
-    forwards: bool,
-) -> Result<(), AllocError> {
-    let mut live = round.live(alloc)?;
-    if !forwards {
-        live.reverse();
-    }
-    let (before, behind) = live.split_at(first.min(live.len()));
-    for path in behind {
-        deliver(alloc, round, path.as_slice())?;
-    }
-    for path in before {
-        deliver(alloc, round, path.as_slice())?;
-    }
-    close(alloc, round)?;
-    Ok(())
-}
-
-// What a job leaves whose deliveries come in such an order, within three supersteps.
-pub(crate) fn run_from(
-    alloc: Global,
-    job: &Job,
-    first: usize,
-    forwards: bool,
-) -> Result<Option<Report>, AllocError> {
-    let mut round = Round::new(alloc, job, 3)?;
-    for _ in 0..3 {
-        superstep_from(alloc, &mut round, first, forwards)?;
-    }
-    round.report(alloc)
 }

@@ -1,20 +1,17 @@
-//! Lines, bodies and jobs for the tests.
+//! Bodies and jobs of given parts.
 use std::alloc::{AllocError, Global};
 use superstep_memory::arrays::Arrays;
 use task_lang::body::Body;
-use task_lang::code::{Action, Expr, Index, Line, Operand};
+use task_lang::code::Line;
 use task_lang::job::{Job, Start};
 
-pub(crate) fn number(n: i64) -> Operand {
-    Operand::Plain(Index::Number(n))
-}
-
-pub(crate) fn local(i: u8) -> Operand {
-    Operand::Plain(Index::Local(i))
-}
-
-pub(crate) fn print(operand: Operand) -> Line {
-    Line::Do(Action::Print(Expr::One(operand)))
+// These names.
+fn names_of(alloc: Global, names: &[&str]) -> Result<Vec<String>, AllocError> {
+    let mut all = Vec::new(alloc);
+    for name in names {
+        all.push(String::from_str(alloc, name)?)?;
+    }
+    Ok(all)
 }
 
 // The body of this name with these locals and lines, if there is one.
@@ -24,12 +21,20 @@ pub(crate) fn body_of(
     locals: &[&str],
     lines: &[Line],
 ) -> Result<Option<Body>, AllocError> {
-    let mut names = Vec::new(alloc);
-    for local in locals {
-        names.push(String::from_str(alloc, local)?)?;
-    }
+    let names = names_of(alloc, locals)?;
     let code = Vec::from_slice(alloc, lines)?;
     Body::new(alloc, String::from_str(alloc, name)?, names, code)
+}
+
+// Bodies of these names, each with this one line.
+fn bodies_of(alloc: Global, names: &[&str], line: Line) -> Result<Vec<Body>, AllocError> {
+    let mut bodies = Vec::new(alloc);
+    for name in names {
+        if let Some(body) = body_of(alloc, name, &[], &[line])? {
+            bodies.push(body)?;
+        }
+    }
+    Ok(bodies)
 }
 
 // One array of so many cells, or none.
@@ -50,12 +55,7 @@ pub(crate) fn job_of(
     names: &[&str],
     line: Line,
 ) -> Result<Option<Job>, AllocError> {
-    let mut bodies = Vec::new(alloc);
-    for name in names {
-        if let Some(body) = body_of(alloc, name, &[], &[line])? {
-            bodies.push(body)?;
-        }
-    }
+    let bodies = bodies_of(alloc, names, line)?;
     let starts = Vec::from_elem(alloc, Start { body: 0, arg: 0 }, 1)?;
     Ok(Job::new(arrays_of(alloc, cells)?, bodies, starts))
 }

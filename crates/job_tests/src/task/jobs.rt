@@ -1,60 +1,68 @@
 //! Jobs whose lines name what isn't there, and jobs compared.
-use crate::task::fixtures::{job_of, number, print};
-use std::alloc::{AllocError, Global};
+use crate::task::fixtures::job_of;
+use std::alloc::Global;
 use std::process::Abort;
-use std::test::Fail;
 use task_lang::code::{Action, Cell, Expr, Index, Line, Operand};
 use task_lang::job::Job;
 
-// Whether there is a job of an array of so many cells, or of none, and of bodies of these names with this line.
-fn is_job(alloc: Global, cells: usize, names: &[&str], line: Line) -> Result<bool, AllocError> {
-    Ok(job_of(alloc, cells, names, line)?.is_some())
-}
+const ZERO: Index = Index::Number(0);
 
-#[test]
-fn lines_name_what_is_there(rt: HostRuntime) -> Result<(), Fail> {
-    let alloc = rt.alloc();
-    let spawn = Line::Do(Action::Spawn(1, Expr::One(number(0))));
-    let read = print(Operand::Cell(Cell {
-        array: 0,
-        index: Index::Number(0),
-    }));
-    assert!(rt; is_job(alloc, 0, &["b", "c"], spawn)?);
-    assert!(rt; !is_job(alloc, 0, &["b"], spawn)?);
-    assert!(rt; is_job(alloc, 1, &["b"], read)?);
-    assert!(rt; !is_job(alloc, 0, &["b"], read)?);
-    Ok(())
-}
+const SPAWN: Line = Line::Do(Action::Spawn(1, Expr::One(Operand::Plain(ZERO))));
 
-// Whether this job is the one of so many cells whose task prints this number.
-fn is_like(
-    alloc: Global,
-    job: &Job,
-    (cells, printed): (usize, i64),
-) -> Result<Option<bool>, AllocError> {
-    match job_of(alloc, cells, &["b"], print(number(printed)))? {
-        None => Ok(None),
-        Some(other) => Ok(Some(job.same_as(&other))),
-    }
-}
+const READ: Line = Line::Do(Action::Print(Expr::One(Operand::Cell(Cell {
+    array: 0,
+    index: ZERO,
+}))));
 
-// Whether the jobs of so many cells whose tasks print these numbers are the same.
-fn are_alike(
-    alloc: Global,
-    (cells, printed): (usize, i64),
-    other: (usize, i64),
-) -> Result<Option<bool>, AllocError> {
-    match job_of(alloc, cells, &["b"], print(number(printed)))? {
-        None => Ok(None),
-        Some(job) => is_like(alloc, &job, other),
+const PRINT_ONE: Line = Line::Do(Action::Print(Expr::One(Operand::Plain(Index::Number(1)))));
+
+const PRINT_TWO: Line = Line::Do(Action::Print(Expr::One(Operand::Plain(Index::Number(2)))));
+
+// How many cells the array of a job has, if there is one, the names of its bodies, and the line of each; and whether there is
+// such a job.
+const JOBS: [(usize, &[&str], Line, bool); 4] = [
+    (0, &["b", "c"], SPAWN, true),
+    (0, &["b"], SPAWN, false),
+    (1, &["b"], READ, true),
+    (0, &["b"], READ, false),
+];
+
+// Whether there is such a job, or none, as it should be.
+fn is_so(alloc: Global, cells: usize, names: &[&str], line: Line, want: bool) -> bool {
+    match job_of(alloc, cells, names, line) {
+        Ok(job) => job.is_some() == want,
+        Err(_) => false,
     }
 }
 
 #[test]
-fn jobs_compared(rt: HostRuntime) -> Result<(), Fail> {
-    let alloc = rt.alloc();
-    assert_eq!(rt; are_alike(alloc, (2, 1), (2, 1))?, Some(true));
-    assert_eq!(rt; are_alike(alloc, (2, 1), (3, 1))?, Some(false));
-    assert_eq!(rt; are_alike(alloc, (2, 1), (2, 2))?, Some(false));
-    Ok(())
+fn lines_name_what_is_there(rt: HostRuntime) {
+    for (cells, names, line, want) in &JOBS {
+        assert!(rt; is_so(rt.alloc(), *cells, names, *line, *want));
+    }
+}
+
+// Whether a job is the same as the one of so many cells whose task has this line, or another, as it should be.
+fn is_like(alloc: Global, job: &Job, cells: usize, line: Line, want: bool) -> bool {
+    match job_of(alloc, cells, &["b"], line) {
+        Ok(Some(other)) => job.same_as(&other) == want,
+        _ => false,
+    }
+}
+
+// Whether the job of two cells whose task prints 1 is itself alone.
+fn are_compared(alloc: Global) -> bool {
+    match job_of(alloc, 2, &["b"], PRINT_ONE) {
+        Ok(Some(job)) => {
+            is_like(alloc, &job, 2, PRINT_ONE, true)
+                && is_like(alloc, &job, 3, PRINT_ONE, false)
+                && is_like(alloc, &job, 2, PRINT_TWO, false)
+        }
+        _ => false,
+    }
+}
+
+#[test]
+fn jobs_compared(rt: HostRuntime) {
+    assert!(rt; are_compared(rt.alloc()));
 }

@@ -39,18 +39,10 @@ fn is_awaited(answer: Result<Awaited, BarrierFault>, want: Told) -> bool {
     }
 }
 
-// Whether these get Broken.
-fn are_broken(others: &[u32], want: Told) -> bool {
-    match want {
-        Told::Breaks(want) => others == want,
-        _ => false,
-    }
-}
-
-// Whether a caller is taken away so.
-fn is_abandoned(answer: Result<Vec<u32>, BarrierFault>, want: Told) -> bool {
+// Whether these get Broken, or the call is refused so.
+fn are_broken(answer: Result<Vec<u32>, BarrierFault>, want: Told) -> bool {
     match (answer, want) {
-        (Ok(others), want) => are_broken(&others, want),
+        (Ok(others), Told::Breaks(want)) => others.as_slice() == want,
         (Err(fault), Told::Refused(want)) => fault == want,
         _ => false,
     }
@@ -63,9 +55,9 @@ fn answers<F: Fn(u64) -> bool>(core: &mut BarrierCore<F>, call: Call, want: Told
 {
     match call {
         Call::Await(caller) => is_awaited(core.await_step(caller), want),
-        Call::Abandon(caller) => is_abandoned(core.abandon(caller), want),
-        Call::BreakOff => are_broken(&core.break_off(), want),
-        Call::Reset => are_broken(&core.reset(), want),
+        Call::Abandon(caller) => are_broken(core.abandon(caller), want),
+        Call::BreakOff => are_broken(Ok(core.break_off()), want),
+        Call::Reset => are_broken(Ok(core.reset()), want),
     }
 }
 
@@ -75,9 +67,11 @@ pub(crate) fn played<F: Fn(u64) -> bool>(rt: &impl Abort, core: &mut BarrierCore
 {
     for (number, row) in rows.iter().enumerate() {
         let (call, want, generation, waiting, broken) = *row;
-        assert!(rt; answers(core, call, want), "row {number}");
-        assert!(rt; core.generation() == generation, "row {number}");
-        assert!(rt; core.waiting() == waiting, "row {number}");
-        assert!(rt; core.is_broken() == broken, "row {number}");
+        let answered = answers(core, call, want);
+        let seen = (core.generation(), core.waiting(), core.is_broken());
+        assert!(rt;
+            answered && seen == (generation, waiting, broken),
+            "row {number}"
+        );
     }
 }

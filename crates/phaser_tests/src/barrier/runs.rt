@@ -11,25 +11,6 @@ use cyclic_gate::{BarrierCore, BarrierFault};
 use std::alloc::Global;
 use std::process::Abort;
 
-// Plays rows from the beginning of a barrier of so many parties.
-fn run<F: Fn(u64) -> bool + Drop>(
-    rt: &impl Abort,
-    alloc: Global,
-    parties: u32,
-    action: StoredAction<F>,
-    rows: &[Row],
-)
-    requires { AnswersAction (F.pre action.closure) (F.post action.closure) action.plan }
-{
-    match BarrierCore::new(alloc, i64::from(parties), action) {
-        Ok(mut core) => {
-            played(rt, &mut core, rows);
-            assert_eq!(rt; core.parties(), parties);
-        }
-        Err(_) => panic!(rt; "no barrier"),
-    }
-}
-
 // Three parties trip, are broken by one that is taken away, begin anew, and are broken off.
 const TRIPS_AND_BREAKS: [Row; 12] = [
     (Await(7), Waits(2), 0, 1, false),
@@ -46,12 +27,6 @@ const TRIPS_AND_BREAKS: [Row; 12] = [
     (BreakOff, Breaks(&[7]), 2, 0, true),
 ];
 
-#[test]
-fn trips_and_breaks(rt: HostRuntime) {
-    let action = StoredAction::new(|_generation: u64| false, None);
-    run(&rt, rt.alloc(), 3, action, &TRIPS_AND_BREAKS);
-}
-
 // The action fails in the first generation.
 const AN_ACTION_FAILS: [Row; 3] = [
     (Await(5), Waits(1), 0, 1, false),
@@ -59,25 +34,35 @@ const AN_ACTION_FAILS: [Row; 3] = [
     (Await(5), Broken, 0, 0, true),
 ];
 
-#[test]
-fn an_action_fails(rt: HostRuntime) {
-    let action = StoredAction::new(|generation: u64| generation == 0, Some(0));
-    run(&rt, rt.alloc(), 2, action, &AN_ACTION_FAILS);
-}
+// Runs: how many parties, the generation in which the action fails, and the rows, or why there is no barrier.
+type Run = (i64, Option<u64>, Result<&'static [Row], BarrierFault>);
 
-// A barrier of so many parties is refused so.
-fn is_refused(rt: &impl Abort, alloc: Global, parties: i64, fault: BarrierFault) {
-    let action = StoredAction::new(|_generation: u64| false, None);
-    match BarrierCore::new(alloc, parties, action) {
-        Ok(_) => panic!(rt; "a barrier of {parties}"),
-        Err(told) => assert_eq!(rt; told, fault),
+const RUNS: [Run; 6] = [
+    (3, None, Ok(&TRIPS_AND_BREAKS)),
+    (2, Some(0), Ok(&AN_ACTION_FAILS)),
+    (-1, None, Err(NoParty)),
+    (0, None, Err(NoParty)),
+    (65536, None, Err(TooMany)),
+    (i64::MAX, None, Err(TooMany)),
+];
+
+// Plays the rows of a run from the beginning of its barrier.
+fn run(rt: &impl Abort, alloc: Global, run: Run) {
+    let (parties, fails, want) = run;
+    let action = StoredAction::new(|generation: u64| fails == Some(generation), fails);
+    match (BarrierCore::new(alloc, parties, action), want) {
+        (Ok(mut core), Ok(rows)) => {
+            assert!(rt; i64::from(core.parties()) == parties);
+            played(rt, &mut core, rows);
+        }
+        (Err(told), Err(fault)) => assert!(rt; told == fault),
+        _ => panic!(rt; "another barrier of {parties}"),
     }
 }
 
 #[test]
-fn refuses_numbers_of_parties(rt: HostRuntime) {
-    is_refused(&rt, rt.alloc(), -1, NoParty);
-    is_refused(&rt, rt.alloc(), 0, NoParty);
-    is_refused(&rt, rt.alloc(), 65536, TooMany);
-    is_refused(&rt, rt.alloc(), i64::MAX, TooMany);
+fn answers_as_worked_out(rt: HostRuntime) {
+    for worked in RUNS {
+        run(&rt, rt.alloc(), worked);
+    }
 }

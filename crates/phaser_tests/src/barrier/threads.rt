@@ -1,13 +1,23 @@
 //! Threads at a gate. A party that finds no memory breaks off, so that the others don't wait for it.
-ghost use Rattle.std.specs.Thread.{IsSync};
+ghost use Rattle.std.specs.Prelude.{◌<◌};
 ghost use Rattle.advance_rule.specs.Action.{AnswersAction};
 
 use advance_rule::StoredAction;
 use cyclic_gate::{BarrierFault, CyclicGate, GateFault};
+use std::alloc::Global;
 use std::process::Abort;
 use std::sync::Wait;
 use std::thread;
 use std::thread::Threads;
+
+// What a thread does at the gate.
+#[derive(Clone, Copy)]
+enum Deed {
+    // Waits for its turn, as this caller.
+    Awaits(u32),
+    // Takes the caller 1 away, and answers 0.
+    TakesAway,
+}
 
 // A turn, which sends the others home where it finds no memory.
 fn turn<R: Wait, F: Fn(u64) -> bool>(
@@ -24,115 +34,92 @@ fn turn<R: Wait, F: Fn(u64) -> bool>(
     turn
 }
 
-// A turn in each of two threads.
-fn two_turns<R: Threads + Wait + Sync, F: Fn(u64) -> bool + Sync>(
-    rt: &R,
-    gate: &CyclicGate<F>,
-    first: u32,
-    second: u32,
-) -> (Result<u32, GateFault>, Result<u32, GateFault>)
-    requires { AnswersAction (F.pre gate.now.action.closure) (F.post gate.now.action.closure) gate.now.action.plan }
-{
-    thread::join(rt, || turn(rt, gate, first), || turn(rt, gate, second))
-}
-
-// What three threads are answered that call `await_turn` as the callers 0, 1 and 2.
-fn three_turns<R: Threads + Wait + Sync, F: Fn(u64) -> bool + Sync>(
-    rt: &R,
-    gate: &CyclicGate<F>,
-) -> [Result<u32, GateFault>; 3]
-    requires { AnswersAction (F.pre gate.now.action.closure) (F.post gate.now.action.closure) gate.now.action.plan }
-{
-    let (first, (second, third)) = thread::join(
-        rt,
-        || turn(rt, gate, 0),
-        || -> (Result<u32, GateFault>, Result<u32, GateFault>)
-            requires { IsSync R.row × IsSync F.row × AnswersAction (F.pre gate.now.action.closure) (F.post gate.now.action.closure) gate.now.action.plan }
-        { two_turns(rt, gate, 1, 2) },
-    );
-    [first, second, third]
-}
-
 // Takes the caller 1 away once it waits. Gives up after many turns, and sends the others home where it finds no memory.
-fn take_away<R: Wait, F: Fn(u64) -> bool>(
-    rt: &R,
-    gate: &CyclicGate<F>,
-) -> Result<usize, BarrierFault> {
+fn take_away<R: Wait, F: Fn(u64) -> bool>(rt: &R, gate: &CyclicGate<F>) -> Result<u32, GateFault> {
     for _ in 0..1000000u32 {
         match gate.abandon(rt, 1) {
             Err(BarrierFault::NotWaiting) => thread::yield_now(),
-            Err(fault) => {
-                gate.break_off(rt);
-                return Err(fault);
-            }
-            Ok(others) => return Ok(others.len()),
+            Err(_fault) => break,
+            Ok(_others) => return Ok(0),
         }
     }
     gate.break_off(rt);
-    Err(BarrierFault::NotWaiting)
+    Err(GateFault::Memory)
 }
 
-// The callers 0 and 1 wait, and 1 is taken away.
-fn two_broken<R: Threads + Wait + Sync, F: Fn(u64) -> bool + Sync>(
+// Does what is to be done.
+fn does<R: Wait, F: Fn(u64) -> bool>(
     rt: &R,
     gate: &CyclicGate<F>,
-) -> (
-    Result<u32, GateFault>,
-    Result<u32, GateFault>,
-    Result<usize, BarrierFault>,
-)
+    deed: Deed,
+) -> Result<u32, GateFault>
     requires { AnswersAction (F.pre gate.now.action.closure) (F.post gate.now.action.closure) gate.now.action.plan }
 {
-    let ((first, second), taken) = thread::join(
-        rt,
-        || -> (Result<u32, GateFault>, Result<u32, GateFault>)
-            requires { IsSync R.row × IsSync F.row × AnswersAction (F.pre gate.now.action.closure) (F.post gate.now.action.closure) gate.now.action.plan }
-        { two_turns(rt, gate, 0, 1) },
-        || take_away(rt, gate),
-    );
-    (first, second, taken)
+    match deed {
+        Deed::Awaits(caller) => turn(rt, gate, caller),
+        Deed::TakesAway => take_away(rt, gate),
+    }
 }
 
-fn is_each_once(turns: &[Result<u32, GateFault>; 3]) -> bool {
-    [Ok(0), Ok(1), Ok(2)]
-        .iter()
-        .all(|turn| turns.contains(turn))
+// What three threads are answered that do this.
+fn three<R: Threads + Wait + Abort + Sync, F: Fn(u64) -> bool + Sync>(
+    rt: &R,
+    alloc: Global,
+    gate: &CyclicGate<F>,
+    deeds: [Deed; 3],
+) -> Vec<Result<u32, GateFault>>
+    requires { AnswersAction (F.pre gate.now.action.closure) (F.post gate.now.action.closure) gate.now.action.plan }
+{
+    let answers = thread::map_indices(
+        rt,
+        alloc,
+        3,
+        &|i: usize| -> Result<u32, GateFault>
+            requires { (i < 3) × AnswersAction (F.pre gate.now.action.closure) (F.post gate.now.action.closure) gate.now.action.plan }
+        { does(rt, gate, deeds[i]) },
+    );
+    answers.expect(rt, "memory")
+}
+
+// Whether each of three turns was given once.
+fn is_each_once(turns: &[Result<u32, GateFault>]) -> bool {
+    turns.len() == 3 && turns.contains(&Ok(0)) && turns.contains(&Ok(1)) && turns.contains(&Ok(2))
 }
 
 // Three threads meet, and each gets one of the three turns.
 fn all_meet<R: Threads + Wait + Abort + Sync, F: Fn(u64) -> bool + Sync>(
     rt: &R,
+    alloc: Global,
     gate: &CyclicGate<F>,
 )
     requires { AnswersAction (F.pre gate.now.action.closure) (F.post gate.now.action.closure) gate.now.action.plan }
 {
-    let turns = three_turns(rt, gate);
+    let meet = [Deed::Awaits(0), Deed::Awaits(1), Deed::Awaits(2)];
+    let turns = three(rt, alloc, gate, meet);
     assert!(rt; is_each_once(&turns));
 }
 
 // Of two that wait one is taken away, and all are told that the gate is broken.
 fn all_are_broken<R: Threads + Wait + Abort + Sync, F: Fn(u64) -> bool + Sync>(
     rt: &R,
+    alloc: Global,
     gate: &CyclicGate<F>,
 )
     requires { AnswersAction (F.pre gate.now.action.closure) (F.post gate.now.action.closure) gate.now.action.plan }
 {
-    let (first, second, taken) = two_broken(rt, gate);
-    assert!(rt; first == Err(GateFault::Broken));
-    assert!(rt; second == Err(GateFault::Broken));
-    assert!(rt; taken.is_ok());
-    assert!(rt; gate.await_turn(rt, 2) == Err(GateFault::Broken));
+    let broken = Err(GateFault::Broken);
+    let part = [Deed::Awaits(0), Deed::Awaits(1), Deed::TakesAway];
+    let told = three(rt, alloc, gate, part);
+    assert!(rt; told.as_slice() == [broken, broken, Ok(0)].as_slice());
+    assert!(rt; gate.await_turn(rt, 2) == broken);
 }
 
 #[test]
 fn three_threads_meet_and_are_broken(rt: HostRuntime) {
     let action = StoredAction::new(|_generation: u64| false, None);
-    let gate = match CyclicGate::new(rt.alloc(), 3, action) {
-        Ok(gate) => gate,
-        Err(_) => panic!(rt; "no gate"),
-    };
-    all_meet(&rt, &gate);
-    all_are_broken(&rt, &gate);
+    let gate = CyclicGate::new(rt.alloc(), 3, action).expect(&rt, "a gate");
+    all_meet(&rt, rt.alloc(), &gate);
+    all_are_broken(&rt, rt.alloc(), &gate);
     assert!(rt; gate.reset(&rt).is_ok());
-    all_meet(&rt, &gate);
+    all_meet(&rt, rt.alloc(), &gate);
 }

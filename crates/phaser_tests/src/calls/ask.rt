@@ -3,10 +3,12 @@
 use tier_core::call::Cause;
 
 /// What a token is asked.
-#[derive(Clone, Copy, PartialEq, Eq)]
+#[derive(Clone, Copy)]
 pub enum Ask {
     /// To register so many members at a tier.
     Register(u16, u32),
+    /// To register a member beside the crew of the first token.
+    Beside,
     /// To go on with a registration.
     Open,
     /// To let a member arrive.

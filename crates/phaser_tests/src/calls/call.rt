@@ -8,6 +8,7 @@ ghost use Rattle.phaser_tests.specs.Slots.{tree_of};
 
 use crate::calls::ask::{Ask, Told};
 use crate::calls::slots::Slot;
+use crate::trees::Rule;
 use std::process::Abort;
 use tier_table::arriving::{Arrived, Resumed};
 use tier_table::forcing::Forced;
@@ -17,9 +18,9 @@ use tier_table::tokens::{Crew, Door, Errand, Opening, Token};
 use tier_table::tree::Tree;
 
 // A registration.
-fn register<F: Fn(u32, u32) -> bool>(
+fn register(
     rt: &impl Abort,
-    tree: &Tree<F>,
+    tree: &Tree<Rule>,
     door: Door,
     tier: u16,
     members: u32,
@@ -40,7 +41,7 @@ fn register<F: Fn(u32, u32) -> bool>(
 }
 
 // The end by force.
-fn force<F: Fn(u32, u32) -> bool>(tree: &Tree<F>, door: Door, tries: u32) -> (Slot, Told)
+fn force(tree: &Tree<Rule>, door: Door, tries: u32) -> (Slot, Told)
     requires own { door.tree ≡ tree.now.tree }
     ensures { tree_of result.0 ≡ tree.now.tree }
 {
@@ -53,7 +54,7 @@ fn force<F: Fn(u32, u32) -> bool>(tree: &Tree<F>, door: Door, tries: u32) -> (Sl
 }
 
 // A registration goes on.
-fn open<F: Fn(u32, u32) -> bool>(tree: &Tree<F>, opening: Opening, tries: u32) -> (Slot, Told)
+fn open(tree: &Tree<Rule>, opening: Opening, tries: u32) -> (Slot, Told)
     requires own { opening.token.tree ≡ tree.now.tree }
     ensures { tree_of result.0 ≡ tree.now.tree }
 {
@@ -67,12 +68,12 @@ fn open<F: Fn(u32, u32) -> bool>(tree: &Tree<F>, opening: Opening, tries: u32) -
 }
 
 // An arrival or a departure.
-fn pass<F: Fn(u32, u32) -> bool>(tree: &Tree<F>, crew: Crew, ask: Ask, tries: u32) -> (Slot, Told)
+fn pass(tree: &Tree<Rule>, crew: Crew, ask: Ask, tries: u32) -> (Slot, Told)
     requires own { crew.tree ≡ tree.now.tree }
-    requires rule { Answers (F.pre tree.now.rule.closure) (F.post tree.now.rule.closure) (end_ends_at tree.now.rule.plan) }
+    requires rule { Answers (pre tree.now.rule.closure) (post tree.now.rule.closure) (end_ends_at tree.now.rule.plan) }
     ensures { tree_of result.0 ≡ tree.now.tree }
 {
-    let arrived = if ask == Ask::Leave {
+    let arrived = if matches!(ask, Ask::Leave) {
         tree.arrive_and_deregister(crew, tries)
     } else {
         tree.arrive(crew, tries)
@@ -88,9 +89,9 @@ fn pass<F: Fn(u32, u32) -> bool>(tree: &Tree<F>, crew: Crew, ask: Ask, tries: u3
 }
 
 // An arrival or a departure goes on.
-fn resume<F: Fn(u32, u32) -> bool>(tree: &Tree<F>, errand: Errand, tries: u32) -> (Slot, Told)
+fn resume(tree: &Tree<Rule>, errand: Errand, tries: u32) -> (Slot, Told)
     requires own { errand.token.tree ≡ tree.now.tree }
-    requires rule { Answers (F.pre tree.now.rule.closure) (F.post tree.now.rule.closure) (end_ends_at tree.now.rule.plan) }
+    requires rule { Answers (pre tree.now.rule.closure) (post tree.now.rule.closure) (end_ends_at tree.now.rule.plan) }
     ensures { tree_of result.0 ≡ tree.now.tree }
 {
     match tree.resume(errand, tries) {
@@ -101,7 +102,7 @@ fn resume<F: Fn(u32, u32) -> bool>(tree: &Tree<F>, errand: Errand, tries: u32) -
 }
 
 // Sees whether a crew's phase has passed.
-fn poll<F: Fn(u32, u32) -> bool>(tree: &Tree<F>, crew: Crew) -> (Slot, Told)
+fn poll(tree: &Tree<Rule>, crew: Crew) -> (Slot, Told)
     requires own { crew.tree ≡ tree.now.tree }
     ensures { tree_of result.0 ≡ tree.now.tree }
 {
@@ -116,15 +117,9 @@ fn poll<F: Fn(u32, u32) -> bool>(tree: &Tree<F>, crew: Crew) -> (Slot, Told)
 }
 
 /// One call, with so many tries at most. A poll makes one at most, whatever is said.
-pub fn call<F: Fn(u32, u32) -> bool>(
-    rt: &impl Abort,
-    tree: &Tree<F>,
-    slot: Slot,
-    ask: Ask,
-    tries: u32,
-) -> (Slot, Told)
+pub fn call(rt: &impl Abort, tree: &Tree<Rule>, slot: Slot, ask: Ask, tries: u32) -> (Slot, Told)
     requires own { tree_of slot ≡ tree.now.tree }
-    requires rule { Answers (F.pre tree.now.rule.closure) (F.post tree.now.rule.closure) (end_ends_at tree.now.rule.plan) }
+    requires rule { Answers (pre tree.now.rule.closure) (post tree.now.rule.closure) (end_ends_at tree.now.rule.plan) }
     ensures { tree_of result.0 ≡ tree.now.tree }
 {
     match (slot, ask) {

@@ -1,92 +1,83 @@
 //! What no text reaches: packed words, and shapes by lists of parents.
 use phaser_word::{LAST_PHASE, Word};
-use std::alloc::{AllocError, Global};
+use std::alloc::Global;
 use std::process::Abort;
-use std::test::Fail;
 use tier_shape::Shape;
 
-// A word of these fields is unpacked from these bits, and packed into them.
-fn is_packed(rt: &impl Abort, phase: u32, parties: u32, unarrived: u32, ended: bool, bits: u64) {
-    let Some(word) = Word::unpack(bits) else {
-        panic!(rt; "no legal word");
-    };
-    assert!(rt; word.phase == phase && word.parties == parties, "{bits}");
-    assert!(rt;
-        word.unarrived == unarrived && word.ended == ended,
-        "{bits}"
-    );
-    assert!(rt; word.pack() == bits, "{bits}");
+// Packed numbers, and what they are unpacked into: the phase, the parties, how many of them are unarrived, and
+// whether it has ended; or nothing, where no legal word has the number.
+const WORDS: [(u64, Option<(u32, u32, u32, bool)>); 6] = [
+    (0x0000000000000001, Some((0, 0, 1, false))),
+    (0x0000000100020002, Some((1, 2, 2, false))),
+    (0x7fffffffffffffff, Some((LAST_PHASE, 65535, 65535, false))),
+    (0xffffffffffffffff, Some((LAST_PHASE, 65535, 65535, true))),
+    (0x0000000000000003, None),
+    (0x0000000000010002, None),
+];
+
+// Whether a number is unpacked so, and packed again.
+fn is_packed(bits: u64, want: Option<(u32, u32, u32, bool)>) -> bool {
+    match (Word::unpack(bits), want) {
+        (Some(word), Some(want)) => {
+            (word.phase, word.parties, word.unarrived, word.ended) == want && word.pack() == bits
+        }
+        (None, None) => true,
+        _ => false,
+    }
 }
 
 #[test]
 fn packs_the_known_words(rt: HostRuntime) {
-    is_packed(&rt, 0, 0, 1, false, 0x0000000000000001);
-    is_packed(&rt, 1, 2, 2, false, 0x0000000100020002);
-    is_packed(&rt, LAST_PHASE, 65535, 65535, false, 0x7fffffffffffffff);
-    is_packed(&rt, LAST_PHASE, 65535, 65535, true, 0xffffffffffffffff);
-    assert!(rt; Word::unpack(0x0000000000000003).is_none());
-    assert!(rt; Word::unpack(0x0000000000010002).is_none());
+    for (bits, want) in WORDS {
+        assert!(rt; is_packed(bits, want), "{bits}");
+    }
 }
 
-// These parents are refused so.
-fn is_refused(rt: &impl Abort, alloc: Global, parents: &[u16], name: &str) {
+// Lists of parents, and what is told of them: the name of a refusal, or that they are taken.
+const PARENTS: [(&[u16], &str); 8] = [
+    (&[0; 65], "TooManyTiers"),
+    (&[1; 65], "TooManyTiers"),
+    (&[], "NoTier"),
+    (&[1], "ParentNotEarlier"),
+    (&[0, 1], "ParentNotEarlier"),
+    (&[0, 0, 1, 2, 3, 4, 5, 6], "TooDeep"),
+    (&[0; 64], "taken"),
+    (&[0, 0, 1, 2, 3, 4, 5], "taken"),
+];
+
+// What is told of a list of parents.
+fn told(alloc: Global, parents: &[u16]) -> &'static str {
     match Shape::from_parents(alloc, parents) {
-        Ok(_shape) => panic!(rt; "taken: {name}"),
-        Err(fault) => assert!(rt; fault.name() == name, "{name}"),
-    }
-}
-
-// So many equal parents.
-fn equal(alloc: Global, parent: u16, count: u8) -> Result<Vec<u16>, AllocError> {
-    let mut parents = Vec::new(alloc);
-    for _ in 0..count {
-        parents.push(parent)?;
-    }
-    Ok(parents)
-}
-
-#[test]
-fn refuses_parents(rt: HostRuntime) -> Result<(), Fail> {
-    let alloc = rt.alloc();
-    is_refused(&rt, alloc, &equal(alloc, 0, 65)?, "TooManyTiers");
-    is_refused(&rt, alloc, &equal(alloc, 1, 65)?, "TooManyTiers");
-    is_refused(&rt, alloc, &[], "NoTier");
-    is_refused(&rt, alloc, &[1], "ParentNotEarlier");
-    is_refused(&rt, alloc, &[0, 1], "ParentNotEarlier");
-    is_refused(&rt, alloc, &[0, 0, 1, 2, 3, 4, 5, 6], "TooDeep");
-    Ok(())
-}
-
-// These parents are taken.
-fn is_taken(rt: &impl Abort, alloc: Global, parents: &[u16]) {
-    match Shape::from_parents(alloc, parents) {
-        Ok(shape) => assert!(rt; shape.count() == parents.len()),
-        Err(_fault) => panic!(rt; "refused"),
+        Ok(shape) if shape.count() == parents.len() => "taken",
+        Ok(_shape) => "miscounted",
+        Err(fault) => fault.name(),
     }
 }
 
 #[test]
-fn takes_parents(rt: HostRuntime) -> Result<(), Fail> {
-    is_taken(&rt, rt.alloc(), &equal(rt.alloc(), 0, 64)?);
-    is_taken(&rt, rt.alloc(), &[0, 0, 1, 2, 3, 4, 5]);
-    Ok(())
+fn takes_and_refuses_parents(rt: HostRuntime) {
+    for (parents, want) in PARENTS {
+        assert!(rt; told(rt.alloc(), parents) == want, "{want}");
+    }
 }
 
-#[test]
-fn knows_leaves(rt: HostRuntime) -> Result<(), Fail> {
-    let shape = Shape::from_widths(rt.alloc(), "2x3")?;
-    assert!(rt; shape.is_leaf(8) && !shape.is_leaf(2) && !shape.is_leaf(9));
-    let flat = Shape::from_widths(rt.alloc(), "flat")?;
-    assert!(rt; flat.is_leaf(0));
-    Ok(())
-}
-
-#[test]
-fn lists_leaves_and_paths(rt: HostRuntime) -> Result<(), Fail> {
-    let shape = Shape::from_widths(rt.alloc(), "2x3")?;
+// The leaves of a tree of 2 by 3, and the path of the last of them.
+fn has_leaves_and_paths(rt: &impl Abort, alloc: Global, shape: &Shape) {
     assert!(rt; shape.count() == 9);
+    assert!(rt; shape.is_leaf(8) && !shape.is_leaf(2) && !shape.is_leaf(9));
     assert!(rt; shape.path_up(8).as_slice() == [8, 2, 0].as_slice());
-    let leaves = shape.leaves(rt.alloc())?;
+    let leaves = shape.leaves(alloc).expect(rt, "memory");
     assert!(rt; leaves.as_slice() == [3, 4, 5, 6, 7, 8].as_slice());
-    Ok(())
+}
+
+#[test]
+fn lists_leaves_and_paths(rt: HostRuntime) {
+    let shape = Shape::from_widths(rt.alloc(), "2x3").expect(&rt, "a shape");
+    has_leaves_and_paths(&rt, rt.alloc(), &shape);
+}
+
+#[test]
+fn knows_the_leaf_of_a_flat_tree(rt: HostRuntime) {
+    let flat = Shape::from_widths(rt.alloc(), "flat").expect(&rt, "a shape");
+    assert!(rt; flat.is_leaf(0));
 }

@@ -7,9 +7,8 @@ ghost use Rattle.advance_rule.specs.Plan.{count_ends};
 use advance_rule::{CountPlan, StoredCount};
 use flat_phaser::{FlatPhaser, FlatStep};
 use phaser_one::{Call, OneFault, PhaserOne, Reply};
-use std::alloc::{AllocError, Global};
+use std::alloc::Global;
 use std::process::Abort;
-use std::test::Fail;
 
 const CALLS: [Call; 10] = [
     Call::Register,
@@ -24,45 +23,56 @@ const CALLS: [Call; 10] = [
     Call::Force,
 ];
 
+// The phase as it is shown.
+fn shown_of(phase: u32, ended: bool) -> i32 {
+    let phase = phase as i64;
+    let shown = if ended { phase - 2147483648 } else { phase };
+    i32::try_from(shown).unwrap_or(0)
+}
+
+// The step that a call is for the plain flat phaser, or its answer where it is none.
+fn step_of(call: Call, shown: i32, ended: bool) -> Result<FlatStep, Reply> {
+    match call {
+        Call::Register => Ok(FlatStep::Join(0, 1)),
+        Call::Bulk(count) => match u32::try_from(count) {
+            Ok(count) => Ok(FlatStep::Join(0, count)),
+            Err(_) => Err(Reply::Refused(OneFault::Negative)),
+        },
+        Call::Arrive => Ok(FlatStep::Arrive(0)),
+        Call::Leave => Ok(FlatStep::Leave(0)),
+        Call::Await(asked) if asked < 0 => Err(Reply::Number(asked)),
+        Call::Await(asked) if ended || asked != shown => Err(Reply::Number(shown)),
+        Call::Await(_) => Err(Reply::Waiting),
+        Call::Force => Ok(FlatStep::Force),
+    }
+}
+
 // What the plain flat phaser answers, with an advance at once where it is due.
 fn plain_reply(
+    rt: &impl Abort,
     alloc: Global,
     flat: &mut FlatPhaser,
     plan: CountPlan,
     call: Call,
-) -> Result<Reply, AllocError> {
-    let phase = flat.phase() as i64;
-    let shown = if flat.ended() {
-        phase - 2147483648
-    } else {
-        phase
+) -> Reply {
+    let shown = shown_of(flat.phase(), flat.ended());
+    let step = match step_of(call, shown, flat.ended()) {
+        Ok(step) => step,
+        Err(reply) => return reply,
     };
-    let shown = i32::try_from(shown).unwrap_or(0);
-    let step = match call {
-        Call::Register => FlatStep::Join(0, 1),
-        Call::Bulk(count) => match u32::try_from(count) {
-            Ok(count) => FlatStep::Join(0, count),
-            Err(_) => return Ok(Reply::Refused(OneFault::Negative)),
-        },
-        Call::Arrive => FlatStep::Arrive(0),
-        Call::Leave => FlatStep::Leave(0),
-        Call::Await(asked) if asked < 0 => return Ok(Reply::Number(asked)),
-        Call::Await(asked) if flat.ended() || asked != shown => return Ok(Reply::Number(shown)),
-        Call::Await(_) => return Ok(Reply::Waiting),
-        Call::Force => FlatStep::Force,
-    };
-    if flat.step(alloc, step)?.is_none() {
-        return Ok(Reply::Refused(OneFault::NobodyUnarrived));
+    if flat.step(alloc, step).expect(rt, "memory").is_none() {
+        return Reply::Refused(OneFault::NobodyUnarrived);
     }
     if flat.is_due() {
         let count = u32::try_from(flat.registered()).unwrap_or(0);
         let ends = plan.ends(flat.phase(), count);
-        flat.step(alloc, FlatStep::Advance(ends))?;
+        flat.step(alloc, FlatStep::Advance(ends))
+            .expect(rt, "memory");
     }
     if call == Call::Force && shown >= 0 {
-        return Ok(Reply::Number(shown - i32::MAX - 1));
+        return Reply::Number(shown - i32::MAX - 1);
     }
-    Ok(Reply::Number(shown))
+    Reply::Number(shown)
 }
 
 // Whether both phasers count the same.
@@ -74,24 +84,7 @@ fn is_alike<F: Fn(u32, u32) -> bool>(one: &PhaserOne<F>, flat: &FlatPhaser) -> b
         && sum == u64::from(one.registered())
 }
 
-// Makes a call on both phasers.
-fn called<F: Fn(u32, u32) -> bool>(
-    rt: &impl Abort,
-    alloc: Global,
-    one: &mut PhaserOne<F>,
-    flat: &mut FlatPhaser,
-    plan: CountPlan,
-    call: Call,
-) -> Result<(), AllocError>
-    requires rule { Answers (F.pre one.old.rule.closure) (F.post one.old.rule.closure) (count_ends one.old.rule.plan) }
-    ensures rule { one.new.rule ≡ one.old.rule }
-{
-    let want = plain_reply(alloc, flat, plan, call)?;
-    assert_eq!(rt; one.call(call), want);
-    Ok(())
-}
-
-// Makes the calls that the digits of a number name on both phasers, which are alike so far.
+// Makes the calls that the digits of a number name on both phasers, which answer the same and are alike so far.
 fn all_called<F: Fn(u32, u32) -> bool>(
     rt: &impl Abort,
     alloc: Global,
@@ -100,16 +93,20 @@ fn all_called<F: Fn(u32, u32) -> bool>(
     plan: CountPlan,
     length: u32,
     number: u32,
-) -> Result<(), AllocError>
+)
     requires rule { Answers (F.pre one.old.rule.closure) (F.post one.old.rule.closure) (count_ends one.old.rule.plan) }
 {
     let mut rest = number;
     for _ in 0..length {
-        called(rt, alloc, one, flat, plan, CALLS[(rest % 10) as usize])?;
-        assert!(rt; is_alike(one, flat), "calls {number} of {length}");
+        let call = CALLS[(rest % 10) as usize];
+        let want = plain_reply(rt, alloc, flat, plan, call);
+        let told = one.call(call);
+        assert!(rt;
+            told == want && is_alike(one, flat),
+            "calls {number} of {length}"
+        );
         rest /= 10;
     }
-    Ok(())
 }
 
 // Makes these calls on two phasers of so many parties.
@@ -120,67 +117,73 @@ fn compared(
     parties: u32,
     length: u32,
     number: u32,
-) -> Result<(), Fail> {
+) {
     let rule = StoredCount::new(|phase: u32, count: u32| plan.ends(phase, count), plan);
     let mut flat = FlatPhaser::new(alloc, 0);
-    flat.step(alloc, FlatStep::Join(0, parties))?;
-    match PhaserOne::new(i64::from(parties), 0, rule) {
-        Ok(mut one) => all_called(rt, alloc, &mut one, &mut flat, plan, length, number)?,
-        Err(_) => panic!(rt; "not opened"),
+    flat.step(alloc, FlatStep::Join(0, parties))
+        .expect(rt, "memory");
+    let mut one = PhaserOne::new(i64::from(parties), 0, rule).expect(rt, "a phaser");
+    all_called(rt, alloc, &mut one, &mut flat, plan, length, number);
+}
+
+// It ends with nobody, or at the end of phase 1.
+const PLANS: [CountPlan; 2] = [
+    CountPlan { least: 1, at: None },
+    CountPlan {
+        least: 0,
+        at: Some(1),
+    },
+];
+
+// The number whose five digits are those of this number to the base 3.
+fn by_three(number: u32) -> u32 {
+    let mut digits = 0u32;
+    let mut rest = number;
+    for _ in 0..5 {
+        digits = digits.saturating_mul(10).saturating_add(rest % 3);
+        rest /= 3;
     }
-    Ok(())
+    digits
 }
 
 #[test]
-fn answers_as_the_flat_phaser_does(rt: HostRuntime) -> Result<(), Fail> {
-    let plans = [
-        CountPlan { least: 1, at: None },
-        CountPlan {
-            least: 0,
-            at: Some(1),
-        },
-    ];
-    for plan in plans {
+fn answers_as_the_flat_phaser_does(rt: HostRuntime) {
+    for plan in PLANS {
         for parties in 0..3 {
             for number in 0..10000 {
-                compared(&rt, rt.alloc(), plan, parties, 4, number)?;
+                compared(&rt, rt.alloc(), plan, parties, 4, number);
             }
         }
         // five of the first three calls, which change it most
-        for number in 0..243u32 {
-            let mut digits = 0u32;
-            let mut rest = number;
-            for _ in 0..5 {
-                digits = digits.saturating_mul(10).saturating_add(rest % 3);
-                rest /= 3;
-            }
-            compared(&rt, rt.alloc(), plan, 2, 5, digits)?;
+        for number in 0..243 {
+            compared(&rt, rt.alloc(), plan, 2, 5, by_three(number));
         }
     }
-    Ok(())
 }
 
+// A list of calls, and what they are answered.
+const LIST: [Call; 5] = [
+    Call::Arrive,
+    Call::Register,
+    Call::Leave,
+    Call::Leave,
+    Call::Arrive,
+];
+
+const REPLIES: [Reply; 5] = [
+    Reply::Number(7),
+    Reply::Number(8),
+    Reply::Number(8),
+    Reply::Number(8),
+    Reply::Number(-2147483639),
+];
+
 #[test]
-fn answers_a_list_of_calls(rt: HostRuntime) -> Result<(), Fail> {
+fn answers_a_list_of_calls(rt: HostRuntime) {
     let plan = CountPlan { least: 1, at: None };
     let rule = StoredCount::new(|_phase: u32, count: u32| count < 1, plan);
-    let mut one = PhaserOne::new(1, 7, rule).ok().ok_or("opened")?;
-    let calls = [
-        Call::Arrive,
-        Call::Register,
-        Call::Leave,
-        Call::Leave,
-        Call::Arrive,
-    ];
-    let replies = one.call_all(rt.alloc(), &calls)?;
-    let want = [
-        Reply::Number(7),
-        Reply::Number(8),
-        Reply::Number(8),
-        Reply::Number(8),
-        Reply::Number(-2147483639),
-    ];
-    assert_eq!(rt; replies.as_slice(), want.as_slice());
-    assert_eq!(rt; one.phase(), -2147483639);
-    Ok(())
+    let mut one = PhaserOne::new(1, 7, rule).expect(&rt, "a phaser");
+    let replies = one.call_all(rt.alloc(), &LIST).expect(&rt, "memory");
+    assert!(rt; replies.as_slice() == REPLIES.as_slice());
+    assert!(rt; one.phase() == -2147483639);
 }

@@ -10,6 +10,7 @@ use crate::calls::call::call;
 use crate::calls::slots::Slot;
 use crate::lists::mirror::Mirror;
 use crate::lists::numbers::Numbers;
+use crate::trees::Rule;
 use std::process::Abort;
 use tier_table::tree::Tree;
 
@@ -41,19 +42,17 @@ fn next_tries(numbers: &mut Numbers, ask: Ask, again: bool) -> (u32, u32) {
     } else {
         numbers.below(4)
     };
-    let on_the_tree = if ask == Ask::Force {
-        tries.saturating_add(2)
-    } else {
-        tries
-    };
-    (tries, on_the_tree)
+    match ask {
+        Ask::Force => (tries, tries.saturating_add(2)),
+        _ => (tries, tries),
+    }
 }
 
 /// A token takes a call with up to 3 tries, which is repeated where it is busy, and is told each time what
 /// the machine tells.
-pub fn act<F: Fn(u32, u32) -> bool>(
+pub fn act(
     rt: &impl Abort,
-    tree: &Tree<F>,
+    tree: &Tree<Rule>,
     mirror: &mut Mirror,
     token: usize,
     slot: Slot,
@@ -61,7 +60,7 @@ pub fn act<F: Fn(u32, u32) -> bool>(
     late: bool,
 ) -> Slot
     requires own { tree_of slot ≡ tree.now.tree }
-    requires rule { Answers (F.pre tree.now.rule.closure) (F.post tree.now.rule.closure) (end_ends_at tree.now.rule.plan) }
+    requires rule { Answers (pre tree.now.rule.closure) (post tree.now.rule.closure) (end_ends_at tree.now.rule.plan) }
     ensures { tree_of result ≡ tree.now.tree }
 {
     let ask = next_ask(&slot, numbers, mirror.tiers(), late);

@@ -3,8 +3,9 @@
 ghost use Rattle.tier_core.specs.Run.{IsCall};
 
 use crate::calls::ask::{Ask, Told};
+use crate::machine::{stepped, view_of};
 use std::process::Abort;
-use tier_core::call::{Answer, Call, Played, Step};
+use tier_core::call::{Call, Played};
 use tier_core::tree::Core;
 use tier_steps::view::{Errand, View};
 
@@ -63,25 +64,6 @@ impl Mirror {
         self.core.tiers() as u32
     }
 
-    // What a token knows.
-    fn view(&self, rt: &impl Abort, token: usize) -> View {
-        assert!(rt; token < self.core.tokens());
-        self.core.view(token)
-    }
-
-    // One step of a token's call.
-    fn play(&mut self, rt: &impl Abort, token: usize) -> Played {
-        let step = if self.core.must_advance(token) {
-            Step::Finish(token)
-        } else {
-            Step::Go(token)
-        };
-        match self.core.step(step) {
-            Answer::Played(answer) => answer,
-            _ => panic!(rt; "no step"),
-        }
-    }
-
     // Steps of a call until it is over, or so many of them have changed a word.
     fn go(&mut self, rt: &impl Abort, token: usize, tries: u32) -> Option<Played> {
         assert!(rt; token < 8);
@@ -91,7 +73,7 @@ impl Mirror {
                 return None;
             }
             let before = words_of(&self.core);
-            let answer = self.play(rt, token);
+            let answer = stepped(rt, &mut self.core, token);
             if let Some(place) = changed(&before, &words_of(&self.core)) {
                 self.last[token] = Some(place);
                 left -= 1;
@@ -108,7 +90,7 @@ impl Mirror {
     // there. The token has then seen the word.
     fn lost_at(&mut self, rt: &impl Abort, token: usize) -> Option<usize> {
         assert!(rt; token < 8);
-        let next = match self.view(rt, token).errand {
+        let next = match view_of(&self.core, token).errand {
             Errand::Climbing { tier, .. } => usize::from(tier),
             Errand::Advancing => 0,
             _ => return None,
@@ -130,7 +112,7 @@ impl Mirror {
             return None;
         }
         match self.lost_at(rt, token) {
-            Some(0) if self.core.root().ended => Some(self.play(rt, token)),
+            Some(0) if self.core.root().ended => Some(stepped(rt, &mut self.core, token)),
             Some(_) => self.go(rt, token, tries - 1),
             None => self.go(rt, token, tries),
         }
@@ -141,7 +123,7 @@ impl Mirror {
         requires { IsCall call }
     {
         assert!(rt; self.core.begin(token, call).is_ok());
-        match self.play(rt, token) {
+        match stepped(rt, &mut self.core, token) {
             Played::GoesOn => self.go(rt, token, tries),
             answer => Some(answer),
         }
@@ -159,6 +141,7 @@ impl Mirror {
         match ask {
             Ask::Force => self.begin(rt, token, Call::Force, 1),
             Ask::Open | Ask::Resume => self.resume(rt, token, tries),
+            Ask::Beside => panic!(rt; "nobody is asked so"),
             _ if again => self.go(rt, token, tries),
             Ask::Register(tier, n) => {
                 assert!(rt; n > 0 && n < 65536);
@@ -180,7 +163,7 @@ impl Mirror {
         again: bool,
     ) -> Told {
         let answer = self.steps(rt, token, ask, tries, again);
-        let view = self.view(rt, token);
+        let view = view_of(&self.core, token);
         match answer {
             Some(answer) => told_by(ask, view, answer),
             None if view.errand == Errand::Rest => Told::Busy,

@@ -1,12 +1,11 @@
 //! What a thread does with its token, and threads beside each other.
 
-ghost use Rattle.std.specs.Prelude.{◌≡◌, ◌<◌, length};
-ghost use Rattle.std.specs.Thread.{IsSync};
+ghost use Rattle.std.specs.Prelude.{◌≡◌, All};
 ghost use Rattle.advance_rule.specs.Stored.{Answers};
 ghost use Rattle.advance_rule.specs.Plan.{end_ends_at};
 ghost use Rattle.tier_table.specs.Closes.{held};
-ghost use Rattle.phaser_tests.specs.Tokens.{AreOf};
 
+use crate::trees::Rule;
 use std::process::Abort;
 use std::sync::Wait;
 use std::thread;
@@ -30,13 +29,17 @@ pub enum Deed {
     Meets(u32),
 }
 
+/// A token, and what is done with it in each stage, each time in a thread of its own.
+#[derive(Drop)]
+pub struct Actor {
+    /// The token.
+    pub token: Token,
+    /// What is done with it.
+    pub deeds: &'static [Deed],
+}
+
 // A member joins a tier.
-fn joins<R: Wait + Abort, F: Fn(u32, u32) -> bool>(
-    rt: &R,
-    tree: &Tree<F>,
-    door: Door,
-    tier: u16,
-) -> Crew
+fn joins<R: Wait + Abort>(rt: &R, tree: &Tree<Rule>, door: Door, tier: u16) -> Crew
     requires own { door.tree ≡ tree.now.tree }
     ensures { result.tree ≡ tree.now.tree }
 {
@@ -48,9 +51,9 @@ fn joins<R: Wait + Abort, F: Fn(u32, u32) -> bool>(
 }
 
 // A member arrives.
-fn arrives<R: Wait + Abort, F: Fn(u32, u32) -> bool>(rt: &R, tree: &Tree<F>, crew: Crew) -> Crew
+fn arrives<R: Wait + Abort>(rt: &R, tree: &Tree<Rule>, crew: Crew) -> Crew
     requires own { crew.tree ≡ tree.now.tree }
-    requires rule { Answers (F.pre tree.now.rule.closure) (F.post tree.now.rule.closure) (end_ends_at tree.now.rule.plan) }
+    requires rule { Answers (pre tree.now.rule.closure) (post tree.now.rule.closure) (end_ends_at tree.now.rule.plan) }
     ensures { result.tree ≡ tree.now.tree }
 {
     match tree.arrive_wait(rt, crew) {
@@ -60,9 +63,9 @@ fn arrives<R: Wait + Abort, F: Fn(u32, u32) -> bool>(rt: &R, tree: &Tree<F>, cre
 }
 
 // The last member of a crew leaves.
-fn leaves<R: Wait + Abort, F: Fn(u32, u32) -> bool>(rt: &R, tree: &Tree<F>, crew: Crew) -> Door
+fn leaves<R: Wait + Abort>(rt: &R, tree: &Tree<Rule>, crew: Crew) -> Door
     requires own { crew.tree ≡ tree.now.tree }
-    requires rule { Answers (F.pre tree.now.rule.closure) (F.post tree.now.rule.closure) (end_ends_at tree.now.rule.plan) }
+    requires rule { Answers (pre tree.now.rule.closure) (post tree.now.rule.closure) (end_ends_at tree.now.rule.plan) }
     ensures { result.tree ≡ tree.now.tree }
 {
     match tree.leave_wait(rt, crew) {
@@ -72,15 +75,15 @@ fn leaves<R: Wait + Abort, F: Fn(u32, u32) -> bool>(rt: &R, tree: &Tree<F>, crew
 }
 
 // A member joins a tier and leaves, so many times.
-fn comes_and_goes<R: Wait + Abort, F: Fn(u32, u32) -> bool>(
+fn comes_and_goes<R: Wait + Abort>(
     rt: &R,
-    tree: &Tree<F>,
+    tree: &Tree<Rule>,
     door: Door,
     tier: u16,
     times: u32,
 ) -> Door
     requires own { door.tree ≡ tree.now.tree }
-    requires rule { Answers (F.pre tree.now.rule.closure) (F.post tree.now.rule.closure) (end_ends_at tree.now.rule.plan) }
+    requires rule { Answers (pre tree.now.rule.closure) (post tree.now.rule.closure) (end_ends_at tree.now.rule.plan) }
     ensures { result.tree ≡ tree.now.tree }
 {
     let mut door = door;
@@ -92,14 +95,9 @@ fn comes_and_goes<R: Wait + Abort, F: Fn(u32, u32) -> bool>(
 }
 
 // A member arrives and waits for the next phase, from phase 0 on so many times.
-fn meets<R: Wait + Abort, F: Fn(u32, u32) -> bool>(
-    rt: &R,
-    tree: &Tree<F>,
-    crew: Crew,
-    times: u32,
-) -> Crew
+fn meets<R: Wait + Abort>(rt: &R, tree: &Tree<Rule>, crew: Crew, times: u32) -> Crew
     requires own { crew.tree ≡ tree.now.tree }
-    requires rule { Answers (F.pre tree.now.rule.closure) (F.post tree.now.rule.closure) (end_ends_at tree.now.rule.plan) }
+    requires rule { Answers (pre tree.now.rule.closure) (post tree.now.rule.closure) (end_ends_at tree.now.rule.plan) }
     ensures { result.tree ≡ tree.now.tree }
 {
     let mut crew = crew;
@@ -111,116 +109,53 @@ fn meets<R: Wait + Abort, F: Fn(u32, u32) -> bool>(
 }
 
 // Does what is to be done.
-fn does<R: Wait + Abort, F: Fn(u32, u32) -> bool>(
-    rt: &R,
-    tree: &Tree<F>,
-    token: Token,
-    deed: Deed,
-) -> Token
+fn does<R: Wait + Abort>(rt: &R, tree: &Tree<Rule>, token: Token, deed: Deed) -> Token
     requires own { (held token).tree ≡ tree.now.tree }
-    requires rule { Answers (F.pre tree.now.rule.closure) (F.post tree.now.rule.closure) (end_ends_at tree.now.rule.plan) }
+    requires rule { Answers (pre tree.now.rule.closure) (post tree.now.rule.closure) (end_ends_at tree.now.rule.plan) }
     ensures { (held result).tree ≡ tree.now.tree }
 {
-    if let Deed::Stays = deed {
-        return token;
-    }
-    match token {
-        Token::Door(door) => match deed {
-            Deed::Joins(tier) => Token::Crew(joins(rt, tree, door, tier)),
-            Deed::ComesAndGoes(tier, times) => {
-                Token::Door(comes_and_goes(rt, tree, door, tier, times))
-            }
-            _ => panic!(rt; "nobody can arrive"),
-        },
-        Token::Crew(crew) => match deed {
-            Deed::Arrives => Token::Crew(arrives(rt, tree, crew)),
-            Deed::Meets(times) => Token::Crew(meets(rt, tree, crew, times)),
-            _ => panic!(rt; "a crew can't join"),
-        },
+    match (token, deed) {
+        (token, Deed::Stays) => token,
+        (Token::Door(door), Deed::Joins(tier)) => Token::Crew(joins(rt, tree, door, tier)),
+        (Token::Door(door), Deed::ComesAndGoes(tier, times)) => {
+            Token::Door(comes_and_goes(rt, tree, door, tier, times))
+        }
+        (Token::Crew(crew), Deed::Arrives) => Token::Crew(arrives(rt, tree, crew)),
+        (Token::Crew(crew), Deed::Meets(times)) => Token::Crew(meets(rt, tree, crew, times)),
+        _ => panic!(rt; "it can't be done"),
     }
 }
 
-/// Two tokens in two threads.
-pub fn two<R: Threads + Wait + Abort + Sync, F: Fn(u32, u32) -> bool + Sync>(
-    rt: &R,
-    tree: &Tree<F>,
-    tokens: (Token, Token),
-    deeds: (Deed, Deed),
-) -> (Token, Token)
-    requires own { AreOf tree.now.tree tokens }
-    requires rule { Answers (F.pre tree.now.rule.closure) (F.post tree.now.rule.closure) (end_ends_at tree.now.rule.plan) }
-    ensures { AreOf tree.now.tree result }
+// Does what an actor has to do in a stage.
+fn acts<R: Wait + Abort>(rt: &R, tree: &Tree<Rule>, actor: Actor, stage: usize) -> Actor
+    requires own { (held actor.token).tree ≡ tree.now.tree }
+    requires rule { Answers (pre tree.now.rule.closure) (post tree.now.rule.closure) (end_ends_at tree.now.rule.plan) }
+    ensures { (held result.token).tree ≡ tree.now.tree }
 {
-    let (one, other) = tokens;
-    let (first, second) = deeds;
-    thread::join(
-        rt,
-        || -> Token
-            requires { ((held one).tree ≡ tree.now.tree) × Answers (F.pre tree.now.rule.closure) (F.post tree.now.rule.closure) (end_ends_at tree.now.rule.plan) }
-            ensures { (held result).tree ≡ tree.entry.now.tree }
-        { does(rt, tree, one, first) },
-        || -> Token
-            requires { ((held other).tree ≡ tree.now.tree) × Answers (F.pre tree.now.rule.closure) (F.post tree.now.rule.closure) (end_ends_at tree.now.rule.plan) }
-            ensures { (held result).tree ≡ tree.entry.now.tree }
-        { does(rt, tree, other, second) },
-    )
+    let Actor { token, deeds } = actor;
+    assert!(rt; stage < deeds.len());
+    let token = does(rt, tree, token, deeds[stage]);
+    Actor { token, deeds }
 }
 
-/// Four tokens in four threads.
-pub fn four<R: Threads + Wait + Abort + Sync, F: Fn(u32, u32) -> bool + Sync>(
+/// All do at once, each in its thread, what they have to do in a stage.
+pub fn all_act<R: Threads + Wait + Abort + Sync>(
     rt: &R,
-    tree: &Tree<F>,
-    front: (Token, Token),
-    back: (Token, Token),
-    deeds: ((Deed, Deed), (Deed, Deed)),
-) -> ((Token, Token), (Token, Token))
-    requires front { AreOf tree.now.tree front }
-    requires back { AreOf tree.now.tree back }
-    requires rule { Answers (F.pre tree.now.rule.closure) (F.post tree.now.rule.closure) (end_ends_at tree.now.rule.plan) }
-    ensures { AreOf tree.now.tree result.0 × AreOf tree.now.tree result.1 }
+    tree: &Tree<Rule>,
+    actors: Vec<Actor>,
+    stage: usize,
+) -> Vec<Actor>
+    requires own { All (λ a. (held a.token).tree ≡ tree.now.tree) actors.items }
+    requires rule { Answers (pre tree.now.rule.closure) (post tree.now.rule.closure) (end_ends_at tree.now.rule.plan) }
+    ensures { All (λ a. (held a.token).tree ≡ tree.now.tree) result.items }
 {
-    let (first, second) = deeds;
-    thread::join(
+    let acted = thread::map_vec(
         rt,
-        || -> (Token, Token)
-            requires { IsSync R.row × IsSync F.row × AreOf tree.now.tree front × Answers (F.pre tree.now.rule.closure) (F.post tree.now.rule.closure) (end_ends_at tree.now.rule.plan) }
-            ensures { AreOf tree.entry.now.tree result }
-        { two(rt, tree, front, first) },
-        || -> (Token, Token)
-            requires { IsSync R.row × IsSync F.row × AreOf tree.now.tree back × Answers (F.pre tree.now.rule.closure) (F.post tree.now.rule.closure) (end_ends_at tree.now.rule.plan) }
-            ensures { AreOf tree.entry.now.tree result }
-        { two(rt, tree, back, second) },
-    )
-}
-
-/// Eight tokens in eight threads, all of which do the same.
-pub fn eight<R: Threads + Wait + Abort + Sync, F: Fn(u32, u32) -> bool + Sync>(
-    rt: &R,
-    tree: &Tree<F>,
-    front: ((Token, Token), (Token, Token)),
-    back: ((Token, Token), (Token, Token)),
-    deeds: ((Deed, Deed), (Deed, Deed)),
-) -> (
-    ((Token, Token), (Token, Token)),
-    ((Token, Token), (Token, Token)),
-)
-    requires front { AreOf tree.now.tree front.0 × AreOf tree.now.tree front.1 }
-    requires back { AreOf tree.now.tree back.0 × AreOf tree.now.tree back.1 }
-    requires rule { Answers (F.pre tree.now.rule.closure) (F.post tree.now.rule.closure) (end_ends_at tree.now.rule.plan) }
-    ensures front { AreOf tree.now.tree result.0.0 × AreOf tree.now.tree result.0.1 }
-    ensures back { AreOf tree.now.tree result.1.0 × AreOf tree.now.tree result.1.1 }
-{
-    let (first, second) = front;
-    let (third, fourth) = back;
-    thread::join(
-        rt,
-        || -> ((Token, Token), (Token, Token))
-            requires { IsSync R.row × IsSync F.row × AreOf tree.now.tree first × AreOf tree.now.tree second × Answers (F.pre tree.now.rule.closure) (F.post tree.now.rule.closure) (end_ends_at tree.now.rule.plan) }
-            ensures { AreOf tree.entry.now.tree result.0 × AreOf tree.entry.now.tree result.1 }
-        { four(rt, tree, first, second, deeds) },
-        || -> ((Token, Token), (Token, Token))
-            requires { IsSync R.row × IsSync F.row × AreOf tree.now.tree third × AreOf tree.now.tree fourth × Answers (F.pre tree.now.rule.closure) (F.post tree.now.rule.closure) (end_ends_at tree.now.rule.plan) }
-            ensures { AreOf tree.entry.now.tree result.0 × AreOf tree.entry.now.tree result.1 }
-        { four(rt, tree, third, fourth, deeds) },
-    )
+        actors,
+        &|actor: Actor| -> Actor
+            requires { ((held actor.token).tree ≡ tree.now.tree) × Answers (pre tree.now.rule.closure) (post tree.now.rule.closure) (end_ends_at tree.now.rule.plan) }
+            ensures { (held result.token).tree ≡ tree.entry.now.tree }
+        { acts(rt, tree, actor, stage) },
+    );
+    acted.expect(rt, "memory")
 }

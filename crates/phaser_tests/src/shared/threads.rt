@@ -1,102 +1,200 @@
 //! Threads that share a tree.
 
-use crate::shared::deeds::{Deed, eight, four};
-use crate::tokens::{four_doors, left_by_eight, left_by_four};
-use crate::trees::{WHEN_EMPTY, planted};
+ghost use Rattle.std.specs.Prelude.{◌≡◌, All};
+ghost use Rattle.advance_rule.specs.Stored.{Answers};
+ghost use Rattle.advance_rule.specs.Plan.{end_ends_at};
+ghost use Rattle.tier_table.specs.Closes.{held};
+
+use crate::shared::deeds::Deed::{Arrives, ComesAndGoes, Joins, Meets, Stays};
+use crate::shared::deeds::{Actor, Deed, all_act};
+use crate::trees::{Rule, WHEN_EMPTY, is_empty, left, planted, put};
 use advance_rule::StoredAdvance;
-use phaser_word::Word;
 use std::alloc::Global;
 use std::process::Abort;
 use std::sync::Wait;
 use std::thread::Threads;
-use tier_table::closing::ClosedToken;
+use tier_table::closing::Closed;
+use tier_table::tokens::{Door, Token};
+use tier_table::tree::Tree;
 
-// A word is that of a tier with so many parties in this phase, none of which has arrived.
-fn is_waiting(rt: &impl Abort, word: Option<&Word>, phase: u32, parties: u32) {
-    let Some(word) = word else {
-        panic!(rt; "no word");
-    };
-    assert_eq!(rt; word.phase, phase);
-    assert_eq!(rt; word.parties, parties);
-    assert_eq!(rt; word.unarrived, parties);
-    assert!(rt; !word.ended);
+// What some threads do on a tree, stage after stage, each with a token of its own, of which the first is told apart;
+// and what is left: how many tiers, the root's phase and its parties, none of which has arrived, and how many tokens
+// at least have one member in that phase.
+struct Scene {
+    widths: &'static str,
+    first: &'static [Deed],
+    others: &'static [&'static [Deed]],
+    tiers: usize,
+    phase: u32,
+    parties: u32,
+    members: usize,
 }
 
 // Four threads register a party each, and then arrive.
-#[test]
-fn four_arrive(rt: HostRuntime) {
-    let rule = StoredAdvance::new(|_phase: u32, count: u32| count == 0, WHEN_EMPTY);
-    let (tree, door) = planted(&rt, rt.alloc(), "flat", 0, rule);
-    let (front, back) = four_doors(&tree, door);
-    let join = (Deed::Joins(0), Deed::Joins(0));
-    let (front, back) = four(&rt, &tree, front, back, (join, join));
-    let arrive = (Deed::Arrives, Deed::Arrives);
-    let (front, back) = four(&rt, &tree, front, back, (arrive, arrive));
-    let closed = left_by_four(&rt, rt.alloc(), tree, front, back);
-    assert_eq!(rt; closed.words.len(), 1);
-    is_waiting(&rt, closed.words.first(), 1, 4);
+const FOUR_ARRIVE: Scene = Scene {
+    widths: "flat",
+    first: &[Joins(0), Arrives],
+    others: &[
+        &[Joins(0), Arrives],
+        &[Joins(0), Arrives],
+        &[Joins(0), Arrives],
+    ],
+    tiers: 1,
+    phase: 1,
+    parties: 4,
+    members: 0,
+};
+
+// Two threads come to a flat tree and leave 10000 times, beside one that meets 1000 phases alone.
+const TWO_COME_AND_GO: Scene = Scene {
+    widths: "flat",
+    first: &[Joins(0), Meets(1000)],
+    others: &[
+        &[Stays, Stays],
+        &[Stays, ComesAndGoes(0, 10000)],
+        &[Stays, ComesAndGoes(0, 10000)],
+    ],
+    tiers: 1,
+    phase: 1000,
+    parties: 1,
+    members: 1,
+};
+
+// The same at leaves.
+const TWO_COME_AND_GO_AT_LEAVES: Scene = Scene {
+    widths: "2x3",
+    first: &[Joins(3), Meets(1000)],
+    others: &[
+        &[Stays, Stays],
+        &[Stays, ComesAndGoes(3, 10000)],
+        &[Stays, ComesAndGoes(7, 10000)],
+    ],
+    tiers: 9,
+    phase: 1000,
+    parties: 1,
+    members: 1,
+};
+
+// Eight threads meet 1000 times, each at the leaf whose number is its own, counted round and round. The last four
+// join after the first four.
+const EIGHT_MEET: Scene = Scene {
+    widths: "2x3",
+    first: &[Joins(3), Stays, Meets(1000)],
+    others: &[
+        &[Joins(4), Stays, Meets(1000)],
+        &[Joins(5), Stays, Meets(1000)],
+        &[Joins(6), Stays, Meets(1000)],
+        &[Stays, Joins(7), Meets(1000)],
+        &[Stays, Joins(8), Meets(1000)],
+        &[Stays, Joins(3), Meets(1000)],
+        &[Stays, Joins(4), Meets(1000)],
+    ],
+    tiers: 9,
+    phase: 1000,
+    parties: 2,
+    members: 8,
+};
+
+// The actors of a scene. The first has this token, and those of the others are split off it.
+#[tactic(auto, using(crate::proofs::Held::all_pushed))]
+fn cast(rt: &impl Abort, alloc: Global, tree: &Tree<Rule>, door: Door, scene: &Scene) -> Vec<Actor>
+    requires own { door.tree ≡ tree.now.tree }
+    ensures { All (λ a. (held a.token).tree ≡ tree.now.tree) result.items }
+{
+    let mut door = door;
+    let mut actors = Vec::new(alloc);
+    for deeds in scene.others {
+        let token = Token::Door(tree.split(&mut door));
+        actors
+            .push(Actor {
+                token,
+                deeds: *deeds,
+            })
+            .expect(rt, "memory");
+    }
+    let token = Token::Door(door);
+    let deeds = scene.first;
+    actors.push(Actor { token, deeds }).expect(rt, "memory");
+    actors
 }
 
-// Two threads come to these tiers and leave 10000 times, beside one that meets 1000 phases alone.
-fn comes_and_goes<R: Threads + Wait + Abort + Sync>(
+// All stages, one after another.
+fn staged<R: Threads + Wait + Abort + Sync>(
+    rt: &R,
+    tree: &Tree<Rule>,
+    actors: Vec<Actor>,
+    stages: usize,
+) -> Vec<Actor>
+    requires own { All (λ a. (held a.token).tree ≡ tree.now.tree) actors.items }
+    requires rule { Answers (pre tree.now.rule.closure) (post tree.now.rule.closure) (end_ends_at tree.now.rule.plan) }
+    ensures { All (λ a. (held a.token).tree ≡ tree.now.tree) result.items }
+{
+    let mut actors = actors;
+    for stage in 0..stages {
+        actors = all_act(rt, tree, actors, stage);
+    }
+    actors
+}
+
+// The tokens of all actors.
+fn tokens_of(rt: &impl Abort, alloc: Global, tree: &Tree<Rule>, actors: Vec<Actor>) -> Vec<Token>
+    requires own { All (λ a. (held a.token).tree ≡ tree.now.tree) actors.items }
+    ensures { All (λ t. (held t).tree ≡ tree.now.tree) result.items }
+{
+    let mut actors = actors;
+    let mut tokens = Vec::new(alloc);
+    while let Some(actor) = actors.pop() {
+        put(rt, tree, &mut tokens, actor.token);
+    }
+    tokens
+}
+
+// Whether this is left of a scene.
+fn is_left(closed: &Closed, scene: &Scene) -> bool {
+    let mut members = 0usize;
+    for token in &closed.tokens {
+        if token.size == 1 && token.phase == scene.phase {
+            members = members.saturating_add(1);
+        }
+    }
+    let Some(root) = closed.words.first() else {
+        return false;
+    };
+    (root.phase, root.parties, root.unarrived, root.ended)
+        == (scene.phase, scene.parties, scene.parties, false)
+        && closed.words.len() == scene.tiers
+        && closed.tokens.len().checked_sub(1) == Some(scene.others.len())
+        && members >= scene.members
+}
+
+// Plays a scene.
+fn plays<R: Threads + Wait + Abort + Sync>(
     rt: &R,
     alloc: Global,
-    widths: &str,
-    tiers: [u16; 3],
-) {
-    let rule = StoredAdvance::new(|_phase: u32, count: u32| count == 0, WHEN_EMPTY);
-    let (tree, door) = planted(rt, alloc, widths, 0, rule);
-    let (front, back) = four_doors(&tree, door);
-    let stays = (Deed::Stays, Deed::Stays);
-    let joins = (Deed::Joins(tiers[0]), Deed::Stays);
-    let (front, back) = four(rt, &tree, front, back, (joins, stays));
-    let front_does = (Deed::Meets(1000), Deed::Stays);
-    let back_does = (
-        Deed::ComesAndGoes(tiers[1], 10000),
-        Deed::ComesAndGoes(tiers[2], 10000),
-    );
-    let (front, back) = four(rt, &tree, front, back, (front_does, back_does));
-    let closed = left_by_four(rt, alloc, tree, front, back);
-    is_waiting(rt, closed.words.first(), 1000, 1);
+    rule: StoredAdvance<Rule>,
+    scene: &Scene,
+)
+    requires rule { Answers (pre rule.closure) (post rule.closure) (end_ends_at rule.plan) }
+{
+    let (tree, door) = planted(rt, alloc, scene.widths, 0, rule);
+    let actors = cast(rt, alloc, &tree, door, scene);
+    let actors = staged(rt, &tree, actors, scene.first.len());
+    let tokens = tokens_of(rt, alloc, &tree, actors);
+    let closed = left(rt, alloc, tree, tokens);
+    assert!(rt; is_left(&closed, scene));
 }
 
-// Two threads come and go beside one that arrives.
+const SCENES: [&Scene; 4] = [
+    &FOUR_ARRIVE,
+    &TWO_COME_AND_GO,
+    &TWO_COME_AND_GO_AT_LEAVES,
+    &EIGHT_MEET,
+];
+
 #[test]
-fn two_come_and_go(rt: HostRuntime) {
-    comes_and_goes(&rt, rt.alloc(), "flat", [0, 0, 0]);
-    comes_and_goes(&rt, rt.alloc(), "2x3", [3, 3, 7]);
-}
-
-// Each of these tokens has one member in phase 1000.
-fn have_met(rt: &impl Abort, tokens: &[ClosedToken]) {
-    assert_eq!(rt; tokens.len(), 8);
-    assert!(rt;
-        tokens
-            .iter()
-            .all(|token| token.size == 1 && token.phase == 1000)
-    );
-}
-
-// Eight threads meet 1000 times, each at the leaf whose number is its own, counted round and round.
-#[test]
-fn eight_meet(rt: HostRuntime) {
-    let rule = StoredAdvance::new(|_phase: u32, count: u32| count == 0, WHEN_EMPTY);
-    let (tree, mut door) = planted(&rt, rt.alloc(), "2x3", 0, rule);
-    let (one, two) = four_doors(&tree, tree.split(&mut door));
-    let (three, last) = four_doors(&tree, door);
-    let leaves = (
-        (Deed::Joins(3), Deed::Joins(4)),
-        (Deed::Joins(5), Deed::Joins(6)),
-    );
-    let round = (
-        (Deed::Joins(7), Deed::Joins(8)),
-        (Deed::Joins(3), Deed::Joins(4)),
-    );
-    let front = four(&rt, &tree, one, two, leaves);
-    let back = four(&rt, &tree, three, last, round);
-    let meet = (Deed::Meets(1000), Deed::Meets(1000));
-    let (front, back) = eight(&rt, &tree, front, back, (meet, meet));
-    let closed = left_by_eight(&rt, rt.alloc(), tree, front, back);
-    is_waiting(&rt, closed.words.first(), 1000, 2);
-    have_met(&rt, &closed.tokens);
+fn threads_share_a_tree(rt: HostRuntime) {
+    for scene in SCENES {
+        let rule = StoredAdvance::new(is_empty as Rule, WHEN_EMPTY);
+        plays(&rt, rt.alloc(), rule, scene);
+    }
 }

@@ -8,24 +8,18 @@ ghost use Rattle.phaser_tests.specs.Slots.{tree_of, ThreeOf};
 use crate::calls::ask::{Ask, Told};
 use crate::calls::call::call;
 use crate::calls::slots::{Slot, Three};
+use crate::trees::Rule;
 use std::process::Abort;
 use tier_table::joining::Registered;
-use tier_table::tokens::{Crew, Door};
 use tier_table::tree::Tree;
 
 /// A row of a worked run: the token that is asked, what it is asked, with so many tries, and what it has to be told.
 pub type Row = (usize, Ask, u32, Told);
 
 // A token is asked as this row says, and told so.
-fn asked<F: Fn(u32, u32) -> bool>(
-    rt: &impl Abort,
-    tree: &Tree<F>,
-    slot: Slot,
-    number: usize,
-    row: Row,
-) -> Slot
+fn asked(rt: &impl Abort, tree: &Tree<Rule>, slot: Slot, number: usize, row: Row) -> Slot
     requires own { tree_of slot ≡ tree.now.tree }
-    requires rule { Answers (F.pre tree.now.rule.closure) (F.post tree.now.rule.closure) (end_ends_at tree.now.rule.plan) }
+    requires rule { Answers (pre tree.now.rule.closure) (post tree.now.rule.closure) (end_ends_at tree.now.rule.plan) }
     ensures { tree_of result ≡ tree.now.tree }
 {
     let (_token, ask, tries, want) = row;
@@ -34,35 +28,49 @@ fn asked<F: Fn(u32, u32) -> bool>(
     slot
 }
 
+// A member joins beside a crew that has an unarrived member, and is told as this row says.
+fn beside(rt: &impl Abort, tree: &Tree<Rule>, crew: Slot, door: Slot, row: Row) -> (Slot, Slot)
+    requires own { (tree_of crew ≡ tree.now.tree) × (tree_of door ≡ tree.now.tree) }
+    ensures { (tree_of result.0 ≡ tree.now.tree) × (tree_of result.1 ≡ tree.now.tree) }
+{
+    let Slot::Inside(mut crew) = crew else {
+        panic!(rt; "no crew");
+    };
+    let Slot::Outside(door) = door else {
+        panic!(rt; "no door");
+    };
+    assert!(rt; crew.unarrived() > 0);
+    match tree.join_here(&mut crew, door, 1, row.2) {
+        Registered::Joined(new, phase) => {
+            assert!(rt; row.3 == Told::Joined(phase));
+            (Slot::Inside(crew), Slot::Inside(new))
+        }
+        _ => panic!(rt; "not joined"),
+    }
+}
+
 // The token that a row names is asked as it says.
-fn turned<F: Fn(u32, u32) -> bool>(
-    rt: &impl Abort,
-    tree: &Tree<F>,
-    slots: Three,
-    number: usize,
-    row: Row,
-) -> Three
+fn turned(rt: &impl Abort, tree: &Tree<Rule>, slots: Three, number: usize, row: Row) -> Three
     requires own { ThreeOf tree.now.tree slots }
-    requires rule { Answers (F.pre tree.now.rule.closure) (F.post tree.now.rule.closure) (end_ends_at tree.now.rule.plan) }
+    requires rule { Answers (pre tree.now.rule.closure) (post tree.now.rule.closure) (end_ends_at tree.now.rule.plan) }
     ensures { ThreeOf tree.now.tree result }
 {
     let (zero, one, two) = slots;
-    match row.0 {
-        0 => (asked(rt, tree, zero, number, row), one, two),
-        1 => (zero, asked(rt, tree, one, number, row), two),
+    match (row.0, row.1) {
+        (_, Ask::Beside) => {
+            let (zero, one) = beside(rt, tree, zero, one, row);
+            (zero, one, two)
+        }
+        (0, _) => (asked(rt, tree, zero, number, row), one, two),
+        (1, _) => (zero, asked(rt, tree, one, number, row), two),
         _ => (zero, one, asked(rt, tree, two, number, row)),
     }
 }
 
 /// Plays these rows one after another with three tokens.
-pub fn played<F: Fn(u32, u32) -> bool>(
-    rt: &impl Abort,
-    tree: &Tree<F>,
-    slots: Three,
-    rows: &[Row],
-) -> Three
+pub fn played(rt: &impl Abort, tree: &Tree<Rule>, slots: Three, rows: &[Row]) -> Three
     requires own { ThreeOf tree.now.tree slots }
-    requires rule { Answers (F.pre tree.now.rule.closure) (F.post tree.now.rule.closure) (end_ends_at tree.now.rule.plan) }
+    requires rule { Answers (pre tree.now.rule.closure) (post tree.now.rule.closure) (end_ends_at tree.now.rule.plan) }
     ensures { ThreeOf tree.now.tree result }
 {
     let mut slots = slots;
@@ -70,47 +78,4 @@ pub fn played<F: Fn(u32, u32) -> bool>(
         slots = turned(rt, tree, slots, number, *row);
     }
     slots
-}
-
-// One member joins in this phase beside a crew that has an unarrived member.
-fn joined_here<F: Fn(u32, u32) -> bool>(
-    rt: &impl Abort,
-    tree: &Tree<F>,
-    crew: &mut Crew,
-    door: Door,
-    phase: u32,
-) -> Crew
-    requires own { (crew.old.tree ≡ tree.now.tree) × (door.tree ≡ tree.now.tree) }
-    ensures crew { crew.new.tree ≡ tree.now.tree }
-    ensures new { result.tree ≡ tree.now.tree }
-{
-    assert!(rt; crew.unarrived() > 0);
-    match tree.join_here(crew, door, 1, 16) {
-        Registered::Joined(new, at) => {
-            assert_eq!(rt; at, phase);
-            new
-        }
-        _ => panic!(rt; "not joined"),
-    }
-}
-
-/// The second token joins in this phase beside the crew of the first.
-pub fn joined_beside<F: Fn(u32, u32) -> bool>(
-    rt: &impl Abort,
-    tree: &Tree<F>,
-    slots: Three,
-    phase: u32,
-) -> Three
-    requires own { ThreeOf tree.now.tree slots }
-    ensures { ThreeOf tree.now.tree result }
-{
-    let (zero, one, two) = slots;
-    let Slot::Inside(mut crew) = zero else {
-        panic!(rt; "no crew");
-    };
-    let Slot::Outside(door) = one else {
-        panic!(rt; "no door");
-    };
-    let new = joined_here(rt, tree, &mut crew, door, phase);
-    (Slot::Inside(crew), Slot::Inside(new), two)
 }

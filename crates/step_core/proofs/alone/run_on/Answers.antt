@@ -1,6 +1,6 @@
 use Rattle.std.proofs.Common.{◌∙◌, sym, ap, subst, arith, Option, Some, ℕ, List}
 use Rattle.phase_records.specs.Status.{Status}
-use Rattle.step_core.specs.Program.{program_of}
+use Rattle.step_parts.specs.Program.{program_of}
 use Rattle.step_core.specs.Course.{HasTakenOne, HasGone, left_by}
 use Rattle.step_core.proofs.Course.{at_end, is_running, is_over, is_late, reached_more, at_fault, rises, none_there, some_there}
 use Rattle.step_core.proofs.alone.run_on.Goals as goal

@@ -1,6 +1,6 @@
 use Rattle.std.proofs.Common.{◌≡◌, ◌≤◌, ◌+◌, ◌++◌, map, length}
 use Rattle.task_lang.specs.Views.{plans, task_of}
-use Rattle.step_core.specs.JobMeaning.{start_tasks}
+use Rattle.step_parts.specs.JobMeaning.{start_tasks}
 use Rattle.step_core.proofs.alone.start_all.Given as goal
 
 abbrev pub invariant-loop-start : goal.invariant-loop-start

@@ -2,8 +2,8 @@ use Rattle.std.proofs.Common.{◌∙◌, sym, ap, subst, arith, refl, ℕ, List,
 use Rattle.std.specs.Prelude.{ℤ}
 use Rattle.phase_records.specs.declared.record.PhaseRecord.{PhaseRecord}
 use Rattle.step_core.specs.DeedValue.{DeedValue}
-use Rattle.step_core.specs.Program.{program_of}
-use Rattle.step_core.specs.Superstep.{ended_by}
+use Rattle.step_parts.specs.Program.{program_of}
+use Rattle.step_parts.specs.Superstep.{ended_by}
 use Rattle.step_core.specs.Course.{course_state}
 use Rattle.step_core.specs.InPlace.{AllFew, told_in}
 use Rattle.step_core.proofs.Course.{by_many, by_landing, cut_off, did, fits}

@@ -1,5 +1,5 @@
 use Rattle.std.proofs.Common.{◌-◌, length}
-use Rattle.step_core.specs.Program.{program_of}
+use Rattle.step_parts.specs.Program.{program_of}
 use Rattle.step_core.proofs.InPlace.{IsUnderWay}
 use Rattle.step_core.proofs.in_place.do_all.Given as goal
 

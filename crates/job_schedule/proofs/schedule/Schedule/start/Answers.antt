@@ -1,6 +1,6 @@
 use Rattle.std.proofs.Common.{List, ℕ, ◌∷◌, ◌++◌, [], ◌∙◌, ap, arith}
-use Rattle.job_schedule.specs.SeatValue.{SeatValue}
-use Rattle.job_schedule.specs.World.{leaf_at}
+use Rattle.job_seats.specs.SeatValue.{SeatValue}
+use Rattle.job_seats.specs.Moves.{leaf_at}
 use Rattle.job_schedule.specs.Parts.{world_of}
 use Rattle.job_schedule.proofs.Opening.{started}
 use Rattle.job_schedule.proofs.schedule.Schedule.start.Goals as goal

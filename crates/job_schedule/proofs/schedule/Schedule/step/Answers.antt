@@ -1,5 +1,5 @@
 use Rattle.std.proofs.Common.{Option, subst, sym}
-use Rattle.job_schedule.specs.declared.stage.Move.{Move}
+use Rattle.job_seats.specs.declared.stage.Move.{Move}
 use Rattle.job_schedule.specs.Parts.{world_of}
 use Rattle.job_schedule.proofs.Moves.{Allowed, move_allowed}
 use Rattle.job_schedule.proofs.schedule.Schedule.step.Goals as goal

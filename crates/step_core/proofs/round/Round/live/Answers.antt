@@ -1,8 +1,8 @@
 use Rattle.std.proofs.Common.{◌∙◌, ap, map, sym}
 use Rattle.task_lang.specs.Views.{plans}
-use Rattle.step_core.specs.Superstep.{live_paths}
-use Rattle.step_core.specs.SlotParts.{path_in}
-use Rattle.step_core.specs.RoundValue.{RoundValue, state_of}
+use Rattle.step_parts.specs.Superstep.{live_paths}
+use Rattle.step_parts.specs.SlotParts.{path_in}
+use Rattle.step_parts.specs.RoundValue.{RoundValue, state_of}
 use Rattle.superstep_memory.specs.Paths.{is_rising}
 use Rattle.step_core.proofs.Rounds.{paths_at}
 use Rattle.step_core.proofs.Apart.{reached_rises}

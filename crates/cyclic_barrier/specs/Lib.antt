@@ -1,0 +1,10 @@
+pub mod Machine
+pub mod Steps
+pub mod Found
+pub mod Runs
+pub mod Seen
+pub mod Outcomes
+pub mod History
+pub mod Ledger
+pub mod Laws
+pub mod Wakers

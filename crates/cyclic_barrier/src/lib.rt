@@ -1,0 +1,14 @@
+//! A cyclic barrier after Java's `CyclicBarrier`, as a value, and beside the history of its calls.
+#![tactic(auto)]
+
+mod barrier;
+mod call;
+mod laws;
+mod ledger;
+mod state;
+
+pub use barrier::BarrierCore;
+pub use call::{Awaited, BarrierFault, Call, MOST_PARTIES};
+pub use laws::{ends_name_the_told, late_wakers_are_told, trips_give_each_once};
+pub use ledger::{Ledger, Note, Outcome};
+pub use state::BarrierState;

@@ -1,0 +1,40 @@
+-- What contracts see of a gate and of its answers.
+use Rattle.std.specs.Prelude.{◌≡◌, ℕ, true, Option}
+use Rattle.advance_rule.specs.Stored.{Stored}
+use Rattle.cyclic_barrier.specs.Steps.{Answer, Waiting, Trips, Fails, IsBroken, Already, is_change}
+use Rattle.cyclic_gate.specs.declared.gate.Arrival.{Arrival}
+use Rattle.cyclic_gate.specs.declared.gate.Arrival.TheVariants as arrival
+use Rattle.cyclic_gate.specs.declared.gate.GateFault.{GateFault}
+use Rattle.cyclic_gate.specs.declared.gate.GateFault.TheVariants as gate
+
+-- what is known of a gate without its lock: the action, and how many parties meet
+pub record Gate (F : Type 0) : Type 0 where
+  pub action : Stored F (Option ℕ)
+  pub parties : ℕ
+
+-- the turn that a caller was given: its index, or 0 where it was the last
+abbrev pub GivesTurn : ℕ → Answer → Type 0
+GivesTurn index (Waiting i) = index ≡ i
+GivesTurn index (Trips all) = index ≡ 0
+GivesTurn index _ = ⊥
+
+-- Why a caller got no turn. Broken may come to one that waited too, and memory may run out.
+abbrev pub GivesNoTurn : GateFault → Answer → Type 0
+GivesNoTurn gate.Broken a = Unit {0}
+GivesNoTurn gate.ActionFailed (Fails others) = Unit {0}
+GivesNoTurn gate.ActionFailed _ = ⊥
+GivesNoTurn gate.AlreadyWaiting a = a ≡ Already
+GivesNoTurn gate.Memory a = is_change a ≡ true
+
+-- How an arrival goes on at the gate: the caller waits for an end behind so many notes, with its index, or goes on as the last.
+abbrev pub IsArrival : Arrival → Answer → ℕ → Type 0
+IsArrival (arrival.Waits index place) (Waiting i) noted = (index ≡ i) × (place ≡ noted)
+IsArrival (arrival.Last index) (Trips all) noted = index ≡ 0
+IsArrival _ _ noted = ⊥
+
+abbrev pub RefusesArrival : GateFault → Answer → Type 0
+RefusesArrival gate.Broken a = a ≡ IsBroken
+RefusesArrival gate.ActionFailed (Fails others) = Unit {0}
+RefusesArrival gate.ActionFailed _ = ⊥
+RefusesArrival gate.AlreadyWaiting a = a ≡ Already
+RefusesArrival gate.Memory a = is_change a ≡ true

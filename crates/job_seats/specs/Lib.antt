@@ -1,0 +1,2 @@
+pub mod SeatValue
+pub mod Moves

@@ -1,0 +1,34 @@
+//! What each worker has.
+ghost use Rattle.std.specs.Prelude.{◌≡◌, ℕ, Option, None, OnOk, IfOk, replicate, slice_index_or, slice_set};
+
+use std::alloc::{AllocError, Global};
+
+/// So many workers, none of which has a task.
+pub fn empty_hands(alloc: Global, workers: usize) -> Result<Vec<Option<usize>>, AllocError>
+    ensures { IfOk result (λ hands. hands.items ≡ replicate workers None) }
+{
+    let mut hands = Vec::with_capacity(alloc, workers)?;
+    for _ in 0..workers {
+        hands.push(None)?;
+    }
+    Ok(hands)
+}
+
+/// The place of the task that a worker has.
+pub fn hand_of(hands: &[Option<usize>], worker: usize) -> Option<usize>
+    ensures { result ≡ slice_index_or hands.now worker None }
+{
+    if worker >= hands.len() {
+        return None;
+    }
+    hands[worker]
+}
+
+/// A worker has this from now on.
+pub fn set_hand(hands: &mut Vec<Option<usize>>, worker: usize, hand: Option<usize>)
+    ensures { hands.new.items ≡ slice_set hands.old.items worker hand }
+{
+    if worker < hands.len() {
+        hands[worker] = hand;
+    }
+}

@@ -1,0 +1,5 @@
+pub mod InOrder
+pub mod Deeds
+pub mod Beside
+pub mod Runs
+pub mod Places

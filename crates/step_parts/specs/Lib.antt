@@ -1,0 +1,10 @@
+pub mod Program
+pub mod Superstep
+pub mod JobMeaning
+pub mod SlotValue
+pub mod FinishedValue
+pub mod Slots
+pub mod SlotParts
+pub mod OrderValue
+pub mod RoundValue
+pub mod Taking

@@ -1,0 +1,234 @@
+//! The live tasks of a round, and what was delivered for them.
+ghost use Rattle.std.specs.Prelude.{◌≡◌, ◌≤◌, ◌++◌, ◌∷◌, List, [], OnOk, OnErr, map, length};
+ghost use Rattle.std.specs.Arc.{arc_value};
+ghost use Rattle.std.specs.Vec.{vec_capacity};
+ghost use Rattle.superstep_memory.specs.Landing.{landed, joined};
+ghost use Rattle.task_lang.specs.Meaning.{Plan};
+ghost use Rattle.step_parts.specs.Superstep.{log_of};
+ghost use Rattle.step_parts.specs.Slots.{slots_of, delivered, told_by};
+ghost use Rattle.superstep_memory.specs.PathOrder.{in_path_order};
+ghost use Rattle.step_parts.specs.SlotParts.{AllSmall, beside, living_by, no_segment, path_in};
+
+use crate::closing::{collect_prints, land_opening, record_of};
+use crate::next::{go_on, make_room, set_undone};
+use crate::slot::{Finished, Slots};
+use std::alloc::{AllocError, Global};
+use std::marker::Model;
+use std::sync::Arc;
+use superstep_memory::arrays::Arrays;
+use task_lang::task::{Segment, Task};
+
+/// The live tasks of a round in path order, and by place what was delivered for them. Orders share the tasks.
+#[derive(Drop)]
+pub struct Live {
+    tasks: Arc<Vec<Task>>,
+    done: Vec<Option<Segment>>,
+    // Room for the next tasks, kept from one closing to the next. What stands in it means nothing.
+    room: Vec<Task>,
+}
+
+impl Model for Live {
+    ghost use Rattle.std.specs.Prelude.{◌≡◌, List, length};
+    ghost use Rattle.std.specs.Arc.{arc_value};
+    ghost use Rattle.step_parts.specs.SlotValue.{SlotValue};
+    ghost use Rattle.step_parts.specs.SlotParts.{beside};
+
+    ghost Value = { List SlotValue };
+
+    ghost view = { λ l. beside (arc_value l.tasks).items l.done.items };
+
+    ghost invariant = { λ l. length (arc_value l.tasks).items ≡ length l.done.items };
+}
+
+// Lands what was delivered, and keeps what the superstep printed and its record. Without memory nothing changes.
+fn finish(
+    alloc: Global,
+    step: u32,
+    slots: &Slots<'_>,
+    opening: &mut Arc<Arrays>,
+    finished: &mut Vec<Finished>,
+) -> Result<(), AllocError>
+    requires few { length slots.now ≤ 4096 }
+    requires small { AllSmall slots.now }
+    ensures lands { OnOk result ((ps : List Plan)
+        → arc_value opening.new ≡ landed (joined (map log_of (delivered (slots_of ps slots.now)))) (arc_value opening.old)) }
+    ensures tells { OnOk result ((ps : List Plan)
+        → finished.new.items ≡ finished.old.items ++ told_by step (delivered (slots_of ps slots.now)) ∷ []) }
+    ensures same_arrays { OnErr result (arc_value opening.new ≡ arc_value opening.old) }
+    ensures same_tales { OnErr result (finished.new.items ≡ finished.old.items) }
+{
+    let prints = collect_prints(alloc, step, slots)?;
+    let told = record_of(step, slots);
+    finished.reserve(1)?;
+    land_opening(alloc, opening, slots)?;
+    match finished.push(Finished { prints, told }) {
+        Ok(()) => Ok(()),
+        Err(_) => unreachable!(),
+    }
+}
+
+// A list for the next tasks, to be filled where nobody else has it, and room for so many beside it. Without memory nothing
+// changes that means something.
+fn list_for(
+    alloc: Global,
+    room: &mut Vec<Task>,
+    done: &mut Vec<Option<Segment>>,
+    count: usize,
+) -> Result<Arc<Vec<Task>>, AllocError>
+    ensures tasks { OnOk result ((room.new.items ≡ []) × (count ≤ vec_capacity room.new)) }
+    ensures places { OnOk result (count ≤ vec_capacity done.new) }
+    ensures same { done.new.items ≡ done.old.items }
+{
+    make_room(room, done, count)?;
+    match Arc::new(alloc, Vec::new(alloc)) {
+        Ok(list) => Ok(list),
+        Err(_) => Err(AllocError),
+    }
+}
+
+// Lands what was delivered for these tasks, and puts the next into a list that nobody else has. Without memory nothing
+// changes.
+fn close_into(
+    alloc: Global,
+    step: u32,
+    tasks: &[Task],
+    done: &mut Vec<Option<Segment>>,
+    room: &mut Vec<Task>,
+    next: &mut Arc<Vec<Task>>,
+    opening: &mut Arc<Arrays>,
+    finished: &mut Vec<Finished>,
+) -> Result<(), AllocError>
+    requires few { length (beside tasks.now done.old.items) ≤ 4096 }
+    requires small { AllSmall (beside tasks.now done.old.items) }
+    requires none_yet { room.old.items ≡ [] }
+    requires room { length (living_by done.old.items) ≤ vec_capacity room.old }
+    requires places { length (living_by done.old.items) ≤ vec_capacity done.old }
+    ensures lands { OnOk result ((ps : List Plan) → arc_value opening.new
+        ≡ landed (joined (map log_of (delivered (slots_of ps (beside tasks.now done.old.items))))) (arc_value opening.old)) }
+    ensures tells { OnOk result ((ps : List Plan) → finished.new.items
+        ≡ finished.old.items ++ told_by step (delivered (slots_of ps (beside tasks.now done.old.items))) ∷ []) }
+    ensures tasks { OnOk result ((arc_value next.new).items ≡ in_path_order path_in (living_by done.old.items)) }
+    ensures none { OnOk result (done.new.items ≡ map no_segment (arc_value next.new).items) }
+    ensures same_done { OnErr result (done.new.items ≡ done.old.items) }
+    ensures same_arrays { OnErr result (arc_value opening.new ≡ arc_value opening.old) }
+    ensures same_tales { OnErr result (finished.new.items ≡ finished.old.items) }
+{
+    let Some(list) = Arc::get_mut(next) else {
+        return Err(AllocError);
+    };
+    finish(alloc, step, &Slots::of(tasks, done), opening, finished)?;
+    go_on(done, room, list);
+    Ok(())
+}
+
+// Keeps the room of a list of tasks that nobody has any more.
+fn reuse(last: Arc<Vec<Task>>, room: &mut Vec<Task>) {
+    if let Ok(mut tasks) = Arc::try_unwrap(last) {
+        tasks.clear();
+        *room = tasks;
+    }
+}
+
+impl Live {
+    ghost use Rattle.std.specs.Prelude.{◌≡◌, ◌<◌, ◌≤◌, ◌↔◌, ◌++◌, ◌∷◌, List, [], IfOk, OnOk, OnErr, IsTrue, map, length, slice_get};
+    ghost use Rattle.std.specs.Arc.{arc_value};
+    ghost use Rattle.superstep_memory.specs.Landing.{landed, joined};
+    ghost use Rattle.superstep_memory.specs.PathOrder.{in_path_order};
+    ghost use Rattle.task_lang.specs.Meaning.{Plan};
+    ghost use Rattle.step_parts.specs.Superstep.{log_of};
+    ghost use Rattle.step_parts.specs.Slots.{slots_of, delivered, told_by, with_segment};
+    ghost use Rattle.step_parts.specs.SlotParts.{AllSmall, path_in, fresh_slot, living_in};
+    ghost use Rattle.step_parts.specs.Taking.{is_done, task_at};
+
+    /// These tasks, with nothing delivered for them.
+    pub fn new(alloc: Global, tasks: Vec<Task>) -> Result<Self, AllocError>
+        ensures { IfOk result (λ live. live ≡ map fresh_slot tasks.items) }
+    {
+        let mut done = Vec::with_capacity(alloc, tasks.len())?;
+        set_undone(&mut done, &tasks);
+        match Arc::new(alloc, tasks) {
+            Ok(tasks) => Ok(Live {
+                tasks,
+                done,
+                room: Vec::new(alloc),
+            }),
+            Err(_) => Err(AllocError),
+        }
+    }
+
+    /// Each task beside what was delivered for it.
+    pub fn slots(&self) -> Slots<'_>
+        ensures { result ≡ self.now }
+    {
+        Slots::of(&self.tasks, &self.done)
+    }
+
+    /// Whether no task lives.
+    pub fn is_empty(&self) -> bool
+        ensures { IsTrue result ↔ (self.now ≡ []) }
+    {
+        self.slots().split_first().is_none()
+    }
+
+    /// The tasks, shared.
+    pub fn tasks(&self) -> Result<Arc<Vec<Task>>, AllocError>
+        ensures { IfOk result (λ tasks. (arc_value tasks).items ≡ map task_at self.now) }
+    {
+        let tasks = Arc::try_clone(&self.tasks)?;
+        Ok(tasks)
+    }
+
+    /// Whether the segment of the task at this place was delivered.
+    pub fn is_done(&self, place: usize) -> bool
+        requires { place < length self.now }
+        ensures { result ≡ is_done (slice_get self.now place) }
+    {
+        self.done[place].is_some()
+    }
+
+    /// Keeps what was delivered for the task at this place.
+    pub fn put(&mut self, place: usize, segment: Segment)
+        requires { place < length self.old }
+        ensures { self.new ≡ with_segment self.old place segment }
+    {
+        self.done[place] = Some(segment);
+    }
+
+    /// Lands what was delivered, keeps what the superstep printed and its record, and goes on to the next live tasks, of
+    /// whom there are so many. Without memory nothing changes.
+    pub fn take_superstep(
+        &mut self,
+        alloc: Global,
+        step: u32,
+        count: usize,
+        opening: &mut Arc<Arrays>,
+        finished: &mut Vec<Finished>,
+    ) -> Result<(), AllocError>
+        requires few { length self.old ≤ 4096 }
+        requires small { AllSmall self.old }
+        requires count { count ≡ length (living_in self.old) }
+        ensures lands { OnOk result ((ps : List Plan)
+            → arc_value opening.new ≡ landed (joined (map log_of (delivered (slots_of ps self.old)))) (arc_value opening.old)) }
+        ensures tells { OnOk result ((ps : List Plan)
+            → finished.new.items ≡ finished.old.items ++ told_by step (delivered (slots_of ps self.old)) ∷ []) }
+        ensures next { OnOk result (self.new ≡ map fresh_slot (in_path_order path_in (living_in self.old))) }
+        ensures same_tasks { OnErr result (self.new ≡ self.old) }
+        ensures same_arrays { OnErr result (arc_value opening.new ≡ arc_value opening.old) }
+        ensures same_tales { OnErr result (finished.new.items ≡ finished.old.items) }
+    {
+        let mut next = list_for(alloc, &mut self.room, &mut self.done, count)?;
+        close_into(
+            alloc,
+            step,
+            &self.tasks,
+            &mut self.done,
+            &mut self.room,
+            &mut next,
+            opening,
+            finished,
+        )?;
+        let last = std::mem::replace(&mut self.tasks, next);
+        reuse(last, &mut self.room);
+        Ok(())
+    }
+}

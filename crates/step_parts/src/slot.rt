@@ -1,0 +1,212 @@
+//! Live tasks with what was delivered for them, as they are lent, and what a superstep leaves.
+ghost use Rattle.std.specs.Prelude.{◌≡◌, ◌≤◌, length};
+
+use phase_records::{JobStatus, PhaseRecord, Print};
+use smallvec::SmallVec;
+use std::marker::Model;
+use superstep_memory::arrays::Arrays;
+use superstep_memory::landing::write_puts;
+use superstep_memory::path::Path;
+use task_lang::task::{After, Segment, Task};
+
+/// A live task, and its segment once it was delivered.
+#[derive(Drop)]
+pub struct Slot<'a> {
+    task: &'a Task,
+    done: &'a Option<Segment>,
+}
+
+impl<'a> Model for Slot<'a> {
+    ghost use Rattle.step_parts.specs.SlotValue.{SlotValue};
+
+    ghost Value = { SlotValue };
+
+    ghost view = { λ s. record { task = s.task.now; done = s.done.now } };
+}
+
+/// Live tasks, each beside what was delivered for it.
+#[derive(Drop)]
+pub struct Slots<'a> {
+    tasks: &'a [Task],
+    done: &'a [Option<Segment>],
+}
+
+impl<'a> Model for Slots<'a> {
+    ghost use Rattle.std.specs.Prelude.{List};
+    ghost use Rattle.step_parts.specs.SlotValue.{SlotValue};
+    ghost use Rattle.step_parts.specs.SlotParts.{beside};
+
+    ghost Value = { List SlotValue };
+
+    ghost view = { λ s. beside s.tasks.now s.done.now };
+}
+
+impl<'a> Slots<'a> {
+    ghost use Rattle.std.specs.Prelude.{◌≡◌, ◌∷◌, [], Some, IfSome, MatchOption, slice_get};
+    ghost use Rattle.step_parts.specs.SlotParts.{beside};
+
+    /// These tasks, each beside what was delivered for it, by place.
+    pub(crate) fn of(tasks: &'a [Task], done: &'a [Option<Segment>]) -> Self
+        ensures { result ≡ beside tasks.now done.now }
+    {
+        Slots { tasks, done }
+    }
+
+    /// The same once more.
+    pub(crate) fn again(&self) -> Self
+        ensures { result ≡ self.now }
+    {
+        Slots {
+            tasks: self.tasks,
+            done: self.done,
+        }
+    }
+
+    /// The first one, and those behind it.
+    pub(crate) fn split_first(&self) -> Option<(Slot<'a>, Slots<'a>)>
+        ensures { MatchOption result (self.now ≡ []) (λ split. self.now ≡ split.0 ∷ split.1) }
+    {
+        let (task, tasks) = self.tasks.split_first()?;
+        let (done, rest) = self.done.split_first()?;
+        Some((Slot { task, done }, Slots { tasks, done: rest }))
+    }
+
+    /// The one at this place, if there is one.
+    pub fn at(&self, place: usize) -> Option<Slot<'a>>
+        ensures { IfSome result (λ slot. slice_get self.now place ≡ Some slot) }
+    {
+        let task = self.tasks.get(place)?;
+        let done = self.done.get(place)?;
+        Some(Slot { task, done })
+    }
+
+    /// How many places there are to look at.
+    pub(crate) fn len(&self) -> usize {
+        self.tasks.len()
+    }
+}
+
+impl<'a> Slot<'a> {
+    ghost use Rattle.std.specs.Prelude.{◌≡◌, is_some, Some, None, length};
+    ghost use Rattle.std.specs.Option.{option_copied};
+    ghost use Rattle.std.specs.Str.{bytes_eq};
+    ghost use Rattle.superstep_memory.specs.Landing.{written};
+    ghost use Rattle.step_parts.specs.SlotParts.{puts_in, living_of, IsSmall};
+
+    pub(crate) fn task(&self) -> &'a Task
+        ensures { result.now ≡ self.now.task }
+    {
+        self.task
+    }
+
+    pub(crate) fn done(&self) -> Option<&'a Segment>
+        ensures { option_copied result ≡ self.now.done }
+    {
+        self.done.as_ref()
+    }
+
+    pub(crate) fn is_done(&self) -> bool
+        ensures { result ≡ is_some self.now.done }
+    {
+        self.done.is_some()
+    }
+
+    /// Whether its task has this path.
+    pub(crate) fn is_of(&self, path: &[u16]) -> bool
+        ensures { result ≡ bytes_eq self.now.task.path path.now }
+    {
+        let task = self.task;
+        task.path.as_slice() == path
+    }
+
+    /// How many tasks live on, as far as was delivered.
+    pub(crate) fn count_living(&self) -> usize
+        requires { IsSmall self.now.done }
+        ensures { result ≡ length (living_of self.now.done) }
+    {
+        match self.done {
+            None => 0,
+            Some(segment) => match &segment.after {
+                After::Synced(_) => segment.spawns.len() + 1,
+                After::Stopped | After::Fault(_) => segment.spawns.len(),
+            },
+        }
+    }
+
+    /// Lands what was delivered, if it was.
+    pub fn land(&self, arrays: &mut Arrays)
+        ensures { arrays.new ≡ written (puts_in self.now) arrays.old }
+    {
+        if let Some(segment) = self.done {
+            write_puts(arrays, &segment.puts);
+        }
+    }
+}
+/// A path of its own, like this one. It takes no memory.
+pub(crate) fn copy_path(path: &Path) -> Path
+    requires { length path.now.items ≤ 8 }
+    ensures { result.items ≡ path.now.items }
+{
+    match SmallVec::from_slice(*path.allocator(), path.as_slice()) {
+        Ok(copy) => copy,
+        Err(_) => unreachable!(),
+    }
+}
+
+/// The path of a task, of its own. It takes no memory.
+pub fn task_path(task: &Task) -> Path
+    ensures path { result.items ≡ task.now.path }
+    ensures short { length result.items ≤ 8 }
+{
+    copy_path(&task.path)
+}
+
+/// Why a job ended by a fault, and by which task.
+#[derive(Drop)]
+pub struct Blame {
+    pub code: u8,
+    pub path: Path,
+}
+
+impl Model for Blame {
+    ghost use Rattle.std.specs.Prelude.{ℕ, List, ◌≤◌, length};
+
+    ghost Value = { ℕ × List ℕ };
+
+    ghost view = { λ b. (b.code, b.path.items) };
+
+    ghost invariant = { λ b. length b.path.items ≤ 8 };
+}
+
+impl Blame {
+    ghost use Rattle.std.specs.Prelude.{◌≡◌};
+    ghost use Rattle.phase_records.specs.StatusSeen.{status_seen};
+    ghost use Rattle.phase_records.specs.Status.{Fault, IsShort};
+
+    /// The status of a job that it ended in this step.
+    pub fn status(&self, step: u32) -> JobStatus
+        ensures status { status_seen result ≡ Fault self.now.0 step self.now.1 }
+        ensures short { IsShort (status_seen result) }
+    {
+        JobStatus::Fault {
+            code: self.code,
+            step,
+            path: copy_path(&self.path),
+        }
+    }
+}
+
+/// What a superstep left: its prints and its record.
+#[derive(Drop)]
+pub struct Finished {
+    pub prints: Vec<Print>,
+    pub told: PhaseRecord,
+}
+
+impl Model for Finished {
+    ghost use Rattle.step_parts.specs.FinishedValue.{FinishedValue};
+
+    ghost Value = { FinishedValue };
+
+    ghost view = { λ f. record { prints = f.prints.items; told = f.told } };
+}
