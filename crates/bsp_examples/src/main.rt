@@ -152,9 +152,11 @@ fn is_job<R: AllocGlobal + Files + Threads + Wait + Sync>(
     let alloc = rt.alloc();
     let text = stored(rt, name, "job")?;
     let want = stored(rt, name, "out")?;
-    Ok(is_taken(rt, alloc, text.as_str())
-        && prints(rt, alloc, &ALONE, text.as_str(), want.as_str())
-        && prints(rt, alloc, &SHARED, text.as_str(), want.as_str()))
+    Ok(
+        is_taken(rt, alloc, text.as_str())
+            && prints(rt, alloc, &ALONE, text.as_str(), want.as_str())
+            && prints(rt, alloc, &SHARED, text.as_str(), want.as_str()),
+    )
 }
 
 // Runs the jobs.
@@ -175,7 +177,10 @@ fn is_row<R: Threads + Wait + Sync>(rt: &R, alloc: Global, line: &str) -> Result
 }
 
 // Runs the rows, and says which print something else and how many don't.
-fn run_all<R: AllocGlobal + Print + Threads + Wait + Sync>(rt: &R, rows: &str) -> Result<(), Error> {
+fn run_all<R: AllocGlobal + Print + Threads + Wait + Sync>(
+    rt: &R,
+    rows: &str,
+) -> Result<(), Error> {
     let mut number = 0u64;
     let mut held = 0u64;
     for line in rows.lines() {

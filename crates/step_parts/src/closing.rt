@@ -80,7 +80,11 @@ pub fn push_prints(
 }
 
 /// What was printed, by path, then in program order.
-pub(crate) fn collect_prints(alloc: Global, step: u32, slots: &Slots<'_>) -> Result<Vec<Print>, AllocError>
+pub(crate) fn collect_prints(
+    alloc: Global,
+    step: u32,
+    slots: &Slots<'_>,
+) -> Result<Vec<Print>, AllocError>
     ensures { IfOk result (λ prints. (ps : List Plan) → prints.items ≡ prints_of step (delivered (slots_of ps slots.now))) }
 {
     let mut prints = Vec::new(alloc);
