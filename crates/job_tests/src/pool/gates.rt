@@ -22,6 +22,7 @@ pub(crate) struct HoldsBack {
     entered: AtomicU32,
 }
 
+// Whether a path is that of the start line of this number.
 fn is_start(path: &Path, number: u16) -> bool {
     path.as_slice() == [number].as_slice()
 }
@@ -48,6 +49,7 @@ impl Gate for HoldsBack {
     }
 }
 
+// A gate that holds the task of one start line until that of another has left.
 pub(crate) fn holding(held: u16, awaited: u16) -> HoldsBack {
     HoldsBack {
         held,

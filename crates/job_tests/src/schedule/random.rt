@@ -31,6 +31,7 @@ fn skip(number: u32, count: usize) -> u32 {
 // The lines that start a task.
 const STARTS: [&str; 4] = ["start p 0\n", "start p 2\n", "start p 7\n", "start d 5\n"];
 
+// The start line that a number says.
 fn start_of(number: u32) -> &'static str {
     STARTS[below(number, 4) % 4]
 }

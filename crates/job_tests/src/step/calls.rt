@@ -1,5 +1,5 @@
 //! Calls of a round, one after another.
-use crate::step::hands::{Answer, MISSED, close, deliver, hand_in, keep, keep_first, status_of};
+use crate::step::hands::{Answer, close, deliver, hand_in, keep, keep_first, status_of};
 use crate::step::orders::round_says;
 use crate::step::turns::{is_as_alone, superstep_from};
 use std::alloc::Global;
@@ -31,11 +31,6 @@ pub(crate) enum Move {
     Alone,
 }
 
-// Whether something is so: with 1 where it is.
-const IS_SO: u32 = 20;
-
-pub(crate) const RIGHT: Answer = (IS_SO, 1);
-
 // Makes one call.
 fn answer_to<'j>(
     alloc: Global,
@@ -52,10 +47,10 @@ fn answer_to<'j>(
         Move::HandIn => hand_in(alloc, round, kept.take()),
         Move::Close => close(alloc, round),
         Move::Status => status_of(round),
-        Move::Count => (MISSED, round.missing() as u64),
-        Move::Says => (IS_SO, u64::from(round_says(alloc, round, job, other))),
+        Move::Count => Answer::Misses(round.missing()),
+        Move::Says => Answer::Is(round_says(alloc, round, job, other)),
         Move::Superstep(first, forwards) => superstep_from(alloc, round, first, forwards),
-        Move::Alone => (IS_SO, u64::from(is_as_alone(alloc, job, round))),
+        Move::Alone => Answer::Is(is_as_alone(alloc, job, round)),
     }
 }
 

@@ -4,81 +4,70 @@ use std::alloc::Global;
 use step_core::{AcceptFault, CloseFault, Delivery, Order, Outcome, Round};
 use task_lang::job::Job;
 
-// What a round answers: one of these, and a number.
-pub(crate) type Answer = (u32, u64);
-
-pub(crate) const NO_ORDER: Answer = (0, 0);
-
-pub(crate) const NO_MEMORY: Answer = (1, 0);
-
-pub(crate) const KEPT: Answer = (2, 0);
-
-pub(crate) const TAKEN: Answer = (3, 0);
-
-pub(crate) const WRONG_STEP: Answer = (4, 0);
-
-pub(crate) const STRANGER: Answer = (5, 0);
-
-pub(crate) const DOUBLE: Answer = (6, 0);
-
-pub(crate) const LANDED: Answer = (7, 0);
-
-pub(crate) const FAULTED: Answer = (8, 0);
-
-pub(crate) const TOO_MANY: Answer = (9, 0);
-
-pub(crate) const RUNNING: Answer = (10, 0);
-
-// With the first number of the path that is missing.
-pub(crate) const MISSING: u32 = 11;
-
-// With how many are missing.
-pub(crate) const MISSED: u32 = 12;
-
-// With the superstep.
-pub(crate) const ENDED: u32 = 13;
-
-// With the superstep.
-pub(crate) const LIMIT: u32 = 14;
-
-// To which the number of the fault is added; with the superstep.
-pub(crate) const FAULT: u32 = 100;
+// What a round answers.
+#[derive(Clone, Copy, PartialEq, Eq)]
+pub(crate) enum Answer {
+    NoOrder,
+    NoMemory,
+    // An order is kept.
+    Kept,
+    Taken,
+    WrongStep,
+    Stranger,
+    Double,
+    Landed,
+    Faulted,
+    TooMany,
+    Running,
+    // The first number of the path that is missing.
+    Missing(u16),
+    // How many are missing.
+    Misses(usize),
+    // In this superstep.
+    Ended(u32),
+    Limit(u32),
+    // The number of the fault, and the superstep.
+    Fault(u8, u32),
+    // Whether something is so.
+    Is(bool),
+}
 
 // How a job has ended.
 fn told(status: &JobStatus) -> Answer {
     match status {
-        JobStatus::Ended(step) => (ENDED, u64::from(*step)),
-        JobStatus::Fault { code, step, .. } => (FAULT + u32::from(*code), u64::from(*step)),
-        JobStatus::Limit(step) => (LIMIT, u64::from(*step)),
+        JobStatus::Ended(step) => Answer::Ended(*step),
+        JobStatus::Fault { code, step, .. } => Answer::Fault(*code, *step),
+        JobStatus::Limit(step) => Answer::Limit(*step),
     }
 }
 
 // How a job has ended, if it has.
 pub(crate) fn status_of(round: &Round<'_>) -> Answer {
     if !round.has_ended() {
-        return RUNNING;
+        return Answer::Running;
     }
     match round.status() {
         Some(status) => told(&status),
-        None => RUNNING,
+        None => Answer::Running,
     }
 }
 
+// Why a delivery is refused.
 fn refused(fault: AcceptFault) -> Answer {
     match fault {
-        AcceptFault::WrongStep => WRONG_STEP,
-        AcceptFault::Stranger => STRANGER,
-        AcceptFault::Double => DOUBLE,
+        AcceptFault::WrongStep => Answer::WrongStep,
+        AcceptFault::Stranger => Answer::Stranger,
+        AcceptFault::Double => Answer::Double,
     }
 }
 
 // Takes a delivery.
 fn accept<'j>(round: &mut Round<'j>, delivery: Delivery<'j>) -> Answer {
     if round.has_ended() {
-        return NO_ORDER;
+        return Answer::NoOrder;
     }
     match round.accept(delivery) {
-        Ok(()) => TAKEN,
+        Ok(()) => Answer::Taken,
         Err(fault) => refused(fault),
     }
 }
@@ -92,9 +81,9 @@ pub(crate) fn hand_in<'j>(
     match order {
         Some(order) => match Delivery::of(alloc, order) {
             Ok(delivery) => accept(round, delivery),
-            Err(_) => NO_MEMORY,
+            Err(_) => Answer::NoMemory,
         },
-        None => NO_ORDER,
+        None => Answer::NoOrder,
     }
 }
 
@@ -102,32 +91,34 @@ pub(crate) fn hand_in<'j>(
 pub(crate) fn deliver(alloc: Global, round: &mut Round<'_>, path: &[u16]) -> Answer {
     match round.order(alloc, path) {
         Ok(order) => hand_in(alloc, round, order),
-        Err(_) => NO_MEMORY,
+        Err(_) => Answer::NoMemory,
     }
 }
 
+// How a round was closed.
 fn closed(outcome: Outcome) -> Answer {
     match outcome {
-        Outcome::Landed => LANDED,
-        Outcome::Faulted => FAULTED,
-        Outcome::TooMany => TOO_MANY,
+        Outcome::Landed => Answer::Landed,
+        Outcome::Faulted => Answer::Faulted,
+        Outcome::TooMany => Answer::TooMany,
     }
 }
 
+// Why it wasn't.
 fn not_closed(fault: &CloseFault) -> Answer {
     match fault {
         CloseFault::Missing(path) => match path.first() {
-            Some(number) => (MISSING, u64::from(*number)),
-            None => NO_ORDER,
+            Some(number) => Answer::Missing(*number),
+            None => Answer::NoOrder,
         },
-        CloseFault::Memory(_) => NO_MEMORY,
+        CloseFault::Memory(_) => Answer::NoMemory,
     }
 }
 
 // Closes a round.
 pub(crate) fn close(alloc: Global, round: &mut Round<'_>) -> Answer {
     if round.has_ended() {
-        return NO_ORDER;
+        return Answer::NoOrder;
     }
     match round.close_round(alloc) {
         Ok(outcome) => closed(outcome),
@@ -145,9 +136,9 @@ pub(crate) fn keep<'j>(
     match round.order(alloc, &[number]) {
         Ok(order) => {
             *kept = order;
-            KEPT
+            Answer::Kept
         }
-        Err(_) => NO_MEMORY,
+        Err(_) => Answer::NoMemory,
     }
 }
 
@@ -155,6 +146,6 @@ pub(crate) fn keep<'j>(
 pub(crate) fn keep_first<'j>(alloc: Global, job: &'j Job, kept: &mut Option<Order<'j>>) -> Answer {
     match Round::new(alloc, job, 2) {
         Ok(round) => keep(alloc, &round, kept, 0),
-        Err(_) => NO_MEMORY,
+        Err(_) => Answer::NoMemory,
     }
 }

@@ -10,16 +10,15 @@ use superstep_memory::runs::{Run, land_runs};
 // What a task has put: its path, and an array, a cell and a value of each put.
 type Log = (&'static [u16], &'static [(u16, u32, i64)]);
 
-// What landing says: the number of one of these, and of a put to no cell the last number of its task's path and its place.
-type Said = (u32, u16, usize);
-
-const LANDED: Said = (0, 0, 0);
-
-const NOT_IN_ORDER: Said = (1, 0, 0);
-
-const OUT_OF_RANGE: u32 = 2;
-
-const NO_MEMORY: Said = (3, 0, 0);
+// What landing says.
+#[derive(Clone, Copy, PartialEq, Eq)]
+enum Said {
+    Landed,
+    NotInOrder,
+    // The last number of the path of the task that has put to no cell, and the place of that put.
+    OutOfRange(u16, usize),
+    NoMemory,
+}
 
 // The logs of each run, what landing says, and the three cells after it.
 type Row = (&'static [&'static [Log]], Said, [i64; 3]);
@@ -35,13 +34,13 @@ const ROWS: [Row; 7] = [
             (&[0, 3], &[(1, 0, 4)]),
             (&[1], &[(0, 0, 5)]),
         ]],
-        LANDED,
+        Said::Landed,
         [5, 3, 4],
     ),
-    (&[&[]], LANDED, UNCHANGED),
+    (&[&[]], Said::Landed, UNCHANGED),
     (
         &[&[(&[1], &[(2, 0, 1)]), (&[1], &[(0, 0, 2)])]],
-        NOT_IN_ORDER,
+        Said::NotInOrder,
         UNCHANGED,
     ),
     (
@@ -50,22 +49,22 @@ const ROWS: [Row; 7] = [
             (&[0, 7], &[(0, 1, 2), (0, 2, 3)]),
             (&[2], &[(9, 0, 4)]),
         ]],
-        (OUT_OF_RANGE, 7, 1),
+        Said::OutOfRange(7, 1),
         UNCHANGED,
     ),
     (
         &[TWO_LOGS, &[(&[0, 0], &[(1, 0, 8)]), (&[2], &[])]],
-        LANDED,
+        Said::Landed,
         [7, 9, 8],
     ),
     (
         &[TWO_LOGS, &[(&[0, 0], &[(1, 0, 8)]), (&[1], &[])]],
-        NOT_IN_ORDER,
+        Said::NotInOrder,
         UNCHANGED,
     ),
     (
         &[TWO_LOGS, &[(&[0, 0], &[(1, 0, 8)]), (&[0], &[])]],
-        NOT_IN_ORDER,
+        Said::NotInOrder,
         UNCHANGED,
     ),
 ];
@@ -106,18 +105,15 @@ fn runs_of(alloc: Global, logs: &[&[Log]]) -> Result<Vec<Run>, AllocError> {
     Ok(runs)
 }
 
+// What it has said.
 fn said_of(done: &Result<(), LandFault>) -> Said {
     match done {
-        Ok(()) => LANDED,
-        Err(LandFault::NotInOrder) => NOT_IN_ORDER,
+        Ok(()) => Said::Landed,
+        Err(LandFault::NotInOrder) => Said::NotInOrder,
         Err(LandFault::OutOfRange(path, place)) => {
-            (
-                OUT_OF_RANGE,
-                path.last().copied().unwrap_or(u16::MAX),
-                *place,
-            )
+            Said::OutOfRange(path.last().copied().unwrap_or(u16::MAX), *place)
         }
-        Err(LandFault::Memory(_)) => NO_MEMORY,
+        Err(LandFault::Memory(_)) => Said::NoMemory,
     }
 }
 

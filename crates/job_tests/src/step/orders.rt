@@ -4,6 +4,7 @@ use step_core::{Delivery, Order, Round};
 use superstep_memory::path::Path;
 use task_lang::job::Job;
 
+// Whether a path is this one.
 fn is_path(path: &[u16], want: &[u16]) -> bool {
     path == want
 }
@@ -81,6 +82,7 @@ fn has_live(alloc: Global, round: &Round<'_>, count: usize) -> bool {
     }
 }
 
+// Whether a round is of this job and limit.
 fn is_of(round: &Round<'_>, job: &Job, limit: u32) -> bool {
     round.is_of(job, limit)
 }

@@ -1,10 +1,7 @@
 //! A round's deliveries in any order, what it answers and refuses, and what it says of itself.
 use crate::left::job_of;
-use crate::step::calls::{Move, RIGHT, answers_so};
-use crate::step::hands::{
-    Answer, DOUBLE, ENDED, FAULT, FAULTED, KEPT, LANDED, MISSED, MISSING, NO_ORDER, RUNNING,
-    STRANGER, TAKEN, WRONG_STEP,
-};
+use crate::step::calls::{Move, answers_so};
+use crate::step::hands::Answer;
 use std::alloc::Global;
 use std::process::Abort;
 use task_lang::job::Job;
@@ -17,50 +14,56 @@ const SPAWNS: &str =
 type Row = (Move, Answer);
 
 const ANSWERS: [Row; 18] = [
-    (Move::Status, RUNNING),
-    (Move::Count, (MISSED, 2)),
-    (Move::Close, (MISSING, 0)),
-    (Move::Deliver(1), TAKEN),
-    (Move::Count, (MISSED, 1)),
-    (Move::Deliver(1), DOUBLE),
-    (Move::Deliver(2), NO_ORDER),
-    (Move::Close, (MISSING, 0)),
-    (Move::Deliver(0), TAKEN),
-    (Move::Close, LANDED),
-    (Move::Status, RUNNING),
-    (Move::Close, (MISSING, 0)),
-    (Move::Deliver(0), TAKEN),
-    (Move::Close, (MISSING, 1)),
-    (Move::Deliver(1), TAKEN),
-    (Move::Close, LANDED),
-    (Move::Status, (ENDED, 2)),
-    (Move::Deliver(0), NO_ORDER),
+    (Move::Status, Answer::Running),
+    (Move::Count, Answer::Misses(2)),
+    (Move::Close, Answer::Missing(0)),
+    (Move::Deliver(1), Answer::Taken),
+    (Move::Count, Answer::Misses(1)),
+    (Move::Deliver(1), Answer::Double),
+    (Move::Deliver(2), Answer::NoOrder),
+    (Move::Close, Answer::Missing(0)),
+    (Move::Deliver(0), Answer::Taken),
+    (Move::Close, Answer::Landed),
+    (Move::Status, Answer::Running),
+    (Move::Close, Answer::Missing(0)),
+    (Move::Deliver(0), Answer::Taken),
+    (Move::Close, Answer::Missing(1)),
+    (Move::Deliver(1), Answer::Taken),
+    (Move::Close, Answer::Landed),
+    (Move::Status, Answer::Ended(2)),
+    (Move::Deliver(0), Answer::NoOrder),
 ];
 
 const A_FAULT: [Row; 5] = [
-    (Move::Deliver(0), TAKEN),
-    (Move::Close, FAULTED),
-    (Move::Status, (FAULT + 2, 0)),
-    (Move::Deliver(0), NO_ORDER),
-    (Move::Close, NO_ORDER),
+    (Move::Deliver(0), Answer::Taken),
+    (Move::Close, Answer::Faulted),
+    (Move::Status, Answer::Fault(2, 0)),
+    (Move::Deliver(0), Answer::NoOrder),
+    (Move::Close, Answer::NoOrder),
 ];
 
 // What a round says before it has begun.
-const WHAT_IT_IS: [Row; 1] = [(Move::Says, RIGHT)];
+const WHAT_IT_IS: [Row; 1] = [(Move::Says, Answer::Is(true))];
 
 // A delivery of a superstep that is over, and the next one.
 const TOO_LATE: [Row; 5] = [
-    (Move::Keep(0), KEPT),
-    (Move::Deliver(0), TAKEN),
-    (Move::Close, LANDED),
-    (Move::HandIn, WRONG_STEP),
-    (Move::Deliver(0), TAKEN),
+    (Move::Keep(0), Answer::Kept),
+    (Move::Deliver(0), Answer::Taken),
+    (Move::Close, Answer::Landed),
+    (Move::HandIn, Answer::WrongStep),
+    (Move::Deliver(0), Answer::Taken),
 ];
 
 // A delivery of the same job, made anew, and of another.
-const THE_SAME: [Row; 2] = [(Move::KeepOther, KEPT), (Move::HandIn, TAKEN)];
+const THE_SAME: [Row; 2] = [
+    (Move::KeepOther, Answer::Kept),
+    (Move::HandIn, Answer::Taken),
+];
 
-const A_STRANGER: [Row; 2] = [(Move::KeepOther, KEPT), (Move::HandIn, STRANGER)];
+const A_STRANGER: [Row; 2] = [
+    (Move::KeepOther, Answer::Kept),
+    (Move::HandIn, Answer::Stranger),
+];
 
 const SYNCS: &str = "bsp 1\nbody b\nsync\nend\nstart b 4\nstart b 6\n";
 
@@ -109,10 +112,10 @@ fn deliveries_come_in_any_order(rt: HostRuntime) {
     for turn in 0..6 {
         let superstep = Move::Superstep(turn / 2, turn % 2 == 0);
         let calls = [
-            (superstep, LANDED),
-            (superstep, LANDED),
-            (superstep, NO_ORDER),
-            (Move::Alone, RIGHT),
+            (superstep, Answer::Landed),
+            (superstep, Answer::Landed),
+            (superstep, Answer::NoOrder),
+            (Move::Alone, Answer::Is(true)),
         ];
         assert!(rt; is_so(rt.alloc(), SPAWNS, ONE, &calls));
     }

@@ -1,6 +1,6 @@
 //! Supersteps of a round whose deliveries come in any order.
 use crate::left::is_left_alone;
-use crate::step::hands::{Answer, NO_MEMORY, close, deliver};
+use crate::step::hands::{Answer, close, deliver};
 use std::alloc::Global;
 use step_core::Round;
 use superstep_memory::path::Path;
@@ -37,7 +37,7 @@ pub(crate) fn superstep_from(
             deliver_all(alloc, round, &live);
             close(alloc, round)
         }
-        Err(_) => NO_MEMORY,
+        Err(_) => Answer::NoMemory,
     }
 }
 
