@@ -1,6 +1,8 @@
-//! Runs each stored example and each stored row, and says whether it prints what is stored beside it.
+//! Runs each stored example and each stored row, and says whether it prints what is stored beside it; then what is timed by hand,
+//! on little. With words it runs one of the latter alone, as `bench.rt` says.
 #![tactic(auto)]
 
+mod bench;
 mod row;
 
 use anyhow::Error;
@@ -204,8 +206,20 @@ fn run_rows<R: AllocGlobal + Files + Print + Threads + Wait + Sync>(rt: &R) -> R
     run_all(rt, rows.as_str())
 }
 
+// Runs all that is stored.
+fn run_stored<R: AllocGlobal + Files + Print + Threads + Wait + Sync>(rt: &R) -> Result<(), Error> {
+    run_traces(rt)?;
+    run_jobs(rt)?;
+    run_rows(rt)
+}
+
 fn main(rt: HostRuntime) -> Result<(), Error> {
-    run_traces(&rt)?;
-    run_jobs(&rt)?;
-    run_rows(&rt)
+    let words = std::env::args(&rt)?.collect::<Vec<String>>(rt.alloc())?;
+    match words.as_slice() {
+        [_, name, rest @ ..] => bench::run_named(&rt, name.as_str(), rest),
+        _ => {
+            run_stored(&rt)?;
+            bench::run_each(&rt)
+        }
+    }
 }

@@ -10,8 +10,8 @@ use Rattle.job_reader.specs.Grammar.{canonical_text}
 use Rattle.job_reader.specs.Laws.{IsRefused}
 use Rattle.job_reader.specs.Reading.{refused, declared, read_from, unless_bad, job_in}
 use Rattle.job_reader.proofs.ToldWhole.{text-told}
-use Rattle.job_canonical.proofs.CanonicalJob.{canonical-text}
-use Rattle.job_canonical.proofs.ReadJobs.{read-jobs}
+use Rattle.job_texts.proofs.CanonicalJob.{canonical-text}
+use Rattle.job_texts.proofs.ReadJobs.{read-jobs}
 use Rattle.job_texts.specs.Laws.{IsTextOfJob, IsAJobs, TextsAreReadAsTheirJobs, EachTextIsOneJobsOrRefused, CanonicalTextsAreRead, WritingTwiceIsWritingOnce}
 use Rattle.job_texts.proofs.Whole.{text-of-job-read}
 

@@ -1,3 +1,10 @@
+pub mod TextOfLines
+pub mod PrintedLines
+pub mod MentionedLocals
+pub mod CanonicalItems
+pub mod CanonicalJob
+pub mod ReadJobs
+pub mod MentionsBelow
 pub mod Chain
 pub mod Declares
 pub mod Mentioned
@@ -8,3 +15,13 @@ pub mod OneItem
 pub mod Items
 pub mod Whole
 pub mod Joined
+pub mod Seen
+pub mod SeenLines
+pub mod Folds
+pub mod BadLines
+pub mod Held
+pub mod Closing
+pub mod Ended
+pub mod Above
+pub mod Named
+pub mod Lacking

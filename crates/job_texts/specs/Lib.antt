@@ -1,2 +1,4 @@
+pub mod Canonical
 pub mod Laws
+pub mod Refusals
 pub mod Worked

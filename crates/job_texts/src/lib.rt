@@ -1,11 +1,21 @@
-//! Laws on texts that are a job's: these and no others are read, each as that job. Each function does nothing: its
-//! contract is the law.
+//! Laws on texts of jobs. Each function does nothing: its contract is the law.
+//!
+//! * [`canonical`]: the canonical text of a job.
+//! * [`laws`]: texts that are a job's: these and no others are read, each as that job.
+//! * [`refusals`]: that of a line holds whatever follows it, and what stands above may go on to a job.
 #![tactic(auto)]
 
+mod canonical;
 mod laws;
+mod refusals;
 
+pub use canonical::{canonical_texts_are_texts, read_jobs_are_jobs};
 pub use laws::{
     canonical_texts_are_read, each_text_is_one_jobs_or_refused, one_job_a_text,
     texts_are_read_as_their_jobs, texts_are_worked_out, texts_of_jobs_are_read,
     writing_twice_is_writing_once,
+};
+pub use refusals::{
+    lines_above_are_read, lines_above_go_on, plain_texts_are_refused_alike,
+    refusals_are_of_a_line_or_texts_go_on, refusals_hold_for_all_that_follows,
 };

@@ -1,7 +1,3 @@
-//! The cyclic barrier: worked runs of the value, and threads at the gate.
-#[cfg(test)]
-mod rows;
-#[cfg(test)]
-mod runs;
+//! The cyclic barrier: threads at the gate.
 #[cfg(test)]
 mod threads;

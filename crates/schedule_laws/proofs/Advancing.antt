@@ -23,10 +23,10 @@ use Rattle.tier_answers.specs.Plan.{flat_ends}
 use Rattle.tier_answers.proofs.Planning.{known_due}
 use Rattle.step_core.specs.Superstep.{State}
 use Rattle.step_core.specs.JobMeaning.{status, status_of}
-use Rattle.tier_roles.specs.Roles.{Role, Out, Late, Polls, Here, Looks, Passes, Owes, Leads, Past}
-use Rattle.tier_roles.specs.Cast.{role_at, IsCast, IsTurned, members_in, is_awaited, is_leading, is_settled, turned}
-use Rattle.tier_roles.proofs.Playing.{nobody_leads, leaders_are_alone, leads_is_due, members_are_in_roles}
-use Rattle.tier_roles.proofs.Turning.{advances_turn_the_cast}
+use Rattle.schedule_laws.specs.Roles.{Role, Out, Late, Polls, Here, Looks, Passes, Owes, Leads, Past}
+use Rattle.schedule_laws.specs.Cast.{role_at, IsCast, IsTurned, members_in, is_awaited, is_leading, is_settled, turned}
+use Rattle.schedule_laws.proofs.Playing.{nobody_leads, leaders_are_alone, leads_is_due, members_are_in_roles}
+use Rattle.schedule_laws.proofs.Casting.{advances_turn_the_cast}
 use Rattle.job_seats.specs.declared.stage.Stage.{Stage}
 use Rattle.job_seats.specs.declared.stage.Stage.TheVariants.{Waits, Taken, Polling, Joining, Arriving, Leaving, Over}
 use Rattle.job_seats.specs.declared.stage.Move.TheVariants.{Advances}

@@ -5,8 +5,8 @@ use Rattle.tier_steps.specs.declared.view.Trip.{Trip}
 use Rattle.tier_core.specs.declared.call.Played.{Played}
 use Rattle.tier_core.specs.declared.call.Played.TheVariants.{GoesOn, Done, Passed, Waiting, Held, Full, AlreadyArrived, Ended, MustAdvance}
 use Rattle.tier_core.proofs.Turns.{not_both}
-use Rattle.tier_roles.specs.Roles.{Role, Out, Joins, Seeks, Settles, GivesBack, Polls, Ready, Here, Looks, Passes, Owes, Leads, Past, is_refused as turns_away}
-use Rattle.tier_roles.specs.Cast.{Follows, is_on_its_way}
+use Rattle.schedule_laws.specs.Roles.{Role, Out, Joins, Seeks, Settles, GivesBack, Polls, Ready, Here, Looks, Passes, Owes, Leads, Past, is_refused as turns_away}
+use Rattle.schedule_laws.specs.Cast.{Follows, is_on_its_way}
 use Rattle.job_seats.specs.SeatValue.{SeatValue, is_done, is_refused, next_stage, sent_home, answered}
 use Rattle.schedule_laws.specs.Working.{ComesTo}
 

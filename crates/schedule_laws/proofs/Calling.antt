@@ -17,12 +17,12 @@ use Rattle.tier_core.specs.Run.{after, answer_to, may_begin, may_go, may_finish,
 use Rattle.tier_core.proofs.Turns.{not_both}
 use Rattle.tier_answers.specs.Frame.{flat_of}
 use Rattle.tier_answers.specs.Calls.{is_poll}
-use Rattle.tier_roles.specs.Roles.{Role, Out, Joins, Seeks, Settles, GivesBack, Late, Polls, Ready, Here, Looks, Passes, Owes, Leads, Past, Plays}
-use Rattle.tier_roles.specs.Cast.{role_at, IsCast, is_on_its_way, Follows, Begins}
-use Rattle.tier_roles.proofs.Admitting.{homes_admit}
-use Rattle.tier_roles.proofs.Quiet.{tokens_stay}
-use Rattle.tier_roles.proofs.Steps.{steps_keep_the_cast}
-use Rattle.tier_roles.proofs.Turning.{beginnings_keep_the_cast}
+use Rattle.schedule_laws.specs.Roles.{Role, Out, Joins, Seeks, Settles, GivesBack, Late, Polls, Ready, Here, Looks, Passes, Owes, Leads, Past, Plays}
+use Rattle.schedule_laws.specs.Cast.{role_at, IsCast, is_on_its_way, Follows, Begins}
+use Rattle.schedule_laws.proofs.Admitting.{homes_admit}
+use Rattle.schedule_laws.proofs.Quiet.{tokens_stay}
+use Rattle.schedule_laws.proofs.Steps.{steps_keep_the_cast}
+use Rattle.schedule_laws.proofs.Casting.{beginnings_keep_the_cast}
 
 -- the tree that steps leave has the same tiers, plan and tokens
 pub record IsSameTree (s t : State) : Type 0 where

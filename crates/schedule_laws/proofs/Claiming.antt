@@ -23,7 +23,7 @@ use Rattle.step_core.specs.JobMeaning.{status, report_in}
 use Rattle.step_core.specs.OrderValue.{is_synced, spawned_paths}
 use Rattle.step_core.specs.Laws.{paths_on, synced_path}
 use Rattle.step_core.proofs.Apart.{live-paths-rise}
-use Rattle.tier_roles.specs.Roles.{Role}
+use Rattle.schedule_laws.specs.Roles.{Role}
 use Rattle.job_seats.specs.declared.stage.Stage.{Stage}
 use Rattle.job_seats.specs.declared.stage.Stage.TheVariants.{Waits, Taken, Polling, Joining, Arriving, Leaving, Over}
 use Rattle.job_seats.specs.declared.stage.Mode.{Mode}

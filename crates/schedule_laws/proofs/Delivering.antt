@@ -9,9 +9,9 @@ use Rattle.tier_core.specs.Machine.{State as Tree, with_token}
 use Rattle.tier_core.proofs.Opening.{entry_before, entry_last}
 use Rattle.task_lang.specs.Meaning.{Segment}
 use Rattle.step_core.specs.OrderValue.{has_synced, spawned_paths}
-use Rattle.tier_roles.specs.Roles.{Role, Out}
-use Rattle.tier_roles.specs.Cast.{role_at}
-use Rattle.tier_roles.proofs.Turning.{new_tokens_are_out}
+use Rattle.schedule_laws.specs.Roles.{Role, Out}
+use Rattle.schedule_laws.specs.Cast.{role_at}
+use Rattle.schedule_laws.proofs.Casting.{new_tokens_are_out}
 use Rattle.job_seats.specs.declared.stage.Stage.{Stage}
 use Rattle.job_seats.specs.declared.stage.Stage.TheVariants.{Waits, Taken, Polling}
 use Rattle.job_seats.specs.declared.stage.Move.TheVariants.{Takes, Delivers}

@@ -16,8 +16,8 @@ use Rattle.tier_core.proofs.Turns.{not_both}
 use Rattle.step_core.specs.Superstep.{State, superstep, live_paths}
 use Rattle.step_core.specs.JobMeaning.{status, told, report_in, unless_ended}
 use Rattle.step_core.specs.OrderValue.{has_synced, spawned_paths}
-use Rattle.tier_roles.specs.Roles.{Role}
-use Rattle.tier_roles.specs.Cast.{turned}
+use Rattle.schedule_laws.specs.Roles.{Role}
+use Rattle.schedule_laws.specs.Cast.{turned}
 use Rattle.job_seats.specs.declared.stage.Stage.{Stage}
 use Rattle.job_seats.specs.declared.stage.Stage.TheVariants.{Waits, Taken, Polling, Joining, Arriving, Leaving, Over}
 use Rattle.job_seats.specs.declared.stage.Mode.{Mode}

@@ -1,3 +1,9 @@
+pub mod Playing
+pub mod Quiet
+pub mod Steps
+pub mod Casting
+pub mod Joining
+pub mod Admitting
 pub mod Sharing
 pub mod Calling
 pub mod Turning

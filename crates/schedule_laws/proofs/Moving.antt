@@ -18,9 +18,9 @@ use Rattle.tier_core.specs.Run.{after, answer_to, may_finish}
 use Rattle.tier_core.proofs.Turns.{not_both}
 use Rattle.tier_answers.specs.Frame.{flat_of}
 use Rattle.tier_answers.specs.Calls.{call_by}
-use Rattle.tier_roles.specs.Roles.{Role, Out, Joins, Seeks, Late, Polls, Ready, Here, Looks, Leads, Plays, is_refused as turns_away}
-use Rattle.tier_roles.specs.Cast.{role_at, IsCast, is_awaited, is_leading}
-use Rattle.tier_roles.proofs.Playing.{nobody_leads, home_within, leads_is_due}
+use Rattle.schedule_laws.specs.Roles.{Role, Out, Joins, Seeks, Late, Polls, Ready, Here, Looks, Leads, Plays, is_refused as turns_away}
+use Rattle.schedule_laws.specs.Cast.{role_at, IsCast, is_awaited, is_leading}
+use Rattle.schedule_laws.proofs.Playing.{nobody_leads, home_within, leads_is_due}
 use Rattle.job_seats.specs.declared.stage.Stage.{Stage}
 use Rattle.job_seats.specs.declared.stage.Stage.TheVariants.{Waits, Taken, Polling, Joining, Arriving, Leaving, Over}
 use Rattle.job_seats.specs.declared.stage.Move.TheVariants.{Calls}

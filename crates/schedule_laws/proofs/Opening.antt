@@ -30,8 +30,8 @@ use Rattle.step_core.specs.Superstep.{live_paths}
 use Rattle.step_core.specs.JobMeaning.{opening, start_tasks, status, status_of}
 use Rattle.task_lang.specs.Meaning.{Plan, Task}
 use Rattle.task_lang.specs.declared.job.Start.{Start}
-use Rattle.tier_roles.specs.Roles.{Role, Out, Late, Plays}
-use Rattle.tier_roles.specs.Cast.{role_at}
+use Rattle.schedule_laws.specs.Roles.{Role, Out, Late, Plays}
+use Rattle.schedule_laws.specs.Cast.{role_at}
 use Rattle.job_seats.specs.SeatValue.{SeatValue, no_seat, seat_at, waiting}
 use Rattle.job_seats.specs.Moves.{leaf_at}
 use Rattle.job_schedule.specs.World.{World, gone, joined_at, plan_for, empty_world, with_start, with_starts, opening_world}

@@ -14,8 +14,8 @@ use Rattle.task_lang.specs.Meaning.{Task, Segment}
 use Rattle.step_core.specs.Program.{Program}
 use Rattle.step_core.specs.Superstep.{State, segments, first_fault, superstep, closed, next_live, live_paths, ended_by, gone_on}
 use Rattle.step_core.specs.JobMeaning.{status, status_of, told, report_in}
-use Rattle.tier_roles.specs.Roles.{Role, Out, Late, Past}
-use Rattle.tier_roles.specs.Cast.{role_at, turned}
+use Rattle.schedule_laws.specs.Roles.{Role, Out, Late, Past}
+use Rattle.schedule_laws.specs.Cast.{role_at, turned}
 use Rattle.job_seats.specs.declared.stage.Stage.{Stage}
 use Rattle.job_seats.specs.declared.stage.Stage.TheVariants.{Waits, Taken, Polling, Joining, Arriving, Leaving, Over}
 use Rattle.job_seats.specs.SeatValue.{KidValue, SeatValue, seat_at, kid_at, seat_path, is_over, all_over, waiting, own_seat, kid_seat, living_seats, next_seats, freed}

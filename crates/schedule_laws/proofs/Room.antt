@@ -20,9 +20,9 @@ use Rattle.tier_core.specs.Turn.{claimed_by}
 use Rattle.tier_core.specs.Machine.{State, IsCore, view_at}
 use Rattle.tier_answers.proofs.Holding.{parties_are_few}
 use Rattle.tier_answers.proofs.Stepping.{fitting}
-use Rattle.tier_roles.specs.Roles.{Role, Out, Joins, Seeks, Settles, GivesBack, Late, Polls, Ready, Here, Looks, Passes, Owes, Leads, Past, Plays}
-use Rattle.tier_roles.specs.Cast.{role_at, members_in}
-use Rattle.tier_roles.proofs.Playing.{size_of, sums_alike, home_within}
+use Rattle.schedule_laws.specs.Roles.{Role, Out, Joins, Seeks, Settles, GivesBack, Late, Polls, Ready, Here, Looks, Passes, Owes, Leads, Past, Plays}
+use Rattle.schedule_laws.specs.Cast.{role_at, members_in}
+use Rattle.schedule_laws.proofs.Playing.{size_of, sums_alike, home_within}
 use Rattle.job_seats.specs.declared.stage.Stage.{Stage}
 use Rattle.job_seats.specs.declared.stage.Stage.TheVariants.{Waits, Taken, Polling, Joining, Arriving, Leaving, Over}
 use Rattle.job_seats.specs.SeatValue.{KidValue, SeatValue, seat_at, kid_at, is_delivered}

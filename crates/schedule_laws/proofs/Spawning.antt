@@ -12,7 +12,7 @@ use Rattle.tier_core.specs.declared.call.Step.TheVariants.{Begin, Go}
 use Rattle.tier_core.specs.Machine.{State as Tree}
 use Rattle.tier_core.specs.Run.{after, answer_to}
 use Rattle.step_core.specs.JobMeaning.{status}
-use Rattle.tier_roles.specs.Roles.{Role, is_refused as turns_away}
+use Rattle.schedule_laws.specs.Roles.{Role, is_refused as turns_away}
 use Rattle.job_seats.specs.declared.stage.Stage.{Stage}
 use Rattle.job_seats.specs.declared.stage.Stage.TheVariants.{Waits, Taken, Polling, Joining, Arriving, Leaving, Over}
 use Rattle.job_seats.specs.declared.stage.Mode.{Mode}

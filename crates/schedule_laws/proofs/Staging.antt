@@ -5,8 +5,8 @@ use Rattle.std.proofs.lemmas.Bool.{ltb-true, ltb-false, cases_eq}
 use Rattle.std.proofs.lemmas.List.{get_or-set_same, get_or-set_other, length-set}
 use Rattle.tier_steps.specs.declared.view.Trip.TheVariants.{Arrival}
 use Rattle.tier_core.specs.declared.call.Played.{Played}
-use Rattle.tier_roles.specs.Roles.{Role, Out, Polls, Ready, Here, Past}
-use Rattle.tier_roles.specs.Cast.{role_at}
+use Rattle.schedule_laws.specs.Roles.{Role, Out, Polls, Ready, Here, Past}
+use Rattle.schedule_laws.specs.Cast.{role_at}
 use Rattle.job_seats.specs.declared.stage.Stage.{Stage}
 use Rattle.job_seats.specs.declared.stage.Stage.TheVariants.{Waits, Taken, Polling, Joining, Arriving, Leaving, Over}
 use Rattle.job_seats.specs.SeatValue.{KidValue, SeatValue, no_kid, kid_at, is_done, is_refused, next_stage, sent_home, answered, arriving, joining}

@@ -7,8 +7,8 @@ use Rattle.std.proofs.lemmas.List.{get_or-set_same, get_or-set_other, length-set
 use Rattle.std.proofs.lemmas.List.Sums.{sum_by-cons}
 use Rattle.tier_core.specs.Machine.{State}
 use Rattle.tier_answers.specs.Frame.{flat_of}
-use Rattle.tier_roles.specs.Roles.{Role, Out}
-use Rattle.tier_roles.specs.Cast.{role_at, IsCast}
+use Rattle.schedule_laws.specs.Roles.{Role, Out}
+use Rattle.schedule_laws.specs.Cast.{role_at, IsCast}
 use Rattle.job_seats.specs.declared.stage.Stage.{Stage}
 use Rattle.job_seats.specs.SeatValue.{KidValue, SeatValue, no_seat, seat_at, kid_at}
 use Rattle.job_schedule.specs.World.{World, with_seat}

@@ -1,3 +1,5 @@
+pub mod Roles
+pub mod Cast
 pub mod Working
 pub mod Laws
 pub mod Worked

@@ -5,8 +5,8 @@ use Rattle.tier_steps.specs.declared.view.Trip.{Trip}
 use Rattle.tier_steps.specs.declared.view.Trip.TheVariants.{Arrival, Departure}
 use Rattle.tier_answers.specs.Frame.{flat_of}
 use Rattle.step_core.specs.JobMeaning.{status}
-use Rattle.tier_roles.specs.Roles.{Role, Out, Joins, Seeks, Settles, GivesBack, Late, Polls, Ready, Here, Looks, Passes, Owes, Leads, Past}
-use Rattle.tier_roles.specs.Cast.{role_at, IsCast, turned}
+use Rattle.schedule_laws.specs.Roles.{Role, Out, Joins, Seeks, Settles, GivesBack, Late, Polls, Ready, Here, Looks, Passes, Owes, Leads, Past}
+use Rattle.schedule_laws.specs.Cast.{role_at, IsCast, turned}
 use Rattle.job_seats.specs.declared.stage.Mode.{Mode}
 use Rattle.job_seats.specs.declared.stage.Mode.TheVariants as mode
 use Rattle.job_seats.specs.declared.stage.Stage.{Stage}

@@ -1,5 +1,5 @@
 -- Tasks beside what was delivered for them, by place.
-use Rattle.std.proofs.Common.{◌≡◌, ℕ, zero, suc, ◌<◌, List, [], ◌∷◌, ◌++◌, map, length, Option, Some, is_some, slice_get, slice_set, get_or, refl, sym, ap, ◌∙◌, arith}
+use Rattle.std.proofs.Common.{◌≡◌, ℕ, zero, suc, ◌<◌, ◌≤◌, List, [], ◌∷◌, ◌++◌, map, length, Option, None, Some, is_some, slice_get, slice_set, get_or, refl, sym, ap, ◌∙◌, arith}
 use Rattle.std.proofs.lemmas.List.{length-map}
 use Rattle.task_lang.specs.TaskValue.{TaskValue}
 use Rattle.task_lang.specs.SegmentValue.{SegmentValue}
@@ -53,6 +53,19 @@ beside_at [] ds p t d lt e ld f = absurd (omega (arith, lt))
 beside_at (x ∷ ts) [] p t d lt e ld f = absurd (omega (arith, ld))
 beside_at (x ∷ ts) (y ∷ ds) zero t d lt e ld f = λ i. Some record { task = sym e i; done = sym f i }
 beside_at (x ∷ ts) (y ∷ ds) (suc p) t d lt e ld f = beside_at ts ds p t d (omega (arith, lt)) e (omega (arith, ld)) f
+
+-- nothing stands behind the tasks, and nothing behind what was delivered
+pub beside_past_tasks : (ts : List TaskValue) (ds : List (Option SegmentValue)) (p : ℕ) → length ts ≤ p → slice_get (beside ts ds) p ≡ None
+beside_past_tasks [] ds p le = refl
+beside_past_tasks (t ∷ ts) [] p le = refl
+beside_past_tasks (t ∷ ts) (d ∷ ds) zero le = absurd (omega (arith, le))
+beside_past_tasks (t ∷ ts) (d ∷ ds) (suc p) le = beside_past_tasks ts ds p (omega (arith, le))
+
+pub beside_past_done : (ts : List TaskValue) (ds : List (Option SegmentValue)) (p : ℕ) → length ds ≤ p → slice_get (beside ts ds) p ≡ None
+beside_past_done [] ds p le = refl
+beside_past_done (t ∷ ts) [] p le = refl
+beside_past_done (t ∷ ts) (d ∷ ds) zero le = absurd (omega (arith, le))
+beside_past_done (t ∷ ts) (d ∷ ds) (suc p) le = beside_past_done ts ds p (omega (arith, le))
 
 -- a segment more
 pub beside_set : (ts : List TaskValue) (ds : List (Option SegmentValue)) (p : ℕ) (g : SegmentValue)

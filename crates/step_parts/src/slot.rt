@@ -42,7 +42,7 @@ impl<'a> Model for Slots<'a> {
 }
 
 impl<'a> Slots<'a> {
-    ghost use Rattle.std.specs.Prelude.{◌≡◌, ◌∷◌, [], Some, IfSome, MatchOption, slice_get};
+    ghost use Rattle.std.specs.Prelude.{◌≡◌, ◌∷◌, [], None, Some, MatchOption, slice_get};
     ghost use Rattle.step_parts.specs.SlotParts.{beside};
 
     /// These tasks, each beside what was delivered for it, by place.
@@ -73,7 +73,7 @@ impl<'a> Slots<'a> {
 
     /// The one at this place, if there is one.
     pub fn at(&self, place: usize) -> Option<Slot<'a>>
-        ensures { IfSome result (λ slot. slice_get self.now place ≡ Some slot) }
+        ensures { MatchOption result (slice_get self.now place ≡ None) (λ slot. slice_get self.now place ≡ Some slot) }
     {
         let task = self.tasks.get(place)?;
         let done = self.done.get(place)?;

@@ -1,16 +1,19 @@
 -- Answers of calls that are repeated.
-use Rattle.std.proofs.Common.{◌≡◌, ℕ, ◌+◌, ◌<◌, Bool, refl, sym, ◌∙◌, ap, arith, ◌⊎◌, inl, inr}
+use Rattle.std.proofs.Common.{◌≡◌, ℕ, ◌+◌, ◌<◌, Bool, refl, sym, ◌∙◌, ap, subst, arith, ◌⊎◌, inl, inr}
 use Rattle.tier_steps.specs.Word.{next_phase_of}
 use Rattle.tier_steps.specs.declared.view.View.{View}
 use Rattle.tier_steps.specs.declared.view.Trip.{Trip}
 use Rattle.tier_steps.specs.declared.view.Trip.TheVariants.{Arrival, Departure}
-use Rattle.tier_table.specs.Holding.{Holding}
-use Rattle.tier_table.specs.Passes.{IsSame}
-use Rattle.tier_table.specs.Arrives.{IsLooked, HasPassed}
-use Rattle.tier_table.specs.Polls.{HasPassedOn}
+use Rattle.tier_core.specs.declared.call.Played.{Played}
+use Rattle.table_tiers.specs.Holding.{Named, Holding, shape_of}
+use Rattle.table_tiers.specs.Passes.{IsSame}
+use Rattle.table_tiers.specs.Arrives.{IsLooked, HasPassed}
+use Rattle.table_tiers.specs.Joins.{IsJoined, Refusal}
+use Rattle.table_tiers.specs.Polls.{HasPassedOn}
+use Rattle.tier_table.specs.declared.waiting.Admitted.{Admitted}
 use Rattle.tier_table.specs.declared.waiting.Counted.{Counted}
 use Rattle.tier_table.specs.declared.waiting.Counted.TheVariants.{Done, Left, AlreadyArrived, Ended}
-use Rattle.tier_table.specs.AtLast.{ResumesAtLast, ArrivesAtLast}
+use Rattle.tier_table.specs.AtLast.{RegistersAtLast, ResumesAtLast, ArrivesAtLast}
 
 pub same_first : (v : View) → IsSame v v
 same_first v = record { tier = refl; size = refl; phase = refl; arrived = refl }
@@ -88,3 +91,17 @@ arrives_then own h g (Done crew phase led) some tree looked told = (told.0 ∙ t
 arrives_then own h g (Left door phase led) some tree looked told = (told.0, told.1 ∙ tree, passed_then some looked told.2, told.3, told.4)
 arrives_then own h g (AlreadyArrived crew phase) some tree looked told = (told.0 ∙ tree, looked_then some looked told.1, told.2, told.3)
 arrives_then own h g (Ended crew shown) some tree looked told = (told.0 ∙ tree, looked_then some looked told.1, told.2)
+
+-- What was asked for is what the path is opened for.
+pub joined_for : (t u s r : ℕ) (v : View) → t ≡ u → s ≡ r → IsJoined t s v → IsJoined u r v
+joined_for t u s r v tier size told = subst (λ (n : ℕ). IsJoined u n v) size (subst (λ (n : ℕ). IsJoined n s v) tier told)
+
+pub refused_for : (n : Named) (h : Holding) (t u s r : ℕ) (v : View) (answer : Played) → h.tree ≡ n → t ≡ u → s ≡ r
+    → Refusal (shape_of h) t s v answer → Refusal n.key.shape u r v answer
+refused_for n h t u s r v answer tree tier size told =
+    subst (λ (k : ℕ). Refusal n.key.shape u k v answer) size
+    (subst (λ (k : ℕ). Refusal n.key.shape k s v answer) tier (subst (λ (m : Named). Refusal m.key.shape t s v answer) tree told))
+
+pub registers_for : (n : Named) (t u s r : ℕ) (answer : Admitted) → t ≡ u → s ≡ r → RegistersAtLast n t s answer → RegistersAtLast n u r answer
+registers_for n t u s r answer tier size told =
+    subst (λ (k : ℕ). RegistersAtLast n u k answer) size (subst (λ (k : ℕ). RegistersAtLast n k s answer) tier told)

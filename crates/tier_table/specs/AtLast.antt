@@ -3,11 +3,11 @@ use Rattle.std.specs.Prelude.{◌≡◌, ℕ, ◌<◌, Result, Ok, Err}
 use Rattle.tier_steps.specs.declared.view.Trip.{Trip}
 use Rattle.tier_steps.specs.declared.view.Trip.TheVariants.{Departure}
 use Rattle.tier_core.specs.declared.call.Played.TheVariants as played
-use Rattle.tier_table.specs.Holding.{Named, Holding}
-use Rattle.tier_table.specs.Passes.{IsSame, EndSeen}
-use Rattle.tier_table.specs.Arrives.{IsLooked, HasPassed}
-use Rattle.tier_table.specs.Joins.{IsJoined, Refusal}
-use Rattle.tier_table.specs.Polls.{HasPassedOn}
+use Rattle.table_tiers.specs.Holding.{Named, Holding}
+use Rattle.table_tiers.specs.Passes.{IsSame, EndSeen}
+use Rattle.table_tiers.specs.Arrives.{IsLooked, HasPassed}
+use Rattle.table_tiers.specs.Joins.{IsJoined, Refusal}
+use Rattle.table_tiers.specs.Polls.{HasPassedOn}
 use Rattle.tier_table.specs.declared.waiting.Admitted.{Admitted}
 use Rattle.tier_table.specs.declared.waiting.Admitted.TheVariants as admitted
 use Rattle.tier_table.specs.declared.waiting.Counted.{Counted}

@@ -1,32 +1,33 @@
 //! The tree of phasers, shared by reference and called from any threads without a lock.
 
 ghost use Rattle.std.specs.Prelude.{◌≡◌, ◌<◌, ◌≤◌, ℕ, Some, IfOk, IfErr, All, length};
-ghost use Rattle.tier_table.specs.Closes.{held, plain_tokens, views_in, TallyWithOthers};
+ghost use Rattle.table_tiers.specs.Closes.{held, plain_tokens, views_in, TallyWithOthers};
 ghost use Rattle.advance_rule.specs.Stored.{Answers};
 ghost use Rattle.advance_rule.specs.Plan.{end_ends_at};
 ghost use Rattle.tier_steps.specs.View.{new_view};
 ghost use Rattle.tier_steps.specs.declared.view.Trip.TheVariants.{Arrival, Departure};
 ghost use Rattle.tier_table.specs.Ruled.{IsNew, IsSplit};
-ghost use Rattle.tier_table.specs.Arrives.{Arrives, Resumes};
-ghost use Rattle.tier_table.specs.Arrives as arrives;
-ghost use Rattle.tier_table.specs.Registers.{Registers, Opens};
-ghost use Rattle.tier_table.specs.Registers as registers;
-ghost use Rattle.tier_table.specs.JoinsHere.{JoinsHere};
-ghost use Rattle.tier_table.specs.Polls.{Polls};
-ghost use Rattle.tier_table.specs.Polls as polls;
-ghost use Rattle.tier_table.specs.Forces.{Forces};
-ghost use Rattle.tier_table.specs.Forces as forces;
+ghost use Rattle.table_tiers.specs.Arrives.{Arrives, Resumes};
+ghost use Rattle.table_tiers.specs.Arrives as arrives;
+ghost use Rattle.table_tiers.specs.Registers.{Registers, Opens};
+ghost use Rattle.table_tiers.specs.Registers as registers;
+ghost use Rattle.table_tiers.specs.JoinsHere.{JoinsHere};
+ghost use Rattle.table_tiers.specs.Polls.{Polls};
+ghost use Rattle.table_tiers.specs.Polls as polls;
+ghost use Rattle.table_tiers.specs.Forces.{Forces};
+ghost use Rattle.table_tiers.specs.Forces as forces;
 
-use crate::arriving::{Arrived, Resumed};
-use crate::closing::{Closed, Unclosed, plain_all};
-use crate::forcing::Forced;
-use crate::joining::{Opened, Registered};
-use crate::polling::Polled;
-use crate::tiers::Tiers;
-use crate::tokens::{Crew, Door, Errand, Opening, Token};
+use crate::closing::{Closed, Unclosed};
 use advance_rule::StoredAdvance;
 use std::alloc::{AllocError, Global};
 use std::marker::Model;
+use table_tiers::arriving::{Arrived, Resumed};
+use table_tiers::closing::plain_all;
+use table_tiers::forcing::Forced;
+use table_tiers::joining::{Opened, Registered};
+use table_tiers::polling::Polled;
+use table_tiers::tiers::Tiers;
+use table_tiers::tokens::{Crew, Door, Errand, Opening, Token};
 use tier_shape::Shape;
 use tier_steps::view::Trip;
 
@@ -62,12 +63,12 @@ impl<F: Fn(u32, u32) -> bool> Tree<F> {
         requires { phase ≤ 2147483647 }
         ensures { IfOk result (λ r. IsNew shape phase advance r.0 r.1) }
     {
-        let (tiers, token) = Tiers::new(alloc, shape, phase, advance.plan())?;
+        let (tiers, door) = Tiers::new(alloc, shape, phase, advance.plan())?;
         let tree = Tree {
             tiers,
             rule: advance,
         };
-        Ok((tree, Door { token }))
+        Ok((tree, door))
     }
 
     /// The shape of the tree.
@@ -83,10 +84,8 @@ impl<F: Fn(u32, u32) -> bool> Tree<F> {
         ensures same { door.new ≡ door.old }
         ensures new { IsSplit door.old result }
     {
-        let _ = &door.token;
-        Door {
-            token: self.tiers.sit(),
-        }
+        let _ = &door;
+        self.tiers.open_door()
     }
 
     /// A new token without members, in the root's phase.
@@ -95,10 +94,8 @@ impl<F: Fn(u32, u32) -> bool> Tree<F> {
         ensures same { crew.new ≡ crew.old }
         ensures new { IsSplit crew.old result }
     {
-        let _ = &crew.token;
-        Door {
-            token: self.tiers.sit(),
-        }
+        let _ = &crew;
+        self.tiers.open_door()
     }
 
     /// Registers so many members at a tier, opening the path to it where it is empty.

@@ -5,18 +5,18 @@ ghost use Rattle.std.specs.Prelude.{◌≡◌, ◌<◌, ◌≤◌, ℕ, Some, le
 ghost use Rattle.advance_rule.specs.Stored.{Answers};
 ghost use Rattle.advance_rule.specs.Plan.{end_ends_at};
 ghost use Rattle.tier_steps.specs.declared.view.Trip.TheVariants.{Arrival, Departure};
-ghost use Rattle.tier_table.specs.Openings.{asked_tier, asked_size};
-ghost use Rattle.tier_table.specs.Holding.{Holding};
-ghost use Rattle.tier_table.specs.Arrives.{IsLooked, HasPassed};
+ghost use Rattle.table_tiers.specs.Openings.{asked_tier, asked_size};
+ghost use Rattle.table_tiers.specs.Holding.{Holding};
+ghost use Rattle.table_tiers.specs.Arrives.{IsLooked, HasPassed};
 ghost use Rattle.tier_table.specs.AtLast.{RegistersAtLast, OpensAtLast, ArrivesAtLast, ResumesAtLast, AwaitsAdvance, HasEndedJoin, HasEndedArrival, HasEndedWait};
 
-use crate::arriving::{Arrived, Resumed};
-use crate::joining::{Opened, Registered};
-use crate::polling::Polled;
-use crate::tokens::{Crew, Door, Errand, Opening};
 use crate::tree::Tree;
 use std::sync::Wait;
 use std::thread;
+use table_tiers::arriving::{Arrived, Resumed};
+use table_tiers::joining::{Opened, Registered};
+use table_tiers::polling::Polled;
+use table_tiers::tokens::{Crew, Door, Errand, Opening};
 use tier_steps::view::Trip;
 
 /// How many tries a call makes before its thread lets others run.
@@ -130,7 +130,7 @@ impl<F: Fn(u32, u32) -> bool> Tree<F> {
     {
         match self.resume_wait(rt, errand) {
             Counted::Left(door, phase, led) => {
-                let _ = &door.token;
+                let _ = door.phase();
                 Counted::Left(door, phase, led)
             }
             answer => answer,
@@ -144,7 +144,7 @@ impl<F: Fn(u32, u32) -> bool> Tree<F> {
         ensures answer { MatchResult result (λ a. ArrivesAtLast own crew a) (λ next. (next.tree ≡ crew.tree) × IsLooked crew.view next.view) }
         ensures ended { (phase : ℕ) → crew.view.end_seen ≡ Some phase → MatchResult result HasEndedArrival (λ next. ⊥) }
     {
-        let _ = &crew.token;
+        let _ = crew.size();
         match self.tiers.pass(crew, own, &self.rule, TRIES) {
             Arrived::Done(crew, phase, led) => Ok(Counted::Done(crew, phase, led)),
             Arrived::Left(door, phase, led) => Ok(Counted::Left(door, phase, led)),
@@ -164,7 +164,7 @@ impl<F: Fn(u32, u32) -> bool> Tree<F> {
     {
         let mut crew = crew;
         for _ in rt.forever() {
-            let _ = &crew.token;
+            let _ = crew.size();
             match self.pass_once(rt, crew, own) {
                 Ok(answer) => return answer,
                 Err(next) => crew = next,
@@ -202,7 +202,7 @@ impl<F: Fn(u32, u32) -> bool> Tree<F> {
         ensures answer { AwaitsAdvance crew.old crew.new result }
         ensures ended { (phase : ℕ) → crew.old.view.end_seen ≡ Some phase → HasEndedWait result }
     {
-        let _ = &crew.token;
+        let _ = crew.size();
         for _ in rt.forever() {
             match self.poll(crew) {
                 Polled::Passed(phase) => return Awaited::Passed(phase),

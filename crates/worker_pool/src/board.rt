@@ -1,5 +1,8 @@
 //! The round as workers share it, with the tasks that are ready.
-ghost use Rattle.std.specs.Prelude.{◌≡◌};
+ghost use Rattle.std.specs.Prelude.{◌≡◌, ℕ, Some, IfOk, IfErr};
+ghost use Rattle.step_core.specs.Program.{program_of};
+ghost use Rattle.step_core.specs.JobMeaning.{report_of};
+ghost use Rattle.worker_pool.specs.Refusals.{IsOfWorkers};
 
 use crate::fault::{Note, Refused, note_of_closing, note_of_delivery};
 use crate::hand::{Made, Taken};
@@ -50,6 +53,28 @@ pub(crate) struct Board<'j, J: Running> {
     of: PhantomData<J>,
 }
 
+/// What a worker does next.
+#[derive(Drop)]
+pub(crate) enum Next<'j, J: Running> {
+    /// To run the segment of this task.
+    Task(Taken<'j, J>),
+    /// To pass the tasks in its hand through the tree.
+    Pass,
+    /// To go home.
+    Home,
+}
+
+/// What a hand that has passed through the tree has done to the round.
+#[derive(Clone, Copy, PartialEq, Eq)]
+pub(crate) enum Turned {
+    /// The round goes on, and no task is ready that was not.
+    Goes,
+    /// Tasks are ready, or the job has ended as its plan or its tasks say.
+    Opened,
+    /// A fault has ended the job.
+    Ended,
+}
+
 impl<'j, J: Running> Model for Board<'j, J> {
     ghost use Rattle.std.specs.Prelude.{◌≡◌};
     ghost use Rattle.step_core.specs.RoundValue.{RoundValue};
@@ -96,8 +121,8 @@ impl<'j, J: Running> Board<'j, J> {
         self.ready.is_empty() && !self.is_over()
     }
 
-    /// Takes the first ready task; `None` where none is ready.
-    pub(crate) fn take(&mut self) -> Result<Option<Taken<'j, J>>, Note>
+    // Takes the first ready task; `None` where none is ready.
+    fn take(&mut self) -> Result<Option<Taken<'j, J>>, Note>
         ensures { self.new ≡ self.old }
     {
         let Some(first) = self.ready.front() else {
@@ -125,8 +150,32 @@ impl<'j, J: Running> Board<'j, J> {
         }
     }
 
-    /// Takes what the segment of a task did.
-    pub(crate) fn deliver(&mut self, made: Made<'j, J>) -> Result<(), Note>
+    /// What a worker does next whose hand is full, or is not.
+    pub(crate) fn next(&mut self, is_full: bool) -> Result<Next<'j, J>, Note>
+        ensures { self.new ≡ self.old }
+    {
+        if self.is_over() {
+            return Ok(Next::Home);
+        }
+        if is_full {
+            return Ok(Next::Pass);
+        }
+        match self.take()? {
+            Some(taken) => Ok(Next::Task(taken)),
+            None => Ok(Next::Pass),
+        }
+    }
+
+    /// Takes what the last segment of a worker did, if it has not been taken.
+    pub(crate) fn take_in(&mut self, made: &mut Option<Made<'j, J>>) -> Result<(), Note> {
+        match made.take() {
+            Some(made) => self.deliver(made),
+            None => Ok(()),
+        }
+    }
+
+    // Takes what the segment of a task did.
+    fn deliver(&mut self, made: Made<'j, J>) -> Result<(), Note>
         ensures taken { OnOk result (Takes self.old made.entry) }
         ensures added { OnOk result (self.new ≡ with_delivery self.old made.entry) }
         ensures unchanged { OnErr result (self.new ≡ self.old) }
@@ -140,13 +189,9 @@ impl<'j, J: Running> Board<'j, J> {
         }
     }
 
-    /// Takes back the seats of tasks that have passed through the tree in this superstep and live on. Where its round was
-    /// closed meanwhile they are ready. Whether they are.
-    pub(crate) fn take_back(
-        &mut self,
-        step: u32,
-        seats: &mut VecDeque<Seat<J>>,
-    ) -> Result<bool, AllocError>
+    // Takes back the seats of tasks that have passed through the tree in this superstep and live on. Where its round was
+    // closed meanwhile they are ready. Whether they are.
+    fn take_back(&mut self, step: u32, seats: &mut VecDeque<Seat<J>>) -> Result<bool, AllocError>
         ensures { self.new ≡ self.old }
     {
         let late = self.round.step() != step;
@@ -167,8 +212,8 @@ impl<'j, J: Running> Board<'j, J> {
         }
     }
 
-    /// Takes the superstep, and makes those of the next live tasks ready that are back from the tree.
-    pub(crate) fn close(&mut self, alloc: Global) -> Result<Outcome, Note>
+    // Takes the superstep, and makes those of the next live tasks ready that are back from the tree.
+    fn close(&mut self, alloc: Global) -> Result<Outcome, Note>
         ensures closed { OnOk result (Opens self.new self.old.job self.old.limit
             (superstep (program_of self.old.job) (state_of self.old))) }
         ensures outcome { IfOk result (λ outcome. outcome ≡ outcome_of (delivered (slots_in self.old))) }
@@ -186,6 +231,25 @@ impl<'j, J: Running> Board<'j, J> {
         }
     }
 
+    /// Takes back the seats of a hand that has passed through the tree in this superstep, and closes the round where it took
+    /// the advance.
+    pub(crate) fn turn(
+        &mut self,
+        alloc: Global,
+        step: u32,
+        seats: &mut VecDeque<Seat<J>>,
+        led: bool,
+    ) -> Result<Turned, Note> {
+        let late = self.take_back(step, seats)?;
+        if led {
+            return match self.close(alloc)? {
+                Outcome::Landed => Ok(Turned::Opened),
+                Outcome::Faulted | Outcome::TooMany => Ok(Turned::Ended),
+            };
+        }
+        Ok(if late { Turned::Opened } else { Turned::Goes })
+    }
+
     /// What the job left, once it has ended.
     pub(crate) fn conclude(self, alloc: Global) -> Result<Report, Refused>
         ensures report { IfOk result (λ report. report_of (program_of J.job) J.limit ≡ Some report) }
@@ -194,13 +258,23 @@ impl<'j, J: Running> Board<'j, J> {
         if let Some(note) = self.note {
             return Err(note.refusal());
         }
-        if !self.round.has_ended() {
-            return Err(Refused::Internal);
-        }
-        match self.round.into_report(alloc) {
-            Ok(Some(report)) => Ok(report),
-            Ok(None) => Err(Refused::Internal),
-            Err(_) => Err(Refused::Memory),
-        }
+        left_by::<J>(alloc, self.round)
+    }
+}
+
+// What the job of this round left, once it has ended.
+fn left_by<J: Running>(alloc: Global, round: Round<'_>) -> Result<Report, Refused>
+    requires job { round.job ≡ J.job }
+    requires limit { round.limit ≡ J.limit }
+    ensures report { IfOk result (λ report. report_of (program_of J.job) J.limit ≡ Some report) }
+    ensures started { (workers : ℕ) → IfErr result (IsOfWorkers workers) }
+{
+    if !round.has_ended() {
+        return Err(Refused::Internal);
+    }
+    match round.into_report(alloc) {
+        Ok(Some(report)) => Ok(report),
+        Ok(None) => Err(Refused::Internal),
+        Err(_) => Err(Refused::Memory),
     }
 }

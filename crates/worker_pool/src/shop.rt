@@ -1,14 +1,13 @@
 //! What the workers of a run share.
-use crate::board::{Board, Running};
+use crate::board::{Board, Next, Running, Turned};
 use crate::fault::{Note, Refused};
-use crate::hand::{Hand, Passing, Taken};
+use crate::hand::{Hand, Passing};
 use crate::seat::{Key, Seat};
 use crate::tree::Meeting;
 use phase_records::Report;
 use std::alloc::Global;
 use std::collections::VecDeque;
 use std::sync::{Condvar, Mutex, Wait};
-use step_core::Outcome;
 use superstep_memory::path::Path;
 
 /// The board under a lock, and the tree without one: no call of the tree is made while the lock is held. Who waits for a
@@ -18,17 +17,6 @@ pub(crate) struct Shop<'j, J: Running, F: Fn(u32, u32) -> bool> {
     pub(crate) board: Mutex<Board<'j, J>>,
     pub(crate) changed: Condvar,
     pub(crate) meeting: Meeting<J, F>,
-}
-
-/// What a worker does next.
-#[derive(Drop)]
-pub(crate) enum Next<'j, J: Running> {
-    /// To run the segment of this task.
-    Task(Taken<'j, J>),
-    /// To pass the tasks in its hand through the tree.
-    Pass,
-    /// To go home.
-    Home,
 }
 
 impl<'j, J: Running, F: Fn(u32, u32) -> bool> Shop<'j, J, F> {
@@ -47,22 +35,11 @@ impl<'j, J: Running, F: Fn(u32, u32) -> bool> Shop<'j, J, F> {
         hand: &mut Hand<'j, J>,
     ) -> Result<Next<'j, J>, Note> {
         let mut board = self.board.lock(rt);
-        if let Some(made) = hand.made.take() {
-            board.deliver(made)?;
-        }
+        board.take_in(&mut hand.made)?;
         if hand.passing.is_empty() {
             board = self.changed.wait_while(rt, board, |board| board.is_idle());
         }
-        if board.is_over() {
-            return Ok(Next::Home);
-        }
-        if hand.is_full() {
-            return Ok(Next::Pass);
-        }
-        match board.take()? {
-            Some(taken) => Ok(Next::Task(taken)),
-            None => Ok(Next::Pass),
-        }
+        board.next(hand.is_full())
     }
 
     // Lets a task arrive that lives on. Whether it took the advance.
@@ -150,6 +127,19 @@ impl<'j, J: Running, F: Fn(u32, u32) -> bool> Shop<'j, J, F> {
         self.arrive(rt, seat, passed)
     }
 
+    // Passes the tasks of a hand through the tree. Whether one of them took the advance.
+    fn pass_each<R: Wait>(&self, rt: &R, hand: &mut Hand<'j, J>) -> Result<bool, Note>
+        requires rule { Answers (F.pre self.now.meeting.tree.rule.closure) (F.post self.now.meeting.tree.rule.closure) (end_ends_at self.now.meeting.tree.rule.plan) }
+    {
+        let mut led = false;
+        while let Some(task) = hand.passing.pop_front() {
+            if self.pass(rt, task, &mut hand.passed)? {
+                led = true;
+            }
+        }
+        Ok(led)
+    }
+
     /// Passes the tasks of a hand through the tree: those that they have spawned join and arrive, then they arrive or
     /// leave. Then the seats of those that live on are handed back, and where the last of them took the advance the round is
     /// closed.
@@ -162,24 +152,15 @@ impl<'j, J: Running, F: Fn(u32, u32) -> bool> Shop<'j, J, F> {
     ) -> Result<(), Note>
         requires rule { Answers (F.pre self.now.meeting.tree.rule.closure) (F.post self.now.meeting.tree.rule.closure) (end_ends_at self.now.meeting.tree.rule.plan) }
     {
-        let mut led = false;
-        while let Some(task) = hand.passing.pop_front() {
-            if self.pass(rt, task, &mut hand.passed)? {
-                led = true;
-            }
-        }
-        let mut board = self.board.lock(rt);
-        let mut changed = board.take_back(hand.step, &mut hand.passed)?;
-        let mut outcome = Outcome::Landed;
-        if led {
-            outcome = board.close(alloc)?;
-            changed = true;
-        }
-        drop(board);
-        if changed {
+        let led = self.pass_each(rt, hand)?;
+        let turned = self
+            .board
+            .lock(rt)
+            .turn(alloc, hand.step, &mut hand.passed, led)?;
+        if turned != Turned::Goes {
             self.changed.notify_all();
         }
-        if outcome != Outcome::Landed {
+        if turned == Turned::Ended {
             self.meeting.force(rt, key);
         }
         Ok(())

@@ -2,12 +2,12 @@
 ghost use Rattle.advance_rule.specs.Stored.{Answers};
 ghost use Rattle.advance_rule.specs.Plan.{end_ends_at};
 
-use crate::board::Running;
+use crate::board::{Next, Running};
 use crate::fault::Note;
 use crate::hand::Hand;
 use crate::hooks::Gate;
 use crate::seat::Key;
-use crate::shop::{Next, Shop};
+use crate::shop::Shop;
 use std::alloc::Global;
 use std::sync::Wait;
 
@@ -21,13 +21,23 @@ pub(crate) fn work<'j, J: Running, R: Wait, F: Fn(u32, u32) -> bool, G: Gate>(
 )
     requires rule { Answers (F.pre shop.now.meeting.tree.rule.closure) (F.post shop.now.meeting.tree.rule.closure) (end_ends_at shop.now.meeting.tree.rule.plan) }
 {
-    let done = match Hand::new(alloc) {
-        Ok(mut hand) => go_on(rt, alloc, shop, gate, key, &mut hand),
-        Err(_) => Err(Note::Memory),
-    };
-    if let Err(note) = done {
+    if let Err(note) = begin(rt, alloc, shop, gate, key) {
         shop.give_up(rt, key, note);
     }
+}
+
+// Takes a hand, and does tasks with it until the workers go home, or it can't go on.
+fn begin<'j, J: Running, R: Wait, F: Fn(u32, u32) -> bool, G: Gate>(
+    rt: &R,
+    alloc: Global,
+    shop: &Shop<'j, J, F>,
+    gate: &G,
+    key: &mut Key<J>,
+) -> Result<(), Note>
+    requires rule { Answers (F.pre shop.now.meeting.tree.rule.closure) (F.post shop.now.meeting.tree.rule.closure) (end_ends_at shop.now.meeting.tree.rule.plan) }
+{
+    let mut hand = Hand::new(alloc)?;
+    go_on(rt, alloc, shop, gate, key, &mut hand)
 }
 
 // Does tasks until the workers go home, or it can't go on.

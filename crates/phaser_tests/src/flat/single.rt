@@ -160,30 +160,3 @@ fn answers_as_the_flat_phaser_does(rt: HostRuntime) {
         }
     }
 }
-
-// A list of calls, and what they are answered.
-const LIST: [Call; 5] = [
-    Call::Arrive,
-    Call::Register,
-    Call::Leave,
-    Call::Leave,
-    Call::Arrive,
-];
-
-const REPLIES: [Reply; 5] = [
-    Reply::Number(7),
-    Reply::Number(8),
-    Reply::Number(8),
-    Reply::Number(8),
-    Reply::Number(-2147483639),
-];
-
-#[test]
-fn answers_a_list_of_calls(rt: HostRuntime) {
-    let plan = CountPlan { least: 1, at: None };
-    let rule = StoredCount::new(|_phase: u32, count: u32| count < 1, plan);
-    let mut one = PhaserOne::new(1, 7, rule).expect(&rt, "a phaser");
-    let replies = one.call_all(rt.alloc(), &LIST).expect(&rt, "memory");
-    assert!(rt; replies.as_slice() == REPLIES.as_slice());
-    assert!(rt; one.phase() == -2147483639);
-}

@@ -1,12 +1,11 @@
-use Rattle.std.proofs.Common.{subst, ◌∙◌, arith}
-use Rattle.tier_table.specs.Holding.{IsCrew}
+use Rattle.std.proofs.Common.{◌∙◌, arith, rules}
 use Rattle.tier_table.proofs.Lasting.{same_then, waits_same, same_looked, same_passed_on}
 use Rattle.tier_table.proofs.tree.Tree.await_advance.Goals as goal
 
 pub loop-preserved : goal.loop-preserved
 loop-preserved g c =
     let kept = c.loop.invariant in
-    let some = (subst IsCrew c.crew.view_is c.crew.invariant).some in
+    let some = c.size.ensures.some in
     let told = c.in-Waiting.ensures.answer in (
       tt,
       tt,
@@ -21,3 +20,24 @@ returns-in-Passed-clause-answer g c =
 
 pub returns-in-Here-clause-answer : goal.returns-in-Here-clause-answer
 returns-in-Here-clause-answer g c = let told = c.in-Here.ensures.answer in (same_looked c.loop.invariant.3 told.1, told.2, told.3)
+
+pub returns-in-Ended-clause-answer : goal.returns-in-Ended-clause-answer
+returns-in-Ended-clause-answer g c = let told = c.in-Ended.ensures.answer in (same_looked c.loop.invariant.3 told.1, (told.2.0, told.2.1, search rules))
+
+pub returns-in-Passed-clause-tree : goal.returns-in-Passed-clause-tree
+returns-in-Passed-clause-tree g c = c.in-Passed.ensures.tree ∙ c.loop.invariant.2
+
+pub returns-in-Here-clause-tree : goal.returns-in-Here-clause-tree
+returns-in-Here-clause-tree g c = c.in-Here.ensures.tree ∙ c.loop.invariant.2
+
+pub returns-in-Ended-clause-tree : goal.returns-in-Ended-clause-tree
+returns-in-Ended-clause-tree g c = c.in-Ended.ensures.tree ∙ c.loop.invariant.2
+
+pub returns-in-Passed-clause-ended : goal.returns-in-Passed-clause-ended
+returns-in-Passed-clause-ended g c = λ p e. absurd (c.in-Passed.ensures.ended p (c.loop.invariant.4 p e))
+
+pub returns-in-Here-clause-ended : goal.returns-in-Here-clause-ended
+returns-in-Here-clause-ended g c = λ p e. absurd (c.in-Here.ensures.ended p (c.loop.invariant.4 p e))
+
+pub returns-in-Ended-clause-ended : goal.returns-in-Ended-clause-ended
+returns-in-Ended-clause-ended g c = λ p e. tt

@@ -1,10 +1,8 @@
-use Rattle.std.proofs.Common.{subst}
-use Rattle.tier_table.specs.Holding.{IsCrew}
 use Rattle.tier_table.proofs.tree.Tree.pass_once.Goals as goal
 
 pub returns-in-Owing : goal.returns-in-Owing
 returns-in-Owing g c =
-    let some = (subst IsCrew c.crew.view_is c.crew.invariant).some in
+    let some = c.size.ensures.some in
     let owed = c.in-Owing.ensures.answer in
     record {
       answer = c.settle_wait.ensures c.args.crew some owed.0.tree owed.1;

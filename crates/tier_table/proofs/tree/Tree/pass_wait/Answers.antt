@@ -1,10 +1,21 @@
-use Rattle.std.proofs.Common.{subst}
-use Rattle.tier_table.specs.Holding.{IsCrew}
-use Rattle.tier_table.proofs.Lasting.{arrives_then}
+use Rattle.std.proofs.Common.{refl, ◌∙◌}
+use Rattle.tier_table.proofs.Lasting.{arrives_then, looked_first, looked_then}
 use Rattle.tier_table.proofs.tree.Tree.pass_wait.Goals as goal
+
+pub loop-init : goal.loop-init
+loop-init g c = (tt, tt, refl, looked_first c.args.crew.view, λ p e. e)
+
+pub loop-preserved : goal.loop-preserved
+loop-preserved g c =
+    let kept = c.loop.invariant in
+    let told = c.in-Err.ensures.answer in
+    (tt, tt, told.0 ∙ kept.2, looked_then c.size.ensures.some kept.3 told.1, λ p e. absurd (c.in-Err.ensures.ended p (kept.4 p e)))
 
 pub returns-in-Ok-clause-answer : goal.returns-in-Ok-clause-answer
 returns-in-Ok-clause-answer g c =
     let kept = c.loop.invariant in
-    let some = (subst IsCrew c.crew.view_is c.crew.invariant).some in
+    let some = c.size.ensures.some in
     arrives_then c.args.own c.args.crew c.loop.crew c.in-Ok.answer some kept.2 kept.3 c.in-Ok.ensures.answer
+
+pub returns-in-Ok-clause-ended : goal.returns-in-Ok-clause-ended
+returns-in-Ok-clause-ended g c = λ p e. c.in-Ok.ensures.ended p (c.loop.invariant.4 p e)

@@ -1,11 +1,10 @@
-use Rattle.std.proofs.Common.{subst, ◌∙◌}
-use Rattle.tier_table.specs.Holding.{IsDoor}
+use Rattle.std.proofs.Common.{◌∙◌}
 use Rattle.tier_table.proofs.Lasting.{passed_same, left_departs, counted_at_last}
 use Rattle.tier_table.proofs.tree.Tree.settle_wait.Goals as goal
 
 pub returns-in-Left : goal.returns-in-Left
 returns-in-Left g c h some tree counted =
-    let none = (subst IsDoor c.door.view_is c.door.invariant).none in
+    let none = c.phase.ensures.none in
     let told = c.in-Left.ensures in
     let passed = passed_same counted told.1 in
     (left_departs c.args.own some passed none, told.0 ∙ tree, passed, told.2, told.3)

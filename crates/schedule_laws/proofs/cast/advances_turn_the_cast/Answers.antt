@@ -1,0 +1,5 @@
+use Rattle.schedule_laws.proofs.Casting.{advances_turn_the_cast}
+use Rattle.schedule_laws.proofs.cast.advances_turn_the_cast.Goals as goal
+
+pub returns : goal.returns
+returns c = advances_turn_the_cast

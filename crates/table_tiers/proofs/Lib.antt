@@ -1,0 +1,14 @@
+pub mod Seating
+pub mod Sitting
+pub mod Turning
+pub mod Running
+pub mod Tries
+pub mod Passing
+pub mod Settling
+pub mod Seeks
+pub mod Coming
+pub mod Waits
+pub mod Ending
+pub mod Gathering
+pub mod Meeting
+pub mod Greeting

@@ -1,0 +1,104 @@
+-- A crew at its own tier, and a door beside it.
+use Rattle.std.proofs.Common.{◌≡◌, ℕ, zero, suc, ◌+◌, ◌<◌, inl, inr, Bool, true, false, eqb, not, ◌&&◌, nat_lt, List, refl, sym, ◌∙◌, ap, subst, arith}
+use Rattle.std.proofs.lemmas.Bool.{eq-eqb, eqb-true}
+use Rattle.phaser_word.specs.Fields.{Fields}
+use Rattle.tier_shape.specs.Parents.{parent_of}
+use Rattle.tier_steps.specs.Step.{Needs, view_after}
+use Rattle.tier_steps.specs.declared.kind.Kind.{Kind}
+use Rattle.tier_steps.specs.declared.kind.Kind.TheVariants.{Look, Refresh}
+use Rattle.tier_steps.specs.declared.view.View.{View}
+use Rattle.tier_steps.specs.declared.view.Errand.TheVariants.{Rest}
+use Rattle.tier_core.specs.Turn.{lags}
+use Rattle.tier_core.proofs.Turns.{not_both, looked_rests}
+use Rattle.table_rule.specs.Look.{glance, looking}
+use Rattle.table_rule.specs.Tell.{Beside}
+use Rattle.table_tiers.specs.Holding.{Named, Holding, Looked, Lost, Won, IsCrew}
+use Rattle.table_tiers.specs.Passes.{IsSame}
+use Rattle.table_tiers.specs.JoinsHere.{KeepsCrew}
+use Rattle.std.specs.Prelude.{MatchBool}
+use Rattle.table_tiers.proofs.Passing.{still_glance}
+use Rattle.table_tiers.proofs.Settling.{crew_by}
+
+-- a look at its own tier leaves a crew as it was
+glance_rests : (above t : ℕ) (w : Fields) (v : View) → v.errand ≡ Rest → (view_after above (glance t) t w v).errand ≡ Rest
+glance_rests above zero w v e = looked_rests w v e
+glance_rests above (suc t) w v e = e
+
+crew_kept : (h h' : Holding) (t tries above : ℕ) (w : Fields) → IsCrew h → h.view.arrived < h.view.size → h'.tree ≡ h.tree → h'.tier ≡ t → t ≡ h.view.tier → h'.tried ≡ h.tried + tries
+    → h'.view ≡ view_after above (glance t) t w h.view → Beside h.tree.key.shape h'.tier h'.word h'.view → KeepsCrew tries h h'
+crew_kept h h' t tries above w crew some tree at is tried view beside =
+    let s : IsSame h.view h'.view = subst (IsSame h.view) (sym view) (still_glance above t w h.view (λ z. inr some)) in
+    record {
+      tree = tree;
+      crew = s;
+      rests = crew_by h' (subst (λ (z : Named). Beside z.key.shape h'.tier h'.word h'.view) (sym tree) beside) (let a = s.size in let b = crew.some in omega arith)
+          (ap (λ (v : View). v.errand) view ∙ glance_rests above t w h.view crew.rests);
+      tier = at ∙ is;
+      tried = tried;
+    }
+
+pub crew_looked : {h h' : Holding} {t : ℕ} → IsCrew h → h.view.arrived < h.view.size → t ≡ h.view.tier → Looked Look t h h' → KeepsCrew 0 h h'
+crew_looked {h} {h'} {t} crew some is took = crew_kept h h' t 0 (parent_of h.tree.key.shape t) h'.word crew some took.tree took.tier is took.tried took.view took.after
+
+-- a try of a crew at its own tier
+pub refresh_needs : (ps : List ℕ) {h : Holding} → IsCrew h → h.view.arrived < h.view.size → h.tier ≡ h.view.tier → lags h.word h.view ≡ true → Needs ps Refresh h.tier h.word h.view
+refresh_needs ps {h} crew some is lagging =
+    let w : Fields = h.word in
+    let a = both (nat_lt 0 w.parties) (eqb w.unarrived 0 && not (eqb w.phase h.view.phase)) lagging in
+    let b = both (eqb w.unarrived 0) (not (eqb w.phase h.view.phase)) a.1 in
+    record {
+      some = positive w.parties a.0;
+      arrived = eqb-true w.unarrived 0 b.0;
+      behind = λ e. not_both (eqb w.phase h.view.phase) (eq-eqb w.phase h.view.phase e) (not_true (eqb w.phase h.view.phase) b.1);
+      leave = inl (crew.rests, sym is, some);
+    }
+  where
+    both : (x y : Bool) → (x && y) ≡ true → (x ≡ true) × (y ≡ true)
+    both true y e = (refl, e)
+    both false y e = not_both false e refl
+
+    positive : (n : ℕ) → nat_lt 0 n ≡ true → 0 < n
+    positive zero e = not_both false e refl
+    positive (suc n) e = omega arith
+
+    not_true : (b : Bool) → not b ≡ true → b ≡ false
+    not_true false e = refl
+    not_true true e = not_both false e refl
+
+pub look_needs : (ps : List ℕ) (t : ℕ) (w : Fields) (v : View) → Needs ps (glance t) t w v
+look_needs ps zero w v = refl
+look_needs ps (suc t) w v = omega arith
+
+look_again : (t t' : ℕ) (w : Fields) → looking (glance t) t' w ≡ glance t'
+look_again zero t' w = refl
+look_again (suc t) t' w = refl
+
+-- a try of a crew that changes no view
+tried_on : (b : Bool) (kind : Kind) (h h' : Holding) → IsCrew h → h.view.arrived < h.view.size → h.tier ≡ h.view.tier
+    → IsSame h.view (view_after (parent_of h.tree.key.shape h.tier) kind h.tier h.word h.view) × ((view_after (parent_of h.tree.key.shape h.tier) kind h.tier h.word h.view).errand ≡ Rest)
+    → ((t : ℕ) (w : Fields) → looking kind t w ≡ glance t) → MatchBool b (Won kind h h') (Lost kind h h') → KeepsCrew 1 h h'
+tried_on true kind h h' crew some is still look won =
+    let same : IsSame h.view h'.view = subst (IsSame h.view) (sym won.view) still.0 in
+    record {
+      tree = won.tree;
+      crew = same;
+      rests = crew_by h' (subst (λ (z : Named). Beside z.key.shape h'.tier h'.word h'.view) (sym won.tree) won.after) (let a = same.size in let b = crew.some in omega arith)
+          (ap (λ (v : View). v.errand) won.view ∙ still.1);
+      tier = won.tier ∙ is;
+      tried = won.tried;
+    }
+tried_on false kind h h' crew some is still look lost =
+    let t = lost.took in
+    crew_kept h h' h.tier 1 (parent_of h.tree.key.shape h.tier) h'.word crew some t.tree t.tier is t.tried
+    (t.view ∙ ap (λ (k : Kind). view_after (parent_of h.tree.key.shape h.tier) k h.tier h'.word h.view) (look h.tier h'.word)) t.after
+
+pub refresh_kept : (b : Bool) {h h' : Holding} → IsCrew h → h.view.arrived < h.view.size → h.tier ≡ h.view.tier → MatchBool b (Won Refresh h h') (Lost Refresh h h') → KeepsCrew 1 h h'
+refresh_kept b {h} {h'} crew some is m =
+    tried_on b Refresh h h' crew some is (record { tier = refl; size = refl; phase = refl; arrived = refl }, crew.rests) (λ t w. refl) m
+
+pub stay_kept : (b : Bool) (kind : Kind) {h h' : Holding} → kind ≡ glance h.tier → IsCrew h → h.view.arrived < h.view.size → h.tier ≡ h.view.tier → MatchBool b (Won kind h h') (Lost kind h h') → KeepsCrew 1 h h'
+stay_kept b kind {h} {h'} is crew some here m =
+    tried_on b kind h h' crew some here
+    (subst (λ (k : Kind). IsSame h.view (view_after (parent_of h.tree.key.shape h.tier) k h.tier h.word h.view) × ((view_after (parent_of h.tree.key.shape h.tier) k h.tier h.word h.view).errand ≡ Rest)) (sym is)
+    (still_glance (parent_of h.tree.key.shape h.tier) h.tier h.word h.view (λ z. inr some), glance_rests (parent_of h.tree.key.shape h.tier) h.tier h.word h.view crew.rests))
+    (λ t w. subst (λ (k : Kind). looking k t w ≡ glance t) (sym is) (look_again h.tier t w)) m

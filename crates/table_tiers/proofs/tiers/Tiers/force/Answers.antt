@@ -1,0 +1,13 @@
+use Rattle.std.proofs.Common.{ap, ◌∙◌}
+use Rattle.table_tiers.specs.Holding.{Holding}
+use Rattle.table_tiers.proofs.Seating.{took_by}
+use Rattle.table_tiers.proofs.Settling.{unseen, unseen_at, not_ended, not_true}
+use Rattle.table_tiers.proofs.tiers.Tiers.force.Goals as goal
+
+pub returns-then-not-before-clause-ended : goal.returns-then-not-before-clause-ended
+returns-then-not-before-clause-ended c = λ p e.
+    unseen_at c.word-before.ensures.beside c.tier.ensures c.if-tier-eq0.true (not_ended c.before-2.view_is c.word-before.ensures.word (not_true _ c.if-not-before.true)) p
+    (ap (λ (h : Holding). h.view.end_seen) c.door.view_is ∙ e)
+
+pub returns-clause-ended : goal.returns-clause-ended
+returns-clause-ended c = λ p e. unseen (took_by c.door.view_is c.look_at_root.ensures) (not_ended c.word.view_is c.word-word.ensures.word c.if-word.false) p e

@@ -1,0 +1,20 @@
+use Rattle.std.proofs.Common.{subst}
+use Rattle.tier_steps.specs.declared.view.Trip.TheVariants.{Arrival}
+use Rattle.table_tiers.specs.declared.going.Going.{Going}
+use Rattle.table_tiers.specs.Calls.{IsErrand}
+use Rattle.table_tiers.specs.Goes.{Ran}
+use Rattle.table_tiers.proofs.Settling.{may_end, resumes}
+use Rattle.table_tiers.proofs.tiers.Tiers.pass_on.Goals as goal
+
+pub go_owing-requires-clause-owing : goal.go_owing-requires-clause-owing
+go_owing-requires-clause-owing g c = c.errand.invariant.owes
+
+pub answer_resumed-requires : goal.answer_resumed-requires
+answer_resumed-requires g c =
+    may_end c.args.self.now Arrival c.args.tries c.args.errand c.go_owing.result c.requires.own (subst IsErrand c.errand.view_is c.errand.invariant)
+    (subst (λ (e : Going). Ran c.args.self.now c.args.tries e c.go_owing.result) c.errand.view_is c.go_owing.ensures)
+
+pub returns : goal.returns
+returns g c =
+    resumes c.args.self.now Arrival c.args.tries c.args.errand c.go_owing.result c.requires.own (subst IsErrand c.errand.view_is c.errand.invariant)
+    (subst (λ (e : Going). Ran c.args.self.now c.args.tries e c.go_owing.result) c.errand.view_is c.go_owing.ensures) c.answer_resumed.result c.answer_resumed.ensures

@@ -1,0 +1,89 @@
+-- What arrivals and departures answer, by the view of their token (own; the calls are those of Java SE 21, `Phaser`).
+use Rattle.std.specs.Prelude.{true, ◌≡◌, ℕ, ◌+◌, ◌<◌, ◌≤◌, ◌⊎◌}
+use Rattle.tier_steps.specs.Word.{next_phase_of}
+use Rattle.tier_steps.specs.declared.view.View.{View}
+use Rattle.tier_steps.specs.declared.view.Trip.{Trip}
+use Rattle.tier_steps.specs.declared.view.Trip.TheVariants.{Departure}
+use Rattle.tier_core.specs.declared.call.Progress.TheVariants as progress
+use Rattle.tier_core.specs.declared.call.Played.TheVariants as played
+use Rattle.table_tiers.specs.declared.going.Going.{Going}
+use Rattle.table_tiers.specs.Holding.{Holding}
+use Rattle.table_tiers.specs.Calls.{IsAt}
+use Rattle.table_tiers.specs.Next.{is_owing}
+use Rattle.table_tiers.specs.Passes.{IsSame, HasCounted, EndSeen, PassAt}
+use Rattle.table_tiers.specs.declared.arriving.Arrived.{Arrived}
+use Rattle.table_tiers.specs.declared.arriving.Arrived.TheVariants.{Done, Left, AlreadyArrived, Ended, Busy, Owing}
+use Rattle.table_tiers.specs.declared.arriving.Resumed.{Resumed}
+use Rattle.table_tiers.specs.declared.arriving.Resumed.TheVariants as resumed
+
+-- as the first look of a call leaves a view with members: as it was, or one phase on with nobody arrived
+pub record IsLooked (old new : View) : Type 0 where
+  pub tier : new.tier ≡ old.tier
+  pub size : new.size ≡ old.size
+  pub phase : ((new.phase ≡ old.phase) × (new.arrived ≡ old.arrived)) ⊎ ((old.arrived ≡ old.size) × (new.phase ≡ next_phase_of old.phase) × (new.arrived ≡ 0))
+
+-- looked, and then one member counted
+pub record HasPassed (own : Trip) (old new : View) : Type 0 where
+  pub from : View
+  pub looked : IsLooked old from
+  pub counted : HasCounted own from new
+
+-- the same token, with at most so many tries more
+pub record IsSoon (tries : ℕ) (old new : Holding) : Type 0 where
+  pub tree : new.tree ≡ old.tree
+  pub tried : new.tried ≤ old.tried + tries
+
+-- the same token, with just so many tries more
+pub record IsSpent (tries : ℕ) (old new : Holding) : Type 0 where
+  pub tree : new.tree ≡ old.tree
+  pub tried : new.tried ≡ old.tried + tries
+
+-- `led` is the view's mark that its token took the advance.
+abbrev pub Arrives : Trip → Holding → ℕ → Arrived → Type 0
+Arrives own h tries (Done crew phase led) = IsSoon tries h crew × HasPassed own h.view crew.view × (phase ≡ crew.view.phase) × (led ≡ crew.view.led)
+Arrives own h tries (Left door phase led) = (own ≡ Departure) × IsSoon tries h door × HasPassed own h.view door.view × (phase ≡ door.view.phase) × (led ≡ door.view.led)
+Arrives own h tries (AlreadyArrived crew phase) = IsSoon tries h crew × IsLooked h.view crew.view × (crew.view.arrived ≡ crew.view.size) × (phase ≡ crew.view.phase)
+Arrives own h tries (Ended crew shown) = IsSoon tries h crew × IsLooked h.view crew.view × EndSeen crew.view shown
+Arrives own h tries (Busy crew) = IsSpent tries h crew × IsLooked h.view crew.view
+Arrives own h tries (Owing errand) = IsSpent tries h errand.token × HasPassed own h.view errand.token.view
+
+-- it tells that the tree has ended
+abbrev pub HasEnded : Arrived → Type 0
+HasEnded (Ended crew shown) = Unit {0}
+HasEnded (Done crew phase led) = ⊥
+HasEnded (Left door phase led) = ⊥
+HasEnded (AlreadyArrived crew phase) = ⊥
+HasEnded (Busy crew) = ⊥
+HasEnded (Owing errand) = ⊥
+
+-- No member is counted any more.
+abbrev pub Resumes : Going → ℕ → Resumed → Type 0
+Resumes g tries (resumed.Done crew phase led) = IsSoon tries g.token crew × IsSame g.token.view crew.view × (phase ≡ crew.view.phase) × (led ≡ crew.view.led)
+Resumes g tries (resumed.Left door phase led) = IsSoon tries g.token door × IsSame g.token.view door.view × (phase ≡ door.view.phase) × (led ≡ door.view.led)
+Resumes g tries (resumed.Owing errand) = IsSpent tries g.token errand.token × IsSame g.token.view errand.token.view
+
+-- a call that arrives or leaves, by a token with members until one has left
+pub record MaySettle (g : Going) : Type 0 where
+  pub at : IsAt g.token.tree g
+  pub trip : Trip
+  pub shown : PassAt trip (λ u. 0 < u.size) (λ u. Unit {0}) g.token.view g.answer g.progress
+
+-- one that has counted its member
+pub record MayEnd (g : Going) : Type 0 where
+  pub at : IsAt g.token.tree g
+  pub trip : Trip
+  pub shown : PassAt trip (λ u. ⊥) (λ u. Unit {0}) g.token.view g.answer g.progress
+
+-- what such a call answers, by how it stands
+abbrev pub Settles : Going → Arrived → Type 0
+Settles g (Done crew phase led) = (crew ≡ g.token) × (g.progress ≡ progress.Idle) × (g.answer ≡ played.Done phase) × (led ≡ g.token.view.led)
+Settles g (Left door phase led) = (door ≡ g.token) × (g.progress ≡ progress.Idle) × (g.answer ≡ played.Done phase) × (led ≡ g.token.view.led) × (g.token.view.size ≡ 0)
+Settles g (AlreadyArrived crew phase) = ⊥
+Settles g (Ended crew shown) = (crew ≡ g.token) × (g.progress ≡ progress.Idle) × (g.answer ≡ played.Ended shown)
+Settles g (Busy crew) = (crew ≡ g.token) × ((trip : Trip) × (g.progress ≡ progress.Passing trip))
+Settles g (Owing errand) = (errand ≡ g) × (is_owing g.progress ≡ true)
+
+abbrev pub Ends : Going → Resumed → Type 0
+Ends g (resumed.Done crew phase led) = (crew ≡ g.token) × (g.progress ≡ progress.Idle) × (phase ≡ g.token.view.phase) × (led ≡ g.token.view.led)
+Ends g (resumed.Left door phase led) = (door ≡ g.token) × (g.progress ≡ progress.Idle) × (phase ≡ g.token.view.phase) × (led ≡ g.token.view.led)
+Ends g (resumed.Owing errand) = (errand ≡ g) × (is_owing g.progress ≡ true)

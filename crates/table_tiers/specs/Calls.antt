@@ -1,0 +1,18 @@
+-- Calls under way (own).
+use Rattle.std.specs.Prelude.{◌≡◌, true}
+use Rattle.table_tiers.specs.Next.{is_owing}
+use Rattle.tier_core.specs.Machine.{CallFits}
+use Rattle.table_rule.specs.Tell.{Beside}
+use Rattle.table_tiers.specs.Holding.{Named}
+use Rattle.table_tiers.specs.declared.going.Going.{Going}
+
+-- a call under way fits what its token knows, and some state of its tree has its token's view and word
+pub record IsAt (n : Named) (g : Going) : Type 0 where
+  pub own : g.token.tree ≡ n
+  pub fits : CallFits n.key.shape g.progress g.token.view
+  pub known : Beside n.key.shape g.token.tier g.token.word g.token.view
+
+-- a token that owes a climb or the advance
+pub record IsErrand (g : Going) : Type 0 where
+  pub at : IsAt g.token.tree g
+  pub owes : is_owing g.progress ≡ true

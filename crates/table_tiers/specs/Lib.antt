@@ -1,0 +1,13 @@
+pub mod Holding
+pub mod Calls
+pub mod Next
+pub mod Goes
+pub mod Passes
+pub mod Arrives
+pub mod Joins
+pub mod Openings
+pub mod Registers
+pub mod Polls
+pub mod Forces
+pub mod Closes
+pub mod JoinsHere

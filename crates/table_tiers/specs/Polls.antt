@@ -1,0 +1,27 @@
+-- What a poll answers, by the view of its token (own).
+use Rattle.std.specs.Prelude.{◌≡◌, ◌<◌}
+use Rattle.tier_steps.specs.Word.{next_phase_of}
+use Rattle.table_tiers.specs.Holding.{Holding}
+use Rattle.table_tiers.specs.Passes.{EndSeen}
+use Rattle.table_tiers.specs.Arrives.{IsLooked, IsSoon}
+use Rattle.table_tiers.specs.declared.polling.Polled.{Polled}
+use Rattle.table_tiers.specs.declared.polling.Polled.TheVariants.{Passed, Waiting, Here, Ended}
+
+-- all members had arrived in the phase before, and this one is the next
+pub record HasPassedOn (old new : Holding) : Type 0 where
+  pub all : old.view.arrived ≡ old.view.size
+  pub next : new.view.phase ≡ next_phase_of old.view.phase
+  pub nobody : new.view.arrived ≡ 0
+
+abbrev pub Polls : Holding → Holding → Polled → Type 0
+Polls old new (Passed phase) = IsSoon 1 old new × IsLooked old.view new.view × HasPassedOn old new × (phase ≡ new.view.phase)
+Polls old new Waiting = IsSoon 1 old new × IsLooked old.view new.view × (new.view.arrived ≡ new.view.size)
+Polls old new (Here phase) = IsSoon 1 old new × IsLooked old.view new.view × (new.view.arrived < new.view.size) × (phase ≡ new.view.phase)
+Polls old new (Ended shown) = IsSoon 1 old new × IsLooked old.view new.view × EndSeen new.view shown
+
+-- it tells that the tree has ended
+abbrev pub HasEnded : Polled → Type 0
+HasEnded (Ended shown) = Unit {0}
+HasEnded (Passed phase) = ⊥
+HasEnded Waiting = ⊥
+HasEnded (Here phase) = ⊥

@@ -1,0 +1,15 @@
+//! The tiers of a tree of phasers as atomic words, and the tokens of those who step on them.
+#![tactic(auto)]
+
+pub mod arriving;
+mod beside;
+pub mod closing;
+pub mod forcing;
+mod going;
+pub mod joining;
+mod next;
+pub mod polling;
+mod seated;
+mod stepping;
+pub mod tiers;
+pub mod tokens;

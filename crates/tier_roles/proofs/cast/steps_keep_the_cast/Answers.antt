@@ -1,5 +1,0 @@
-use Rattle.tier_roles.proofs.Steps.{steps_keep_the_cast}
-use Rattle.tier_roles.proofs.cast.steps_keep_the_cast.Goals as goal
-
-pub returns : goal.returns
-returns c = steps_keep_the_cast

@@ -1,4 +1,0 @@
-//! Laws on what each token of a tree does in a superstep of a job.
-#![tactic(auto)]
-
-pub mod cast;

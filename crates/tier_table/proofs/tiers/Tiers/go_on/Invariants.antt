@@ -1,7 +1,0 @@
-use Rattle.std.proofs.Common.{◌≡◌, true}
-use Rattle.tier_table.specs.Next.{is_passing}
-use Rattle.tier_table.specs.Goes.{WentOn}
-use Rattle.tier_table.proofs.tiers.Tiers.go_on.Given as goal
-
-abbrev pub invariant-loop : goal.invariant-loop
-invariant-loop g l = WentOn l.self l.counter l.fn.at l.at × (is_passing l.at.progress ≡ true)

@@ -1,0 +1,33 @@
+use Rattle.std.proofs.Common.{◌∙◌, rules}
+use Rattle.table_tiers.specs.Openings.{asked_tier, asked_size}
+use Rattle.tier_core.specs.declared.call.Played.TheVariants as played
+use Rattle.tier_table.proofs.Lasting.{joined_for, refused_for}
+use Rattle.tier_table.proofs.tree.Tree.open_wait.Goals as goal
+
+pub returns-in-Joined : goal.returns-in-Joined
+returns-in-Joined g c =
+    let told = c.in-Joined.ensures.answer in
+    let kept = c.loop.invariant in
+    let now = c.loop.opening.token.view.errand in
+    let first = c.args.opening.token.view.errand in (
+      told.0.tree ∙ kept.2,
+      joined_for (asked_tier now) (asked_tier first) (asked_size now) (asked_size first) c.in-Joined.crew.view kept.3 kept.4 told.1,
+      told.2,
+    )
+
+pub returns-in-Full : goal.returns-in-Full
+returns-in-Full g c =
+    let told = c.in-Full.ensures.answer in
+    let kept = c.loop.invariant in
+    let now = c.loop.opening.token.view.errand in
+    let first = c.args.opening.token.view.errand in (
+      told.0.tree ∙ kept.2,
+      refused_for c.args.self.now.tree c.loop.opening.token (asked_tier now) (asked_tier first) (asked_size now) (asked_size first) c.in-Full.door.view
+          (played.Full c.in-Full.count) kept.2 kept.3 kept.4 told.1,
+    )
+
+pub returns-in-Ended : goal.returns-in-Ended
+returns-in-Ended g c = let told = c.in-Ended.ensures.answer in (told.0.tree ∙ c.loop.invariant.2, (told.1.0, told.1.1, search rules))
+
+pub returns-in-Held : goal.returns-in-Held
+returns-in-Held g c = c.in-Held.ensures.answer.0.tree ∙ c.loop.invariant.2
