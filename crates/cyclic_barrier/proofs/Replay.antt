@@ -1,6 +1,6 @@
-use Rattle.std.proofs.Common.{◌<◌, arith, nat_lt, ◌||◌, ◌≡◌, ℕ, Bool, true, false, if◌then◌else◌, Option, List, [], ◌∷◌, ◌++◌, refl, ap, sym, ◌∙◌, subst}
+use Rattle.std.proofs.Common.{length, ◌<◌, arith, nat_lt, ◌||◌, ◌≡◌, ℕ, Bool, true, false, if◌then◌else◌, Option, List, [], ◌∷◌, ◌++◌, refl, ap, sym, ◌∙◌, subst}
 use Rattle.cyclic_barrier.specs.Machine.{Machine, machine, fresh}
-use Rattle.cyclic_barrier.specs.Steps.{is_in, is_full_by_one, answer, after, broken_off, renewed, joined}
+use Rattle.cyclic_barrier.specs.Steps.{Fails, Trips, Waiting, is_change, index_of, indexed, is_in, is_full_by_one, answer, after, broken_off, renewed, joined}
 use Rattle.advance_rule.specs.Action.{fails_at}
 use Rattle.cyclic_barrier.specs.Runs.{after_all, AfterSome}
 use Rattle.cyclic_barrier.specs.History.{outcome_of, note, calls_of, AreRight}
@@ -53,6 +53,19 @@ replay_noted fails call m m' ns ns' e was state items ends =
     let more : IsReplay fails (after fails call m) (ns ++ note call (answer fails call m) ∷ []) = replay_more fails call m ns was in
     let list : ns' ≡ ns ++ note call (answer fails call m) ∷ [] = items ∙ ap (λ (x : Outcome). ns ++ record { call = call; outcome = x } ∷ []) ends in
     rw (state, list) more
+
+-- the same, where a call left all as it was
+pub replay_same : (fails : Option ℕ) (m m' : Machine) (ns ns' : List Note) → IsReplay fails m ns → m' ≡ m → ns' ≡ ns → IsReplay fails m' ns'
+replay_same fails m m' ns ns' was state items = rw (state, items) was
+
+-- an arrival of a caller that doesn't wait changes a barrier that isn't broken
+pub arrival_changes : (fails : Option ℕ) (c : ℕ) (m : Machine) → m.broken ≡ false → is_in c m.waiting ≡ false → is_change (answer fails (Await c) m) ≡ true
+arrival_changes fails c m whole stranger = rw (whole, stranger) (by (is_full_by_one m) (fails_at fails m.generation))
+  where
+    by : (full failed : Bool) → is_change (if full then (if failed then Fails m.waiting else Trips (indexed m.parties 0 (m.waiting ++ c ∷ []))) else Waiting (index_of m.parties (length m.waiting))) ≡ true
+    by true true = refl
+    by true false = refl
+    by false failed = refl
 
 pub has_place : (m : Machine) (len room : ℕ) → len < room → HasPlace m len room
 has_place m len room less =

@@ -6,7 +6,7 @@ use thiserror::Error;
 pub const MOST_PARTIES: u32 = 65535;
 
 /// A call of a barrier. Callers are numbers (own; Java SE 21's `CyclicBarrier` knows them by their threads).
-#[derive(Clone, Copy, PartialEq, Eq)]
+#[derive(Clone, Copy)]
 pub enum Call {
     /// This caller arrives.
     Await(u32),

@@ -27,7 +27,7 @@ pub enum Outcome {
 }
 
 /// A call that changed the barrier.
-#[derive(Clone, Copy, PartialEq, Eq)]
+#[derive(Clone, Copy)]
 pub struct Note {
     /// The call.
     pub call: Call,

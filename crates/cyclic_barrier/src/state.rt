@@ -2,7 +2,7 @@
 ghost use Rattle.std.specs.Prelude.{◌≡◌, ◌⊎◌, ◌↔◌, true, ◌<◌, ◌≤◌, ◌+◌, ◌++◌, ◌∷◌, [], length, ◌<ℤ◌, pos, IfOk, IfErr, OnOk, OnErr, MatchResult, false};
 ghost use Rattle.advance_rule.specs.Action.{AnswersAction};
 ghost use Rattle.cyclic_barrier.specs.Machine.{Machine, machine, fresh};
-ghost use Rattle.cyclic_barrier.specs.Steps.{answer, after, indexed, is_in, joined, Absent, Breaks, next_generation};
+ghost use Rattle.cyclic_barrier.specs.Steps.{answer, after, indexed, is_in, joined, renewed, Absent, Breaks, next_generation};
 ghost use Rattle.cyclic_barrier.specs.Seen.{answer_of, RefusesAwait, Ran};
 ghost use Rattle.cyclic_barrier.specs.declared.call.Call.TheVariants.{Await, Abandon, BreakOff, Reset};
 
@@ -143,6 +143,45 @@ impl BarrierState {
         Ok(())
     }
 
+    // The next generation begins, and nobody waits.
+    fn renew(&mut self)
+        requires whole { self.old.broken ≡ false }
+        ensures { self.new ≡ renewed self.old }
+    {
+        self.waiting.clear();
+        self.callers.clear();
+        self.generation = generation_after(self.generation);
+    }
+
+    // The last caller arrives, and runs the action.
+    fn trip<F: Fn(u64) -> bool>(
+        &mut self,
+        action: &StoredAction<F>,
+        caller: u32,
+    ) -> Result<Awaited, BarrierFault>
+        requires rule { AnswersAction (F.pre action.now.closure) (F.post action.now.closure) action.now.plan }
+        requires whole { self.old.broken ≡ false }
+        requires last { length self.old.waiting + 1 ≡ self.old.parties }
+        requires stranger { is_in caller self.old.waiting ≡ false }
+        ensures answer { MatchResult result
+            (λ a. answer action.now.plan (Await caller) self.old ≡ answer_of a)
+            (λ e. e ≡ BarrierFault.Memory) }
+        ensures state { MatchResult result
+            (λ a. self.new ≡ after action.now.plan (Await caller) self.old)
+            (λ e. self.new ≡ self.old) }
+        ensures ran { IfOk result (Ran (F.post action.now.closure self.old.generation)) }
+    {
+        let alloc = *self.waiting.allocator();
+        let Ok(list) = with_indices(alloc, self.parties, &self.waiting, caller) else {
+            return Err(BarrierFault::Memory);
+        };
+        if action.call(self.generation) {
+            return Ok(Awaited::ActionFailed(self.break_off()));
+        }
+        self.renew();
+        Ok(Awaited::Tripped(list))
+    }
+
     /// Arrives as this caller (Java SE 21, `CyclicBarrier.await`). The last to arrive runs the action.
     /// Refused with `AlreadyWaiting` exactly where the caller waits (own).
     pub fn await_step<F: Fn(u64) -> bool>(
@@ -172,17 +211,7 @@ impl BarrierState {
                 Err(_) => Err(BarrierFault::Memory),
             };
         }
-        let alloc = *self.waiting.allocator();
-        let Ok(list) = with_indices(alloc, self.parties, &self.waiting, caller) else {
-            return Err(BarrierFault::Memory);
-        };
-        if action.call(self.generation) {
-            return Ok(Awaited::ActionFailed(self.break_off()));
-        }
-        self.waiting.clear();
-        self.callers.clear();
-        self.generation = generation_after(self.generation);
-        Ok(Awaited::Tripped(list))
+        self.trip(action, caller)
     }
 
     /// Takes a waiting caller away, which breaks the barrier, and answers the others, who get Broken, in

@@ -3,7 +3,7 @@ use Rattle.cyclic_barrier.specs.History.{outcome_of}
 use Rattle.cyclic_barrier.specs.declared.ledger.Note.{Note}
 use Rattle.cyclic_barrier.specs.declared.ledger.Outcome.TheVariants.{Broken}
 use Rattle.cyclic_barrier.specs.declared.call.Call.TheVariants.{Abandon}
-use Rattle.cyclic_barrier.proofs.Replay.{replay_noted, has_place}
+use Rattle.cyclic_barrier.proofs.Replay.{replay_noted, replay_same, has_place}
 use Rattle.cyclic_barrier.proofs.ledger.Ledger.abandon.Goals as goal
 
 pub invariant_of-self-in-Ok-abandon : goal.invariant_of-self-in-Ok-abandon
@@ -12,5 +12,11 @@ invariant_of-self-in-Ok-abandon c = (
       c.in-Ok-abandon.ensures.state
       (c.push_reserved.ensures.items ∙ ap (λ (l : List Note). l ++ record { call = Abandon c.args.caller; outcome = Broken } ∷ []) c.reserve.ensures.items)
       (ap outcome_of (sym c.in-Ok-abandon.ensures.answer)),
+  has_place c.abandon.new.self _ _ (omega (arith, c.in-Ok.ensures.ok)),
+)
+
+pub invariant_of-self-in-Err-abandon : goal.invariant_of-self-in-Err-abandon
+invariant_of-self-in-Err-abandon c = (
+  replay_same c.self.inside.fails c.self.inside.state c.abandon.new.self c.self.inside.history.items c.reserve.new.self.items c.self.invariant.0 c.in-Err-abandon.ensures.state c.in-Ok.ensures.items,
   has_place c.abandon.new.self _ _ (omega (arith, c.in-Ok.ensures.ok)),
 )

@@ -1,10 +1,10 @@
-use Rattle.std.proofs.Common.{◌≡◌, ℕ, Option, List, [], ◌∷◌, ◌++◌, ap, sym, ◌∙◌, arith}
-use Rattle.cyclic_barrier.specs.Steps.{answer, after}
+use Rattle.std.proofs.Common.{◌≡◌, ℕ, true, false, Option, List, [], ◌∷◌, ◌++◌, ap, sym, ◌∙◌, arith}
+use Rattle.cyclic_barrier.specs.Steps.{answer, after, is_change}
 use Rattle.cyclic_barrier.specs.History.{outcome_of}
 use Rattle.cyclic_barrier.specs.Ledger.{Book}
 use Rattle.cyclic_barrier.specs.declared.ledger.Note.{Note}
 use Rattle.cyclic_barrier.specs.declared.call.Call.TheVariants.{Await}
-use Rattle.cyclic_barrier.proofs.Replay.{replay_noted, has_place}
+use Rattle.cyclic_barrier.proofs.Replay.{replay_noted, replay_same, arrival_changes, has_place}
 use Rattle.cyclic_barrier.proofs.ledger.Ledger.await_step.Goals as goal
 
 pub invariant_of-self-in-Some : goal.invariant_of-self-in-Some
@@ -18,3 +18,16 @@ invariant_of-self-in-Some g c =
           (c.in-Some.ensures.1 ∙ ap outcome_of (sym c.in-Ok-await_step.ensures.answer ∙ ap (λ (f : Option ℕ). answer f call m) (sym plan))),
       has_place c.await_step.new.self _ _ (omega (arith, c.in-Ok.ensures.ok)),
     )
+
+pub invariant_of-self-in_default : goal.invariant_of-self-in_default
+invariant_of-self-in_default g c =
+    let m = c.self.inside.state in
+    let change : is_change (answer c.args.action.now.plan (Await c.args.caller) m) ≡ true =
+          arrival_changes c.args.action.now.plan c.args.caller m (sym c.is_broken.ensures.answer ∙ c.if-is_broken.false) (sym c.is_waiting.ensures ∙ c.if-is_waiting.false) in
+    let bad : true ≡ false = sym change ∙ (ap is_change c.in-Ok-await_step.ensures.answer ∙ c.in_default.ensures) in cc
+
+pub invariant_of-self-in-Err-await_step : goal.invariant_of-self-in-Err-await_step
+invariant_of-self-in-Err-await_step g c = (
+  replay_same c.self.inside.fails c.self.inside.state c.await_step.new.self c.self.inside.history.items c.reserve.new.self.items c.self.invariant.0 c.in-Err-await_step.ensures.state c.in-Ok.ensures.items,
+  has_place c.await_step.new.self _ _ (omega (arith, c.in-Ok.ensures.ok)),
+)
