@@ -10,7 +10,7 @@ use Rattle.job_seats.specs.declared.stage.Move.TheVariants.{Takes, Closes, Ends}
 use Rattle.job_seats.specs.declared.stage.Stage.{Stage}
 use Rattle.job_seats.specs.declared.stage.Stage.TheVariants.{Waits, Taken, Polling, Joining, Arriving, Leaving, Over}
 use Rattle.job_seats.specs.SeatValue.{SeatValue, no_seat, seat_at, all_over}
-use Rattle.job_seats.specs.Moves.{passing, by_stage}
+use Rattle.job_seats.specs.Moves.{passing, by_stage, kind_for, asked}
 use Rattle.job_schedule.specs.World.{World, by_seat, by_hand, by_mode, move_of}
 use Rattle.job_schedule.specs.Parts.{IsAllowed}
 
@@ -70,3 +70,11 @@ move_allowed w worker = by (nat_lt worker 64)
     by : (b : Bool) → Allowed w (if b then by_mode w worker w.mode else None)
     by true = in_mode w.mode
     by false = tt
+
+pub asked_allowed : (w : World) (kind : ℕ) (o : Option Move) (m : Move) → Allowed w o → Some m ≡ asked kind o → IsAllowed w m
+asked_allowed w kind None m a e = cc
+asked_allowed w kind (Some n) m a e = by (kind == kind_for n) e
+  where
+    by : (b : Bool) → Some m ≡ (if b then Some n else None) → IsAllowed w m
+    by true e = let is : n ≡ m = cc in subst (IsAllowed w) is a
+    by false e = cc

@@ -21,6 +21,7 @@ use Rattle.job_seats.specs.declared.stage.Mode.TheVariants as mode
 use Rattle.job_seats.specs.declared.stage.Move.{Move}
 pub use Rattle.job_seats.specs.declared.stage.Move.TheVariants.{Takes, Delivers, Calls, Advances, Closes, Ends}
 use Rattle.job_seats.specs.Moves.{leaf_at, preferred, by_stage, at_stage}
+pub use Rattle.job_seats.specs.Moves.{kind_for}
 use Rattle.job_schedule.specs.declared.step.JobStep.{JobStep}
 use Rattle.job_schedule.specs.declared.step.JobStep.TheVariants.{Take, Deliver, Tree as TreeStep, Advance, Close}
 use Rattle.job_seats.specs.declared.stage.Stage.{Stage}
@@ -113,21 +114,13 @@ worker_of (TreeStep worker) = worker
 worker_of (Advance worker) = worker
 worker_of (Close worker) = worker
 
--- by which step each move is taken
+-- which of the five each step is
 abbrev pub kind_of : JobStep → ℕ
 kind_of (Take worker) = 0
 kind_of (Deliver worker) = 1
 kind_of (TreeStep worker) = 2
 kind_of (Advance worker) = 3
 kind_of (Close worker) = 4
-
-abbrev pub kind_for : Move → ℕ
-kind_for (Takes place) = 0
-kind_for (Delivers place) = 1
-kind_for (Calls place token c) = 2
-kind_for (Ends token) = 2
-kind_for (Advances place) = 3
-kind_for (Closes token) = 4
 
 abbrev pub with_seat : World → ℕ → SeatValue → World
 with_seat w place g = record w { seats = slice_set w.seats place g }

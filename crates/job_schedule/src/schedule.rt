@@ -3,7 +3,7 @@ ghost use Rattle.std.specs.Prelude.{◌≡◌, ◌≤◌, IfOk};
 ghost use Rattle.phase_records.specs.StatusSeen.{status_seen};
 ghost use Rattle.tier_shape.specs.Leaves.{leaves_of};
 ghost use Rattle.tier_core.specs.Machine.{opened, with_token};
-ghost use Rattle.job_schedule.specs.World.{plan_for, kind_for, taking, mode_after, gone};
+ghost use Rattle.job_schedule.specs.World.{plan_for, taking, mode_after, gone};
 
 use crate::rounds::{close_round, hand_in};
 use crate::step::{Answer, JobStep};
@@ -12,7 +12,7 @@ use job_seats::hands::{empty_hands, hand_of, set_hand};
 use job_seats::leaves::{leaf_at, preferred};
 use job_seats::next::{free_tokens, next_seats};
 use job_seats::seat::{Kid, Seat, all_over, copy_path, is_over};
-use job_seats::stage::{Mode, Move, Stage};
+use job_seats::stage::{Mode, Move, Stage, asked};
 use phase_records::JobStatus;
 use std::alloc::{AllocError, Global};
 use step_core::Round;
@@ -33,19 +33,6 @@ pub(crate) struct Schedule<'j> {
     hands: Vec<Option<usize>>,
     free: Vec<usize>,
     mode: Mode,
-}
-
-// By which step a move is taken.
-fn kind_for(next: Move) -> u8
-    ensures { result ≡ kind_for next }
-{
-    match next {
-        Move::Takes(_) => 0,
-        Move::Delivers(_) => 1,
-        Move::Calls(_, _, _) | Move::Ends(_) => 2,
-        Move::Advances(_) => 3,
-        Move::Closes(_) => 4,
-    }
 }
 
 // What a worker without a task may do.
@@ -409,12 +396,9 @@ impl<'j> Schedule<'j> {
         ensures after { OnOk result (world_of self.new ≡ world_after (world_of self.old) step) }
     {
         let worker = step.worker();
-        let Some(next) = self.next_move(worker) else {
+        let Some(next) = asked(step.kind(), self.next_move(worker)) else {
             return Ok(Answer::NotNow);
         };
-        if step.kind() != kind_for(next) {
-            return Ok(Answer::NotNow);
-        }
         self.make(alloc, worker, next)
     }
 }

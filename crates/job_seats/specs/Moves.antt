@@ -2,7 +2,7 @@
 use Rattle.std.specs.Prelude.{ℕ, suc, ◌+◌, ◌-◌, ◌%◌, Bool, true, false, ◌==◌, if◌then◌else◌, Option, Some, None, List, [], ◌∷◌, length, slice_index_or}
 use Rattle.tier_core.specs.declared.call.Call.TheVariants as call
 use Rattle.job_seats.specs.declared.stage.Move.{Move}
-use Rattle.job_seats.specs.declared.stage.Move.TheVariants.{Delivers, Calls, Advances}
+use Rattle.job_seats.specs.declared.stage.Move.TheVariants.{Takes, Delivers, Calls, Advances, Closes, Ends}
 use Rattle.job_seats.specs.SeatValue.{Stage, Waits, Taken, Polling, Joining, Arriving, Leaving, Over, SeatValue, kid_at}
 
 -- Leaves are numbered from 0. The preferred leaf of a spawned task has the number of its spawner's leaf, and 1, and the last number of
@@ -36,3 +36,17 @@ by_stage g place due Over = None
 
 abbrev pub at_stage : SeatValue → Stage → SeatValue
 at_stage g stage = record g { stage = stage }
+
+-- by which of a worker's five steps each move is taken
+abbrev pub kind_for : Move → ℕ
+kind_for (Takes place) = 0
+kind_for (Delivers place) = 1
+kind_for (Calls place token c) = 2
+kind_for (Ends token) = 2
+kind_for (Advances place) = 3
+kind_for (Closes token) = 4
+
+-- What a step of this kind does: its worker's next move, where it is taken by such a step, and else nothing.
+abbrev pub asked : ℕ → Option Move → Option Move
+asked kind None = None
+asked kind (Some move) = if kind == kind_for move then Some move else None

@@ -1,4 +1,6 @@
 //! How far a task has come in its superstep, and what a worker may do next.
+ghost use Rattle.std.specs.Prelude.{◌≡◌};
+ghost use Rattle.job_seats.specs.Moves as spec;
 
 use tier_core::call::Call;
 
@@ -59,4 +61,30 @@ pub enum Move {
     Closes(usize),
     /// To end the tree by force, by this token.
     Ends(usize),
+}
+
+impl Move {
+    /// By which of a worker's five steps it is taken, from 0.
+    pub fn kind(self) -> u8
+        ensures { result ≡ spec.kind_for self }
+    {
+        match self {
+            Move::Takes(_) => 0,
+            Move::Delivers(_) => 1,
+            Move::Calls(_, _, _) | Move::Ends(_) => 2,
+            Move::Advances(_) => 3,
+            Move::Closes(_) => 4,
+        }
+    }
+}
+
+/// What a step of this kind does: its worker's next move, where it is taken by such a step, and else nothing.
+pub fn asked(kind: u8, next: Option<Move>) -> Option<Move>
+    ensures { result ≡ spec.asked kind next }
+{
+    let step = next?;
+    if kind != step.kind() {
+        return None;
+    }
+    Some(step)
 }
