@@ -95,6 +95,17 @@ impl Arrays {
         }
     }
 
+    // Adds an array of this name with these cells, as `add` does.
+    fn add_copy(&mut self, alloc: Global, name: &str, cells: &[i64]) -> Result<bool, AllocError>
+        ensures added { IfOk result (λ added. IsTrue added ↔ IsNew self.old name.now cells.now) }
+        ensures after { IfOk result (λ added. self.new
+            ≡ (if added then self.old ++ (name.now, cells.now) ∷ [] else self.old)) }
+    {
+        let name = String::from_str(alloc, name)?;
+        let cells = Vec::from_slice(alloc, cells)?;
+        self.add(name, cells)
+    }
+
     /// How many arrays there are.
     pub fn len(&self) -> usize
         ensures count { result ≡ length self.now }
@@ -116,7 +127,7 @@ impl Arrays {
     pub fn cell(&self, array: u16, index: i64) -> Option<i64>
         ensures { result ≡ cell_at self.now array index }
     {
-        let (_, cells) = self.by_name.get_index(usize::from(array))?;
+        let (_, cells) = self.get(usize::from(array))?;
         let index = usize::try_from(index).ok()?;
         cells.get(index).copied()
     }
@@ -125,7 +136,7 @@ impl Arrays {
     pub fn place(&self, array: u16, index: i64) -> Option<u32>
         ensures { result ≡ place_at self.now array index }
     {
-        let (_, cells) = self.by_name.get_index(usize::from(array))?;
+        let (_, cells) = self.get(usize::from(array))?;
         let place = u32::try_from(index).ok()?;
         if (place as usize) < cells.len() {
             Some(place)
@@ -167,9 +178,7 @@ impl Arrays {
         let mut copy = Arrays::new(alloc);
         for place in 0..self.len() {
             if let Some((name, cells)) = self.get(place) {
-                let name = String::from_str(alloc, name)?;
-                let cells = Vec::from_slice(alloc, cells)?;
-                copy.add(name, cells)?;
+                copy.add_copy(alloc, name, cells)?;
             }
         }
         Ok(copy)
