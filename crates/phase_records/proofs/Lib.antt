@@ -1,3 +1,4 @@
 pub mod PassedBytes
+pub mod ReadBytes
 pub mod ReportProofs
 pub mod ReportLawProofs

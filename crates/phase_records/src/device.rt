@@ -179,9 +179,12 @@ pub fn read_all<R: CountedRead>(alloc: Global, reader: &mut R) -> Result<Vec<u8>
         if MOST_BYTES - text.len() < n {
             return Err(ReadFault::TooLong);
         }
-        if text.extend_from_slice(&buffer[..n]).is_err() {
-            let room = MOST_BYTES - text.len() - n;
-            return Err(without_memory(reader, room));
+        match text.extend_from_slice(&buffer[..n]) {
+            Ok(()) => {}
+            Err(_) => {
+                let room = MOST_BYTES - text.len() - n;
+                return Err(without_memory(reader, room));
+            }
         }
     }
     Err(ReadFault::TooLong)
