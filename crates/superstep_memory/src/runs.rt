@@ -50,14 +50,12 @@ fn merge_all(alloc: Global, runs: &[Run]) -> Result<Vec<&Entry>, AllocError>
         return Ok(Vec::new(alloc));
     };
     if others.is_empty() {
-        let all = lend(alloc, run)?;
-        return Ok(all);
+        return lend(alloc, run);
     }
     let (front, back) = runs.split_at(runs.len() / 2);
     let left = merge_all(alloc, front)?;
     let right = merge_all(alloc, back)?;
-    let all = merge(alloc, &left, &right)?;
-    Ok(all)
+    merge(alloc, &left, &right)
 }
 
 // Whether each run rises.
