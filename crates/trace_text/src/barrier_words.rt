@@ -6,7 +6,7 @@ ghost use Rattle.trace_text.specs.BarrierWords as spec;
 ghost use Rattle.trace_text.specs.Parts.{barrier_words_in};
 
 use crate::tree_words::one_number;
-use crate::words::take_behind;
+use crate::words::{is_word, take_behind};
 use cyclic_barrier::Call;
 use text_lines::{Code, first_word, number, split_word};
 
@@ -43,15 +43,15 @@ enum Form {
 fn form_of(word: &[u8]) -> Option<Form>
     ensures { result ≡ spec.barrier_form_of word.now }
 {
-    if word == b"await".as_slice() {
+    if is_word(word, b"await") {
         Some(Form::Await)
-    } else if word == b"abandon".as_slice() {
+    } else if is_word(word, b"abandon") {
         Some(Form::Abandon)
-    } else if word == b"break".as_slice() {
+    } else if is_word(word, b"break") {
         Some(Form::Alone(BarrierCommand::Call(Call::BreakOff)))
-    } else if word == b"reset".as_slice() {
+    } else if is_word(word, b"reset") {
         Some(Form::Alone(BarrierCommand::Call(Call::Reset)))
-    } else if word == b"show".as_slice() {
+    } else if is_word(word, b"show") {
         Some(Form::Alone(BarrierCommand::Show))
     } else {
         None

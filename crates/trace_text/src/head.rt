@@ -6,7 +6,7 @@ ghost use Rattle.trace_text.specs.Views.{head_in, first_phase};
 
 use crate::barrier_words::{BarrierHead, read_barrier_head};
 use crate::tree_words::{TreeHead, read_tree_head};
-use crate::words::{PhaserHead, read_phaser_head};
+use crate::words::{PhaserHead, is_word, read_phaser_head};
 use text_lines::{Code, first_word};
 
 /// The head of a trace: what it is a trace of.
@@ -31,19 +31,19 @@ pub(crate) fn read_head(line: &[u8]) -> Result<Option<Head<'_>>, Code>
     let Some((word, rest)) = first_word(line) else {
         return Ok(None);
     };
-    if word == b"phaser".as_slice() {
+    if is_word(word, b"phaser") {
         return match read_phaser_head(rest) {
             Ok(head) => Ok(Some(Head::Phaser(head))),
             Err(code) => Err(code),
         };
     }
-    if word == b"tree".as_slice() {
+    if is_word(word, b"tree") {
         return match read_tree_head(rest) {
             Ok(head) => Ok(Some(Head::Tree(head))),
             Err(code) => Err(code),
         };
     }
-    if word == b"barrier".as_slice() {
+    if is_word(word, b"barrier") {
         return match read_barrier_head(rest) {
             Ok(head) => Ok(Some(Head::Barrier(head))),
             Err(code) => Err(code),

@@ -5,7 +5,7 @@ ghost use Rattle.trace_text.specs.TreeWords as spec;
 ghost use Rattle.trace_text.specs.Words.{up_to};
 ghost use Rattle.trace_text.specs.Parts.{call_words_in, tree_words_in, tree_asked};
 
-use crate::words::{number_if, number_or, only_word, take_behind, take_number, up_to};
+use crate::words::{is_word, number_if, number_or, only_word, take_behind, take_number, up_to};
 use advance_rule::EndPlan;
 use phaser_word::{LAST_PHASE, MOST_PARTIES};
 use text_lines::{Code, first_word, split_word};
@@ -76,19 +76,19 @@ enum Form {
 fn form_of(word: &[u8]) -> Option<Form>
     ensures { result ≡ spec.tree_form_of word.now }
 {
-    if word == b"token".as_slice() {
+    if is_word(word, b"token") {
         Some(Form::Token)
-    } else if word == b"begin".as_slice() {
+    } else if is_word(word, b"begin") {
         Some(Form::Begin)
-    } else if word == b"go".as_slice() {
+    } else if is_word(word, b"go") {
         Some(Form::Go)
-    } else if word == b"finish".as_slice() {
+    } else if is_word(word, b"finish") {
         Some(Form::Finish)
-    } else if word == b"run".as_slice() {
+    } else if is_word(word, b"run") {
         Some(Form::Run)
-    } else if word == b"do".as_slice() {
+    } else if is_word(word, b"do") {
         Some(Form::Do)
-    } else if word == b"show".as_slice() {
+    } else if is_word(word, b"show") {
         Some(Form::Show)
     } else {
         None
@@ -109,13 +109,13 @@ fn call_alone(word: &[u8]) -> Option<TokenCall>
     ensures value { result ≡ spec.call_alone word.now }
     ensures range { IfSome result (λ c. spec.HasMembers c) }
 {
-    if word == b"arrive".as_slice() {
+    if is_word(word, b"arrive") {
         Some(TokenCall::Arrive)
-    } else if word == b"leave".as_slice() {
+    } else if is_word(word, b"leave") {
         Some(TokenCall::Leave)
-    } else if word == b"poll".as_slice() {
+    } else if is_word(word, b"poll") {
         Some(TokenCall::Poll)
-    } else if word == b"force".as_slice() {
+    } else if is_word(word, b"force") {
         Some(TokenCall::Force)
     } else {
         None
@@ -142,7 +142,7 @@ fn call_words(line: &[u8]) -> Option<CallWords<'_>>
     ensures range { IfSome result (λ c. spec.WordsFit (call_words_in c)) }
 {
     let (word, rest) = split_word(line)?;
-    if word == b"join".as_slice() {
+    if is_word(word, b"join") {
         return join_words(rest);
     }
     let call = call_alone(word)?;

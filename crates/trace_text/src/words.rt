@@ -1,5 +1,6 @@
 //! Heads and commands of a trace, from the words of their lines.
 ghost use Rattle.std.specs.Prelude.{◌≡◌, ◌∷◌, [], None, Some, Ok, Err, Option, option_copied, MatchOption, MatchResult, IfOk, IfSome, ◌≤◌, true, false};
+ghost use Rattle.std.specs.Str.{bytes_eq};
 ghost use Rattle.text_lines.specs.Text.{words_of, is_skipped};
 ghost use Rattle.text_lines.specs.Number.{number_of};
 ghost use Rattle.trace_text.specs.Words as spec;
@@ -29,6 +30,13 @@ pub struct PhaserHead {
     pub phase: u32,
     /// When it ends.
     pub plan: CountPlan,
+}
+
+/// Whether two words are the same.
+pub(crate) fn is_word(word: &[u8], other: &[u8]) -> bool
+    ensures { result ≡ bytes_eq word.now other.now }
+{
+    word == other
 }
 
 // A whole number from 0 to a greatest.
@@ -99,19 +107,19 @@ enum Form {
 fn form_of(word: &[u8]) -> Option<Form>
     ensures { result ≡ spec.form_of word.now }
 {
-    if word == b"register".as_slice() {
+    if is_word(word, b"register") {
         Some(Form::Alone(PhaserCommand::Call(Call::Register)))
-    } else if word == b"bulk".as_slice() {
+    } else if is_word(word, b"bulk") {
         Some(Form::Bulk)
-    } else if word == b"arrive".as_slice() {
+    } else if is_word(word, b"arrive") {
         Some(Form::Alone(PhaserCommand::Call(Call::Arrive)))
-    } else if word == b"leave".as_slice() {
+    } else if is_word(word, b"leave") {
         Some(Form::Alone(PhaserCommand::Call(Call::Leave)))
-    } else if word == b"await".as_slice() {
+    } else if is_word(word, b"await") {
         Some(Form::Await)
-    } else if word == b"force".as_slice() {
+    } else if is_word(word, b"force") {
         Some(Form::Alone(PhaserCommand::Call(Call::Force)))
-    } else if word == b"show".as_slice() {
+    } else if is_word(word, b"show") {
         Some(Form::Alone(PhaserCommand::Show))
     } else {
         None
