@@ -1,6 +1,6 @@
 -- One superstep of a job on one thread.
 use Rattle.std.proofs.Common.{◌≡◌, ◌==◌, ℕ, suc, ◌+◌, ◌≤◌, ◌<◌, Bool, true, false, nat_lt, nat_le, List, [], ◌∷◌, ◌++◌, map, length, take, Option, Some, None, refl, sym, ap, ◌∙◌, subst, arith, append-nil}
-use Rattle.std.specs.Prelude.{if◌then◌else◌}
+use Rattle.std.specs.Prelude.{ℤ, if◌then◌else◌}
 use Rattle.std.proofs.lemmas.List.{length-map}
 use Rattle.superstep_memory.specs.declared.arrays.Put.{Put}
 use Rattle.superstep_memory.specs.Landing.{landed, joined, written}
@@ -12,13 +12,15 @@ use Rattle.phase_records.specs.Status.{Status, Fault, Ended, Limit}
 use Rattle.task_lang.specs.TaskValue.{TaskValue}
 use Rattle.task_lang.specs.Meaning.{Plan, Task, Segment}
 use Rattle.task_lang.specs.declared.job.Start.{Start}
-use Rattle.task_lang.specs.Views.{task_of}
+use Rattle.task_lang.specs.Views.{plans, task_of}
+use Rattle.task_lang.specs.JobValue.{JobValue}
+use Rattle.task_lang.specs.BodyValue.{BodyValue}
 use Rattle.step_core.specs.DeedValue.{DeedValue}
-use Rattle.step_parts.specs.Program.{Program}
+use Rattle.step_parts.specs.Program.{Program, program_of}
 use Rattle.superstep_memory.specs.PathOrder.{in_path_order}
 use Rattle.step_parts.specs.SlotParts.{path_in}
 use Rattle.step_parts.specs.Superstep.{State, superstep, closed, ended_by, gone_on, first_fault, next_live, log_of, prints_of, record_of, live_paths}
-use Rattle.step_parts.specs.JobMeaning.{so_far, status, status_of, start_tasks, told, report_of}
+use Rattle.step_parts.specs.JobMeaning.{opening, so_far, status, status_of, start_tasks, told, report_of}
 use Rattle.step_core.specs.InPlace.{AllDone, deeds_of, IsAllDone, Told, living_with, left_in, spawned_in, AllFew, told_in}
 use Rattle.step_core.specs.Course.{course_state, HasFaulted, HasGone, left_by}
 use Rattle.step_core.specs.declared.alone.Course.{Course}
@@ -117,6 +119,12 @@ pub did : (p : Program) (old : Course) (o : Option (ℕ × List ℕ)) (puts : Li
     → IsAllDone p.plans (deeds_in p old) old.step puts us ds old.prints.items after
 did p old o puts us ds after h e = subst (λ x. Told p.plans (deeds_in p old) old.step x puts us ds old.prints.items after) e h
 
+-- where one was told it is the first, and what was printed before stays in front
+pub faulted : (p : Program) (old : Course) (o : Option (ℕ × List ℕ)) (f : ℕ × List ℕ) (puts : List Put) (us : List TaskValue) (ds : List DeedValue) (after : List PrintValue)
+    → Told p.plans (deeds_in p old) old.step o puts us ds old.prints.items after → o ≡ Some f
+    → (first_fault (deeds_in p old) ≡ Some f) × ((more : List PrintValue) × (after ≡ old.prints.items ++ more))
+faulted p old o f puts us ds after h e = subst (λ x. Told p.plans (deeds_in p old) old.step x puts us ds old.prints.items after) e h
+
 -- and the numbers fit
 pub record Fits (old : Course) (us : List TaskValue) (ds : List DeedValue) : Type 0 where
   pub few : length ds ≤ 4096
@@ -140,7 +148,26 @@ fits p old us ds h le r =
       rising = ap is_rising e ∙ r;
     }
 
+-- who lives on and who left are those that the record counts
+pub tallied : (old : Course) (us : List TaskValue) (ds : List DeedValue) (told : PhaseRecord) → Fits old us ds → told ≡ told_in old.step ds
+    → length (living_with us ds) + told.left ≡ told.parties
+tallied old us ds told f e =
+    ap (λ (n : ℕ). length (living_with us ds) + n) (ap (λ (r : PhaseRecord). r.left) e) ∙ f.living ∙ sym (ap (λ (r : PhaseRecord). r.parties) e)
+
 -- ---- supersteps one after another
+
+abbrev first_state : List Plan → List (List ℕ × List ℤ) → List TaskValue → List PrintValue → List PhaseRecord → State
+first_state ps arrays ts prints records = record { step = 0; arrays = arrays; live = map (task_of ps) ts; prints = prints; records = records; fault = None }
+
+-- a job as it begins
+pub begun : (job : JobValue) (arrays : List (List ℕ × List ℤ)) (bodies : List BodyValue) (starts : List Start) (ts : List TaskValue) (prints : List PrintValue) (records : List PhaseRecord)
+    → arrays ≡ job.arrays → bodies ≡ job.bodies → starts ≡ job.starts → map (task_of (plans bodies)) ts ≡ start_tasks (plans bodies) 0 starts
+    → prints ≡ [] → records ≡ []
+    → first_state (plans job.bodies) arrays ts prints records ≡ opening (program_of job)
+begun job arrays bodies starts ts prints records ea eb es h ep er =
+    let live : map (task_of (plans job.bodies)) ts ≡ start_tasks (plans job.bodies) 0 job.starts =
+    ap (λ (b : List BodyValue). map (task_of (plans b)) ts) (sym eb) ∙ h ∙ (λ i. start_tasks (plans (eb i)) 0 (es i)) in
+    λ i. record { step = 0; arrays = ea i; live = live i; prints = ep i; records = er i; fault = None }
 
 -- the job ends in the state in which this is told
 ended_at : (p : Program) (limit n : ℕ) (st : State) (s : Status) → st ≡ so_far p limit n → status limit st ≡ Some s → report_of p limit ≡ told st (Some s)

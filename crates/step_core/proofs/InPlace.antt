@@ -10,6 +10,8 @@ use Rattle.phase_records.specs.PrintValue.{PrintValue}
 use Rattle.task_lang.specs.TaskValue.{TaskValue}
 use Rattle.task_lang.specs.Meaning.{Plan, Task, After, Segment, Synced, Stopped, Faulted, segment_of}
 use Rattle.task_lang.specs.Views.{task_of}
+use Rattle.task_lang.specs.Lent.{HasAdded}
+use Rattle.task_lang.specs.declared.scene.Work.{Work}
 use Rattle.step_core.specs.DeedValue.{DeedValue}
 use Rattle.step_parts.specs.Program.{Program}
 use Rattle.step_parts.specs.Superstep.{first_fault, or_later, log_of, print_of, prints_of, living_on, synced, stopped, left, spawned}
@@ -79,6 +81,18 @@ next_is us [] tasks place t e c lt g =
 next_is us (x ∷ rest) tasks place t e c lt g =
     let is : t ≡ x = g ∙ (λ i. get_or (e i) (sym c i) t) ∙ get_at us rest x t in
     record { behind = rest; is = λ i. sym is i ∷ rest }
+
+-- what a task did that didn't fault is kept
+pub kept_one : (ps : List Plan) (goes_on : Bool) (g : Segment) (step : ℕ) (t u : TaskValue) (old new : Work) (qs : List Put) (ds es : List DeedValue) (before after : List PrintValue)
+    → HasAdded ps old new g → g.after ≡ end_of ps goes_on u → u.path ≡ t.path
+    → qs ≡ new.puts.items → es ≡ ds ++ record { synced = goes_on; spawns = new.spawns.items } ∷ [] → after ≡ before ++ map (print_of step u.path) new.prints.items
+    → ToldOne ps g step None t u old.puts.items qs ds es before after
+kept_one ps goes_on g step t u old new qs ds es before after added ended path puts deeds prints = (
+  puts ∙ added.puts,
+  prints ∙ (λ i. before ++ map (print_of step (path i)) (added.prints i)),
+  path,
+  (record { synced = goes_on; spawns = new.spawns.items }, deeds, (added.spawns, ended)),
+)
 
 -- one task more is done
 pub one_more : (p : Program) (arrays : List (List ℕ × List ℤ)) (step : ℕ) (olds : List TaskValue) (place : ℕ) (puts qs : List Put) (tasks : List TaskValue) (ds es : List DeedValue) (before after shown : List PrintValue) (t u : TaskValue)

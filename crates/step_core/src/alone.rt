@@ -175,6 +175,36 @@ fn take_superstep(
     }
 }
 
+// Takes supersteps until the job ends, and tells how it did. The room is lent.
+fn run_within(
+    alloc: Global,
+    job: &Job,
+    limit: u32,
+    course: &mut Course,
+    room: &mut Room,
+) -> Result<JobStatus, AllocError>
+    requires start { course_state (program_of job.now) course.old ≡ opening (program_of job.now) }
+    requires few { length course.old.tasks.items ≤ 4096 }
+    ensures report { IfOk result (λ s. report_of (program_of job.now) limit ≡ Some (left_by course.new (status_seen s))) }
+    ensures short { IfOk result (λ s. IsShort (status_seen s)) }
+{
+    while course.step < limit {
+        if course.tasks.is_empty() {
+            return Ok(JobStatus::Ended(course.step));
+        }
+        let fault = take_superstep(alloc, job, course, room)?;
+        match fault {
+            Some(blame) => return Ok(blame.status(course.step)),
+            None => {}
+        }
+    }
+    if course.tasks.is_empty() {
+        Ok(JobStatus::Ended(course.step))
+    } else {
+        Ok(JobStatus::Limit(course.step))
+    }
+}
+
 // Takes supersteps until the job ends, and tells how it did.
 fn run_on(
     alloc: Global,
@@ -188,20 +218,42 @@ fn run_on(
     ensures short { IfOk result (λ s. IsShort (status_seen s)) }
 {
     let mut room = no_room(alloc);
-    while course.step < limit {
-        if course.tasks.is_empty() {
-            return Ok(JobStatus::Ended(course.step));
-        }
-        let fault = take_superstep(alloc, job, course, &mut room)?;
-        match fault {
-            Some(blame) => return Ok(blame.status(course.step)),
-            None => {}
-        }
-    }
-    if course.tasks.is_empty() {
-        Ok(JobStatus::Ended(course.step))
-    } else {
-        Ok(JobStatus::Limit(course.step))
+    run_within(alloc, job, limit, course, &mut room)
+}
+
+// A job before its first superstep.
+fn begin(alloc: Global, job: &Job) -> Result<Course, AllocError>
+    ensures start { IfOk result (λ c. course_state (program_of job.now) c ≡ opening (program_of job.now)) }
+    ensures few { IfOk result (λ c. length c.tasks.items ≤ 4096) }
+{
+    let arrays = job.arrays().copy(alloc)?;
+    let tasks = start_all(alloc, job.bodies(), job.starts())?;
+    Ok(Course {
+        step: 0,
+        arrays,
+        tasks,
+        prints: Vec::new(alloc),
+        records: Vec::new(alloc),
+    })
+}
+
+// What a job leaves that ended so.
+fn leave(course: Course, status: JobStatus) -> Report
+    requires { IsShort (status_seen status) }
+    ensures { result ≡ left_by course (status_seen status) }
+{
+    let Course {
+        step: _,
+        arrays,
+        tasks: _,
+        prints,
+        records,
+    } = course;
+    Report {
+        prints,
+        records,
+        arrays,
+        status,
     }
 }
 
@@ -210,25 +262,7 @@ pub fn run_alone(alloc: Global, job: &Job, limit: u32) -> Result<Report, AllocEr
     requires { 1 ≤ limit }
     ensures { IfOk result (λ report. report_of (program_of job.now) limit ≡ Some report) }
 {
-    let mut course = Course {
-        step: 0,
-        arrays: job.arrays().copy(alloc)?,
-        tasks: start_all(alloc, job.bodies(), job.starts())?,
-        prints: Vec::new(alloc),
-        records: Vec::new(alloc),
-    };
+    let mut course = begin(alloc, job)?;
     let status = run_on(alloc, job, limit, &mut course)?;
-    let Course {
-        step: _,
-        arrays,
-        tasks: _,
-        prints,
-        records,
-    } = course;
-    Ok(Report {
-        prints,
-        records,
-        arrays,
-        status,
-    })
+    Ok(leave(course, status))
 }

@@ -1,8 +1,9 @@
 //! What live tasks do in a superstep, each in its place.
-ghost use Rattle.std.specs.Prelude.{◌≡◌, ◌≤◌, ◌++◌, ◌∷◌, [], IfOk, OnOk, length};
+ghost use Rattle.std.specs.Prelude.{◌≡◌, ◌≤◌, ◌++◌, ◌∷◌, [], IfOk, OnOk, length, map};
 ghost use Rattle.task_lang.specs.Meaning.{segment_of};
 ghost use Rattle.task_lang.specs.Views.{plans, task_of};
 ghost use Rattle.step_parts.specs.Program.{program_of};
+ghost use Rattle.step_parts.specs.Superstep.{print_of};
 ghost use Rattle.step_core.specs.InPlace.{IsDone, ToldOne, Told, deeds_of, told_in, AllFew};
 
 use phase_records::{PhaseRecord, Print};
@@ -62,17 +63,22 @@ fn do_task(
     Ok(ending)
 }
 
-// Keeps what a task did.
+// Keeps what a task did: its prints behind those of others, and its deed.
 fn keep(
     alloc: Global,
+    step: u32,
+    task: &Task,
     synced: bool,
     work: &mut Work,
     deeds: &mut Vec<Deed>,
+    prints: &mut Vec<Print>,
 ) -> Result<(), AllocError>
+    ensures prints { OnOk result (prints.new.items ≡ prints.old.items ++ map (print_of step task.now.path) work.old.prints.items) }
     ensures deeds { OnOk result (deeds.new.items
         ≡ deeds.old.items ++ record { synced = synced; spawns = work.old.spawns.items } ∷ []) }
     ensures puts { OnOk result (work.new.puts.items ≡ work.old.puts.items) }
 {
+    push_prints(prints, step, task, &work.prints)?;
     let spawns = std::mem::replace(&mut work.spawns, Vec::new(alloc));
     deeds.push(Deed { synced, spawns })?;
     Ok(())
@@ -93,13 +99,11 @@ fn do_one(
 {
     match do_task(alloc, scene, task, work)? {
         Ending::Synced(_) => {
-            push_prints(prints, scene.step, task, &work.prints)?;
-            keep(alloc, true, work, deeds)?;
+            keep(alloc, scene.step, task, true, work, deeds, prints)?;
             Ok(None)
         }
         Ending::Stopped => {
-            push_prints(prints, scene.step, task, &work.prints)?;
-            keep(alloc, false, work, deeds)?;
+            keep(alloc, scene.step, task, false, work, deeds, prints)?;
             Ok(None)
         }
         Ending::Fault(fault) => {

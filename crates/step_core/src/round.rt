@@ -1,4 +1,7 @@
 //! The supersteps of a job, taken one by one.
+ghost use Rattle.std.specs.Prelude.{◌≡◌, IfOk};
+ghost use Rattle.std.specs.Arc.{arc_value};
+
 use crate::alone::start_all;
 use phase_records::{JobStatus, Report};
 use std::alloc::{AllocError, Global};
@@ -42,6 +45,17 @@ impl<'j> Model for Round<'j> {
     ghost invariant = { IsRoundInside };
 }
 
+// The arrays of a job as it begins, to be shared.
+fn share_arrays(alloc: Global, job: &Job) -> Result<Arc<Arrays>, AllocError>
+    ensures { IfOk result (λ shared. arc_value shared ≡ job.now.arrays) }
+{
+    let arrays = job.arrays().copy(alloc)?;
+    match Arc::new(alloc, arrays) {
+        Ok(shared) => Ok(shared),
+        Err(_) => Err(AllocError),
+    }
+}
+
 impl<'j> Round<'j> {
     ghost use Rattle.std.specs.Prelude.{◌≡◌, ◌≤◌, ◌<◌, ◌↔◌, None, Some, IsTrue, IfOk, IfSome, OnOk, IfErr, OnErr, MatchOption, is_some, true, false, length, map, slice_get};
     ghost use Rattle.std.specs.Option.{option_map};
@@ -64,20 +78,17 @@ impl<'j> Round<'j> {
         let tasks = start_all(alloc, job.bodies(), job.starts())?;
         let missing = tasks.len();
         let live = Live::new(alloc, tasks)?;
-        let arrays = job.arrays().copy(alloc)?;
-        match Arc::new(alloc, arrays) {
-            Ok(opening) => Ok(Round {
-                job,
-                limit,
-                step: 0,
-                opening,
-                live,
-                missing,
-                finished: Vec::new(alloc),
-                fault: None,
-            }),
-            Err(_) => Err(AllocError),
-        }
+        let opening = share_arrays(alloc, job)?;
+        Ok(Round {
+            job,
+            limit,
+            step: 0,
+            opening,
+            live,
+            missing,
+            finished: Vec::new(alloc),
+            fault: None,
+        })
     }
 
     /// Whether the job has ended. It takes no memory.
@@ -113,8 +124,7 @@ impl<'j> Round<'j> {
         ensures rising { is_rising (live_paths (state_of self.now)) ≡ true }
     {
         let tasks = self.live.tasks()?;
-        let paths = paths_of(alloc, &tasks)?;
-        Ok(paths)
+        paths_of(alloc, &tasks)
     }
 
     /// Whether it holds this job, by value, and this limit. It takes no memory.
@@ -198,7 +208,8 @@ impl<'j> Round<'j> {
         if self.has_ended() {
             return Ok(None);
         }
-        match find_near(&self.live.slots(), near, path) {
+        let found = find_near(&self.live.slots(), near, path);
+        match found {
             None => Ok(None),
             Some(place) => {
                 let order = self.order_at(place)?;
@@ -217,9 +228,10 @@ impl<'j> Round<'j> {
         ensures unchanged { OnErr result (self.new ≡ self.old) }
     {
         if let Some(fault) = self.disowns(&delivery) {
-            return Err(fault);
+            Err(fault)
+        } else {
+            self.accept_known(delivery)
         }
-        self.accept_known(delivery)
     }
 
     // Why a delivery isn't of this step and this job, if it isn't.
@@ -256,27 +268,13 @@ impl<'j> Round<'j> {
         ensures own { delivery.entry.step ≡ self.old.step → IfErr result IsDouble }
         ensures unchanged { OnErr result (self.new ≡ self.old) }
     {
-        let refusal = self.refuses(&delivery);
-        self.settle(refusal, delivery)
-    }
-
-    // Keeps what was delivered, unless it is refused.
-    fn settle(
-        &mut self,
-        refusal: Option<AcceptFault>,
-        delivery: Delivery<'j>,
-    ) -> Result<(), AcceptFault>
-        requires running { status_in self.old ≡ None }
-        requires taken { refusal ≡ None → Takes self.old delivery }
-        ensures added { OnOk result ((refusal ≡ None) × (self.new ≡ with_delivery self.old delivery.entry)) }
-        ensures refused { IfErr result (λ fault. refusal ≡ Some fault) }
-        ensures unchanged { OnErr result (self.new ≡ self.old) }
-    {
-        if let Some(fault) = refusal {
-            return Err(fault);
+        match self.refuses(&delivery) {
+            Some(fault) => Err(fault),
+            None => {
+                self.keep(delivery);
+                Ok(())
+            }
         }
-        self.keep(delivery);
-        Ok(())
     }
 
     // Why a delivery of this job isn't taken, if it isn't.

@@ -6,7 +6,7 @@ use Rattle.step_parts.specs.Program.{program_of}
 use Rattle.step_parts.specs.Superstep.{ended_by}
 use Rattle.step_core.specs.Course.{course_state}
 use Rattle.step_core.specs.InPlace.{AllFew, told_in}
-use Rattle.step_core.proofs.Course.{by_many, by_landing, cut_off, did, fits}
+use Rattle.step_core.proofs.Course.{by_fault, by_many, by_landing, cut_off, did, faulted, fits, tallied}
 use Rattle.step_core.proofs.alone.take_superstep.Goals as goal
 
 pub record_deeds-told-requires-clause-few : goal.record_deeds-told-requires-clause-few
@@ -29,9 +29,8 @@ overflow_sub-told c =
     let h = did p c.args.course.now c.in_ok-fault.fault c.do_all.new.work.puts.items c.do_all.new.tasks.items c.do_all.new.deeds.items c.do_all.new.prints.items c.in_ok-fault.ensures c.in-None.is in
     let f = fits p c.args.course.now c.do_all.new.tasks.items c.do_all.new.deeds.items h.done c.requires.few c.requires.rising in
     let e = c.record_deeds-told.ensures ∙ ap (told_in c.args.course.now.step) c.deref.ensures.value in
-    let l = ap (λ (r : PhaseRecord). r.left) e in
-    let m = ap (λ (r : PhaseRecord). r.parties) e in
-    omega (arith, l, m, f.living)
+    let k = tallied c.args.course.now c.do_all.new.tasks.items c.do_all.new.deeds.items c.record_deeds-told.result f e in
+    omega (arith, k)
 
 pub returns-then-told-gt4096 : goal.returns-then-told-gt4096
 returns-then-told-gt4096 c =
@@ -41,10 +40,9 @@ returns-then-told-gt4096 c =
     let h = did p c.args.course.now c.in_ok-fault.fault c.do_all.new.work.puts.items us ds c.do_all.new.prints.items c.in_ok-fault.ensures c.in-None.is in
     let f = fits p c.args.course.now us ds h.done c.requires.few c.requires.rising in
     let e = c.record_deeds-told.ensures ∙ ap (told_in c.args.course.now.step) c.deref.ensures.value in
-    let l = ap (λ (r : PhaseRecord). r.left) e in
-    let m = ap (λ (r : PhaseRecord). r.parties) e in
+    let k = tallied c.args.course.now us ds c.record_deeds-told.result f e in
     record {
-      fault = by_many p c.args.course.now us ds h.done (omega (arith, l, m, f.living, c.if-told-gt4096.true)) ∙ ap (ended_by (course_state p c.args.course.now)) (sym c.too_many.ensures);
+      fault = by_many p c.args.course.now us ds h.done (omega (arith, k, c.if-told-gt4096.true)) ∙ ap (ended_by (course_state p c.args.course.now)) (sym c.too_many.ensures);
       step = refl;
       arrays = refl {A = List (List ℕ × List ℤ)};
       prints = cut_off c.len-printed.result c.args.course.now.prints.items c.do_all.new.prints.items _ _ c.truncate-then-told-gt4096.ensures.items (omega (arith, c.len-printed.ensures, c.args.course.now.prints.ok.0)) h.shown;
@@ -63,9 +61,8 @@ go_on-requires-clause-count c =
     let h = did p c.args.course.now c.in_ok-fault.fault c.do_all.new.work.puts.items c.do_all.new.tasks.items c.do_all.new.deeds.items c.do_all.new.prints.items c.in_ok-fault.ensures c.in-None.is in
     let f = fits p c.args.course.now c.do_all.new.tasks.items c.do_all.new.deeds.items h.done c.requires.few c.requires.rising in
     let e = c.record_deeds-told.ensures ∙ ap (told_in c.args.course.now.step) c.deref.ensures.value in
-    let l = ap (λ (r : PhaseRecord). r.left) e in
-    let m = ap (λ (r : PhaseRecord). r.parties) e in
-    omega (arith, l, m, f.living)
+    let k = tallied c.args.course.now c.do_all.new.tasks.items c.do_all.new.deeds.items c.record_deeds-told.result f e in
+    omega (arith, k)
 
 pub go_on-requires-clause-rising : goal.go_on-requires-clause-rising
 go_on-requires-clause-rising c =
@@ -81,8 +78,25 @@ returns-in_ok-go_on-in-None c =
     let h = did p c.args.course.now c.in_ok-fault.fault c.do_all.new.work.puts.items us ds c.do_all.new.prints.items c.in_ok-fault.ensures c.in-None.is in
     let f = fits p c.args.course.now us ds h.done c.requires.few c.requires.rising in
     let e = c.record_deeds-told.ensures ∙ ap (told_in c.args.course.now.step) c.deref.ensures.value in
-    let l = ap (λ (r : PhaseRecord). r.left) e in
-    let m = ap (λ (r : PhaseRecord). r.parties) e in
+    let k = tallied c.args.course.now us ds c.record_deeds-told.result f e in
     let g = c.in_ok-go_on-in-None.ensures in
     by_landing p c.args.course.now c.go_on.new.course c.do_all.new.work.puts.items us ds c.do_all.new.prints.items c.record_deeds-told.result
-    h (omega (arith, l, m, f.living, c.if-told-gt4096.false)) e g.step g.arrays g.tasks g.prints g.records
+    h (omega (arith, k, c.if-told-gt4096.false)) e g.step g.arrays g.tasks g.prints g.records
+
+pub returns-in-Some : goal.returns-in-Some
+returns-in-Some c =
+    let p = program_of c.args.job.now in
+    let h = faulted p c.args.course.now c.in_ok-fault.fault c.in-Some.blame c.do_all.new.work.puts.items c.do_all.new.tasks.items c.do_all.new.deeds.items c.do_all.new.prints.items c.in_ok-fault.ensures c.in-Some.is in
+    record {
+      fault = by_fault p c.args.course.now c.in-Some.blame h.0;
+      step = refl;
+      arrays = refl {A = List (List ℕ × List ℤ)};
+      prints = cut_off c.len-printed.result c.args.course.now.prints.items c.do_all.new.prints.items _ h.1.0 c.truncate.ensures.items (omega (arith, c.len-printed.ensures, c.args.course.now.prints.ok.0)) h.1.1;
+      records = refl {A = List PhaseRecord};
+    }
+
+pub go_on-requires-clause-left : goal.go_on-requires-clause-left
+go_on-requires-clause-left c = ap (λ (r : PhaseRecord). r.left) (c.record_deeds-told.ensures ∙ ap (told_in c.args.course.now.step) c.deref.ensures.value)
+
+pub go_on-requires-clause-spawned : goal.go_on-requires-clause-spawned
+go_on-requires-clause-spawned c = ap (λ (r : PhaseRecord). r.spawned) (c.record_deeds-told.ensures ∙ ap (told_in c.args.course.now.step) c.deref.ensures.value)

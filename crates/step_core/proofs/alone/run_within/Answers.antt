@@ -3,7 +3,7 @@ use Rattle.phase_records.specs.Status.{Status}
 use Rattle.step_parts.specs.Program.{program_of}
 use Rattle.step_core.specs.Course.{HasTakenOne, HasGone, left_by}
 use Rattle.step_core.proofs.Course.{at_end, is_running, is_over, is_late, reached_more, at_fault, rises, none_there, some_there}
-use Rattle.step_core.proofs.alone.run_on.Goals as goal
+use Rattle.step_core.proofs.alone.run_within.Goals as goal
 
 pub returns-then-is_empty-clause-report : goal.returns-then-is_empty-clause-report
 returns-then-is_empty-clause-report c =
@@ -43,8 +43,8 @@ returns-then-is_empty-2-clause-report c =
     at_end p c.args.limit c.loop-course.invariant.reached.0 c.loop-course.course _ c.loop-course.invariant.reached.1
     (is_over p c.args.limit c.loop-course.course (omega (arith, none, c.loop-course.course.tasks.ok.0)))
 
-pub returns-clause-report : goal.returns-clause-report
-returns-clause-report c =
+pub returns-else-is_empty-2-clause-report : goal.returns-else-is_empty-2-clause-report
+returns-else-is_empty-2-clause-report c =
     let p = program_of c.args.job.now in
     let some = some_there _ c.is_empty-2.result c.is_empty-2.ensures c.if-is_empty-2.false in
     at_end p c.args.limit c.loop-course.invariant.reached.0 c.loop-course.course _ c.loop-course.invariant.reached.1

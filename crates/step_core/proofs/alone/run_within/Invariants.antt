@@ -2,7 +2,7 @@ use Rattle.std.proofs.Common.{◌≡◌, ◌≤◌, ◌-◌, ℕ, length}
 use Rattle.step_parts.specs.Program.{program_of}
 use Rattle.step_parts.specs.JobMeaning.{so_far}
 use Rattle.step_core.specs.Course.{course_state}
-use Rattle.step_core.proofs.alone.run_on.Given as goal
+use Rattle.step_core.proofs.alone.run_within.Given as goal
 
 abbrev pub invariant-loop-course : goal.invariant-loop-course
 invariant-loop-course l = record {

@@ -1,0 +1,23 @@
+use Rattle.std.proofs.Common.{subst, true, false}
+use Rattle.task_lang.specs.declared.scene.Ending.{Ending}
+use Rattle.task_lang.specs.Meaning.{segment_of}
+use Rattle.task_lang.specs.Views.{plans, task_of}
+use Rattle.step_core.specs.InPlace.{IsDone}
+use Rattle.step_core.proofs.InPlace.{kept_one}
+use Rattle.step_core.proofs.in_place.do_one.Goals as goal
+
+pub returns-in_ok-keep-in-Stopped : goal.returns-in_ok-keep-in-Stopped
+returns-in_ok-keep-in-Stopped c =
+    let ps = plans c.args.scene.now.job.now.bodies in
+    let g = segment_of ps (task_of ps c.args.task.now) c.args.scene.now.arrays.now c.args.scene.now.step in
+    let done = subst (λ (e : Ending). IsDone ps e c.args.task.now c.do_task.new.task c.args.work.now c.do_task.new.work g) c.in-Stopped.is c.in_ok-do_task.ensures in
+    let told = c.in_ok-keep-in-Stopped.ensures in
+    kept_one ps false g _ c.args.task.now c.do_task.new.task c.args.work.now c.do_task.new.work _ _ _ _ _ done.0 done.1 done.2 told.puts told.deeds told.prints
+
+pub returns-in_ok-keep-in-Synced : goal.returns-in_ok-keep-in-Synced
+returns-in_ok-keep-in-Synced c =
+    let ps = plans c.args.scene.now.job.now.bodies in
+    let g = segment_of ps (task_of ps c.args.task.now) c.args.scene.now.arrays.now c.args.scene.now.step in
+    let done = subst (λ (e : Ending). IsDone ps e c.args.task.now c.do_task.new.task c.args.work.now c.do_task.new.work g) c.in-Synced.is c.in_ok-do_task.ensures in
+    let told = c.in_ok-keep-in-Synced.ensures in
+    kept_one ps true g _ c.args.task.now c.do_task.new.task c.args.work.now c.do_task.new.work _ _ _ _ _ done.0 done.1 done.2 told.puts told.deeds told.prints
