@@ -58,7 +58,6 @@ fn note_set(noted: &mut Vec<u8>, line: &Line) -> Result<(), AllocError>
     Ok(())
 }
 
-#[tactic(auto, using(crate::proofs::AskedAlong::line_fits))]
 fn note_line(noted: &mut Vec<u8>, line: &Line) -> Result<(), AllocError>
     ensures noted { OnOk result (noted.new.items ≡ noted.old.items ++ spec.in_line line.now) }
     ensures fits { OnOk result (IsTrue (fits_line line.now)) }
