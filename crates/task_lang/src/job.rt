@@ -9,7 +9,7 @@ ghost use Rattle.task_lang.specs.Rules.{IsBody, IsJob, is_array};
 
 use crate::body::Body;
 use crate::limits::{are_lines, is_number};
-use crate::names::is_free;
+use crate::names::{are_same, is_free};
 use crate::same::{same_bodies, same_starts};
 use std::marker::Model;
 use superstep_memory::arrays::Arrays;
@@ -92,7 +92,7 @@ fn is_among(bodies: &[Body], name: &[u8]) -> bool
 {
     let mut rest = bodies;
     while let Some((first, after)) = rest.split_first() {
-        if first.name().as_bytes() == name {
+        if are_same(first.name().as_bytes(), name) {
             return true;
         }
         rest = after;

@@ -39,11 +39,18 @@ pub fn is_name(word: &[u8]) -> bool
     are_in_name(word)
 }
 
+/// Whether two words are the same.
+pub(crate) fn are_same(word: &[u8], other: &[u8]) -> bool
+    ensures { result ≡ bytes_eq word.now other.now }
+{
+    word == other
+}
+
 // Whether a word is one of these four, or else is reserved.
 fn is_one_of(word: &[u8], a: &[u8], b: &[u8], c: &[u8], d: &[u8], or_else: bool) -> bool
     ensures { result ≡ (bytes_eq word.now a.now || bytes_eq word.now b.now || bytes_eq word.now c.now || bytes_eq word.now d.now || or_else) }
 {
-    word == a || word == b || word == c || word == d || or_else
+    are_same(word, a) || are_same(word, b) || are_same(word, c) || are_same(word, d) || or_else
 }
 
 /// Whether a word is one of the language's own, which no array, body or local may be called by.
@@ -51,7 +58,7 @@ fn is_one_of(word: &[u8], a: &[u8], b: &[u8], c: &[u8], d: &[u8], or_else: bool)
 pub fn is_reserved(word: &[u8]) -> bool
     ensures { result ≡ spec.is_reserved word.now }
 {
-    let last = word == b"bsp".as_slice();
+    let last = are_same(word, b"bsp");
     let lines = is_one_of(word, b"end", b"array", b"body", b"start", last);
     let tests = is_one_of(word, b"stop", b"if", b"else", b"while", lines);
     let actions = is_one_of(word, b"add", b"print", b"spawn", b"sync", tests);
@@ -71,7 +78,7 @@ fn is_among(names: &[String], name: &[u8]) -> bool
 {
     let mut rest = names;
     while let Some((first, after)) = rest.split_first() {
-        if first.as_bytes() == name {
+        if are_same(first.as_bytes(), name) {
             return true;
         }
         rest = after;
