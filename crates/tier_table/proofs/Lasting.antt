@@ -1,5 +1,5 @@
 -- Answers of calls that are repeated.
-use Rattle.std.proofs.Common.{◌≡◌, ℕ, ◌+◌, ◌<◌, Bool, refl, sym, ◌∙◌, ap, subst, arith, ◌⊎◌, inl, inr}
+use Rattle.std.proofs.Common.{Result, ◌≡◌, ℕ, ◌+◌, ◌<◌, Bool, refl, sym, ◌∙◌, ap, subst, arith, ◌⊎◌, inl, inr}
 use Rattle.tier_steps.specs.Word.{next_phase_of}
 use Rattle.tier_steps.specs.declared.view.View.{View}
 use Rattle.tier_steps.specs.declared.view.Trip.{Trip}
@@ -13,7 +13,7 @@ use Rattle.table_tiers.specs.Polls.{HasPassedOn}
 use Rattle.tier_table.specs.declared.waiting.Admitted.{Admitted}
 use Rattle.tier_table.specs.declared.waiting.Counted.{Counted}
 use Rattle.tier_table.specs.declared.waiting.Counted.TheVariants.{Done, Left, AlreadyArrived, Ended}
-use Rattle.tier_table.specs.AtLast.{RegistersAtLast, ResumesAtLast, ArrivesAtLast}
+use Rattle.tier_table.specs.AtLast.{OpensAtLast, ResumesAtLast, ArrivesAtLast}
 
 pub same_first : (v : View) → IsSame v v
 same_first v = record { tier = refl; size = refl; phase = refl; arrived = refl }
@@ -102,6 +102,6 @@ refused_for n h t u s r v answer tree tier size told =
     subst (λ (k : ℕ). Refusal n.key.shape u k v answer) size
     (subst (λ (k : ℕ). Refusal n.key.shape k s v answer) tier (subst (λ (m : Named). Refusal m.key.shape t s v answer) tree told))
 
-pub registers_for : (n : Named) (t u s r : ℕ) (answer : Admitted) → t ≡ u → s ≡ r → RegistersAtLast n t s answer → RegistersAtLast n u r answer
-registers_for n t u s r answer tier size told =
-    subst (λ (k : ℕ). RegistersAtLast n u k answer) size (subst (λ (k : ℕ). RegistersAtLast n k s answer) tier told)
+pub opens_for : (n : Named) (t u s r : ℕ) (answer : Result Admitted Holding) → t ≡ u → s ≡ r → OpensAtLast n t s answer → OpensAtLast n u r answer
+opens_for n t u s r answer tier size told =
+    subst (λ (k : ℕ). OpensAtLast n u k answer) size (subst (λ (k : ℕ). OpensAtLast n k s answer) tier told)

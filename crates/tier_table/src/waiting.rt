@@ -16,6 +16,7 @@ use std::thread;
 use table_tiers::arriving::{Arrived, Resumed};
 use table_tiers::joining::{Opened, Registered};
 use table_tiers::polling::Polled;
+use table_tiers::tiers::Tiers;
 use table_tiers::tokens::{Crew, Door, Errand, Opening};
 use tier_steps::view::Trip;
 
@@ -57,27 +58,51 @@ pub enum Awaited {
     Ended(i32),
 }
 
-impl<F: Fn(u32, u32) -> bool> Tree<F> {
-    /// Goes on with the opening of a path until that is over. Where the members were held off, the door is
-    /// an error.
-    fn open_wait<R: Wait>(&self, rt: &R, opening: Opening) -> Result<Admitted, Door>
-        requires own { opening.token.tree ≡ self.now.tree }
-        ensures { OpensAtLast self.now.tree (asked_tier opening.token.view.errand) (asked_size opening.token.view.errand) result }
-    {
-        let mut opening = opening;
-        for _ in rt.forever() {
-            match self.resume_opening(opening, TRIES) {
-                Opened::Joined(crew, phase) => return Ok(Admitted::Joined(crew, phase)),
-                Opened::Full(door, count) => return Ok(Admitted::Full(door, count)),
-                Opened::Ended(door, shown) => return Ok(Admitted::Ended(door, shown)),
-                Opened::Held(door, _, _) => return Err(door),
-                Opened::Owing(next) => opening = next,
-            }
-            thread::yield_now();
+// Goes on with the opening of a path until that is over. Where the members were held off, the door is
+// an error.
+fn open_wait<R: Wait>(tiers: &Tiers, rt: &R, opening: Opening) -> Result<Admitted, Door>
+    requires own { opening.token.tree ≡ tiers.now }
+    ensures { OpensAtLast tiers.now (asked_tier opening.token.view.errand) (asked_size opening.token.view.errand) result }
+{
+    let mut opening = opening;
+    for _ in rt.forever() {
+        match tiers.open_on(opening, TRIES) {
+            Opened::Joined(crew, phase) => return Ok(Admitted::Joined(crew, phase)),
+            Opened::Full(door, count) => return Ok(Admitted::Full(door, count)),
+            Opened::Ended(door, shown) => return Ok(Admitted::Ended(door, shown)),
+            Opened::Held(door, _, _) => return Err(door),
+            Opened::Owing(next) => opening = next,
         }
-        unreachable!()
+        thread::yield_now();
     }
+    unreachable!()
+}
 
+// Registers so many members, by so many tries, and opens the path to the tier where it is empty. Where the
+// registration was held off, or the tries did not suffice, the door is an error.
+fn join_once<R: Wait>(
+    tiers: &Tiers,
+    rt: &R,
+    door: Door,
+    tier: u16,
+    n: u32,
+) -> Result<Admitted, Door>
+    requires own { door.tree ≡ tiers.now }
+    requires tier { tier < length tiers.now.key.shape }
+    requires members { (0 < n) × (n ≤ 65535) }
+    ensures answer { OpensAtLast tiers.now tier n result }
+    ensures ended { (phase : ℕ) → door.view.end_seen ≡ Some phase → MatchResult result HasEndedJoin (λ next. ⊥) }
+{
+    match tiers.join(door, tier, n, TRIES) {
+        Registered::Joined(crew, phase) => Ok(Admitted::Joined(crew, phase)),
+        Registered::Full(next, count) => Ok(Admitted::Full(next, count)),
+        Registered::Ended(next, shown) => Ok(Admitted::Ended(next, shown)),
+        Registered::Held(next, _, _) | Registered::Busy(next) => Err(next),
+        Registered::Owing(opening) => open_wait(tiers, rt, opening),
+    }
+}
+
+impl<F: Fn(u32, u32) -> bool> Tree<F> {
     /// Registers so many members at a tier, opening the path to it where it is empty. While the
     /// registration is held off, other threads run, and it is tried again.
     pub fn register_wait<R: Wait>(&self, rt: &R, door: Door, tier: u16, n: u32) -> Admitted
@@ -89,15 +114,9 @@ impl<F: Fn(u32, u32) -> bool> Tree<F> {
     {
         let mut door = door;
         for _ in rt.forever() {
-            match self.register(door, tier, n, TRIES) {
-                Registered::Joined(crew, phase) => return Admitted::Joined(crew, phase),
-                Registered::Full(next, count) => return Admitted::Full(next, count),
-                Registered::Ended(next, shown) => return Admitted::Ended(next, shown),
-                Registered::Held(next, _, _) | Registered::Busy(next) => door = next,
-                Registered::Owing(opening) => match self.open_wait(rt, opening) {
-                    Ok(answer) => return answer,
-                    Err(next) => door = next,
-                },
+            match join_once(&self.tiers, rt, door, tier, n) {
+                Ok(answer) => return answer,
+                Err(next) => door = next,
             }
             thread::yield_now();
         }
@@ -141,6 +160,7 @@ impl<F: Fn(u32, u32) -> bool> Tree<F> {
     fn pass_once<R: Wait>(&self, rt: &R, crew: Crew, own: Trip) -> Result<Counted, Crew>
         requires own { crew.tree ≡ self.now.tree }
         requires rule { Answers (F.pre self.now.rule.closure) (F.post self.now.rule.closure) (end_ends_at self.now.rule.plan) }
+        ensures some { 0 < crew.view.size }
         ensures answer { MatchResult result (λ a. ArrivesAtLast own crew a) (λ next. (next.tree ≡ crew.tree) × IsLooked crew.view next.view) }
         ensures ended { (phase : ℕ) → crew.view.end_seen ≡ Some phase → MatchResult result HasEndedArrival (λ next. ⊥) }
     {
@@ -164,7 +184,6 @@ impl<F: Fn(u32, u32) -> bool> Tree<F> {
     {
         let mut crew = crew;
         for _ in rt.forever() {
-            let _ = crew.size();
             match self.pass_once(rt, crew, own) {
                 Ok(answer) => return answer,
                 Err(next) => crew = next,

@@ -1,4 +1,5 @@
 use Rattle.std.proofs.Common.{◌∙◌, arith, rules}
+use Rattle.std.proofs.lemmas.Bool.{false≢true}
 use Rattle.tier_table.proofs.Lasting.{same_then, waits_same, same_looked, same_passed_on}
 use Rattle.tier_table.proofs.tree.Tree.await_advance.Goals as goal
 
@@ -41,3 +42,9 @@ returns-in-Here-clause-ended g c = λ p e. absurd (c.in-Here.ensures.ended p (c.
 
 pub returns-in-Ended-clause-ended : goal.returns-in-Ended-clause-ended
 returns-in-Ended-clause-ended g c = λ p e. tt
+
+pub loop-preserved-derived : goal.loop-preserved-derived
+loop-preserved-derived g c = (tt, tt)
+
+pub unreachable-requires : goal.unreachable-requires
+unreachable-requires g c = false≢true c.in-None.ensures.steps

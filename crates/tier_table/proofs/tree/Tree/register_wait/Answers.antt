@@ -1,40 +1,30 @@
-use Rattle.std.proofs.Common.{refl, ◌∙◌, rules}
-use Rattle.table_tiers.specs.Openings.{asked_tier, asked_size}
-use Rattle.tier_core.specs.declared.call.Played.TheVariants as played
-use Rattle.tier_table.proofs.Lasting.{refused_for, registers_for}
+use Rattle.std.proofs.Common.{◌∙◌, ◌<◌, ap, sym, subst, length}
+use Rattle.std.proofs.lemmas.Bool.{false≢true}
+use Rattle.tier_table.specs.Ruled.{Ruled}
+use Rattle.tier_table.specs.AtLast.{RegistersAtLast}
 use Rattle.tier_table.proofs.tree.Tree.register_wait.Goals as goal
 
-pub returns-in-Joined-clause-answer : goal.returns-in-Joined-clause-answer
-returns-in-Joined-clause-answer g c = let told = c.in-Joined.ensures.answer in (told.0.tree ∙ c.loop.invariant.2, told.1, told.2)
+pub join_once-requires-clause-own : goal.join_once-requires-clause-own
+join_once-requires-clause-own g c = c.loop.invariant.2 ∙ ap (λ (t : Ruled g.row.F.Denot). t.tree) (sym c.self.view_is)
 
-pub returns-in-Joined-clause-ended : goal.returns-in-Joined-clause-ended
-returns-in-Joined-clause-ended g c = λ p e. absurd (c.in-Joined.ensures.ended p (c.loop.invariant.3 p e))
+pub join_once-requires-clause-tier : goal.join_once-requires-clause-tier
+join_once-requires-clause-tier g c = subst (λ (t : Ruled g.row.F.Denot). c.args.tier < length t.tree.key.shape) (sym c.self.view_is) c.requires.tier
 
-pub returns-in-Full-clause-answer : goal.returns-in-Full-clause-answer
-returns-in-Full-clause-answer g c =
-    let told = c.in-Full.ensures.answer in
-    let tree = c.loop.invariant.2 in (
-      told.0.tree ∙ tree,
-      refused_for c.args.self.now.tree c.loop.door c.args.tier c.args.tier c.args.n c.args.n c.in-Full.next.view (played.Full c.in-Full.count) tree refl refl told.1,
-    )
+pub join_once-requires-clause-members : goal.join_once-requires-clause-members
+join_once-requires-clause-members g c = c.requires.members
 
-pub returns-in-Full-clause-ended : goal.returns-in-Full-clause-ended
-returns-in-Full-clause-ended g c = λ p e. absurd (c.in-Full.ensures.ended p (c.loop.invariant.3 p e))
+pub returns-in-Ok : goal.returns-in-Ok
+returns-in-Ok g c = record {
+  answer = subst (λ (t : Ruled g.row.F.Denot). RegistersAtLast t.tree c.args.tier c.args.n c.in-Ok.answer) c.self.view_is c.in-Ok.ensures.answer;
+  ended = λ p e. c.in-Ok.ensures.ended p (c.loop.invariant.3 p e);
+}
 
-pub returns-in-Ended-clause-answer : goal.returns-in-Ended-clause-answer
-returns-in-Ended-clause-answer g c = let told = c.in-Ended.ensures.answer in (told.0.tree ∙ c.loop.invariant.2, (told.1.0, told.1.1, search rules))
+pub loop-preserved : goal.loop-preserved
+loop-preserved g c =
+    (tt, tt, c.in-Err.ensures.answer ∙ ap (λ (t : Ruled g.row.F.Denot). t.tree) c.self.view_is, λ p e. absurd (c.in-Err.ensures.ended p (c.loop.invariant.3 p e)))
 
-pub returns-in-Ended-clause-ended : goal.returns-in-Ended-clause-ended
-returns-in-Ended-clause-ended g c = λ p e. tt
+pub loop-preserved-derived : goal.loop-preserved-derived
+loop-preserved-derived g c = (tt, tt)
 
-pub open_wait-requires : goal.open_wait-requires
-open_wait-requires g c = record { own = c.in-Owing.ensures.answer.0.tree ∙ c.loop.invariant.2 }
-
-pub returns-in-Ok-clause-answer : goal.returns-in-Ok-clause-answer
-returns-in-Ok-clause-answer g c =
-    let asked = c.in-Owing.ensures.answer.1 in
-    let errand = c.in-Owing.opening.token.view.errand in
-    registers_for c.args.self.now.tree (asked_tier errand) c.args.tier (asked_size errand) c.args.n c.in-Ok.answer asked.seat asked.members c.in-Ok.ensures
-
-pub returns-in-Ok-clause-ended : goal.returns-in-Ok-clause-ended
-returns-in-Ok-clause-ended g c = λ p e. absurd (c.in-Owing.ensures.ended p (c.loop.invariant.3 p e))
+pub unreachable-requires : goal.unreachable-requires
+unreachable-requires g c = false≢true c.in-None.ensures.steps

@@ -1,8 +1,9 @@
 use Rattle.std.proofs.Common.{◌∙◌, rules}
+use Rattle.std.proofs.lemmas.Bool.{false≢true}
 use Rattle.table_tiers.specs.Openings.{asked_tier, asked_size}
 use Rattle.tier_core.specs.declared.call.Played.TheVariants as played
 use Rattle.tier_table.proofs.Lasting.{joined_for, refused_for}
-use Rattle.tier_table.proofs.tree.Tree.open_wait.Goals as goal
+use Rattle.tier_table.proofs.waiting.open_wait.Goals as goal
 
 pub returns-in-Joined : goal.returns-in-Joined
 returns-in-Joined g c =
@@ -22,7 +23,7 @@ returns-in-Full g c =
     let now = c.loop.opening.token.view.errand in
     let first = c.args.opening.token.view.errand in (
       told.0.tree ∙ kept.2,
-      refused_for c.args.self.now.tree c.loop.opening.token (asked_tier now) (asked_tier first) (asked_size now) (asked_size first) c.in-Full.door.view
+      refused_for c.args.tiers.now c.loop.opening.token (asked_tier now) (asked_tier first) (asked_size now) (asked_size first) c.in-Full.door.view
           (played.Full c.in-Full.count) kept.2 kept.3 kept.4 told.1,
     )
 
@@ -31,3 +32,17 @@ returns-in-Ended g c = let told = c.in-Ended.ensures.answer in (told.0.tree ∙ 
 
 pub returns-in-Held : goal.returns-in-Held
 returns-in-Held g c = c.in-Held.ensures.answer.0.tree ∙ c.loop.invariant.2
+
+pub open_on-requires : goal.open_on-requires
+open_on-requires g c = record { own = c.loop.invariant.2 }
+
+pub loop-preserved : goal.loop-preserved
+loop-preserved g c =
+    let told = c.in-Owing.ensures.answer in
+    let kept = c.loop.invariant in (tt, tt, told.0.tree ∙ kept.2, told.1.seat ∙ kept.3, told.1.members ∙ kept.4)
+
+pub loop-preserved-derived : goal.loop-preserved-derived
+loop-preserved-derived g c = (tt, tt)
+
+pub unreachable-requires : goal.unreachable-requires
+unreachable-requires g c = false≢true c.in-None.ensures.steps

@@ -1,8 +1,8 @@
 use Rattle.std.proofs.Common.{◌≡◌}
 use Rattle.table_tiers.specs.Openings.{asked_tier, asked_size}
-use Rattle.tier_table.proofs.tree.Tree.open_wait.Given as goal
+use Rattle.tier_table.proofs.waiting.open_wait.Given as goal
 
 abbrev pub invariant-loop : goal.invariant-loop
 invariant-loop g l =
-    (goal.iterator-loop g).can_next l.iterator' × (goal.iterator-loop g).is_finite l.iterator' × (l.opening.token.tree ≡ l.self.tree)
+    (goal.iterator-loop g).can_next l.iterator' × (goal.iterator-loop g).is_finite l.iterator' × (l.opening.token.tree ≡ l.tiers)
     × (asked_tier l.opening.token.view.errand ≡ asked_tier l.fn.opening.token.view.errand) × (asked_size l.opening.token.view.errand ≡ asked_size l.fn.opening.token.view.errand)
