@@ -1,6 +1,6 @@
 //! Registrations at a crew's own tier.
 
-ghost use Rattle.std.specs.Prelude.{◌≡◌, ◌<◌, ◌≤◌, ℕ, None, Some, Bool, true, false, length};
+ghost use Rattle.std.specs.Prelude.{◌≡◌, ◌<◌, ◌≤◌, ℕ, None, Some, true, length};
 ghost use Rattle.table_rule.specs.Tell.{Beside};
 ghost use Rattle.tier_core.specs.Turn.{lags};
 ghost use Rattle.table_tiers.specs.Holding.{IsCrew, shape_of};

@@ -1,8 +1,6 @@
 //! Closing the tiers of a tree.
 
-ghost use Rattle.std.specs.Prelude.{◌≡◌, ◌≤◌, ◌-◌, List, [], ◌++◌, All, length, map, vec_capacity};
-ghost use Rattle.tier_steps.specs.declared.view.View.{View};
-ghost use Rattle.tier_steps.specs.Tally.{Tallies};
+ghost use Rattle.std.specs.Prelude.{◌≡◌, ◌≤◌, ◌-◌, [], ◌++◌, All, length, vec_capacity};
 ghost use Rattle.table_rule.specs.Reach.{those};
 ghost use Rattle.table_tiers.specs.Closes.{held, plain_of, plain_tokens, views_in, TallyWithOthers};
 
@@ -15,7 +13,7 @@ use table_rule::sight::Sights;
 use tier_steps::kind::Kind;
 
 /// A token after its tree was closed.
-#[derive(Clone, Copy, PartialEq, Eq)]
+#[derive(Clone, Copy)]
 pub struct ClosedToken {
     /// The tier of its members.
     pub tier: u16,

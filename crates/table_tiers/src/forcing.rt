@@ -1,7 +1,6 @@
 //! The end by force.
 
-ghost use Rattle.std.specs.Prelude.{◌≡◌, ◌+◌, ◌≤◌, ℕ, Some, false};
-ghost use Rattle.table_tiers.specs.Holding.{Holding};
+ghost use Rattle.std.specs.Prelude.{◌≡◌, ℕ, Some};
 ghost use Rattle.table_tiers.specs.Forces.{Forces, ForcesOnce, HasEnded, IsBefore};
 
 use crate::tiers::Tiers;
@@ -9,7 +8,7 @@ use crate::tokens::Door;
 use tier_steps::kind::Kind;
 
 /// What a call that ends the tree answers.
-#[derive(Clone, Copy, PartialEq, Eq)]
+#[derive(Clone, Copy)]
 pub enum Forced {
     /// The tree has ended; the phase that is shown.
     Ended(i32),

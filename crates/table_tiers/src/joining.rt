@@ -1,7 +1,6 @@
 //! Registrations.
 
 ghost use Rattle.std.specs.Prelude.{◌≡◌, ◌<◌, ◌≤◌, ℕ, Some, length};
-ghost use Rattle.tier_core.specs.Turn.{claimed_by};
 ghost use Rattle.table_tiers.specs.Registers.{Registers, Opens, HasEnded, IsEndedOrOwed, NoBusy, MayAnswer, AnswersJoin, SameAnswer};
 
 use crate::going::Going;

@@ -12,7 +12,7 @@ use tier_core::turn::is_behind;
 use tier_steps::kind::Kind;
 
 /// What a poll answers.
-#[derive(Clone, Copy, PartialEq, Eq)]
+#[derive(Clone, Copy)]
 pub enum Polled {
     /// The phase in which all members had arrived has passed, and this one is the next.
     Passed(u32),

@@ -1,8 +1,6 @@
 //! The tiers of a tree as atomic words, and its single steps.
 
-ghost use Rattle.std.specs.Prelude.{◌≡◌, ◌≤◌, ◌<◌, IfOk, MatchBool, length, map, replicate};
-ghost use Rattle.phaser_word.specs.Fields.{Fields, IsLegal};
-ghost use Rattle.phaser_word.specs.Packed.{packed};
+ghost use Rattle.std.specs.Prelude.{◌≡◌, ◌≤◌, ◌<◌, IfOk, MatchBool, length, replicate};
 ghost use Rattle.tier_shape.specs.Paths.{IsTiers};
 ghost use Rattle.tier_steps.specs.View.{new_view};
 ghost use Rattle.tier_steps.specs.Step.{Needs};

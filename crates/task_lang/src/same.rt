@@ -2,15 +2,8 @@
 ghost use Rattle.std.specs.Prelude.{◌≡◌, ◌↔◌, IsTrue, map, string_bytes};
 
 use crate::body::Body;
-use crate::code::{Action, Cell, Expr, Index, Line, Operand, Operator};
+use crate::code::{Action, Cell, Expr, Line, Operand, Operator};
 use crate::job::Start;
-
-// Whether two indices are the same.
-fn same_index(a: Index, b: Index) -> bool
-    ensures { IsTrue result ↔ (a ≡ b) }
-{
-    a == b
-}
 
 fn same_cell(a: Cell, b: Cell) -> bool
     ensures { IsTrue result ↔ (a ≡ b) }

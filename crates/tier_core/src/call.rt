@@ -6,7 +6,7 @@ use tier_steps::view::Trip;
 
 /// What a token is asked to do (own; Java SE 21, `Phaser`: `bulkRegister`, `arrive`,
 /// `arriveAndDeregister`, `forceTermination`; polling is own).
-#[derive(Clone, Copy, PartialEq, Eq)]
+#[derive(Clone, Copy)]
 pub enum Call {
     /// To join a tier with members.
     Join {
@@ -26,7 +26,7 @@ pub enum Call {
 }
 
 /// Why a join is held off for now (own).
-#[derive(Clone, Copy, Debug, PartialEq, Eq)]
+#[derive(Clone, Copy, PartialEq, Eq)]
 pub enum Cause {
     /// The tier is being opened by another token.
     BeingOpened,
@@ -119,7 +119,7 @@ pub enum Step {
 }
 
 /// What a step of a whole run answers (own).
-#[derive(Clone, Copy, PartialEq, Eq)]
+#[derive(Clone, Copy)]
 pub enum Answer {
     /// The call has begun.
     Begun,

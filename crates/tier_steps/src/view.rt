@@ -25,7 +25,7 @@ pub enum Stage {
 }
 
 /// What a token owes (own).
-#[derive(Clone, Copy, PartialEq, Eq)]
+#[derive(Clone, Copy)]
 pub enum Errand {
     /// Nothing.
     Rest,
@@ -53,7 +53,7 @@ pub enum Errand {
 }
 
 /// A token's own view of its tree (own). A step changes the word of one tier and the view of one token.
-#[derive(Clone, Copy, PartialEq, Eq)]
+#[derive(Clone, Copy)]
 pub struct View {
     /// The tier of its members.
     pub tier: u16,

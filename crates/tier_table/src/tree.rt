@@ -4,7 +4,6 @@ ghost use Rattle.std.specs.Prelude.{◌≡◌, ◌<◌, ◌≤◌, ℕ, Some, If
 ghost use Rattle.table_tiers.specs.Closes.{held, plain_tokens, views_in, TallyWithOthers};
 ghost use Rattle.advance_rule.specs.Stored.{Answers};
 ghost use Rattle.advance_rule.specs.Plan.{end_ends_at};
-ghost use Rattle.tier_steps.specs.View.{new_view};
 ghost use Rattle.tier_steps.specs.declared.view.Trip.TheVariants.{Arrival, Departure};
 ghost use Rattle.tier_table.specs.Ruled.{IsNew, IsSplit};
 ghost use Rattle.table_tiers.specs.Arrives.{Arrives, Resumes};

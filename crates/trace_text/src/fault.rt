@@ -3,7 +3,7 @@
 use text_lines::Refusal;
 
 /// Why a trace was not run to its end.
-#[derive(Clone, Copy, PartialEq, Eq)]
+#[derive(Clone, Copy)]
 pub enum TraceFault {
     /// The text is refused here, and nothing was written.
     Text(Refusal),

@@ -99,6 +99,14 @@ fn all_meet<R: Threads + Wait + Abort + Sync, F: Fn(u64) -> bool + Sync>(
     assert!(rt; is_each_once(&turns));
 }
 
+// Whether two were told that the gate is broken, and the third took one of them away.
+fn are_broken(told: &[Result<u32, GateFault>]) -> bool {
+    let Some((last, others)) = told.split_last() else {
+        return false;
+    };
+    *last == Ok(0) && others.len() == 2 && others.iter().all(|it| *it == Err(GateFault::Broken))
+}
+
 // Of two that wait one is taken away, and all are told that the gate is broken.
 fn all_are_broken<R: Threads + Wait + Abort + Sync, F: Fn(u64) -> bool + Sync>(
     rt: &R,
@@ -107,19 +115,29 @@ fn all_are_broken<R: Threads + Wait + Abort + Sync, F: Fn(u64) -> bool + Sync>(
 )
     requires { AnswersAction (F.pre gate.now.action.closure) (F.post gate.now.action.closure) gate.now.action.plan }
 {
-    let broken = Err(GateFault::Broken);
     let part = [Deed::Awaits(0), Deed::Awaits(1), Deed::TakesAway];
     let told = three(rt, alloc, gate, part);
-    assert!(rt; told.as_slice() == [broken, broken, Ok(0)].as_slice());
-    assert!(rt; gate.await_turn(rt, 2) == broken);
+    assert!(rt; are_broken(&told));
+}
+
+// Three threads meet; then the gate is broken, and a late caller is told so; renewed, they meet there again.
+fn all_meet_twice<R: Threads + Wait + Abort + Sync, F: Fn(u64) -> bool + Sync>(
+    rt: &R,
+    alloc: Global,
+    gate: &CyclicGate<F>,
+)
+    requires { AnswersAction (F.pre gate.now.action.closure) (F.post gate.now.action.closure) gate.now.action.plan }
+{
+    all_meet(rt, alloc, gate);
+    all_are_broken(rt, alloc, gate);
+    assert!(rt; gate.await_turn(rt, 2) == Err(GateFault::Broken));
+    assert!(rt; gate.reset(rt).is_ok());
+    all_meet(rt, alloc, gate);
 }
 
 #[test]
 fn three_threads_meet_and_are_broken(rt: HostRuntime) {
     let action = StoredAction::new(|_generation: u64| false, None);
     let gate = CyclicGate::new(rt.alloc(), 3, action).expect(&rt, "a gate");
-    all_meet(&rt, rt.alloc(), &gate);
-    all_are_broken(&rt, rt.alloc(), &gate);
-    assert!(rt; gate.reset(&rt).is_ok());
-    all_meet(&rt, rt.alloc(), &gate);
+    all_meet_twice(&rt, rt.alloc(), &gate);
 }

@@ -243,6 +243,19 @@ fn count_orders(
     0
 }
 
+// How many orders of steps there are that begin like these.
+fn count_from(
+    rt: &impl Abort,
+    alloc: Global,
+    widths: &str,
+    leaf: u16,
+    start: &[u8],
+    first: usize,
+) -> u32 {
+    let mut path = Vec::from_slice(alloc, start).expect(rt, "memory");
+    count_orders(rt, alloc, widths, leaf, &mut path, first)
+}
+
 // Trees, their last tier, how many steps are given, and a list of steps: those that are given, and then as many more
 // as every order is tried of. From nothing, and from where both tokens have joined the last tier, the first of them
 // through its path.
@@ -263,9 +276,7 @@ const ORDERS: [(&str, u16, usize, &[u8]); 6] = [
 #[test]
 fn every_order_of_steps_is_a_run_of_the_flat_phaser(rt: HostRuntime) {
     for (widths, leaf, first, start) in ORDERS {
-        let mut path = Vec::new(rt.alloc());
-        path.extend_from_slice(start).expect(&rt, "memory");
-        let count = count_orders(&rt, rt.alloc(), widths, leaf, &mut path, first);
+        let count = count_from(&rt, rt.alloc(), widths, leaf, start, first);
         assert!(rt; count > 1000, "{widths} {count}");
     }
 }

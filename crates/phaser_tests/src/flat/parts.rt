@@ -34,15 +34,19 @@ fn packs_the_known_words(rt: HostRuntime) {
 }
 
 // Lists of parents, and what is told of them: the name of a refusal, or that they are taken.
-const PARENTS: [(&[u16], &str); 8] = [
-    (&[0; 65], "TooManyTiers"),
-    (&[1; 65], "TooManyTiers"),
+const PARENTS: [(&[u16], &str); 5] = [
     (&[], "NoTier"),
     (&[1], "ParentNotEarlier"),
     (&[0, 1], "ParentNotEarlier"),
     (&[0, 0, 1, 2, 3, 4, 5, 6], "TooDeep"),
-    (&[0; 64], "taken"),
     (&[0, 0, 1, 2, 3, 4, 5], "taken"),
+];
+
+// A parent, how many tiers have it, and what is told of them.
+const ALIKE: [(u16, usize, &str); 3] = [
+    (0, 65, "TooManyTiers"),
+    (1, 65, "TooManyTiers"),
+    (0, 64, "taken"),
 ];
 
 // What is told of a list of parents.
@@ -54,6 +58,12 @@ fn told(alloc: Global, parents: &[u16]) -> &'static str {
     }
 }
 
+// What is told of so many tiers with this parent.
+fn told_alike(rt: &impl Abort, alloc: Global, parent: u16, count: usize) -> &'static str {
+    let parents = Vec::from_elem(alloc, parent, count).expect(rt, "memory");
+    told(alloc, &parents)
+}
+
 #[test]
 fn takes_and_refuses_parents(rt: HostRuntime) {
     for (parents, want) in PARENTS {
@@ -61,19 +71,39 @@ fn takes_and_refuses_parents(rt: HostRuntime) {
     }
 }
 
-// The leaves of a tree of 2 by 3, and the path of the last of them.
-fn has_leaves_and_paths(rt: &impl Abort, alloc: Global, shape: &Shape) {
-    assert!(rt; shape.count() == 9);
-    assert!(rt; shape.is_leaf(8) && !shape.is_leaf(2) && !shape.is_leaf(9));
-    assert!(rt; shape.path_up(8).as_slice() == [8, 2, 0].as_slice());
+#[test]
+fn takes_and_refuses_tiers_of_one_parent(rt: HostRuntime) {
+    for (parent, count, want) in ALIKE {
+        assert!(rt;
+            told_alike(&rt, rt.alloc(), parent, count) == want,
+            "{want}"
+        );
+    }
+}
+
+// Which of the tiers of a tree of 2 by 3 are leaves.
+fn has_leaves(rt: &impl Abort, alloc: Global, shape: &Shape) -> bool {
     let leaves = shape.leaves(alloc).expect(rt, "memory");
-    assert!(rt; leaves.as_slice() == [3, 4, 5, 6, 7, 8].as_slice());
+    leaves.as_slice() == [3, 4, 5, 6, 7, 8].as_slice()
+}
+
+// The path of its last leaf.
+fn has_path(shape: &Shape) -> bool {
+    if shape.count() != 9 {
+        return false;
+    }
+    let path = shape.path_up(8);
+    path.as_slice() == [8, 2, 0].as_slice()
 }
 
 #[test]
 fn lists_leaves_and_paths(rt: HostRuntime) {
     let shape = Shape::from_widths(rt.alloc(), "2x3").expect(&rt, "a shape");
-    has_leaves_and_paths(&rt, rt.alloc(), &shape);
+    assert!(rt; has_leaves(&rt, rt.alloc(), &shape));
+    assert!(rt; has_path(&shape));
+    for tier in 0..10 {
+        assert!(rt; shape.is_leaf(tier) == (tier > 2 && tier < 9), "{tier}");
+    }
 }
 
 #[test]

@@ -47,6 +47,20 @@ fn step_of(call: Call, shown: i32, ended: bool) -> Result<FlatStep, Reply> {
     }
 }
 
+// Takes a step of the plain flat phaser, and says whether it is allowed.
+fn takes(rt: &impl Abort, alloc: Global, flat: &mut FlatPhaser, step: FlatStep) -> bool {
+    flat.step(alloc, step).expect(rt, "memory").is_some()
+}
+
+// Takes its advance where that is due.
+fn advances(rt: &impl Abort, alloc: Global, flat: &mut FlatPhaser, plan: CountPlan) {
+    if flat.is_due() {
+        let count = u32::try_from(flat.registered()).unwrap_or(0);
+        let ends = plan.ends(flat.phase(), count);
+        takes(rt, alloc, flat, FlatStep::Advance(ends));
+    }
+}
+
 // What the plain flat phaser answers, with an advance at once where it is due.
 fn plain_reply(
     rt: &impl Abort,
@@ -60,15 +74,10 @@ fn plain_reply(
         Ok(step) => step,
         Err(reply) => return reply,
     };
-    if flat.step(alloc, step).expect(rt, "memory").is_none() {
+    if !takes(rt, alloc, flat, step) {
         return Reply::Refused(OneFault::NobodyUnarrived);
     }
-    if flat.is_due() {
-        let count = u32::try_from(flat.registered()).unwrap_or(0);
-        let ends = plan.ends(flat.phase(), count);
-        flat.step(alloc, FlatStep::Advance(ends))
-            .expect(rt, "memory");
-    }
+    advances(rt, alloc, flat, plan);
     if call == Call::Force && shown >= 0 {
         return Reply::Number(shown - i32::MAX - 1);
     }
@@ -82,6 +91,25 @@ fn is_alike<F: Fn(u32, u32) -> bool>(one: &PhaserOne<F>, flat: &FlatPhaser) -> b
         && one.unarrived() as usize == flat.unarrived()
         && one.ended() == flat.ended()
         && sum == u64::from(one.registered())
+}
+
+// Makes a call on both phasers, and says whether they answer the same and are alike.
+fn is_answered_alike<F: Fn(u32, u32) -> bool>(
+    rt: &impl Abort,
+    alloc: Global,
+    one: &mut PhaserOne<F>,
+    flat: &mut FlatPhaser,
+    plan: CountPlan,
+    call: Call,
+) -> bool
+    requires rule { Answers (F.pre one.old.rule.closure) (F.post one.old.rule.closure) (count_ends one.old.rule.plan) }
+    ensures { one.new.rule ≡ one.old.rule }
+{
+    let want = plain_reply(rt, alloc, flat, plan, call);
+    if one.call(call) != want {
+        return false;
+    }
+    is_alike(one, flat)
 }
 
 // Makes the calls that the digits of a number name on both phasers, which answer the same and are alike so far.
@@ -99,14 +127,17 @@ fn all_called<F: Fn(u32, u32) -> bool>(
     let mut rest = number;
     for _ in 0..length {
         let call = CALLS[(rest % 10) as usize];
-        let want = plain_reply(rt, alloc, flat, plan, call);
-        let told = one.call(call);
-        assert!(rt;
-            told == want && is_alike(one, flat),
-            "calls {number} of {length}"
-        );
+        let alike = is_answered_alike(rt, alloc, one, flat, plan, call);
+        assert!(rt; alike, "calls {number} of {length}");
         rest /= 10;
     }
+}
+
+// A plain flat phaser of so many parties.
+fn flat_of(rt: &impl Abort, alloc: Global, parties: u32) -> FlatPhaser {
+    let mut flat = FlatPhaser::new(alloc, 0);
+    takes(rt, alloc, &mut flat, FlatStep::Join(0, parties));
+    flat
 }
 
 // Makes these calls on two phasers of so many parties.
@@ -119,9 +150,7 @@ fn compared(
     number: u32,
 ) {
     let rule = StoredCount::new(|phase: u32, count: u32| plan.ends(phase, count), plan);
-    let mut flat = FlatPhaser::new(alloc, 0);
-    flat.step(alloc, FlatStep::Join(0, parties))
-        .expect(rt, "memory");
+    let mut flat = flat_of(rt, alloc, parties);
     let mut one = PhaserOne::new(i64::from(parties), 0, rule).expect(rt, "a phaser");
     all_called(rt, alloc, &mut one, &mut flat, plan, length, number);
 }

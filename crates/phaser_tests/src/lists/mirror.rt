@@ -1,5 +1,6 @@
 //! The same calls on the tree as a machine, step by step.
 
+ghost use Rattle.std.specs.Prelude.{IfSome};
 ghost use Rattle.tier_core.specs.Run.{IsCall};
 
 use crate::calls::ask::{Ask, Told};
@@ -58,6 +59,39 @@ fn told_by(ask: Ask, view: View, answer: Played) -> Told {
     }
 }
 
+// The call that a token begins, if it is to begin one.
+fn call_of(rt: &impl Abort, ask: Ask) -> Option<Call>
+    ensures { IfSome result IsCall }
+{
+    match ask {
+        Ask::Open | Ask::Resume => None,
+        Ask::Beside => panic!(rt; "nobody is asked so"),
+        Ask::Register(tier, n) => {
+            assert!(rt; n > 0 && n < 65536);
+            Some(Call::Join { tier, n })
+        }
+        Ask::Arrive => Some(Call::Arrive),
+        Ask::Leave => Some(Call::Leave),
+        Ask::Poll => Some(Call::Poll),
+        Ask::Force => Some(Call::Force),
+    }
+}
+
+// The tier that a token that is on its way has to tell next.
+fn next_tier(view: View) -> Option<usize> {
+    match view.errand {
+        Errand::Climbing { tier, .. } => Some(usize::from(tier)),
+        Errand::Advancing => Some(0),
+        _ => None,
+    }
+}
+
+// The word of a tier, of up to nine.
+fn word_at(rt: &impl Abort, core: &Core, tier: usize) -> u64 {
+    assert!(rt; tier < 9);
+    words_of(core)[tier]
+}
+
 impl Mirror {
     /// How many tiers there are.
     pub(crate) fn tiers(&self) -> u32 {
@@ -90,20 +124,14 @@ impl Mirror {
     // there. The token has then seen the word.
     fn lost_at(&mut self, rt: &impl Abort, token: usize) -> Option<usize> {
         assert!(rt; token < 8);
-        let next = match view_of(&self.core, token).errand {
-            Errand::Climbing { tier, .. } => usize::from(tier),
-            Errand::Advancing => 0,
-            _ => return None,
-        };
-        assert!(rt; next < 9);
-        let word = words_of(&self.core)[next];
-        match self.last[token] {
-            Some((tier, left)) if tier == next && left != word => {
-                self.last[token] = Some((next, word));
-                Some(next)
-            }
-            _ => None,
+        let next = next_tier(view_of(&self.core, token))?;
+        let word = word_at(rt, &self.core, next);
+        let (tier, left) = self.last[token]?;
+        if tier != next || left == word {
+            return None;
         }
+        self.last[token] = Some((next, word));
+        Some(next)
     }
 
     // A call goes on. A lost try is a look, and the last step where that finds the end.
@@ -138,19 +166,18 @@ impl Mirror {
         tries: u32,
         again: bool,
     ) -> Option<Played> {
-        match ask {
-            Ask::Force => self.begin(rt, token, Call::Force, 1),
-            Ask::Open | Ask::Resume => self.resume(rt, token, tries),
-            Ask::Beside => panic!(rt; "nobody is asked so"),
-            _ if again => self.go(rt, token, tries),
-            Ask::Register(tier, n) => {
-                assert!(rt; n > 0 && n < 65536);
-                self.begin(rt, token, Call::Join { tier, n }, tries)
-            }
-            Ask::Arrive => self.begin(rt, token, Call::Arrive, tries),
-            Ask::Leave => self.begin(rt, token, Call::Leave, tries),
-            Ask::Poll => self.begin(rt, token, Call::Poll, 2),
+        let Some(call) = call_of(rt, ask) else {
+            return self.resume(rt, token, tries);
+        };
+        if again && !matches!(call, Call::Force) {
+            return self.go(rt, token, tries);
         }
+        let tries = match call {
+            Call::Force => 1,
+            Call::Poll => 2,
+            _ => tries,
+        };
+        self.begin(rt, token, call, tries)
     }
 
     /// What a token is told of a call with so many tries, or of one that was busy.
@@ -166,7 +193,7 @@ impl Mirror {
         let view = view_of(&self.core, token);
         match answer {
             Some(answer) => told_by(ask, view, answer),
-            None if view.errand == Errand::Rest => Told::Busy,
+            None if matches!(view.errand, Errand::Rest) => Told::Busy,
             None => Told::Owing,
         }
     }
