@@ -12,7 +12,7 @@ pub enum ReadJobFault {
 }
 
 /// Why a line was not read.
-#[derive(Clone, Copy, PartialEq, Eq)]
+#[derive(Clone, Copy)]
 pub(crate) enum LineFault {
     /// The line is refused.
     Refused(Code),

@@ -37,7 +37,7 @@ pub enum Call {
 }
 
 /// What a call of a single phaser answers.
-#[derive(Clone, Copy, Debug, PartialEq, Eq)]
+#[derive(Clone, Copy, PartialEq, Eq)]
 pub enum Reply {
     /// A phase, as it is shown.
     Number(i32),
@@ -48,7 +48,7 @@ pub enum Reply {
 }
 
 /// What asking for the end of a phase answers.
-#[derive(Clone, Copy, PartialEq, Eq)]
+#[derive(Clone, Copy)]
 pub enum Awaited {
     /// It is over, or never was: the phase now, as it is shown, or the negative number asked for.
     Now(i32),
@@ -57,7 +57,7 @@ pub enum Awaited {
 }
 
 /// An advance that a call brought.
-#[derive(Clone, Copy, PartialEq, Eq)]
+#[derive(Clone, Copy)]
 pub struct Advance {
     /// The phase that ended.
     pub phase: u32,
