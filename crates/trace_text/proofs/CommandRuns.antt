@@ -1,10 +1,11 @@
 -- A run of commands, part of which has been written.
 use Rattle.std.proofs.Common.{◌≡◌, ℕ, List, [], ◌∷◌, ◌++◌, Option, Result, Ok, Err, ap, sym, subst, ◌∙◌, refl, append_assoc, append-nil}
+use Rattle.std.specs.Prelude.{OnOk}
 use Rattle.trace_text.specs.declared.fault.TraceFault.{TraceFault}
 use Rattle.trace_text.specs.declared.fault.TraceFault.TheVariants.{Text, Read, Write, Memory}
 use Rattle.trace_text.specs.Runs.{run_text}
 use Rattle.phase_records.specs.Device.{AppendsBeginning}
-use Rattle.trace_text.specs.Outcome.{Writes, Moves}
+use Rattle.trace_text.specs.Outcome.{Writes, WriteCause, Moves}
 use Rattle.phase_records.proofs.PassedBytes.{Passed, passed_none, passed_part, passed_begun, passed_whole, Appends-none}
 
 -- Commands C of a thing that stands for S: what each prints, and what it leaves.
@@ -87,3 +88,20 @@ moved_out old new waited all waits text (Err Write) e none done = rw (← e) don
 moved_out old new waited all waits text (Err Memory) e none done = rw (← e) done
 moved_out old new waited all waits text (Err Read) e none done = absurd done
 moved_out old new waited all waits text (Err (Text t)) e none done = absurd done
+
+-- what was put behind what waits moves as if it had been asked for just now
+pub moves_behind : (old new : Option (List ℕ)) (waited put waits : List ℕ) (result : Result (Unit {0}) TraceFault) (text : List ℕ)
+    → put ≡ waited ++ text → Moves old new put waits result [] → Moves old new waited waits result text
+moves_behind old new waited put waits (Ok x) text e m = (m.0, sym e ∙ sym (append-nil put) ∙ m.1, m.2)
+moves_behind old new waited put waits (Err Write) text e m = subst (λ (ts : List ℕ). AppendsBeginning old new ts) (append-nil put ∙ e) m
+moves_behind old new waited put waits (Err Memory) text e m = subst (λ (ts : List ℕ). AppendsBeginning old new ts) (append-nil put ∙ e) m
+moves_behind old new waited put waits (Err Read) text e m = m
+moves_behind old new waited put waits (Err (Text r)) text e m = m
+
+pub on_ok_always : {T E P : Type 0} (result : Result T E) → P → OnOk result P
+on_ok_always (Ok x) p = p
+on_ok_always (Err e) p = tt
+
+-- failures are counted from where there had been none yet
+pub cause_from : {T : Type 0} (old mid new : ℕ) (result : Result T TraceFault) → mid ≡ old → WriteCause mid new result → WriteCause old new result
+cause_from old mid new result e h = subst (λ (n : ℕ). WriteCause n new result) e h

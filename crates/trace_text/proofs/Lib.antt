@@ -1,4 +1,5 @@
 pub mod CommandRuns
+pub mod PrintedLines
 pub mod TracedRuns
 pub mod AskedLines
 pub mod SpelledCommands

@@ -90,6 +90,17 @@ fn flush<W: CountedWrite>(writer: &mut W, out: &mut Vec<u8>) -> Result<(), Trace
     }
 }
 
+// Writes what waits to be written where it is a piece.
+fn flush_piece<W: CountedWrite>(writer: &mut W, out: &mut Vec<u8>) -> Result<(), TraceFault>
+    ensures moves { Moves (W.contents writer.old) (W.contents writer.new) out.old.items out.new.items result [] }
+    ensures failures { WriteCause (W.failures writer.old) (W.failures writer.new) result }
+{
+    if out.len() < PIECE {
+        return Ok(());
+    }
+    flush(writer, out)
+}
+
 // Does a command, and writes what waits to be written where it is a piece.
 fn run_command<F: Fn(u32, u32) -> bool, W: CountedWrite>(
     writer: &mut W,
@@ -104,13 +115,10 @@ fn run_command<F: Fn(u32, u32) -> bool, W: CountedWrite>(
     ensures rule { phaser.new.rule ≡ phaser.old.rule }
     ensures failures { WriteCause (W.failures writer.old) (W.failures writer.new) result }
 {
-    if push_command(out, phaser, command).is_err() {
-        return Err(TraceFault::Memory);
+    match push_command(out, phaser, command) {
+        Ok(()) => flush_piece(writer, out),
+        Err(_) => Err(TraceFault::Memory),
     }
-    if out.len() < PIECE {
-        return Ok(());
-    }
-    flush(writer, out)
 }
 
 // Does the commands in turn.
@@ -167,13 +175,10 @@ fn run_tree_command<W: CountedWrite>(
     ensures after { OnOk result (core.new ≡ tree_after command core.old) }
     ensures failures { WriteCause (W.failures writer.old) (W.failures writer.new) result }
 {
-    if push_tree_command(out, core, command).is_err() {
-        return Err(TraceFault::Memory);
+    match push_tree_command(out, core, command) {
+        Ok(()) => flush_piece(writer, out),
+        Err(_) => Err(TraceFault::Memory),
     }
-    if out.len() < PIECE {
-        return Ok(());
-    }
-    flush(writer, out)
 }
 
 // Does the commands of a tree in turn.
@@ -235,13 +240,10 @@ fn run_barrier_command<F: Fn(u64) -> bool, W: CountedWrite>(
     ensures action { core.new.action ≡ core.old.action }
     ensures failures { WriteCause (W.failures writer.old) (W.failures writer.new) result }
 {
-    if push_barrier_command(out, core, command).is_err() {
-        return Err(TraceFault::Memory);
+    match push_barrier_command(out, core, command) {
+        Ok(()) => flush_piece(writer, out),
+        Err(_) => Err(TraceFault::Memory),
     }
-    if out.len() < PIECE {
-        return Ok(());
-    }
-    flush(writer, out)
 }
 
 // Does the commands of a barrier in turn.

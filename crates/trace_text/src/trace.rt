@@ -130,6 +130,25 @@ fn read_commands<C: Command>(alloc: Global, text: &[u8], first: usize) -> Result
     Ok(commands)
 }
 
+// Reads the commands behind this head, from this line on.
+fn read_behind<'a>(
+    alloc: Global,
+    head: Head<'a>,
+    line: usize,
+    rest: &[u8],
+) -> Result<Trace<'a>, TraceFault>
+    requires { line + length rest.now < 2 ^ 32 }
+    ensures asked { Gives asked result (spec.below (head_in head.entry) line (lines_of rest.now)) }
+    ensures phase { first_phase head.entry ≤ 2147483647 → IfOk result (λ t. opening_phase t ≤ 2147483647) }
+    ensures range { IfOk result commands_fit }
+{
+    match head {
+        Head::Phaser(head) => Ok(Trace::Phaser(head, read_commands(alloc, rest, line)?)),
+        Head::Tree(head) => Ok(Trace::Tree(head, read_commands(alloc, rest, line)?)),
+        Head::Barrier(head) => Ok(Trace::Barrier(head, read_commands(alloc, rest, line)?)),
+    }
+}
+
 /// Reads a whole text.
 #[tactic(auto, unfolding(crate::specs::Trace::asked_of))]
 pub(crate) fn read_trace(alloc: Global, text: &[u8]) -> Result<Trace<'_>, TraceFault>
@@ -146,9 +165,5 @@ pub(crate) fn read_trace(alloc: Global, text: &[u8]) -> Result<Trace<'_>, TraceF
         Ok(head) => head,
         Err(refusal) => return Err(TraceFault::Text(refusal)),
     };
-    match head {
-        Head::Phaser(head) => Ok(Trace::Phaser(head, read_commands(alloc, rest, line)?)),
-        Head::Tree(head) => Ok(Trace::Tree(head, read_commands(alloc, rest, line)?)),
-        Head::Barrier(head) => Ok(Trace::Barrier(head, read_commands(alloc, rest, line)?)),
-    }
+    read_behind(alloc, head, line, rest)
 }

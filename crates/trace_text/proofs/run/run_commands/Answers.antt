@@ -1,8 +1,8 @@
-use Rattle.std.proofs.Common.{◌≡◌, ◌∙◌, drop, []}
+use Rattle.std.proofs.Common.{◌≡◌, Err, ◌∙◌, drop, [], refl}
 use Rattle.std.proofs.lemmas.List.{drop_more}
 use Rattle.std.proofs.lemmas.Grind.{common_steps}
 use Rattle.std.proofs.Common.{arith}
-use Rattle.trace_text.proofs.CommandRuns.{runs_more, runs_stopped, runs_whole}
+use Rattle.trace_text.proofs.CommandRuns.{runs_begin, runs_more, runs_stopped, runs_whole, cause_from}
 use Rattle.trace_text.proofs.run.run_commands.Goals as goal
 
 pub loop-command-preserved : goal.loop-command-preserved
@@ -23,3 +23,16 @@ pub returns-clause-writes : goal.returns-clause-writes
 returns-clause-writes g c = λ f s.
     let none : drop c.loop-command.command-index c.args.commands.now ≡ [] = grind (arith, common_steps) in
     runs_whole _ _ _ _ _ _ _ _ f _ _ none (c.loop-command.invariant.flat f s) c.flush.ensures.writes
+
+pub returns-in-Err-clause-failures : goal.returns-in-Err-clause-failures
+returns-in-Err-clause-failures g c = cause_from {T = Unit {0}} _ _ (g.W.CountedWrite.failures c.run_command.new.writer) (Err c.in-Err.fault) c.loop-command.invariant.failures c.in-Err.ensures.failures
+
+pub returns-clause-failures : goal.returns-clause-failures
+returns-clause-failures g c = cause_from _ _ (g.W.CountedWrite.failures c.flush.new.writer) c.flush.result c.loop-command.invariant.failures c.flush.ensures.failures
+
+pub loop-command-init : goal.loop-command-init
+loop-command-init g c = record {
+  flat = λ f s. rw c.new-out.ensures.items (runs_begin _ _ _ _ f _ s);
+  rule = refl;
+  failures = refl;
+}

@@ -1,8 +1,8 @@
-use Rattle.std.proofs.Common.{◌≡◌, ◌∙◌, drop, [], sym, ap, arith}
+use Rattle.std.proofs.Common.{◌≡◌, Err, ◌∙◌, drop, [], sym, ap, arith}
 use Rattle.std.proofs.lemmas.List.{drop_more}
 use Rattle.std.proofs.lemmas.Grind.{common_steps}
 use Rattle.trace_text.specs.TreeAnswers.{tree_text, tree_after}
-use Rattle.trace_text.proofs.CommandRuns.{exact, runs_more, runs_stopped, runs_whole}
+use Rattle.trace_text.proofs.CommandRuns.{exact, runs_more, runs_stopped, runs_whole, cause_from}
 use Rattle.trace_text.proofs.run.run_tree_commands.Goals as goal
 
 pub loop-command-preserved : goal.loop-command-preserved
@@ -24,3 +24,9 @@ pub returns-clause-writes : goal.returns-clause-writes
 returns-clause-writes g c =
     let none : drop c.loop-command.command-index c.args.commands.now ≡ [] = grind (arith, common_steps) in
     runs_whole tree_text tree_after _ _ _ _ _ _ _ _ _ none c.loop-command.invariant.runs c.flush.ensures.writes
+
+pub returns-in-Err-clause-failures : goal.returns-in-Err-clause-failures
+returns-in-Err-clause-failures g c = cause_from {T = Unit {0}} _ _ (g.W.CountedWrite.failures c.run_tree_command.new.writer) (Err c.in-Err.fault) c.loop-command.invariant.failures c.in-Err.ensures.failures
+
+pub returns-clause-failures : goal.returns-clause-failures
+returns-clause-failures g c = cause_from _ _ (g.W.CountedWrite.failures c.flush.new.writer) c.flush.result c.loop-command.invariant.failures c.flush.ensures.failures
