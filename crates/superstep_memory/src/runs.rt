@@ -1,8 +1,9 @@
 //! Logs that come in runs, each of which rises by path.
-ghost use Rattle.std.specs.Prelude.{◌≡◌, ℕ, true, None, List, IfOk, OnOk, OnErr, IfErr};
+ghost use Rattle.std.specs.Prelude.{◌≡◌, ◌<◌, length, get_or, [], ℕ, true, false, None, List, IfOk, OnOk, OnErr, IfErr};
 ghost use Rattle.superstep_memory.specs.declared.arrays.Put.{Put as PutValue};
 ghost use Rattle.superstep_memory.specs.Landing.{landed, joined};
-ghost use Rattle.superstep_memory.specs.Logs.{Tells};
+ghost use Rattle.superstep_memory.specs.Logs.{Tells, paths};
+ghost use Rattle.superstep_memory.specs.Paths.{path_lt};
 ghost use Rattle.superstep_memory.specs.PathOrder.{put_all, in_path_order};
 ghost use Rattle.superstep_memory.specs.Runs.{lent_logs, path_of, runs_logs, in_one, all_rise, refusal_of_runs};
 
@@ -13,6 +14,21 @@ use std::alloc::{AllocError, Global};
 
 /// The puts of tasks, the tasks in path order.
 pub type Run = Vec<Entry>;
+
+// Whether the entry at `next` in the right list is there, and comes before that at `place` in the left one.
+#[tactic(auto, using(crate::proofs::Merged::path_there))]
+fn is_right_next(left: &[&Entry], place: usize, right: &[&Entry], next: usize) -> bool
+    requires { place < length left.now }
+    ensures yes { result ≡ true
+        → (next < length right.now) × (path_lt (get_or (paths (lent_logs right.now)) next []) (get_or (paths (lent_logs left.now)) place []) ≡ true) }
+    ensures no { result ≡ false
+        → next < length right.now → path_lt (get_or (paths (lent_logs right.now)) next []) (get_or (paths (lent_logs left.now)) place []) ≡ false }
+{
+    if next < right.len() && is_before(right[next].0.as_slice(), left[place].0.as_slice()) {
+        return true;
+    }
+    false
+}
 
 // Two lists in path order as one. Of equal paths that of the first comes first.
 fn merge<'a>(
@@ -27,7 +43,7 @@ fn merge<'a>(
     let mut next = 0;
     let mut place = 0;
     while place < left.len() {
-        if next < right.len() && is_before(right[next].0.as_slice(), left[place].0.as_slice()) {
+        if is_right_next(left, place, right, next) {
             all.push(right[next])?;
             next += 1;
         } else {
