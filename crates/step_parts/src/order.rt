@@ -76,8 +76,10 @@ pub fn paths_of(alloc: Global, tasks: &[Task]) -> Result<Vec<Path>, AllocError>
 fn path_at(tasks: &[Task], place: usize) -> Option<&[u16]>
     ensures { option_map now_of result ≡ slice_get (map path_in tasks.now) place }
 {
-    let task = tasks.get(place)?;
-    Some(task.path.as_slice())
+    match tasks.get(place) {
+        Some(task) => Some(task.path.as_slice()),
+        None => None,
+    }
 }
 
 impl<'j> Order<'j> {

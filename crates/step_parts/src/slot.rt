@@ -66,8 +66,12 @@ impl<'a> Slots<'a> {
     pub(crate) fn split_first(&self) -> Option<(Slot<'a>, Slots<'a>)>
         ensures { MatchOption result (self.now ≡ []) (λ split. self.now ≡ split.0 ∷ split.1) }
     {
-        let (task, tasks) = self.tasks.split_first()?;
-        let (done, rest) = self.done.split_first()?;
+        let Some((task, tasks)) = self.tasks.split_first() else {
+            return None;
+        };
+        let Some((done, rest)) = self.done.split_first() else {
+            return None;
+        };
         Some((Slot { task, done }, Slots { tasks, done: rest }))
     }
 
@@ -75,8 +79,12 @@ impl<'a> Slots<'a> {
     pub fn at(&self, place: usize) -> Option<Slot<'a>>
         ensures { MatchOption result (slice_get self.now place ≡ None) (λ slot. slice_get self.now place ≡ Some slot) }
     {
-        let task = self.tasks.get(place)?;
-        let done = self.done.get(place)?;
+        let Some(task) = self.tasks.get(place) else {
+            return None;
+        };
+        let Some(done) = self.done.get(place) else {
+            return None;
+        };
         Some(Slot { task, done })
     }
 
