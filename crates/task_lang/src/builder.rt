@@ -51,10 +51,7 @@ impl Builder {
                 self.open_while(test)?;
                 Ok(true)
             }
-            Line::Else(_) => {
-                let fits = self.otherwise()?;
-                Ok(fits)
-            }
+            Line::Else(_) => self.otherwise(),
             Line::EndIf | Line::EndWhile(_, _) => self.end(),
         }
     }
