@@ -174,8 +174,7 @@ impl Live {
     pub fn tasks(&self) -> Result<Arc<Vec<Task>>, AllocError>
         ensures { IfOk result (λ tasks. (arc_value tasks).items ≡ map task_at self.now) }
     {
-        let tasks = Arc::try_clone(&self.tasks)?;
-        Ok(tasks)
+        Arc::try_clone(&self.tasks)
     }
 
     /// Whether the segment of the task at this place was delivered.
