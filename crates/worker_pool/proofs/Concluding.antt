@@ -1,11 +1,10 @@
 -- What a round at its job's end reports.
-use Rattle.std.proofs.Common.{◌≡◌, ℕ, true, Option, Some, None, is_some, refl, sym, ap, ◌∙◌}
+use Rattle.std.proofs.Common.{◌≡◌, ℕ, Option, Some, None, refl, sym, ap, ◌∙◌}
 use Rattle.phase_records.specs.ReportValue.{ReportValue}
 use Rattle.phase_records.specs.Status.{Status}
-use Rattle.task_lang.specs.JobValue.{JobValue}
 use Rattle.step_core.specs.Program.{Program, program_of}
 use Rattle.step_core.specs.Superstep.{State}
-use Rattle.step_core.specs.JobMeaning.{report_in, report_of, so_far, status}
+use Rattle.step_core.specs.JobMeaning.{report_in, report_of, so_far, status, told}
 use Rattle.step_core.specs.RoundValue.{RoundValue, IsRound, state_of, status_in}
 use Rattle.step_parts.proofs.Runs.{ended_is_last}
 
@@ -14,15 +13,10 @@ told_at_end : (p : Program) (limit n : ℕ) (st : State) (s : Status) → st ≡
 told_at_end p limit n st s reached ended =
     ap (report_in limit) (sym (ended_is_last p limit n s (ap (status limit) (sym reached) ∙ ended)) ∙ sym reached)
 
--- the report of a round whose job has ended is the job's
-pub concluded : (r : RoundValue) (j : JobValue) (limit : ℕ) (report : ReportValue) → IsRound r → r.job ≡ j → r.limit ≡ limit → is_some (status_in r) ≡ true
-    → Some report ≡ report_in r.limit (state_of r) → report_of (program_of j) limit ≡ Some report
-concluded r j limit report h ej el ended told = by (status_in r) refl ended
+-- the report of a round is the job's
+pub reported : (r : RoundValue) (report : ReportValue) → IsRound r → Some report ≡ report_in r.limit (state_of r) → report_of (program_of r.job) r.limit ≡ Some report
+reported r report h said = by (status_in r) refl
   where
-    by : (o : Option Status) → status_in r ≡ o → is_some o ≡ true → report_of (program_of j) limit ≡ Some report
-    by None e none = absurd cc
-    by (Some s) e some_status =
-        ap (λ (k : JobValue). report_of (program_of k) limit) (sym ej)
-        ∙ ap (report_of (program_of r.job)) (sym el)
-        ∙ told_at_end (program_of r.job) r.limit h.reached.0 (state_of r) s h.reached.1 e
-        ∙ sym told
+    by : (o : Option Status) → status_in r ≡ o → report_of (program_of r.job) r.limit ≡ Some report
+    by None e = absurd (let a : Some report ≡ None = said ∙ ap (told (state_of r)) e in cc)
+    by (Some s) e = told_at_end (program_of r.job) r.limit h.reached.0 (state_of r) s h.reached.1 e ∙ sym said

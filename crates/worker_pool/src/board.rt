@@ -1,7 +1,11 @@
 //! The round as workers share it, with the tasks that are ready.
-ghost use Rattle.std.specs.Prelude.{◌≡◌, ℕ, Some, IfOk, IfErr};
+ghost use Rattle.std.specs.Prelude.{◌≡◌, ℕ, Some, IfOk, IfErr, OnOk, OnErr};
 ghost use Rattle.step_core.specs.Program.{program_of};
 ghost use Rattle.step_core.specs.JobMeaning.{report_of};
+ghost use Rattle.step_core.specs.Superstep.{superstep};
+ghost use Rattle.step_core.specs.Slots.{delivered};
+ghost use Rattle.step_core.specs.Taking.{Takes, with_delivery, outcome_of};
+ghost use Rattle.step_core.specs.RoundValue.{Opens, state_of, slots_in};
 ghost use Rattle.worker_pool.specs.Refusals.{IsOfWorkers};
 
 use crate::fault::{Note, Refused, note_of_closing, note_of_delivery};
@@ -12,7 +16,7 @@ use std::alloc::{AllocError, Global};
 use std::collections::VecDeque;
 use std::marker::{Brand, Model, PhantomData};
 use std::mem;
-use step_core::{Order, Outcome, Round};
+use step_core::{Delivery, Order, Outcome, Round};
 
 /// Which job runs, within which limit, and at which tree its workers meet. Each run picks it.
 pub trait Running {
@@ -65,7 +69,7 @@ pub(crate) enum Next<'j, J: Running> {
 }
 
 /// What a hand that has passed through the tree has done to the round.
-#[derive(Clone, Copy, PartialEq, Eq)]
+#[derive(Clone, Copy)]
 pub(crate) enum Turned {
     /// The round goes on, and no task is ready that was not.
     Goes,
@@ -87,7 +91,7 @@ impl<'j, J: Running> Model for Board<'j, J> {
 }
 
 impl<'j, J: Running> Board<'j, J> {
-    ghost use Rattle.std.specs.Prelude.{◌≡◌, ℕ, Some, is_some, IfOk, IfErr, OnOk, OnErr};
+    ghost use Rattle.std.specs.Prelude.{◌≡◌, ℕ, Some, is_some, IfOk, IfSome, IfErr, OnOk, OnErr};
     ghost use Rattle.step_core.specs.Program.{program_of};
     ghost use Rattle.step_core.specs.JobMeaning.{report_of};
     ghost use Rattle.step_core.specs.Superstep.{superstep};
@@ -121,49 +125,65 @@ impl<'j, J: Running> Board<'j, J> {
         self.ready.is_empty() && !self.is_over()
     }
 
-    // Takes the first ready task; `None` where none is ready.
-    fn take(&mut self) -> Result<Option<Taken<'j, J>>, Note>
+    // Takes the first ready task. Where none is ready, the hand is passed on.
+    fn take(&mut self) -> Result<Next<'j, J>, Note>
         ensures { self.new ≡ self.old }
     {
-        let Some(first) = self.ready.front() else {
-            return Ok(None);
-        };
-        let order = self.order(first.place, first.path.as_slice())?;
-        match self.ready.pop_front() {
-            Some(mut seat) => {
-                seat.place = order.place();
-                Ok(Some(Taken::new(seat, order)))
-            }
+        match self.first_order()? {
+            Some(order) => Ok(self.hand_out(order)),
+            None => Ok(Next::Pass),
+        }
+    }
+
+    // What the segment of the first ready task needs; `None` where none is ready.
+    fn first_order(&self) -> Result<Option<Order<'j>>, Note>
+        ensures { IfOk result (λ first. IfSome first (λ o. o.job ≡ J.job)) }
+    {
+        match self.ready.front() {
+            Some(first) => self.order(first.place, first.path.as_slice()),
             None => Ok(None),
         }
     }
 
+    // Takes the first ready task with its order.
+    fn hand_out(&mut self, order: Order<'j>) -> Next<'j, J>
+        requires { order.job ≡ J.job }
+        ensures { self.new ≡ self.old }
+    {
+        match self.ready.pop_front() {
+            Some(seat) => Next::Task(Taken::new(seat, order)),
+            None => Next::Pass,
+        }
+    }
+
     // What the segment of the task of this path needs. Where no task came or left before it, it is at this place.
-    fn order(&self, near: usize, path: &[u16]) -> Result<Order<'j>, Note>
-        ensures order { IfOk result (λ o. IsOrderOf self.now path.now o) }
-        ensures job { IfOk result (λ o. o.job ≡ J.job) }
+    fn order(&self, near: usize, path: &[u16]) -> Result<Option<Order<'j>>, Note>
+        ensures order { IfOk result (λ order. IfSome order (λ o. IsOrderOf self.now path.now o)) }
+        ensures job { IfOk result (λ order. IfSome order (λ o. o.job ≡ J.job)) }
     {
         match self.round.order_near(near, path) {
-            Ok(Some(order)) => Ok(order),
+            Ok(Some(order)) => Ok(Some(order)),
             Ok(None) => Err(Note::Internal),
             Err(_) => Err(Note::Memory),
         }
     }
 
-    /// What a worker does next whose hand is full, or is not.
-    pub(crate) fn next(&mut self, is_full: bool) -> Result<Next<'j, J>, Note>
+    /// What a worker does next whose last segment was taken so, and whose hand is full, or is not.
+    pub(crate) fn next(
+        &mut self,
+        taken: Result<(), Note>,
+        is_full: bool,
+    ) -> Result<Next<'j, J>, Note>
         ensures { self.new ≡ self.old }
     {
+        taken?;
         if self.is_over() {
             return Ok(Next::Home);
         }
         if is_full {
             return Ok(Next::Pass);
         }
-        match self.take()? {
-            Some(taken) => Ok(Next::Task(taken)),
-            None => Ok(Next::Pass),
-        }
+        self.take()
     }
 
     /// Takes what the last segment of a worker did, if it has not been taken.
@@ -180,13 +200,7 @@ impl<'j, J: Running> Board<'j, J> {
         ensures added { OnOk result (self.new ≡ with_delivery self.old made.entry) }
         ensures unchanged { OnErr result (self.new ≡ self.old) }
     {
-        if self.round.has_ended() {
-            return Err(Note::Internal);
-        }
-        match self.round.accept_known(made.into_delivery()) {
-            Ok(()) => Ok(()),
-            Err(fault) => Err(note_of_delivery(fault)),
-        }
+        accept(&mut self.round, made.into_delivery())
     }
 
     // Takes back the seats of tasks that have passed through the tree in this superstep and live on. Where its round was
@@ -219,16 +233,12 @@ impl<'j, J: Running> Board<'j, J> {
         ensures outcome { IfOk result (λ outcome. outcome ≡ outcome_of (delivered (slots_in self.old))) }
         ensures unchanged { OnErr result (self.new ≡ self.old) }
     {
-        if !self.ready.is_empty() || self.round.has_ended() {
+        if !self.ready.is_empty() {
             return Err(Note::Internal);
         }
-        match self.round.close_round(alloc) {
-            Ok(outcome) => {
-                mem::swap(&mut self.ready, &mut self.coming);
-                Ok(outcome)
-            }
-            Err(fault) => Err(note_of_closing(fault)),
-        }
+        let outcome = close_round(&mut self.round, alloc)?;
+        mem::swap(&mut self.ready, &mut self.coming);
+        Ok(outcome)
     }
 
     /// Takes back the seats of a hand that has passed through the tree in this superstep, and closes the round where it took
@@ -250,31 +260,81 @@ impl<'j, J: Running> Board<'j, J> {
         Ok(if late { Turned::Opened } else { Turned::Goes })
     }
 
-    /// What the job left, once it has ended.
-    pub(crate) fn conclude(self, alloc: Global) -> Result<Report, Refused>
+    /// What the job left, once it has ended, where the workers were started and have gone so.
+    pub(crate) fn conclude(
+        self,
+        alloc: Global,
+        done: Result<(), Refused>,
+    ) -> Result<Report, Refused>
         ensures report { IfOk result (λ report. report_of (program_of J.job) J.limit ≡ Some report) }
-        ensures started { (workers : ℕ) → IfErr result (IsOfWorkers workers) }
+        ensures started { (workers : ℕ) → IfErr done (IsOfWorkers workers) → IfErr result (IsOfWorkers workers) }
     {
-        if let Some(note) = self.note {
-            return Err(note.refusal());
-        }
-        left_by::<J>(alloc, self.round)
+        let Board { round, note, .. } = self;
+        left_by(alloc, round, first_refusal(done, note))
     }
 }
 
+// Why a run is refused whose workers were started and have gone so, with this note.
+fn first_refusal(done: Result<(), Refused>, note: Option<Note>) -> Result<(), Refused>
+    ensures { (workers : ℕ) → IfErr done (IsOfWorkers workers) → IfErr result (IsOfWorkers workers) }
+{
+    done?;
+    match note {
+        Some(note) => Err(note.refusal()),
+        None => Ok(()),
+    }
+}
+
+// What the job of this round left, once it has ended, unless its run is refused.
+fn left_by(alloc: Global, round: Round<'_>, refused: Result<(), Refused>) -> Result<Report, Refused>
+    ensures report { IfOk result (λ report. report_of (program_of round.entry.job) round.entry.limit ≡ Some report) }
+    ensures started { (workers : ℕ) → IfErr refused (IsOfWorkers workers) → IfErr result (IsOfWorkers workers) }
+{
+    refused?;
+    report_by(alloc, round)
+}
+
 // What the job of this round left, once it has ended.
-fn left_by<J: Running>(alloc: Global, round: Round<'_>) -> Result<Report, Refused>
-    requires job { round.job ≡ J.job }
-    requires limit { round.limit ≡ J.limit }
-    ensures report { IfOk result (λ report. report_of (program_of J.job) J.limit ≡ Some report) }
+fn report_by(alloc: Global, round: Round<'_>) -> Result<Report, Refused>
+    ensures report { IfOk result (λ report. report_of (program_of round.entry.job) round.entry.limit ≡ Some report) }
     ensures started { (workers : ℕ) → IfErr result (IsOfWorkers workers) }
 {
-    if !round.has_ended() {
-        return Err(Refused::Internal);
-    }
+    let _ = round.has_ended();
     match round.into_report(alloc) {
         Ok(Some(report)) => Ok(report),
         Ok(None) => Err(Refused::Internal),
         Err(_) => Err(Refused::Memory),
+    }
+}
+
+// Takes what the segment of a task did, unless the job has ended.
+fn accept<'j>(round: &mut Round<'j>, delivery: Delivery<'j>) -> Result<(), Note>
+    requires { delivery.job ≡ round.old.job }
+    ensures taken { OnOk result (Takes round.old delivery.entry) }
+    ensures added { OnOk result (round.new ≡ with_delivery round.old delivery.entry) }
+    ensures unchanged { OnErr result (round.new ≡ round.old) }
+{
+    if round.has_ended() {
+        return Err(Note::Internal);
+    }
+    match round.accept_known(delivery) {
+        Ok(()) => Ok(()),
+        Err(fault) => Err(note_of_delivery(fault)),
+    }
+}
+
+// Takes the superstep of a job that has not ended.
+fn close_round(round: &mut Round<'_>, alloc: Global) -> Result<Outcome, Note>
+    ensures closed { OnOk result (Opens round.new round.old.job round.old.limit
+        (superstep (program_of round.old.job) (state_of round.old))) }
+    ensures outcome { IfOk result (λ outcome. outcome ≡ outcome_of (delivered (slots_in round.old))) }
+    ensures unchanged { OnErr result (round.new ≡ round.old) }
+{
+    if round.has_ended() {
+        return Err(Note::Internal);
+    }
+    match round.close_round(alloc) {
+        Ok(outcome) => Ok(outcome),
+        Err(fault) => Err(note_of_closing(fault)),
     }
 }

@@ -40,7 +40,7 @@ impl From<AllocError> for Refused {
 }
 
 /// Why a worker went home before the job's end.
-#[derive(Clone, Copy, PartialEq, Eq)]
+#[derive(Clone, Copy)]
 pub(crate) enum Note {
     /// It found no memory.
     Memory,

@@ -72,11 +72,13 @@ pub(crate) struct Hand<'j, J: Running> {
 impl<'j, J: Running> Taken<'j, J> {
     ghost use Rattle.std.specs.Prelude.{◌≡◌};
 
-    /// A task taken by its order.
+    /// A task taken by its order, which tells its place.
     pub(crate) fn new(seat: Seat<J>, order: Order<'j>) -> Self
         requires { order.job ≡ J.job }
         ensures { result ≡ order.entry }
     {
+        let mut seat = seat;
+        seat.place = order.place();
         Taken { seat, order }
     }
 }
@@ -112,13 +114,8 @@ impl<'j, J: Running> Hand<'j, J> {
         self.passing.len() >= MOST_IN_HAND
     }
 
-    // Keeps what the segment of a task did.
-    fn keep(
-        &mut self,
-        seat: Seat<J>,
-        delivery: Delivery<'j>,
-        spawned: Vec<Path>,
-    ) -> Result<(), Note>
+    // Keeps what the segment of a task did. Whether the task lives on.
+    fn keep(&mut self, delivery: Delivery<'j>) -> bool
         requires { delivery.job ≡ J.job }
     {
         let synced = delivery.synced();
@@ -126,11 +123,12 @@ impl<'j, J: Running> Hand<'j, J> {
             delivery,
             of: PhantomData,
         });
-        match self.passing.push_back(Passing {
-            seat,
-            spawned,
-            synced,
-        }) {
+        synced
+    }
+
+    // Keeps a task that is left to pass through the tree.
+    fn pass_later(&mut self, task: Passing<J>) -> Result<(), Note> {
+        match self.passing.push_back(task) {
             Ok(()) => Ok(()),
             Err(_) => Err(Note::Memory),
         }
@@ -147,7 +145,14 @@ impl<'j, J: Running> Hand<'j, J> {
         let Taken { seat, order } = taken;
         self.step = order.step();
         match made_by(rt, alloc, gate, &seat.path, order) {
-            Ok((delivery, spawned)) => self.keep(seat, delivery, spawned),
+            Ok((delivery, spawned)) => {
+                let synced = self.keep(delivery);
+                self.pass_later(Passing {
+                    seat,
+                    spawned,
+                    synced,
+                })
+            }
             Err(_) => Err(Note::Memory),
         }
     }
@@ -164,6 +169,16 @@ fn made_by<'j, R: Wait, G: Gate>(
     ensures { IfOk result (λ made. made.0.job ≡ order.entry.job) }
 {
     let delivery = passed_by(rt, alloc, gate, path, order)?;
+    with_spawned(alloc, delivery)
+}
+
+// What the segment of a task did, and the paths of the tasks that it spawned.
+fn with_spawned(
+    alloc: Global,
+    delivery: Delivery<'_>,
+) -> Result<(Delivery<'_>, Vec<Path>), AllocError>
+    ensures { IfOk result (λ made. made.0 ≡ delivery.entry) }
+{
     let spawned = delivery.spawns(alloc)?;
     Ok((delivery, spawned))
 }

@@ -1,5 +1,5 @@
 //! The leaves of a tree, by their numbers.
-ghost use Rattle.std.specs.Prelude.{◌≡◌, ◌<◌, length};
+ghost use Rattle.std.specs.Prelude.{◌≡◌, ◌<◌, IfOk, length};
 ghost use Rattle.tier_shape.specs.Leaves.{leaves_of};
 
 use crate::board::Running;
@@ -16,17 +16,25 @@ pub(crate) struct Leaves<J: Running> {
     ghost some: { 0 < length tiers.items },
 }
 
+/// The tiers that are leaves of a shape.
+pub(crate) fn leaves_in(alloc: Global, shape: &Shape) -> Result<Vec<u16>, AllocError>
+    ensures { IfOk result (λ tiers. (tiers.items ≡ leaves_of shape.now) × (0 < length tiers.items)) }
+{
+    let _tiers = shape.count();
+    let tiers = shape.leaves(alloc)?;
+    Ok(tiers)
+}
+
 impl<J: Running> Leaves<J> {
-    /// The leaves of a shape.
-    pub(crate) fn of(alloc: Global, shape: &Shape) -> Result<Self, AllocError>
-        requires { shape.now ≡ J.tree.key.shape }
+    /// The leaves of the tree of the run.
+    pub(crate) fn new(tiers: Vec<u16>) -> Self
+        requires all { tiers.items ≡ leaves_of J.tree.key.shape }
+        requires some { 0 < length tiers.items }
     {
-        let _tiers = shape.count();
-        let tiers = shape.leaves(alloc)?;
-        Ok(Leaves {
+        Leaves {
             tiers,
             of: PhantomData,
-        })
+        }
     }
 
     /// The tier of the leaf of this number.

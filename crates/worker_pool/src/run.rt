@@ -1,17 +1,19 @@
 //! A job on worker threads.
-ghost use Rattle.std.specs.Prelude.{◌≡◌, ◌≤◌, false, Some, IfOk, IfErr};
+ghost use Rattle.std.specs.Prelude.{◌≡◌, ◌≤◌, ◌<◌, false, Some, IfOk, IfErr, length};
 ghost use Rattle.advance_rule.specs.Stored.{Answers};
 ghost use Rattle.advance_rule.specs.Action.{AnswersAction};
 ghost use Rattle.advance_rule.specs.Plan.{end_ends_at};
 ghost use Rattle.step_core.specs.Program.{program_of};
 ghost use Rattle.step_core.specs.JobMeaning.{report_of};
+ghost use Rattle.tier_shape.specs.Leaves.{leaves_of};
+ghost use Rattle.tier_table.specs.Ruled.{IsNew};
 ghost use Rattle.worker_pool.specs.JobPlan.{limit_of, IsJobPlan};
 ghost use Rattle.worker_pool.specs.Refusals.{IsOfWorkers};
 
 use crate::board::{Board, Running};
 use crate::fault::{Note, Refused};
 use crate::hooks::{Gate, Starter};
-use crate::leaves::Leaves;
+use crate::leaves::{Leaves, leaves_in};
 use crate::seat::{Key, Seat};
 use crate::shop::Shop;
 use crate::start::start_all;
@@ -38,56 +40,54 @@ fn meet(_generation: u64) -> bool
     false
 }
 
-// Registers a start task.
+// Registers the next start task, whose number is that of those before it.
 fn seat_one<J: Running, R: Wait, F: Fn(u32, u32) -> bool>(
     rt: &R,
     meeting: &Meeting<J, F>,
     key: &mut Key<J>,
     path: Path,
-    number: usize,
     seats: &mut Vec<Seat<J>>,
 ) -> Result<(), Note> {
-    let seat = meeting.register_start(rt, key, path, number)?;
+    let seat = meeting.register_start(rt, key, path, seats.len())?;
     match seats.push(seat) {
         Ok(()) => Ok(()),
         Err(_) => Err(Note::Memory),
     }
 }
 
-// Registers the start tasks, one leaf after another, before any worker is started.
+// Registers the start tasks, one leaf after another, before any worker is started. `seats` has been empty.
 fn seat_all<J: Running, R: Wait, F: Fn(u32, u32) -> bool>(
     rt: &R,
     alloc: Global,
     meeting: &Meeting<J, F>,
     key: &mut Key<J>,
     round: &Round<'_>,
-) -> Result<VecDeque<Seat<J>>, Note> {
+    seats: &mut Vec<Seat<J>>,
+) -> Result<(), Note> {
     let paths = round.live(alloc)?;
-    let mut seats = Vec::with_capacity(alloc, paths.len())?;
-    for (number, path) in paths.into_iter().enumerate() {
-        seat_one(rt, meeting, key, path, number, &mut seats)?;
+    seats.reserve(paths.len())?;
+    for path in paths {
+        seat_one(rt, meeting, key, path, seats)?;
     }
-    Ok(VecDeque::from_vec(seats))
+    Ok(())
 }
 
-// What the workers of this round share, with its tasks seated at this tree.
-fn shop_of<'j, J: Running, R: Wait, F: Fn(u32, u32) -> bool>(
-    rt: &R,
+// What the workers of this round share, with its tasks seated so at this tree.
+fn shop_of<'j, J: Running, F: Fn(u32, u32) -> bool>(
     alloc: Global,
     round: Round<'j>,
     meeting: Meeting<J, F>,
-    key: &mut Key<J>,
-) -> Result<Shop<'j, J, F>, Note>
+    seats: Vec<Seat<J>>,
+) -> Shop<'j, J, F>
     requires job { round.job ≡ J.job }
     requires limit { round.limit ≡ J.limit }
-    ensures { IfOk result (λ shop. shop.meeting ≡ meeting) }
+    ensures { result.meeting ≡ meeting }
 {
-    let seats = seat_all(rt, alloc, &meeting, key, &round)?;
-    Ok(Shop {
-        board: Mutex::new(Board::new(alloc, round, seats)),
+    Shop {
+        board: Mutex::new(Board::new(alloc, round, VecDeque::from_vec(seats))),
         changed: Condvar::new(),
         meeting,
-    })
+    }
 }
 
 // Seats the tasks of this round, lets the workers work, who meet at the gate of the start first, and concludes when all
@@ -106,7 +106,7 @@ fn run_at<
     round: Round<'j>,
     meeting: Meeting<J, F>,
     door: Door,
-    start: &CyclicGate<A>,
+    start: &Result<CyclicGate<A>, BarrierFault>,
     workers: u32,
     gate: &G,
     starter: &S,
@@ -115,30 +115,52 @@ fn run_at<
     requires limit { round.limit ≡ J.limit }
     requires tree { door.tree ≡ J.tree }
     requires rule { Answers (F.pre meeting.tree.rule.closure) (F.post meeting.tree.rule.closure) (end_ends_at meeting.tree.rule.plan) }
-    requires action { AnswersAction (A.pre start.now.action.closure) (A.post start.now.action.closure) start.now.action.plan }
+    requires action { IfOk start.now (λ start. AnswersAction (A.pre start.action.closure) (A.post start.action.closure) start.action.plan) }
     ensures report { IfOk result (λ report. report_of (program_of J.job) J.limit ≡ Some report) }
     ensures started { IfErr result (IsOfWorkers workers) }
 {
     let mut key = Key::new(door);
-    match shop_of(rt, alloc, round, meeting, &mut key) {
-        Ok(shop) => {
-            start_all(rt, alloc, &shop, &mut key, gate, start, starter, workers)?;
-            shop.conclude(alloc)
-        }
-        Err(note) => Err(note.refusal()),
-    }
+    let mut seats = Vec::new(alloc);
+    let seated = seat_all(rt, alloc, &meeting, &mut key, &round, &mut seats);
+    let shop = shop_of(alloc, round, meeting, seats);
+    let done = start_seated(
+        rt, alloc, &shop, &mut key, gate, start, starter, workers, seated,
+    );
+    shop.conclude(alloc, done)
 }
 
-// A tree with its leaves, as workers meet at it.
-fn meeting_of<J: Running, F: Fn(u32, u32) -> bool>(
+// Starts the workers where the start tasks were seated and there is a gate of the start.
+fn start_seated<
+    'j,
+    J: Running + Send + Sync,
+    R: Threads + Wait + Sync,
+    F: Fn(u32, u32) -> bool + Sync,
+    A: Fn(u64) -> bool + Sync,
+    G: Gate + Sync,
+    S: Starter,
+>(
+    rt: &R,
     alloc: Global,
-    tree: Tree<F>,
-) -> Result<Meeting<J, F>, AllocError>
-    requires { tree.tree ≡ J.tree }
-    ensures { IfOk result (λ meeting. meeting.tree ≡ tree) }
+    shop: &Shop<'j, J, F>,
+    key: &mut Key<J>,
+    gate: &G,
+    start: &Result<CyclicGate<A>, BarrierFault>,
+    starter: &S,
+    workers: u32,
+    seated: Result<(), Note>,
+) -> Result<(), Refused>
+    requires rule { Answers (F.pre shop.now.meeting.tree.rule.closure) (F.post shop.now.meeting.tree.rule.closure) (end_ends_at shop.now.meeting.tree.rule.plan) }
+    requires action { IfOk start.now (λ start. AnswersAction (A.pre start.action.closure) (A.post start.action.closure) start.action.plan) }
+    ensures { IfErr result (IsOfWorkers workers) }
 {
-    let leaves = Leaves::of(alloc, tree.shape())?;
-    Ok(Meeting::new(tree, leaves))
+    if let Err(note) = seated {
+        return Err(note.refusal());
+    }
+    match start {
+        Ok(start) => start_all(rt, alloc, shop, key, gate, start, starter, workers),
+        Err(BarrierFault::Memory) => Err(Refused::Memory),
+        Err(_) => Err(Refused::Internal),
+    }
 }
 
 // Runs the job of this round at this tree.
@@ -155,6 +177,7 @@ fn run_shared<
     round: Round<'j>,
     tree: Tree<F>,
     door: Door,
+    leaves: Vec<u16>,
     workers: u32,
     gate: &G,
     starter: &S,
@@ -162,21 +185,17 @@ fn run_shared<
     requires job { round.job ≡ J.job }
     requires limit { round.limit ≡ J.limit }
     requires tree { (tree.tree ≡ J.tree) × (door.tree ≡ J.tree) }
+    requires leaves { (leaves.items ≡ leaves_of J.tree.key.shape) × (0 < length leaves.items) }
     requires rule { Answers (F.pre tree.rule.closure) (F.post tree.rule.closure) (end_ends_at tree.rule.plan) }
     ensures report { IfOk result (λ report. report_of (program_of J.job) J.limit ≡ Some report) }
     ensures started { IfErr result (IsOfWorkers workers) }
 {
-    let Ok(meeting) = meeting_of::<J, F>(alloc, tree) else {
-        return Err(Refused::Memory);
-    };
+    let meeting = Meeting::<J, F>::new(tree, Leaves::new(leaves));
     let action = StoredAction::new(meet, None);
-    match CyclicGate::new(alloc, i64::from(workers), action) {
-        Ok(start) => run_at(
-            rt, alloc, round, meeting, door, &start, workers, gate, starter,
-        ),
-        Err(BarrierFault::Memory) => Err(Refused::Memory),
-        Err(_) => Err(Refused::Internal),
-    }
+    let start = CyclicGate::new(alloc, i64::from(workers), action);
+    run_at(
+        rt, alloc, round, meeting, door, &start, workers, gate, starter,
+    )
 }
 
 /// Runs a job on so many worker threads, which meet at a tree of this shape, superstep by superstep: what it answers is
@@ -206,13 +225,43 @@ pub fn run_job<
     ensures report { IfOk result (λ report. report_of (program_of job.now) (limit_of advance.plan) ≡ Some report) }
     ensures started { IfErr result (IsOfWorkers workers) }
 {
-    let Ok(round) = Round::new(alloc, job, limit_in(advance.plan())) else {
-        return Err(Refused::Memory);
-    };
-    let Ok((tree, door)) = Tree::new(alloc, shape, 0, advance) else {
-        return Err(Refused::Memory);
-    };
-    run_shared::<Brand, R, F, G, S>(rt, alloc, round, tree, door, workers, gate, starter)
+    match opened(alloc, job, shape, advance) {
+        Ok((round, tree, door, leaves)) => run_shared::<Brand, R, F, G, S>(
+            rt, alloc, round, tree, door, leaves, workers, gate, starter,
+        ),
+        Err(_) => Err(Refused::Memory),
+    }
+}
+
+// The round of a job, with the tree at which workers meet, its first token, and its leaves.
+fn opened<'j, F: Fn(u32, u32) -> bool + Drop>(
+    alloc: Global,
+    job: &'j Job,
+    shape: Shape,
+    advance: StoredAdvance<F>,
+) -> Result<(Round<'j>, Tree<F>, Door, Vec<u16>), AllocError>
+    requires { IsJobPlan advance.plan }
+    ensures round { IfOk result (λ all. (all.0.job ≡ job.now) × (all.0.limit ≡ limit_of advance.plan)) }
+    ensures tree { IfOk result (λ all. IsNew shape 0 advance all.1 all.2) }
+    ensures leaves { IfOk result (λ all. (all.3.items ≡ leaves_of shape) × (0 < length all.3.items)) }
+{
+    let round = Round::new(alloc, job, limit_in(advance.plan()))?;
+    let (tree, door, leaves) = tree_of(alloc, shape, advance)?;
+    Ok((round, tree, door, leaves))
+}
+
+// A tree of this shape, its first token, and its leaves.
+fn tree_of<F: Fn(u32, u32) -> bool + Drop>(
+    alloc: Global,
+    shape: Shape,
+    advance: StoredAdvance<F>,
+) -> Result<(Tree<F>, Door, Vec<u16>), AllocError>
+    ensures tree { IfOk result (λ all. IsNew shape 0 advance all.0 all.1) }
+    ensures leaves { IfOk result (λ all. (all.2.items ≡ leaves_of shape) × (0 < length all.2.items)) }
+{
+    let leaves = leaves_in(alloc, &shape)?;
+    let (tree, door) = Tree::new(alloc, shape, 0, advance)?;
+    Ok((tree, door, leaves))
 }
 
 // The limit of supersteps that a plan stands for.

@@ -35,11 +35,12 @@ impl<'j, J: Running, F: Fn(u32, u32) -> bool> Shop<'j, J, F> {
         hand: &mut Hand<'j, J>,
     ) -> Result<Next<'j, J>, Note> {
         let mut board = self.board.lock(rt);
-        board.take_in(&mut hand.made)?;
-        if hand.passing.is_empty() {
-            board = self.changed.wait_while(rt, board, |board| board.is_idle());
-        }
-        board.next(hand.is_full())
+        let taken = board.take_in(&mut hand.made);
+        let waits = taken.is_ok() && hand.passing.is_empty();
+        let mut board = self
+            .changed
+            .wait_while(rt, board, |board| waits && board.is_idle());
+        board.next(taken, hand.is_full())
     }
 
     // Lets a task arrive that lives on. Whether it took the advance.
@@ -157,11 +158,13 @@ impl<'j, J: Running, F: Fn(u32, u32) -> bool> Shop<'j, J, F> {
             .board
             .lock(rt)
             .turn(alloc, hand.step, &mut hand.passed, led)?;
-        if turned != Turned::Goes {
-            self.changed.notify_all();
-        }
-        if turned == Turned::Ended {
-            self.meeting.force(rt, key);
+        match turned {
+            Turned::Goes => {}
+            Turned::Opened => self.changed.notify_all(),
+            Turned::Ended => {
+                self.changed.notify_all();
+                self.meeting.force(rt, key);
+            }
         }
         Ok(())
     }
@@ -173,16 +176,20 @@ impl<'j, J: Running, F: Fn(u32, u32) -> bool> Shop<'j, J, F> {
         self.meeting.force(rt, key);
     }
 
-    /// What the job left, once all workers have gone home.
-    pub(crate) fn conclude(self, alloc: Global) -> Result<Report, Refused>
+    /// What the job left, once all workers have gone home, where they were started and have gone so.
+    pub(crate) fn conclude(
+        self,
+        alloc: Global,
+        done: Result<(), Refused>,
+    ) -> Result<Report, Refused>
         ensures report { IfOk result (λ report. report_of (program_of J.job) J.limit ≡ Some report) }
-        ensures started { (workers : ℕ) → IfErr result (IsOfWorkers workers) }
+        ensures started { (workers : ℕ) → IfErr done (IsOfWorkers workers) → IfErr result (IsOfWorkers workers) }
     {
         let Shop {
             board,
             changed: _,
             meeting: _,
         } = self;
-        board.into_inner().conclude(alloc)
+        board.into_inner().conclude(alloc, done)
     }
 }

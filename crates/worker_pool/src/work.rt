@@ -21,23 +21,10 @@ pub(crate) fn work<'j, J: Running, R: Wait, F: Fn(u32, u32) -> bool, G: Gate>(
 )
     requires rule { Answers (F.pre shop.now.meeting.tree.rule.closure) (F.post shop.now.meeting.tree.rule.closure) (end_ends_at shop.now.meeting.tree.rule.plan) }
 {
-    if let Err(note) = begin(rt, alloc, shop, gate, key) {
-        shop.give_up(rt, key, note);
+    match Hand::new(alloc) {
+        Ok(mut hand) => go_on(rt, alloc, shop, gate, key, &mut hand),
+        Err(_) => shop.give_up(rt, key, Note::Memory),
     }
-}
-
-// Takes a hand, and does tasks with it until the workers go home, or it can't go on.
-fn begin<'j, J: Running, R: Wait, F: Fn(u32, u32) -> bool, G: Gate>(
-    rt: &R,
-    alloc: Global,
-    shop: &Shop<'j, J, F>,
-    gate: &G,
-    key: &mut Key<J>,
-) -> Result<(), Note>
-    requires rule { Answers (F.pre shop.now.meeting.tree.rule.closure) (F.post shop.now.meeting.tree.rule.closure) (end_ends_at shop.now.meeting.tree.rule.plan) }
-{
-    let mut hand = Hand::new(alloc)?;
-    go_on(rt, alloc, shop, gate, key, &mut hand)
 }
 
 // Does tasks until the workers go home, or it can't go on.
@@ -48,15 +35,16 @@ fn go_on<'j, J: Running, R: Wait, F: Fn(u32, u32) -> bool, G: Gate>(
     gate: &G,
     key: &mut Key<J>,
     hand: &mut Hand<'j, J>,
-) -> Result<(), Note>
+)
     requires rule { Answers (F.pre shop.now.meeting.tree.rule.closure) (F.post shop.now.meeting.tree.rule.closure) (end_ends_at shop.now.meeting.tree.rule.plan) }
 {
     for _ in rt.forever() {
-        if !do_next(rt, alloc, shop, gate, key, hand)? {
-            return Ok(());
+        match do_next(rt, alloc, shop, gate, key, hand) {
+            Ok(true) => {}
+            Ok(false) => return,
+            Err(note) => return shop.give_up(rt, key, note),
         }
     }
-    Ok(())
 }
 
 // Runs the segment of the next task, or passes the hand on. False where workers go home.
@@ -70,10 +58,18 @@ fn do_next<'j, J: Running, R: Wait, F: Fn(u32, u32) -> bool, G: Gate>(
 ) -> Result<bool, Note>
     requires rule { Answers (F.pre shop.now.meeting.tree.rule.closure) (F.post shop.now.meeting.tree.rule.closure) (end_ends_at shop.now.meeting.tree.rule.plan) }
 {
-    match shop.next(rt, hand)? {
-        Next::Task(taken) => hand.run(rt, alloc, gate, taken)?,
-        Next::Pass => shop.pass_all(rt, alloc, key, hand)?,
-        Next::Home => return Ok(false),
+    match shop.next(rt, hand) {
+        Ok(Next::Task(taken)) => goes_on(hand.run(rt, alloc, gate, taken)),
+        Ok(Next::Pass) => goes_on(shop.pass_all(rt, alloc, key, hand)),
+        Ok(Next::Home) => Ok(false),
+        Err(note) => Err(note),
     }
-    Ok(true)
+}
+
+// True where it came out well.
+fn goes_on(done: Result<(), Note>) -> Result<bool, Note> {
+    match done {
+        Ok(()) => Ok(true),
+        Err(note) => Err(note),
+    }
 }

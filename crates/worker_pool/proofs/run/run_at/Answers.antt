@@ -1,7 +1,4 @@
 use Rattle.worker_pool.proofs.run.run_at.Goals as goal
 
-pub returns-in-Ok-clause-started : goal.returns-in-Ok-clause-started
-returns-in-Ok-clause-started g c = c.conclude.ensures.started c.args.workers
-
 pub returns-clause-started : goal.returns-clause-started
-returns-clause-started g c = c.refusal.ensures c.args.workers
+returns-clause-started g c = c.conclude.ensures.started c.args.workers c.start_seated-done.ensures
