@@ -1,5 +1,5 @@
 //! Starting workers, and meeting before the first task is taken.
-ghost use Rattle.std.specs.Prelude.{◌≡◌, IfErr};
+ghost use Rattle.std.specs.Prelude.{◌≡◌, ◌<◌, ℕ, IfErr, OnOk, length, vec_capacity};
 ghost use Rattle.std.specs.Thread.{IsSync};
 ghost use Rattle.advance_rule.specs.Action.{AnswersAction};
 ghost use Rattle.advance_rule.specs.Stored.{Answers};
@@ -16,7 +16,7 @@ use cyclic_gate::{CyclicGate, GateFault};
 use std::alloc::Global;
 use std::sync::Wait;
 use std::thread;
-use std::thread::Threads;
+use std::thread::{JoinHandle, Threads};
 
 // What a worker does once it was started: it meets the others, and works. Where it finds no memory at the meeting, it
 // sends the others home.
@@ -40,6 +40,31 @@ fn meet_and_work<'j, J: Running, R: Wait, F: Fn(u32, u32) -> bool, A: Fn(u64) ->
             meeting.break_off(rt);
         }
         Err(_) => {}
+    }
+}
+
+// Makes room for a worker's thread, unless the worker may not be started.
+fn may_start<S: Starter>(
+    starter: &S,
+    k: u32,
+    started: &mut Vec<JoinHandle<()>>,
+) -> Result<(), Refused>
+    ensures refused { (workers : ℕ) → k < workers → IfErr result (IsOfWorkers workers) }
+    ensures room { OnOk result (length started.new.items < vec_capacity started.new) }
+{
+    if !starter.may_start(k) {
+        return Err(Refused::NotStarted(k));
+    }
+    match started.reserve(1) {
+        Ok(()) => Ok(()),
+        Err(_) => Err(Refused::Memory),
+    }
+}
+
+// Joins these threads.
+fn join_all<R: Threads + Wait>(rt: &R, started: Vec<JoinHandle<()>>) {
+    for thread in started {
+        thread.join(rt);
     }
 }
 
@@ -78,12 +103,8 @@ pub(crate) fn start_all<
             let mut started = Vec::new(alloc);
             let mut done = Ok(());
             for k in 0..workers {
-                if !starter.may_start(k) {
-                    done = Err(Refused::NotStarted(k));
-                    break;
-                }
-                if started.reserve(1).is_err() {
-                    done = Err(Refused::Memory);
+                if let Err(refused) = may_start(starter, k, &mut started) {
+                    done = Err(refused);
                     break;
                 }
                 let own = shop.meeting.key(key);
@@ -98,9 +119,7 @@ pub(crate) fn start_all<
             if done.is_err() {
                 meeting.break_off(rt);
             }
-            for thread in started {
-                thread.join(rt);
-            }
+            join_all(rt, started);
             done
         },
     )

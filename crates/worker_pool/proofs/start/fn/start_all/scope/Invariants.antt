@@ -1,10 +1,6 @@
-use Rattle.std.proofs.Common.{◌≡◌, ◌≤◌, IfErr}
+use Rattle.std.proofs.Common.{◌≤◌, IfErr}
 use Rattle.worker_pool.specs.Refusals.{IsOfWorkers}
 use Rattle.worker_pool.proofs.start.fn.start_all.scope.Given as goal
 
 abbrev pub invariant-loop-k : goal.invariant-loop-k
 invariant-loop-k g l = (l.k ≤ l.workers) × IfErr l.done (IsOfWorkers l.workers)
-
-abbrev pub invariant-loop-thread : goal.invariant-loop-thread
-invariant-loop-thread g l =
-    (goal.iterator-loop-thread g).can_next l.thread-iterator × (goal.iterator-loop-thread g).is_finite l.thread-iterator × (l.done ≡ l.initial.done)
