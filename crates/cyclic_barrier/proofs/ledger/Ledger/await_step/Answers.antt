@@ -23,7 +23,7 @@ pub invariant_of-self-in_default : goal.invariant_of-self-in_default
 invariant_of-self-in_default g c =
     let m = c.self.inside.state in
     let change : is_change (answer c.args.action.now.plan (Await c.args.caller) m) ≡ true =
-          arrival_changes c.args.action.now.plan c.args.caller m (sym c.is_broken.ensures.answer ∙ c.if-is_broken.false) (sym c.is_waiting.ensures ∙ c.if-is_waiting.false) in
+    arrival_changes c.args.action.now.plan c.args.caller m (sym c.is_broken.ensures.answer ∙ c.if-is_broken.false) (sym c.is_waiting.ensures ∙ c.if-is_waiting.false) in
     let bad : true ≡ false = sym change ∙ (ap is_change c.in-Ok-await_step.ensures.answer ∙ c.in_default.ensures) in cc
 
 pub invariant_of-self-in-Err-await_step : goal.invariant_of-self-in-Err-await_step
