@@ -1,7 +1,4 @@
 //! The supersteps of a job, taken one by one.
-ghost use Rattle.std.specs.Prelude.{◌≡◌, IfOk};
-ghost use Rattle.std.specs.Arc.{arc_value};
-
 use crate::alone::start_all;
 use phase_records::{JobStatus, Report};
 use std::alloc::{AllocError, Global};
@@ -45,17 +42,6 @@ impl<'j> Model for Round<'j> {
     ghost invariant = { IsRoundInside };
 }
 
-// The arrays of a job as it begins, to be shared.
-fn share_arrays(alloc: Global, job: &Job) -> Result<Arc<Arrays>, AllocError>
-    ensures { IfOk result (λ shared. arc_value shared ≡ job.now.arrays) }
-{
-    let arrays = job.arrays().copy(alloc)?;
-    match Arc::new(alloc, arrays) {
-        Ok(shared) => Ok(shared),
-        Err(_) => Err(AllocError),
-    }
-}
-
 impl<'j> Round<'j> {
     ghost use Rattle.std.specs.Prelude.{◌≡◌, ◌≤◌, ◌<◌, ◌↔◌, None, Some, IsTrue, IfOk, IfSome, OnOk, IfErr, OnErr, MatchOption, is_some, true, false, length, map, slice_get};
     ghost use Rattle.std.specs.Option.{option_map};
@@ -78,17 +64,20 @@ impl<'j> Round<'j> {
         let tasks = start_all(alloc, job.bodies(), job.starts())?;
         let missing = tasks.len();
         let live = Live::new(alloc, tasks)?;
-        let opening = share_arrays(alloc, job)?;
-        Ok(Round {
-            job,
-            limit,
-            step: 0,
-            opening,
-            live,
-            missing,
-            finished: Vec::new(alloc),
-            fault: None,
-        })
+        let arrays = job.arrays().copy(alloc)?;
+        match Arc::new(alloc, arrays) {
+            Ok(opening) => Ok(Round {
+                job,
+                limit,
+                step: 0,
+                opening,
+                live,
+                missing,
+                finished: Vec::new(alloc),
+                fault: None,
+            }),
+            Err(_) => Err(AllocError),
+        }
     }
 
     /// Whether the job has ended. It takes no memory.
@@ -228,10 +217,9 @@ impl<'j> Round<'j> {
         ensures unchanged { OnErr result (self.new ≡ self.old) }
     {
         if let Some(fault) = self.disowns(&delivery) {
-            Err(fault)
-        } else {
-            self.accept_known(delivery)
+            return Err(fault);
         }
+        self.accept_known(delivery)
     }
 
     // Why a delivery isn't of this step and this job, if it isn't.
