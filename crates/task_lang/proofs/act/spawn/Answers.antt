@@ -3,7 +3,7 @@ use Rattle.std.specs.Prelude.{◌||◌, if◌then◌else◌}
 use Rattle.std.proofs.lemmas.Int.{to_z-of_z}
 use Rattle.std.proofs.lemmas.List.{length-map, map-append}
 use Rattle.task_lang.specs.TaskValue.{TaskValue}
-use Rattle.task_lang.specs.Meaning.{Setting, Doing, Turn, Goes, Fails, spawn, started}
+use Rattle.task_lang.specs.Meaning.{Setting, Doing, Goes, Fails, spawn, started}
 use Rattle.task_lang.specs.declared.fault.Fault.TheVariants.{Depth, Spawns}
 use Rattle.task_lang.specs.Views.{setting, doing, plans, task_of}
 use Rattle.task_lang.proofs.act.spawn.Goals.{then-count-ge8-via-then-count-ge8, then-count-ge8-via-else-count-ge8+then-from-count-ge65535}
