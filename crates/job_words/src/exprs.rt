@@ -4,7 +4,7 @@ ghost use Rattle.job_words.specs.Exprs as spec;
 ghost use Rattle.job_words.specs.Views.{lent, names_in};
 
 use crate::faults::both;
-use crate::words::{declared_at, index_of};
+use crate::words::{declared_at, index_of, is_word};
 use task_lang::code::{Cell, Expr, Operand, Operator};
 use text_lines::Code;
 
@@ -121,23 +121,23 @@ pub fn operand_of(scope: &Scope<'_>, word: &[u8]) -> Result<Operand, Code>
 pub fn operator_of(word: &[u8]) -> Result<Operator, Code>
     ensures { result ≡ spec.operator_of word.now }
 {
-    if word == b"+".as_slice() {
+    if is_word(word, b"+") {
         Ok(Operator::Add)
-    } else if word == b"-".as_slice() {
+    } else if is_word(word, b"-") {
         Ok(Operator::Subtract)
-    } else if word == b"*".as_slice() {
+    } else if is_word(word, b"*") {
         Ok(Operator::Multiply)
-    } else if word == b"/".as_slice() {
+    } else if is_word(word, b"/") {
         Ok(Operator::Divide)
-    } else if word == b"%".as_slice() {
+    } else if is_word(word, b"%") {
         Ok(Operator::Remainder)
-    } else if word == b"<".as_slice() {
+    } else if is_word(word, b"<") {
         Ok(Operator::Below)
-    } else if word == b"<=".as_slice() {
+    } else if is_word(word, b"<=") {
         Ok(Operator::AtMost)
-    } else if word == b"==".as_slice() {
+    } else if is_word(word, b"==") {
         Ok(Operator::Equal)
-    } else if word == b"!=".as_slice() {
+    } else if is_word(word, b"!=") {
         Ok(Operator::NotEqual)
     } else {
         Err(Code::BadLine)

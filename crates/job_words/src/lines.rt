@@ -5,7 +5,7 @@ ghost use Rattle.job_words.specs.Views.{lent, names_in};
 
 use crate::exprs::{Scope, cell_of, expr_of};
 use crate::faults::both;
-use crate::words::{declared_at, named, place, take_word};
+use crate::words::{declared_at, is_word, named, place, take_word};
 use task_lang::code::{Action, Line};
 use text_lines::Code;
 
@@ -39,25 +39,25 @@ pub enum Keyword {
 pub fn keyword_of(word: &[u8]) -> Option<Keyword>
     ensures { result ≡ spec.keyword_of word.now }
 {
-    if word == b"let".as_slice() {
+    if is_word(word, b"let") {
         Some(Keyword::Let)
-    } else if word == b"put".as_slice() {
+    } else if is_word(word, b"put") {
         Some(Keyword::Put)
-    } else if word == b"print".as_slice() {
+    } else if is_word(word, b"print") {
         Some(Keyword::Print)
-    } else if word == b"spawn".as_slice() {
+    } else if is_word(word, b"spawn") {
         Some(Keyword::Spawn)
-    } else if word == b"sync".as_slice() {
+    } else if is_word(word, b"sync") {
         Some(Keyword::Sync)
-    } else if word == b"stop".as_slice() {
+    } else if is_word(word, b"stop") {
         Some(Keyword::Stop)
-    } else if word == b"if".as_slice() {
+    } else if is_word(word, b"if") {
         Some(Keyword::If)
-    } else if word == b"else".as_slice() {
+    } else if is_word(word, b"else") {
         Some(Keyword::Else)
-    } else if word == b"while".as_slice() {
+    } else if is_word(word, b"while") {
         Some(Keyword::While)
-    } else if word == b"end".as_slice() {
+    } else if is_word(word, b"end") {
         Some(Keyword::End)
     } else {
         None
@@ -68,7 +68,7 @@ pub fn keyword_of(word: &[u8]) -> Option<Keyword>
 fn is_equals(word: &[u8]) -> Result<(), Code>
     ensures { result ≡ spec.is_equals word.now }
 {
-    if word == b"=".as_slice() {
+    if is_word(word, b"=") {
         Ok(())
     } else {
         Err(Code::BadLine)

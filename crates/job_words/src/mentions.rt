@@ -7,7 +7,7 @@ ghost use Rattle.job_words.specs.Views.{lent};
 
 use crate::exprs::{cell_parts, has_bracket};
 use crate::lines::Keyword;
-use crate::words::{place, take_word};
+use crate::words::{is_word, place, take_word};
 use std::alloc::AllocError;
 use text_lines::begins_number;
 
@@ -32,7 +32,7 @@ fn note_index<'a>(locals: &mut Vec<&'a [u8]>, word: &'a [u8]) -> Result<(), Allo
     ensures noted { OnOk result (lent locals.new.items ≡ words.noted (lent locals.old.items) (words.in_index word.entry.now)) }
     ensures few { OnOk result (length locals.new.items ≤ length locals.old.items + 1) }
 {
-    if begins_number(word) || word == b"arg".as_slice() || word == b"step".as_slice() {
+    if begins_number(word) || is_word(word, b"arg") || is_word(word, b"step") {
         return Ok(());
     }
     note(locals, word)

@@ -1,6 +1,7 @@
 //! Names, numbers and indices as words.
 ghost use Rattle.std.specs.Prelude.{◌≡◌, ◌≤◌, ◌<◌, ◌∷◌, [], length, MatchOption, IfSome, IfOk, FitsSigned};
 ghost use Rattle.std.specs.Int.{w64};
+ghost use Rattle.std.specs.Str.{bytes_eq};
 ghost use Rattle.job_words.specs.Words as spec;
 ghost use Rattle.task_lang.specs.Names.{is_among};
 ghost use Rattle.job_words.specs.Views.{lent};
@@ -9,6 +10,13 @@ use crate::faults::both;
 use task_lang::code::Index;
 use task_lang::names::{is_name, is_reserved};
 use text_lines::{Code, begins_number, number};
+
+/// Whether two words are the same.
+pub fn is_word(word: &[u8], other: &[u8]) -> bool
+    ensures { result ≡ bytes_eq word.now other.now }
+{
+    word == other
+}
 
 /// The first word of a line, and the words behind it.
 pub fn take_word<'a, 'b>(words: &'b [&'a [u8]]) -> Option<(&'a [u8], &'b [&'a [u8]])>
@@ -95,10 +103,10 @@ pub fn index_of(locals: &[&[u8]], word: &[u8]) -> Result<Index, Code>
             Err(code) => Err(code),
         };
     }
-    if word == b"arg".as_slice() {
+    if is_word(word, b"arg") {
         return Ok(Index::Arg);
     }
-    if word == b"step".as_slice() {
+    if is_word(word, b"step") {
         return Ok(Index::Step);
     }
     match declared_at(locals, word) {
