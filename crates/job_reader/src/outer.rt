@@ -6,7 +6,7 @@ ghost use Rattle.job_reader.specs.Reading as spec;
 
 use job_words::faults::both;
 use job_words::lines::body_at;
-use job_words::words::{named, numbered};
+use job_words::words::{is_word, named, numbered};
 use std::alloc::{AllocError, Global};
 use task_lang::job::Start;
 use text_lines::{Code, split_word};
@@ -30,11 +30,11 @@ const MOST_CELLS: usize = 4096;
 pub(crate) fn outer_of(word: &[u8]) -> Option<Outer>
     ensures { result ≡ spec.outer_of word.now }
 {
-    if word == b"array".as_slice() {
+    if is_word(word, b"array") {
         Some(Outer::Array)
-    } else if word == b"body".as_slice() {
+    } else if is_word(word, b"body") {
         Some(Outer::Body)
-    } else if word == b"start".as_slice() {
+    } else if is_word(word, b"start") {
         Some(Outer::Start)
     } else {
         None
@@ -51,7 +51,7 @@ pub(crate) fn is_header(first: &[u8], rest: &[u8]) -> bool
     if split_word(rest).is_some() {
         return false;
     }
-    first == b"bsp".as_slice() && format == b"1".as_slice()
+    is_word(first, b"bsp") && is_word(format, b"1")
 }
 
 /// The name that a line gives to a body, if it is such a line.

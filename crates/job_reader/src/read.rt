@@ -16,7 +16,7 @@ use crate::fault::{LineFault, ReadJobFault};
 use crate::outer::{declared_by, is_header};
 use crate::so_far::SoFar;
 use crate::state::State;
-use job_words::words::is_among;
+use job_words::words::{is_among, is_word};
 use std::alloc::{AllocError, Global};
 use task_lang::job::Job;
 use text_lines::{Code, Refusal, bad_byte_line, first_word, split_line, split_word};
@@ -34,7 +34,7 @@ fn is_missing(bodies: &[&[u8]], first: &[u8], rest: &[u8]) -> bool
     let Some((name, _)) = split_word(rest) else {
         return false;
     };
-    if first != b"spawn".as_slice() && first != b"start".as_slice() {
+    if !is_word(first, b"spawn") && !is_word(first, b"start") {
         return false;
     }
     !is_among(bodies, name)
