@@ -6,3 +6,4 @@ pub mod GrowLemmas
 pub mod WrittenLemmas
 pub mod WrittenExprs
 pub mod WrittenLines
+pub mod LineRefused
