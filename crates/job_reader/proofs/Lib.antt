@@ -23,3 +23,4 @@ pub mod LegalBodies
 pub mod ReadJobs
 pub mod AsciiNames
 pub mod NewArrays
+pub mod OuterRefused
