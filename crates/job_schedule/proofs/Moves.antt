@@ -1,5 +1,5 @@
 -- Each move that a worker may take is of a seat that is there, and of a call that may be begun.
-use Rattle.std.proofs.Common.{◌≡◌, ℕ, zero, suc, ◌<◌, ◌≤◌, Bool, true, false, List, [], ◌∷◌, length, refl, sym, subst, arith, Some, None, Option}
+use Rattle.std.proofs.Common.{◌≡◌, ℕ, zero, suc, ◌<◌, ◌≤◌, Bool, true, false, List, [], ◌∷◌, length, refl, sym, ap, ◌∙◌, subst, arith, Some, None, Option}
 use Rattle.std.specs.Prelude.{nat_lt, if◌then◌else◌, ◌==◌, ◌&&◌, slice_index_or, is_some}
 use Rattle.step_core.specs.JobMeaning.{status}
 use Rattle.std.proofs.lemmas.Bool.{ltb-true, ltb-false}
@@ -11,7 +11,9 @@ use Rattle.job_seats.specs.declared.stage.Stage.{Stage}
 use Rattle.job_seats.specs.declared.stage.Stage.TheVariants.{Waits, Taken, Polling, Joining, Arriving, Leaving, Over}
 use Rattle.job_seats.specs.SeatValue.{SeatValue, no_seat, seat_at, all_over}
 use Rattle.job_seats.specs.Moves.{passing, by_stage, kind_for, asked}
-use Rattle.job_schedule.specs.World.{World, by_seat, by_hand, by_mode, move_of}
+use Rattle.job_schedule.specs.declared.step.JobStep.{JobStep}
+use Rattle.job_schedule.specs.AnswerValue.{NotNow}
+use Rattle.job_schedule.specs.World.{World, by_seat, by_hand, by_mode, move_of, kind_of, worker_of, done_by, if_asked, step_of}
 use Rattle.job_schedule.specs.Parts.{IsAllowed}
 
 abbrev pub Allowed : World → Option Move → Type 0
@@ -78,3 +80,18 @@ asked_allowed w kind (Some n) m a e = by (kind == kind_for n) e
     by : (b : Bool) → Some m ≡ (if b then Some n else None) → IsAllowed w m
     by true e = let is : n ≡ m = cc in subst (IsAllowed w) is a
     by false e = cc
+
+taken_step : (w : World) (x : JobStep) (o : Option Move) (m : Move) → Some m ≡ asked (kind_of x) o → done_by w (worker_of x) m ≡ if_asked w x o
+taken_step w x None m e = absurd cc
+taken_step w x (Some n) m e = by (kind_of x == kind_for n) e
+  where
+    by : (b : Bool) → Some m ≡ (if b then Some n else None) → done_by w (worker_of x) m ≡ (if b then done_by w (worker_of x) n else (NotNow, w))
+    by true e = let is : n ≡ m = cc in ap (done_by w (worker_of x)) (sym is)
+    by false e = absurd cc
+
+-- the move that a step takes is what the step does
+pub step_taken : (w : World) (x : JobStep) (kind worker : ℕ) (o : Option Move) (m : Move) → kind ≡ kind_of x → worker ≡ worker_of x → o ≡ move_of w worker
+    → Some m ≡ asked kind o → done_by w worker m ≡ step_of w x
+step_taken w x kind worker o m k who next e =
+    ap (λ (n : ℕ). done_by w n m) who
+    ∙ taken_step w x (move_of w (worker_of x)) m (e ∙ (ap (λ (n : ℕ). asked n o) k ∙ ap (asked (kind_of x)) (next ∙ ap (move_of w) who)))
