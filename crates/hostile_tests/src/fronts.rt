@@ -1,5 +1,5 @@
 //! Texts that are cut, or that a row can't say.
-use crate::runs::{Ran, SWAP, has_left, run_on, texts};
+use crate::runs::{Ran, SWAP, has_left, run_text, texts};
 use std::alloc::Global;
 use std::process::Abort;
 use std::sync::Wait;
@@ -12,7 +12,7 @@ fn is_job_or_refused<R: Abort + Threads + Wait + Sync>(
     front: &[u8],
     is_job: bool,
 ) {
-    let left = run_on(rt, alloc, &["bsp", "check"], front);
+    let left = run_text(rt, alloc, &["bsp", "check"], front);
     let length = front.len();
     assert!(rt; left.status == if is_job { 0 } else { 4 }, "{length}");
     assert!(rt;
@@ -48,7 +48,7 @@ fn front_ends<R: Abort + Threads + Wait + Sync>(
     words: &[&str],
     front: &[u8],
 ) {
-    let left = run_on(rt, alloc, words, front);
+    let left = run_text(rt, alloc, words, front);
     assert!(rt; has_ended(&left));
 }
 
@@ -91,7 +91,7 @@ fn texts_that_no_row_says(rt: HostRuntime) {
         ("check", "bsp 9\n\0", 4, b"", b"refused line 2 code 2\n"),
     ];
     for (word, text, status, out, errors) in rows {
-        let left = run_on(&rt, rt.alloc(), &["bsp", word], text.as_bytes());
+        let left = run_text(&rt, rt.alloc(), &["bsp", word], text.as_bytes());
         has_left(&rt, &left, status, out, errors, text.len());
     }
 }

@@ -1,5 +1,5 @@
 //! Help, whose text is the parser's.
-use crate::runs::run_on;
+use crate::runs::run_text;
 use std::test::Fail;
 
 #[test]
@@ -18,7 +18,7 @@ fn help_names_what_the_command_line_takes(rt: HostRuntime) -> Result<(), Fail> {
         (&["bsp", "trace", "-h"], "trace"),
     ];
     for (words, name) in rows {
-        let left = run_on(&rt, rt.alloc(), words, "".as_bytes());
+        let left = run_text(&rt, rt.alloc(), words, b"");
         assert_eq!(rt; left.status, 0, "{name}");
         assert!(rt; left.errors.is_empty(), "{name}");
         let text = str::from_utf8(left.out.as_slice()).ok().ok_or("text")?;

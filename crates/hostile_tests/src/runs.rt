@@ -1,8 +1,8 @@
 //! Texts, and runs of the program on them.
+use crate::devices::{Sink, Source, Then};
 use bsp_cli::run;
 use phase_records::{Reader, Writer};
 use std::alloc::Global;
-use std::io::{Read, Write};
 use std::process::Abort;
 use std::sync::Wait;
 use std::thread::Threads;
@@ -93,13 +93,13 @@ pub(crate) struct Ran {
 }
 
 /// Runs the program on these devices.
-pub(crate) fn run_with<T: Threads + Wait + Sync, R: Read + Drop, W: Write + Drop, E: Write + Drop>(
+pub(crate) fn run_with<T: Threads + Wait + Sync>(
     rt: &T,
     alloc: Global,
     words: &[&str],
-    input: R,
-    out: W,
-    errors: E,
+    input: Source<'_>,
+    out: Sink<'_>,
+    errors: Sink<'_>,
 ) -> u8 {
     let mut reader = Reader::new(input);
     let mut writer = Writer::new(out);
@@ -114,21 +114,51 @@ pub(crate) fn run_with<T: Threads + Wait + Sync, R: Read + Drop, W: Write + Drop
     )
 }
 
-/// Runs the program on what a reader gives.
-pub(crate) fn run_on<T: Threads + Wait + Sync, R: Read + Drop>(
+/// Runs the program on what a reader gives, with a writer of its output.
+pub(crate) fn run_into<T: Threads + Wait + Sync>(
     rt: &T,
     alloc: Global,
     words: &[&str],
-    input: R,
+    input: Source<'_>,
+    room: usize,
+    most: usize,
+    then: Then,
 ) -> Ran {
     let mut out = Vec::new(alloc);
     let mut errors = Vec::new(alloc);
-    let status = run_with(rt, alloc, words, input, &mut out, &mut errors);
+    let writer = Sink {
+        taken: &mut out,
+        room,
+        most,
+        then,
+    };
+    let status = run_with(rt, alloc, words, input, writer, Sink::of(&mut errors));
     Ran {
         status,
         out,
         errors,
     }
+}
+
+/// Runs the program on what a reader gives.
+pub(crate) fn run_on<T: Threads + Wait + Sync>(
+    rt: &T,
+    alloc: Global,
+    words: &[&str],
+    input: Source<'_>,
+) -> Ran {
+    run_into(rt, alloc, words, input, usize::MAX, usize::MAX, Then::Fails)
+}
+
+/// Runs the program on a text.
+pub(crate) fn run_text<T: Threads + Wait + Sync>(
+    rt: &T,
+    alloc: Global,
+    words: &[&str],
+    text: &[u8],
+) -> Ran {
+    let mut reads = 0;
+    run_on(rt, alloc, words, Source::of(text, &mut reads))
 }
 
 /// Runs the program on a text, and sees that it takes it.
@@ -138,7 +168,7 @@ pub(crate) fn whole_of<T: Abort + Threads + Wait + Sync>(
     words: &[&str],
     text: &str,
 ) -> Vec<u8> {
-    let left = run_on(rt, alloc, words, text.as_bytes());
+    let left = run_text(rt, alloc, words, text.as_bytes());
     assert_eq!(rt; left.status, 0);
     left.out
 }

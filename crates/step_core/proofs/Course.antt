@@ -15,17 +15,17 @@ use Rattle.task_lang.specs.declared.job.Start.{Start}
 use Rattle.task_lang.specs.Views.{plans, task_of}
 use Rattle.task_lang.specs.JobValue.{JobValue}
 use Rattle.task_lang.specs.BodyValue.{BodyValue}
-use Rattle.step_core.specs.DeedValue.{DeedValue}
+use Rattle.step_deeds.specs.DeedValue.{DeedValue}
 use Rattle.step_parts.specs.Program.{Program, program_of}
 use Rattle.superstep_memory.specs.PathOrder.{in_path_order}
 use Rattle.step_parts.specs.SlotParts.{path_in}
 use Rattle.step_parts.specs.Superstep.{State, superstep, closed, ended_by, gone_on, first_fault, next_live, log_of, prints_of, record_of, live_paths}
 use Rattle.step_parts.specs.JobMeaning.{opening, so_far, status, status_of, start_tasks, told, report_of}
-use Rattle.step_core.specs.InPlace.{AllDone, deeds_of, IsAllDone, Told, living_with, left_in, spawned_in, AllFew, told_in}
+use Rattle.step_deeds.specs.InPlace.{AllDone, deeds_of, IsAllDone, Told, living_with, left_in, spawned_in, AllFew, told_in}
 use Rattle.step_core.specs.Course.{course_state, HasFaulted, HasGone, left_by}
 use Rattle.step_core.specs.declared.alone.Course.{Course}
 use Rattle.step_parts.proofs.InOrder.{put_all_mapped, count_in_order}
-use Rattle.step_core.proofs.InPlace.{no_fault, living_told, counted, all_few, paths_kept}
+use Rattle.step_deeds.proofs.InPlace.{no_fault, living_told, counted, all_few, paths_kept}
 use Rattle.step_parts.proofs.Runs.{goes, ended_is_last}
 use Rattle.step_parts.proofs.Deeds.{paths_mapped}
 use Rattle.step_core.proofs.Apart.{live-paths-rise}

@@ -3,5 +3,4 @@ pub mod Closed
 pub mod LawProofs
 pub mod Apart
 pub mod Landings
-pub mod InPlace
 pub mod Course

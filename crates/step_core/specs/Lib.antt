@@ -9,7 +9,5 @@ pub use Rattle.step_parts.specs.OrderValue
 pub use Rattle.step_parts.specs.RoundValue
 pub use Rattle.step_parts.specs.Taking
 pub mod Laws
-pub mod DeedValue
-pub mod InPlace
 pub mod Course
 pub mod RoundView

@@ -8,15 +8,15 @@ ghost use Rattle.task_lang.specs.Views.{plans, task_of};
 ghost use Rattle.step_parts.specs.Program.{program_of};
 ghost use Rattle.superstep_memory.specs.PathOrder.{in_path_order};
 ghost use Rattle.step_parts.specs.SlotParts.{path_in};
-ghost use Rattle.step_core.specs.InPlace.{living_with, left_in, spawned_in};
+ghost use Rattle.step_deeds.specs.InPlace.{living_with, left_in, spawned_in};
 ghost use Rattle.step_parts.specs.JobMeaning.{start_tasks, opening, report_of};
 ghost use Rattle.step_core.specs.Course.{course_state, HasTakenOne, left_by};
 
-use crate::in_place::{Deed, StepScene, do_all, record_deeds};
 use crate::regroup::regroup;
 use phase_records::{JobStatus, PhaseRecord, Print, Report};
 use smallvec::SmallVec;
 use std::alloc::{AllocError, Global};
+use step_deeds::in_place::{Deed, StepScene, do_all, record_deeds};
 use step_parts::closing::too_many;
 use step_parts::slot::Blame;
 use superstep_memory::arrays::Arrays;

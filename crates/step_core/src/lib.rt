@@ -2,7 +2,6 @@
 #![tactic(auto)]
 
 mod alone;
-mod in_place;
 pub mod laws;
 mod regroup;
 mod round;

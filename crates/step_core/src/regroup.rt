@@ -3,10 +3,10 @@ ghost use Rattle.std.specs.Prelude.{◌≡◌, ◌≤◌, ◌+◌, ◌++◌, [],
 ghost use Rattle.std.specs.Vec.{vec_len, vec_capacity};
 ghost use Rattle.superstep_memory.specs.PathOrder.{put_all, in_path_order};
 ghost use Rattle.step_parts.specs.SlotParts.{path_in};
-ghost use Rattle.step_core.specs.InPlace.{kept, living_with};
+ghost use Rattle.step_deeds.specs.InPlace.{kept, living_with};
 
-use crate::in_place::Deed;
 use std::alloc::AllocError;
+use step_deeds::in_place::Deed;
 use step_parts::next::{put_task, put_tasks};
 use task_lang::task::Task;
 

@@ -2,7 +2,7 @@ use Rattle.std.proofs.Common.{◌∙◌, sym, ap}
 use Rattle.superstep_memory.specs.PathOrder.{in_path_order}
 use Rattle.step_parts.specs.SlotParts.{path_in}
 use Rattle.superstep_memory.proofs.Merged.{rising_stays}
-use Rattle.step_core.proofs.InPlace.{all_stay}
+use Rattle.step_deeds.proofs.InPlace.{all_stay}
 use Rattle.step_core.proofs.alone.renew.Goals as goal
 
 pub returns-then-all_stay : goal.returns-then-all_stay

@@ -1,11 +1,11 @@
 use Rattle.std.proofs.Common.{◌∙◌, sym, ap, subst, arith, refl, ℕ, List, length, ◌≤◌}
 use Rattle.std.specs.Prelude.{ℤ}
 use Rattle.phase_records.specs.declared.record.PhaseRecord.{PhaseRecord}
-use Rattle.step_core.specs.DeedValue.{DeedValue}
+use Rattle.step_deeds.specs.DeedValue.{DeedValue}
 use Rattle.step_parts.specs.Program.{program_of}
 use Rattle.step_parts.specs.Superstep.{ended_by}
 use Rattle.step_core.specs.Course.{course_state}
-use Rattle.step_core.specs.InPlace.{AllFew, told_in}
+use Rattle.step_deeds.specs.InPlace.{AllFew, told_in}
 use Rattle.step_core.proofs.Course.{by_fault, by_many, by_landing, cut_off, did, faulted, fits, tallied}
 use Rattle.step_core.proofs.alone.take_superstep.Goals as goal
 

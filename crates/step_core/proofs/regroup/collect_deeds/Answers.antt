@@ -1,8 +1,8 @@
 use Rattle.std.proofs.Common.{arith, ◌++◌}
 use Rattle.step_parts.specs.SlotParts.{path_in}
-use Rattle.step_core.specs.InPlace.{living_with, kept}
+use Rattle.step_deeds.specs.InPlace.{living_with, kept}
 use Rattle.step_parts.proofs.InOrder.{put_next_all, length_cut}
-use Rattle.step_core.proofs.InPlace.{living_last}
+use Rattle.step_deeds.proofs.InPlace.{living_last}
 use Rattle.step_core.proofs.regroup.collect_deeds.Goals as goal
 
 pub put_deed-requires : goal.put_deed-requires

@@ -2,7 +2,7 @@ use Rattle.std.proofs.Common.{◌≡◌, ◌≤◌, ◌+◌, length, reverse}
 use Rattle.std.specs.Vec.{vec_len, vec_capacity}
 use Rattle.superstep_memory.specs.PathOrder.{put_all, in_path_order}
 use Rattle.step_parts.specs.SlotParts.{path_in}
-use Rattle.step_core.specs.InPlace.{living_with}
+use Rattle.step_deeds.specs.InPlace.{living_with}
 use Rattle.step_core.proofs.regroup.collect_deeds.Given as goal
 
 abbrev pub invariant-loop-deed : goal.invariant-loop-deed

@@ -1,7 +1,7 @@
 use Rattle.std.proofs.Common.{◌≡◌, ◌++◌, length, reverse}
 use Rattle.superstep_memory.specs.PathOrder.{in_path_order}
 use Rattle.step_parts.specs.SlotParts.{path_in}
-use Rattle.step_core.specs.InPlace.{living_with}
+use Rattle.step_deeds.specs.InPlace.{living_with}
 use Rattle.step_core.proofs.regroup.regroup.Given as goal
 
 abbrev pub invariant-loop-task : goal.invariant-loop-task

@@ -1,6 +1,6 @@
 use Rattle.std.proofs.Common.{◌≡◌, ◌≤◌, ◌+◌, ◌*◌, length}
-use Rattle.step_core.specs.InPlace.{left_in, spawned_in, AllFew}
-use Rattle.step_core.proofs.in_place.record_deeds.Given as goal
+use Rattle.step_deeds.specs.InPlace.{left_in, spawned_in, AllFew}
+use Rattle.step_deeds.proofs.in_place.record_deeds.Given as goal
 
 abbrev pub invariant-loop-deed : goal.invariant-loop-deed
 invariant-loop-deed l = record {

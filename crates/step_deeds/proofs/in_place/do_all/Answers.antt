@@ -2,9 +2,9 @@ use Rattle.std.proofs.Common.{subst, Option, ℕ, ◌<◌, List, length, arith}
 use Rattle.task_lang.specs.Meaning.{segment_of}
 use Rattle.task_lang.specs.Views.{plans, task_of}
 use Rattle.step_parts.specs.Program.{program_of}
-use Rattle.step_core.specs.InPlace.{ToldOne}
-use Rattle.step_core.proofs.InPlace.{one_more, one_faults}
-use Rattle.step_core.proofs.in_place.do_all.Goals as goal
+use Rattle.step_deeds.specs.InPlace.{ToldOne}
+use Rattle.step_deeds.proofs.InPlace.{one_more, one_faults}
+use Rattle.step_deeds.proofs.in_place.do_all.Goals as goal
 
 pub returns-in-Some : goal.returns-in-Some
 returns-in-Some c =

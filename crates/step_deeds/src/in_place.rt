@@ -4,7 +4,7 @@ ghost use Rattle.task_lang.specs.Meaning.{segment_of};
 ghost use Rattle.task_lang.specs.Views.{plans, task_of};
 ghost use Rattle.step_parts.specs.Program.{program_of};
 ghost use Rattle.step_parts.specs.Superstep.{print_of};
-ghost use Rattle.step_core.specs.InPlace.{IsDone, ToldOne, Told, deeds_of, told_in, AllFew};
+ghost use Rattle.step_deeds.specs.InPlace.{IsDone, ToldOne, Told, deeds_of, told_in, AllFew};
 
 use phase_records::{PhaseRecord, Print};
 use std::alloc::{AllocError, Global};
@@ -19,21 +19,26 @@ use task_lang::task::Task;
 
 /// What all tasks read in a superstep: the job, the arrays as it began, and the step.
 #[derive(Clone, Copy)]
-pub(crate) struct StepScene<'a> {
-    pub(crate) job: &'a Job,
-    pub(crate) arrays: &'a Arrays,
-    pub(crate) step: u32,
+pub struct StepScene<'a> {
+    /// The job.
+    pub job: &'a Job,
+    /// The arrays as the superstep began.
+    pub arrays: &'a Arrays,
+    /// The superstep, from 0.
+    pub step: u32,
 }
 
 /// What a task did: whether it goes on, and the tasks that it spawned.
 #[derive(Drop)]
-pub(crate) struct Deed {
-    pub(crate) synced: bool,
-    pub(crate) spawns: Vec<Task>,
+pub struct Deed {
+    /// Whether it synced, and so goes on.
+    pub synced: bool,
+    /// The tasks that it spawned, in program order.
+    pub spawns: Vec<Task>,
 }
 
 impl Model for Deed {
-    ghost use Rattle.step_core.specs.DeedValue.{DeedValue};
+    ghost use Rattle.step_deeds.specs.DeedValue.{DeedValue};
 
     ghost Value = { DeedValue };
 
@@ -115,7 +120,7 @@ fn do_one(
 }
 
 /// Does the segments of tasks, one after another: all their puts stand in one log then. Or tells the first fault.
-pub(crate) fn do_all(
+pub fn do_all(
     alloc: Global,
     scene: &StepScene<'_>,
     tasks: &mut Vec<Task>,
@@ -141,7 +146,7 @@ pub(crate) fn do_all(
 }
 
 /// The record of a superstep in which tasks did this.
-pub(crate) fn record_deeds(step: u32, deeds: &[Deed]) -> PhaseRecord
+pub fn record_deeds(step: u32, deeds: &[Deed]) -> PhaseRecord
     requires few { length deeds.now ≤ 4096 }
     requires small { AllFew deeds.now }
     ensures { result ≡ told_in step deeds.now }

@@ -11,7 +11,7 @@ use Rattle.task_lang.specs.TaskValue.{TaskValue}
 use Rattle.task_lang.specs.Meaning.{Plan, Segment, After, Synced, Stopped, faulted}
 use Rattle.task_lang.specs.Lent.{HasAdded}
 use Rattle.task_lang.specs.Views.{task_of}
-use Rattle.step_core.specs.DeedValue.{DeedValue}
+use Rattle.step_deeds.specs.DeedValue.{DeedValue}
 use Rattle.step_parts.specs.Program.{Program}
 use Rattle.step_parts.specs.Superstep.{segments, first_fault, log_of, print_of, prints_of}
 

@@ -12,10 +12,10 @@ use Rattle.task_lang.specs.Meaning.{Plan, Task, After, Segment, Synced, Stopped,
 use Rattle.task_lang.specs.Views.{task_of}
 use Rattle.task_lang.specs.Lent.{HasAdded}
 use Rattle.task_lang.specs.declared.scene.Work.{Work}
-use Rattle.step_core.specs.DeedValue.{DeedValue}
+use Rattle.step_deeds.specs.DeedValue.{DeedValue}
 use Rattle.step_parts.specs.Program.{Program}
 use Rattle.step_parts.specs.Superstep.{first_fault, or_later, log_of, print_of, prints_of, living_on, synced, stopped, left, spawned}
-use Rattle.step_core.specs.InPlace.{end_of, IsDeed, ToldOne, AllDone, deeds_of, IsAllDone, kept, living_with, one_left, left_in, spawned_in, AllFew}
+use Rattle.step_deeds.specs.InPlace.{end_of, IsDeed, ToldOne, AllDone, deeds_of, IsAllDone, kept, living_with, one_left, left_in, spawned_in, AllFew}
 
 -- the first tasks are done, and the others stand as they were
 pub record IsUnderWay (p : Program) (arrays : List (List ℕ × List ℤ)) (step : ℕ) (olds : List TaskValue) (place : ℕ) (puts : List Put) (tasks : List TaskValue) (ds : List DeedValue) (before after : List PrintValue) : Type 0 where

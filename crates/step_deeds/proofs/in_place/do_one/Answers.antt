@@ -2,9 +2,9 @@ use Rattle.std.proofs.Common.{subst, true, false}
 use Rattle.task_lang.specs.declared.scene.Ending.{Ending}
 use Rattle.task_lang.specs.Meaning.{segment_of}
 use Rattle.task_lang.specs.Views.{plans, task_of}
-use Rattle.step_core.specs.InPlace.{IsDone}
-use Rattle.step_core.proofs.InPlace.{kept_one}
-use Rattle.step_core.proofs.in_place.do_one.Goals as goal
+use Rattle.step_deeds.specs.InPlace.{IsDone}
+use Rattle.step_deeds.proofs.InPlace.{kept_one}
+use Rattle.step_deeds.proofs.in_place.do_one.Goals as goal
 
 pub returns-in_ok-keep-in-Stopped : goal.returns-in_ok-keep-in-Stopped
 returns-in_ok-keep-in-Stopped c =

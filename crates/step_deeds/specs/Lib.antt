@@ -1,0 +1,2 @@
+pub mod DeedValue
+pub mod InPlace
