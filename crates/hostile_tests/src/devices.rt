@@ -1,6 +1,6 @@
 //! Devices that give or take little, and that fail.
 
-ghost use Rattle.std.specs.Prelude.{◌≤◌, length};
+ghost use Rattle.std.specs.Prelude.{◌≡◌, ◌≤◌, IfOk, length};
 
 use std::io;
 use std::io::{Read, Write};
@@ -105,7 +105,9 @@ impl<'a> Sink<'a> {
     }
 
     // What a write answers that finds no room.
-    fn without_room(&mut self) -> io::Result<usize> {
+    fn without_room(&mut self) -> io::Result<usize>
+        ensures { IfOk result (λ count. count ≡ 0) }
+    {
         match self.then {
             Then::Fails => Err(io::ErrorKind::Other.into()),
             Then::TakesNone => Ok(0),

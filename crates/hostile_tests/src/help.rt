@@ -1,28 +1,50 @@
 //! Help, whose text is the parser's.
-use crate::runs::run_text;
-use std::test::Fail;
+use crate::runs::{Ran, run_text};
+use std::alloc::Global;
+use std::process::Abort;
+use std::sync::Wait;
+use std::thread::Threads;
+
+// Words of a command line that asks for help, and what the help tells.
+const HELPS: [(&[&str], &str); 11] = [
+    (&["bsp", "--help"], "\n  trace  "),
+    (&["bsp", "--help"], "\n  check  "),
+    (&["bsp", "--help"], "\n  run  "),
+    (&["bsp", "run", "--help"], "--limit <N>"),
+    (&["bsp", "run", "--help"], "--workers <N>"),
+    (&["bsp", "run", "--help"], "--tree <WIDTHS>"),
+    (&["bsp", "run", "--help"], "\n  10  "),
+    (&["bsp", "run", "--help"], "worker K not started"),
+    (&["bsp", "check", "--help"], "\n  10  "),
+    (&["bsp", "trace", "--help"], "\n  12  "),
+    (&["bsp", "trace", "-h"], "trace"),
+];
+
+// Whether a run that was asked for help tells this.
+fn tells(left: &Ran, name: &str) -> bool {
+    if left.status != 0 || !left.errors.is_empty() {
+        return false;
+    }
+    match str::from_utf8(left.out.as_slice()) {
+        Ok(text) => text.contains(name),
+        Err(_) => false,
+    }
+}
+
+// Whether these words are told this.
+fn are_told<R: Abort + Threads + Wait + Sync>(
+    rt: &R,
+    alloc: Global,
+    words: &[&str],
+    name: &str,
+) -> bool {
+    let left = run_text(rt, alloc, words, b"");
+    tells(&left, name)
+}
 
 #[test]
-fn help_names_what_the_command_line_takes(rt: HostRuntime) -> Result<(), Fail> {
-    let rows: [(&[&str], &str); 11] = [
-        (&["bsp", "--help"], "\n  trace  "),
-        (&["bsp", "--help"], "\n  check  "),
-        (&["bsp", "--help"], "\n  run  "),
-        (&["bsp", "run", "--help"], "--limit <N>"),
-        (&["bsp", "run", "--help"], "--workers <N>"),
-        (&["bsp", "run", "--help"], "--tree <WIDTHS>"),
-        (&["bsp", "run", "--help"], "\n  10  "),
-        (&["bsp", "run", "--help"], "worker K not started"),
-        (&["bsp", "check", "--help"], "\n  10  "),
-        (&["bsp", "trace", "--help"], "\n  12  "),
-        (&["bsp", "trace", "-h"], "trace"),
-    ];
-    for (words, name) in rows {
-        let left = run_text(&rt, rt.alloc(), words, b"");
-        assert_eq!(rt; left.status, 0, "{name}");
-        assert!(rt; left.errors.is_empty(), "{name}");
-        let text = str::from_utf8(left.out.as_slice()).ok().ok_or("text")?;
-        assert!(rt; text.contains(name), "{name}");
+fn help_names_what_the_command_line_takes(rt: HostRuntime) {
+    for (words, name) in HELPS {
+        assert!(rt; are_told(&rt, rt.alloc(), words, name), "{name}");
     }
-    Ok(())
 }

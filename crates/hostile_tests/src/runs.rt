@@ -3,6 +3,7 @@ use crate::devices::{Sink, Source, Then};
 use bsp_cli::run;
 use phase_records::{Reader, Writer};
 use std::alloc::Global;
+use std::io::{Read, Write};
 use std::process::Abort;
 use std::sync::Wait;
 use std::thread::Threads;
@@ -93,13 +94,13 @@ pub(crate) struct Ran {
 }
 
 /// Runs the program on these devices.
-pub(crate) fn run_with<T: Threads + Wait + Sync>(
+pub(crate) fn run_with<T: Threads + Wait + Sync, R: Read + Drop, W: Write + Drop, E: Write + Drop>(
     rt: &T,
     alloc: Global,
     words: &[&str],
-    input: Source<'_>,
-    out: Sink<'_>,
-    errors: Sink<'_>,
+    input: R,
+    out: W,
+    errors: E,
 ) -> u8 {
     let mut reader = Reader::new(input);
     let mut writer = Writer::new(out);
@@ -115,11 +116,11 @@ pub(crate) fn run_with<T: Threads + Wait + Sync>(
 }
 
 /// Runs the program on what a reader gives, with a writer of its output.
-pub(crate) fn run_into<T: Threads + Wait + Sync>(
+pub(crate) fn run_into<T: Threads + Wait + Sync, R: Read + Drop>(
     rt: &T,
     alloc: Global,
     words: &[&str],
-    input: Source<'_>,
+    input: R,
     room: usize,
     most: usize,
     then: Then,
@@ -141,11 +142,11 @@ pub(crate) fn run_into<T: Threads + Wait + Sync>(
 }
 
 /// Runs the program on what a reader gives.
-pub(crate) fn run_on<T: Threads + Wait + Sync>(
+pub(crate) fn run_on<T: Threads + Wait + Sync, R: Read + Drop>(
     rt: &T,
     alloc: Global,
     words: &[&str],
-    input: Source<'_>,
+    input: R,
 ) -> Ran {
     run_into(rt, alloc, words, input, usize::MAX, usize::MAX, Then::Fails)
 }
