@@ -45,6 +45,6 @@ fn are_told<R: Abort + Threads + Wait + Sync>(
 #[test]
 fn help_names_what_the_command_line_takes(rt: HostRuntime) {
     for (words, name) in HELPS {
-        assert!(rt; are_told(&rt, rt.alloc(), words, name), "{name}");
+        assert!(rt; are_told(&rt, rt.alloc(), words, name));
     }
 }

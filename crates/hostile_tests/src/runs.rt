@@ -162,6 +162,11 @@ pub(crate) fn run_text<T: Threads + Wait + Sync>(
     run_on(rt, alloc, words, Source::of(text, &mut reads))
 }
 
+// A run that ended with status 0.
+fn has_ended(rt: &impl Abort, left: &Ran) {
+    assert!(rt; left.status == 0);
+}
+
 /// Runs the program on a text, and sees that it takes it.
 pub(crate) fn whole_of<T: Abort + Threads + Wait + Sync>(
     rt: &T,
@@ -170,8 +175,18 @@ pub(crate) fn whole_of<T: Abort + Threads + Wait + Sync>(
     text: &str,
 ) -> Vec<u8> {
     let left = run_text(rt, alloc, words, text.as_bytes());
-    assert_eq!(rt; left.status, 0);
+    has_ended(rt, &left);
     left.out
+}
+
+// Whether the bytes are these.
+fn are_bytes(bytes: &[u8], want: &[u8]) -> bool {
+    bytes == want
+}
+
+/// Whether a run ended with this status, and told these errors.
+pub(crate) fn has_failed(left: &Ran, status: u8, errors: &[u8]) -> bool {
+    left.status == status && are_bytes(left.errors.as_slice(), errors)
 }
 
 /// What a run left is this.
@@ -183,7 +198,6 @@ pub(crate) fn has_left(
     errors: &[u8],
     at: usize,
 ) {
-    assert!(rt; left.status == status, "{at}");
-    assert!(rt; left.out.as_slice() == out, "{at}");
-    assert!(rt; left.errors.as_slice() == errors, "{at}");
+    let is_this = are_bytes(left.out.as_slice(), out) && has_failed(left, status, errors);
+    assert!(rt; is_this, "{at}");
 }

@@ -6,8 +6,7 @@ ghost use Rattle.std.specs.Prelude.{◌≡◌, ◌==◌, All, IfSome};
 ghost use Rattle.advance_rule.specs.Stored.{Answers};
 ghost use Rattle.advance_rule.specs.Plan.{end_ends_at};
 
-use crate::bench::WHEN_EMPTY;
-use advance_rule::StoredAdvance;
+use advance_rule::{EndPlan, StoredAdvance};
 use anyhow::{Context, Result};
 use std::alloc::Global;
 use std::rt::Clock;
@@ -19,6 +18,12 @@ use tier_shape::Shape;
 use tier_table::tokens::{Crew, Door};
 use tier_table::tree::Tree;
 use tier_table::waiting::{Admitted, Awaited, Counted};
+
+// A tree that ends where it is empty, and in no phase by itself.
+const WHEN_EMPTY: EndPlan = EndPlan {
+    when_empty: true,
+    at: None,
+};
 
 // A rule of a tree.
 type Rule = fn(u32, u32) -> bool;
@@ -44,17 +49,54 @@ fn enter<R: Wait>(rt: &R, tree: &Tree<Rule>, door: Door, tier: u16) -> Option<Cr
     }
 }
 
-// One member more.
+// The leaf of this number, counted round and round.
+fn leaf_of(leaves: &[u16], number: usize) -> u16 {
+    match leaves.get(number % leaves.len().max(1)) {
+        Some(leaf) => *leaf,
+        None => 0,
+    }
+}
+
+// One member more, at this leaf.
 #[tactic(auto, using(crate::proofs::Crews::all_pushed))]
-fn add(tree: &Tree<Rule>, crews: &mut Vec<Crew>, crew: Crew) -> Option<()>
-    requires own { All (λ c. c.tree ≡ tree.now.tree) crews.old.items }
-    requires joined { crew.tree ≡ tree.now.tree }
-    ensures { IfSome result (λ u. All (λ c. c.tree ≡ tree.now.tree) crews.new.items) }
+fn add<R: Wait>(
+    rt: &R,
+    tree: &Tree<Rule>,
+    door: &mut Door,
+    crews: &mut Vec<Crew>,
+    leaf: u16,
+) -> Option<()>
+    requires door { door.old.tree ≡ tree.now.tree }
+    requires crews { All (λ c. c.tree ≡ tree.now.tree) crews.old.items }
+    ensures door { IfSome result (λ u. door.new.tree ≡ tree.now.tree) }
+    ensures crews { IfSome result (λ u. All (λ c. c.tree ≡ tree.now.tree) crews.new.items) }
 {
+    let next = tree.split(door);
+    let crew = enter(rt, tree, next, leaf)?;
     crews.push(crew).ok()
 }
 
-// So many members, at leaves counted round and round.
+// So many members, at these leaves.
+fn enter_at<R: Wait>(
+    rt: &R,
+    alloc: Global,
+    tree: &Tree<Rule>,
+    door: Door,
+    leaves: &[u16],
+    threads: usize,
+) -> Option<Vec<Crew>>
+    requires own { door.tree ≡ tree.now.tree }
+    ensures { IfSome result (λ crews. All (λ c. c.tree ≡ tree.now.tree) crews.items) }
+{
+    let mut door = door;
+    let mut crews = Vec::new(alloc);
+    for number in 0..threads {
+        add(rt, tree, &mut door, &mut crews, leaf_of(leaves, number))?;
+    }
+    Some(crews)
+}
+
+// So many members, at all leaves of the tree.
 fn enter_all<R: Wait>(
     rt: &R,
     alloc: Global,
@@ -66,15 +108,7 @@ fn enter_all<R: Wait>(
     ensures { IfSome result (λ crews. All (λ c. c.tree ≡ tree.now.tree) crews.items) }
 {
     let leaves = tree.shape().leaves(alloc).ok()?;
-    let mut door = door;
-    let mut crews = Vec::new(alloc);
-    for number in 0..threads {
-        let next = tree.split(&mut door);
-        let tier = *leaves.get(number % leaves.len().max(1))?;
-        let crew = enter(rt, tree, next, tier)?;
-        add(tree, &mut crews, crew)?;
-    }
-    Some(crews)
+    enter_at(rt, alloc, tree, door, leaves.as_slice(), threads)
 }
 
 // How many phases a member met.
@@ -125,6 +159,39 @@ fn planted(alloc: Global, widths: &str, rule: StoredAdvance<Rule>) -> Option<(Tr
     Tree::new(alloc, shape, 0, rule).ok()
 }
 
+// How many phases each member met at least, and how long they took.
+fn race<R: Threads + Wait + Clock + Sync>(
+    rt: &R,
+    tree: &Tree<Rule>,
+    crews: Vec<Crew>,
+    phases: u32,
+) -> Option<(u32, Duration)>
+    requires own { All (λ c. c.tree ≡ tree.now.tree) crews.items }
+    requires rule { Answers (pre tree.now.rule.closure) (post tree.now.rule.closure) (end_ends_at tree.now.rule.plan) }
+{
+    let start = Instant::now(rt);
+    let met = all_meet(rt, tree, crews, phases)?;
+    let took = start.ok()?.elapsed(rt).ok()?;
+    let least = met.iter().fold(phases, |least, met| least.min(*met));
+    Some((least, took))
+}
+
+// The same for so many members at all leaves of a tree.
+fn enter_and_race<R: Threads + Wait + Clock + Sync>(
+    rt: &R,
+    alloc: Global,
+    tree: &Tree<Rule>,
+    door: Door,
+    threads: usize,
+    phases: u32,
+) -> Option<(u32, Duration)>
+    requires own { door.tree ≡ tree.now.tree }
+    requires rule { Answers (pre tree.now.rule.closure) (post tree.now.rule.closure) (end_ends_at tree.now.rule.plan) }
+{
+    let crews = enter_all(rt, alloc, tree, door, threads)?;
+    race(rt, tree, crews, phases)
+}
+
 // How many phases each of so many threads met at least on a tree of these widths, and how long they took.
 fn timed<R: Threads + Wait + Clock + Sync>(
     rt: &R,
@@ -135,12 +202,7 @@ fn timed<R: Threads + Wait + Clock + Sync>(
 ) -> Option<(u32, Duration)> {
     let rule: Rule = is_empty;
     let (tree, door) = planted(alloc, widths, StoredAdvance::new(rule, WHEN_EMPTY))?;
-    let crews = enter_all(rt, alloc, &tree, door, threads)?;
-    let start = Instant::now(rt).ok()?;
-    let met = all_meet(rt, &tree, crews, phases)?;
-    let took = start.elapsed(rt).ok()?;
-    let least = met.iter().fold(phases, |least, met| least.min(*met));
-    Some((least, took))
+    enter_and_race(rt, alloc, &tree, door, threads, phases)
 }
 
 // Runs each number of threads on two trees, and prints how many phases each thread met at least.

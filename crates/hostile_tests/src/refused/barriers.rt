@@ -8,16 +8,15 @@ use std::process::Abort;
 use std::sync::Wait;
 use std::test::Fail;
 
-// Looks at a barrier that found no memory.
+// Looks at a barrier: so many wait, in this generation, and it isn't broken.
 fn is_as_it_was<F: Fn(u64) -> bool>(
     rt: &impl Abort,
     core: &BarrierCore<F>,
     waiting: usize,
     generation: u64,
 ) {
-    assert_eq!(rt; core.waiting(), waiting);
-    assert_eq!(rt; core.generation(), generation);
-    assert!(rt; !core.is_broken());
+    let is_same = core.waiting() == waiting && core.generation() == generation;
+    assert!(rt; is_same && !core.is_broken());
 }
 
 // Looks at an answer: the caller waits, or three go on.
@@ -43,15 +42,21 @@ fn comes<F: Fn(u64) -> bool>(rt: &impl Abort, core: &mut BarrierCore<F>, caller:
     is_waiting_or_tripped(rt, &awaited, core.generation() == generation);
 }
 
+// Nine callers come, in three generations.
+fn all_come<F: Fn(u64) -> bool>(rt: &impl Abort, core: &mut BarrierCore<F>)
+    requires rule { AnswersAction (F.pre core.old.action.closure) (F.post core.old.action.closure) core.old.action.plan }
+{
+    for caller in 0..9 {
+        comes(rt, core, caller);
+    }
+    is_as_it_was(rt, core, 0, 3);
+}
+
 #[test]
 fn callers_come_to_a_barrier(rt: HostRuntime) -> Result<(), Fail> {
     let action = StoredAction::new(|_generation: u64| false, None);
     let mut core = BarrierCore::new(rt.alloc(), 3, action)?;
-    for caller in 0..9 {
-        comes(&rt, &mut core, caller);
-    }
-    assert_eq!(rt; core.generation(), 3);
-    assert_eq!(rt; core.waiting(), 0);
+    all_come(&rt, &mut core);
     Ok(())
 }
 

@@ -19,6 +19,12 @@ enum Deed {
     TakesAway,
 }
 
+// They meet, each as its own caller.
+const MEET: [Deed; 3] = [Deed::Awaits(0), Deed::Awaits(1), Deed::Awaits(2)];
+
+// Two wait, of which the third takes one away.
+const PART: [Deed; 3] = [Deed::Awaits(0), Deed::Awaits(1), Deed::TakesAway];
+
 // A turn, which sends the others home where it finds no memory.
 fn turn<R: Wait, F: Fn(u64) -> bool>(
     rt: &R,
@@ -86,17 +92,16 @@ fn is_each_once(turns: &[Result<u32, GateFault>]) -> bool {
     turns.len() == 3 && turns.contains(&Ok(0)) && turns.contains(&Ok(1)) && turns.contains(&Ok(2))
 }
 
-// Three threads meet, and each gets one of the three turns.
+// Whether three threads meet, and each gets one of the three turns.
 fn all_meet<R: Threads + Wait + Abort + Sync, F: Fn(u64) -> bool + Sync>(
     rt: &R,
     alloc: Global,
     gate: &CyclicGate<F>,
-)
+) -> bool
     requires { AnswersAction (F.pre gate.now.action.closure) (F.post gate.now.action.closure) gate.now.action.plan }
 {
-    let meet = [Deed::Awaits(0), Deed::Awaits(1), Deed::Awaits(2)];
-    let turns = three(rt, alloc, gate, meet);
-    assert!(rt; is_each_once(&turns));
+    let turns = three(rt, alloc, gate, MEET);
+    is_each_once(&turns)
 }
 
 // Whether two were told that the gate is broken, and the third took one of them away.
@@ -107,17 +112,16 @@ fn are_broken(told: &[Result<u32, GateFault>]) -> bool {
     *last == Ok(0) && others.len() == 2 && others.iter().all(|it| *it == Err(GateFault::Broken))
 }
 
-// Of two that wait one is taken away, and all are told that the gate is broken.
+// Whether, of two that wait, one is taken away, and all are told that the gate is broken.
 fn all_are_broken<R: Threads + Wait + Abort + Sync, F: Fn(u64) -> bool + Sync>(
     rt: &R,
     alloc: Global,
     gate: &CyclicGate<F>,
-)
+) -> bool
     requires { AnswersAction (F.pre gate.now.action.closure) (F.post gate.now.action.closure) gate.now.action.plan }
 {
-    let part = [Deed::Awaits(0), Deed::Awaits(1), Deed::TakesAway];
-    let told = three(rt, alloc, gate, part);
-    assert!(rt; are_broken(&told));
+    let told = three(rt, alloc, gate, PART);
+    are_broken(&told)
 }
 
 // Three threads meet; then the gate is broken, and a late caller is told so; renewed, they meet there again.
@@ -128,11 +132,11 @@ fn all_meet_twice<R: Threads + Wait + Abort + Sync, F: Fn(u64) -> bool + Sync>(
 )
     requires { AnswersAction (F.pre gate.now.action.closure) (F.post gate.now.action.closure) gate.now.action.plan }
 {
-    all_meet(rt, alloc, gate);
-    all_are_broken(rt, alloc, gate);
+    assert!(rt; all_meet(rt, alloc, gate));
+    assert!(rt; all_are_broken(rt, alloc, gate));
     assert!(rt; gate.await_turn(rt, 2) == Err(GateFault::Broken));
     assert!(rt; gate.reset(rt).is_ok());
-    all_meet(rt, alloc, gate);
+    assert!(rt; all_meet(rt, alloc, gate));
 }
 
 #[test]

@@ -29,7 +29,7 @@ fn is_packed(bits: u64, want: Option<(u32, u32, u32, bool)>) -> bool {
 #[test]
 fn packs_the_known_words(rt: HostRuntime) {
     for (bits, want) in WORDS {
-        assert!(rt; is_packed(bits, want), "{bits}");
+        assert!(rt; is_packed(bits, want));
     }
 }
 
@@ -67,17 +67,14 @@ fn told_alike(rt: &impl Abort, alloc: Global, parent: u16, count: usize) -> &'st
 #[test]
 fn takes_and_refuses_parents(rt: HostRuntime) {
     for (parents, want) in PARENTS {
-        assert!(rt; told(rt.alloc(), parents) == want, "{want}");
+        assert!(rt; told(rt.alloc(), parents) == want);
     }
 }
 
 #[test]
 fn takes_and_refuses_tiers_of_one_parent(rt: HostRuntime) {
     for (parent, count, want) in ALIKE {
-        assert!(rt;
-            told_alike(&rt, rt.alloc(), parent, count) == want,
-            "{want}"
-        );
+        assert!(rt; told_alike(&rt, rt.alloc(), parent, count) == want);
     }
 }
 
@@ -102,7 +99,7 @@ fn lists_leaves_and_paths(rt: HostRuntime) {
     assert!(rt; has_leaves(&rt, rt.alloc(), &shape));
     assert!(rt; has_path(&shape));
     for tier in 0..10 {
-        assert!(rt; shape.is_leaf(tier) == (tier > 2 && tier < 9), "{tier}");
+        assert!(rt; shape.is_leaf(tier) == (tier > 2 && tier < 9));
     }
 }
 
