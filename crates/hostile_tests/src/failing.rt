@@ -1,7 +1,7 @@
 //! The program on devices that give or take little, and that fail.
 
 use crate::devices::{Sink, Source, Then};
-use crate::runs::{Ran, SWAP, has_failed, has_left, run_into, run_on, run_with, texts, whole_of};
+use crate::runs::{Ran, SWAP, ended_with, has_left, run_into, run_on, run_with, texts, whole_of};
 use std::alloc::Global;
 use std::process::Abort;
 use std::sync::Wait;
@@ -149,7 +149,7 @@ fn errors_are_cut<R: Threads + Wait + Sync>(
     want: (u8, &[u8]),
 ) -> bool {
     let left = run_curtly(rt, alloc, words, text, room);
-    has_failed(&left, want.0, want.1)
+    ended_with(&left, want.0, want.1)
 }
 
 #[test]

@@ -1,7 +1,6 @@
 //! Help, whose text is the parser's.
-use crate::runs::{Ran, run_text};
+use crate::runs::{Ran, ended_with, run_text};
 use std::alloc::Global;
-use std::process::Abort;
 use std::sync::Wait;
 use std::thread::Threads;
 
@@ -22,7 +21,7 @@ const HELPS: [(&[&str], &str); 11] = [
 
 // Whether a run that was asked for help tells this.
 fn tells(left: &Ran, name: &str) -> bool {
-    if left.status != 0 || !left.errors.is_empty() {
+    if !ended_with(left, 0, b"") {
         return false;
     }
     match str::from_utf8(left.out.as_slice()) {
@@ -32,12 +31,7 @@ fn tells(left: &Ran, name: &str) -> bool {
 }
 
 // Whether these words are told this.
-fn are_told<R: Abort + Threads + Wait + Sync>(
-    rt: &R,
-    alloc: Global,
-    words: &[&str],
-    name: &str,
-) -> bool {
+fn are_told<R: Threads + Wait + Sync>(rt: &R, alloc: Global, words: &[&str], name: &str) -> bool {
     let left = run_text(rt, alloc, words, b"");
     tells(&left, name)
 }

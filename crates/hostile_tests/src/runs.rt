@@ -185,7 +185,7 @@ fn are_bytes(bytes: &[u8], want: &[u8]) -> bool {
 }
 
 /// Whether a run ended with this status, and told these errors.
-pub(crate) fn has_failed(left: &Ran, status: u8, errors: &[u8]) -> bool {
+pub(crate) fn ended_with(left: &Ran, status: u8, errors: &[u8]) -> bool {
     left.status == status && are_bytes(left.errors.as_slice(), errors)
 }
 
@@ -198,6 +198,6 @@ pub(crate) fn has_left(
     errors: &[u8],
     at: usize,
 ) {
-    let is_this = are_bytes(left.out.as_slice(), out) && has_failed(left, status, errors);
+    let is_this = are_bytes(left.out.as_slice(), out) && ended_with(left, status, errors);
     assert!(rt; is_this, "{at}");
 }

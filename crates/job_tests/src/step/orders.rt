@@ -41,11 +41,14 @@ fn is_second_synced(delivery: &Delivery<'_>) -> bool {
     is_path(delivery.path(), &[1]) && delivery.synced()
 }
 
+// The path of the task that the second one spawns.
+const SPAWNED: &[u16] = &[1, 0];
+
 // Whether a delivery says what the second task does.
 fn delivery_says(alloc: Global, delivery: &Delivery<'_>) -> bool {
     is_second_synced(delivery)
-        && has_spawned(delivery, &[1, 0])
-        && lists_spawned(alloc, delivery, &[1, 0])
+        && has_spawned(delivery, SPAWNED)
+        && lists_spawned(alloc, delivery, SPAWNED)
 }
 
 // Whether an order is one of the second task, in the first superstep.

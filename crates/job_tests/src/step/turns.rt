@@ -23,6 +23,19 @@ fn deliver_all(alloc: Global, round: &mut Round<'_>, live: &[Path]) {
     }
 }
 
+// Hands in the deliveries of these tasks in such an order, and closes the round.
+fn deliver_and_close(
+    alloc: Global,
+    round: &mut Round<'_>,
+    live: &mut Vec<Path>,
+    first: usize,
+    forwards: bool,
+) -> Answer {
+    turn(live, first, forwards);
+    deliver_all(alloc, round, live);
+    close(alloc, round)
+}
+
 // Hands in the deliveries of all live tasks in such an order, and closes the round.
 pub(crate) fn superstep_from(
     alloc: Global,
@@ -33,9 +46,7 @@ pub(crate) fn superstep_from(
     match round.live(alloc) {
         Ok(paths) => {
             let mut live = paths;
-            turn(&mut live, first, forwards);
-            deliver_all(alloc, round, &live);
-            close(alloc, round)
+            deliver_and_close(alloc, round, &mut live, first, forwards)
         }
         Err(_) => Answer::NoMemory,
     }

@@ -37,12 +37,19 @@ fn bodies_of(alloc: Global, names: &[&str], line: Line) -> Result<Vec<Body>, All
     Ok(bodies)
 }
 
+// Adds an array of so many cells.
+fn add_cells(alloc: Global, arrays: &mut Arrays, count: usize) -> Result<(), AllocError> {
+    let cells = Vec::from_elem(alloc, 7, count)?;
+    let name = String::from_str(alloc, "a")?;
+    let _added = arrays.add(name, cells)?;
+    Ok(())
+}
+
 // One array of so many cells, or none.
 fn arrays_of(alloc: Global, cells: usize) -> Result<Arrays, AllocError> {
     let mut arrays = Arrays::new(alloc);
     if cells > 0 {
-        let name = String::from_str(alloc, "a")?;
-        let _added = arrays.add(name, Vec::from_elem(alloc, 7, cells)?)?;
+        add_cells(alloc, &mut arrays, cells)?;
     }
     Ok(arrays)
 }
