@@ -1,8 +1,6 @@
-//! Runs each stored example and each stored row, and says whether it prints what is stored beside it; then what is timed by hand,
-//! on little. With words it runs one of the latter alone, as `bench.rt` says.
+//! Runs each stored example and each stored row, and says whether it prints what is stored beside it.
 #![tactic(auto)]
 
-mod bench;
 mod row;
 
 use anyhow::Error;
@@ -146,6 +144,16 @@ fn run_traces<R: AllocGlobal + Files + Print + Threads + Wait + Sync>(rt: &R) ->
     Ok(())
 }
 
+// Whether a job prints what is stored each time that three workers run it.
+fn is_shared<R: Threads + Wait + Sync>(rt: &R, alloc: Global, text: &str, want: &str) -> bool {
+    for _ in 0..40 {
+        if !prints(rt, alloc, &SHARED, text, want) {
+            return false;
+        }
+    }
+    true
+}
+
 // Whether a job prints what is stored, on one worker and on three, and its text is taken.
 fn is_job<R: AllocGlobal + Files + Threads + Wait + Sync>(
     rt: &R,
@@ -157,7 +165,7 @@ fn is_job<R: AllocGlobal + Files + Threads + Wait + Sync>(
     Ok(
         is_taken(rt, alloc, text.as_str())
             && prints(rt, alloc, &ALONE, text.as_str(), want.as_str())
-            && prints(rt, alloc, &SHARED, text.as_str(), want.as_str()),
+            && is_shared(rt, alloc, text.as_str(), want.as_str()),
     )
 }
 
@@ -206,20 +214,8 @@ fn run_rows<R: AllocGlobal + Files + Print + Threads + Wait + Sync>(rt: &R) -> R
     run_all(rt, rows.as_str())
 }
 
-// Runs all that is stored.
-fn run_stored<R: AllocGlobal + Files + Print + Threads + Wait + Sync>(rt: &R) -> Result<(), Error> {
-    run_traces(rt)?;
-    run_jobs(rt)?;
-    run_rows(rt)
-}
-
 fn main(rt: HostRuntime) -> Result<(), Error> {
-    let words = std::env::args(&rt)?.collect::<Vec<String>>(rt.alloc())?;
-    match words.as_slice() {
-        [_, name, rest @ ..] => bench::run_named(&rt, name.as_str(), rest),
-        _ => {
-            run_stored(&rt)?;
-            bench::run_each(&rt)
-        }
-    }
+    run_traces(&rt)?;
+    run_jobs(&rt)?;
+    run_rows(&rt)
 }

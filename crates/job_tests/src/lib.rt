@@ -9,5 +9,3 @@ mod pool;
 mod schedule;
 #[cfg(test)]
 mod step;
-#[cfg(test)]
-mod task;

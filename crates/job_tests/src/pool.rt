@@ -6,6 +6,4 @@ mod fixtures;
 #[cfg(test)]
 mod gates;
 #[cfg(test)]
-mod jobs;
-#[cfg(test)]
 mod starters;

@@ -1,4 +1,4 @@
-//! Arrays, landing and rounds: deliveries in any order, and refusals.
+//! Landing and rounds: deliveries in any order, and refusals.
 #[cfg(test)]
 mod calls;
 #[cfg(test)]
@@ -7,8 +7,6 @@ mod fixtures;
 mod hands;
 #[cfg(test)]
 mod landing;
-#[cfg(test)]
-mod memory;
 #[cfg(test)]
 mod orders;
 #[cfg(test)]

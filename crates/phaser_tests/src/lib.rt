@@ -5,11 +5,11 @@
 mod barrier;
 pub mod calls;
 #[cfg(test)]
-mod flat;
-#[cfg(test)]
 mod lists;
 #[cfg(test)]
 mod machine;
+#[cfg(test)]
+mod makers;
 #[cfg(test)]
 mod shared;
 #[cfg(test)]

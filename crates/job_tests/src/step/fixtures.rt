@@ -3,12 +3,7 @@ use std::alloc::{AllocError, Global};
 use superstep_memory::arrays::Arrays;
 
 // One more array of this name with these cells.
-pub(crate) fn add(
-    alloc: Global,
-    arrays: &mut Arrays,
-    name: &str,
-    cells: &[i64],
-) -> Result<bool, AllocError> {
+fn add(alloc: Global, arrays: &mut Arrays, name: &str, cells: &[i64]) -> Result<bool, AllocError> {
     let name = String::from_str(alloc, name)?;
     let cells = Vec::from_slice(alloc, cells)?;
     arrays.add(name, cells)
