@@ -27,6 +27,15 @@ use indexmap::IndexMap;
 use std::alloc::{AllocError, Global};
 use std::marker::Model;
 
+/// What landing does with the value of a put.
+#[derive(Clone, Copy, PartialEq, Eq)]
+pub enum Kind {
+    /// The cell takes the value.
+    Set,
+    /// The value is added to the cell's.
+    Add,
+}
+
 /// A value for a cell: the array by its place in declared order, the cell by its number from 0 on.
 #[derive(Clone, Copy, PartialEq, Eq)]
 pub struct Put {
@@ -34,6 +43,8 @@ pub struct Put {
     pub array: u16,
     /// The number of the cell.
     pub index: u32,
+    /// What landing does with the value.
+    pub kind: Kind,
     /// What is to be written there.
     pub value: i64,
 }
