@@ -43,7 +43,7 @@ module _ {X : Type 0} (join : X → X → X) (none : X) (before : (x : X) → jo
 
   of_action : (a : Action) → asked join none ask (over_action ◌++◌ [] alone a) ≡ over_action join none ask a
   of_action (action.Let i e) = of_expr e
-  of_action (action.Put c e) = ap (join (ask (operand.Cell c))) (of_expr e)
+  of_action (action.Put k c e) = ap (join (ask (operand.Cell c))) (of_expr e)
   of_action (action.Print e) = of_expr e
   of_action (action.Spawn b e) = of_expr e
   of_action action.Sync = refl

@@ -6,6 +6,7 @@ pub mod Depths
 pub mod AllSegments
 pub mod Joined
 pub mod Mapped
+pub mod Mentioned
 pub mod Places
 pub mod Reading
 pub mod Runs

@@ -5,9 +5,10 @@ use Rattle.task_lang.specs.BodyValue.{BodyValue}
 use Rattle.task_lang.specs.declared.job.Start.{Start}
 
 pub record JobValue : Type 0 where
+  pub format : ℕ
   pub arrays : List (List ℕ × List ℤ)
   pub bodies : List BodyValue
   pub starts : List Start
 
-abbrev pub job_value : List (List ℕ × List ℤ) → Vec BodyValue Global → Vec Start Global → JobValue
-job_value arrays bodies starts = record { arrays = arrays; bodies = bodies.items; starts = starts.items }
+abbrev pub job_value : ℕ → List (List ℕ × List ℤ) → Vec BodyValue Global → Vec Start Global → JobValue
+job_value format arrays bodies starts = record { format = format; arrays = arrays; bodies = bodies.items; starts = starts.items }

@@ -4,7 +4,7 @@ use Rattle.task_lang.specs.JobValue.{JobValue, job_value}
 use Rattle.task_lang.specs.Rules.{IsJob}
 
 abbrev pub job_of : Inside → JobValue
-job_of j = job_value j.arrays j.bodies j.starts
+job_of j = job_value j.format j.arrays j.bodies j.starts
 
 abbrev pub IsJobInside : Inside → Type 0
 IsJobInside j = IsJob (job_of j)

@@ -1,6 +1,8 @@
 -- What the limits of a body count, and which numbers lines may have (own).
 use Rattle.std.specs.Prelude.{ℕ, ◌+◌, ◌-◌, max, Bool, true, false, ◌&&◌, nat_lt, List, [], ◌∷◌, count_by}
 use Rattle.text_lines.specs.Number.{fits_i64}
+use Rattle.superstep_memory.specs.declared.arrays.Kind.{Kind}
+use Rattle.superstep_memory.specs.declared.arrays.Kind.TheVariants.{Set, Add}
 use Rattle.task_lang.specs.declared.code.Index.{Index}
 use Rattle.task_lang.specs.declared.code.Index.TheVariants as index
 use Rattle.task_lang.specs.declared.code.Operand.{Operand}
@@ -51,7 +53,7 @@ module _ (arrays : ℕ) where
 module _ (bodies : ℕ) where
   abbrev pub has_body : Action → Bool
   has_body (action.Let i e) = true
-  has_body (action.Put c e) = true
+  has_body (action.Put k c e) = true
   has_body (action.Print e) = true
   has_body (action.Spawn b e) = nat_lt b bodies
   has_body action.Sync = true
@@ -72,6 +74,27 @@ module _ (arrays bodies : ℕ) where
 
   abbrev pub is_line : Line → Bool
   is_line l = over_line ◌&&◌ true (is_operand arrays) is_action (is_expr arrays) l
+
+-- format 1 has each line but an add
+abbrev pub is_set : Kind → Bool
+is_set Set = true
+is_set Add = false
+
+abbrev pub adds_nothing : Action → Bool
+adds_nothing (action.Let i e) = true
+adds_nothing (action.Put k c e) = is_set k
+adds_nothing (action.Print e) = true
+adds_nothing (action.Spawn b e) = true
+adds_nothing action.Sync = true
+adds_nothing action.Stop = true
+
+abbrev pub is_of_first : Line → Bool
+is_of_first (line.Do a) = adds_nothing a
+is_of_first (line.If e n) = true
+is_of_first (line.Else n) = true
+is_of_first line.EndIf = true
+is_of_first (line.While e n) = true
+is_of_first (line.EndWhile e n) = true
 
 -- the numbers of a line are of 64 signed bits
 abbrev pub fits_index : Index → Bool

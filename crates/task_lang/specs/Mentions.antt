@@ -1,6 +1,6 @@
 -- The locals that lines mention, from left to right and line by line (own).
-use Rattle.std.specs.Prelude.{ℕ, zero, suc, ◌+◌, nat_lt, not, ◌==◌, if◌then◌else◌, List, [], ◌∷◌, ◌++◌, Option, Some, None}
-use Rattle.std.specs.List.{filter}
+use Rattle.std.specs.Prelude.{ℕ, zero, suc, ◌+◌, Bool, nat_lt, not, ◌==◌, if◌then◌else◌, List, [], ◌∷◌, ◌++◌, Option, Some, None}
+use Rattle.std.specs.List.{filter, list_all}
 use Rattle.task_lang.specs.declared.code.Index.{Index}
 use Rattle.task_lang.specs.declared.code.Index.TheVariants as index
 use Rattle.task_lang.specs.declared.code.Operand.{Operand}
@@ -28,7 +28,7 @@ in_expr e = over_expr ◌++◌ [] in_operand e
 -- the local that an action sets
 abbrev pub set_by : Action → List ℕ
 set_by (action.Let i e) = i ∷ []
-set_by (action.Put c e) = []
+set_by (action.Put k c e) = []
 set_by (action.Print e) = []
 set_by (action.Spawn b e) = []
 set_by action.Sync = []
@@ -58,6 +58,10 @@ mentions (l ∷ ls) = in_line l ++ mentions ls
 abbrev pub mentioned : ℕ → List ℕ → Option ℕ
 mentioned k [] = Some k
 mentioned k (i ∷ is) = if i == k then mentioned (k + 1) is else if nat_lt i k then mentioned k is else None
+
+-- each mention is of one of so many locals
+abbrev pub are_below : ℕ → List ℕ → Bool
+are_below count is = list_all (λ i. nat_lt i count) is
 
 -- each number once, where it stands first
 abbrev pub firsts : List ℕ → List ℕ

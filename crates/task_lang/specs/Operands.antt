@@ -19,7 +19,7 @@ module _ {X : Type 0} (join : X → X → X) (none : X) (ask : Operand → X) wh
   -- the cell that is put to comes first
   abbrev pub over_action : Action → X
   over_action (action.Let i e) = over_expr e
-  over_action (action.Put c e) = join (ask (operand.Cell c)) (over_expr e)
+  over_action (action.Put k c e) = join (ask (operand.Cell c)) (over_expr e)
   over_action (action.Print e) = over_expr e
   over_action (action.Spawn b e) = over_expr e
   over_action action.Sync = none

@@ -5,10 +5,11 @@ ghost use Rattle.text_lines.specs.Number.{fits_i64};
 ghost use Rattle.task_lang.specs.JobValue.{JobValue, job_value};
 ghost use Rattle.task_lang.specs.Names as names;
 ghost use Rattle.task_lang.specs.Limits as limits;
-ghost use Rattle.task_lang.specs.Rules.{IsBody, IsJob, is_array};
+ghost use Rattle.task_lang.specs.Rules.{IsBody, IsOfFirst, IsJob, is_format, is_array};
 
 use crate::body::Body;
-use crate::limits::{are_lines, is_number};
+use crate::limits::{are_lines, are_of_first as lines_of_first, is_number};
+use crate::mentions::are_in_order;
 use crate::names::{are_same, is_free};
 use crate::same::{same_bodies, same_starts};
 use std::marker::Model;
@@ -23,9 +24,11 @@ pub struct Start {
     pub arg: i64,
 }
 
-/// A job: its arrays, its bodies and its start lines, each in declared order.
+/// A job: its format, 1 or 2, and its arrays, its bodies and its start lines, each in declared order. In one of format 1 no
+/// line is an add, and the locals of each body stand by first mention.
 #[derive(Drop)]
 pub struct Job {
+    format: u32,
     arrays: Arrays,
     bodies: Vec<Body>,
     starts: Vec<Start>,
@@ -130,6 +133,41 @@ fn are_within(bodies: &[Body], arrays: usize, count: usize) -> bool
     true
 }
 
+// Whether a job of format 1 may have this body.
+fn is_of_first(body: &Body) -> bool
+    ensures { IsTrue result ↔ IsOfFirst body.now }
+{
+    if !are_in_order(body.code(), body.locals().len()) {
+        return false;
+    }
+    lines_of_first(body.code())
+}
+
+// Whether a job of format 1 may have each of these bodies.
+fn are_of_first(bodies: &[Body]) -> bool
+    ensures { IsTrue result ↔ AllByRecursion IsOfFirst bodies.now }
+{
+    let mut rest = bodies;
+    while let Some((first, after)) = rest.split_first() {
+        if !is_of_first(first) {
+            return false;
+        }
+        rest = after;
+    }
+    true
+}
+
+// Whether there is this format, and a job of it may have these bodies.
+fn has_format(format: u32, bodies: &[Body]) -> bool
+    ensures { IsTrue result ↔ (IsTrue (is_format format) × (format ≡ 1 → AllByRecursion IsOfFirst bodies.now)) }
+{
+    match format {
+        1 => are_of_first(bodies),
+        2 => true,
+        _ => false,
+    }
+}
+
 // Whether each start line names one of so many bodies.
 fn are_starts(starts: &[Start], bodies: usize) -> bool
     ensures { result ≡ list_all (λ s. nat_lt s.body bodies) starts.now }
@@ -144,11 +182,14 @@ fn are_args(starts: &[Start]) -> bool
     starts.iter().all(|start| is_number(start.arg))
 }
 
-// Whether a job may have these arrays, bodies and start lines.
-fn is_job(arrays: &Arrays, bodies: &Vec<Body>, starts: &Vec<Start>) -> bool
-    ensures { IsTrue result ↔ IsJob (job_value arrays.now bodies.now starts.now) }
+// Whether a job of this format may have these arrays, bodies and start lines.
+fn is_job(format: u32, arrays: &Arrays, bodies: &Vec<Body>, starts: &Vec<Start>) -> bool
+    ensures { IsTrue result ↔ IsJob (job_value format arrays.now bodies.now starts.now) }
 {
     let count = bodies.len();
+    if !has_format(format, bodies) {
+        return false;
+    }
     if arrays.len() > 16 || count > 64 || starts.len() > 4096 {
         return false;
     }
@@ -162,21 +203,45 @@ fn is_job(arrays: &Arrays, bodies: &Vec<Body>, starts: &Vec<Start>) -> bool
 }
 
 impl Job {
-    /// A job of these arrays, bodies and start lines. `None` where a name isn't one or a body has the name of
-    /// another, where an array has no cell or over 4096, where a line names an array or a body that isn't there,
-    /// where a start line names no body, and above 16 arrays, 64 bodies and 4096 start lines (all own).
-    pub fn new(arrays: Arrays, bodies: Vec<Body>, starts: Vec<Start>) -> Option<Job>
-        ensures refused { IsSome result ↔ IsJob (job_value arrays bodies starts) }
-        ensures made { IfSome result (λ job. job ≡ job_value arrays bodies starts) }
+    /// A job of this format, 1 or 2, with these arrays, bodies and start lines. `None` where there is no such format, where
+    /// in format 1 a line is an add or the locals of a body don't stand by first mention, where a name isn't one or a body
+    /// has the name of another, where an array has no cell or over 4096, where a line names an array or a body that isn't
+    /// there, where a start line names no body, and above 16 arrays, 64 bodies and 4096 start lines (all own).
+    pub fn new(format: u32, arrays: Arrays, bodies: Vec<Body>, starts: Vec<Start>) -> Option<Job>
+        ensures refused { IsSome result ↔ IsJob (job_value format arrays bodies starts) }
+        ensures made { IfSome result (λ job. job ≡ job_value format arrays bodies starts) }
     {
-        if !is_job(&arrays, &bodies, &starts) {
+        if !is_job(format, &arrays, &bodies, &starts) {
             return None;
         }
         Some(Job {
+            format,
             arrays,
             bodies,
             starts,
         })
+    }
+
+    /// What the job was made of: its format, arrays, bodies and start lines.
+    pub fn into_parts(self) -> (u32, Arrays, Vec<Body>, Vec<Start>)
+        ensures parts { job_value result.0 result.1 result.2 result.3 ≡ self }
+        ensures kept { IsJob self }
+    {
+        let Job {
+            format,
+            arrays,
+            bodies,
+            starts,
+        } = self;
+        (format, arrays, bodies, starts)
+    }
+
+    /// The format, 1 or 2.
+    pub fn format(&self) -> u32
+        ensures format { result ≡ self.now.format }
+        ensures kept { IsJob self.now }
+    {
+        self.format
     }
 
     /// The arrays as the job begins, in declared order.
@@ -201,10 +266,13 @@ impl Job {
         self.starts.as_slice()
     }
 
-    /// Whether the other job is the same: arrays, bodies and start lines, each in declared order.
+    /// Whether the other job is the same: format, arrays, bodies and start lines, each in declared order.
     pub fn same_as(&self, other: &Job) -> bool
         ensures { IsTrue result ↔ (self.now ≡ other.now) }
     {
+        if self.format != other.format {
+            return false;
+        }
         if !self.arrays().same_as(other.arrays()) {
             return false;
         }

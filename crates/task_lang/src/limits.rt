@@ -7,6 +7,7 @@ ghost use Rattle.task_lang.specs.Operands.{if_any, over_operands};
 
 use crate::code::{Action, Line, Operand};
 use crate::operands::{Operands, operands_of};
+use superstep_memory::arrays::Kind;
 
 /// Whether a number is one of 64 signed bits, as each of its type is.
 #[tactic(auto, using(text_lines::proofs::NumbersLemmas::fits_back))]
@@ -101,6 +102,23 @@ fn is_line(line: &Line, arrays: usize, bodies: usize) -> bool
     ensures { result ≡ spec.is_line arrays bodies line.now }
 {
     has_body(line, bodies) && are_operands(&operands_of(line, true), arrays)
+}
+
+// Whether a line is one of format 1, which has no add.
+fn is_of_first(line: &Line) -> bool
+    ensures { result ≡ spec.is_of_first line.now }
+{
+    match line {
+        Line::Do(Action::Put(kind, _, _)) => *kind == Kind::Set,
+        _ => true,
+    }
+}
+
+/// Whether lines are those of format 1.
+pub(crate) fn are_of_first(code: &[Line]) -> bool
+    ensures { result ≡ list_all spec.is_of_first code.now }
+{
+    code.iter().all(|line| is_of_first(line))
 }
 
 /// Whether lines name only the first so many arrays and bodies.

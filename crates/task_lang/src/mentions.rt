@@ -1,97 +1,150 @@
 //! The locals that lines mention.
-ghost use Rattle.std.specs.Prelude.{◌≡◌, ◌↔◌, ◌++◌, ◌&&◌, true, [], IfOk, OnOk, IsTrue, Some};
+ghost use Rattle.std.specs.Prelude.{◌≡◌, ◌↔◌, ◌++◌, ◌&&◌, ◌∷◌, true, [], IsTrue, Some};
 ghost use Rattle.std.specs.List.{list_all};
 ghost use Rattle.task_lang.specs.Limits.{fits_index, fits_operand, fits_line};
 ghost use Rattle.task_lang.specs.Mentions as spec;
 ghost use Rattle.task_lang.specs.Operands.{if_any, over_operands};
 
-use crate::code::{Action, Index, Line, Operand};
+use crate::code::{Action, Cell, Index, Line, Operand};
 use crate::limits::is_number;
 use crate::operands::{Operands, operands_of};
-use std::alloc::{AllocError, Global};
 
-// Notes the local of an index, if it is one.
-fn note_index(noted: &mut Vec<u8>, index: Index) -> Result<(), AllocError>
-    ensures noted { OnOk result (noted.new.items ≡ noted.old.items ++ spec.in_index index) }
-    ensures fits { OnOk result (IsTrue (fits_index index)) }
+// Whether the local of an index, if it is one, is among so many. The number of an index is seen on the way.
+fn is_below_index(index: Index, count: usize) -> bool
+    ensures below { result ≡ spec.are_below count (spec.in_index index) }
+    ensures fits { IsTrue (fits_index index) }
 {
     match index {
-        Index::Local(local) => {
-            noted.push(local)?;
-            Ok(())
-        }
+        Index::Local(local) => usize::from(local) < count,
         Index::Number(number) => {
             let _fits = is_number(number);
-            Ok(())
+            true
         }
-        Index::Arg | Index::Step => Ok(()),
+        Index::Arg | Index::Step => true,
     }
 }
 
-fn note_operand(noted: &mut Vec<u8>, operand: Option<Operand>) -> Result<(), AllocError>
-    ensures noted { OnOk result (noted.new.items ≡ noted.old.items ++ if_any [] spec.in_operand operand) }
-    ensures fits { OnOk result (IsTrue (if_any true fits_operand operand)) }
+fn is_below_operand(operand: Option<Operand>, count: usize) -> bool
+    ensures below { result ≡ spec.are_below count (if_any [] spec.in_operand operand) }
+    ensures fits { IsTrue (if_any true fits_operand operand) }
 {
     match operand {
-        Some(Operand::Plain(index)) => note_index(noted, index),
-        Some(Operand::Cell(cell)) => note_index(noted, cell.index),
-        None => Ok(()),
+        Some(Operand::Plain(index)) => is_below_index(index, count),
+        Some(Operand::Cell(cell)) => is_below_index(cell.index, count),
+        None => true,
     }
 }
 
-fn note_operands(noted: &mut Vec<u8>, operands: &Operands) -> Result<(), AllocError>
-    ensures noted { OnOk result (noted.new.items ≡ noted.old.items ++ over_operands ◌++◌ [] spec.in_operand operands.now) }
-    ensures fits { OnOk result (IsTrue (over_operands ◌&&◌ true fits_operand operands.now)) }
+fn are_below_operands(operands: &Operands, count: usize) -> bool
+    ensures below { result ≡ spec.are_below count (over_operands ◌++◌ [] spec.in_operand operands.now) }
+    ensures fits { IsTrue (over_operands ◌&&◌ true fits_operand operands.now) }
 {
-    note_operand(noted, operands.cell)?;
-    note_operand(noted, operands.left)?;
-    note_operand(noted, operands.right)
+    let cell = is_below_operand(operands.cell, count);
+    let left = is_below_operand(operands.left, count);
+    let right = is_below_operand(operands.right, count);
+    cell && left && right
 }
 
-// Notes the local that a line sets.
-fn note_set(noted: &mut Vec<u8>, line: &Line) -> Result<(), AllocError>
-    ensures { OnOk result (noted.new.items ≡ noted.old.items ++ spec.set_in line.now) }
+// Whether the local that a line sets is among so many.
+fn sets_below(line: &Line, count: usize) -> bool
+    ensures { result ≡ spec.are_below count (spec.set_in line.now) }
 {
-    if let Line::Do(Action::Let(local, _)) = line {
-        noted.push(*local)?;
+    match line {
+        Line::Do(Action::Let(local, _)) => usize::from(*local) < count,
+        _ => true,
     }
-    Ok(())
 }
 
-fn note_line(noted: &mut Vec<u8>, line: &Line) -> Result<(), AllocError>
-    ensures noted { OnOk result (noted.new.items ≡ noted.old.items ++ spec.in_line line.now) }
-    ensures fits { OnOk result (IsTrue (fits_line line.now)) }
+fn is_below(line: &Line, count: usize) -> bool
+    ensures below { result ≡ spec.are_below count (spec.in_line line.now) }
+    ensures fits { IsTrue (fits_line line.now) }
 {
-    note_set(noted, line)?;
-    note_operands(noted, &operands_of(line, false))
+    let set = sets_below(line, count);
+    let operands = are_below_operands(&operands_of(line, false), count);
+    set && operands
 }
 
-/// The locals that lines mention, from left to right and line by line. All the numbers of the lines are seen on the way.
-pub(crate) fn mentions(alloc: Global, code: &[Line]) -> Result<Vec<u8>, AllocError>
-    ensures noted { IfOk result (λ noted. noted.items ≡ spec.mentions code.now) }
-    ensures fits { IfOk result (λ noted. IsTrue (list_all fits_line code.now)) }
+/// Whether the locals that lines mention are among so many. All the numbers of the lines are seen on the way.
+pub(crate) fn are_below(code: &[Line], count: usize) -> bool
+    ensures below { result ≡ spec.are_below count (spec.mentions code.now) }
+    ensures fits { IsTrue result → IsTrue (list_all fits_line code.now) }
 {
-    let mut noted = Vec::new(alloc);
     let mut rest = code;
     while let Some((line, after)) = rest.split_first() {
-        note_line(&mut noted, line)?;
+        if !is_below(line, count) {
+            return false;
+        }
         rest = after;
     }
-    Ok(noted)
+    true
 }
 
-/// Whether so many locals are mentioned, each for the first time behind those before it.
-pub(crate) fn are_in_order(locals: &[u8], count: usize) -> bool
-    ensures { IsTrue result ↔ (spec.mentioned 0 locals.now ≡ Some count) }
+// How many locals have been mentioned after this one, where so many were before it.
+fn mention(known: usize, local: u8) -> Option<usize>
+    ensures { result ≡ spec.mentioned known (local ∷ []) }
+{
+    let local = usize::from(local);
+    if local == known {
+        Some(known + 1)
+    } else if local < known {
+        Some(known)
+    } else {
+        None
+    }
+}
+
+fn mention_operand(known: usize, operand: Option<Operand>) -> Option<usize>
+    ensures { result ≡ spec.mentioned known (if_any [] spec.in_operand operand) }
+{
+    match operand {
+        Some(
+            Operand::Plain(Index::Local(local))
+            | Operand::Cell(
+                Cell {
+                    array: _,
+                    index: Index::Local(local),
+                },
+            ),
+        ) => mention(known, local),
+        _ => Some(known),
+    }
+}
+
+fn mention_operands(known: usize, operands: &Operands) -> Option<usize>
+    ensures { result ≡ spec.mentioned known (over_operands ◌++◌ [] spec.in_operand operands.now) }
+{
+    let with_cell = mention_operand(known, operands.cell)?;
+    let with_left = mention_operand(with_cell, operands.left)?;
+    mention_operand(with_left, operands.right)
+}
+
+// The local that a line sets.
+fn mention_set(known: usize, line: &Line) -> Option<usize>
+    ensures { result ≡ spec.mentioned known (spec.set_in line.now) }
+{
+    match line {
+        Line::Do(Action::Let(local, _)) => mention(known, *local),
+        _ => Some(known),
+    }
+}
+
+fn mention_line(known: usize, line: &Line) -> Option<usize>
+    ensures { result ≡ spec.mentioned known (spec.in_line line.now) }
+{
+    let with_set = mention_set(known, line)?;
+    mention_operands(with_set, &operands_of(line, false))
+}
+
+/// Whether lines mention so many locals, each for the first time behind those before it.
+pub(crate) fn are_in_order(code: &[Line], count: usize) -> bool
+    ensures { IsTrue result ↔ (spec.mentioned 0 (spec.mentions code.now) ≡ Some count) }
 {
     let mut known = 0;
-    let mut rest = locals;
-    while let Some((local, after)) = rest.split_first() {
-        let local = usize::from(*local);
-        if local == known {
-            known += 1;
-        } else if local > known {
-            return false;
+    let mut rest = code;
+    while let Some((line, after)) = rest.split_first() {
+        match mention_line(known, line) {
+            Some(now) => known = now,
+            None => return false,
         }
         rest = after;
     }

@@ -43,7 +43,7 @@ fn of_action(action: &Action) -> Operands
 {
     match action {
         Action::Let(_, expr) | Action::Print(expr) | Action::Spawn(_, expr) => of_expr(None, expr),
-        Action::Put(cell, expr) => of_expr(Some(Operand::Cell(*cell)), expr),
+        Action::Put(_, cell, expr) => of_expr(Some(Operand::Cell(*cell)), expr),
         Action::Sync | Action::Stop => nothing(),
     }
 }

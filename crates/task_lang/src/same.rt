@@ -4,6 +4,13 @@ ghost use Rattle.std.specs.Prelude.{◌≡◌, ◌↔◌, IsTrue, map, string_by
 use crate::body::Body;
 use crate::code::{Action, Cell, Expr, Line, Operand, Operator};
 use crate::job::Start;
+use superstep_memory::arrays::Kind;
+
+fn same_kind(a: Kind, b: Kind) -> bool
+    ensures { IsTrue result ↔ (a ≡ b) }
+{
+    a == b
+}
 
 fn same_cell(a: Cell, b: Cell) -> bool
     ensures { IsTrue result ↔ (a ≡ b) }
@@ -51,7 +58,10 @@ fn same_action(a: Action, b: Action) -> bool
             }
             same_expr(e, f)
         }
-        (Action::Put(x, e), Action::Put(y, f)) => {
+        (Action::Put(k, x, e), Action::Put(l, y, f)) => {
+            if !same_kind(k, l) {
+                return false;
+            }
             if !same_cell(x, y) {
                 return false;
             }

@@ -1,12 +1,12 @@
-use Rattle.std.proofs.Common.{◌≡◌, ◌++◌, length}
+use Rattle.std.proofs.Common.{◌≡◌, length}
 use Rattle.std.specs.List.{list_all}
 use Rattle.task_lang.specs.Limits.{fits_line}
 use Rattle.task_lang.specs.Mentions as spec
-use Rattle.task_lang.proofs.mentions.mentions.Given as goal
+use Rattle.task_lang.proofs.mentions.are_below.Given as goal
 
 abbrev pub invariant-loop-line : goal.invariant-loop-line
 invariant-loop-line l = record {
-  noted : l.noted.items ++ spec.mentions l.rest ≡ spec.mentions l.code;
+  below : spec.are_below l.count (spec.mentions l.code) ≡ spec.are_below l.count (spec.mentions l.rest);
   fits : list_all fits_line l.code ≡ list_all fits_line l.rest;
 }
 
