@@ -45,7 +45,7 @@ use Rattle.task_lang.specs.declared.code.Line.{Line}
 use Rattle.task_lang.specs.declared.code.Line.TheVariants as line
 use Rattle.job_words.specs.Words.{Word, Words, name_at, index_word, noted}
 use Rattle.job_words.specs.Exprs.{Names, cell_word, operand_word, operator_word, expr_words}
-use Rattle.job_words.specs.Lines.{action_words, line_words, line_names, line_fits}
+use Rattle.job_words.specs.Lines.{kind_word, action_words, line_words, line_names, line_fits}
 use Rattle.job_words.proofs.SaidLemmas.{and-true, below-true, AllBelow}
 
 pub and-left : (a b : Bool) → (a && b) ≡ true → a ≡ true
@@ -95,9 +95,9 @@ action-grows : (s : Names) (more : List Word) (a : Action) → AllBelow s (menti
 action-grows s more (action.Let i x) e =
     ap (λ (t : Word). codes "let" ∷ t ∷ codes "=" ∷ expr_words (wider s more) x) (name-grows s.locals more i (ltb-true i (length s.locals) (and-left (nat_lt i (length s.locals)) true (all-left (λ (k : ℕ). nat_lt k (length s.locals)) (i ∷ []) (mentions.in_expr x) e))))
     ∙ ap (λ (t : Words). codes "let" ∷ name_at s.locals i ∷ codes "=" ∷ t) (expr-grows s more x (all-right _ (i ∷ []) (mentions.in_expr x) e))
-action-grows s more (action.Put c x) e =
-    ap (λ (t : Word). codes "put" ∷ t ∷ codes "=" ∷ expr_words (wider s more) x) (cell-grows s more c (all-left _ (mentions.in_index c.index) (mentions.in_expr x) e))
-    ∙ ap (λ (t : Words). codes "put" ∷ cell_word s c ∷ codes "=" ∷ t) (expr-grows s more x (all-right _ (mentions.in_index c.index) (mentions.in_expr x) e))
+action-grows s more (action.Put kind c x) e =
+    ap (λ (t : Word). kind_word kind ∷ t ∷ codes "=" ∷ expr_words (wider s more) x) (cell-grows s more c (all-left _ (mentions.in_index c.index) (mentions.in_expr x) e))
+    ∙ ap (λ (t : Words). kind_word kind ∷ cell_word s c ∷ codes "=" ∷ t) (expr-grows s more x (all-right _ (mentions.in_index c.index) (mentions.in_expr x) e))
 action-grows s more (action.Print x) e = ap (λ (t : Words). codes "print" ∷ t) (expr-grows s more x e)
 action-grows s more (action.Spawn b x) e = ap (λ (t : Words). codes "spawn" ∷ name_at s.bodies b ∷ t) (expr-grows s more x e)
 action-grows s more action.Sync e = refl

@@ -37,6 +37,8 @@ use Rattle.task_lang.specs.declared.code.Action.TheVariants as action
 use Rattle.task_lang.specs.declared.code.Line.{Line}
 use Rattle.task_lang.specs.declared.code.Line.TheVariants as line
 use Rattle.job_words.specs.declared.lines.Keyword.{Keyword}
+use Rattle.superstep_memory.specs.declared.arrays.Kind.{Kind}
+use Rattle.superstep_memory.specs.declared.arrays.Kind.TheVariants.{Set, Add}
 use Rattle.job_words.specs.declared.lines.Keyword.TheVariants.{Let, Put, Print, Spawn, Sync, Stop, If, Else, While, End}
 use Rattle.job_words.specs.Faults.{both, made, checked}
 use Rattle.job_words.specs.Words.{Word, Words, named, place_from, declared_at, name_at}
@@ -47,6 +49,7 @@ use Rattle.job_words.specs.Lines.{
   is_equals,
   body_at,
   let_line,
+  kind_word,
   put_line,
   spawn_line,
   let_of,
@@ -75,7 +78,7 @@ use Rattle.job_words.proofs.SaidLemmas.{
 
 abbrev pub keyword_text : Keyword → Word
 keyword_text Let = codes "let"
-keyword_text Put = codes "put"
+keyword_text (Put kind) = kind_word kind
 keyword_text Print = codes "print"
 keyword_text Spawn = codes "spawn"
 keyword_text Sync = codes "sync"
@@ -94,7 +97,8 @@ pub keyword-said : (w : Word) (k : Keyword) → keyword_of w ≡ Some k → w �
 unfolding keyword_of
 keyword-said w k e =
     pick (bytes_eq w (codes "let")) w Let k _ (same-word w (codes "let")) (λ e.
-    pick (bytes_eq w (codes "put")) w Put k _ (same-word w (codes "put")) (λ e.
+    pick (bytes_eq w (codes "put")) w (Put Set) k _ (same-word w (codes "put")) (λ e.
+    pick (bytes_eq w (codes "add")) w (Put Add) k _ (same-word w (codes "add")) (λ e.
     pick (bytes_eq w (codes "print")) w Print k _ (same-word w (codes "print")) (λ e.
     pick (bytes_eq w (codes "spawn")) w Spawn k _ (same-word w (codes "spawn")) (λ e.
     pick (bytes_eq w (codes "sync")) w Sync k _ (same-word w (codes "sync")) (λ e.
@@ -103,14 +107,14 @@ keyword-said w k e =
     pick (bytes_eq w (codes "else")) w Else k _ (same-word w (codes "else")) (λ e.
     pick (bytes_eq w (codes "while")) w While k _ (same-word w (codes "while")) (λ e.
     pick (bytes_eq w (codes "end")) w End k _ (same-word w (codes "end")) (λ e.
-    absurd cc) e) e) e) e) e) e) e) e) e) e
+    absurd cc) e) e) e) e) e) e) e) e) e) e) e
 
 -- the body that a spawn line names is there
 abbrev pub is_present : Names → Keyword → Words → Bool
 is_present s Spawn (b ∷ ws) = is_among s.bodies b
 is_present s Spawn [] = true
 is_present s Let ws = true
-is_present s Put ws = true
+is_present s (Put kind) ws = true
 is_present s Print ws = true
 is_present s Sync ws = true
 is_present s Stop ws = true
@@ -160,19 +164,19 @@ let-said s (w ∷ v ∷ ws) l e =
       and-true _ _ x.1 (all-both _ (m.0.0.1 ∷ []) (mentions.in_expr m.0.1) (and-true _ true (below-true m.0.0.1 (length s.locals) d.1) refl) x.2),
     )
 
-put-said : (s : Names) (ws : Words) (l : Line) → put_of s ws ≡ Ok l → LineSaid s (codes "put" ∷ ws) l
-put-said s [] l e = absurd cc
-put-said s (w ∷ []) l e = absurd cc
-put-said s (w ∷ v ∷ ws) l e =
-    let m = made-ok put_line (both (both (cell_of s w) (is_equals v)) (expr_of s ws)) l e in
+put-said : (s : Names) (kind : Kind) (ws : Words) (l : Line) → put_of s kind ws ≡ Ok l → LineSaid s (kind_word kind ∷ ws) l
+put-said s kind [] l e = absurd cc
+put-said s kind (w ∷ []) l e = absurd cc
+put-said s kind (w ∷ v ∷ ws) l e =
+    let m = made-ok (put_line kind) (both (both (cell_of s w) (is_equals v)) (expr_of s ws)) l e in
     let outer = both-ok (both (cell_of s w) (is_equals v)) (expr_of s ws) m.0 m.1 in
     let inner = both-ok (cell_of s w) (is_equals v) m.0.0 outer.0 in
     let d = cell-said s w m.0.0.0 inner.0 in
     let x = expr-said s ws m.0.1 outer.1 in
     let q = equals-ok v m.0.0.1 inner.1 in
-    subst (LineSaid s (codes "put" ∷ w ∷ v ∷ ws)) m.2 (
-      ap (λ (t : Word). codes "put" ∷ t ∷ v ∷ ws) d.0 ∙ ap (λ (t : Word). codes "put" ∷ cell_word s m.0.0.0 ∷ t ∷ ws) q
-          ∙ ap (λ (t : Words). codes "put" ∷ cell_word s m.0.0.0 ∷ codes "=" ∷ t) x.0,
+    subst (LineSaid s (kind_word kind ∷ w ∷ v ∷ ws)) m.2 (
+      ap (λ (t : Word). kind_word kind ∷ t ∷ v ∷ ws) d.0 ∙ ap (λ (t : Word). kind_word kind ∷ cell_word s m.0.0.0 ∷ t ∷ ws) q
+          ∙ ap (λ (t : Words). kind_word kind ∷ cell_word s m.0.0.0 ∷ codes "=" ∷ t) x.0,
       and-true _ _ (and-true _ _ d.1 x.1) (all-both _ (mentions.in_index m.0.0.0.index) (mentions.in_expr m.0.1) d.2 x.2),
     )
 
@@ -206,7 +210,7 @@ behind-said : (s : Names) (fits : Bool) (k : Keyword) (ws : Words) (l : Line) �
     → line_behind s fits (Some k) ws ≡ Ok l → LineSaid s (keyword_text k ∷ ws) l
 unfolding line_behind
 behind-said s fits Let ws l p e = let-said s ws l e
-behind-said s fits Put ws l p e = put-said s ws l e
+behind-said s fits (Put kind) ws l p e = put-said s kind ws l e
 behind-said s fits Print ws l p e = test-said s (codes "print") (λ x. line.Do (action.Print x)) ws l (λ x. refl) (λ x a b. and-true _ _ a b) e
 behind-said s fits Spawn ws l p e = spawn-said s ws l p e
 behind-said s fits Sync ws l p e = alone-said s (codes "sync") (line.Do action.Sync) l ws refl refl e

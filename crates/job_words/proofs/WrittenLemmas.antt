@@ -49,6 +49,7 @@ use Rattle.task_lang.specs.declared.code.Operator.TheVariants.{
   NotEqual,
 }
 use Rattle.job_words.specs.declared.lines.Keyword.{Keyword}
+use Rattle.superstep_memory.specs.declared.arrays.Kind.TheVariants as kind
 use Rattle.job_words.specs.declared.lines.Keyword.TheVariants.{Let, Put, Print, Spawn, Sync, Stop, If, Else, While, End}
 use Rattle.job_words.specs.Faults.{both, made}
 use Rattle.job_words.specs.Words.{Word, begins_number, named, place_from, or_unknown, declared_at, name_at, index_word, index_of}
@@ -179,7 +180,8 @@ operator-written NotEqual = refl
 pub keyword-written : (k : Keyword) → keyword_of (keyword_text k) ≡ Some k
 unfolding keyword_of
 keyword-written Let = refl
-keyword-written Put = refl
+keyword-written (Put kind.Set) = refl
+keyword-written (Put kind.Add) = refl
 keyword-written Print = refl
 keyword-written Spawn = refl
 keyword-written Sync = refl

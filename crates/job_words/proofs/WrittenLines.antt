@@ -3,6 +3,8 @@ use Rattle.std.proofs.Common.{◌≡◌, ℕ, ◌<◌, Bool, true, false, List, 
 use Rattle.std.specs.Prelude.{unwrap_or}
 use Rattle.text_lines.specs.declared.refusal.Code.{Code}
 use Rattle.task_lang.specs.Names.{are_names}
+use Rattle.superstep_memory.specs.declared.arrays.Kind.{Kind}
+use Rattle.superstep_memory.specs.declared.arrays.Kind.TheVariants.{Set, Add}
 use Rattle.task_lang.specs.declared.code.Cell.{Cell}
 use Rattle.task_lang.specs.declared.code.Expr.{Expr}
 use Rattle.task_lang.specs.declared.code.Action.{Action}
@@ -11,13 +13,14 @@ use Rattle.task_lang.specs.declared.code.Line.{Line}
 use Rattle.task_lang.specs.declared.code.Line.TheVariants as line
 use Rattle.job_words.specs.Faults.{both, made}
 use Rattle.job_words.specs.Words.{Word, place_from, name_at}
-use Rattle.job_words.specs.Exprs.{Names, expr_words, expr_of}
+use Rattle.job_words.specs.Exprs.{Names, cell_word, expr_words, expr_of}
 use Rattle.job_words.specs.Lines.{
   keyword_of,
   line_words,
   body_at,
   let_line,
   put_line,
+  put_of,
   spawn_line,
   line_behind,
   line_of,
@@ -27,7 +30,7 @@ use Rattle.job_words.proofs.WrittenExprs.{AreGood, CellIs, ExprIs, cell-written,
 
 abbrev pub ActionIs : Names → Action → Type 0
 ActionIs s (action.Let i e) = (i < length s.locals) × ExprIs s e
-ActionIs s (action.Put c e) = CellIs s c × ExprIs s e
+ActionIs s (action.Put kind c e) = CellIs s c × ExprIs s e
 ActionIs s (action.Print e) = ExprIs s e
 ActionIs s (action.Spawn b e) = (b < length s.bodies) × ExprIs s e
 ActionIs s action.Sync = Unit {0}
@@ -56,14 +59,19 @@ body-written bodies b e h =
     ap (λ (r : Result (Unit {0}) Code). made (λ _. unwrap_or (place_from 0 bodies (name_at bodies b)) 0) r) (named-free (name_at bodies b) (names-free bodies b e h))
     ∙ ap (λ (o : Option ℕ). Ok (unwrap_or o 0)) (place-name 0 bodies b e h ∙ ap (λ (x : ℕ). Some x) (zero-add b))
 
+put-written : (s : Names) (kind : Kind) (c : Cell) (e : Expr) → AreGood s → CellIs s c × ExprIs s e
+    → put_of s kind (cell_word s c ∷ codes "=" ∷ expr_words s e) ≡ Ok (line.Do (action.Put kind c e))
+put-written s kind c e g h =
+    ap (λ (r : Result Cell Code). made (put_line kind) (both (both r (Ok tt)) (expr_of s (expr_words s e)))) (cell-written s c g h.0)
+    ∙ ap (λ (r : Result Expr Code). made (put_line kind) (both (Ok (c, tt)) r)) (expr-written s e g h.1)
+
 action-written : (s : Names) (fits : Bool) (a : Action) → AreGood s → ActionIs s a → line_of s fits (line_words s (line.Do a)) ≡ Ok (line.Do a)
 unfolding line_behind keyword_of
 action-written s fits (action.Let i e) g h =
     ap (λ (r : Result ℕ Code). made let_line (both (both (Ok tt) r) (expr_of s (expr_words s e)))) (declared-written s.locals i g.locals h.0)
     ∙ ap (λ (r : Result Expr Code). made let_line (both (Ok (tt, i)) r)) (expr-written s e g h.1)
-action-written s fits (action.Put c e) g h =
-    ap (λ (r : Result Cell Code). made put_line (both (both r (Ok tt)) (expr_of s (expr_words s e)))) (cell-written s c g h.0)
-    ∙ ap (λ (r : Result Expr Code). made put_line (both (Ok (c, tt)) r)) (expr-written s e g h.1)
+action-written s fits (action.Put Set c e) g h = put-written s Set c e g h
+action-written s fits (action.Put Add c e) g h = put-written s Add c e g h
 action-written s fits (action.Print e) g h = ap (made (λ e. line.Do (action.Print e))) (expr-written s e g h)
 action-written s fits (action.Spawn b e) g h =
     ap (λ (r : Result ℕ Code). made spawn_line (both r (expr_of s (expr_words s e)))) (body-written s.bodies b g.bodies h.0)

@@ -4,6 +4,8 @@ use Rattle.std.specs.Prelude.{
   Bool,
   true,
   ◌&&◌,
+  ◌||◌,
+  not,
   nat_lt,
   length,
   ◌==◌,
@@ -23,7 +25,9 @@ use Rattle.std.specs.Prelude.{
 }
 use Rattle.std.specs.Str.{bytes_eq}
 use Rattle.std.specs.List.{list_all}
-use Rattle.task_lang.specs.Limits.{is_expr, is_action}
+use Rattle.superstep_memory.specs.declared.arrays.Kind.{Kind}
+use Rattle.superstep_memory.specs.declared.arrays.Kind.TheVariants.{Set, Add}
+use Rattle.task_lang.specs.Limits.{is_expr, is_action, is_set}
 use Rattle.task_lang.specs.Mentions.{in_line}
 use Rattle.text_lines.specs.declared.refusal.Code.{Code}
 use Rattle.text_lines.specs.declared.refusal.Code.TheVariants.{BadLine, BadNesting, UnknownLine}
@@ -43,7 +47,8 @@ use Rattle.job_words.specs.Exprs.{Names, cell_word, cell_of, expr_words, expr_of
 unfoldable pub keyword_of : Word → Option Keyword
 keyword_of w =
     if bytes_eq w (codes "let") then Some Let
-    else if bytes_eq w (codes "put") then Some Put
+    else if bytes_eq w (codes "put") then Some (Put Set)
+    else if bytes_eq w (codes "add") then Some (Put Add)
     else if bytes_eq w (codes "print") then Some Print
     else if bytes_eq w (codes "spawn") then Some Spawn
     else if bytes_eq w (codes "sync") then Some Sync
@@ -54,10 +59,32 @@ keyword_of w =
     else if bytes_eq w (codes "end") then Some End
     else None
 
+-- whether format 1 has lines that begin so: it has no `add`
+abbrev pub is_of_first : Keyword → Bool
+is_of_first Let = true
+is_of_first (Put kind) = is_set kind
+is_of_first Print = true
+is_of_first Spawn = true
+is_of_first Sync = true
+is_of_first Stop = true
+is_of_first If = true
+is_of_first Else = true
+is_of_first While = true
+is_of_first End = true
+
+-- the first words of lines in a body that a format has
+abbrev pub known_in : ℕ → Option Keyword → Option Keyword
+known_in format None = None
+known_in format (Some k) = if is_of_first k || not (format == 1) then Some k else None
+
+abbrev pub kind_word : Kind → Word
+kind_word Set = codes "put"
+kind_word Add = codes "add"
+
 -- how lines are written; the ends of an `if` and of a `while` look alike, and jumps aren't written
 abbrev pub action_words : Names → Action → Words
 action_words s (action.Let i e) = codes "let" ∷ name_at s.locals i ∷ codes "=" ∷ expr_words s e
-action_words s (action.Put c e) = codes "put" ∷ cell_word s c ∷ codes "=" ∷ expr_words s e
+action_words s (action.Put kind c e) = kind_word kind ∷ cell_word s c ∷ codes "=" ∷ expr_words s e
 action_words s (action.Print e) = codes "print" ∷ expr_words s e
 action_words s (action.Spawn b e) = codes "spawn" ∷ name_at s.bodies b ∷ expr_words s e
 action_words s action.Sync = codes "sync" ∷ []
@@ -84,8 +111,8 @@ body_at bodies w = made (λ _. unwrap_or (place_from 0 bodies w) 0) (named w)
 abbrev pub let_line : (Unit {0} × ℕ) × Expr → Line
 let_line p = line.Do (action.Let p.0.1 p.1)
 
-abbrev pub put_line : (Cell × Unit {0}) × Expr → Line
-put_line p = line.Do (action.Put p.0.0 p.1)
+abbrev pub put_line : Kind → (Cell × Unit {0}) × Expr → Line
+put_line kind p = line.Do (action.Put kind p.0.0 p.1)
 
 abbrev pub spawn_line : ℕ × Expr → Line
 spawn_line p = line.Do (action.Spawn p.0 p.1)
@@ -95,10 +122,10 @@ let_of s [] = Err BadLine
 let_of s (name ∷ []) = Err BadLine
 let_of s (name ∷ is ∷ ws) = made let_line (both (both (is_equals is) (declared_at s.locals name)) (expr_of s ws))
 
-abbrev pub put_of : Names → Words → Result Line Code
-put_of s [] = Err BadLine
-put_of s (cell ∷ []) = Err BadLine
-put_of s (cell ∷ is ∷ ws) = made put_line (both (both (cell_of s cell) (is_equals is)) (expr_of s ws))
+abbrev pub put_of : Names → Kind → Words → Result Line Code
+put_of s kind [] = Err BadLine
+put_of s kind (cell ∷ []) = Err BadLine
+put_of s kind (cell ∷ is ∷ ws) = made (put_line kind) (both (both (cell_of s cell) (is_equals is)) (expr_of s ws))
 
 abbrev pub spawn_of : Names → Words → Result Line Code
 spawn_of s [] = Err BadLine
@@ -117,7 +144,7 @@ else_of fits ws = made (λ p. p.1) (both (checked fits BadNesting) (alone (line.
 unfoldable pub line_behind : Names → Bool → Option Keyword → Words → Result Line Code
 line_behind s fits None ws = Err UnknownLine
 line_behind s fits (Some Let) ws = let_of s ws
-line_behind s fits (Some Put) ws = put_of s ws
+line_behind s fits (Some (Put kind)) ws = put_of s kind ws
 line_behind s fits (Some Print) ws = made (λ e. line.Do (action.Print e)) (expr_of s ws)
 line_behind s fits (Some Spawn) ws = spawn_of s ws
 line_behind s fits (Some Sync) ws = alone (line.Do action.Sync) ws
@@ -150,7 +177,7 @@ in_spawn (body ∷ ws) = in_expr ws
 unfoldable pub mentions_behind : Option Keyword → Words → List Word
 mentions_behind None ws = []
 mentions_behind (Some Let) ws = in_let ws
-mentions_behind (Some Put) ws = in_put ws
+mentions_behind (Some (Put kind)) ws = in_put ws
 mentions_behind (Some Print) ws = in_expr ws
 mentions_behind (Some Spawn) ws = in_spawn ws
 mentions_behind (Some Sync) ws = []

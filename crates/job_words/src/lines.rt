@@ -6,6 +6,7 @@ ghost use Rattle.job_words.specs.Views.{lent, names_in};
 use crate::exprs::{Scope, cell_of, expr_of};
 use crate::faults::both;
 use crate::words::{declared_at, is_word, named, place, take_word};
+use superstep_memory::arrays::Kind;
 use task_lang::code::{Action, Line};
 use text_lines::Code;
 
@@ -14,8 +15,8 @@ use text_lines::Code;
 pub enum Keyword {
     /// `let`
     Let,
-    /// `put`
-    Put,
+    /// `put`, or `add`, by what landing does with the value
+    Put(Kind),
     /// `print`
     Print,
     /// `spawn`
@@ -42,7 +43,9 @@ pub fn keyword_of(word: &[u8]) -> Option<Keyword>
     if is_word(word, b"let") {
         Some(Keyword::Let)
     } else if is_word(word, b"put") {
-        Some(Keyword::Put)
+        Some(Keyword::Put(Kind::Set))
+    } else if is_word(word, b"add") {
+        Some(Keyword::Put(Kind::Add))
     } else if is_word(word, b"print") {
         Some(Keyword::Print)
     } else if is_word(word, b"spawn") {
@@ -59,6 +62,31 @@ pub fn keyword_of(word: &[u8]) -> Option<Keyword>
         Some(Keyword::While)
     } else if is_word(word, b"end") {
         Some(Keyword::End)
+    } else {
+        None
+    }
+}
+
+// Whether lines of format 1 begin so.
+fn is_of_first(keyword: Keyword) -> bool
+    ensures { result ≡ spec.is_of_first keyword }
+{
+    match keyword {
+        Keyword::Put(kind) => match kind {
+            Kind::Set => true,
+            Kind::Add => false,
+        },
+        _ => true,
+    }
+}
+
+/// The keyword, if the format has lines that begin so: format 1 has no `add`.
+pub fn known_in(format: u32, keyword: Option<Keyword>) -> Option<Keyword>
+    ensures { result ≡ spec.known_in format keyword }
+{
+    let keyword = keyword?;
+    if is_of_first(keyword) || format != 1 {
+        Some(keyword)
     } else {
         None
     }
@@ -105,11 +133,11 @@ fn let_of(scope: &Scope<'_>, words: &[&[u8]]) -> Result<Line, Code>
     }
 }
 
-// What the words behind `put` say.
-fn put_of(scope: &Scope<'_>, words: &[&[u8]]) -> Result<Line, Code>
+// What the words behind `put` or `add` say.
+fn put_of(scope: &Scope<'_>, kind: Kind, words: &[&[u8]]) -> Result<Line, Code>
     requires arrays { length scope.now.arrays.now ≤ 65536 }
     requires locals { length scope.now.locals.now ≤ 256 }
-    ensures { result ≡ spec.put_of (names_in scope.now) (lent words.now) }
+    ensures { result ≡ spec.put_of (names_in scope.now) kind (lent words.now) }
 {
     let Some((cell, rest)) = take_word(words) else {
         return Err(Code::BadLine);
@@ -119,7 +147,7 @@ fn put_of(scope: &Scope<'_>, words: &[&[u8]]) -> Result<Line, Code>
     };
     let front = both(cell_of(scope, cell), is_equals(is));
     match both(front, expr_of(scope, rest)) {
-        Ok(((cell, _), expr)) => Ok(Line::Do(Action::Put(cell, expr))),
+        Ok(((cell, _), expr)) => Ok(Line::Do(Action::Put(kind, cell, expr))),
         Err(code) => Err(code),
     }
 }
@@ -180,7 +208,7 @@ pub fn line_behind(
     };
     match keyword {
         Keyword::Let => let_of(scope, words),
-        Keyword::Put => put_of(scope, words),
+        Keyword::Put(kind) => put_of(scope, kind, words),
         Keyword::Print => match expr_of(scope, words) {
             Ok(expr) => Ok(Line::Do(Action::Print(expr))),
             Err(code) => Err(code),

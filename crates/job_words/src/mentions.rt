@@ -134,7 +134,7 @@ pub fn note_behind<'a>(
     };
     match keyword {
         Keyword::Let => note_let(locals, line),
-        Keyword::Put => note_put(locals, line),
+        Keyword::Put(_) => note_put(locals, line),
         Keyword::Spawn => note_spawn(locals, line),
         Keyword::Print | Keyword::If | Keyword::While => note_expr(locals, line),
         Keyword::Sync | Keyword::Stop | Keyword::Else | Keyword::End => Ok(()),

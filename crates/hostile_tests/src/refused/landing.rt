@@ -3,7 +3,7 @@ use smallvec::SmallVec;
 use std::alloc::{AllocError, Global};
 use std::process::Abort;
 use std::test::Fail;
-use superstep_memory::arrays::{Arrays, Put, PutLog};
+use superstep_memory::arrays::{Arrays, Kind, Put, PutLog};
 use superstep_memory::landing::{LandFault, land};
 use superstep_memory::path::Path;
 use superstep_memory::runs::{Run, land_runs};
@@ -29,6 +29,7 @@ fn entry(alloc: Global, path: &[u16], puts: &[(u32, i64)]) -> Result<(Path, PutL
         log.push(Put {
             array: 0,
             index: *index,
+            kind: Kind::Set,
             value: *value,
         })?;
     }

@@ -3,7 +3,7 @@ use crate::step::fixtures::{is_cell, three_cells};
 use smallvec::SmallVec;
 use std::alloc::{AllocError, Global};
 use std::process::Abort;
-use superstep_memory::arrays::{Arrays, Put};
+use superstep_memory::arrays::{Arrays, Kind, Put};
 use superstep_memory::landing::{Entry, LandFault, land};
 use superstep_memory::runs::{Run, land_runs};
 
@@ -81,6 +81,7 @@ fn entry_of(alloc: Global, path: &[u16], puts: &[(u16, u32, i64)]) -> Result<Ent
         all.push(Put {
             array: *array,
             index: *index,
+            kind: Kind::Set,
             value: *value,
         })?;
     }

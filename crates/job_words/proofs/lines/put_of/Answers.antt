@@ -10,7 +10,7 @@ use Rattle.job_words.proofs.lines.put_of.Goals as goal
 
 pub returns-in-Err : goal.returns-in-Err
 returns-in-Err c =
-    put_refused (names_in c.args.scope.now) (lent c.args.words.now) c.in-Some.cell.now c.in-Some-take_word.is'.now (lent c.in-Some-take_word.rest.now)
+    put_refused (names_in c.args.scope.now) c.args.kind (lent c.args.words.now) c.in-Some.cell.now c.in-Some-take_word.is'.now (lent c.in-Some-take_word.rest.now)
     c.expr_of.result c.both-front.result c.in-Err.code
     (c.in-Some.ensures ∙ ap (λ (ws : Words). c.in-Some.cell.now ∷ ws) c.in-Some-take_word.ensures)
     (c.both-front.ensures ∙ (ap (λ (x : Result Cell Code). both x c.is_equals.result) c.cell_of.ensures ∙ ap (both (cell_of (names_in c.args.scope.now) c.in-Some.cell.now)) c.is_equals.ensures))
