@@ -1,6 +1,6 @@
 -- Lines outside bodies, and whole texts, keep what a job has to be.
 use Rattle.std.proofs.Common.{◌≡◌, inl, inr, ℕ, zero, suc, ◌+◌, ◌-◌, ◌<◌, ◌≤◌, Bool, true, false, ◌&&◌, List, [], ◌∷◌, ◌++◌, length, Option, Some, None, Result, Ok, Err, ℤ, pos, negsuc, refl, sym, ap, subst, ◌∙◌, arith, length-append}
-use Rattle.std.specs.Prelude.{if◌then◌else◌, nat_le, nat_lt, replicate}
+use Rattle.std.specs.Prelude.{if◌then◌else◌, nat_le, nat_lt, not, ◌||◌, replicate}
 use Rattle.std.specs.List.{list_all}
 use Rattle.std.proofs.lemmas.List.{map-append, length-map, length-replicate}
 use Rattle.std.proofs.lemmas.List.Folds.{list_all-append}
@@ -26,7 +26,9 @@ use Rattle.job_reader.specs.Kept.{KeptJob, KeptOpen, KeptAt}
 use Rattle.job_reader.specs.Reading.{
   ◌>>=◌,
   refused,
-  is_header,
+  format_of,
+  are_apart,
+  read_behind,
   outer_of,
   declared,
   all_numbered,
@@ -55,7 +57,11 @@ use Rattle.job_reader.proofs.ToldOuter.{bind-ok}
 use Rattle.job_reader.proofs.ToldText.{finished-ok, next}
 use Rattle.job_reader.proofs.ReadWords.{free-named, number-fits}
 use Rattle.job_reader.proofs.BodyCounts.{counted-none}
-use Rattle.job_reader.proofs.NotedNames.{names-put}
+use Rattle.job_reader.specs.Grammar.{listed_in}
+use Rattle.job_reader.proofs.BodyHeads.{head-parts, all-free, apart-names}
+use Rattle.job_reader.proofs.Known.{known-line}
+use Rattle.job_reader.proofs.Headers.{format-is}
+use Rattle.job_reader.proofs.NotedNames.{names-put, or-left, or-right}
 use Rattle.job_reader.proofs.KeptJobs.{kept-nothing, inner-kept}
 
 below : (a b : ℕ) → nat_le b a ≡ false → a < b
@@ -134,6 +140,7 @@ array-put : (j : JobTree) (x : Word × List ℤ) → KeptJob j → is_array x �
     → is_among (array_names j) x.0 ≡ false → length (array_names j) < 16 → length (array_names j) ≡ length j.arrays
     → KeptJob (record j { arrays = j.arrays ++ x ∷ [] })
 array-put j x g a free fits new room many = record {
+  format = g.format;
   few_arrays = omega (arith, length-append j.arrays (x ∷ []));
   few_bodies = g.few_bodies;
   few_starts = g.few_starts;
@@ -153,22 +160,41 @@ array-kept j j' ws g e =
     let same : (record j { arrays = j.arrays ++ a.0 ∷ [] }) ≡ j' = cc in
     subst KeptJob same (array-put j a.0 g x.1 x.0 x.2 p.0 (below (length (array_names j)) 16 p.1) (length-map j.arrays (λ y. y.0)))
 
+not-false : (b : Bool) → not b ≡ false → b ≡ true
+not-false true e = refl
+not-false false e = absurd cc
+
+at-most : (a b : ℕ) → nat_lt b a ≡ false → a ≤ b
+at-most a b e = grind (arith, common_steps)
+
+none-listed : (format : ℕ) (name : Word) (ws : List Word) → format ≡ 1 → listed_in format ws ≡ ws → ◌≡◌ {A = Word × List Word} (name, ws) (name, [])
+none-listed format name ws e h =
+    let none : ◌≡◌ {A = List Word} [] ws = ap (λ (x : ℕ). listed_in x ws) (sym e) ∙ h in
+    ap (λ (x : List Word). (name, x)) (sym none)
+
 body-kept : (j : JobTree) (o : Inside) (ws : Words) → body_line j ws ≡ Ok o → KeptOpen j o
 body-kept j o [] e = absurd cc
-body-kept j o (name ∷ w ∷ ws) e = absurd cc
-body-kept j o (name ∷ []) e =
-    let a = bind-ok (body_of (name ∷ [])) (new_body j) o e in
-    let m = made-ok (λ (_ : Unit {0}). name) (named name) a.0 a.1 in
-    let p = two-passed (is_among (body_names j) a.0) (nat_le 64 (length (body_names j))) Twice TooMany (Ok (begun a.0)) o a.2 in
+body-kept j o (name ∷ ws) e =
+    let a = bind-ok (body_of j.format (name ∷ ws)) (new_body j) o e in
+    let m = head-parts j.format name ws a.0 a.1 in
+    let twice : Bool = is_among (body_names j) a.0.0 in
+    let many : Bool = nat_le 64 (length (body_names j)) in
+    let p = two-passed (twice || not (are_apart a.0.1)) (many || nat_lt 32 (length a.0.1)) Twice TooMany (Ok (begun a.0)) o a.2 in
     let same : begun a.0 ≡ o = cc in
+    let apart : are_apart a.0.1 ≡ true = not-false (are_apart a.0.1) (or-right twice (not (are_apart a.0.1)) p.0) in
+    let free : list_all is_free a.0.1 ≡ true = ap (λ (h : Word × List Word). list_all is_free h.1) (sym m.same) ∙ all-free ws m.locals_said in
     subst (KeptOpen j) same
     (record {
-      name = ap is_free (sym m.2) ∙ free-named name m.0 m.1;
-      new = p.0;
-      room = below (length (body_names j)) 64 p.1;
-      locals = refl;
-      few = omega arith;
-      order = refl;
+      name = ap (λ (h : Word × List Word). is_free h.0) (sym m.same) ∙ free-named name tt m.name_said;
+      new = or-left twice (not (are_apart a.0.1)) p.0;
+      room = below (length (body_names j)) 64 (or-left many (nat_lt 32 (length a.0.1)) p.1);
+      locals = apart-names a.0.1 free apart;
+      few = at-most (length a.0.1) 32 (or-right many (nat_lt 32 (length a.0.1)) p.1);
+      mentions = refl;
+      first = λ f. record {
+        order = ap (λ (h : Word × List Word). Some (length h.1)) (sym (none-listed j.format name ws f m.listed) ∙ m.same);
+        lines = refl;
+      };
       counted = counted-none;
     })
 
@@ -189,6 +215,7 @@ start-kept bodies j j' ws g e =
     let same : (record j { starts = j.starts ++ a.0 ∷ [] }) ≡ j' = cc in
     subst KeptJob same
     (record {
+      format = g.format;
       few_arrays = g.few_arrays;
       few_bodies = g.few_bodies;
       few_starts = omega (arith, length-append j.starts (a.0 ∷ []));
@@ -219,7 +246,9 @@ pub any-kept : (bodies : List Word) (j : JobTree) (i : Option Inside) (ws : Word
 any-kept bodies j None [] p g e = absurd cc
 any-kept bodies j (Some o) [] p g e = absurd cc
 any-kept bodies j None (k ∷ ws) p g e = outer-kept bodies j (outer_of k) ws p g e
-any-kept bodies j (Some o) (k ∷ ws) p g e = inner-kept bodies j o (keyword_of k) ws p g.0 g.1 e
+any-kept bodies j (Some o) (k ∷ ws) p g e =
+    let known = known-line bodies j o (keyword_of k) ws p e in
+    inner-kept bodies j o (keyword_of k) ws p g.0 g.1 known.1 known.0
 
 step-cases : (bodies : List Word) (n : ℕ) (a y : Above) (ws : Words) (b : Bool) → KeptAt a.job a.inside
     → ◌≡◌ {A = Result Above Code} (if b then Ok a else line_step bodies n a ws) (Ok y) → KeptAt y.job y.inside
@@ -247,15 +276,17 @@ lines-kept bodies (l ∷ ls) n a j g e =
     ]
 
 -- behind the header
-from-kept : (bodies : List Word) (n : ℕ) (l : List ℕ) (ls : List (List ℕ)) (j : JobTree) (a b : Bool) → (read_from bodies (n + 1) ls ≡ Ok j → KeptJob j)
-    → (if a then read_from bodies (n + 1) ls else if b then read_lines bodies (n + 1) nothing ls else refused n BadHeader) ≡ Ok j → KeptJob j
-from-kept bodies n l ls j true b later e = later e
-from-kept bodies n l ls j false true later e = lines-kept bodies ls (n + 1) nothing j kept-nothing e
-from-kept bodies n l ls j false false later e = absurd cc
+from-kept : (bodies : List Word) (n : ℕ) (l : List ℕ) (ls : List (List ℕ)) (j : JobTree) (a : Bool) (o : Option ℕ) → format_of (words_of l) ≡ o
+    → (read_from bodies (n + 1) ls ≡ Ok j → KeptJob j)
+    → (if a then read_from bodies (n + 1) ls else read_behind bodies n o ls) ≡ Ok j → KeptJob j
+from-kept bodies n l ls j true o h later e = later e
+from-kept bodies n l ls j false (Some format) h later e =
+    lines-kept bodies ls (n + 1) (nothing format) j (kept-nothing format (format-is (words_of l) format h)) e
+from-kept bodies n l ls j false None h later e = absurd cc
 
 begins-kept : (bodies : List Word) (ls : List (List ℕ)) (n : ℕ) (j : JobTree) → read_from bodies n ls ≡ Ok j → KeptJob j
 begins-kept bodies [] n j e = absurd cc
-begins-kept bodies (l ∷ ls) n j e = from-kept bodies n l ls j (is_skipped (words_of l)) (is_header (words_of l)) (begins-kept bodies ls (n + 1) j) e
+begins-kept bodies (l ∷ ls) n j e = from-kept bodies n l ls j (is_skipped (words_of l)) (format_of (words_of l)) refl (begins-kept bodies ls (n + 1) j) e
 
 unless-ok : (o : Option ℕ) (r : Result JobTree Refusal) (j : JobTree) → unless_bad o r ≡ Ok j → r ≡ Ok j
 unless-ok None r j e = e

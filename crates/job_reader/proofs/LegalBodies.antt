@@ -35,7 +35,7 @@ wide-expr k n (Two a o b) h e = and-true _ _ (wide-operand k n a h (and-left _ (
 
 wide-action : (k n m : ℕ) (a : Action) → k ≤ n → is_action k m a ≡ true → is_action n m a ≡ true
 wide-action k n m (action.Let i x) h e = wide-expr k n x h e
-wide-action k n m (action.Put c x) h e =
+wide-action k n m (action.Put kind c x) h e =
     let there : c.array < k = ltb-true c.array k (and-left _ (is_expr k x) e) in
     and-true _ _ (below-true c.array n (omega arith)) (wide-expr k n x h (and-right (nat_lt c.array k) _ e))
 wide-action k n m (action.Print x) h e = wide-expr k n x h e
@@ -88,26 +88,26 @@ lines-named s (l ∷ ls) e =
 abbrev WholeBody : ℕ → ℕ → BodyTree → Type 0
 WholeBody n m b = list_all (is_line n m) (flat b.block) ≡ true
 
-body-whole : (arrays bodies : List Word) (n : ℕ) (b : BodyTree) → length arrays ≤ n → IsSoundBody arrays bodies b → WholeBody n (length bodies) b
-body-whole arrays bodies n b few sound =
-    block-there (length arrays) n (length bodies) b.block few (lines-named (names_above arrays bodies b) (flat b.block) sound.0)
+body-whole : (format : ℕ) (arrays bodies : List Word) (n : ℕ) (b : BodyTree) → length arrays ≤ n → IsSoundBody format arrays bodies b → WholeBody n (length bodies) b
+body-whole format arrays bodies n b few sound =
+    block-there (length arrays) n (length bodies) b.block few (lines-named (names_above arrays bodies b) (flat b.block) sound.names)
 
 abbrev pub AreWhole : ℕ → ℕ → List BodyTree → Type 0
 AreWhole n m [] = Unit {0}
 AreWhole n m (b ∷ bs) = WholeBody n m b × AreWhole n m bs
 
-pub items-whole : (above bodies : List Word) (n : ℕ) (items : List Item) → length above + length (array_names (job_of items)) ≡ n → AreSound above bodies items
-    → AreWhole n (length bodies) (job_of items).bodies
-items-whole above bodies n [] many h = tt
-items-whole above bodies n (AnArray name given cells ∷ is) many h =
-    items-whole (above ++ name ∷ []) bodies n is (omega (arith, many, length-append above (name ∷ []))) h.1
-items-whole above bodies n (ABody b ∷ is) many h =
-    (body-whole above bodies n b (omega arith) h.0, items-whole above bodies n is many h.1)
-items-whole above bodies n (AStart s ∷ is) many h = items-whole above bodies n is many h.1
+pub items-whole : (format : ℕ) (above bodies : List Word) (n : ℕ) (items : List Item) → length above + length (array_names (job_of format items)) ≡ n → AreSound format above bodies items
+    → AreWhole n (length bodies) (job_of format items).bodies
+items-whole format above bodies n [] many h = tt
+items-whole format above bodies n (AnArray name given cells ∷ is) many h =
+    items-whole format (above ++ name ∷ []) bodies n is (omega (arith, many, length-append above (name ∷ []))) h.1
+items-whole format above bodies n (ABody b ∷ is) many h =
+    (body-whole format above bodies n b (omega arith) h.0, items-whole format above bodies n is many h.1)
+items-whole format above bodies n (AStart s ∷ is) many h = items-whole format above bodies n is many h.1
 
-pub starts-there : (above bodies : List Word) (items : List Item) → AreSound above bodies items
-    → list_all (λ s. nat_lt s.body (length bodies)) (job_of items).starts ≡ true
-starts-there above bodies [] h = refl
-starts-there above bodies (AnArray name given cells ∷ is) h = starts-there (above ++ name ∷ []) bodies is h.1
-starts-there above bodies (ABody b ∷ is) h = starts-there above bodies is h.1
-starts-there above bodies (AStart s ∷ is) h = and-true _ _ (below-true s.body (length bodies) h.0) (starts-there above bodies is h.1)
+pub starts-there : (format : ℕ) (above bodies : List Word) (items : List Item) → AreSound format above bodies items
+    → list_all (λ s. nat_lt s.body (length bodies)) (job_of format items).starts ≡ true
+starts-there format above bodies [] h = refl
+starts-there format above bodies (AnArray name given cells ∷ is) h = starts-there format (above ++ name ∷ []) bodies is h.1
+starts-there format above bodies (ABody b ∷ is) h = starts-there format above bodies is h.1
+starts-there format above bodies (AStart s ∷ is) h = and-true _ _ (below-true s.body (length bodies) h.0) (starts-there format above bodies is h.1)

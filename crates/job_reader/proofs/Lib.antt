@@ -19,6 +19,10 @@ pub mod MentionsSaid
 pub mod BodyCounts
 pub mod KeptJobs
 pub mod KeptLines
+pub mod BodyHeads
+pub mod Headers
+pub mod Known
+pub mod LocalsBehind
 pub mod LegalBodies
 pub mod ReadJobs
 pub mod AsciiNames

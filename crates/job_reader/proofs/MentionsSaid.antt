@@ -139,10 +139,10 @@ line-says s fits (Some Let) (w ∷ v ∷ ws) l e =
     subst (λ (x : Line). Says s.locals (w ∷ in_expr ws) (mentions.in_line x)) m.2
     (both-say s.locals (w ∷ []) (in_expr ws) (m.0.0.1 ∷ []) (mentions.in_expr m.0.1)
     (ap (λ (x : Word). x ∷ []) d.0, and-true _ true (below-true m.0.0.1 (length s.locals) d.1) refl) (expr-says s ws m.0.1 outer.1))
-line-says s fits (Some Put) [] l e = absurd cc
-line-says s fits (Some Put) (w ∷ []) l e = absurd cc
-line-says s fits (Some Put) (w ∷ v ∷ ws) l e =
-    let m = made-ok put_line (both (both (cell_of s w) (is_equals v)) (expr_of s ws)) l e in
+line-says s fits (Some (Put kind)) [] l e = absurd cc
+line-says s fits (Some (Put kind)) (w ∷ []) l e = absurd cc
+line-says s fits (Some (Put kind)) (w ∷ v ∷ ws) l e =
+    let m = made-ok (put_line kind) (both (both (cell_of s w) (is_equals v)) (expr_of s ws)) l e in
     let outer = both-ok (both (cell_of s w) (is_equals v)) (expr_of s ws) m.0 m.1 in
     let inner = both-ok (cell_of s w) (is_equals v) m.0.0 outer.0 in
     subst (λ (x : Line). Says s.locals (in_operand w ++ in_expr ws) (mentions.in_line x)) m.2
@@ -160,6 +160,11 @@ line-says s fits (Some If) ws l e = test-says s (λ x. line.If x 0) ws l (λ x. 
 line-says s fits (Some Else) ws l e = else-says s fits ws l e
 line-says s fits (Some While) ws l e = test-says s (λ x. line.While x 0) ws l (λ x. refl) e
 line-says s fits (Some End) ws l e = alone-says s line.EndIf l ws refl e
+
+-- a line mentions locals that are there
+pub line-below : (s : Names) (fits : Bool) (k : Option Keyword) (ws : Words) (l : Line) → line_behind s fits k ws ≡ Ok l
+    → mentions.are_below (length s.locals) (mentions.in_line l) ≡ true
+line-below s fits k ws l e = (line-says s fits k ws l e).1
 
 take-front : (xs ys : List Word) → take (length xs) (xs ++ ys) ≡ xs
 take-front [] ys = refl
@@ -200,13 +205,17 @@ joined-one : (xs : List (List ℕ)) (x : List ℕ) → joined (xs ++ x ∷ []) �
 joined-one [] x = append-nil x
 joined-one (y ∷ ys) x = ap (λ (t : List ℕ). y ++ t) (joined-one ys x) ∙ sym (append_assoc y (joined ys) x)
 
--- the open body's order with a line more
+-- the open body's mentions with a line more
+pub mentions-step : (l : Line) (fs : List Frame) (b : Block) (s : List Frame × Block) → step_of l fs b ≡ Some s
+    → mentions.mentions (open_code s.0 s.1) ≡ mentions.mentions (open_code fs b) ++ mentions.in_line l
+mentions-step l fs b s e =
+    mentions-joined (open_code s.0 s.1) ∙ ap joined (step-map mentions.in_line (λ e n m. refl) (λ n m. refl) (λ e n m. refl) (λ e n. refl) l fs b s e)
+    ∙ joined-one (map mentions.in_line (open_code fs b)) (mentions.in_line l)
+    ∙ ap (λ (t : List ℕ). t ++ mentions.in_line l) (sym (mentions-joined (open_code fs b)))
+
+-- and their order
 pub order-step : (l : Line) (fs : List Frame) (b : Block) (s : List Frame × Block) (n m : ℕ) → step_of l fs b ≡ Some s
     → mentions.mentioned 0 (mentions.mentions (open_code fs b)) ≡ Some n → mentions.mentioned n (mentions.in_line l) ≡ Some m
     → mentions.mentioned 0 (mentions.mentions (open_code s.0 s.1)) ≡ Some m
 order-step l fs b s n m e before here =
-    let code : mentions.mentions (open_code s.0 s.1) ≡ mentions.mentions (open_code fs b) ++ mentions.in_line l =
-    mentions-joined (open_code s.0 s.1) ∙ ap joined (step-map mentions.in_line (λ e n m. refl) (λ n m. refl) (λ e n m. refl) (λ e n. refl) l fs b s e)
-    ∙ joined-one (map mentions.in_line (open_code fs b)) (mentions.in_line l)
-    ∙ ap (λ (t : List ℕ). t ++ mentions.in_line l) (sym (mentions-joined (open_code fs b))) in
-    ap (mentions.mentioned 0) code ∙ mentioned-behind 0 n (mentions.mentions (open_code fs b)) (mentions.in_line l) before ∙ here
+    ap (mentions.mentioned 0) (mentions-step l fs b s e) ∙ mentioned-behind 0 n (mentions.mentions (open_code fs b)) (mentions.in_line l) before ∙ here

@@ -7,7 +7,7 @@ use Rattle.std.proofs.lemmas.Grind.{common_steps}
 use Rattle.std.proofs.lemmas.Simd.{map-map}
 use Rattle.task_lang.specs.Names.{are_names}
 use Rattle.task_lang.specs.Limits.{is_line}
-use Rattle.task_lang.specs.Rules.{IsBody}
+use Rattle.task_lang.specs.Rules.{IsBody, IsOfFirst}
 use Rattle.task_lang.proofs.Reading.{tree-flat}
 use Rattle.task_lang.specs.Tree.{Block}
 use Rattle.job_words.specs.Words.{Word}
@@ -34,9 +34,13 @@ bodies-lines : (n m : ℕ) (bs : List BodyTree) → AreWhole n m bs → list_all
 bodies-lines n m [] h = refl
 bodies-lines n m (b ∷ bs) h = and-true _ _ h.0 (bodies-lines n m bs h.1)
 
-bodies-are : (bs : List BodyTree) → AreKept bs → AllByRecursion IsBody (map flat_body bs)
-bodies-are [] k = tt
-bodies-are (b ∷ bs) k = (k.0, bodies-are bs k.1)
+bodies-are : (format : ℕ) (bs : List BodyTree) → AreKept format bs → AllByRecursion IsBody (map flat_body bs)
+bodies-are format [] k = tt
+bodies-are format (b ∷ bs) k = (k.0.0, bodies-are format bs k.1)
+
+bodies-first : (format : ℕ) (bs : List BodyTree) → AreKept format bs → format ≡ 1 → AllByRecursion IsOfFirst (map flat_body bs)
+bodies-first format [] k e = tt
+bodies-first format (b ∷ bs) k e = (k.0.1 e, bodies-first format bs k.1 e)
 
 -- a job's bodies and start lines among its arrays and bodies
 record Whole (bodies : List Word) (j : JobTree) : Type 0 where
@@ -50,8 +54,8 @@ read-jobs text j e =
     let w : Whole (body_names j) j =
     subst (Whole (body_names j)) t.said
     (record {
-      bodies_whole = items-whole [] (body_names j) (length (array_names (job_of t.items))) t.items (omega arith) t.sound;
-      starts_whole = starts-there [] (body_names j) t.items t.sound;
+      bodies_whole = items-whole j.format [] (body_names j) (length (array_names (job_of j.format t.items))) t.items (omega arith) t.sound;
+      starts_whole = starts-there j.format [] (body_names j) t.items t.sound;
     }) in
     let flats : map (λ b. b.name) (map flat_body j.bodies) ≡ body_names j = map-map (λ b. b.name) flat_body j.bodies in
     let arrays : length (array_names j) ≡ length j.arrays = length-map j.arrays (λ a. a.0) in
@@ -61,28 +65,31 @@ read-jobs text j e =
     subst (λ (n : ℕ). AreWhole n (length (map flat_body j.bodies)) j.bodies) arrays
     (subst (λ (m : ℕ). AreWhole (length (array_names j)) m j.bodies) bodies w.bodies_whole) in
     record {
+      format = k.format;
+      first = bodies-first j.format j.bodies k.bodies;
       few_arrays = k.few_arrays;
       few_bodies = omega (arith, bodies, k.few_bodies);
       few_starts = k.few_starts;
       arrays = k.arrays;
       named = k.arrays_named;
       bodies = ap are_names flats ∙ k.bodies_named;
-      each = bodies-are j.bodies k.bodies;
+      each = bodies-are j.format j.bodies k.bodies;
       lines = bodies-lines (length j.arrays) (length (map flat_body j.bodies)) j.bodies whole;
       starts = ap (λ (n : ℕ). list_all (λ s. nat_lt s.body n) j.starts) (sym bodies) ∙ w.starts_whole;
       cells = k.cells;
       args = k.args;
     }
 
-value-parts : (a b : List (Word × List ℤ)) (k l : List BodyValue) (s t : List Start) → a ≡ b → k ≡ l → s ≡ t
-    → ◌≡◌ {A = JobValue} (record { arrays = a; bodies = k; starts = s }) (record { arrays = b; bodies = l; starts = t })
-value-parts a b k l s t e f g =
-    ap (λ (x : List (Word × List ℤ)). record { arrays = x; bodies = k; starts = s }) e
-    ∙ ap (λ (x : List BodyValue). record { arrays = b; bodies = x; starts = s }) f
-    ∙ ap (λ (x : List Start). record { arrays = b; bodies = l; starts = x }) g
+value-parts : (n m : ℕ) (a b : List (Word × List ℤ)) (k l : List BodyValue) (s t : List Start) → n ≡ m → a ≡ b → k ≡ l → s ≡ t
+    → ◌≡◌ {A = JobValue} (record { format = n; arrays = a; bodies = k; starts = s }) (record { format = m; arrays = b; bodies = l; starts = t })
+value-parts n m a b k l s t h e f g =
+    ap (λ (x : ℕ). record { format = x; arrays = a; bodies = k; starts = s }) h
+    ∙ ap (λ (x : List (Word × List ℤ)). record { format = m; arrays = x; bodies = k; starts = s }) e
+    ∙ ap (λ (x : List BodyValue). record { format = m; arrays = b; bodies = x; starts = s }) f
+    ∙ ap (λ (x : List Start). record { format = m; arrays = b; bodies = l; starts = x }) g
 
-same-job : (j : JobTree) (r : SoFar) → IsSoFar j r → job_value r.arrays r.bodies r.starts ≡ flat_job j
-same-job j r s = value-parts r.arrays j.arrays r.bodies.items (map flat_body j.bodies) r.starts.items j.starts s.arrays s.bodies s.starts
+same-job : (j : JobTree) (r : SoFar) → IsSoFar j r → job_value r.format r.arrays r.bodies r.starts ≡ flat_job j
+same-job j r s = value-parts r.format j.format r.arrays j.arrays r.bodies.items (map flat_body j.bodies) r.starts.items j.starts s.format s.arrays s.bodies s.starts
 
 trees-back : (bs : List BodyTree) → map body_tree (map flat_body bs) ≡ bs
 trees-back [] = refl
@@ -90,7 +97,7 @@ trees-back (b ∷ bs) =
     ap (λ (x : Block). record b { block = x } ∷ map body_tree (map flat_body bs)) (tree-flat b.block) ∙ ap (λ (xs : List BodyTree). b ∷ xs) (trees-back bs)
 
 -- what the type of a job takes is the job that the reader has
-pub job-back : (j : JobTree) (r : SoFar) (v : JobValue) → IsSoFar j r → v ≡ job_value r.arrays r.bodies r.starts → job_tree v ≡ j
+pub job-back : (j : JobTree) (r : SoFar) (v : JobValue) → IsSoFar j r → v ≡ job_value r.format r.arrays r.bodies r.starts → job_tree v ≡ j
 job-back j r v s e =
     ap job_tree (e ∙ same-job j r s) ∙ ap (λ (bs : List BodyTree). record j { bodies = bs }) (trees-back j.bodies)
 
@@ -98,15 +105,15 @@ short-enough : (n : ℕ) → n ≤ 1048576 → nat_lt 1048576 n ≡ false
 short-enough n h = grind (arith, common_steps)
 
 -- a text's lines behind the header say a job, if anything
-pub text-says : (text : List ℕ) (n : ℕ) (rest : List (List ℕ)) (bodies : List Word) → length text ≤ 1048576 → bad_byte_line 1 text ≡ None
-    → ((bodies : List Word) → read_from bodies 1 (lines_of text) ≡ read_lines bodies n nothing rest) → bodies ≡ declared (lines_of text)
-    → SaysJobs (read_lines bodies n nothing rest)
+pub text-says : (text : List ℕ) (format n : ℕ) (rest : List (List ℕ)) (bodies : List Word) → length text ≤ 1048576 → bad_byte_line 1 text ≡ None
+    → ((bodies : List Word) → read_from bodies 1 (lines_of text) ≡ read_lines bodies n (nothing format) rest) → bodies ≡ declared (lines_of text)
+    → SaysJobs (read_lines bodies n (nothing format) rest)
 unfolding job_in
-text-says text n rest bodies short clean header same =
+text-says text format n rest bodies short clean header same =
     λ j e.
     let all : List Word = declared (lines_of text) in
     let read : Result JobTree Refusal = read_from all 1 (lines_of text) in
     read-jobs text j
     (ap (λ (b : Bool). if b then refused 1 TooLong else unless_bad (bad_byte_line 1 text) read) (short-enough (length text) short)
     ∙ ap (λ (o : Option ℕ). unless_bad o read) clean ∙ header all
-    ∙ ap (λ (x : List Word). read_lines x n nothing rest) (sym same) ∙ e)
+    ∙ ap (λ (x : List Word). read_lines x n (nothing format) rest) (sym same) ∙ e)

@@ -188,10 +188,10 @@ line-reads s fits (Some Let) (w ∷ v ∷ ws) l e =
     let inner = both-ok (is_equals v) (declared_at s.locals w) m.0.0 outer.0 in
     let x = expr-reads s ws m.0.1 outer.1 in
     (and-true _ _ (free-declared s.locals w m.0.0.1 inner.1) x.0, ap fits_line (sym m.2) ∙ x.1)
-line-reads s fits (Some Put) [] l e = absurd cc
-line-reads s fits (Some Put) (w ∷ []) l e = absurd cc
-line-reads s fits (Some Put) (w ∷ v ∷ ws) l e =
-    let m = made-ok put_line (both (both (cell_of s w) (is_equals v)) (expr_of s ws)) l e in
+line-reads s fits (Some (Put kind)) [] l e = absurd cc
+line-reads s fits (Some (Put kind)) (w ∷ []) l e = absurd cc
+line-reads s fits (Some (Put kind)) (w ∷ v ∷ ws) l e =
+    let m = made-ok (put_line kind) (both (both (cell_of s w) (is_equals v)) (expr_of s ws)) l e in
     let outer = both-ok (both (cell_of s w) (is_equals v)) (expr_of s ws) m.0 m.1 in
     let inner = both-ok (cell_of s w) (is_equals v) m.0.0 outer.0 in
     let x = expr-reads s ws m.0.1 outer.1 in

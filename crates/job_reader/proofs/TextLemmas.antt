@@ -49,6 +49,8 @@ use Rattle.job_reader.specs.Grammar.{
   start_lines,
   canonical_text,
   header_words,
+  listed_in,
+  spaced,
   line_text,
   text_of,
 }
@@ -56,53 +58,53 @@ use Rattle.job_reader.specs.Writing.{code_lines}
 use Rattle.job_reader.proofs.CodeLemmas.{matched-code, text-append}
 
 -- one body more
-pub bodies-next : (arrays bodies : List Word) (b : BodyTree) (bs : List BodyTree) (out next : List ℕ) → next ≡ out ++ text_of (body_lines arrays bodies b)
-    → next ++ text_of (bodies_lines arrays bodies bs) ≡ out ++ text_of (bodies_lines arrays bodies (b ∷ bs))
-bodies-next arrays bodies b bs out next e =
-    ap (λ (x : List ℕ). x ++ text_of (bodies_lines arrays bodies bs)) e
-    ∙ append_assoc out (text_of (body_lines arrays bodies b)) (text_of (bodies_lines arrays bodies bs))
-    ∙ ap (λ (x : List ℕ). out ++ x) (sym (text-append (body_lines arrays bodies b) (bodies_lines arrays bodies bs)))
+pub bodies-next : (format : ℕ) (arrays bodies : List Word) (b : BodyTree) (bs : List BodyTree) (out next : List ℕ) → next ≡ out ++ text_of (body_lines format arrays bodies b)
+    → next ++ text_of (bodies_lines format arrays bodies bs) ≡ out ++ text_of (bodies_lines format arrays bodies (b ∷ bs))
+bodies-next format arrays bodies b bs out next e =
+    ap (λ (x : List ℕ). x ++ text_of (bodies_lines format arrays bodies bs)) e
+    ∙ append_assoc out (text_of (body_lines format arrays bodies b)) (text_of (bodies_lines format arrays bodies bs))
+    ∙ ap (λ (x : List ℕ). out ++ x) (sym (text-append (body_lines format arrays bodies b) (bodies_lines format arrays bodies bs)))
 
--- five pieces, one behind the other
-pieces : (out a b c d : List ℕ) → (((out ++ a) ++ b) ++ c) ++ d ≡ out ++ (a ++ (b ++ (c ++ d)))
-pieces out a b c d = append_assoc ((out ++ a) ++ b) c d ∙ append_assoc (out ++ a) b (c ++ d) ∙ append_assoc out a (b ++ (c ++ d))
+-- six pieces, one behind the other
+pieces : (out a b s n t : List ℕ) → ((((out ++ a) ++ b) ++ s) ++ n) ++ t ≡ out ++ (a ++ (((b ++ s) ++ n) ++ t))
+pieces out a b s n t = simp append_assoc
 
 last-line : (ls : List Words) → text_of (ls ++ end_words ∷ []) ≡ text_of ls ++ codes "end\n"
 last-line ls = text-append ls (end_words ∷ [])
 
 -- a body's pieces are its lines
-pub body-text : (s : Names) (name : Word) (code : List Line) → IsMatched code → (out a b c d e : List ℕ)
-    → a ≡ out ++ codes "body " → b ≡ a ++ name → c ≡ b ++ 10 ∷ [] → d ≡ c ++ text_of (code_lines s code) → e ≡ d ++ codes "end\n"
-    → e ≡ out ++ text_of (body_words name ∷ (block_lines s (tree_of code) ++ end_words ∷ []))
-body-text s name code m out a b c d e p q r t u =
+pub body-text : (format : ℕ) (s : Names) (name : Word) (locals : List Word) (code : List Line) → IsMatched code → (out a b l c d e : List ℕ)
+    → a ≡ out ++ codes "body " → b ≡ a ++ name → l ≡ b ++ spaced (listed_in format locals) → c ≡ l ++ 10 ∷ [] → d ≡ c ++ text_of (code_lines s code) → e ≡ d ++ codes "end\n"
+    → e ≡ out ++ text_of (body_words format name locals ∷ (block_lines s (tree_of code) ++ end_words ∷ []))
+body-text format s name locals code m out a b l c d e p q v r t u =
     let whole : text_of (code_lines s code) ++ codes "end\n" ≡ text_of (block_lines s (tree_of code) ++ end_words ∷ []) =
     ap (λ (x : List Words). text_of x ++ codes "end\n") (matched-code s code m) ∙ sym (last-line (block_lines s (tree_of code))) in
-    let name-nil : name ++ [] ≡ name = append-nil name in
-    let first : codes "body " ++ (name ++ (10 ∷ [] ++ text_of (block_lines s (tree_of code) ++ end_words ∷ []))) ≡ text_of (body_words name ∷ (block_lines s (tree_of code) ++ end_words ∷ [])) =
-    ap (λ (x : List ℕ). codes "body " ++ x) (sym (append_assoc name (10 ∷ []) (text_of (block_lines s (tree_of code) ++ end_words ∷ []))))
-    ∙ ap (λ (x : List ℕ). codes "body " ++ ((x ++ 10 ∷ []) ++ text_of (block_lines s (tree_of code) ++ end_words ∷ []))) (sym name-nil) in
+    let names : List ℕ = spaced (listed_in format locals) in
+    let front : List ℕ = (((out ++ codes "body ") ++ name) ++ names) ++ 10 ∷ [] in
+    let begun : c ≡ front =
+    r ∙ ap (λ (x : List ℕ). x ++ 10 ∷ []) (v ∙ ap (λ (x : List ℕ). x ++ names) (q ∙ ap (λ (x : List ℕ). x ++ name) p)) in
     u
-    ∙ ap (λ (x : List ℕ). x ++ codes "end\n") (t ∙ ap (λ (x : List ℕ). x ++ text_of (code_lines s code)) (r ∙ ap (λ (x : List ℕ). x ++ 10 ∷ []) (q ∙ ap (λ (x : List ℕ). x ++ name) p)))
-    ∙ append_assoc (((out ++ codes "body ") ++ name) ++ 10 ∷ []) (text_of (code_lines s code)) (codes "end\n")
-    ∙ ap (λ (x : List ℕ). (((out ++ codes "body ") ++ name) ++ 10 ∷ []) ++ x) whole
-    ∙ pieces out (codes "body ") name (10 ∷ []) (text_of (block_lines s (tree_of code) ++ end_words ∷ []))
-    ∙ ap (λ (x : List ℕ). out ++ x) first
+    ∙ ap (λ (x : List ℕ). x ++ codes "end\n") (t ∙ ap (λ (x : List ℕ). x ++ text_of (code_lines s code)) begun)
+    ∙ append_assoc front (text_of (code_lines s code)) (codes "end\n")
+    ∙ ap (λ (x : List ℕ). front ++ x) whole
+    ∙ pieces out (codes "body ") name names (10 ∷ []) (text_of (block_lines s (tree_of code) ++ end_words ∷ []))
 
 pub names-of-trees : (bs : List BodyValue) → map (λ (b : BodyTree). b.name) (map body_tree bs) ≡ map (λ (b : BodyValue). b.name) bs
 names-of-trees [] = refl
 names-of-trees (b ∷ bs) = ap (λ (t : List Word). b.name ∷ t) (names-of-trees bs)
 
 -- a job's pieces are its text
-pub job-text : (xs ys zs : List Words) (new a b c d : List ℕ) → new ≡ [] → a ≡ new ++ codes "bsp 1\n" → b ≡ a ++ text_of xs
+pub job-text : (header : Words) (xs ys zs : List Words) (new a b c d : List ℕ) → new ≡ [] → a ≡ new ++ line_text header → b ≡ a ++ text_of xs
     → c ≡ b ++ text_of ys → d ≡ c ++ text_of zs
-    → d ≡ text_of (header_words ∷ (xs ++ (ys ++ zs)))
-job-text xs ys zs new a b c d n p q r t =
+    → d ≡ text_of (header ∷ (xs ++ (ys ++ zs)))
+job-text header xs ys zs new a b c d n p q r t =
+    let first : List ℕ = line_text header in
     t
-    ∙ ap (λ (x : List ℕ). x ++ text_of zs) (r ∙ ap (λ (x : List ℕ). x ++ text_of ys) (q ∙ ap (λ (x : List ℕ). x ++ text_of xs) (p ∙ ap (λ (x : List ℕ). x ++ codes "bsp 1\n") n)))
-    ∙ append_assoc (codes "bsp 1\n" ++ text_of xs) (text_of ys) (text_of zs)
-    ∙ append_assoc (codes "bsp 1\n") (text_of xs) (text_of ys ++ text_of zs)
-    ∙ ap (λ (x : List ℕ). codes "bsp 1\n" ++ (text_of xs ++ x)) (sym (text-append ys zs))
-    ∙ ap (λ (x : List ℕ). codes "bsp 1\n" ++ x) (sym (text-append xs (ys ++ zs)))
+    ∙ ap (λ (x : List ℕ). x ++ text_of zs) (r ∙ ap (λ (x : List ℕ). x ++ text_of ys) (q ∙ ap (λ (x : List ℕ). x ++ text_of xs) (p ∙ ap (λ (x : List ℕ). x ++ first) n)))
+    ∙ append_assoc (first ++ text_of xs) (text_of ys) (text_of zs)
+    ∙ append_assoc first (text_of xs) (text_of ys ++ text_of zs)
+    ∙ ap (λ (x : List ℕ). first ++ (text_of xs ++ x)) (sym (text-append ys zs))
+    ∙ ap (λ (x : List ℕ). first ++ x) (sym (text-append xs (ys ++ zs)))
 
 at-place : (xs : List (Word × List ℤ)) (i : ℕ) (x : Word × List ℤ) → slice_get xs i ≡ Some x → drop i xs ≡ x ∷ drop (suc i) xs
 at-place [] i x e = absurd cc
@@ -133,19 +135,20 @@ arrays-end xs i out next e n =
     ∙ ap (λ (t : List (Word × List ℤ)). out ++ text_of (array_lines t)) (sym (past-end xs i (sym e)))
 
 -- the pieces of a job are its canonical text
-pub job-made : (j : JobValue) (xs ys : List (Word × List ℤ)) (p q r : List BodyValue) (ss : List Start) (new a b c d : List ℕ)
+pub job-made : (j : JobValue) (f h : ℕ) (xs ys : List (Word × List ℤ)) (p q r : List BodyValue) (ss : List Start) (new a b c d : List ℕ)
     → xs ≡ j.arrays → ys ≡ j.arrays → p ≡ j.bodies → q ≡ j.bodies → r ≡ j.bodies → ss ≡ j.starts
-    → new ≡ [] → a ≡ new ++ codes "bsp 1\n" → b ≡ a ++ text_of (array_lines xs)
-    → c ≡ b ++ text_of (bodies_lines (map (λ (x : Word × List ℤ). x.0) ys) (map (λ (x : BodyValue). x.name) p) (map body_tree q))
+    → f ≡ j.format → h ≡ j.format → new ≡ [] → a ≡ new ++ line_text (header_words f) → b ≡ a ++ text_of (array_lines xs)
+    → c ≡ b ++ text_of (bodies_lines h (map (λ (x : Word × List ℤ). x.0) ys) (map (λ (x : BodyValue). x.name) p) (map body_tree q))
     → d ≡ c ++ text_of (start_lines (map (λ (x : BodyValue). x.name) r) ss) → d ≡ canonical_text (job_tree j)
-job-made j xs ys p q r ss new a b c d ex ey ep eq er es n f g h i =
+job-made j f h xs ys p q r ss new a b c d ex ey ep eq er es ef eh n first g k i =
     let names : (bs : List BodyValue) → bs ≡ j.bodies → map (λ (x : BodyValue). x.name) bs ≡ body_names (job_tree j) =
     λ bs e. ap (λ (t : List BodyValue). map (λ (x : BodyValue). x.name) t) e ∙ sym (names-of-trees j.bodies) in
-    job-text (array_lines j.arrays) (bodies_lines (array_names (job_tree j)) (body_names (job_tree j)) (map body_tree j.bodies)) (start_lines (body_names (job_tree j)) j.starts)
-    new a b c d n f
+    job-text (header_words j.format) (array_lines j.arrays) (bodies_lines j.format (array_names (job_tree j)) (body_names (job_tree j)) (map body_tree j.bodies)) (start_lines (body_names (job_tree j)) j.starts)
+    new a b c d n (first ∙ ap (λ (x : ℕ). new ++ line_text (header_words x)) ef)
     (g ∙ ap (λ (t : List (Word × List ℤ)). a ++ text_of (array_lines t)) ex)
-    (h ∙ ap (λ (t : List (Word × List ℤ)). b ++ text_of (bodies_lines (map (λ (x : Word × List ℤ). x.0) t) (map (λ (x : BodyValue). x.name) p) (map body_tree q))) ey
-    ∙ ap (λ (t : List Word). b ++ text_of (bodies_lines (array_names (job_tree j)) t (map body_tree q))) (names p ep)
-    ∙ ap (λ (t : List BodyValue). b ++ text_of (bodies_lines (array_names (job_tree j)) (body_names (job_tree j)) (map body_tree t))) eq)
+    (k ∙ ap (λ (t : List (Word × List ℤ)). b ++ text_of (bodies_lines h (map (λ (x : Word × List ℤ). x.0) t) (map (λ (x : BodyValue). x.name) p) (map body_tree q))) ey
+    ∙ ap (λ (t : List Word). b ++ text_of (bodies_lines h (array_names (job_tree j)) t (map body_tree q))) (names p ep)
+    ∙ ap (λ (t : List BodyValue). b ++ text_of (bodies_lines h (array_names (job_tree j)) (body_names (job_tree j)) (map body_tree t))) eq
+    ∙ ap (λ (x : ℕ). b ++ text_of (bodies_lines x (array_names (job_tree j)) (body_names (job_tree j)) (map body_tree j.bodies))) eh)
     (i ∙ ap (λ (t : List Word). c ++ text_of (start_lines t ss)) (names r er)
     ∙ ap (λ (t : List Start). c ++ text_of (start_lines (body_names (job_tree j)) t)) es)

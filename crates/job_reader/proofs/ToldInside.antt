@@ -28,27 +28,27 @@ use Rattle.std.proofs.Common.{
   codes,
 }
 use Rattle.std.specs.Prelude.{not, ◌||◌}
-use Rattle.std.specs.List.{list_all, flat_map}
+use Rattle.std.specs.List.{list_all}
 use Rattle.std.specs.Str.{bytes_eq}
-use Rattle.std.proofs.lemmas.Grind.{flat_map-append}
 use Rattle.std.proofs.lemmas.List.Folds.{list_all-append}
 use Rattle.task_lang.specs.Names.{is_among}
 use Rattle.task_lang.specs.declared.code.Line.{Line}
 use Rattle.task_lang.specs.declared.code.Line.TheVariants as line
 use Rattle.task_lang.specs.Tree.{Block, flat}
 use Rattle.task_lang.specs.Open.{Frame, InIf, InElse, InWhile, open_code, step_of}
-use Rattle.job_words.specs.Words.{Word, Words, noted}
+use Rattle.job_words.specs.Words.{Word, Words}
 use Rattle.job_words.specs.Exprs.{Names}
 use Rattle.job_words.specs.declared.lines.Keyword.{Keyword}
 use Rattle.job_words.specs.declared.lines.Keyword.TheVariants.{Let, Put, Print, Spawn, Sync, Stop, If, Else, While, End}
-use Rattle.job_words.specs.Lines.{keyword_of, line_words, line_fits, mentions_behind, mentions_of, end_words}
+use Rattle.job_words.specs.Lines.{keyword_of, known_in, line_words, line_fits, mentions_behind, mentions_of, end_words}
 use Rattle.job_words.proofs.SaidLemmas.{made-ok, and-true}
 use Rattle.job_words.proofs.LineSaid.{LineSaid, is_present_if, keyword-said, line-said}
-use Rattle.job_words.proofs.GrowLemmas.{wider, line-grows, fits-grows, noted-grows, and-left, and-right}
-use Rattle.job_words.proofs.NotedLemmas.{noted-append}
+use Rattle.job_words.proofs.GrowLemmas.{wider, line-grows, fits-grows, and-left, and-right}
+use Rattle.job_reader.proofs.LocalsBehind.{locals-grow, listed-same, behind-none, by-one}
+use Rattle.job_reader.proofs.Known.{known-line, said-known}
 use Rattle.job_reader.specs.Trees.{BodyTree, JobTree, array_names}
 use Rattle.job_reader.specs.Above.{Inside, can_else, sits, grown, ended, statements_behind}
-use Rattle.job_reader.specs.Grammar.{ABody, body_words, block_lines, body_lines, mentioned_by, items_lines}
+use Rattle.job_reader.specs.Grammar.{ABody, body_words, block_lines, body_lines, items_lines, listed_in, locals_behind, locals_by, is_in_format}
 use Rattle.job_reader.specs.Reading.{mentioning, said, behind, with_line, inner_line, is_missing}
 use Rattle.job_reader.specs.Writing.{code_lines}
 use Rattle.job_reader.proofs.CodeLemmas.{block-code}
@@ -64,9 +64,10 @@ names bodies j locals = record { arrays = array_names j; bodies = bodies; locals
 pub record ToldInside (bodies : List Word) (lines : List Words) (j : JobTree) (o : Inside) : Type 0 where
   pub base : List Words
   pub told : Told bodies base j
-  pub written : lines ≡ base ++ body_words o.name ∷ code_lines (names bodies j o.locals) (open_code o.frames o.block)
+  pub written : lines ≡ base ++ body_words j.format o.name o.locals ∷ code_lines (names bodies j o.locals) (open_code o.frames o.block)
   pub fits : list_all (line_fits (names bodies j o.locals)) (open_code o.frames o.block) ≡ true
-  pub noted : mentioned_by (code_lines (names bodies j o.locals) (open_code o.frames o.block)) ≡ o.locals
+  pub noted : locals_by j.format (listed_in j.format o.locals) (code_lines (names bodies j o.locals) (open_code o.frames o.block)) ≡ o.locals
+  pub lines_known : list_all (is_in_format j.format) (open_code o.frames o.block) ≡ true
 
 abbrev pub Tells : List Word → List Words → JobTree → Option Inside → Type 0
 Tells bodies lines j None = Told bodies lines j
@@ -83,35 +84,30 @@ fits-wider s more [] e = refl
 fits-wider s more (l ∷ ls) e =
     and-true _ _ (fits-grows s more l (and-left _ (list_all (line_fits s) ls) e)) (fits-wider s more ls (and-right (line_fits s l) _ e))
 
-all-mapped : (p : Line → Bool) (xs : List Line) → list_all (λ (b : Bool). b) (map p xs) ≡ list_all p xs
+pub all-mapped : (p : Line → Bool) (xs : List Line) → list_all (λ (b : Bool). b) (map p xs) ≡ list_all p xs
 all-mapped p [] = refl
 all-mapped p (x ∷ xs) = ap (λ (b : Bool). p x && b) (all-mapped p xs)
-
-mentioned-one : (xs : List Words) (w : Words) → mentioned_by (xs ++ w ∷ []) ≡ noted (mentioned_by xs) (mentions_of w)
-mentioned-one xs w =
-    ap (λ (t : List Word). noted [] t) (flat_map-append mentions_of xs (w ∷ []))
-    ∙ noted-append [] (flat_map mentions_of xs) (mentions_of w ++ [])
-    ∙ ap (λ (t : List Word). noted (mentioned_by xs) t) (append-nil (mentions_of w))
 
 -- code with the locals that a line adds
 abbrev pub SameCode : Names → Names → List Line → Type 0
 SameCode s t code = (code_lines t code ≡ code_lines s code) × (list_all (line_fits t) code ≡ true)
 
 added : (bodies : List Word) (j : JobTree) (locals ws : List Word) (code : List Line) → list_all (line_fits (names bodies j locals)) code ≡ true
-    → SameCode (names bodies j locals) (names bodies j (noted locals ws)) code
+    → SameCode (names bodies j locals) (names bodies j (locals_behind j.format locals ws)) code
 added bodies j locals ws code e =
-    let more = noted-grows locals ws in
+    let more = locals-grow j.format locals ws in
     let s : Names = names bodies j locals in
     subst (λ (ls : List Word). SameCode s (names bodies j ls) code) (sym more.1) (code-wider s more.0 code e, fits-wider s more.0 code e)
 
 -- a line more in the body
 grown-told : (bodies : List Word) (lines : List Words) (j : JobTree) (o : Inside) (k : Word) (ws : Words) (l : Line) (n : ℕ) (st : List Frame × Block)
     → ToldInside bodies lines j o
-    → LineSaid (names bodies j (mentioning o (keyword_of k) ws).locals) (k ∷ ws) l → step_of l o.frames o.block ≡ Some st
-    → ToldInside bodies (lines ++ (k ∷ ws) ∷ []) j (grown (mentioning o (keyword_of k) ws) n st)
-grown-told bodies lines j o k ws l n st t x e =
+    → LineSaid (names bodies j (mentioning j.format o (keyword_of k) ws).locals) (k ∷ ws) l → is_in_format j.format l ≡ true → step_of l o.frames o.block ≡ Some st
+    → ToldInside bodies (lines ++ (k ∷ ws) ∷ []) j (grown (mentioning j.format o (keyword_of k) ws) n st)
+grown-told bodies lines j o k ws l n st t x known e =
     let code : List Line = open_code o.frames o.block in
-    let ls : List Word = noted o.locals (mentions_behind (keyword_of k) ws) in
+    let ls : List Word = locals_behind j.format o.locals (mentions_behind (keyword_of k) ws) in
+    let listed : listed_in j.format ls ≡ listed_in j.format o.locals = listed-same j.format o.locals (mentions_behind (keyword_of k) ws) in
     let s : Names = names bodies j o.locals in
     let s' : Names = names bodies j ls in
     let same : SameCode s s' code = added bodies j o.locals (mentions_behind (keyword_of k) ws) code t.fits in
@@ -127,10 +123,18 @@ grown-told bodies lines j o k ws l n st t x e =
       base = t.base;
       told = t.told;
       written = ap (λ (c : List Words). c ++ (k ∷ ws) ∷ []) t.written
-          ∙ append_assoc t.base (body_words o.name ∷ code_lines s code) ((k ∷ ws) ∷ [])
-          ∙ ap (λ (c : List Words). t.base ++ body_words o.name ∷ c) (sym after);
+          ∙ append_assoc t.base (body_words j.format o.name o.locals ∷ code_lines s code) ((k ∷ ws) ∷ [])
+          ∙ ap (λ (c : List Words). t.base ++ body_words j.format o.name o.locals ∷ c) (sym after)
+          ∙ ap (λ (c : List Word). t.base ++ (codes "body" ∷ o.name ∷ c) ∷ code_lines s' (open_code st.0 st.1)) (sym listed);
       fits = fits;
-      noted = ap mentioned_by after ∙ mentioned-one (code_lines s code) (k ∷ ws) ∙ ap (λ (c : List Word). noted c (mentions_of (k ∷ ws))) t.noted;
+      noted = ap (λ (c : List Word). locals_by j.format c (code_lines s' (open_code st.0 st.1))) listed
+          ∙ ap (locals_by j.format (listed_in j.format o.locals)) after
+          ∙ by-one j.format (listed_in j.format o.locals) (code_lines s code) (k ∷ ws)
+          ∙ ap (λ (c : List Word). locals_behind j.format c (mentions_of (k ∷ ws))) t.noted;
+      lines_known = sym (all-mapped (is_in_format j.format) (open_code st.0 st.1))
+          ∙ ap (λ (c : List Bool). list_all (λ (b : Bool). b) c) (step-map (is_in_format j.format) (λ e n m. refl) (λ n m. refl) (λ e n m. refl) (λ e n. refl) l o.frames o.block st e)
+          ∙ list_all-append (λ (b : Bool). b) (map (is_in_format j.format) code) (is_in_format j.format l ∷ [])
+          ∙ and-true _ _ (all-mapped (is_in_format j.format) code ∙ t.lines_known) (and-true _ true known refl);
     }
 
 -- a line that no open line takes is the end of the body
@@ -153,10 +157,11 @@ unfolding keyword_of mentions_behind
 end-mentions = refl
 
 ended-told : (bodies : List Word) (lines : List Words) (j : JobTree) (o : Inside) (k : Word) (ws : Words) (l : Line) → ToldInside bodies lines j o
-    → LineSaid (names bodies j (mentioning o (keyword_of k) ws).locals) (k ∷ ws) l → step_of l o.frames o.block ≡ None → sits (can_else o.frames) l ≡ true
-    → Told bodies (lines ++ (k ∷ ws) ∷ []) (put (ABody (ended (mentioning o (keyword_of k) ws))) j)
-ended-told bodies lines j o k ws l t x e st =
-    let ls : List Word = noted o.locals (mentions_behind (keyword_of k) ws) in
+    → LineSaid (names bodies j (mentioning j.format o (keyword_of k) ws).locals) (k ∷ ws) l → is_in_format j.format l ≡ true → step_of l o.frames o.block ≡ None → sits (can_else o.frames) l ≡ true
+    → Told bodies (lines ++ (k ∷ ws) ∷ []) (put (ABody (ended (mentioning j.format o (keyword_of k) ws))) j)
+ended-told bodies lines j o k ws l t x known e st =
+    let ls : List Word = locals_behind j.format o.locals (mentions_behind (keyword_of k) ws) in
+    let listed : listed_in j.format ls ≡ listed_in j.format o.locals = listed-same j.format o.locals (mentions_behind (keyword_of k) ws) in
     let s : Names = names bodies j o.locals in
     let s' : Names = names bodies j ls in
     let ends = none-ends s' l o.frames o.block e st in
@@ -166,24 +171,28 @@ ended-told bodies lines j o k ws l t x e st =
     let word : k ∷ ws ≡ end_words = x.0 ∙ ends.1 in
     let blocks : code_lines s (open_code o.frames o.block) ≡ block_lines s' o.block =
     ap (code_lines s) flat-code ∙ sym same.0 ∙ block-code s' o.block in
-    let locals : mentioned_by (block_lines s' o.block) ≡ ls =
-    ap mentioned_by (sym blocks) ∙ t.noted
-    ∙ sym (ap (λ (m : List Word). noted o.locals m) (ap mentions_of word ∙ end-mentions)) in
-    let b : BodyTree = ended (mentioning o (keyword_of k) ws) in
-    let shape : lines ++ (k ∷ ws) ∷ [] ≡ t.base ++ items_lines (array_names j) bodies (ABody b ∷ []) =
+    let none : ls ≡ o.locals = ap (locals_behind j.format o.locals) (ap mentions_of word ∙ end-mentions) ∙ behind-none j.format o.locals in
+    let locals : locals_by j.format (listed_in j.format ls) (block_lines s' o.block) ≡ ls =
+    ap (λ (c : List Word). locals_by j.format c (block_lines s' o.block)) listed
+    ∙ ap (locals_by j.format (listed_in j.format o.locals)) (sym blocks) ∙ t.noted ∙ sym none in
+    let lines_known : list_all (is_in_format j.format) (flat o.block) ≡ true = ap (list_all (is_in_format j.format)) (sym flat-code) ∙ t.lines_known in
+    let b : BodyTree = ended (mentioning j.format o (keyword_of k) ws) in
+    let shape : lines ++ (k ∷ ws) ∷ [] ≡ t.base ++ items_lines j.format (array_names j) bodies (ABody b ∷ []) =
     ap (λ (c : List Words). c ++ (k ∷ ws) ∷ []) t.written
-    ∙ append_assoc t.base (body_words o.name ∷ code_lines s (open_code o.frames o.block)) ((k ∷ ws) ∷ [])
-    ∙ ap (λ (c : List Words). t.base ++ body_words o.name ∷ (c ++ (k ∷ ws) ∷ [])) blocks
-    ∙ ap (λ (w : Words). t.base ++ body_words o.name ∷ (block_lines s' o.block ++ w ∷ [])) word
-    ∙ ap (λ (c : List Words). t.base ++ c) (sym (append-nil (body_lines (array_names j) bodies b))) in
-    subst (λ (c : List Words). Told bodies c (put (ABody b) j)) (sym shape) (told-put bodies t.base j (ABody b) t.told ((same.1, locals), tt))
+    ∙ append_assoc t.base (body_words j.format o.name o.locals ∷ code_lines s (open_code o.frames o.block)) ((k ∷ ws) ∷ [])
+    ∙ ap (λ (c : List Words). t.base ++ body_words j.format o.name o.locals ∷ (c ++ (k ∷ ws) ∷ [])) blocks
+    ∙ ap (λ (w : Words). t.base ++ body_words j.format o.name o.locals ∷ (block_lines s' o.block ++ w ∷ [])) word
+    ∙ ap (λ (c : List Word). t.base ++ (codes "body" ∷ o.name ∷ c) ∷ (block_lines s' o.block ++ end_words ∷ [])) (sym listed)
+    ∙ ap (λ (c : List Words). t.base ++ c) (sym (append-nil (body_lines j.format (array_names j) bodies b))) in
+    subst (λ (c : List Words). Told bodies c (put (ABody b) j)) (sym shape)
+    (told-put bodies t.base j (ABody b) t.told (record { names = same.1; locals = locals; lines = lines_known }, tt))
 
 present-cases : (bodies : List Word) (j : JobTree) (locals : List Word) (k : Word) (ws : Words) (o : Option Keyword) → keyword_of k ≡ o
     → is_missing bodies (k ∷ ws) ≡ false
     → is_present_if (names bodies j locals) o ws ≡ true
 present-cases bodies j locals k ws None h e = refl
 present-cases bodies j locals k ws (Some Let) h e = refl
-present-cases bodies j locals k ws (Some Put) h e = refl
+present-cases bodies j locals k ws (Some (Put kind)) h e = refl
 present-cases bodies j locals k ws (Some Print) h e = refl
 present-cases bodies j locals k [] (Some Spawn) h e = refl
 present-cases bodies j locals k (b ∷ ws) (Some Spawn) h e =
@@ -201,21 +210,24 @@ present-cases bodies j locals k ws (Some End) h e = refl
 
 by-step : (bodies : List Word) (lines : List Words) (j : JobTree) (o : Inside) (k : Word) (ws : Words) (l : Line) (r : Option (List Frame × Block))
     → ToldInside bodies lines j o
-    → LineSaid (names bodies j (mentioning o (keyword_of k) ws).locals) (k ∷ ws) l → sits (can_else o.frames) l ≡ true → step_of l o.frames o.block ≡ r → (n : ℕ)
-    → Tells bodies (lines ++ (k ∷ ws) ∷ []) (behind j (mentioning o (keyword_of k) ws) n r).0 (behind j (mentioning o (keyword_of k) ws) n r).1
-by-step bodies lines j o k ws l None t x st e n = ended-told bodies lines j o k ws l t x e st
-by-step bodies lines j o k ws l (Some s) t x st e n = grown-told bodies lines j o k ws l n s t x e
+    → LineSaid (names bodies j (mentioning j.format o (keyword_of k) ws).locals) (k ∷ ws) l → is_in_format j.format l ≡ true
+    → sits (can_else o.frames) l ≡ true → step_of l o.frames o.block ≡ r → (n : ℕ)
+    → Tells bodies (lines ++ (k ∷ ws) ∷ []) (behind j (mentioning j.format o (keyword_of k) ws) n r).0 (behind j (mentioning j.format o (keyword_of k) ws) n r).1
+by-step bodies lines j o k ws l None t x known st e n = ended-told bodies lines j o k ws l t x known e st
+by-step bodies lines j o k ws l (Some s) t x known st e n = grown-told bodies lines j o k ws l n s t x known e
 
 -- a line in an open body
 pub inner-told : (bodies : List Word) (lines : List Words) (j : JobTree) (o : Inside) (k : Word) (ws : Words) (p : JobTree × Option Inside)
     → ToldInside bodies lines j o
-    → is_missing bodies (k ∷ ws) ≡ false → inner_line bodies j o (keyword_of k) ws ≡ Ok p → Tells bodies (lines ++ (k ∷ ws) ∷ []) p.0 p.1
-inner-told bodies lines j o k ws p t miss e =
-    let o' : Inside = mentioning o (keyword_of k) ws in
+    → is_missing bodies (k ∷ ws) ≡ false → inner_line bodies j o (known_in j.format (keyword_of k)) ws ≡ Ok p → Tells bodies (lines ++ (k ∷ ws) ∷ []) p.0 p.1
+inner-told bodies lines j o k ws p t miss read =
+    let known = known-line bodies j o (keyword_of k) ws p read in
+    let e : inner_line bodies j o (keyword_of k) ws ≡ Ok p = known.0 in
+    let o' : Inside = mentioning j.format o (keyword_of k) ws in
     let m = made-ok (with_line j o') (said (array_names j) bodies o' (keyword_of k) ws) p e in
     let line = within-sits _ o' m.0 m.1 in
     let s : Names = names bodies j o'.locals in
     let x = line-said s (can_else o.frames) k ws m.0 (present-cases bodies j o'.locals k ws (keyword_of k) refl miss) line in
     let st = said-sits s (can_else o.frames) (keyword_of k) ws m.0 line in
     subst (λ (q : JobTree × Option Inside). Tells bodies (lines ++ (k ∷ ws) ∷ []) q.0 q.1) m.2
-    (by-step bodies lines j o k ws m.0 (step_of m.0 o.frames o.block) t x st refl (statements_behind o'.statements m.0))
+    (by-step bodies lines j o k ws m.0 (step_of m.0 o.frames o.block) t x (said-known s (can_else o.frames) j.format (keyword_of k) ws m.0 known.1 line) st refl (statements_behind o'.statements m.0))

@@ -36,7 +36,10 @@ use Rattle.std.proofs.Common.{
   length-append,
   nat_eq,
 }
-use Rattle.std.specs.Prelude.{if◌then◌else◌, nat_le}
+use Rattle.std.specs.Prelude.{if◌then◌else◌, nat_le, nat_lt, ◌||◌, not}
+use Rattle.job_reader.specs.Reading.{are_apart}
+use Rattle.job_reader.proofs.BodyHeads.{head-parts}
+use Rattle.job_reader.proofs.NotedNames.{or-left}
 use Rattle.std.specs.List.{filter_map, cons_option}
 use Rattle.std.proofs.lemmas.List.{map-append}
 use Rattle.std.proofs.lemmas.Grind.{common_steps}
@@ -47,6 +50,7 @@ use Rattle.task_lang.specs.Names.{is_among}
 use Rattle.task_lang.specs.Open.{Frame, step_of}
 use Rattle.task_lang.specs.Tree.{Block}
 use Rattle.job_words.specs.Words.{Word, Words, named}
+use Rattle.superstep_memory.specs.declared.arrays.Kind.TheVariants.{Set, Add}
 use Rattle.job_words.specs.declared.lines.Keyword.{Keyword}
 use Rattle.job_words.specs.declared.lines.Keyword.TheVariants.{Let, Put, Print, Spawn, Sync, Stop, If, Else, While, End}
 use Rattle.job_words.specs.Lines.{keyword_of, line_behind}
@@ -79,6 +83,7 @@ use Rattle.job_reader.specs.Reading.{
   read_lines,
 }
 use Rattle.job_reader.proofs.ToldOuter.{bind-ok, two-tests, one-test}
+use Rattle.job_reader.proofs.Known.{known-line}
 use Rattle.job_reader.proofs.ToldText.{finished-ok, next}
 
 abbrev pub open_name : Option Inside → List Word
@@ -108,7 +113,8 @@ same-adds j i ws p e d =
 no-body : (k : Keyword) → outer_of (keyword_text k) ≡ None
 unfolding outer_of
 no-body Let = refl
-no-body Put = refl
+no-body (Put Set) = refl
+no-body (Put Add) = refl
 no-body Print = refl
 no-body Spawn = refl
 no-body Sync = refl
@@ -127,7 +133,7 @@ inner-adds : (bodies : List Word) (j : JobTree) (o : Inside) (k : Word) (ws : Wo
 unfolding line_behind
 inner-adds bodies j o k ws None p h e = absurd cc
 inner-adds bodies j o k ws (Some w) p h e =
-    let o' : Inside = mentioning o (Some w) ws in
+    let o' : Inside = mentioning j.format o (Some w) ws in
     let m = made-ok (with_line j o') (said (array_names j) bodies o' (Some w) ws) p e in
     let names : so_far p.0 p.1 ≡ so_far j (Some o) =
     ap (λ (q : JobTree × Option Inside). so_far q.0 q.1) (sym m.2)
@@ -160,20 +166,21 @@ outer-adds bodies j k ws (Some outer.Start) p h e =
     let same : (record j { starts = j.starts ++ a.0 ∷ [] }) ≡ m.0 = cc in
     same-adds j None (k ∷ ws) p (ap (λ (q : JobTree × Option Inside). so_far q.0 q.1) (sym m.2) ∙ ap (λ (i : JobTree). so_far i None) (sym same)) (ap (λ (o : Option Outer). name_if_body o ws) h)
 outer-adds bodies j k [] (Some outer.Body) p h e = absurd cc
-outer-adds bodies j k (name ∷ w ∷ ws) (Some outer.Body) p h e = absurd cc
-outer-adds bodies j k (name ∷ []) (Some outer.Body) p h e =
-    let m = made-ok (λ (o : Inside). (j, Some o)) (body_line j (name ∷ [])) p e in
-    let a = bind-ok (body_of (name ∷ [])) (new_body j) m.0 m.1 in
-    let b = made-ok (λ (_ : Unit {0}). name) (named name) a.0 a.1 in
-    let ok = two-tests (is_among (body_names j) a.0) (nat_le 64 (length (body_names j))) Twice TooMany (Ok (begun a.0)) m.0 a.2 in
+outer-adds bodies j k (name ∷ ws) (Some outer.Body) p h e =
+    let m = made-ok (λ (o : Inside). (j, Some o)) (body_line j (name ∷ ws)) p e in
+    let a = bind-ok (body_of j.format (name ∷ ws)) (new_body j) m.0 m.1 in
+    let b = head-parts j.format name ws a.0 a.1 in
+    let twice : Bool = is_among (body_names j) a.0.0 || not (are_apart a.0.1) in
+    let many : Bool = nat_le 64 (length (body_names j)) || nat_lt 32 (length a.0.1) in
+    let ok = two-tests twice many Twice TooMany (Ok (begun a.0)) m.0 a.2 in
     let same : begun a.0 ≡ m.0 = cc in
     let few : length (body_names j) < 64 =
-    le-false 64 (length (body_names j)) (second-false (is_among (body_names j) a.0) (nat_le 64 (length (body_names j))) Twice TooMany (Ok (begun a.0)) m.0 a.2) in
+    le-false 64 (length (body_names j)) (or-left (nat_le 64 (length (body_names j))) (nat_lt 32 (length a.0.1)) (second-false twice many Twice TooMany (Ok (begun a.0)) m.0 a.2)) in
     let names : so_far p.0 p.1 ≡ body_names j ++ name ∷ [] =
     ap (λ (q : JobTree × Option Inside). so_far q.0 q.1) (sym m.2) ∙ ap (λ (o : Inside). so_far j (Some o)) (sym same)
-    ∙ ap (λ (x : Word). body_names j ++ x ∷ []) (sym b.2) in (
+    ∙ ap (λ (x : Word × List Word). body_names j ++ x.0 ∷ []) (sym b.same) in (
       names ∙ ap (λ (x : List Word). x ++ name ∷ []) (sym (append-nil (body_names j)))
-          ∙ ap (λ (o : Option Outer). so_far j None ++ listed (name_if_body o (name ∷ []))) (sym h),
+          ∙ ap (λ (o : Option Outer). so_far j None ++ listed (name_if_body o (name ∷ ws))) (sym h),
       λ _. subst (λ (x : List Word). length x ≤ 64) (sym names) (omega (arith, length-append (body_names j) (name ∷ []))),
     )
 
@@ -182,7 +189,7 @@ step-adds : (bodies : List Word) (j : JobTree) (i : Option Inside) (ws : Words) 
 step-adds bodies j None [] p e = absurd cc
 step-adds bodies j (Some o) [] p e = absurd cc
 step-adds bodies j None (k ∷ ws) p e = outer-adds bodies j k ws (outer_of k) p refl e
-step-adds bodies j (Some o) (k ∷ ws) p e = inner-adds bodies j o k ws (keyword_of k) p refl e
+step-adds bodies j (Some o) (k ∷ ws) p e = inner-adds bodies j o k ws (keyword_of k) p refl (known-line bodies j o (keyword_of k) ws p e).0
 
 is-hash : (c : ℕ) → nat_eq c 35 ≡ true → c ≡ 35
 is-hash c h = grind (arith, common_steps)

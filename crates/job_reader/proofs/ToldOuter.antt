@@ -35,7 +35,7 @@ use Rattle.std.proofs.Common.{
   append-nil,
   length-append,
 }
-use Rattle.std.specs.Prelude.{if◌then◌else◌, nat_le, not, replicate}
+use Rattle.std.specs.Prelude.{if◌then◌else◌, nat_le, nat_lt, not, ◌||◌, replicate}
 use Rattle.std.specs.Fmt.{decimal, signed_decimal}
 use Rattle.std.specs.Str.{bytes_eq}
 use Rattle.std.proofs.lemmas.List.{length-replicate}
@@ -54,7 +54,7 @@ use Rattle.job_reader.specs.declared.outer.Outer.{Outer}
 use Rattle.job_reader.specs.declared.outer.Outer.TheVariants as outer
 use Rattle.job_reader.specs.Trees.{JobTree, array_names, body_names}
 use Rattle.job_reader.specs.Above.{Inside, begun}
-use Rattle.job_reader.specs.Grammar.{AnArray, AStart, array_words, start_words, IsFilled}
+use Rattle.job_reader.specs.Grammar.{AnArray, AStart, array_words, start_words, IsFilled, listed_in}
 use Rattle.job_reader.specs.Reading.{
   ◌>>=◌,
   outer_of,
@@ -63,6 +63,7 @@ use Rattle.job_reader.specs.Reading.{
   cells_of,
   array_of,
   body_of,
+  are_apart,
   start_from,
   start_of,
   with_array,
@@ -74,6 +75,8 @@ use Rattle.job_reader.specs.Reading.{
   outer_line,
   is_missing,
 }
+use Rattle.job_reader.proofs.BodyHeads.{head-parts}
+use Rattle.job_reader.proofs.LocalsBehind.{behind-none}
 use Rattle.job_reader.proofs.ItemLemmas.{put, Told, told-put}
 use Rattle.job_reader.proofs.ToldInside.{ToldInside, Tells}
 
@@ -172,15 +175,21 @@ array-told bodies lines j j' ws t e =
 body-told : (bodies : List Word) (lines : List Words) (j : JobTree) (o : Inside) (ws : Words) → Told bodies lines j → body_line j ws ≡ Ok o
     → ToldInside bodies (lines ++ (codes "body" ∷ ws) ∷ []) j o
 body-told bodies lines j o [] t e = absurd cc
-body-told bodies lines j o (name ∷ []) t e =
-    let a = bind-ok (body_of (name ∷ [])) (new_body j) o e in
-    let m = made-ok (λ (_ : Unit {0}). name) (named name) a.0 a.1 in
-    let ok = two-tests (is_among (body_names j) a.0) (nat_le 64 (length (body_names j))) Twice TooMany (Ok (begun a.0)) o a.2 in
+body-told bodies lines j o (name ∷ ws) t e =
+    let a = bind-ok (body_of j.format (name ∷ ws)) (new_body j) o e in
+    let m = head-parts j.format name ws a.0 a.1 in
+    let ok = two-tests (is_among (body_names j) a.0.0 || not (are_apart a.0.1)) (nat_le 64 (length (body_names j)) || nat_lt 32 (length a.0.1)) Twice TooMany (Ok (begun a.0)) o a.2 in
     let same : begun a.0 ≡ o = cc in
-    let begins : begun name ≡ o = ap begun m.2 ∙ same in
-    subst (λ (p : Inside). ToldInside bodies (lines ++ (codes "body" ∷ name ∷ []) ∷ []) j p) begins
-    (record { base = lines; told = t; written = refl; fits = refl; noted = refl })
-body-told bodies lines j o (name ∷ w ∷ ws) t e = absurd cc
+    let begins : begun (name, ws) ≡ o = ap begun m.same ∙ same in
+    subst (λ (p : Inside). ToldInside bodies (lines ++ (codes "body" ∷ name ∷ ws) ∷ []) j p) begins
+    (record {
+      base = lines;
+      told = t;
+      written = ap (λ (x : List Word). lines ++ (codes "body" ∷ name ∷ x) ∷ []) (sym m.listed);
+      fits = refl;
+      noted = behind-none j.format (listed_in j.format ws) ∙ m.listed;
+      lines_known = refl;
+    })
 
 start-told : (bodies : List Word) (lines : List Words) (j j' : JobTree) (ws : Words) → Told bodies lines j
     → is_missing bodies (codes "start" ∷ ws) ≡ false → start_line bodies j ws ≡ Ok j'

@@ -38,20 +38,26 @@ use Rattle.std.proofs.Common.{
   length-append,
   nat_eq,
 }
-use Rattle.std.specs.Prelude.{if◌then◌else◌}
+use Rattle.std.specs.Prelude.{if◌then◌else◌, nat_le}
 use Rattle.text_lines.specs.declared.refusal.Code.{Code}
+use Rattle.text_lines.specs.declared.refusal.Code.TheVariants.{Twice, TooMany}
+use Rattle.task_lang.specs.Names.{is_among}
+use Rattle.task_lang.specs.Tree.{Block}
+use Rattle.task_lang.specs.Open.{Frame, step_of}
+use Rattle.job_words.specs.declared.lines.Keyword.{Keyword}
+use Rattle.job_words.specs.Lines.{keyword_of, known_in}
+use Rattle.job_reader.specs.declared.outer.Outer.{Outer}
 use Rattle.text_lines.specs.Text.{words_of, is_skipped}
 use Rattle.job_words.specs.Words.{Word, Words}
 use Rattle.job_words.proofs.SaidLemmas.{made-ok}
 use Rattle.job_reader.specs.declared.outer.Outer.TheVariants as outer
-use Rattle.job_reader.specs.Trees.{JobTree}
-use Rattle.job_reader.specs.Above.{Inside, Above}
+use Rattle.job_reader.specs.Trees.{JobTree, array_names}
+use Rattle.job_reader.specs.Above.{Inside, Above, statements_behind}
 use Rattle.job_reader.specs.Grammar.{kept}
 use Rattle.job_reader.specs.Reading.{
   ◌>>=◌,
   at,
   refused,
-  is_header,
   outer_of,
   name_if_body,
   declared_by,
@@ -85,7 +91,7 @@ use Rattle.job_reader.specs.Reading.{
 }
 use Rattle.job_reader.proofs.ItemLemmas.{Told}
 use Rattle.job_reader.proofs.ToldInside.{Tells, inner-told}
-use Rattle.job_reader.proofs.ToldOuter.{bind-ok, outer-told}
+use Rattle.job_reader.proofs.ToldOuter.{bind-ok, two-tests, one-test, outer-told}
 
 pub finished-ok : (n : ℕ) (a : Above) (i : Option Inside) (m : Option ℕ) (j : JobTree) → finished n a i m ≡ Ok j → (i ≡ None) × (m ≡ None) × (a.job ≡ j)
 finished-ok n a (Some o) m j e = absurd cc
@@ -134,6 +140,50 @@ next bodies n a l ls j e =
         | inr x ↦ inr (x.0, stepped bodies n a (words_of l) m.0 x.1)
       ],
     )
+
+inner-format : (j : JobTree) (o : Inside) (m : ℕ) (r : Option (List Frame × Block)) → (behind j o m r).0.format ≡ j.format
+inner-format j o m None = refl
+inner-format j o m (Some s) = refl
+
+-- a line leaves the format
+any-format : (bodies : List Word) (j : JobTree) (i : Option Inside) (ws : Words) (p : JobTree × Option Inside) → any_line bodies j i ws ≡ Ok p → p.0.format ≡ j.format
+any-format bodies j None [] p e = absurd cc
+any-format bodies j (Some o) [] p e = absurd cc
+any-format bodies j (Some o) (k ∷ ws) p e =
+    let w : Option Keyword = known_in j.format (keyword_of k) in
+    let o' : Inside = mentioning j.format o w ws in
+    let m = made-ok (with_line j o') (said (array_names j) bodies o' w ws) p e in
+    ap (λ (q : JobTree × Option Inside). q.0.format) (sym m.2) ∙ inner-format j o' (statements_behind o'.statements m.0) (step_of m.0 o.frames o.block)
+any-format bodies j None (k ∷ ws) p e = by (outer_of k) e
+  where
+    by : (x : Option Outer) → outer_line bodies j x ws ≡ Ok p → p.0.format ≡ j.format
+    by None e = absurd cc
+    by (Some outer.Array) e =
+        let m = made-ok (λ (i : JobTree). (i, None)) (array_line j ws) p e in
+        let a = bind-ok (array_of ws) (with_array j) m.0 m.1 in
+        let ok = two-tests (is_among (array_names j) a.0.0) (nat_le 16 (length (array_names j))) Twice TooMany (Ok (record j { arrays = j.arrays ++ a.0 ∷ [] })) m.0 a.2 in
+        let same : (record j { arrays = j.arrays ++ a.0 ∷ [] }) ≡ m.0 = cc in
+        ap (λ (q : JobTree × Option Inside). q.0.format) (sym m.2) ∙ ap (λ (i : JobTree). i.format) (sym same)
+    by (Some outer.Body) e =
+        let m = made-ok (λ (o : Inside). (j, Some o)) (body_line j ws) p e in
+        ap (λ (q : JobTree × Option Inside). q.0.format) (sym m.2)
+    by (Some outer.Start) e =
+        let m = made-ok (λ (i : JobTree). (i, None)) (start_line bodies j ws) p e in
+        let a = bind-ok (start_of bodies ws) (with_start j) m.0 m.1 in
+        let ok = one-test (nat_le 4096 (length j.starts)) TooMany (Ok (record j { starts = j.starts ++ a.0 ∷ [] })) m.0 a.2 in
+        let same : (record j { starts = j.starts ++ a.0 ∷ [] }) ≡ m.0 = cc in
+        ap (λ (q : JobTree × Option Inside). q.0.format) (sym m.2) ∙ ap (λ (i : JobTree). i.format) (sym same)
+
+pub lines-format : (bodies : List Word) (ls : List (List ℕ)) (n : ℕ) (a : Above) (j : JobTree) → read_lines bodies n a ls ≡ Ok j → j.format ≡ a.job.format
+lines-format bodies [] n a j e = ap (λ (x : JobTree). x.format) (sym (finished-ok n a a.inside a.missing j e).2)
+lines-format bodies (l ∷ ls) n a j e =
+    let m = next bodies n a l ls j e in
+    elim m.2 [
+      | inl x ↦ lines-format bodies ls (n + 1) m.0 j m.1 ∙ ap (λ (b : Above). b.job.format) (sym x.1)
+      | inr x ↦
+          lines-format bodies ls (n + 1) m.0 j m.1 ∙ ap (λ (k : JobTree). k.format) x.1.2
+          ∙ any-format bodies a.job a.inside (words_of l) x.1.0 x.1.1
+    ]
 
 pub lines-found : (bodies : List Word) (ls : List (List ℕ)) (n : ℕ) (a : Above) (j : JobTree) → read_lines bodies n a ls ≡ Ok j → a.missing ≡ None
 lines-found bodies [] n a j e = (finished-ok n a a.inside a.missing j e).1

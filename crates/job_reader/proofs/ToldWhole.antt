@@ -34,82 +34,77 @@ use Rattle.std.proofs.Common.{
 }
 use Rattle.std.specs.Prelude.{if◌then◌else◌, nat_lt}
 use Rattle.std.specs.List.{cons_option}
-use Rattle.std.specs.Str.{bytes_eq}
 use Rattle.text_lines.specs.declared.refusal.Code.TheVariants.{TooLong, BadHeader}
 use Rattle.text_lines.specs.declared.refusal.Refusal.{Refusal}
 use Rattle.text_lines.specs.Text.{lines_of, words_of, is_skipped, bad_byte_line}
 use Rattle.job_words.specs.Words.{Word, Words}
-use Rattle.job_words.proofs.SaidLemmas.{same-word}
-use Rattle.job_words.proofs.GrowLemmas.{and-left, and-right}
 use Rattle.job_reader.specs.Trees.{JobTree, body_names}
 use Rattle.job_reader.specs.Above.{nothing}
 use Rattle.job_reader.specs.Grammar.{header_words, kept, IsTextOf}
-use Rattle.job_reader.specs.Reading.{refused, is_header, outer_of, declared_by, declared, read_lines, read_from, unless_bad, job_in}
+use Rattle.job_reader.specs.Reading.{refused, format_of, outer_of, declared_by, declared, read_lines, read_behind, read_from, unless_bad, job_in}
 use Rattle.job_reader.specs.Laws.{IsRead, IsRefused, EachTextIsReadOrRefused}
 use Rattle.job_reader.proofs.ItemLemmas.{Told, told-nothing}
-use Rattle.job_reader.proofs.ToldText.{lines-told}
+use Rattle.job_reader.proofs.ToldText.{lines-told, lines-format}
+use Rattle.job_reader.proofs.Headers.{header-said}
 use Rattle.job_reader.proofs.ToldNames.{names_in, lines-named, skipped-none}
 
-header-said : (ws : Words) → is_header ws ≡ true → ws ≡ header_words
-header-said [] e = absurd cc
-header-said (a ∷ []) e = absurd cc
-header-said (a ∷ b ∷ []) e =
-    ap (λ (x : Word). x ∷ b ∷ []) (same-word a (codes "bsp") (and-left _ (bytes_eq b (codes "1")) e))
-    ∙ ap (λ (x : Word). codes "bsp" ∷ x ∷ []) (same-word b (codes "1") (and-right (bytes_eq a (codes "bsp")) _ e))
-header-said (a ∷ b ∷ c ∷ ws) e = absurd cc
-
-header-none : declared_by header_words ≡ None
+header-none : (format : ℕ) → declared_by (header_words format) ≡ None
 unfolding outer_of
-header-none = refl
+header-none format = refl
 
 -- the lines behind the first one, which is the header
 record Begun (bodies : List Word) (ls : List (List ℕ)) (j : JobTree) : Type 0 where
+  format : ℕ
   rest : List (List ℕ)
   line : ℕ
-  kept_lines : kept ls ≡ header_words ∷ kept rest
+  kept_lines : kept ls ≡ header_words format ∷ kept rest
   named : names_in ls ≡ names_in rest
-  read : read_lines bodies line nothing rest ≡ Ok j
+  read : read_lines bodies line (nothing format) rest ≡ Ok j
 
-begun-cases : (bodies : List Word) (n : ℕ) (l : List ℕ) (ls : List (List ℕ)) (j : JobTree) (a b : Bool) → is_skipped (words_of l) ≡ a
-    → is_header (words_of l) ≡ b
+begun-cases : (bodies : List Word) (n : ℕ) (l : List ℕ) (ls : List (List ℕ)) (j : JobTree) (a : Bool) (o : Option ℕ) → is_skipped (words_of l) ≡ a
+    → format_of (words_of l) ≡ o
     → (read_from bodies (n + 1) ls ≡ Ok j → Begun bodies ls j)
-    → (if a then read_from bodies (n + 1) ls else if b then read_lines bodies (n + 1) nothing ls else refused n BadHeader) ≡ Ok j → Begun bodies (l ∷ ls) j
-begun-cases bodies n l ls j true b h g later e =
+    → (if a then read_from bodies (n + 1) ls else read_behind bodies n o ls) ≡ Ok j → Begun bodies (l ∷ ls) j
+begun-cases bodies n l ls j true o h g later e =
     let r = later e in
     record {
+      format = r.format;
       rest = r.rest;
       line = r.line;
       kept_lines = ap (λ (x : Bool). if x then kept ls else words_of l ∷ kept ls) h ∙ r.kept_lines;
       named = ap (λ (o : Option Word). cons_option o (names_in ls)) (skipped-none (words_of l) h) ∙ r.named;
       read = r.read;
     }
-begun-cases bodies n l ls j false true h g later e =
-    let header : words_of l ≡ header_words = header-said (words_of l) g in
+begun-cases bodies n l ls j false (Some format) h g later e =
+    let header : words_of l ≡ header_words format = header-said (words_of l) format g in
     record {
+      format = format;
       rest = ls;
       line = n + 1;
       kept_lines = ap (λ (x : Bool). if x then kept ls else words_of l ∷ kept ls) h ∙ ap (λ (w : Words). w ∷ kept ls) header;
-      named = ap (λ (w : Words). cons_option (declared_by w) (names_in ls)) header ∙ ap (λ (o : Option Word). cons_option o (names_in ls)) header-none;
+      named = ap (λ (w : Words). cons_option (declared_by w) (names_in ls)) header ∙ ap (λ (o : Option Word). cons_option o (names_in ls)) (header-none format);
       read = e;
     }
-begun-cases bodies n l ls j false false h g later e = absurd cc
+begun-cases bodies n l ls j false None h g later e = absurd cc
 
 begins : (bodies : List Word) (ls : List (List ℕ)) (n : ℕ) (j : JobTree) → read_from bodies n ls ≡ Ok j → Begun bodies ls j
 begins bodies [] n j e = absurd cc
-begins bodies (l ∷ ls) n j e = begun-cases bodies n l ls j (is_skipped (words_of l)) (is_header (words_of l)) refl refl (begins bodies ls (n + 1) j) e
+begins bodies (l ∷ ls) n j e = begun-cases bodies n l ls j (is_skipped (words_of l)) (format_of (words_of l)) refl refl (begins bodies ls (n + 1) j) e
 
+-- the first lines read leave the format as it was
 lines-are-text : (ls : List (List ℕ)) (j : JobTree) → read_from (declared ls) 1 ls ≡ Ok j → IsTextOf j (kept ls)
 lines-are-text ls j e =
     let b = begins (declared ls) ls 1 j e in
-    let names = lines-named (declared ls) b.rest b.line nothing j (omega arith) b.read in
+    let names = lines-named (declared ls) b.rest b.line (nothing b.format) j (omega arith) b.read in
     let all : names_in ls ≡ body_names j = b.named ∙ sym names.0 in
     let same : declared ls ≡ body_names j =
     ap (λ (x : List Word). take 64 x) all ∙ take_all 64 (body_names j) names.1 in
     let told : Told (body_names j) (kept b.rest) j =
-    subst (λ (x : List Word). Told x (kept b.rest) j) same (lines-told (declared ls) b.rest b.line nothing [] j (told-nothing (declared ls)) b.read) in
+    subst (λ (x : List Word). Told x (kept b.rest) j) same (lines-told (declared ls) b.rest b.line (nothing b.format) [] j (told-nothing b.format (declared ls)) b.read) in
+    let format : j.format ≡ b.format = lines-format (declared ls) b.rest b.line (nothing b.format) j b.read in
     record {
       items = told.items;
-      written = b.kept_lines ∙ ap (λ (x : List Words). header_words ∷ x) told.written;
+      written = b.kept_lines ∙ ap (λ (f : ℕ). header_words f ∷ kept b.rest) (sym format) ∙ ap (λ (x : List Words). header_words j.format ∷ x) told.written;
       said = told.said;
       sound = told.sound;
     }

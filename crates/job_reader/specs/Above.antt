@@ -23,8 +23,9 @@ pub record Above : Type 0 where
   pub inside : Option Inside
   pub missing : Option ℕ
 
-abbrev pub nothing : Above
-nothing = record { job = record { arrays = []; bodies = []; starts = [] }; inside = None; missing = None }
+-- a job of this format with nothing in it
+abbrev pub nothing : ℕ → Above
+nothing format = record { job = record { format = format; arrays = []; bodies = []; starts = [] }; inside = None; missing = None }
 
 -- an `else` wants an `if` without one as the innermost open line
 abbrev pub can_else : List Frame → Bool
@@ -33,8 +34,9 @@ can_else (InIf e before ∷ fs) = true
 can_else (InElse e before a ∷ fs) = false
 can_else (InWhile e before ∷ fs) = false
 
-abbrev pub begun : Word → Inside
-begun name = record { name = name; locals = []; frames = []; block = Done; statements = 0 }
+-- a body behind its first line: its name, and the locals that the line lists
+abbrev pub begun : Word × List Word → Inside
+begun head = record { name = head.0; locals = head.1; frames = []; block = Done; statements = 0 }
 
 -- how many statements there are behind a line
 abbrev pub statements_behind : ℕ → Line → ℕ

@@ -4,12 +4,13 @@ use Rattle.std.specs.List.{list_all}
 use Rattle.text_lines.specs.Number.{fits_i64}
 use Rattle.text_lines.specs.declared.refusal.Refusal.{Refusal}
 use Rattle.task_lang.specs.Names.{is_free, is_among, are_names}
-use Rattle.task_lang.specs.Mentions.{mentions, mentioned}
-use Rattle.task_lang.specs.Limits.{statements, opened, deepest, fits_line}
-use Rattle.task_lang.specs.Rules.{IsBody, is_array}
+use Rattle.task_lang.specs.Mentions.{mentions, mentioned, are_below}
+use Rattle.task_lang.specs.Limits.{statements, opened, deepest, is_of_first, fits_line}
+use Rattle.task_lang.specs.Rules.{IsBody, IsOfFirst, is_format, is_array}
 use Rattle.task_lang.specs.Tree.{Block}
 use Rattle.task_lang.specs.Open.{Frame, open_code}
 use Rattle.task_lang.specs.declared.code.Line.{Line}
+use Rattle.job_words.specs.Words.{Word}
 use Rattle.job_reader.specs.Trees.{BodyTree, JobTree, array_names, body_names}
 use Rattle.job_reader.specs.Above.{Inside, Above, belongs, ended}
 use Rattle.job_reader.specs.Legal.{flat_body, IsJobTree}
@@ -19,12 +20,17 @@ use Rattle.job_reader.specs.declared.inside.OpenBody.{OpenBody}
 use Rattle.job_reader.specs.declared.so_far.SoFar.{SoFar}
 use Rattle.job_reader.specs.declared.state.State.{State}
 
-abbrev pub AreKept : List BodyTree → Type 0
-AreKept [] = Unit {0}
-AreKept (b ∷ bs) = IsBody (flat_body b) × AreKept bs
+-- bodies of a job of this format
+abbrev pub KeptBody : ℕ → BodyTree → Type 0
+KeptBody format b = IsBody (flat_body b) × (format ≡ 1 → IsOfFirst (flat_body b))
+
+abbrev pub AreKept : ℕ → List BodyTree → Type 0
+AreKept format [] = Unit {0}
+AreKept format (b ∷ bs) = KeptBody format b × AreKept format bs
 
 -- the job so far
 pub record KeptJob (j : JobTree) : Type 0 where
+  pub format : is_format j.format ≡ true
   pub few_arrays : length j.arrays ≤ 16
   pub few_bodies : length (body_names j) ≤ 64
   pub few_starts : length j.starts ≤ 4096
@@ -32,7 +38,7 @@ pub record KeptJob (j : JobTree) : Type 0 where
   pub arrays_named : are_names (array_names j) ≡ true
   pub cells : list_all (λ a. list_all fits_i64 a.1) j.arrays ≡ true
   pub bodies_named : are_names (body_names j) ≡ true
-  pub bodies : AreKept j.bodies
+  pub bodies : AreKept j.format j.bodies
   pub args : list_all (λ s. fits_i64 s.arg) j.starts ≡ true
 
 -- how many lines are open behind code, where so many are in front
@@ -48,14 +54,20 @@ pub record Counted (fs : List Frame) (b : Block) (n : ℕ) : Type 0 where
   pub shallow : deepest 0 (open_code fs b) ≤ 16
   pub numbers : list_all fits_line (open_code fs b) ≡ true
 
--- the open body: its locals are those that its lines mention, by first mention
+-- in format 1 the locals so far are those that these lines mention, by first mention, and no line is an add
+pub record KeptFirst (locals : List Word) (code : List Line) : Type 0 where
+  pub order : mentioned 0 (mentions code) ≡ Some (length locals)
+  pub lines : list_all is_of_first code ≡ true
+
+-- the open body
 pub record KeptOpen (j : JobTree) (o : Inside) : Type 0 where
   pub name : is_free o.name ≡ true
   pub new : is_among (body_names j) o.name ≡ false
   pub room : length (body_names j) < 64
   pub locals : are_names o.locals ≡ true
   pub few : length o.locals ≤ 32
-  pub order : mentioned 0 (mentions (open_code o.frames o.block)) ≡ Some (length o.locals)
+  pub mentions : are_below (length o.locals) (mentions (open_code o.frames o.block)) ≡ true
+  pub first : j.format ≡ 1 → KeptFirst o.locals (open_code o.frames o.block)
   pub counted : Counted o.frames o.block o.statements
 
 abbrev pub KeptAt : JobTree → Option Inside → Type 0

@@ -1,5 +1,6 @@
 -- What a text says as a job, or its first refusal (own).
 use Rattle.std.specs.Prelude.{
+  ◌==◌,
   ℕ,
   ◌+◌,
   ◌-◌,
@@ -35,7 +36,7 @@ use Rattle.std.specs.Prelude.{
 }
 use Rattle.std.specs.Borrow.{Bor}
 use Rattle.std.specs.declared.alloc.Global.{Global}
-use Rattle.std.specs.List.{filter_map}
+use Rattle.std.specs.List.{filter_map, list_all, list_any}
 use Rattle.std.specs.Str.{bytes_eq}
 pub use Rattle.text_lines.specs.Reading.{◌>>=◌, refused, at, unless_bad}
 use Rattle.text_lines.specs.declared.refusal.Code.{Code}
@@ -50,14 +51,17 @@ use Rattle.text_lines.specs.declared.refusal.Code.TheVariants.{
   Unclosed,
   TooMany,
   BadLength,
+  BadName,
+  Reserved,
 }
 use Rattle.text_lines.specs.declared.refusal.Refusal.{Refusal}
 use Rattle.text_lines.specs.Text.{lines_of, words_of, is_skipped, bad_byte_line}
 use Rattle.job_words.specs.Faults.{both, made}
-use Rattle.job_words.specs.Words.{Word, Words, named, numbered, noted}
+use Rattle.job_words.specs.Words.{Word, Words, named, numbered}
+use Rattle.job_words.specs.Views.{lent}
 use Rattle.job_words.specs.declared.lines.Keyword.{Keyword}
-use Rattle.job_words.specs.Lines.{body_at, keyword_of, line_behind, mentions_behind}
-use Rattle.task_lang.specs.Names.{is_among}
+use Rattle.job_words.specs.Lines.{body_at, keyword_of, known_in, line_behind, mentions_behind}
+use Rattle.task_lang.specs.Names.{is_name, is_reserved, is_among}
 use Rattle.task_lang.specs.Limits.{opened}
 use Rattle.task_lang.specs.Tree.{Block}
 use Rattle.task_lang.specs.Open.{Frame, step_of}
@@ -66,14 +70,19 @@ use Rattle.task_lang.specs.declared.job.Start.{Start}
 use Rattle.job_reader.specs.declared.outer.Outer.{Outer}
 use Rattle.job_reader.specs.declared.outer.Outer.TheVariants as outer
 use Rattle.job_reader.specs.Trees.{JobTree, array_names, body_names}
+use Rattle.job_reader.specs.Grammar.{locals_behind}
 use Rattle.job_reader.specs.Above.{Inside, Above, nothing, can_else, begun, statements_behind, grown, ended}
 
--- the first line
-abbrev pub is_header : Words → Bool
-is_header [] = false
-is_header (a ∷ []) = false
-is_header (a ∷ b ∷ []) = bytes_eq a (codes "bsp") && bytes_eq b (codes "1")
-is_header (a ∷ b ∷ c ∷ ws) = false
+-- the format that a word says
+abbrev pub format_in : Word → Option ℕ
+format_in w = if bytes_eq w (codes "1") then Some 1 else if bytes_eq w (codes "2") then Some 2 else None
+
+-- the format that the first line says
+abbrev pub format_of : Words → Option ℕ
+format_of [] = None
+format_of (a ∷ []) = None
+format_of (a ∷ b ∷ []) = if bytes_eq a (codes "bsp") then format_in b else None
+format_of (a ∷ b ∷ c ∷ ws) = None
 
 -- the first word of a line outside bodies
 unfoldable pub outer_of : Word → Option Outer
@@ -104,9 +113,10 @@ abbrev pub items_if_ok : Result (Vec ℤ Global) Code → Result (List ℤ) Code
 items_if_ok (Ok values) = Ok values.items
 items_if_ok (Err code) = Err code
 
-abbrev pub word_if_ok : Result (Bor (List ℕ)) Code → Result Word Code
-word_if_ok (Ok w) = Ok w.now
-word_if_ok (Err code) = Err code
+-- a name and the names behind it, as they are lent, if they are read
+abbrev pub head_if_ok : Result (Bor (List ℕ) × Vec (Bor (List ℕ)) Global) Code → Result (Word × List Word) Code
+head_if_ok (Ok h) = Ok (h.0.now, lent h.1.items)
+head_if_ok (Err code) = Err code
 
 abbrev pub array_if_ok : Result (Bor (List ℕ) × Vec ℤ Global) Code → Result (Word × List ℤ) Code
 array_if_ok (Ok a) = Ok (a.0.now, a.1.items)
@@ -136,10 +146,25 @@ array_of [] = Err BadLine
 array_of (name ∷ []) = Err BadLine
 array_of (name ∷ len ∷ values) = made (λ p. (name, p.1)) (both (named name) (cells_of len values))
 
-abbrev pub body_of : Words → Result Word Code
-body_of [] = Err BadLine
-body_of (name ∷ []) = made (λ _. name) (named name)
-body_of (name ∷ w ∷ ws) = Err BadLine
+-- names, none of which is reserved
+abbrev pub all_named : Words → Result (Unit {0}) Code
+all_named ws = if list_any is_reserved ws then Err Reserved else if list_all is_name ws then Ok tt else Err BadName
+
+-- whether a body line may have these behind the name: format 1 has none
+abbrev pub may_list : ℕ → Words → Bool
+may_list format [] = true
+may_list format (w ∷ ws) = not (format == 1)
+
+-- the name of a body, and the locals that its line lists
+abbrev pub body_of : ℕ → Words → Result (Word × List Word) Code
+body_of format [] = Err BadLine
+body_of format (name ∷ locals) =
+    if may_list format locals then made (λ _. (name, locals)) (both (named name) (all_named locals)) else Err BadLine
+
+-- no word stands there twice
+abbrev pub are_apart : Words → Bool
+are_apart [] = true
+are_apart (w ∷ ws) = not (is_among ws w) && are_apart ws
 
 abbrev pub start_from : ℕ × ℤ → Start
 start_from p = record { body = p.0; arg = p.1 }
@@ -157,12 +182,12 @@ with_array j x =
     else if nat_le 16 (length (array_names j)) then Err TooMany
     else Ok (record j { arrays = j.arrays ++ x ∷ [] })
 
--- a body of a name of its own, of at most 64
-abbrev pub new_body : JobTree → Word → Result Inside Code
-new_body j name =
-    if is_among (body_names j) name then Err Twice
-    else if nat_le 64 (length (body_names j)) then Err TooMany
-    else Ok (begun name)
+-- a body of a name of its own, of at most 64, that lists at most 32 locals, each once
+abbrev pub new_body : JobTree → Word × List Word → Result Inside Code
+new_body j head =
+    if is_among (body_names j) head.0 || not (are_apart head.1) then Err Twice
+    else if nat_le 64 (length (body_names j)) || nat_lt 32 (length head.1) then Err TooMany
+    else Ok (begun head)
 
 -- a start line, of at most 4096
 abbrev pub with_start : JobTree → Start → Result JobTree Code
@@ -172,7 +197,7 @@ abbrev pub array_line : JobTree → Words → Result JobTree Code
 array_line j ws = array_of ws >>= with_array j
 
 abbrev pub body_line : JobTree → Words → Result Inside Code
-body_line j ws = body_of ws >>= new_body j
+body_line j ws = body_of j.format ws >>= new_body j
 
 abbrev pub start_line : List Word → JobTree → Words → Result JobTree Code
 start_line bodies j ws = start_of bodies ws >>= with_start j
@@ -200,25 +225,25 @@ behind j o statements (Some s) = (j, Some (grown o statements s))
 abbrev pub with_line : JobTree → Inside → Line → JobTree × Option Inside
 with_line j o l = behind j o (statements_behind o.statements l) (step_of l o.frames o.block)
 
--- the open body with the mentions of a line noted
-abbrev pub mentioning : Inside → Option Keyword → Words → Inside
-mentioning o k ws = record o { locals = noted o.locals (mentions_behind k ws) }
+-- the open body with its locals behind a line
+abbrev pub mentioning : ℕ → Inside → Option Keyword → Words → Inside
+mentioning format o k ws = record o { locals = locals_behind format o.locals (mentions_behind k ws) }
 
--- the line that words say in an open body in which their mentions are noted
+-- the line that words say in an open body with its locals behind that line
 abbrev pub said : List Word → List Word → Inside → Option Keyword → Words → Result Line Code
 said arrays bodies o k ws =
     line_behind (record { arrays = arrays; bodies = bodies; locals = o.locals }) (can_else o.frames) k ws >>= within_limits o
 
--- a line in a body, in which its mentions are noted
+-- a line in a body with its locals behind that line
 abbrev pub noted_line : List Word → JobTree → Inside → Option Keyword → Words → Result (JobTree × Option Inside) Code
 noted_line bodies j o k ws = made (with_line j o) (said (array_names j) bodies o k ws)
 
 abbrev pub inner_line : List Word → JobTree → Inside → Option Keyword → Words → Result (JobTree × Option Inside) Code
-inner_line bodies j o k ws = noted_line bodies j (mentioning o k ws) k ws
+inner_line bodies j o k ws = noted_line bodies j (mentioning j.format o k ws) k ws
 
 abbrev pub any_line : List Word → JobTree → Option Inside → Words → Result (JobTree × Option Inside) Code
 any_line bodies j i [] = Err UnknownLine
-any_line bodies j (Some o) (k ∷ ws) = inner_line bodies j o (keyword_of k) ws
+any_line bodies j (Some o) (k ∷ ws) = inner_line bodies j o (known_in j.format (keyword_of k)) ws
 any_line bodies j None (k ∷ ws) = outer_line bodies j (outer_of k) ws
 
 -- whether a line names a body that isn't there
@@ -252,13 +277,17 @@ read_lines bodies line a [] = finished line a a.inside a.missing
 read_lines bodies line a (l ∷ ls) =
     at line (kept_step bodies line a (words_of l)) >>= λ b. read_lines bodies (line + 1) b ls
 
+-- the lines behind the first one, which has this number, by the format that it says
+abbrev pub read_behind : List Word → ℕ → Option ℕ → List (List ℕ) → Result JobTree Refusal
+read_behind bodies line None ls = refused line BadHeader
+read_behind bodies line (Some format) ls = read_lines bodies (line + 1) (nothing format) ls
+
 -- the first line, and the lines behind it
 abbrev pub read_from : List Word → ℕ → List (List ℕ) → Result JobTree Refusal
 read_from bodies line [] = refused line BadHeader
 read_from bodies line (l ∷ ls) =
     if is_skipped (words_of l) then read_from bodies (line + 1) ls
-    else if is_header (words_of l) then read_lines bodies (line + 1) nothing ls
-    else refused line BadHeader
+    else read_behind bodies line (format_of (words_of l)) ls
 
 -- What a text says: its length is looked at first, then its bytes, then line by line.
 unfoldable pub job_in : List ℕ → Result JobTree Refusal

@@ -25,6 +25,7 @@ IsOpened (Some o) (Some w) = IsInside o w
 
 -- the job so far
 pub record IsSoFar (j : JobTree) (r : SoFar) : Type 0 where
+  pub format : r.format ≡ j.format
   pub arrays : r.arrays ≡ j.arrays
   pub array_names : lent r.array_names.items ≡ array_names j
   pub bodies : r.bodies.items ≡ map flat_body j.bodies

@@ -1,5 +1,5 @@
 -- Jobs whose bodies are statement trees.
-use Rattle.std.specs.Prelude.{ℤ, List, map}
+use Rattle.std.specs.Prelude.{ℕ, ℤ, List, map}
 use Rattle.job_words.specs.Words.{Word}
 use Rattle.task_lang.specs.Tree.{Block}
 use Rattle.task_lang.specs.Reading.{tree_of}
@@ -13,8 +13,9 @@ pub record BodyTree : Type 0 where
   pub locals : List Word
   pub block : Block
 
--- a job: its arrays with their cells, its bodies and its start lines, each in declared order
+-- a job: its format, its arrays with their cells, its bodies and its start lines, each in declared order
 pub record JobTree : Type 0 where
+  pub format : ℕ
   pub arrays : List (Word × List ℤ)
   pub bodies : List BodyTree
   pub starts : List Start
@@ -24,7 +25,7 @@ body_tree b = record { name = b.name; locals = b.locals; block = tree_of b.code 
 
 -- a job without the flat code of its bodies
 abbrev pub job_tree : JobValue → JobTree
-job_tree j = record { arrays = j.arrays; bodies = map body_tree j.bodies; starts = j.starts }
+job_tree j = record { format = j.format; arrays = j.arrays; bodies = map body_tree j.bodies; starts = j.starts }
 
 abbrev pub array_names : JobTree → List Word
 array_names j = map (λ a. a.0) j.arrays

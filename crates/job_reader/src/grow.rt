@@ -6,6 +6,7 @@ ghost use Rattle.text_lines.specs.Text.{words_of};
 ghost use Rattle.superstep_memory.specs.Cells.{IsNew};
 ghost use Rattle.task_lang.specs.Names.{is_free};
 ghost use Rattle.job_words.specs.Views.{lent};
+ghost use Rattle.job_words.specs.Lines as lines;
 ghost use Rattle.job_reader.specs.Trees.{JobTree, job_tree};
 ghost use Rattle.job_reader.specs.Legal.{flat_body};
 ghost use Rattle.job_reader.specs.Above.{Inside, nothing, can_else, sits, ended, statements_behind};
@@ -15,17 +16,17 @@ ghost use Rattle.job_reader.specs.Relates.{IsSoFar, IsInside, IsOpened, IsBehind
 ghost use Rattle.job_reader.specs.Gives.{LineGives};
 
 use crate::fault::LineFault;
-use crate::inside::OpenBody;
-use crate::outer::{Outer, array_of, body_of, outer_of, start_of};
+use crate::inside::{MOST_LOCALS, OpenBody};
+use crate::outer::{Outer, are_apart, array_of, body_of, outer_of, start_of, words_in};
 use crate::so_far::SoFar;
-use job_words::lines::{Keyword, keyword_of};
+use job_words::lines::{Keyword, keyword_of, known_in};
 use job_words::words::is_among;
 use std::alloc::{AllocError, Global};
 use superstep_memory::arrays::Arrays;
 use task_lang::body::Body;
 use task_lang::code::Line;
 use task_lang::job::Job;
-use text_lines::{Code, split_word};
+use text_lines::Code;
 
 /// The most arrays of a job.
 const MOST_ARRAYS: usize = 16;
@@ -79,25 +80,13 @@ fn finished(alloc: Global, inner: OpenBody<'_>) -> Result<Body, AllocError>
     }
 }
 
-// The words of a line.
-fn words_in<'a>(alloc: Global, line: &'a [u8]) -> Result<Vec<&'a [u8]>, AllocError>
-    ensures { IfOk result (λ words. lent words.items ≡ words_of line.entry.now) }
-{
-    let mut words = Vec::new(alloc);
-    let mut rest = line;
-    while let Some((word, after)) = split_word(rest) {
-        rest = after;
-        words.push(word)?;
-    }
-    Ok(words)
-}
-
 impl<'a> SoFar<'a> {
-    /// Nothing yet.
-    pub(crate) fn new(alloc: Global) -> Self
-        ensures { IsSoFar nothing.job result }
+    /// Nothing yet of a job of this format.
+    pub(crate) fn new(alloc: Global, format: u32) -> Self
+        ensures { IsSoFar (nothing format).job result }
     {
         SoFar {
+            format,
             arrays: Arrays::new(alloc),
             array_names: Vec::new(alloc),
             bodies: Vec::new(alloc),
@@ -112,13 +101,14 @@ impl<'a> SoFar<'a> {
         ensures { (j : JobTree) → IsSoFar j self.entry → job_tree result ≡ j }
     {
         let SoFar {
+            format,
             arrays,
             array_names: _,
             bodies,
             body_names: _,
             starts,
         } = self;
-        match Job::new(arrays, bodies, starts) {
+        match Job::new(format, arrays, bodies, starts) {
             Some(job) => job,
             None => unreachable!(),
         }
@@ -176,17 +166,18 @@ impl<'a> SoFar<'a> {
             → LineGives (λ w o. IsInside o w) result (spec.body_line j (words_of line.entry.now)) }
         ensures few { IfOk result (λ w. length w.locals.items ≤ 32) }
     {
-        let name = match body_of(line) {
-            Ok(name) => name,
-            Err(code) => return Err(LineFault::Refused(code)),
+        let (name, locals) = match body_of(alloc, self.format, line) {
+            Ok(Ok(head)) => head,
+            Ok(Err(code)) => return Err(LineFault::Refused(code)),
+            Err(_) => return Err(LineFault::Memory),
         };
-        if is_among(&self.body_names, name) {
+        if is_among(&self.body_names, name) || !are_apart(&locals) {
             return Err(LineFault::Refused(Code::Twice));
         }
-        if self.body_names.len() >= MOST_BODIES {
+        if self.body_names.len() >= MOST_BODIES || locals.len() > MOST_LOCALS {
             return Err(LineFault::Refused(Code::TooMany));
         }
-        Ok(OpenBody::begin(alloc, name))
+        Ok(OpenBody::begin(alloc, name, locals))
     }
 
     // A start line.
@@ -288,13 +279,14 @@ impl<'a> SoFar<'a> {
     ) -> Result<Option<OpenBody<'a>>, LineFault>
         requires bodies { length bodies.now ≤ 64 }
         requires few { length inner.locals.items ≤ 32 }
+        requires known { lines.known_in self.old.format keyword ≡ keyword }
         requires kept { HasKeptInside self.old inner }
         ensures line { (j : JobTree) (o : Inside) → IsSoFar j self.old → IsInside o inner.entry
             → LineGives (λ w p. IsBehind p self.new w) result (spec.inner_line (lent bodies.now) j o keyword (lent words.now)) }
         ensures few { IfOk result (λ o. IfSome o (λ w. length w.locals.items ≤ 32)) }
     {
         let mut inner = inner;
-        let Ok(()) = inner.note(keyword, words) else {
+        let Ok(()) = inner.note(self.format, keyword, words) else {
             return Err(LineFault::Memory);
         };
         let line = match inner.said(&self.array_names, bodies, keyword, words) {
@@ -329,7 +321,8 @@ impl<'a> SoFar<'a> {
                 let Ok(words) = words_in(alloc, rest) else {
                     return Err(LineFault::Memory);
                 };
-                self.inner_line(alloc, bodies, inner, keyword_of(first), &words)
+                let keyword = known_in(self.format, keyword_of(first));
+                self.inner_line(alloc, bodies, inner, keyword, &words)
             }
         }
     }

@@ -29,7 +29,7 @@ pub(crate) struct OpenBody<'a> {
 const MOST_STATEMENTS: usize = 1024;
 
 /// The most locals of a body.
-const MOST_LOCALS: usize = 32;
+pub(crate) const MOST_LOCALS: usize = 32;
 
 /// The most `if` and `while` lines open at once.
 const MOST_OPEN: usize = 16;
@@ -86,12 +86,13 @@ fn line_in<'x>(
 
 impl<'a> OpenBody<'a> {
     /// A body behind its first line.
-    pub(crate) fn begin(alloc: Global, name: &'a [u8]) -> Self
-        ensures { IsInside (begun name.entry.now) result }
+    pub(crate) fn begin(alloc: Global, name: &'a [u8], locals: Vec<&'a [u8]>) -> Self
+        ensures begun { IsInside (begun (name.entry.now, lent locals.entry.items)) result }
+        ensures locals { result.locals ≡ locals.entry }
     {
         OpenBody {
             name,
-            locals: Vec::new(alloc),
+            locals,
             builder: Builder {
                 code: Vec::new(alloc),
                 places: Vec::new(alloc),
@@ -121,21 +122,24 @@ impl<'a> OpenBody<'a> {
         self.builder.places.len()
     }
 
-    /// Notes the locals that a line mentions.
+    /// Notes the locals that a line mentions, where the format doesn't list them.
     pub(crate) fn note(
         &mut self,
+        format: u32,
         keyword: Option<Keyword>,
         words: &[&'a [u8]],
     ) -> Result<(), AllocError>
         ensures noted { OnOk result ((o : Inside) → IsInside o self.old
-            → IsInside (spec.mentioning o keyword (lent words.entry.now)) self.new) }
+            → IsInside (spec.mentioning format o keyword (lent words.entry.now)) self.new) }
         ensures few { OnOk result (length self.new.locals.items ≤ length self.old.locals.items + 3) }
     {
-        note_behind(&mut self.locals, keyword, words)?;
+        if format == 1 {
+            note_behind(&mut self.locals, keyword, words)?;
+        }
         Ok(())
     }
 
-    /// The line that words behind a keyword say, where the locals that they mention are noted.
+    /// The line that words behind a keyword say, where the locals are those behind the line.
     pub(crate) fn said(
         &self,
         arrays: &[&'a [u8]],

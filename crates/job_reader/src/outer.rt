@@ -6,9 +6,10 @@ ghost use Rattle.job_reader.specs.Reading as spec;
 
 use job_words::faults::both;
 use job_words::lines::body_at;
-use job_words::words::{is_word, named, numbered};
+use job_words::words::{is_among, is_word, named, numbered};
 use std::alloc::{AllocError, Global};
 use task_lang::job::Start;
+use task_lang::names::{is_name, is_reserved};
 use text_lines::{Code, split_word};
 
 /// The first word of a line outside bodies.
@@ -41,17 +42,41 @@ pub(crate) fn outer_of(word: &[u8]) -> Option<Outer>
     }
 }
 
-/// Whether this is the first line of a job, from its first word and the line behind it.
-pub(crate) fn is_header(first: &[u8], rest: &[u8]) -> bool
-    ensures { result ≡ spec.is_header (first.now ∷ words_of rest.now) }
+// The format that a word says.
+fn format_in(word: &[u8]) -> Option<u32>
+    ensures { result ≡ spec.format_in word.now }
 {
-    let Some((format, rest)) = split_word(rest) else {
-        return false;
-    };
-    if split_word(rest).is_some() {
-        return false;
+    if is_word(word, b"1") {
+        Some(1)
+    } else if is_word(word, b"2") {
+        Some(2)
+    } else {
+        None
     }
-    is_word(first, b"bsp") && is_word(format, b"1")
+}
+
+/// The format that the first line of a job says, from its first word and the line behind it.
+pub(crate) fn format_of(first: &[u8], rest: &[u8]) -> Option<u32>
+    ensures { result ≡ spec.format_of (first.now ∷ words_of rest.now) }
+{
+    let (format, rest) = split_word(rest)?;
+    if split_word(rest).is_some() || !is_word(first, b"bsp") {
+        return None;
+    }
+    format_in(format)
+}
+
+/// The words of a line.
+pub(crate) fn words_in<'a>(alloc: Global, line: &'a [u8]) -> Result<Vec<&'a [u8]>, AllocError>
+    ensures { IfOk result (λ words. lent words.items ≡ words_of line.entry.now) }
+{
+    let mut words = Vec::new(alloc);
+    let mut rest = line;
+    while let Some((word, after)) = split_word(rest) {
+        rest = after;
+        words.push(word)?;
+    }
+    Ok(words)
 }
 
 /// The name that a line gives to a body, if it is such a line.
@@ -137,19 +162,53 @@ pub(crate) fn array_of(
     }
 }
 
-/// The name of a body.
-pub(crate) fn body_of(line: &[u8]) -> Result<&[u8], Code>
-    ensures { spec.word_if_ok result ≡ spec.body_of (words_of line.now) }
+// Refuses words of which one is no name, or reserved.
+fn all_named(words: &[&[u8]]) -> Result<(), Code>
+    ensures { result ≡ spec.all_named (lent words.now) }
+{
+    let mut names = true;
+    for word in words {
+        if is_reserved(word) {
+            return Err(Code::Reserved);
+        }
+        if !is_name(word) {
+            names = false;
+        }
+    }
+    if names { Ok(()) } else { Err(Code::BadName) }
+}
+
+/// Whether no word stands there twice.
+pub(crate) fn are_apart(words: &[&[u8]]) -> bool
+    ensures { result ≡ spec.are_apart (lent words.now) }
+{
+    for (i, word) in words.iter().enumerate() {
+        let (_, after) = words.split_at(i + 1);
+        if is_among(after, word) {
+            return false;
+        }
+    }
+    true
+}
+
+/// The name of a body, and the locals that its line lists.
+pub(crate) fn body_of<'a>(
+    alloc: Global,
+    format: u32,
+    line: &'a [u8],
+) -> Result<Result<(&'a [u8], Vec<&'a [u8]>), Code>, AllocError>
+    ensures { IfOk result (λ read. spec.head_if_ok read ≡ spec.body_of format (words_of line.entry.now)) }
 {
     let Some((name, rest)) = split_word(line) else {
-        return Err(Code::BadLine);
+        return Ok(Err(Code::BadLine));
     };
-    match split_word(rest) {
-        None => match named(name) {
-            Ok(()) => Ok(name),
-            Err(code) => Err(code),
-        },
-        Some(_) => Err(Code::BadLine),
+    if format == 1 && split_word(rest).is_some() {
+        return Ok(Err(Code::BadLine));
+    }
+    let locals = words_in(alloc, rest)?;
+    match both(named(name), all_named(&locals)) {
+        Ok(_) => Ok(Ok((name, locals))),
+        Err(code) => Ok(Err(code)),
     }
 }
 

@@ -2,13 +2,13 @@
 ghost use Rattle.std.specs.Prelude.{◌≡◌, ◌++◌, ◌∷◌, [], OnOk, map, string_bytes};
 ghost use Rattle.job_words.specs.Words.{name_at, index_word};
 ghost use Rattle.job_words.specs.Exprs.{cell_word, operand_word, operator_word, expr_words};
-ghost use Rattle.job_words.specs.Lines.{action_words, line_words};
+ghost use Rattle.job_words.specs.Lines.{kind_word, action_words, line_words};
 ghost use Rattle.job_reader.specs.Grammar.{spaced, line_text, text_of};
 ghost use Rattle.job_reader.specs.Writing.{names_of, code_lines};
 
 use itoa::{Buffer, Integer};
 use std::alloc::AllocError;
-use superstep_memory::arrays::Arrays;
+use superstep_memory::arrays::{Arrays, Kind};
 use task_lang::body::Body;
 use task_lang::code::{Action, Cell, Expr, Index, Line, Operand, Operator};
 
@@ -183,15 +183,27 @@ fn push_let(out: &mut Vec<u8>, names: &Writing<'_>, local: u8, expr: Expr) -> Re
     Ok(())
 }
 
+// The first word of a put, by what landing does with its value.
+fn kind_text(kind: Kind) -> &'static [u8]
+    ensures { result.now ≡ kind_word kind }
+{
+    match kind {
+        Kind::Set => b"put",
+        Kind::Add => b"add",
+    }
+}
+
 fn push_put(
     out: &mut Vec<u8>,
     names: &Writing<'_>,
+    kind: Kind,
     cell: Cell,
     expr: Expr,
 ) -> Result<(), AllocError>
-    ensures { OnOk result (out.new.items ≡ out.old.items ++ line_text (action_words (names_of names.now) (Action.Put cell expr))) }
+    ensures { OnOk result (out.new.items ≡ out.old.items ++ line_text (action_words (names_of names.now) (Action.Put kind cell expr))) }
 {
-    out.extend_from_slice(b"put ")?;
+    out.extend_from_slice(kind_text(kind))?;
+    out.extend_from_slice(b" ")?;
     push_cell(out, names, cell)?;
     out.extend_from_slice(b" =")?;
     push_end(out, names, expr)?;
@@ -231,7 +243,7 @@ fn push_action(out: &mut Vec<u8>, names: &Writing<'_>, action: Action) -> Result
 {
     match action {
         Action::Let(local, expr) => push_let(out, names, local, expr),
-        Action::Put(cell, expr) => push_put(out, names, cell, expr),
+        Action::Put(kind, cell, expr) => push_put(out, names, kind, cell, expr),
         Action::Print(expr) => push_test(out, names, b"print", expr),
         Action::Spawn(body, expr) => push_spawn(out, names, body, expr),
         Action::Sync => out.extend_from_slice(b"sync\n"),

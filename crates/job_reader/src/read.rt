@@ -1,6 +1,7 @@
 //! The text of a job, read.
-ghost use Rattle.std.specs.Prelude.{◌≡◌, ◌≤◌, ◌<◌, ◌+◌, ◌^◌, ◌∷◌, length, true, IfOk, IfErr, MatchResult, Err, List};
+ghost use Rattle.std.specs.Prelude.{◌≡◌, ◌≤◌, ◌<◌, ◌+◌, ◌^◌, ◌∷◌, length, true, IsTrue, IfOk, IfErr, MatchResult, Err, List};
 ghost use Rattle.text_lines.specs.Text.{lines_of, words_of};
+ghost use Rattle.task_lang.specs.Rules.{is_format};
 ghost use Rattle.job_words.specs.Words.{Word};
 ghost use Rattle.job_words.specs.Views.{lent};
 ghost use Rattle.job_reader.specs.Trees.{job_tree};
@@ -13,7 +14,7 @@ ghost use Rattle.job_reader.specs.Gives.{LineGives, Gives};
 ghost use Rattle.job_reader.specs.Grammar.{kept, IsTextOf};
 
 use crate::fault::{LineFault, ReadJobFault};
-use crate::outer::{declared_by, is_header};
+use crate::outer::{declared_by, format_of};
 use crate::so_far::SoFar;
 use crate::state::State;
 use job_words::words::{is_among, is_word};
@@ -59,12 +60,12 @@ fn declared<'a>(alloc: Global, text: &'a [u8]) -> Result<Vec<&'a [u8]>, AllocErr
 }
 
 impl<'a> State<'a> {
-    // Above the first line behind the header.
-    fn new(alloc: Global) -> Self
-        ensures { IsAt nothing result }
+    // Above the first line behind the header, which says this format.
+    fn new(alloc: Global, format: u32) -> Self
+        ensures { IsAt (nothing format) result }
     {
         State {
-            so_far: SoFar::new(alloc),
+            so_far: SoFar::new(alloc, format),
             inside: None,
             missing: None,
         }
@@ -130,19 +131,21 @@ impl<'a> State<'a> {
     }
 }
 
-// The lines behind the header, from this number on.
+// The lines behind the header, which says this format, from this number on.
 fn read_lines<'a>(
     alloc: Global,
+    format: u32,
     bodies: &[&'a [u8]],
     text: &'a [u8],
     first: usize,
 ) -> Result<Job, ReadJobFault>
     requires bodies { length bodies.now ≤ 64 }
     requires lines { first + length text.now < 2 ^ 32 }
-    requires jobs { SaysJobs (spec.read_lines (lent bodies.now) first nothing (lines_of text.now)) }
-    ensures { Gives job_tree result (spec.read_lines (lent bodies.now) first nothing (lines_of text.entry.now)) }
+    requires format { IsTrue (is_format format) }
+    requires jobs { SaysJobs (spec.read_lines (lent bodies.now) first (nothing format) (lines_of text.now)) }
+    ensures { Gives job_tree result (spec.read_lines (lent bodies.now) first (nothing format) (lines_of text.entry.now)) }
 {
-    let mut state = State::new(alloc);
+    let mut state = State::new(alloc, format);
     let mut line = first;
     let mut rest = text;
     while let Some((this, after)) = split_line(rest) {
@@ -159,13 +162,14 @@ fn read_lines<'a>(
     state.finished(line)
 }
 
-// The text behind the header, and the number of its first line.
-fn split_header(text: &[u8]) -> Result<(usize, &[u8]), Refusal>
+// The format that the header says, the text behind it, and the number of that text's first line.
+fn split_header(text: &[u8]) -> Result<(u32, usize, &[u8]), Refusal>
     requires { length text.now ≤ 1048576 }
     ensures header { MatchResult result
-        (λ h. (bodies : List Word) → spec.read_from bodies 1 (lines_of text.now) ≡ spec.read_lines bodies h.0 nothing (lines_of h.1.now))
+        (λ h. (bodies : List Word) → spec.read_from bodies 1 (lines_of text.now) ≡ spec.read_lines bodies h.1 (nothing h.0) (lines_of h.2.now))
         (λ r. (bodies : List Word) → spec.read_from bodies 1 (lines_of text.now) ≡ Err r) }
-    ensures lines { IfOk result (λ h. h.0 + length h.1.now ≤ length text.now + 1) }
+    ensures lines { IfOk result (λ h. h.1 + length h.2.now ≤ length text.now + 1) }
+    ensures format { IfOk result (λ h. IsTrue (is_format h.0)) }
     ensures begins { IfOk result (λ h. has_header (lines_of text.now) ≡ true) }
 {
     let mut line = 1;
@@ -173,8 +177,8 @@ fn split_header(text: &[u8]) -> Result<(usize, &[u8]), Refusal>
     while let Some((this, after)) = split_line(rest) {
         rest = after;
         if let Some((first, behind)) = first_word(this) {
-            if is_header(first, behind) {
-                return Ok((line + 1, rest));
+            if let Some(format) = format_of(first, behind) {
+                return Ok((format, line + 1, rest));
             }
             let code = Code::BadHeader;
             return Err(Refusal { line, code });
@@ -199,14 +203,14 @@ fn read_text(alloc: Global, text: &[u8]) -> Result<Job, ReadJobFault>
         let code = Code::BadByte;
         return Err(ReadJobFault::Text(Refusal { line, code }));
     }
-    let (line, rest) = match split_header(text) {
+    let (format, line, rest) = match split_header(text) {
         Ok(header) => header,
         Err(refusal) => return Err(ReadJobFault::Text(refusal)),
     };
     let Ok(bodies) = declared(alloc, text) else {
         return Err(ReadJobFault::Memory);
     };
-    read_lines(alloc, &bodies, rest, line)
+    read_lines(alloc, format, &bodies, rest, line)
 }
 
 /// The job that a text says, or the text's first refusal (own): `TooLong` above 1048576 bytes; then the first byte that

@@ -5,9 +5,10 @@ use superstep_memory::arrays::Arrays;
 use task_lang::body::Body;
 use task_lang::job::Start;
 
-/// The arrays, bodies and start lines that are read, and the names of the first two as they stand in the text.
+/// The format, the arrays, bodies and start lines that are read, and the names of the first two as they stand in the text.
 #[derive(Drop)]
 pub(crate) struct SoFar<'a> {
+    pub format: u32,
     pub arrays: Arrays,
     pub array_names: Vec<&'a [u8]>,
     pub bodies: Vec<Body>,

@@ -1,5 +1,5 @@
 //! The canonical text of a job, written.
-ghost use Rattle.std.specs.Prelude.{◌≡◌, ◌++◌, ◌∷◌, [], OnOk, IfOk, map, length};
+ghost use Rattle.std.specs.Prelude.{◌≡◌, ◌++◌, ◌∷◌, [], OnOk, IfOk, map, string_bytes, length};
 ghost use Rattle.std.specs.Fmt.{signed_decimal};
 ghost use Rattle.task_lang.specs.Rules.{IsJob};
 ghost use Rattle.job_reader.specs.Legal.{IsJobTree};
@@ -60,18 +60,43 @@ fn push_arrays(out: &mut Vec<u8>, arrays: &Arrays) -> Result<(), AllocError>
     Ok(())
 }
 
+// Puts names behind what is there, each behind a space.
+fn push_names(out: &mut Vec<u8>, names: &[String]) -> Result<(), AllocError>
+    ensures { OnOk result (out.new.items ≡ out.old.items ++ spaced (map string_bytes names.now)) }
+{
+    let mut rest = names;
+    while let Some((name, after)) = rest.split_first() {
+        rest = after;
+        out.extend_from_slice(b" ")?;
+        out.extend_from_slice(name.as_bytes())?;
+    }
+    Ok(())
+}
+
+// Puts the locals that a body line lists behind what is there, each behind a space: none in format 1.
+fn push_listed(out: &mut Vec<u8>, format: u32, locals: &[String]) -> Result<(), AllocError>
+    ensures { OnOk result (out.new.items ≡ out.old.items ++ spaced (spec.listed_in format (map string_bytes locals.now))) }
+{
+    if format == 1 {
+        return Ok(());
+    }
+    push_names(out, locals)
+}
+
 // Puts the lines of a body behind what is there.
 fn push_body(
     out: &mut Vec<u8>,
+    format: u32,
     arrays: &Arrays,
     bodies: &[Body],
     body: &Body,
 ) -> Result<(), AllocError>
     ensures { OnOk result (out.new.items ≡ out.old.items
-        ++ text_of (spec.body_lines (map (λ a. a.0) arrays.now) (map (λ b. b.name) bodies.now) (body_tree body.now))) }
+        ++ text_of (spec.body_lines format (map (λ a. a.0) arrays.now) (map (λ b. b.name) bodies.now) (body_tree body.now))) }
 {
     out.extend_from_slice(b"body ")?;
     out.extend_from_slice(body.name().as_bytes())?;
+    push_listed(out, format, body.locals())?;
     out.extend_from_slice(b"\n")?;
     let names = Writing {
         arrays,
@@ -86,17 +111,18 @@ fn push_body(
 // Puts the lines of bodies behind what is there, where all bodies are these.
 fn push_bodies(
     out: &mut Vec<u8>,
+    format: u32,
     arrays: &Arrays,
     all: &[Body],
     bodies: &[Body],
 ) -> Result<(), AllocError>
     ensures { OnOk result (out.new.items ≡ out.old.items
-        ++ text_of (spec.bodies_lines (map (λ a. a.0) arrays.now) (map (λ b. b.name) all.now) (map body_tree bodies.now))) }
+        ++ text_of (spec.bodies_lines format (map (λ a. a.0) arrays.now) (map (λ b. b.name) all.now) (map body_tree bodies.now))) }
 {
     let mut rest = bodies;
     while let Some((body, after)) = rest.split_first() {
         rest = after;
-        push_body(out, arrays, all, body)?;
+        push_body(out, format, arrays, all, body)?;
     }
     Ok(())
 }
@@ -125,6 +151,16 @@ fn push_starts(out: &mut Vec<u8>, bodies: &[Body], starts: &[Start]) -> Result<(
     Ok(())
 }
 
+// Puts the first line behind what is there.
+fn push_header(out: &mut Vec<u8>, format: u32) -> Result<(), AllocError>
+    ensures { OnOk result (out.new.items ≡ out.old.items ++ line_text (spec.header_words format)) }
+{
+    out.extend_from_slice(b"bsp ")?;
+    push_number(out, format)?;
+    out.extend_from_slice(b"\n")?;
+    Ok(())
+}
+
 // The canonical text of a job.
 fn canonical(alloc: Global, job: &Job) -> Result<Vec<u8>, AllocError>
     ensures text { IfOk result (λ text. text.items ≡ spec.canonical_text (job_tree job.now)) }
@@ -132,14 +168,14 @@ fn canonical(alloc: Global, job: &Job) -> Result<Vec<u8>, AllocError>
 {
     let bodies = job.bodies();
     let mut out = Vec::new(alloc);
-    out.extend_from_slice(b"bsp 1\n")?;
+    push_header(&mut out, job.format())?;
     push_arrays(&mut out, job.arrays())?;
-    push_bodies(&mut out, job.arrays(), bodies, bodies)?;
+    push_bodies(&mut out, job.format(), job.arrays(), bodies, bodies)?;
     push_starts(&mut out, bodies, job.starts())?;
     Ok(out)
 }
 
-/// Writes the canonical text of a job (own): `bsp 1`, the arrays with all their values, the bodies, the start lines, each
+/// Writes the canonical text of a job (own): `bsp` and its format, the arrays with all their values, the bodies, the start lines, each
 /// in declared order, with single spaces, no comments and an LF behind each line. All memory is taken before the first
 /// byte. `Write` where the writer failed: a beginning of the text went out. Each job is one of the grammar, so that its
 /// text, where it isn't too long, is read as that job.

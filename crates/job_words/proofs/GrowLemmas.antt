@@ -112,7 +112,7 @@ line-grows s more line.EndIf e = refl
 line-grows s more (line.While x n) e = ap (λ (t : Words). codes "while" ∷ t) (expr-grows s more x (and-right _ _ e))
 line-grows s more (line.EndWhile x n) e = refl
 
-below-grows : (ls more : List Word) (is : List ℕ) → list_all (λ k. nat_lt k (length ls)) is ≡ true
+pub below-grows : (ls more : List Word) (is : List ℕ) → list_all (λ k. nat_lt k (length ls)) is ≡ true
     → list_all (λ k. nat_lt k (length (ls ++ more))) is ≡ true
 below-grows ls more [] e = refl
 below-grows ls more (i ∷ is) e =

@@ -1,7 +1,7 @@
 use Rattle.std.proofs.Common.{◌≡◌, ◌++◌, length}
 use Rattle.text_lines.specs.Text.{words_of}
 use Rattle.job_words.specs.Views.{lent}
-use Rattle.job_reader.proofs.grow.words_in.Given as goal
+use Rattle.job_reader.proofs.outer.words_in.Given as goal
 
 abbrev pub invariant-loop-word : goal.invariant-loop-word
 invariant-loop-word l = lent l.words.items ++ words_of l.rest ≡ words_of l.line
