@@ -8,7 +8,7 @@ use Rattle.std.proofs.lemmas.Grind.{common_steps}
 use Rattle.text_lines.specs.Number.{fits_i64}
 use Rattle.text_lines.specs.Text.{lines_of, words_of, is_skipped, bad_byte_line}
 use Rattle.text_lines.specs.declared.refusal.Code.{Code}
-use Rattle.text_lines.specs.declared.refusal.Code.TheVariants.{TooLong, BadHeader, Twice, TooMany, BadLength}
+use Rattle.text_lines.specs.declared.refusal.Code.TheVariants.{TooLong, Twice, TooMany, BadLength}
 use Rattle.text_lines.specs.declared.refusal.Refusal.{Refusal}
 use Rattle.task_lang.specs.Names.{is_free, is_among, are_names}
 use Rattle.task_lang.specs.Rules.{is_array}

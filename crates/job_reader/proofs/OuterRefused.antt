@@ -1,7 +1,7 @@
 -- What is refused of the words of an array.
 use Rattle.std.specs.Prelude.{Vec}
 use Rattle.std.specs.declared.alloc.Global.{Global}
-use Rattle.std.proofs.Common.{◌≡◌, ℤ, ◌∷◌, List, Result, Ok, Err}
+use Rattle.std.proofs.Common.{◌≡◌, ℤ, List, Result, Ok, Err}
 use Rattle.text_lines.specs.declared.refusal.Code.{Code}
 use Rattle.text_lines.specs.Reading.{◌>>=◌}
 use Rattle.job_words.specs.Faults.{both, made}

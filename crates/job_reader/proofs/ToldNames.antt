@@ -1,41 +1,5 @@
 -- The bodies of a text that is read are those that its lines declare.
-use Rattle.std.proofs.Common.{
-  ◌≡◌,
-  ◌⊎◌,
-  inl,
-  inr,
-  ℕ,
-  ◌+◌,
-  ◌<◌,
-  ◌≤◌,
-  Bool,
-  true,
-  false,
-  ◌&&◌,
-  List,
-  [],
-  ◌∷◌,
-  ◌++◌,
-  length,
-  map,
-  Option,
-  Some,
-  None,
-  Result,
-  Ok,
-  Err,
-  refl,
-  sym,
-  ap,
-  subst,
-  ◌∙◌,
-  arith,
-  codes,
-  append-nil,
-  append_assoc,
-  length-append,
-  nat_eq,
-}
+use Rattle.std.proofs.Common.{◌≡◌, inl, inr, ℕ, ◌+◌, ◌<◌, ◌≤◌, Bool, true, false, List, [], ◌∷◌, ◌++◌, length, Option, Some, None, Result, Ok, Err, refl, sym, ap, subst, ◌∙◌, arith, append-nil, append_assoc, length-append, nat_eq}
 use Rattle.std.specs.Prelude.{if◌then◌else◌, nat_le, nat_lt, ◌||◌, not}
 use Rattle.job_reader.specs.Reading.{are_apart}
 use Rattle.job_reader.proofs.BodyHeads.{head-parts}
@@ -49,7 +13,7 @@ use Rattle.text_lines.specs.Text.{words_of, is_skipped}
 use Rattle.task_lang.specs.Names.{is_among}
 use Rattle.task_lang.specs.Open.{Frame, step_of}
 use Rattle.task_lang.specs.Tree.{Block}
-use Rattle.job_words.specs.Words.{Word, Words, named}
+use Rattle.job_words.specs.Words.{Word, Words}
 use Rattle.superstep_memory.specs.declared.arrays.Kind.TheVariants.{Set, Add}
 use Rattle.job_words.specs.declared.lines.Keyword.{Keyword}
 use Rattle.job_words.specs.declared.lines.Keyword.TheVariants.{Let, Put, Print, Spawn, Sync, Stop, If, Else, While, End}

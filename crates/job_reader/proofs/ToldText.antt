@@ -1,43 +1,5 @@
 -- A text that is read is the text of its job.
-use Rattle.std.proofs.Common.{
-  ◌≡◌,
-  ◌⊎◌,
-  inl,
-  inr,
-  ℕ,
-  ◌+◌,
-  ◌<◌,
-  ◌≤◌,
-  Bool,
-  true,
-  false,
-  ◌&&◌,
-  List,
-  [],
-  ◌∷◌,
-  ◌++◌,
-  length,
-  map,
-  take,
-  take_all,
-  Option,
-  Some,
-  None,
-  Result,
-  Ok,
-  Err,
-  refl,
-  sym,
-  ap,
-  subst,
-  ◌∙◌,
-  arith,
-  codes,
-  append-nil,
-  append_assoc,
-  length-append,
-  nat_eq,
-}
+use Rattle.std.proofs.Common.{◌≡◌, ◌⊎◌, inl, inr, ℕ, ◌+◌, Bool, true, false, List, [], ◌∷◌, ◌++◌, length, Option, Some, None, Result, Ok, Err, refl, sym, ap, subst, ◌∙◌, append-nil, append_assoc}
 use Rattle.std.specs.Prelude.{if◌then◌else◌, nat_le}
 use Rattle.text_lines.specs.declared.refusal.Code.{Code}
 use Rattle.text_lines.specs.declared.refusal.Code.TheVariants.{Twice, TooMany}
@@ -54,41 +16,7 @@ use Rattle.job_reader.specs.declared.outer.Outer.TheVariants as outer
 use Rattle.job_reader.specs.Trees.{JobTree, array_names}
 use Rattle.job_reader.specs.Above.{Inside, Above, statements_behind}
 use Rattle.job_reader.specs.Grammar.{kept}
-use Rattle.job_reader.specs.Reading.{
-  ◌>>=◌,
-  at,
-  refused,
-  outer_of,
-  name_if_body,
-  declared_by,
-  declared,
-  body_of,
-  with_array,
-  new_body,
-  with_start,
-  array_of,
-  start_of,
-  array_line,
-  body_line,
-  start_line,
-  outer_line,
-  mentioning,
-  said,
-  within_limits,
-  behind,
-  with_line,
-  inner_line,
-  any_line,
-  is_missing,
-  first_missing,
-  line_step,
-  kept_step,
-  finished,
-  read_lines,
-  read_from,
-  unless_bad,
-  job_in,
-}
+use Rattle.job_reader.specs.Reading.{at, outer_of, with_array, with_start, array_of, start_of, array_line, body_line, start_line, outer_line, mentioning, said, behind, with_line, any_line, is_missing, first_missing, line_step, kept_step, finished, read_lines}
 use Rattle.job_reader.proofs.ItemLemmas.{Told}
 use Rattle.job_reader.proofs.ToldInside.{Tells, inner-told}
 use Rattle.job_reader.proofs.ToldOuter.{bind-ok, two-tests, one-test, outer-told}

@@ -1,40 +1,8 @@
 -- A text that is read is the text of its job.
-use Rattle.std.proofs.Common.{
-  ◌⊎◌,
-  inl,
-  inr,
-  ◌≡◌,
-  ℕ,
-  ◌+◌,
-  ◌≤◌,
-  Bool,
-  true,
-  false,
-  ◌&&◌,
-  List,
-  [],
-  ◌∷◌,
-  ◌++◌,
-  length,
-  take,
-  take_all,
-  Option,
-  Some,
-  None,
-  Result,
-  Ok,
-  Err,
-  refl,
-  sym,
-  ap,
-  subst,
-  ◌∙◌,
-  arith,
-  codes,
-}
+use Rattle.std.proofs.Common.{◌⊎◌, inl, inr, ◌≡◌, ℕ, ◌+◌, Bool, true, false, List, [], ◌∷◌, length, take, take_all, Option, Some, None, Result, Ok, Err, refl, sym, ap, subst, ◌∙◌, arith}
 use Rattle.std.specs.Prelude.{if◌then◌else◌, nat_lt}
 use Rattle.std.specs.List.{cons_option}
-use Rattle.text_lines.specs.declared.refusal.Code.TheVariants.{TooLong, BadHeader}
+use Rattle.text_lines.specs.declared.refusal.Code.TheVariants.{TooLong}
 use Rattle.text_lines.specs.declared.refusal.Refusal.{Refusal}
 use Rattle.text_lines.specs.Text.{lines_of, words_of, is_skipped, bad_byte_line}
 use Rattle.job_words.specs.Words.{Word, Words}

@@ -1,59 +1,12 @@
 -- What a text says as a job, or its first refusal (own).
-use Rattle.std.specs.Prelude.{
-  ◌==◌,
-  ℕ,
-  ◌+◌,
-  ◌-◌,
-  Bool,
-  true,
-  false,
-  not,
-  ◌&&◌,
-  ◌||◌,
-  nat_le,
-  nat_lt,
-  if◌then◌else◌,
-  List,
-  [],
-  ◌∷◌,
-  ◌++◌,
-  length,
-  map,
-  take,
-  replicate,
-  codes,
-  Option,
-  Some,
-  None,
-  is_some,
-  Result,
-  Ok,
-  Err,
-  ℤ,
-  pos,
-  negsuc,
-  Vec,
-}
+use Rattle.std.specs.Prelude.{◌==◌, ℕ, ◌+◌, ◌-◌, Bool, true, false, not, ◌&&◌, ◌||◌, nat_le, nat_lt, if◌then◌else◌, List, [], ◌∷◌, ◌++◌, length, take, replicate, codes, Option, Some, None, Result, Ok, Err, ℤ, pos, negsuc, Vec}
 use Rattle.std.specs.Borrow.{Bor}
 use Rattle.std.specs.declared.alloc.Global.{Global}
 use Rattle.std.specs.List.{filter_map, list_all, list_any}
 use Rattle.std.specs.Str.{bytes_eq}
 pub use Rattle.text_lines.specs.Reading.{◌>>=◌, refused, at, unless_bad}
 use Rattle.text_lines.specs.declared.refusal.Code.{Code}
-use Rattle.text_lines.specs.declared.refusal.Code.TheVariants.{
-  TooLong,
-  BadByte,
-  BadHeader,
-  UnknownLine,
-  BadLine,
-  Twice,
-  UnknownName,
-  Unclosed,
-  TooMany,
-  BadLength,
-  BadName,
-  Reserved,
-}
+use Rattle.text_lines.specs.declared.refusal.Code.TheVariants.{TooLong, BadHeader, UnknownLine, BadLine, Twice, UnknownName, Unclosed, TooMany, BadLength, BadName, Reserved}
 use Rattle.text_lines.specs.declared.refusal.Refusal.{Refusal}
 use Rattle.text_lines.specs.Text.{lines_of, words_of, is_skipped, bad_byte_line}
 use Rattle.job_words.specs.Faults.{both, made}

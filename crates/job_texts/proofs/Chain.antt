@@ -66,18 +66,18 @@ module _ (bodies : List Word) (l : List ℕ) (ls : List (List ℕ)) (n : ℕ) (j
       ∙ ap (λ (r : Result Above Code). at n r >>= λ b. read_lines bodies (n + 1) b ls) (step-passes bodies n (words_of l) p h.0 h.1)
       ∙ rest h.0 h.2
 
-  header-line : (rest : List Words) (b : Bool) → is_skipped (words_of l) ≡ b → (if b then kept ls else words_of l ∷ kept ls) ≡ header_words ∷ rest
-      → (kept ls ≡ header_words ∷ rest → read_from bodies (n + 1) ls ≡ Ok j)
-      → ((m : ℕ) (behind : List (List ℕ)) → kept behind ≡ rest → read_lines bodies m nothing behind ≡ Ok j)
+  header-line : (format : ℕ) (rest : List Words) (b : Bool) → is_format format ≡ true → is_skipped (words_of l) ≡ b
+      → (if b then kept ls else words_of l ∷ kept ls) ≡ header_words format ∷ rest
+      → (kept ls ≡ header_words format ∷ rest → read_from bodies (n + 1) ls ≡ Ok j)
+      → ((m : ℕ) (behind : List (List ℕ)) → kept behind ≡ rest → read_lines bodies m (nothing format) behind ≡ Ok j)
       → read_from bodies n (l ∷ ls) ≡ Ok j
-  header-line rest true s e later h =
-      ap (λ (b : Bool). if b then read_from bodies (n + 1) ls else if is_header (words_of l) then read_lines bodies (n + 1) nothing ls else refused n BadHeader) s
-      ∙ later e
-  header-line rest false s e later h =
-      let first : words_of l ≡ header_words = ap head_of e in
+  header-line format rest true is s e later h =
+      ap (λ (b : Bool). if b then read_from bodies (n + 1) ls else read_behind bodies n (format_of (words_of l)) ls) s ∙ later e
+  header-line format rest false is s e later h =
+      let first : words_of l ≡ header_words format = ap head_of e in
       let others : kept ls ≡ rest = ap tail_of e in
-      ap (λ (b : Bool). if b then read_from bodies (n + 1) ls else if is_header (words_of l) then read_lines bodies (n + 1) nothing ls else refused n BadHeader) s
-      ∙ ap (λ (w : Words). if is_header w then read_lines bodies (n + 1) nothing ls else refused n BadHeader) first
+      ap (λ (b : Bool). if b then read_from bodies (n + 1) ls else read_behind bodies n (format_of (words_of l)) ls) s
+      ∙ ap (λ (o : Option ℕ). read_behind bodies n o ls) (ap format_of first ∙ format-written format is)
       ∙ h (n + 1) ls others
 
 -- lines that are read one behind the other are the lines of a text, where others are skipped
@@ -87,9 +87,10 @@ lines-read bodies [] n p q j h e = end-passes n p q j h e
 lines-read bodies (l ∷ ls) n p q j h e = line-read bodies l ls n j p q (is_skipped (words_of l)) refl h (λ r k. lines-read bodies ls (n + 1) r q j k e)
 
 -- behind the first line that isn't skipped, which is the header
-pub header-read : (bodies : List Word) (ls : List (List ℕ)) (n : ℕ) (rest : List Words) (j : JobTree) → kept ls ≡ header_words ∷ rest
-    → ((m : ℕ) (behind : List (List ℕ)) → kept behind ≡ rest → read_lines bodies m nothing behind ≡ Ok j)
+pub header-read : (bodies : List Word) (format : ℕ) (ls : List (List ℕ)) (n : ℕ) (rest : List Words) (j : JobTree) → is_format format ≡ true
+    → kept ls ≡ header_words format ∷ rest
+    → ((m : ℕ) (behind : List (List ℕ)) → kept behind ≡ rest → read_lines bodies m (nothing format) behind ≡ Ok j)
     → read_from bodies n ls ≡ Ok j
-header-read bodies [] n rest j e h = absurd cc
-header-read bodies (l ∷ ls) n rest j e h =
-    header-line bodies l ls n j rest (is_skipped (words_of l)) refl e (λ k. header-read bodies ls (n + 1) rest j k h) h
+header-read bodies format [] n rest j is e h = absurd cc
+header-read bodies format (l ∷ ls) n rest j is e h =
+    header-line bodies l ls n j format rest (is_skipped (words_of l)) is refl e (λ k. header-read bodies format ls (n + 1) rest j is k h) h

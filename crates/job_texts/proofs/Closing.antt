@@ -1,6 +1,6 @@
 -- Lines that are read, and the ends of what is open behind them, are a job's.
 use Rattle.std.proofs.Common.{◌≡◌, inl, inr, ℕ, suc, ◌+◌, ◌-◌, ◌≤◌, Bool, true, false, List, [], ◌∷◌, ◌++◌, length, replicate, codes, Option, Some, None, Result, Ok, Err, refl, sym, ap, subst, ◌∙◌, arith}
-use Rattle.std.specs.Prelude.{if◌then◌else◌, nat_le, ℤ}
+use Rattle.std.specs.Prelude.{if◌then◌else◌, nat_le, nat_lt, ◌||◌, not, ℤ}
 use Rattle.std.proofs.lemmas.Grind.{common_steps}
 use Rattle.text_lines.specs.declared.refusal.Code.{Code}
 use Rattle.text_lines.specs.declared.refusal.Code.TheVariants.{Twice, TooMany, BadHeader}
@@ -12,15 +12,17 @@ use Rattle.task_lang.specs.declared.code.Line.{Line}
 use Rattle.task_lang.specs.declared.code.Line.TheVariants as line
 use Rattle.job_words.specs.Faults.{made}
 use Rattle.job_words.specs.Words.{Word, Words}
-use Rattle.job_words.specs.Lines.{keyword_of, line_behind, mentions_behind}
+use Rattle.job_words.specs.Lines.{keyword_of, known_in, line_behind, mentions_behind}
+use Rattle.job_words.specs.declared.lines.Keyword.{Keyword}
 use Rattle.job_words.proofs.SaidLemmas.{made-ok}
 use Rattle.job_reader.specs.declared.outer.Outer.{Outer}
 use Rattle.job_reader.specs.declared.outer.Outer.TheVariants as outer
 use Rattle.job_reader.specs.Above.{nothing, statements_behind}
-use Rattle.job_reader.specs.Reading.{◌>>=◌, is_header, outer_of, array_of, body_of, start_of, is_over}
+use Rattle.job_reader.specs.Reading.{◌>>=◌, format_of, outer_of, array_of, body_of, are_apart, start_of, is_over}
 use Rattle.job_reader.proofs.ToldOuter.{bind-ok}
+use Rattle.job_reader.proofs.LocalsBehind.{behind-none}
 use Rattle.job_texts.proofs.Seen.{Kind, AnIf, AnElse, AWhile, SeenBody, Seen, seen, see_array, see_body, see_start, see_outer, see_step, see_else, see_behind, see_said, see_mentioning, see_any, see}
-use Rattle.job_texts.proofs.Folds.{see_words, see_lines, skip-ok}
+use Rattle.job_texts.proofs.Folds.{see_first, see_words, see_lines, skip-ok}
 
 -- an open body is within its limits
 abbrev pub IsWithin : Option SeenBody → Type 0
@@ -74,28 +76,44 @@ said-within v o l w e =
 
 -- what lines outside bodies leave behind
 abbrev pub after_array : Seen → Word × List ℤ → Seen
-after_array v x = record { arrays = v.arrays ++ x.0 ∷ []; bodies = v.bodies; starts = v.starts; inside = None }
+after_array v x = record { format = v.format; arrays = v.arrays ++ x.0 ∷ []; bodies = v.bodies; starts = v.starts; inside = None }
 
-abbrev pub begun_body : Word → SeenBody
-begun_body name = record { name = name; locals = []; open_lines = []; statements = 0 }
+abbrev pub begun_body : Word × List Word → SeenBody
+begun_body head = record { name = head.0; locals = head.1; open_lines = []; statements = 0 }
 
-abbrev pub after_body : Seen → Word → Seen
-after_body v name = record { arrays = v.arrays; bodies = v.bodies; starts = v.starts; inside = Some (begun_body name) }
+abbrev pub after_body : Seen → Word × List Word → Seen
+after_body v head = record { format = v.format; arrays = v.arrays; bodies = v.bodies; starts = v.starts; inside = Some (begun_body head) }
 
 abbrev pub after_start : Seen → Seen
-after_start v = record { arrays = v.arrays; bodies = v.bodies; starts = v.starts + 1; inside = None }
+after_start v = record { format = v.format; arrays = v.arrays; bodies = v.bodies; starts = v.starts + 1; inside = None }
 
 pub array-after : (v : Seen) (x : Word × List ℤ) (w : Seen) → see_array v x ≡ Ok w → after_array v x ≡ w
 array-after v x w e = if-both (is_among v.arrays x.0) (nat_le 16 (length v.arrays)) Twice TooMany (after_array v x) w e
 
-pub body-after : (v : Seen) (name : Word) (w : Seen) → see_body v name ≡ Ok w → after_body v name ≡ w
-body-after v name w e = if-both (is_among v.bodies name) (nat_le 64 (length v.bodies)) Twice TooMany (after_body v name) w e
+pub body-after : (v : Seen) (head : Word × List Word) (w : Seen) → see_body v head ≡ Ok w → after_body v head ≡ w
+body-after v head w e =
+    if-both (is_among v.bodies head.0 || not (are_apart head.1)) (nat_le 64 (length v.bodies) || nat_lt 32 (length head.1)) Twice TooMany (after_body v head) w e
+
+-- a body that is begun lists few locals
+few-listed : (a b c : Bool) (x y : Seen) → ◌≡◌ {A = Result Seen Code} (if a then Err Twice else if b || c then Err TooMany else Ok x) (Ok y) → c ≡ false
+few-listed true b c x y e = absurd cc
+few-listed false true c x y e = absurd cc
+few-listed false false true x y e = absurd cc
+few-listed false false false x y e = refl
+
+at-most : (a b : ℕ) → nat_lt b a ≡ false → a ≤ b
+at-most a b e = grind (arith, common_steps)
+
+listed-few : (v : Seen) (head : Word × List Word) (w : Seen) → see_body v head ≡ Ok w → length head.1 ≤ 32
+listed-few v head w e =
+    at-most (length head.1) 32
+    (few-listed (is_among v.bodies head.0 || not (are_apart head.1)) (nat_le 64 (length v.bodies)) (nat_lt 32 (length head.1)) (after_body v head) w e)
 
 pub start-after : (v : Seen) (s : Start) (w : Seen) → see_start v s ≡ Ok w → after_start v ≡ w
 start-after v s w e = (if-ok (nat_le 4096 v.starts) TooMany (after_start v) w e).1
 
-pub begun-within : (name : Word) → IsWithin (Some (begun_body name))
-begun-within name = (omega arith, omega arith, omega arith)
+pub begun-within : (head : Word × List Word) → length head.1 ≤ 32 → IsWithin (Some (begun_body head))
+begun-within head few = (omega arith, few, omega arith)
 
 outer-within : (v : Seen) (k : Option Outer) (ws : Words) (w : Seen) → see_outer v k ws ≡ Ok w → IsWithin w.inside
 outer-within v None ws w e = absurd cc
@@ -103,8 +121,8 @@ outer-within v (Some outer.Array) ws w e =
     let b = bind-ok (array_of ws) (see_array v) w e in
     subst (λ (x : Seen). IsWithin x.inside) {x = after_array v b.0} (array-after v b.0 w b.2) tt
 outer-within v (Some outer.Body) ws w e =
-    let b = bind-ok (body_of ws) (see_body v) w e in
-    subst (λ (x : Seen). IsWithin x.inside) {x = after_body v b.0} (body-after v b.0 w b.2) (begun-within b.0)
+    let b = bind-ok (body_of v.format ws) (see_body v) w e in
+    subst (λ (x : Seen). IsWithin x.inside) {x = after_body v b.0} (body-after v b.0 w b.2) (begun-within b.0 (listed-few v b.0 w b.2))
 outer-within v (Some outer.Start) ws w e =
     let b = bind-ok (start_of [] ws) (see_start v) w e in
     subst (λ (x : Seen). IsWithin x.inside) {x = after_start v} (start-after v b.0 w b.2) tt
@@ -126,14 +144,14 @@ see-within v ws w h e =
       | inr x ↦ any-within v v.inside ws w x
     ]
 
-header-within : (b c : Bool) (q : Option Seen)
-    → ◌≡◌ {A = Result (Option Seen) Code} (if b then Ok None else if c then Ok (Some (seen nothing)) else Err BadHeader) (Ok q) → IsWithinAll q
-header-within true c q e = let same : None ≡ q = cc in subst IsWithinAll same tt
-header-within false true q e = let same : Some (seen nothing) ≡ q = cc in subst IsWithinAll same tt
-header-within false false q e = absurd cc
+header-within : (b : Bool) (o : Option ℕ) (q : Option Seen)
+    → ◌≡◌ {A = Result (Option Seen) Code} (if b then Ok None else see_first o) (Ok q) → IsWithinAll q
+header-within true o q e = let same : None ≡ q = cc in subst IsWithinAll same tt
+header-within false (Some format) q e = let same : Some (seen (nothing format)) ≡ q = cc in subst IsWithinAll same tt
+header-within false None q e = absurd cc
 
 words-within : (p q : Option Seen) (ws : Words) → IsWithinAll p → see_words p ws ≡ Ok q → IsWithinAll q
-words-within None q ws h e = header-within (is_skipped ws) (is_header ws) q e
+words-within None q ws h e = header-within (is_skipped ws) (format_of ws) q e
 words-within (Some v) q ws h e =
     let m = made-ok (λ (w : Seen). Some w) (see v ws) q e in subst IsWithinAll m.2 (see-within v ws m.0 h m.1)
 
@@ -152,35 +170,38 @@ pub end-read : (v : Seen) (o : SeenBody) → IsWithin (Some o)
 unfolding keyword_of line_behind mentions_behind
 end-read v o h =
     let few : length o.open_lines - 1 ≤ 16 = omega (arith, h.2) in
-    ap (λ (b : Bool). if b then Err TooMany else Ok (see_behind v o o.statements (see_step line.EndIf o.open_lines)))
+    let end : Line = line.EndIf in
+    ap (λ (ls : List Word). see_said v (record { name = o.name; locals = ls; open_lines = o.open_lines; statements = o.statements }) end) (behind-none v.format o.locals)
+    ∙ ap (λ (b : Bool). if b then Err TooMany else Ok (see_behind v o o.statements (see_step line.EndIf o.open_lines)))
     (still-not-over o.statements (length o.locals) (length o.open_lines - 1) h.0 h.1 few)
 
 -- a body is closed by an end for each open line, and one more
 abbrev pub IsClosed : Result (Option Seen) Code → Type 0
 IsClosed r = (w : Seen) × (r ≡ Ok (Some w)) × (w.inside ≡ None)
 
-ends-read : (ks : List Kind) (arrays bodies : List Word) (starts : ℕ) (name : Word) (locals : List Word) (n : ℕ)
+ends-read : (ks : List Kind) (format : ℕ) (arrays bodies : List Word) (starts : ℕ) (name : Word) (locals : List Word) (n : ℕ)
     → n ≤ 1024 → length locals ≤ 32 → length ks ≤ 16
     → IsClosed (see_lines
     (Some (record {
+      format = format;
       arrays = arrays;
       bodies = bodies;
       starts = starts;
       inside = Some (record { name = name; locals = locals; open_lines = ks; statements = n });
     }))
     (replicate (suc (length ks)) end_line))
-ends-read [] arrays bodies starts name locals n a b c =
+ends-read [] format arrays bodies starts name locals n a b c =
     let o : SeenBody = record { name = name; locals = locals; open_lines = []; statements = n } in
-    let v : Seen = record { arrays = arrays; bodies = bodies; starts = starts; inside = Some o } in (
-      record { arrays = arrays; bodies = bodies ++ name ∷ []; starts = starts; inside = None },
+    let v : Seen = record { format = format; arrays = arrays; bodies = bodies; starts = starts; inside = Some o } in (
+      record { format = format; arrays = arrays; bodies = bodies ++ name ∷ []; starts = starts; inside = None },
       ap (λ (r : Result Seen Code). made (λ w. Some w) r >>= λ w. see_lines w []) (end-read v o (a, b, c)),
       refl,
     )
-ends-read (k ∷ ks) arrays bodies starts name locals n a b c =
+ends-read (k ∷ ks) format arrays bodies starts name locals n a b c =
     let o : SeenBody = record { name = name; locals = locals; open_lines = k ∷ ks; statements = n } in
-    let v : Seen = record { arrays = arrays; bodies = bodies; starts = starts; inside = Some o } in
+    let v : Seen = record { format = format; arrays = arrays; bodies = bodies; starts = starts; inside = Some o } in
     let few : length ks ≤ 16 = omega (arith, c) in
-    let rest = ends-read ks arrays bodies starts name locals n a b few in (
+    let rest = ends-read ks format arrays bodies starts name locals n a b few in (
       rest.0,
       ap (λ (r : Result Seen Code). made (λ w. Some w) r >>= λ w. see_lines w (replicate (suc (length ks)) end_line)) (end-read v o (a, b, c))
           ∙ rest.1,
@@ -196,10 +217,10 @@ pub ends-few : (i : Option SeenBody) → IsWithin i → ends i ≤ 17
 ends-few None h = omega arith
 ends-few (Some o) h = omega (arith, h.2)
 
-closed-by : (arrays bodies : List Word) (starts : ℕ) (i : Option SeenBody) → IsWithin i
-    → IsClosed (see_lines (Some (record { arrays = arrays; bodies = bodies; starts = starts; inside = i })) (replicate (ends i) end_line))
-closed-by arrays bodies starts None h = (record { arrays = arrays; bodies = bodies; starts = starts; inside = None }, refl, refl)
-closed-by arrays bodies starts (Some o) h = ends-read o.open_lines arrays bodies starts o.name o.locals o.statements h.0 h.1 h.2
+closed-by : (format : ℕ) (arrays bodies : List Word) (starts : ℕ) (i : Option SeenBody) → IsWithin i
+    → IsClosed (see_lines (Some (record { format = format; arrays = arrays; bodies = bodies; starts = starts; inside = i })) (replicate (ends i) end_line))
+closed-by format arrays bodies starts None h = (record { format = format; arrays = arrays; bodies = bodies; starts = starts; inside = None }, refl, refl)
+closed-by format arrays bodies starts (Some o) h = ends-read o.open_lines format arrays bodies starts o.name o.locals o.statements h.0 h.1 h.2
 
 pub lines-append : (ls more : List (List ℕ)) (p q : Option Seen) → see_lines p ls ≡ Ok q → see_lines p (ls ++ more) ≡ see_lines q more
 lines-append [] more p q e = let same : p ≡ q = cc in ap (λ (x : Option Seen). see_lines x more) same
@@ -209,5 +230,5 @@ lines-append (l ∷ ls) more p q e =
 
 pub closes : (ls : List (List ℕ)) (v : Seen) → see_lines None ls ≡ Ok (Some v) → IsClosed (see_lines None (ls ++ replicate (ends v.inside) end_line))
 closes ls v e =
-    let c = closed-by v.arrays v.bodies v.starts v.inside (lines-within ls None (Some v) tt e) in
+    let c = closed-by v.format v.arrays v.bodies v.starts v.inside (lines-within ls None (Some v) tt e) in
     (c.0, lines-append ls (replicate (ends v.inside) end_line) None (Some v) e ∙ c.1, c.2)

@@ -14,7 +14,7 @@ use Rattle.job_reader.specs.Above.{Inside, Above}
 use Rattle.job_reader.specs.Reading.{
   ◌>>=◌,
   at,
-  is_header,
+  format_of,
   any_line,
   is_missing,
   first_missing,
@@ -64,7 +64,7 @@ module _ (bodies : List Word) where
 
   step-found : (n : ℕ) (p q : Option Above) (ws : Words) → missing_in p ≡ None → is_missing bodies ws ≡ false → step bodies n p ws ≡ Ok q
       → missing_in q ≡ None
-  step-found n None q ws h f e = header-missing (is_skipped ws) (is_header ws) q e
+  step-found n None q ws h f e = header-missing (is_skipped ws) (format_of ws) q e
   step-found n (Some a) q ws h f e =
       let m = made-ok (λ (b : Above). Some b) (kept_step bodies n a ws) q e in
       ap missing_in (sym m.2) ∙ kept-found n a m.0 ws h f m.1

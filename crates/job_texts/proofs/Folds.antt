@@ -14,7 +14,8 @@ use Rattle.job_reader.specs.Reading.{
   ◌>>=◌,
   at,
   refused,
-  is_header,
+  format_of,
+  read_behind,
   any_line,
   is_missing,
   first_missing,
@@ -29,9 +30,18 @@ use Rattle.job_texts.specs.Refusals.{words_at}
 use Rattle.job_texts.proofs.Seen.{Seen, seen, see}
 use Rattle.job_texts.proofs.SeenLines.{line-seen}
 
+-- the first line, by the format that it says
+abbrev pub first_step : Option ℕ → Result (Option Above) Code
+first_step None = Err BadHeader
+first_step (Some format) = Ok (Some (nothing format))
+
+abbrev pub see_first : Option ℕ → Result (Option Seen) Code
+see_first None = Err BadHeader
+see_first (Some format) = Ok (Some (seen (nothing format)))
+
 -- a line where the header may still be to come
 abbrev pub step : List Word → ℕ → Option Above → Words → Result (Option Above) Code
-step bodies n None ws = if is_skipped ws then Ok None else if is_header ws then Ok (Some nothing) else Err BadHeader
+step bodies n None ws = if is_skipped ws then Ok None else first_step (format_of ws)
 step bodies n (Some a) ws = made (λ b. Some b) (kept_step bodies n a ws)
 
 abbrev pub read : List Word → ℕ → Option Above → List (List ℕ) → Result JobTree Refusal
@@ -42,19 +52,19 @@ abbrev pub glance : Option Above → Option Seen
 glance p = option_map seen p
 
 abbrev pub see_words : Option Seen → Words → Result (Option Seen) Code
-see_words None ws = if is_skipped ws then Ok None else if is_header ws then Ok (Some (seen nothing)) else Err BadHeader
+see_words None ws = if is_skipped ws then Ok None else see_first (format_of ws)
 see_words (Some v) ws = made (λ w. Some w) (see v ws)
 
 abbrev pub see_lines : Option Seen → List (List ℕ) → Result (Option Seen) Code
 see_lines v [] = Ok v
 see_lines v (l ∷ ls) = see_words v (words_of l) >>= λ w. see_lines w ls
 
-header-next : (bodies : List Word) (n : ℕ) (ls : List (List ℕ)) (b c : Bool)
-    → (if b then read_from bodies (n + 1) ls else if c then read_lines bodies (n + 1) nothing ls else refused n BadHeader)
-    ≡ (at n (if b then Ok None else if c then Ok (Some nothing) else Err BadHeader) >>= λ q. read bodies (n + 1) q ls)
-header-next bodies n ls true c = refl
-header-next bodies n ls false true = refl
-header-next bodies n ls false false = refl
+header-next : (bodies : List Word) (n : ℕ) (ls : List (List ℕ)) (b : Bool) (o : Option ℕ)
+    → (if b then read_from bodies (n + 1) ls else read_behind bodies n o ls)
+    ≡ (at n (if b then Ok None else first_step o) >>= λ q. read bodies (n + 1) q ls)
+header-next bodies n ls true o = refl
+header-next bodies n ls false (Some format) = refl
+header-next bodies n ls false None = refl
 
 line-next : (bodies : List Word) (n : ℕ) (ls : List (List ℕ)) (r : Result Above Code)
     → (at n r >>= λ b. read_lines bodies (n + 1) b ls) ≡ (at n (made (λ b. Some b) r) >>= λ q. read bodies (n + 1) q ls)
@@ -63,22 +73,20 @@ line-next bodies n ls (Err c) = refl
 
 pub read-next : (bodies : List Word) (n : ℕ) (p : Option Above) (l : List ℕ) (ls : List (List ℕ))
     → read bodies n p (l ∷ ls) ≡ (at n (step bodies n p (words_of l)) >>= λ q. read bodies (n + 1) q ls)
-read-next bodies n None l ls = header-next bodies n ls (is_skipped (words_of l)) (is_header (words_of l))
+read-next bodies n None l ls = header-next bodies n ls (is_skipped (words_of l)) (format_of (words_of l))
 read-next bodies n (Some a) l ls = line-next bodies n ls (kept_step bodies n a (words_of l))
 
-header-seen : (b c : Bool)
-    → made glance (if b then Ok None else if c then Ok (Some nothing) else Err BadHeader)
-    ≡ (if b then Ok None else if c then Ok (Some (seen nothing)) else Err BadHeader)
-header-seen true c = refl
-header-seen false true = refl
-header-seen false false = refl
+header-seen : (b : Bool) (o : Option ℕ) → made glance (if b then Ok None else first_step o) ≡ (if b then Ok None else see_first o)
+header-seen true o = refl
+header-seen false (Some format) = refl
+header-seen false None = refl
 
 some-seen : (r : Result Above Code) → made glance (made (λ b. Some b) r) ≡ made (λ w. Some w) (made seen r)
 some-seen (Ok a) = refl
 some-seen (Err c) = refl
 
 pub step-seen : (bodies : List Word) (n : ℕ) (p : Option Above) (ws : Words) → made glance (step bodies n p ws) ≡ see_words (glance p) ws
-step-seen bodies n None ws = header-seen (is_skipped ws) (is_header ws)
+step-seen bodies n None ws = header-seen (is_skipped ws) (format_of ws)
 step-seen bodies n (Some a) ws =
     some-seen (kept_step bodies n a ws) ∙ ap (λ (r : Result Seen Code). made (λ w. Some w) r) (line-seen bodies n a ws)
 
@@ -124,10 +132,10 @@ pub skip-ok : {A : Type 0} (b : Bool) (a x : A) (r : Result A Code) → (if b th
 skip-ok true a x r e = inl cc
 skip-ok false a x r e = inr e
 
-pub header-missing : (b c : Bool) (q : Option Above) → ◌≡◌ {A = Result (Option Above) Code} (if b then Ok None else if c then Ok (Some nothing) else Err BadHeader) (Ok q) → missing_in q ≡ None
-header-missing true c q e = let same : None ≡ q = cc in ap missing_in (sym same)
-header-missing false true q e = let same : Some nothing ≡ q = cc in ap missing_in (sym same)
-header-missing false false q e = absurd cc
+pub header-missing : (b : Bool) (o : Option ℕ) (q : Option Above) → ◌≡◌ {A = Result (Option Above) Code} (if b then Ok None else first_step o) (Ok q) → missing_in q ≡ None
+header-missing true o q e = let same : None ≡ q = cc in ap missing_in (sym same)
+header-missing false (Some format) q e = let same : Some (nothing format) ≡ q = cc in ap missing_in (sym same)
+header-missing false None q e = absurd cc
 
 module _ (bodies : List Word) (all : List (List ℕ)) where
   line-missing : (n : ℕ) (a b : Above) (ws : Words) → AreMissing bodies all (Some a) → words_at all n ≡ ws
@@ -149,7 +157,7 @@ module _ (bodies : List Word) (all : List (List ℕ)) where
   step-missing : (n : ℕ) (p q : Option Above) (ws : Words) → AreMissing bodies all p → words_at all n ≡ ws
       → step bodies n p ws ≡ Ok q → AreMissing bodies all q
   step-missing n None q ws h w e =
-      let none : missing_in q ≡ None = header-missing (is_skipped ws) (is_header ws) q e in
+      let none : missing_in q ≡ None = header-missing (is_skipped ws) (format_of ws) q e in
       λ k t. let no : ◌≡◌ {A = Option ℕ} None (Some k) = sym none ∙ t in absurd cc
   step-missing n (Some a) q ws h w e =
       let m = made-ok (λ (b : Above). Some b) (kept_step bodies n a ws) q e in

@@ -1,6 +1,6 @@
 -- What of the lines above a line its fault depends on: all but the numbers of bodies.
 use Rattle.std.proofs.Common.{ℕ, ◌+◌, Bool, true, false, List, [], ◌∷◌, ◌++◌, length, map, Option, Some, None, option_map, Result, Ok, Err}
-use Rattle.std.specs.Prelude.{if◌then◌else◌, nat_le, ℤ}
+use Rattle.std.specs.Prelude.{if◌then◌else◌, nat_le, nat_lt, ◌||◌, not, ℤ}
 use Rattle.text_lines.specs.declared.refusal.Code.{Code}
 use Rattle.text_lines.specs.declared.refusal.Code.TheVariants.{UnknownLine, Twice, TooMany}
 use Rattle.text_lines.specs.Text.{is_skipped}
@@ -10,14 +10,15 @@ use Rattle.task_lang.specs.Open.{Frame, InIf, InElse, InWhile}
 use Rattle.task_lang.specs.declared.code.Line.{Line}
 use Rattle.task_lang.specs.declared.code.Line.TheVariants as line
 use Rattle.task_lang.specs.declared.job.Start.{Start}
-use Rattle.job_words.specs.Words.{Word, Words, noted}
+use Rattle.job_words.specs.Words.{Word, Words}
 use Rattle.job_words.specs.declared.lines.Keyword.{Keyword}
-use Rattle.job_words.specs.Lines.{keyword_of, line_behind, mentions_behind}
+use Rattle.job_words.specs.Lines.{keyword_of, known_in, line_behind, mentions_behind}
 use Rattle.job_reader.specs.declared.outer.Outer.{Outer}
 use Rattle.job_reader.specs.declared.outer.Outer.TheVariants as outer
 use Rattle.job_reader.specs.Trees.{JobTree, array_names, body_names}
 use Rattle.job_reader.specs.Above.{Inside, Above, statements_behind}
-use Rattle.job_reader.specs.Reading.{◌>>=◌, outer_of, array_of, body_of, start_of, is_over}
+use Rattle.job_reader.specs.Reading.{◌>>=◌, outer_of, array_of, body_of, are_apart, start_of, is_over}
+use Rattle.job_reader.specs.Grammar.{locals_behind}
 
 -- an open line
 pub data Kind : Type 0 where
@@ -40,8 +41,9 @@ pub record SeenBody : Type 0 where
   pub open_lines : List Kind
   pub statements : ℕ
 
--- the names of the arrays and of the bodies so far, how many start lines there are, and the open body
+-- the format, the names of the arrays and of the bodies so far, how many start lines there are, and the open body
 pub record Seen : Type 0 where
+  pub format : ℕ
   pub arrays : List Word
   pub bodies : List Word
   pub starts : ℕ
@@ -52,7 +54,7 @@ seen_body o = record { name = o.name; locals = o.locals; open_lines = kinds o.fr
 
 abbrev pub seen_of : JobTree × Option Inside → Seen
 seen_of p =
-    record { arrays = array_names p.0; bodies = body_names p.0; starts = length p.0.starts; inside = option_map seen_body p.1 }
+    record { format = p.0.format; arrays = array_names p.0; bodies = body_names p.0; starts = length p.0.starts; inside = option_map seen_body p.1 }
 
 abbrev pub seen : Above → Seen
 seen a = seen_of (a.job, a.inside)
@@ -62,27 +64,28 @@ abbrev pub see_array : Seen → Word × List ℤ → Result Seen Code
 see_array v x =
     if is_among v.arrays x.0 then Err Twice
     else if nat_le 16 (length v.arrays) then Err TooMany
-    else Ok (record { arrays = v.arrays ++ x.0 ∷ []; bodies = v.bodies; starts = v.starts; inside = None })
+    else Ok (record { format = v.format; arrays = v.arrays ++ x.0 ∷ []; bodies = v.bodies; starts = v.starts; inside = None })
 
-abbrev pub see_body : Seen → Word → Result Seen Code
-see_body v name =
-    if is_among v.bodies name then Err Twice
-    else if nat_le 64 (length v.bodies) then Err TooMany
+abbrev pub see_body : Seen → Word × List Word → Result Seen Code
+see_body v head =
+    if is_among v.bodies head.0 || not (are_apart head.1) then Err Twice
+    else if nat_le 64 (length v.bodies) || nat_lt 32 (length head.1) then Err TooMany
     else Ok (record {
+      format = v.format;
       arrays = v.arrays;
       bodies = v.bodies;
       starts = v.starts;
-      inside = Some (record { name = name; locals = []; open_lines = []; statements = 0 });
+      inside = Some (record { name = head.0; locals = head.1; open_lines = []; statements = 0 });
     })
 
 abbrev pub see_start : Seen → Start → Result Seen Code
 see_start v s =
-    if nat_le 4096 v.starts then Err TooMany else Ok (record { arrays = v.arrays; bodies = v.bodies; starts = v.starts + 1; inside = None })
+    if nat_le 4096 v.starts then Err TooMany else Ok (record { format = v.format; arrays = v.arrays; bodies = v.bodies; starts = v.starts + 1; inside = None })
 
 abbrev pub see_outer : Seen → Option Outer → Words → Result Seen Code
 see_outer v None ws = Err UnknownLine
 see_outer v (Some outer.Array) ws = array_of ws >>= see_array v
-see_outer v (Some outer.Body) ws = body_of ws >>= see_body v
+see_outer v (Some outer.Body) ws = body_of v.format ws >>= see_body v
 see_outer v (Some outer.Start) ws = start_of [] ws >>= see_start v
 
 -- what a line makes of the open lines: nothing where it ends the body
@@ -106,9 +109,10 @@ see_else (AnElse ∷ ks) = false
 see_else (AWhile ∷ ks) = false
 
 abbrev pub see_behind : Seen → SeenBody → ℕ → Option (List Kind) → Seen
-see_behind v o n None = record { arrays = v.arrays; bodies = v.bodies ++ o.name ∷ []; starts = v.starts; inside = None }
+see_behind v o n None = record { format = v.format; arrays = v.arrays; bodies = v.bodies ++ o.name ∷ []; starts = v.starts; inside = None }
 see_behind v o n (Some ks) =
     record {
+      format = v.format;
       arrays = v.arrays;
       bodies = v.bodies;
       starts = v.starts;
@@ -122,15 +126,15 @@ see_said v o l =
 
 abbrev pub see_noted : Seen → SeenBody → Option Keyword → Words → Result Seen Code
 see_noted v o k ws =
-    line_behind (record { arrays = v.arrays; bodies = []; locals = o.locals }) (see_else o.open_lines) k ws >>= see_said v o
+    line_behind (record { format = v.format; arrays = v.arrays; bodies = []; locals = o.locals }) (see_else o.open_lines) k ws >>= see_said v o
 
-abbrev pub see_mentioning : SeenBody → Option Keyword → Words → SeenBody
-see_mentioning o k ws =
-    record { name = o.name; locals = noted o.locals (mentions_behind k ws); open_lines = o.open_lines; statements = o.statements }
+abbrev pub see_mentioning : ℕ → SeenBody → Option Keyword → Words → SeenBody
+see_mentioning format o k ws =
+    record { name = o.name; locals = locals_behind format o.locals (mentions_behind k ws); open_lines = o.open_lines; statements = o.statements }
 
 abbrev pub see_any : Seen → Option SeenBody → Words → Result Seen Code
 see_any v i [] = Err UnknownLine
-see_any v (Some o) (k ∷ ws) = see_noted v (see_mentioning o (keyword_of k) ws) (keyword_of k) ws
+see_any v (Some o) (k ∷ ws) = see_noted v (see_mentioning v.format o (known_in v.format (keyword_of k)) ws) (known_in v.format (keyword_of k)) ws
 see_any v None (k ∷ ws) = see_outer v (outer_of k) ws
 
 -- a line, with no look at the bodies of the text

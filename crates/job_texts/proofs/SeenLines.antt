@@ -1,6 +1,7 @@
 -- A line is read with no look at the bodies of the text.
 use Rattle.std.proofs.Common.{◌≡◌, ℕ, ◌+◌, Bool, true, false, List, [], ◌∷◌, ◌++◌, length, Option, Some, None, option_map, Result, Ok, Err, refl, sym, ap, ◌∙◌, length-append}
-use Rattle.std.specs.Prelude.{if◌then◌else◌, nat_le, ℤ, unwrap_or}
+use Rattle.std.specs.Prelude.{if◌then◌else◌, nat_le, nat_lt, ◌||◌, not, ℤ, unwrap_or}
+use Rattle.superstep_memory.specs.declared.arrays.Kind as put
 use Rattle.std.proofs.lemmas.List.{map-append, length-map}
 use Rattle.text_lines.specs.declared.refusal.Code.{Code}
 use Rattle.text_lines.specs.declared.refusal.Code.TheVariants.{Twice, TooMany}
@@ -19,7 +20,7 @@ use Rattle.job_words.specs.Words.{Word, Words, named, numbered, place_from, decl
 use Rattle.job_words.specs.Exprs.{Names, expr_of, operand_of, cell_of}
 use Rattle.job_words.specs.declared.lines.Keyword.{Keyword}
 use Rattle.job_words.specs.declared.lines.Keyword.TheVariants as keyword
-use Rattle.job_words.specs.Lines.{keyword_of, line_behind, let_of, put_of, spawn_of, let_line, put_line, spawn_line, is_equals}
+use Rattle.job_words.specs.Lines.{keyword_of, known_in, line_behind, let_of, put_of, spawn_of, let_line, put_line, spawn_line, is_equals}
 use Rattle.job_reader.specs.declared.outer.Outer.{Outer}
 use Rattle.job_reader.specs.declared.outer.Outer.TheVariants as outer
 use Rattle.job_reader.specs.Trees.{BodyTree, JobTree, array_names, body_names}
@@ -29,6 +30,7 @@ use Rattle.job_reader.specs.Reading.{
   outer_of,
   array_of,
   body_of,
+  are_apart,
   start_from,
   start_of,
   with_array,
@@ -89,20 +91,22 @@ array-seen : (j : JobTree) (i : Option Inside) (r : Result (Word × List ℤ) Co
 array-seen j i (Err c) = refl
 array-seen j i (Ok x) =
     two-limits (λ (k : JobTree). (k, None)) (is_among (array_names j) x.0) (nat_le 16 (length (array_names j))) (record j { arrays = j.arrays ++ x ∷ [] })
-    (record { arrays = array_names j ++ x.0 ∷ []; bodies = body_names j; starts = length j.starts; inside = None })
-    (ap (λ (ns : List Word). record { arrays = ns; bodies = body_names j; starts = length j.starts; inside = None })
+    (record { format = j.format; arrays = array_names j ++ x.0 ∷ []; bodies = body_names j; starts = length j.starts; inside = None })
+    (ap (λ (ns : List Word). record { format = j.format; arrays = ns; bodies = body_names j; starts = length j.starts; inside = None })
     (map-append (λ (a : Word × List ℤ). a.0) j.arrays (x ∷ [])))
 
-body-seen : (j : JobTree) (i : Option Inside) (r : Result Word Code)
+body-seen : (j : JobTree) (i : Option Inside) (r : Result (Word × List Word) Code)
     → made seen_of (made (λ o. (j, Some o)) (r >>= new_body j)) ≡ (r >>= see_body (seen_of (j, i)))
 body-seen j i (Err c) = refl
-body-seen j i (Ok name) =
-    two-limits (λ (o : Inside). (j, Some o)) (is_among (body_names j) name) (nat_le 64 (length (body_names j))) (begun name)
+body-seen j i (Ok head) =
+    two-limits (λ (o : Inside). (j, Some o)) (is_among (body_names j) head.0 || not (are_apart head.1))
+    (nat_le 64 (length (body_names j)) || nat_lt 32 (length head.1)) (begun head)
     (record {
+      format = j.format;
       arrays = array_names j;
       bodies = body_names j;
       starts = length j.starts;
-      inside = Some (record { name = name; locals = []; open_lines = []; statements = 0 });
+      inside = Some (record { name = head.0; locals = head.1; open_lines = []; statements = 0 });
     })
     refl
 
@@ -110,8 +114,8 @@ from-seen : (j : JobTree) (i : Option Inside) (s t : Start)
     → made seen_of (made (λ k. (k, None)) (with_start j s)) ≡ see_start (seen_of (j, i)) t
 from-seen j i s t =
     one-limit (λ (k : JobTree). (k, None)) (nat_le 4096 (length j.starts)) (record j { starts = j.starts ++ s ∷ [] })
-    (record { arrays = array_names j; bodies = body_names j; starts = length j.starts + 1; inside = None })
-    (ap (λ (n : ℕ). record { arrays = array_names j; bodies = body_names j; starts = n; inside = None }) (length-append j.starts (s ∷ [])))
+    (record { format = j.format; arrays = array_names j; bodies = body_names j; starts = length j.starts + 1; inside = None })
+    (ap (λ (n : ℕ). record { format = j.format; arrays = array_names j; bodies = body_names j; starts = n; inside = None }) (length-append j.starts (s ∷ [])))
 
 parts-seen : (j : JobTree) (i : Option Inside) (f g : Unit {0} → ℕ) (r : Result (Unit {0}) Code) (n : Result ℤ Code)
     → made seen_of (made (λ k. (k, None)) (made start_from (both (made f r) n) >>= with_start j))
@@ -133,7 +137,7 @@ outer-seen : (bodies : List Word) (j : JobTree) (k : Option Outer) (ws : Words)
     → made seen_of (outer_line bodies j k ws) ≡ see_outer (seen_of (j, None)) k ws
 outer-seen bodies j None ws = refl
 outer-seen bodies j (Some outer.Array) ws = array-seen j None (array_of ws)
-outer-seen bodies j (Some outer.Body) ws = body-seen j None (body_of ws)
+outer-seen bodies j (Some outer.Body) ws = body-seen j None (body_of j.format ws)
 outer-seen bodies j (Some outer.Start) ws = start-seen bodies j None ws
 
 -- open lines
@@ -162,7 +166,7 @@ step-seen (line.EndWhile e n) (f ∷ fs) b = refl
 behind-seen : (j : JobTree) (o : Inside) (n : ℕ) (s : Option (List Frame × Block))
     → seen_of (behind j o n s) ≡ see_behind (seen_of (j, Some o)) (seen_body o) n (kinds_behind s)
 behind-seen j o n None =
-    ap (λ (ns : List Word). record { arrays = array_names j; bodies = ns; starts = length j.starts; inside = None })
+    ap (λ (ns : List Word). record { format = j.format; arrays = array_names j; bodies = ns; starts = length j.starts; inside = None })
     (map-append (λ (b : BodyTree). b.name) j.bodies (ended o ∷ []))
 behind-seen j o n (Some s) = refl
 
@@ -218,17 +222,17 @@ module _ (v : Seen) (o : SeenBody) (arrays bodies locals : List Word) (fits : Bo
   let-bare (n ∷ []) = refl
   let-bare (n ∷ is ∷ ws) = ap (λ (e : Result Expr Code). made let_line (both (both (is_equals is) (declared_at locals n)) e)) (expr-bare ws)
 
-  put-bare : (ws : Words) → put_of Here ws ≡ put_of Bare ws
+  put-bare : (kind : put.Kind) (ws : Words) → put_of Here kind ws ≡ put_of Bare kind ws
   unfolding cell_of
-  put-bare [] = refl
-  put-bare (c ∷ []) = refl
-  put-bare (c ∷ is ∷ ws) = ap (λ (e : Result Expr Code). made put_line (both (both (cell_of Here c) (is_equals is)) e)) (expr-bare ws)
+  put-bare kind [] = refl
+  put-bare kind (c ∷ []) = refl
+  put-bare kind (c ∷ is ∷ ws) = ap (λ (e : Result Expr Code). made (put_line kind) (both (both (cell_of Here c) (is_equals is)) e)) (expr-bare ws)
 
   line-bare : (k : Option Keyword) (ws : Words) → (line_behind Here fits k ws >>= see_said v o) ≡ (line_behind Bare fits k ws >>= see_said v o)
   unfolding line_behind
   line-bare None ws = refl
   line-bare (Some keyword.Let) ws = ap (λ (r : Result Line Code). r >>= see_said v o) (let-bare ws)
-  line-bare (Some keyword.Put) ws = ap (λ (r : Result Line Code). r >>= see_said v o) (put-bare ws)
+  line-bare (Some (keyword.Put kind)) ws = ap (λ (r : Result Line Code). r >>= see_said v o) (put-bare kind ws)
   line-bare (Some keyword.Print) ws =
       ap (λ (e : Result Expr Code). made (λ x. line.Do (action.Print x)) e >>= see_said v o) (expr-bare ws)
   line-bare (Some keyword.Spawn) ws = spawn-bare ws
@@ -243,9 +247,9 @@ noted-seen : (bodies : List Word) (j : JobTree) (o : Inside) (k : Option Keyword
     → made seen_of (noted_line bodies j o k ws) ≡ see_noted (seen_of (j, Some o)) (seen_body o) k ws
 noted-seen bodies j o k ws =
     let v : Seen = seen_of (j, Some o) in
-    bind-seen j o (line_behind (record { arrays = array_names j; bodies = bodies; locals = o.locals }) (can_else o.frames) k ws)
+    bind-seen j o (line_behind (record { format = j.format; arrays = array_names j; bodies = bodies; locals = o.locals }) (can_else o.frames) k ws)
     ∙ line-bare v (seen_body o) (array_names j) bodies o.locals (can_else o.frames) k ws
-    ∙ ap (λ (b : Bool). line_behind (record { arrays = array_names j; bodies = []; locals = o.locals }) b k ws >>= see_said v (seen_body o)) (sym (else-seen o.frames))
+    ∙ ap (λ (b : Bool). line_behind (record { format = j.format; arrays = array_names j; bodies = []; locals = o.locals }) b k ws >>= see_said v (seen_body o)) (sym (else-seen o.frames))
 
 -- any line
 any-seen : (bodies : List Word) (j : JobTree) (i : Option Inside) (ws : Words)
@@ -253,7 +257,7 @@ any-seen : (bodies : List Word) (j : JobTree) (i : Option Inside) (ws : Words)
 any-seen bodies j None [] = refl
 any-seen bodies j (Some o) [] = refl
 any-seen bodies j None (k ∷ ws) = outer-seen bodies j (outer_of k) ws
-any-seen bodies j (Some o) (k ∷ ws) = noted-seen bodies j (mentioning o (keyword_of k) ws) (keyword_of k) ws
+any-seen bodies j (Some o) (k ∷ ws) = noted-seen bodies j (mentioning j.format o (known_in j.format (keyword_of k)) ws) (known_in j.format (keyword_of k)) ws
 
 made-twice : {A B C : Type 0} (f : A → B) (g : B → C) (h : A → C) (r : Result A Code) → ((x : A) → g (f x) ≡ h x) → made g (made f r) ≡ made h r
 made-twice f g h (Ok x) e = ap (λ z. Ok z) (e x)

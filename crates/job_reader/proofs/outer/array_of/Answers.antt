@@ -1,5 +1,4 @@
 use Rattle.std.proofs.Common.{ℤ, ◌∷◌, List, ◌∙◌, ap, sym, Result}
-use Rattle.text_lines.specs.Text.{words_of}
 use Rattle.text_lines.specs.declared.refusal.Code.{Code}
 use Rattle.job_words.specs.Faults.{both, made}
 use Rattle.job_words.specs.Words.{Words, named}

@@ -1,9 +1,8 @@
-use Rattle.std.proofs.Common.{◌≡◌, ap, ◌∙◌}
-use Rattle.std.specs.Prelude.{Option, Some}
+use Rattle.std.proofs.Common.{ap, ◌∙◌}
+use Rattle.std.specs.Prelude.{Some}
 use Rattle.text_lines.specs.Text.{words_of}
 use Rattle.job_words.specs.Views.{lent}
 use Rattle.job_reader.specs.declared.outer.Outer.{Outer}
-use Rattle.job_reader.specs.declared.outer.Outer.TheVariants as outer
 use Rattle.job_reader.proofs.LineLemmas.{body-begun}
 use Rattle.job_reader.proofs.so_far.SoFar.outer_line.Goals as goal
 
