@@ -1,6 +1,7 @@
 -- The first line of a job.
 use Rattle.std.proofs.Common.{◌≡◌, ℕ, Bool, true, false, [], ◌∷◌, Some, None, refl, sym, ap, subst, ◌∙◌, codes, arith}
-use Rattle.std.specs.Prelude.{if◌then◌else◌}
+use Rattle.std.specs.Prelude.{if◌then◌else◌, ◌==◌, ◌||◌}
+use Rattle.job_reader.proofs.NotedNames.{same-number}
 use Rattle.std.specs.Str.{bytes_eq}
 use Rattle.std.proofs.lemmas.Fmt.{decimal_digit}
 use Rattle.task_lang.specs.Rules.{is_format}
@@ -49,3 +50,18 @@ header-said ws format e = (says ws format e).0
 
 pub format-is : (ws : Words) (format : ℕ) → format_of ws ≡ Some format → is_format format ≡ true
 format-is ws format e = (says ws format e).1
+
+-- and what is written is read
+pub format-written : (format : ℕ) → is_format format ≡ true → format_of (header_words format) ≡ Some format
+format-written format e = by (format == 1) (format == 2) refl refl e
+  where
+    one : format_of (header_words 1) ≡ Some 1
+    one = ap (λ (w : Word). format_of (codes "bsp" ∷ w ∷ [])) (decimal_digit 1 (omega arith))
+
+    two : format_of (header_words 2) ≡ Some 2
+    two = ap (λ (w : Word). format_of (codes "bsp" ∷ w ∷ [])) (decimal_digit 2 (omega arith))
+
+    by : (a b : Bool) → (format == 1) ≡ a → (format == 2) ≡ b → (a || b) ≡ true → format_of (header_words format) ≡ Some format
+    by true b h g e = subst (λ (x : ℕ). format_of (header_words x) ≡ Some x) (sym (same-number format 1 h)) one
+    by false true h g e = subst (λ (x : ℕ). format_of (header_words x) ≡ Some x) (sym (same-number format 2 g)) two
+    by false false h g e = absurd cc

@@ -35,7 +35,7 @@ known-some format k e = by (is_of_first k || not (format == 1)) e
     by false e = absurd cc
 
 -- a line that is read begins as the format knows it
-known-cases : (s : Names) (fits : Bool) (format : ℕ) (k : Option Keyword) (ws : Words) (l : Line) → line_behind s fits (known_in format k) ws ≡ Ok l → known_in format k ≡ k
+pub known-cases : (s : Names) (fits : Bool) (format : ℕ) (k : Option Keyword) (ws : Words) (l : Line) → line_behind s fits (known_in format k) ws ≡ Ok l → known_in format k ≡ k
 unfolding line_behind
 known-cases s fits format None ws l e = absurd cc
 known-cases s fits format (Some k) ws l e = by (is_of_first k || not (format == 1)) e
@@ -90,3 +90,10 @@ unfolding line_behind
 said-known s fits format None ws l h e = absurd cc
 said-known s fits format (Some k) ws l h e =
     ap (λ (b : Bool). b || not (format == 1)) (said-first s fits k ws l e) ∙ known-some format k h
+
+-- a line of the format begins as the format knows it
+pub word-known : (s : Names) (fits : Bool) (format : ℕ) (k : Option Keyword) (ws : Words) (l : Line) → line_behind s fits k ws ≡ Ok l → is_in_format format l ≡ true
+    → known_in format k ≡ k
+word-known s fits format None ws l e h = refl
+word-known s fits format (Some k) ws l e h =
+    ap (λ (b : Bool). if b then Some k else None) (ap (λ (b : Bool). b || not (format == 1)) (sym (said-first s fits k ws l e)) ∙ h)

@@ -19,14 +19,14 @@ use Rattle.job_words.proofs.GrowLemmas.{and-left}
 use Rattle.job_reader.specs.Trees.{JobTree}
 use Rattle.job_reader.proofs.ToldOuter.{bind-ok}
 use Rattle.job_reader.specs.Above.{Above, nothing}
-use Rattle.job_reader.specs.Reading.{◌>>=◌, at, refused, is_header, outer_of, declared_by, declared, read_from, unless_bad, job_in}
+use Rattle.job_reader.specs.Reading.{◌>>=◌, at, refused, format_of, outer_of, declared_by, declared, read_from, unless_bad, job_in}
 use Rattle.job_texts.specs.Laws.{IsTextOfJob}
 use Rattle.job_texts.proofs.Joined.{texts-are-read}
 use Rattle.job_texts.specs.Refusals.{IsRefusedOfALine, IsABeginning, above, declared_in, named_in, missing_in, empty_bodies, LinesAboveGoOn, BeginAlike, IsOfItsLine, RefusalsAreOfALineOrTextsGoOn}
 use Rattle.job_texts.proofs.Named.{open_name, so_far, lines-tell}
 use Rattle.job_texts.proofs.Lacking.{lacking-read, lacking-free, empty-declare, empty-whole, empty-allowed, empty-found, all-known, lines-found}
 use Rattle.job_texts.proofs.Seen.{SeenBody, Seen, seen}
-use Rattle.job_texts.proofs.Folds.{IsFault, step, read, glance, see_words, see_lines, told, read-next, step-seen}
+use Rattle.job_texts.proofs.Folds.{IsFault, step, read, glance, see_first, see_words, see_lines, told, read-next, step-seen}
 use Rattle.job_texts.proofs.BadLines.{by-lines}
 use Rattle.job_texts.proofs.Closing.{IsClosed, lines-append, end_line, ends, ends-few, lines-within, closes}
 use Rattle.job_texts.proofs.Ended.{are_found, are_allowed, none-bad, text-read}
@@ -71,23 +71,23 @@ all-declare ls n ns e =
 
 -- where no body is open
 closed-as : (w : Seen) (names : List Word) → w.inside ≡ None → so_far w ≡ names
-    → w ≡ record { arrays = w.arrays; bodies = names; starts = w.starts; inside = None }
+    → w ≡ record { format = w.format; arrays = w.arrays; bodies = names; starts = w.starts; inside = None }
 closed-as w names e f =
     let bodies : w.bodies ≡ names = sym (append-nil w.bodies) ∙ ap (λ (i : Option SeenBody). w.bodies ++ open_name i) (sym e) ∙ f in
-    ap (λ (i : Option SeenBody). record { arrays = w.arrays; bodies = w.bodies; starts = w.starts; inside = i }) e
-    ∙ ap (λ (x : List Word). record { arrays = w.arrays; bodies = x; starts = w.starts; inside = None }) bodies
+    ap (λ (i : Option SeenBody). record { format = w.format; arrays = w.arrays; bodies = w.bodies; starts = w.starts; inside = i }) e
+    ∙ ap (λ (x : List Word). record { format = w.format; arrays = w.arrays; bodies = x; starts = w.starts; inside = None }) bodies
 
 -- a header is in front of each line that is refused of anything else
-header-bad : (b c : Bool) (x : Code) → ◌≡◌ {A = Result (Option Seen) Code} (if b then Ok None else if c then Ok (Some (seen nothing)) else Err BadHeader) (Err x) → x ≡ BadHeader
-header-bad true c x e = absurd cc
-header-bad false true x e = absurd cc
-header-bad false false x e = cc
+header-bad : (b : Bool) (o : Option ℕ) (x : Code) → ◌≡◌ {A = Result (Option Seen) Code} (if b then Ok None else see_first o) (Err x) → x ≡ BadHeader
+header-bad true o x e = absurd cc
+header-bad false (Some format) x e = absurd cc
+header-bad false None x e = cc
 
 abbrev Begun : Option Seen → Type 0
 Begun p = (v : Seen) × (p ≡ Some v)
 
 begun : (p : Option Seen) (ws : Words) (x : Code) → see_words p ws ≡ Err x → x ≢ BadHeader → Begun p
-begun None ws x e h = absurd (h (header-bad (is_skipped ws) (is_header ws) x e))
+begun None ws x e h = absurd (h (header-bad (is_skipped ws) (format_of ws) x e))
 begun (Some v) ws x e h = (v, refl)
 
 module _ (Front : List (List ℕ)) (v : Seen) (reads : see_lines None Front ≡ Ok (Some v)) (whole : list_all is_line Front ≡ true) (allowed : are_allowed Front ≡ true) where
@@ -116,8 +116,8 @@ module _ (Front : List (List ℕ)) (v : Seen) (reads : see_lines None Front ≡ 
   all-read room =
       let c = closes Front v reads in
       let names : so_far c.0 ≡ Names = (lines-tell Closed None (Some c.0) c.1).0 ∙ ends-declare Front Ends in
-      let shape : c.0 ≡ record { arrays = c.0.arrays; bodies = Names; starts = c.0.starts; inside = None } = closed-as c.0 Names c.2 names in
-      let r = lacking-read (named_in Front) c.0.arrays Names c.0.starts names-free room in (
+      let shape : c.0 ≡ record { format = c.0.format; arrays = c.0.arrays; bodies = Names; starts = c.0.starts; inside = None } = closed-as c.0 Names c.2 names in
+      let r = lacking-read c.0.format (named_in Front) c.0.arrays Names c.0.starts names-free room in (
         r.0,
         ap (see_lines None) (sym (append_assoc Front (replicate Ends end_line) (empty_bodies Missing)))
             ∙ lines-append Closed (empty_bodies Missing) None (Some c.0) c.1

@@ -8,8 +8,9 @@ use Rattle.job_words.specs.Faults.{made}
 use Rattle.job_reader.specs.Trees.{JobTree}
 use Rattle.job_reader.specs.Above.{Inside, Above, nothing}
 use Rattle.job_reader.specs.Grammar.{header_words, kept}
-use Rattle.job_reader.specs.Reading.{◌>>=◌, at, any_line, is_missing, first_missing, line_step, finished, read_lines, read_from, refused, is_header}
-use Rattle.text_lines.specs.declared.refusal.Code.TheVariants.{BadHeader}
+use Rattle.job_reader.specs.Reading.{◌>>=◌, at, any_line, is_missing, first_missing, line_step, finished, read_lines, read_behind, read_from, format_of}
+use Rattle.task_lang.specs.Rules.{is_format}
+use Rattle.job_reader.proofs.Headers.{format-written}
 
 -- the job so far, and the open body
 abbrev pub Spot : Type 0

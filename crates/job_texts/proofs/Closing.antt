@@ -132,10 +132,11 @@ any-within v None [] w e = absurd cc
 any-within v (Some o) [] w e = absurd cc
 any-within v None (k ∷ ws) w e = outer-within v (outer_of k) ws w e
 any-within v (Some o) (k ∷ ws) w e =
-    let o' : SeenBody = see_mentioning o (keyword_of k) ws in
-    let said : Result Line Code = line_behind (record { arrays = v.arrays; bodies = []; locals = o'.locals }) (see_else o'.open_lines) (keyword_of k) ws in
+    let key : Option Keyword = known_in v.format (keyword_of k) in
+    let o' : SeenBody = see_mentioning v.format o key ws in
+    let said : Result Line Code = line_behind (record { arrays = v.arrays; bodies = []; locals = o'.locals }) (see_else o'.open_lines) key ws in
     let b = bind-ok said (see_said v o') w e in
-    said-within v (see_mentioning o (keyword_of k) ws) b.0 w b.2
+    said-within v (see_mentioning v.format o key ws) b.0 w b.2
 
 see-within : (v : Seen) (ws : Words) (w : Seen) → IsWithin v.inside → see v ws ≡ Ok w → IsWithin w.inside
 see-within v ws w h e =

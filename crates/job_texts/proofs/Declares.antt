@@ -9,6 +9,7 @@ use Rattle.task_lang.specs.declared.code.Action.TheVariants as action
 use Rattle.task_lang.specs.declared.code.Line.{Line}
 use Rattle.task_lang.specs.declared.code.Line.TheVariants as line
 use Rattle.task_lang.specs.Tree.{Block, flat}
+use Rattle.superstep_memory.specs.declared.arrays.Kind.TheVariants.{Set, Add}
 use Rattle.job_words.specs.Words.{Word, Words}
 use Rattle.job_words.specs.Exprs.{Names}
 use Rattle.job_words.specs.Lines.{line_words, end_words}
@@ -48,7 +49,8 @@ names-kept (l ∷ ls) = kept-cases l ls (is_skipped (words_of l)) refl (names-ke
 action-none : (s : Names) (a : Action) → declared_by (line_words s (line.Do a)) ≡ None
 unfolding outer_of
 action-none s (action.Let i e) = refl
-action-none s (action.Put c e) = refl
+action-none s (action.Put Set c e) = refl
+action-none s (action.Put Add c e) = refl
 action-none s (action.Print e) = refl
 action-none s (action.Spawn b e) = refl
 action-none s action.Sync = refl
@@ -74,38 +76,38 @@ end-none : declared_in (end_words ∷ []) ≡ []
 unfolding outer_of
 end-none = refl
 
-body-declares : (name : Word) (lines : List Words) → declared_in (body_words name ∷ lines) ≡ name ∷ declared_in lines
+body-declares : (format : ℕ) (name : Word) (locals : List Word) (lines : List Words) → declared_in (body_words format name locals ∷ lines) ≡ name ∷ declared_in lines
 unfolding outer_of
-body-declares name lines = refl
+body-declares format name locals lines = refl
 
-body-names : (arrays bodies : List Word) (b : BodyTree) → declared_in (body_lines arrays bodies b) ≡ b.name ∷ []
-body-names arrays bodies b =
+body-names : (format : ℕ) (arrays bodies : List Word) (b : BodyTree) → declared_in (body_lines format arrays bodies b) ≡ b.name ∷ []
+body-names format arrays bodies b =
     let s : Names = names_above arrays bodies b in
-    body-declares b.name (block_lines s b.block ++ end_words ∷ [])
+    body-declares format b.name b.locals (block_lines s b.block ++ end_words ∷ [])
     ∙ ap (λ (x : List Word). b.name ∷ x) (filter_map-append declared_by (block_lines s b.block) (end_words ∷ []))
     ∙ ap (λ (x : List Word). b.name ∷ (x ++ declared_in (end_words ∷ []))) (block-none s b.block)
     ∙ ap (λ (x : List Word). b.name ∷ x) end-none
 
 -- the lines of items declare their bodies
-items-names : (arrays bodies : List Word) (is : List Item) → declared_in (items_lines arrays bodies is) ≡ body_names (job_of is)
+items-names : (format : ℕ) (arrays bodies : List Word) (is : List Item) → declared_in (items_lines format arrays bodies is) ≡ body_names (job_of format is)
 unfolding outer_of
-items-names arrays bodies [] = refl
-items-names arrays bodies (AnArray name given cells ∷ is) = items-names (arrays ++ name ∷ []) bodies is
-items-names arrays bodies (ABody b ∷ is) =
-    filter_map-append declared_by (body_lines arrays bodies b) (items_lines arrays bodies is)
-    ∙ ap (λ (x : List Word). x ++ declared_in (items_lines arrays bodies is)) (body-names arrays bodies b)
-    ∙ ap (λ (x : List Word). b.name ∷ x) (items-names arrays bodies is)
-items-names arrays bodies (AStart t ∷ is) = items-names arrays bodies is
+items-names format arrays bodies [] = refl
+items-names format arrays bodies (AnArray name given cells ∷ is) = items-names format (arrays ++ name ∷ []) bodies is
+items-names format arrays bodies (ABody b ∷ is) =
+    filter_map-append declared_by (body_lines format arrays bodies b) (items_lines format arrays bodies is)
+    ∙ ap (λ (x : List Word). x ++ declared_in (items_lines format arrays bodies is)) (body-names format arrays bodies b)
+    ∙ ap (λ (x : List Word). b.name ∷ x) (items-names format arrays bodies is)
+items-names format arrays bodies (AStart t ∷ is) = items-names format arrays bodies is
 
-header-none : (lines : List Words) → declared_in (header_words ∷ lines) ≡ declared_in lines
+header-none : (format : ℕ) (lines : List Words) → declared_in (header_words format ∷ lines) ≡ declared_in lines
 unfolding outer_of
-header-none lines = refl
+header-none format lines = refl
 
 -- the reader looks for the bodies of the job
-pub job-declared : (ls : List (List ℕ)) (bodies : List Word) (is : List Item) → kept ls ≡ header_words ∷ items_lines [] bodies is
-    → length (body_names (job_of is)) ≤ 64
-    → declared ls ≡ body_names (job_of is)
-job-declared ls bodies is e few =
-    let all : names_in ls ≡ body_names (job_of is) =
-    names-kept ls ∙ ap declared_in e ∙ header-none (items_lines [] bodies is) ∙ items-names [] bodies is in
-    ap (λ (x : List Word). take 64 x) all ∙ take_all 64 (body_names (job_of is)) few
+pub job-declared : (format : ℕ) (ls : List (List ℕ)) (bodies : List Word) (is : List Item) → kept ls ≡ header_words format ∷ items_lines format [] bodies is
+    → length (body_names (job_of format is)) ≤ 64
+    → declared ls ≡ body_names (job_of format is)
+job-declared format ls bodies is e few =
+    let all : names_in ls ≡ body_names (job_of format is) =
+    names-kept ls ∙ ap declared_in e ∙ header-none format (items_lines format [] bodies is) ∙ items-names format [] bodies is in
+    ap (λ (x : List Word). take 64 x) all ∙ take_all 64 (body_names (job_of format is)) few

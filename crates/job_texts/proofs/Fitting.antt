@@ -19,6 +19,7 @@ use Rattle.task_lang.specs.declared.code.Action.{Action}
 use Rattle.task_lang.specs.declared.code.Action.TheVariants as action
 use Rattle.task_lang.specs.declared.code.Line.{Line}
 use Rattle.task_lang.specs.declared.code.Line.TheVariants as line
+use Rattle.superstep_memory.specs.declared.arrays.Kind.TheVariants.{Set, Add}
 use Rattle.job_words.specs.Words.{Word}
 use Rattle.job_words.specs.Exprs.{Names}
 use Rattle.job_words.specs.Lines.{line_words, line_names, line_fits}
@@ -66,7 +67,7 @@ action-is : (s : Names) (a : Action) → fits_action a ≡ true → is_action (l
 action-is s (action.Let i x) f n e =
     let k : ℕ = length s.locals in
     (below i k (and-left (nat_lt i k) (are_below k (mentions.in_expr x)) e), expr-is s x f n (and-right (nat_lt i k) (are_below k (mentions.in_expr x)) e))
-action-is s (action.Put c x) f n e =
+action-is s (action.Put kind c x) f n e =
     let k : ℕ = length s.locals in
     let a : ℕ = length s.arrays in (
       (
@@ -111,7 +112,8 @@ line-is s (line.EndWhile x n) fs b st f h e = tt
 action-found : (s : Names) (a : Action) → are_names s.bodies ≡ true → is_action (length s.arrays) (length s.bodies) a ≡ true
     → is_missing s.bodies (line_words s (line.Do a)) ≡ false
 action-found s (action.Let i x) g h = refl
-action-found s (action.Put c x) g h = refl
+action-found s (action.Put Set c x) g h = refl
+action-found s (action.Put Add c x) g h = refl
 action-found s (action.Print (One a)) g h = refl
 action-found s (action.Print (Two a op b)) g h = refl
 action-found s (action.Spawn b x) g h =

@@ -10,7 +10,7 @@ use Rattle.text_lines.specs.Text.{words_of, is_allowed}
 use Rattle.text_lines.specs.Laws.{is_line, is_word}
 use Rattle.text_lines.proofs.Readings.{spaced_words}
 use Rattle.task_lang.specs.Names.{is_in_name, begins_lower, is_name, is_reserved, is_free, is_among}
-use Rattle.job_words.specs.Faults.{made}
+use Rattle.job_words.specs.Faults.{both, made}
 use Rattle.job_words.specs.Words.{Word, Words}
 use Rattle.job_words.proofs.SaidLemmas.{and-true}
 use Rattle.job_words.proofs.GrowLemmas.{and-left, and-right}
@@ -66,53 +66,56 @@ module _ (w : Word) (free : is_free w ≡ true) where
   not-missing : (bodies : List Word) → not (is_missing bodies (words_of (codes "body " ++ w))) ≡ true
   not-missing bodies = ap (λ (ws : Words). not (is_missing bodies ws)) body-words
 
-  body-named : (v : Seen) → see_any v None (codes "body" ∷ w ∷ []) ≡ see_body v w
-  unfolding outer_of
-  body-named v = ap (λ (r : Result (Unit {0}) Code). made (λ _. w) r >>= see_body v) (named-free w free)
+  abbrev head : Word × List Word
+  head = (w, [])
 
-  body-fits : (v : Seen) → is_among v.bodies w ≡ false → nat_le 64 (length v.bodies) ≡ false → see_body v w ≡ Ok (after_body v w)
+  body-named : (v : Seen) → see_any v None (codes "body" ∷ w ∷ []) ≡ see_body v head
+  unfolding outer_of
+  body-named v = ap (λ (r : Result (Unit {0}) Code). made (λ _. head) (both r (Ok tt)) >>= see_body v) (named-free w free)
+
+  body-fits : (v : Seen) → is_among v.bodies w ≡ false → nat_le 64 (length v.bodies) ≡ false → see_body v head ≡ Ok (after_body v head)
   body-fits v e f =
-      ap (λ (b : Bool). if b then Err Twice else if nat_le 64 (length v.bodies) then Err TooMany else Ok (after_body v w)) e
-      ∙ ap (λ (b : Bool). if b then Err TooMany else Ok (after_body v w)) f
+      ap (λ (b : Bool). if b || false then Err Twice else if nat_le 64 (length v.bodies) || false then Err TooMany else Ok (after_body v head)) e
+      ∙ ap (λ (b : Bool). if b || false then Err TooMany else Ok (after_body v head)) f
 
   -- a body of this name, and lines behind it
-  body-read : (arrays there : List Word) (starts : ℕ) (ls : List (List ℕ)) → is_among there w ≡ false → nat_le 64 (length there) ≡ false
-      → see_lines (Some (record { arrays = arrays; bodies = there; starts = starts; inside = None })) ((codes "body " ++ w) ∷ codes "end" ∷ ls)
-      ≡ see_lines (Some (record { arrays = arrays; bodies = there ++ w ∷ []; starts = starts; inside = None })) ls
-  body-read arrays there starts ls e f =
-      let v : Seen = record { arrays = arrays; bodies = there; starts = starts; inside = None } in
-      let u : Seen = after_body v w in
+  body-read : (format : ℕ) (arrays there : List Word) (starts : ℕ) (ls : List (List ℕ)) → is_among there w ≡ false → nat_le 64 (length there) ≡ false
+      → see_lines (Some (record { format = format; arrays = arrays; bodies = there; starts = starts; inside = None })) ((codes "body " ++ w) ∷ codes "end" ∷ ls)
+      ≡ see_lines (Some (record { format = format; arrays = arrays; bodies = there ++ w ∷ []; starts = starts; inside = None })) ls
+  body-read format arrays there starts ls e f =
+      let v : Seen = record { format = format; arrays = arrays; bodies = there; starts = starts; inside = None } in
+      let u : Seen = after_body v head in
       ap (λ (ws : Words). see_words (Some v) ws >>= λ x. see_lines x (codes "end" ∷ ls)) body-words
       ∙ ap (λ (r : Result Seen Code). made (λ x. Some x) r >>= λ x. see_lines x (codes "end" ∷ ls)) (body-named v ∙ body-fits v e f)
-      ∙ ap (λ (r : Result Seen Code). made (λ x. Some x) r >>= λ x. see_lines x ls) (end-read u (begun_body w) (begun-within w))
+      ∙ ap (λ (r : Result Seen Code). made (λ x. Some x) r >>= λ x. see_lines x ls) (end-read u (begun_body head) (begun-within head (omega arith)))
 
 below-limit : (n m : ℕ) → n + suc m ≤ 64 → nat_le 64 n ≡ false
 below-limit n m h = grind (arith, common_steps)
 
 -- bodies of the names that are missing
-lacking-cases : (arrays there : List Word) (starts : ℕ) (w : Word) (ws : List Word) (b : Bool) → is_among there w ≡ b → is_free w ≡ true
+lacking-cases : (format : ℕ) (arrays there : List Word) (starts : ℕ) (w : Word) (ws : List Word) (b : Bool) → is_among there w ≡ b → is_free w ≡ true
     → length (there ++ (if b then lacking there ws else w ∷ lacking (there ++ w ∷ []) ws)) ≤ 64
     → (length (there ++ lacking there ws) ≤ 64
-    → IsClosed (see_lines (Some (record { arrays = arrays; bodies = there; starts = starts; inside = None })) (empty_bodies (lacking there ws))))
+    → IsClosed (see_lines (Some (record { format = format; arrays = arrays; bodies = there; starts = starts; inside = None })) (empty_bodies (lacking there ws))))
     → (length ((there ++ w ∷ []) ++ lacking (there ++ w ∷ []) ws) ≤ 64
-    → IsClosed (see_lines (Some (record { arrays = arrays; bodies = there ++ w ∷ []; starts = starts; inside = None })) (empty_bodies (lacking (there ++ w ∷ []) ws))))
-    → IsClosed (see_lines (Some (record { arrays = arrays; bodies = there; starts = starts; inside = None }))
+    → IsClosed (see_lines (Some (record { format = format; arrays = arrays; bodies = there ++ w ∷ []; starts = starts; inside = None })) (empty_bodies (lacking (there ++ w ∷ []) ws))))
+    → IsClosed (see_lines (Some (record { format = format; arrays = arrays; bodies = there; starts = starts; inside = None }))
     (empty_bodies (if b then lacking there ws else w ∷ lacking (there ++ w ∷ []) ws)))
-lacking-cases arrays there starts w ws true e free h same more = same h
-lacking-cases arrays there starts w ws false e free h same more =
+lacking-cases format arrays there starts w ws true e free h same more = same h
+lacking-cases format arrays there starts w ws false e free h same more =
     let rest = lacking (there ++ w ∷ []) ws in
     let counted : length there + suc (length rest) ≤ 64 = omega (arith, h, length-append there (w ∷ rest)) in
     let r = more (subst (λ (x : List Word). length x ≤ 64) (sym (append_assoc there (w ∷ []) rest)) h) in
-    (r.0, body-read w free arrays there starts (empty_bodies rest) e (below-limit (length there) (length rest) counted) ∙ r.1, r.2)
+    (r.0, body-read w free format arrays there starts (empty_bodies rest) e (below-limit (length there) (length rest) counted) ∙ r.1, r.2)
 
-pub lacking-read : (ws arrays there : List Word) (starts : ℕ) → list_all is_free ws ≡ true → length (there ++ lacking there ws) ≤ 64
-    → IsClosed (see_lines (Some (record { arrays = arrays; bodies = there; starts = starts; inside = None })) (empty_bodies (lacking there ws)))
-lacking-read [] arrays there starts f h = (record { arrays = arrays; bodies = there; starts = starts; inside = None }, refl, refl)
-lacking-read (w ∷ ws) arrays there starts f h =
+pub lacking-read : (format : ℕ) (ws arrays there : List Word) (starts : ℕ) → list_all is_free ws ≡ true → length (there ++ lacking there ws) ≤ 64
+    → IsClosed (see_lines (Some (record { format = format; arrays = arrays; bodies = there; starts = starts; inside = None })) (empty_bodies (lacking there ws)))
+lacking-read format [] arrays there starts f h = (record { format = format; arrays = arrays; bodies = there; starts = starts; inside = None }, refl, refl)
+lacking-read format (w ∷ ws) arrays there starts f h =
     let others : list_all is_free ws ≡ true = and-right (is_free w) _ f in
-    lacking-cases arrays there starts w ws (is_among there w) refl (and-left _ (list_all is_free ws) f) h
-    (λ k. lacking-read ws arrays there starts others k)
-    (λ k. lacking-read ws arrays (there ++ w ∷ []) starts others k)
+    lacking-cases format arrays there starts w ws (is_among there w) refl (and-left _ (list_all is_free ws) f) h
+    (λ k. lacking-read format ws arrays there starts others k)
+    (λ k. lacking-read format ws arrays (there ++ w ∷ []) starts others k)
 
 if-free : (b : Bool) (w : Word) (xs ys : List Word) → is_free w ≡ true → list_all is_free xs ≡ true → list_all is_free ys ≡ true
     → list_all is_free (if b then xs else w ∷ ys) ≡ true

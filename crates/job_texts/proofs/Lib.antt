@@ -4,7 +4,6 @@ pub mod MentionedLocals
 pub mod CanonicalItems
 pub mod CanonicalJob
 pub mod ReadJobs
-pub mod MentionsBelow
 pub mod Chain
 pub mod Declares
 pub mod Mentioned
@@ -19,6 +18,7 @@ pub mod Seen
 pub mod SeenLines
 pub mod Folds
 pub mod BadLines
+pub mod Heads
 pub mod Held
 pub mod Closing
 pub mod Ended

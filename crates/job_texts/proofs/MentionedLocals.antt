@@ -20,6 +20,7 @@ use Rattle.task_lang.specs.declared.code.Action.{Action}
 use Rattle.task_lang.specs.declared.code.Action.TheVariants as action
 use Rattle.task_lang.specs.declared.code.Line.{Line}
 use Rattle.task_lang.specs.declared.code.Line.TheVariants as line
+use Rattle.superstep_memory.specs.declared.arrays.Kind.TheVariants.{Set, Add}
 use Rattle.job_words.specs.Faults.{made}
 use Rattle.job_words.specs.Words.{Word, begins_number, numbered, declared_at, name_at, index_word, index_of, in_index, noted}
 use Rattle.job_words.specs.Exprs.{Names, cell_parts, cell_word, has_bracket, operand_word, expr_words, in_parts, in_operand, in_expr}
@@ -103,7 +104,11 @@ expr-mentions s (Two a op b) g h =
 action-mentions : (s : Names) (a : Action) → AreGood s → ActionIs s a → mentions_of (action_words s a) ≡ map (name_at s.locals) (mentions.in_action a)
 unfolding keyword_of mentions_behind
 action-mentions s (action.Let i e) g h = ap (λ (x : List Word). name_at s.locals i ∷ x) (expr-mentions s e g h.1)
-action-mentions s (action.Put c e) g h =
+action-mentions s (action.Put Set c e) g h =
+    ap (λ (x : List Word). x ++ in_expr (expr_words s e)) (cell-mentions s c g h.0)
+    ∙ ap (λ (x : List Word). map (name_at s.locals) (mentions.in_index c.index) ++ x) (expr-mentions s e g h.1)
+    ∙ sym (map-append (name_at s.locals) (mentions.in_index c.index) (mentions.in_expr e))
+action-mentions s (action.Put Add c e) g h =
     ap (λ (x : List Word). x ++ in_expr (expr_words s e)) (cell-mentions s c g h.0)
     ∙ ap (λ (x : List Word). map (name_at s.locals) (mentions.in_index c.index) ++ x) (expr-mentions s e g h.1)
     ∙ sym (map-append (name_at s.locals) (mentions.in_index c.index) (mentions.in_expr e))

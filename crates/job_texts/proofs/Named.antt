@@ -11,24 +11,30 @@ use Rattle.task_lang.specs.Names.{is_free, is_name, is_reserved}
 use Rattle.task_lang.specs.Limits.{opened}
 use Rattle.task_lang.specs.declared.code.Line.{Line}
 use Rattle.task_lang.specs.declared.job.Start.{Start}
+use Rattle.superstep_memory.specs.declared.arrays.Kind.TheVariants.{Set, Add}
 use Rattle.job_words.specs.Faults.{both}
 use Rattle.job_words.specs.Words.{Word, Words, named, numbered}
 use Rattle.job_words.specs.Exprs.{Names, expr_of}
 use Rattle.job_words.specs.declared.lines.Keyword.{Keyword}
 use Rattle.job_words.specs.declared.lines.Keyword.TheVariants.{Let, Put, Print, Spawn, Sync, Stop, If, Else, While, End}
-use Rattle.job_words.specs.Lines.{keyword_of, line_behind, body_at, spawn_line, spawn_of}
+use Rattle.job_words.specs.Lines.{keyword_of, known_in, line_behind, body_at, spawn_line, spawn_of}
 use Rattle.job_words.proofs.SaidLemmas.{made-ok, both-ok, and-true, same-word}
 use Rattle.job_words.proofs.GrowLemmas.{and-left}
 use Rattle.job_words.proofs.LineSaid.{keyword_text, keyword-said}
 use Rattle.job_reader.specs.declared.outer.Outer.{Outer}
 use Rattle.job_reader.specs.declared.outer.Outer.TheVariants as outer
 use Rattle.job_reader.specs.Above.{nothing, statements_behind}
-use Rattle.job_reader.specs.Reading.{◌>>=◌, is_header, outer_of, name_if_body, declared_by, array_of, body_of, start_of, start_from, is_over}
+use Rattle.job_reader.specs.Reading.{◌>>=◌, format_of, outer_of, name_if_body, declared_by, array_of, body_of, start_of, start_from, is_over}
 use Rattle.job_reader.proofs.ToldOuter.{bind-ok, outer-said}
 use Rattle.job_reader.proofs.ToldNames.{listed, listed-first, skipped-none}
 use Rattle.job_texts.specs.Refusals.{named_by, declared_in, named_in}
 use Rattle.job_texts.proofs.Seen.{Kind, SeenBody, Seen, seen, see_array, see_body, see_start, see_outer, see_step, see_else, see_behind, see_said, see_mentioning, see_any, see}
-use Rattle.job_texts.proofs.Folds.{see_words, see_lines}
+use Rattle.job_texts.proofs.Folds.{see_first, see_words, see_lines}
+use Rattle.std.specs.Fmt.{decimal}
+use Rattle.job_reader.specs.Grammar.{header_words}
+use Rattle.job_reader.proofs.Headers.{header-said}
+use Rattle.job_reader.proofs.BodyHeads.{head-parts}
+use Rattle.job_reader.proofs.Known.{known-cases}
 use Rattle.job_texts.proofs.Closing.{if-ok, array-after, body-after, start-after}
 
 abbrev pub open_name : Option SeenBody → List Word
@@ -62,7 +68,8 @@ one-free w e = and-true _ true e refl
 no-body : (k : Keyword) → outer_of (keyword_text k) ≡ None
 unfolding outer_of
 no-body Let = refl
-no-body Put = refl
+no-body (Put Set) = refl
+no-body (Put Add) = refl
 no-body Print = refl
 no-body Spawn = refl
 no-body Sync = refl
@@ -90,8 +97,10 @@ unfolding line_behind
 keyword-free s fits Spawn ws l e = spawn-free s ws l e
 keyword-free s fits Let [] l e = refl
 keyword-free s fits Let (b ∷ ws) l e = refl
-keyword-free s fits Put [] l e = refl
-keyword-free s fits Put (b ∷ ws) l e = refl
+keyword-free s fits (Put Set) [] l e = refl
+keyword-free s fits (Put Set) (b ∷ ws) l e = refl
+keyword-free s fits (Put Add) [] l e = refl
+keyword-free s fits (Put Add) (b ∷ ws) l e = refl
 keyword-free s fits Print [] l e = refl
 keyword-free s fits Print (b ∷ ws) l e = refl
 keyword-free s fits Sync [] l e = refl
@@ -140,10 +149,9 @@ body-free : (ws : Words) → list_all is_free (listed (named_by (codes "body" �
 body-free [] = refl
 body-free (b ∷ ws) = refl
 
-body-name : (ws : Words) (name : Word) → body_of ws ≡ Ok name → name_if_body (Some outer.Body) ws ≡ Some name
-body-name [] name e = absurd cc
-body-name (n ∷ []) name e = let m = made-ok (λ (_ : Unit {0}). n) (named n) name e in ap (λ (x : Word). Some x) m.2
-body-name (n ∷ w ∷ ws) name e = absurd cc
+body-name : (format : ℕ) (ws : Words) (head : Word × List Word) → body_of format ws ≡ Ok head → name_if_body (Some outer.Body) ws ≡ Some head.0
+body-name format [] head e = absurd cc
+body-name format (n ∷ ws) head e = ap (λ (x : Word × List Word). Some x.0) (head-parts format n ws head e).same
 
 outer-tells : (v : Seen) (k : Word) (ws : Words) (x : Option Outer) (w : Seen) → outer_of k ≡ x → see_outer v x ws ≡ Ok w
     → Tells (v.bodies ++ []) (k ∷ ws) w
@@ -157,10 +165,10 @@ outer-tells v k ws (Some outer.Start) w h e =
     same-tells (v.bodies ++ []) (k ∷ ws) w (ap so_far (sym (start-after v b.0 w b.2))) (ap (λ (o : Option Outer). name_if_body o ws) h)
     (subst (λ (y : Word). list_all is_free (listed (named_by (y ∷ ws))) ≡ true) (sym (outer-said k outer.Start h)) (start-free ws b.0 b.1))
 outer-tells v k ws (Some outer.Body) w h e =
-    let b = bind-ok (body_of ws) (see_body v) w e in
-    let name : name_if_body (outer_of k) ws ≡ Some b.0 = ap (λ (o : Option Outer). name_if_body o ws) h ∙ body-name ws b.0 b.1 in (
+    let b = bind-ok (body_of v.format ws) (see_body v) w e in
+    let name : name_if_body (outer_of k) ws ≡ Some b.0.0 = ap (λ (o : Option Outer). name_if_body o ws) h ∙ body-name v.format ws b.0 b.1 in (
       ap so_far (sym (body-after v b.0 w b.2))
-          ∙ ap (λ (x : List Word). x ++ b.0 ∷ []) (sym (append-nil v.bodies))
+          ∙ ap (λ (x : List Word). x ++ b.0.0 ∷ []) (sym (append-nil v.bodies))
           ∙ ap (λ (o : Option Word). (v.bodies ++ []) ++ listed o) (sym name),
       subst (λ (y : Word). list_all is_free (listed (named_by (y ∷ ws))) ≡ true) (sym (outer-said k outer.Body h)) (body-free ws),
     )
@@ -170,8 +178,11 @@ any-tells v None [] w e = absurd cc
 any-tells v (Some o) [] w e = absurd cc
 any-tells v None (k ∷ ws) w e = outer-tells v k ws (outer_of k) w refl e
 any-tells v (Some o) (k ∷ ws) w e =
-    let o' : SeenBody = see_mentioning o (keyword_of k) ws in
-    inner-tells v o' k ws (keyword_of k) (record { arrays = v.arrays; bodies = []; locals = o'.locals }) (see_else o'.open_lines) w refl e
+    let key : Option Keyword = known_in v.format (keyword_of k) in
+    let o' : SeenBody = see_mentioning v.format o key ws in
+    let s : Names = record { arrays = v.arrays; bodies = []; locals = o'.locals } in
+    let b = bind-ok (line_behind s (see_else o'.open_lines) key ws) (see_said v o') w e in
+    inner-tells v o' k ws key s (see_else o'.open_lines) w (sym (known-cases s (see_else o'.open_lines) v.format (keyword_of k) ws b.0 b.1)) e
 
 -- lines that are skipped
 is-hash : (c : ℕ) → nat_eq c 35 ≡ true → c ≡ 35
@@ -201,29 +212,26 @@ bsp-none : (b : Word) → declared_by (codes "bsp" ∷ b ∷ []) ≡ None
 unfolding outer_of
 bsp-none b = refl
 
-header-none : (ws : Words) → is_header ws ≡ true → (declared_by ws ≡ None) × (list_all is_free (listed (named_by ws)) ≡ true)
-header-none [] e = absurd cc
-header-none (a ∷ []) e = absurd cc
-header-none (a ∷ b ∷ []) e =
-    let same : a ≡ codes "bsp" = same-word a (codes "bsp") (and-left _ (bytes_eq b (codes "1")) e) in (
-      ap (λ (x : Word). declared_by (x ∷ b ∷ [])) same ∙ bsp-none b,
-      ap (λ (x : Word). list_all is_free (listed (named_by (x ∷ b ∷ [])))) same,
+header-none : (ws : Words) (format : ℕ) → format_of ws ≡ Some format → (declared_by ws ≡ None) × (list_all is_free (listed (named_by ws)) ≡ true)
+header-none ws format e =
+    let same : ws ≡ header_words format = header-said ws format e in (
+      ap declared_by same ∙ bsp-none (decimal format),
+      ap (λ (x : Words). list_all is_free (listed (named_by x))) same,
     )
-header-none (a ∷ b ∷ c ∷ ws) e = absurd cc
 
-header-tells : (ws : Words) (q : Option Seen) (b c : Bool) → is_skipped ws ≡ b → is_header ws ≡ c
-    → ◌≡◌ {A = Result (Option Seen) Code} (if b then Ok None else if c then Ok (Some (seen nothing)) else Err BadHeader) (Ok q) → AllTell [] ws q
-header-tells ws q true c s h e =
+header-tells : (ws : Words) (q : Option Seen) (b : Bool) (o : Option ℕ) → is_skipped ws ≡ b → format_of ws ≡ o
+    → ◌≡◌ {A = Result (Option Seen) Code} (if b then Ok None else see_first o) (Ok q) → AllTell [] ws q
+header-tells ws q true o s h e =
     let same : None ≡ q = cc in
     (ap names_of (sym same) ∙ ap listed (sym (skipped-none ws s)), skipped-free ws s)
-header-tells ws q false true s h e =
-    let same : Some (seen nothing) ≡ q = cc in
-    let none = header-none ws h in
+header-tells ws q false (Some format) s h e =
+    let same : Some (seen (nothing format)) ≡ q = cc in
+    let none = header-none ws format h in
     (ap names_of (sym same) ∙ ap listed (sym none.0), none.1)
-header-tells ws q false false s h e = absurd cc
+header-tells ws q false None s h e = absurd cc
 
 words-tell : (p q : Option Seen) (ws : Words) → see_words p ws ≡ Ok q → AllTell (names_of p) ws q
-words-tell None q ws e = header-tells ws q (is_skipped ws) (is_header ws) refl refl e
+words-tell None q ws e = header-tells ws q (is_skipped ws) (format_of ws) refl refl e
 words-tell (Some v) q ws e =
     let m = made-ok (λ (w : Seen). Some w) (see v ws) q e in
     let t = skip-tells v ws m.0 (is_skipped ws) refl m.1 in

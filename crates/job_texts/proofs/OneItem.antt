@@ -1,6 +1,6 @@
 -- The lines of an item are read as it.
 use Rattle.std.proofs.Common.{◌≡◌, ℕ, ◌+◌, ◌-◌, ◌<◌, ◌≤◌, Bool, true, false, ◌&&◌, List, [], ◌∷◌, ◌++◌, length, map, Option, Some, None, Result, Ok, Err, ℤ, pos, refl, sym, ap, subst, ◌∙◌, arith, append-nil}
-use Rattle.std.specs.Prelude.{if◌then◌else◌, not, nat_le, replicate, unwrap_or}
+use Rattle.std.specs.Prelude.{if◌then◌else◌, not, ◌||◌, nat_lt, nat_le, replicate, unwrap_or}
 use Rattle.std.specs.List.{list_all}
 use Rattle.std.specs.Fmt.{decimal, signed_decimal}
 use Rattle.std.proofs.lemmas.Grind.{common_steps}
@@ -26,9 +26,10 @@ use Rattle.job_words.proofs.WrittenLemmas.{named-free, names-free, place-name}
 use Rattle.job_words.proofs.WrittenExprs.{number-written}
 use Rattle.job_reader.specs.Trees.{BodyTree, JobTree, array_names, body_names}
 use Rattle.job_reader.specs.Above.{Inside, begun}
-use Rattle.job_reader.specs.Grammar.{AnArray, ABody, AStart, array_words, body_words, start_words, block_lines, body_lines, mentioned_by, IsSoundBody, IsFilled}
+use Rattle.job_reader.specs.Grammar.{AnArray, ABody, AStart, array_words, body_words, start_words, block_lines, body_lines, listed_in, locals_by, IsSoundBody, IsFilled}
 use Rattle.job_reader.specs.Legal.{flat_body}
-use Rattle.job_reader.specs.Reading.{◌>>=◌, outer_of, all_numbered, filled, cells_of, array_of, start_from, with_array, new_body, with_start}
+use Rattle.job_reader.specs.Reading.{◌>>=◌, outer_of, all_numbered, filled, cells_of, array_of, are_apart, start_from, with_array, new_body, with_start}
+use Rattle.job_texts.proofs.Heads.{apart, listed-names, listed-few, head-read}
 use Rattle.job_reader.specs.Writing.{code_lines}
 use Rattle.job_reader.proofs.CodeLemmas.{block-code}
 use Rattle.job_reader.proofs.ItemLemmas.{put}
@@ -46,6 +47,9 @@ values-read (n ∷ ns) e =
 
 le-true : (a b : ℕ) → a ≤ b → nat_le a b ≡ true
 le-true a b h = grind (arith, common_steps)
+
+lt-false : (a b : ℕ) → b ≤ a → nat_lt a b ≡ false
+lt-false a b h = grind (arith, common_steps)
 
 le-false : (a b : ℕ) → b < a → nat_le a b ≡ false
 le-false a b h = grind (arith, common_steps)
@@ -102,14 +106,21 @@ pub record IsFreeBody (k : JobTree) (name : Word) : Type 0 where
   pub fresh : is_among (body_names k) name ≡ false
   pub room : length (body_names k) < 64
 
-begin-passes : (bodies : List Word) (k : JobTree) (name : Word) → IsFreeBody k name → Passes bodies (body_words name) (k, None) (k, Some (begun name))
+begin-passes : (bodies : List Word) (k : JobTree) (name : Word) (locals : List Word) → IsFreeBody k name → are_names locals ≡ true → length locals ≤ 32
+    → Passes bodies (body_words k.format name locals) (k, None) (k, Some (begun (name, listed_in k.format locals)))
 unfolding outer_of
-begin-passes bodies k name h = record {
-  read = ap (λ (r : Result (Unit {0}) Code). made (λ (o : Inside). (k, Some o)) (made (λ _. name) r >>= new_body k)) (named-free name h.free)
-      ∙ ap (λ (b : Bool). made (λ (o : Inside). (k, Some o)) (if b then Err Twice else if nat_le 64 (length (body_names k)) then Err TooMany else Ok (begun name))) h.fresh
-      ∙ ap (λ (b : Bool). made (λ (o : Inside). (k, Some o)) (if b then Err TooMany else Ok (begun name))) (le-false 64 (length (body_names k)) h.room);
-  found = refl;
-}
+begin-passes bodies k name locals h names few =
+    let head : Word × List Word = (name, listed_in k.format locals) in
+    let own : not (are_apart head.1) ≡ false = ap not (apart head.1 (listed-names k.format locals names)) in
+    let short : nat_lt 32 (length head.1) ≡ false = lt-false 32 (length head.1) (listed-few k.format locals few) in
+    record {
+      read = ap (λ (r : Result (Word × List Word) Code). made (λ (o : Inside). (k, Some o)) (r >>= new_body k)) (head-read k.format name locals h.free names)
+          ∙ ap (λ (b : Bool). made (λ (o : Inside). (k, Some o)) (if b || not (are_apart head.1) then Err Twice else if nat_le 64 (length (body_names k)) || nat_lt 32 (length head.1) then Err TooMany else Ok (begun head))) h.fresh
+          ∙ ap (λ (b : Bool). made (λ (o : Inside). (k, Some o)) (if b then Err Twice else if nat_le 64 (length (body_names k)) || nat_lt 32 (length head.1) then Err TooMany else Ok (begun head))) own
+          ∙ ap (λ (b : Bool). made (λ (o : Inside). (k, Some o)) (if b || nat_lt 32 (length head.1) then Err TooMany else Ok (begun head))) (le-false 64 (length (body_names k)) h.room)
+          ∙ ap (λ (b : Bool). made (λ (o : Inside). (k, Some o)) (if b then Err TooMany else Ok (begun head))) short;
+      found = refl;
+    }
 
 -- a body that there may be
 pub record IsLegalBody (b : BodyTree) : Type 0 where
@@ -119,26 +130,28 @@ all-built : (b : Block) → build (flat b) [] Done ≡ Some ([], b)
 all-built b = ap (λ (c : List Line). build c [] Done) (sym (append-nil (flat b))) ∙ build-flat b [] [] Done
 
 pub body-reads : (bodies : List Word) (k : JobTree) (b : BodyTree) → are_names (array_names k) ≡ true → are_names bodies ≡ true → IsFreeBody k b.name → IsLegalBody b
-    → IsSoundBody (array_names k) bodies b
-    → Reads bodies (body_lines (array_names k) bodies b) (k, None) (put (ABody b) k, None)
+    → IsSoundBody k.format (array_names k) bodies b
+    → Reads bodies (body_lines k.format (array_names k) bodies b) (k, None) (put (ABody b) k, None)
 body-reads bodies k b ga gb h legal sound =
     let s : Names = names bodies k b.locals in
     let code : List Line = flat b.block in
     let same : code_lines s code ≡ block_lines s b.block = block-code s b.block in
-    let ahead : IsAhead s (begun b.name) code ([], b.block) = record {
+    let head : Word × List Word = (b.name, listed_in k.format b.locals) in
+    let ahead : IsAhead k.format s (begun head) code ([], b.block) = record {
       numbers = legal.rules.numbers;
-      fits = sound.0;
+      fits = sound.names;
       builds = all-built b.block;
-      notes = ap mentioned_by same ∙ sound.1;
+      notes = ap (locals_by k.format head.1) same ∙ sound.locals;
+      known = sound.lines;
       count = omega (arith, legal.rules.statements);
       depth = legal.rules.depth;
     } in
-    let inner = code-reads bodies k b.locals ga gb legal.rules.locals legal.rules.few code (begun b.name) ([], b.block) ahead in
+    let inner = code-reads bodies k b.locals ga gb legal.rules.locals legal.rules.few code (begun head) ([], b.block) ahead in
     let last = reads-one bodies end_words _ _ (end-passes bodies k b.name b.locals b.block inner.0 inner.1 legal.rules.few) in
     let lines = reads-append bodies (code_lines s code) (end_words ∷ []) _ _ _ inner.2 last in (
-      (k, Some (begun b.name)),
-      begin-passes bodies k b.name h,
-      subst (λ (x : List Words). Reads bodies (x ++ end_words ∷ []) (k, Some (begun b.name)) (put (ABody b) k, None)) same lines,
+      (k, Some (begun head)),
+      begin-passes bodies k b.name b.locals h legal.rules.locals legal.rules.few,
+      subst (λ (x : List Words). Reads bodies (x ++ end_words ∷ []) (k, Some (begun head)) (put (ABody b) k, None)) same lines,
     )
 
 -- room for a start line

@@ -37,6 +37,7 @@ use Rattle.task_lang.specs.declared.code.Action.{Action}
 use Rattle.task_lang.specs.declared.code.Action.TheVariants as action
 use Rattle.task_lang.specs.declared.code.Line.{Line}
 use Rattle.task_lang.specs.declared.code.Line.TheVariants as line
+use Rattle.superstep_memory.specs.declared.arrays.Kind.TheVariants.{Set, Add}
 use Rattle.job_words.specs.Words.{Word, name_at, index_word}
 use Rattle.job_words.specs.Exprs.{Names, cell_word, operand_word, operator_word, expr_words}
 use Rattle.job_words.specs.Lines.{line_words, line_fits, action_words}
@@ -113,7 +114,7 @@ action-is s (action.Let i e) x f h = (
   ltb-true i (length s.locals) (and-left (nat_lt i (length s.locals)) true (all-left (λ (k : ℕ). nat_lt k (length s.locals)) (i ∷ []) (mentions.in_expr e) h)),
   expr-is s e x f (all-right _ (i ∷ []) (mentions.in_expr e) h),
 )
-action-is s (action.Put c e) x f h = (
+action-is s (action.Put kind c e) x f h = (
   (
     ltb-true c.array (length s.arrays) (and-left _ (is_expr (length s.arrays) e) x),
     index-is s.locals c.index (and-left _ (fits_expr e) f) (all-left _ (mentions.in_index c.index) (mentions.in_expr e) h),
@@ -177,7 +178,8 @@ expr-printed s (Two a op b) g h =
 
 action-plain : (s : Names) (a : Action) → AreGood s → ActionIs s a → is_plain_line (action_words s a) ≡ true
 action-plain s (action.Let i e) g h = and-true _ _ (name-printed (name_at s.locals i) (names-free s.locals i g.locals h.0)) (expr-printed s e g h.1)
-action-plain s (action.Put c e) g h = and-true _ _ (cell-printed s c g h.0) (expr-printed s e g h.1)
+action-plain s (action.Put Set c e) g h = and-true _ _ (cell-printed s c g h.0) (expr-printed s e g h.1)
+action-plain s (action.Put Add c e) g h = and-true _ _ (cell-printed s c g h.0) (expr-printed s e g h.1)
 action-plain s (action.Print e) g h = expr-printed s e g h
 action-plain s (action.Spawn b e) g h = and-true _ _ (name-printed (name_at s.bodies b) (names-free s.bodies b g.bodies h.0)) (expr-printed s e g h.1)
 action-plain s action.Sync g h = refl

@@ -126,7 +126,7 @@ see_said v o l =
 
 abbrev pub see_noted : Seen → SeenBody → Option Keyword → Words → Result Seen Code
 see_noted v o k ws =
-    line_behind (record { format = v.format; arrays = v.arrays; bodies = []; locals = o.locals }) (see_else o.open_lines) k ws >>= see_said v o
+    line_behind (record { arrays = v.arrays; bodies = []; locals = o.locals }) (see_else o.open_lines) k ws >>= see_said v o
 
 abbrev pub see_mentioning : ℕ → SeenBody → Option Keyword → Words → SeenBody
 see_mentioning format o k ws =

@@ -247,9 +247,9 @@ noted-seen : (bodies : List Word) (j : JobTree) (o : Inside) (k : Option Keyword
     → made seen_of (noted_line bodies j o k ws) ≡ see_noted (seen_of (j, Some o)) (seen_body o) k ws
 noted-seen bodies j o k ws =
     let v : Seen = seen_of (j, Some o) in
-    bind-seen j o (line_behind (record { format = j.format; arrays = array_names j; bodies = bodies; locals = o.locals }) (can_else o.frames) k ws)
+    bind-seen j o (line_behind (record { arrays = array_names j; bodies = bodies; locals = o.locals }) (can_else o.frames) k ws)
     ∙ line-bare v (seen_body o) (array_names j) bodies o.locals (can_else o.frames) k ws
-    ∙ ap (λ (b : Bool). line_behind (record { format = j.format; arrays = array_names j; bodies = []; locals = o.locals }) b k ws >>= see_said v (seen_body o)) (sym (else-seen o.frames))
+    ∙ ap (λ (b : Bool). line_behind (record { arrays = array_names j; bodies = []; locals = o.locals }) b k ws >>= see_said v (seen_body o)) (sym (else-seen o.frames))
 
 -- any line
 any-seen : (bodies : List Word) (j : JobTree) (i : Option Inside) (ws : Words)

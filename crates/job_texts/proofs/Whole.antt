@@ -16,7 +16,7 @@ use Rattle.job_reader.specs.Reading.{refused, declared, read_from, unless_bad, j
 use Rattle.job_texts.specs.Laws.{TextsOfJobsAreRead, OneJobAText}
 use Rattle.job_texts.proofs.Chain.{Reads, lines-read, header-read}
 use Rattle.job_texts.proofs.Declares.{job-declared}
-use Rattle.job_texts.proofs.Items.{AreFit, AreItems, IsRoomy, items-fit, items-read}
+use Rattle.job_texts.proofs.Items.{AreFit, AreItems, IsRoomy, items-fit, items-read, joined-none}
 
 -- the names of bodies with flat code
 flat-names : (bs : List BodyTree) → map (λ (b : BodyValue). b.name) (map flat_body bs) ≡ map (λ (b : BodyTree). b.name) bs
@@ -40,15 +40,15 @@ text-lines-read : (ls : List (List ℕ)) (j : JobTree) → IsJobTree j → IsTex
 text-lines-read ls j job w =
     let room : IsRoomy j = roomy j job in
     let names : List Word = body_names j in
-    let few : length (body_names (job_of w.items)) ≤ 64 =
+    let few : length (body_names (job_of j.format w.items)) ≤ 64 =
     subst (λ (x : JobTree). length (body_names x) ≤ 64) (sym w.said)
     (subst (λ (n : ℕ). n ≤ 64) (sym (length-map j.bodies (λ (b : BodyTree). b.name))) room.few_bodies) in
-    let looked : declared ls ≡ names = job-declared ls names w.items w.written few ∙ ap body_names w.said in
-    let items : AreItems w.items = items-fit w.items (subst AreFit (sym w.said) (fit j job)) in
-    let reads : Reads names (items_lines [] names w.items) (no_job, None) (j, None) = items-read names j room.bodies room w.items no_job w.said items w.sound in
+    let looked : declared ls ≡ names = job-declared j.format ls names w.items w.written few ∙ ap body_names w.said in
+    let items : AreItems w.items = items-fit j.format w.items (subst AreFit (sym w.said) (fit j job)) in
+    let reads : Reads names (items_lines j.format [] names w.items) (no_job j.format, None) (j, None) = items-read names j room.bodies room w.items (no_job j.format) (joined-none j.format w.items ∙ w.said) items w.sound in
     ap (λ (x : List Word). read_from x 1 ls) looked
-    ∙ header-read names ls 1 (items_lines [] names w.items) j w.written
-    (λ m behind e. lines-read names behind m (no_job, None) (j, None) j (subst (λ (x : List Words). Reads names x (no_job, None) (j, None)) (sym e) reads) refl)
+    ∙ header-read names j.format ls 1 (items_lines j.format [] names w.items) j job.format w.written
+    (λ m behind e. lines-read names behind m (no_job j.format, None) (j, None) j (subst (λ (x : List Words). Reads names x (no_job j.format, None) (j, None)) (sym e) reads) refl)
 
 short-text : (n : ℕ) → n ≤ 1048576 → nat_lt 1048576 n ≡ false
 short-text n h = grind (arith, common_steps)

@@ -1,6 +1,7 @@
 -- A text worked out: what it is read as, and how it is written again, is written down, and not said by any rule (own).
 use Rattle.std.specs.Prelude.{◌≡◌, ℕ, pos, negsuc, List, [], ◌∷◌, Ok, Err, codes}
 use Rattle.text_lines.specs.declared.refusal.Code.TheVariants.{Unclosed, UnknownName}
+use Rattle.superstep_memory.specs.declared.arrays.Kind.TheVariants.{Set}
 use Rattle.task_lang.specs.declared.code.Index.{Index}
 use Rattle.task_lang.specs.declared.code.Index.TheVariants.{Number, Local, Arg, Step}
 use Rattle.task_lang.specs.declared.code.Cell.{Cell}
@@ -38,12 +39,13 @@ spawning =
 abbrev pub choosing : Block
 choosing =
     IfElse (Two (Plain Arg) Equal (number 10))
-    (Do (Put (cell (Number (pos 0))) (Two (Plain Arg) Multiply (number 2))) Done)
-    (Do (Put (cell Step) (Two (At (cell (Number (pos 1)))) Remainder (number 7))) Done)
+    (Do (Put Set (cell (Number (pos 0))) (Two (Plain Arg) Multiply (number 2))) Done)
+    (Do (Put Set (cell Step) (Two (At (cell (Number (pos 1)))) Remainder (number 7))) Done)
     (Do (Print (One (At (cell Arg)))) (Do Stop Done))
 
 abbrev pub worked_job : JobTree
 worked_job = record {
+  format = 1;
   arrays = (codes "a", pos 10 ∷ negsuc 19 ∷ []) ∷ [];
   bodies = record { name = codes "p"; locals = codes "i" ∷ []; block = spawning } ∷ record { name = codes "q"; locals = []; block = choosing } ∷ [];
   starts = record { body = 0; arg = pos 5 } ∷ [];
