@@ -22,6 +22,7 @@ pub mod KeptLines
 pub mod BodyHeads
 pub mod Headers
 pub mod Known
+pub mod Upgraded
 pub mod LocalsBehind
 pub mod LegalBodies
 pub mod ReadJobs

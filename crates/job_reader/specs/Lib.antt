@@ -8,4 +8,5 @@ pub mod Reading
 pub mod Relates
 pub mod Trees
 pub mod Writing
+pub mod Upgrade
 pub mod Begins

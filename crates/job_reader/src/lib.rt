@@ -10,10 +10,12 @@ mod push;
 mod read;
 mod so_far;
 mod state;
+mod upgrades;
 mod write;
 
 pub use fault::ReadJobFault;
 pub use laws::{each_text_is_read_or_refused, read_texts_are_jobs};
 pub use read::read_job;
 pub use text_lines::{Code, Refusal};
+pub use upgrades::upgrade;
 pub use write::write_job;
