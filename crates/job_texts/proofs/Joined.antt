@@ -28,7 +28,7 @@ not-over : (n : ℕ) → nat_lt 1048576 n ≡ false → n ≤ 1048576
 not-over n e = grind (arith, common_steps)
 
 -- what is read is a text of that job
-read-text : (text : List ℕ) (j : JobTree) → job_in text ≡ Ok j → IsTextOfJob j text
+pub read-text : (text : List ℕ) (j : JobTree) → job_in text ≡ Ok j → IsTextOfJob j text
 unfolding job_in
 read-text text j e =
     let allowed = not-long (nat_lt 1048576 (length text)) (bad_byte_line 1 text) (read_from (declared (lines_of text)) 1 (lines_of text)) j e in

@@ -25,3 +25,4 @@ pub mod Ended
 pub mod Above
 pub mod Named
 pub mod Lacking
+pub mod Upgraded

@@ -2,3 +2,5 @@ pub mod Canonical
 pub mod Laws
 pub mod Refusals
 pub mod Worked
+pub mod WorkedSecond
+pub mod Upgrades

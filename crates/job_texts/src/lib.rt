@@ -2,12 +2,14 @@
 //!
 //! * [`canonical`]: the canonical text of a job.
 //! * [`laws`]: texts that are a job's: these and no others are read, each as that job.
+//! * [`upgrades`]: what is upgraded is read as it was written; texts of format 2, worked out.
 //! * [`refusals`]: that of a line holds whatever follows it, and what stands above may go on to a job.
 #![tactic(auto)]
 
 mod canonical;
 mod laws;
 mod refusals;
+mod upgrades;
 
 pub use canonical::{canonical_texts_are_texts, read_jobs_are_jobs};
 pub use laws::{
@@ -18,4 +20,7 @@ pub use laws::{
 pub use refusals::{
     lines_above_are_read, lines_above_go_on, plain_texts_are_refused_alike,
     refusals_are_of_a_line_or_texts_go_on, refusals_hold_for_all_that_follows,
+};
+pub use upgrades::{
+    second_format_is_worked_out, upgraded_texts_are_read, upgrading_twice_is_upgrading_once,
 };
