@@ -3,5 +3,6 @@ pub mod CellProofs
 pub mod Landed
 pub mod PathOrder
 pub mod LandedLaws
-pub mod Overlaid
+pub mod Over
+pub mod Taken
 pub mod Merged

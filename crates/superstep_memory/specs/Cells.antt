@@ -15,6 +15,7 @@ use Rattle.std.specs.Prelude.{
   not,
   ◌&&◌,
   ◌||◌,
+  ◌+ℤ◌,
   List,
   [],
   ◌∷◌,
@@ -26,9 +27,12 @@ use Rattle.std.specs.Prelude.{
   slice_set,
   is_some,
   nat_lt,
+  unwrap_or,
   if◌then◌else◌,
 }
 use Rattle.std.specs.Str.{bytes_eq}
+use Rattle.superstep_memory.specs.declared.arrays.Kind.{Kind}
+use Rattle.superstep_memory.specs.declared.arrays.Kind.TheVariants.{Set, Add}
 use Rattle.superstep_memory.specs.declared.arrays.Put.{Put}
 
 -- the cell of this number, if it is a cell of these
@@ -67,9 +71,18 @@ with_place [] array index value = []
 with_place (a ∷ rest) zero index value = (a.0, slice_set a.1 index value) ∷ rest
 with_place (a ∷ rest) (suc array) index value = a ∷ with_place rest array index value
 
--- arrays with one put written, if there is its cell
+-- the value of a cell, 0 where there is none
+abbrev pub value_at : List (List ℕ × List ℤ) → ℕ → ℕ → ℤ
+value_at arrays array index = unwrap_or (cell_at arrays array (pos index)) (pos 0)
+
+-- what a cell holds after a put of this kind and value, by what it held before
+abbrev pub taken : Kind → ℤ → ℤ → ℤ
+taken Set value so_far = value
+taken Add value so_far = so_far +ℤ value
+
+-- arrays with one put taken, if there is its cell
 abbrev pub with_cell : List (List ℕ × List ℤ) → Put → List (List ℕ × List ℤ)
-with_cell arrays put = with_place arrays put.array put.index put.value
+with_cell arrays put = with_place arrays put.array put.index (taken put.kind put.value (value_at arrays put.array put.index))
 
 -- an array has this name
 abbrev pub has_array : List (List ℕ × List ℤ) → List ℕ → Bool

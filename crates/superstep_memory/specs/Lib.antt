@@ -3,8 +3,9 @@ pub mod Cells
 pub mod Seen
 pub mod ArraysView
 pub mod Landing
+pub mod Taken
 pub mod Logs
 pub mod Laws
+pub mod Worked
 pub mod PathOrder
-pub mod Latest
 pub mod Runs

@@ -21,7 +21,7 @@ ghost use Rattle.std.specs.Prelude.{
 };
 ghost use Rattle.std.specs.Option.{option_map};
 ghost use Rattle.superstep_memory.specs.Seen.{seen};
-ghost use Rattle.superstep_memory.specs.Cells.{cell_at, place_at, is_cell, with_cell, with_place, are_distinct, IsNew};
+ghost use Rattle.superstep_memory.specs.Cells.{cell_at, place_at, is_cell, value_at, with_place, are_distinct, IsNew};
 
 use indexmap::IndexMap;
 use std::alloc::{AllocError, Global};
@@ -163,16 +163,28 @@ impl Arrays {
         self.place(put.array, i64::from(put.index)).is_some()
     }
 
-    /// Writes a value into its cell, if there is one.
-    pub fn write(&mut self, put: Put)
-        ensures { self.new ≡ with_cell self.old put }
+    /// What the cell of a put holds, 0 where there is none.
+    #[inline(always)]
+    pub(crate) fn value_at(&self, put: Put) -> i64
+        ensures { result ≡ value_at self.now put.array put.index }
     {
-        self.write_at(usize::from(put.array), put.index as usize, put.value);
+        match self.get(usize::from(put.array)) {
+            Some((_, cells)) => cells.get(put.index as usize).copied().unwrap_or(0),
+            None => 0,
+        }
     }
 
-    /// Writes a value into the cell of this number of the array at this place, if there is one.
+    /// Writes this value, in place of that of the put, into its cell, if there is one.
     #[inline(always)]
-    pub(crate) fn write_at(&mut self, array: usize, index: usize, value: i64)
+    pub(crate) fn write(&mut self, put: Put, value: i64)
+        ensures { self.new ≡ with_place self.old put.array put.index value }
+    {
+        self.write_at(usize::from(put.array), put.index as usize, value);
+    }
+
+    // Writes a value into the cell of this number of the array at this place, if there is one.
+    #[inline(always)]
+    fn write_at(&mut self, array: usize, index: usize, value: i64)
         ensures { self.new ≡ with_place self.old array index value }
     {
         if let Some(cells) = self.by_name.get_index_mut(array) {

@@ -3,7 +3,7 @@
 
 pub mod arrays;
 pub mod landing;
-mod latest;
 pub mod laws;
+pub mod log;
 pub mod path;
 pub mod runs;
