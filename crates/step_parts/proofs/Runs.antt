@@ -1,20 +1,16 @@
 -- Supersteps one after another.
-use Rattle.std.proofs.Common.{◌≡◌, ℕ, zero, suc, ◌+◌, ◌<◌, Bool, true, false, nat_lt, nat_le, List, [], ◌∷◌, length, Option, Some, None, refl, sym, ap, ◌∙◌, arith}
+use Rattle.std.proofs.Common.{◌≡◌, ℕ, zero, suc, ◌+◌, ◌<◌, Bool, true, false, nat_le, List, [], ◌∷◌, Option, Some, None, refl, sym, ap, ◌∙◌, arith}
 use Rattle.std.specs.Prelude.{if◌then◌else◌}
 use Rattle.phase_records.specs.Status.{Status, Limit}
 use Rattle.task_lang.specs.Meaning.{Task, Segment}
 use Rattle.step_parts.specs.Program.{Program}
-use Rattle.step_parts.specs.Superstep.{State, superstep, closed, ended_by, gone_on, segments, first_fault, next_live}
+use Rattle.step_parts.specs.Superstep.{State, superstep, closed, segments, fault_in}
 use Rattle.step_parts.specs.JobMeaning.{state_at, so_far, status, status_of, unless_ended, told, report_of}
 
 -- one superstep goes on to the next step, or faults where it is
 pub step_moves : (st : State) (ss : List (List ℕ × Segment)) (f : Option (ℕ × List ℕ)) → ((closed st ss f).fault ≡ None) → (closed st ss f).step ≡ st.step + 1
 step_moves st ss (Some f) h = cc
-step_moves st ss None h = many (nat_lt 4096 (length (next_live ss))) h
-  where
-    many : (b : Bool) → (if b then ended_by st (7, []) else gone_on st ss (next_live ss)).fault ≡ None → (if b then ended_by st (7, []) else gone_on st ss (next_live ss)).step ≡ st.step + 1
-    many true h = cc
-    many false h = refl
+step_moves st ss None h = refl
 
 -- a state that goes on has no fault
 pub no_fault : (limit : ℕ) (st : State) → status limit st ≡ None → st.fault ≡ None
@@ -58,7 +54,7 @@ goes_more p limit n more None e h =
     let before : GoesOn p limit n = more e in
     let k : so_far p limit (suc n) ≡ superstep p (so_far p limit n) = goes (status limit (so_far p limit n)) (so_far p limit n) (superstep p (so_far p limit n)) e in
     let f : (superstep p (so_far p limit n)).fault ≡ None = ap (λ (x : State). x.fault) (sym k) ∙ no_fault limit (so_far p limit (suc n)) h in
-    let m : (superstep p (so_far p limit n)).step ≡ (so_far p limit n).step + 1 = step_moves (so_far p limit n) (segments p (so_far p limit n).arrays (so_far p limit n).step (so_far p limit n).live) (first_fault (segments p (so_far p limit n).arrays (so_far p limit n).step (so_far p limit n).live)) f in
+    let m : (superstep p (so_far p limit n)).step ≡ (so_far p limit n).step + 1 = step_moves (so_far p limit n) (segments p (so_far p limit n).arrays (so_far p limit n).step (so_far p limit n).live) (fault_in (so_far p limit n).arrays (segments p (so_far p limit n).arrays (so_far p limit n).step (so_far p limit n).live)) f in
     let up : n + 1 ≡ suc n = omega arith in
     record {
       step = ap (λ (x : State). x.step) k ∙ m ∙ ap (λ x. x + 1) before.step ∙ up;

@@ -1,5 +1,5 @@
 -- Parts of what was delivered for a task, as the code has them.
-use Rattle.std.specs.Prelude.{◌≡◌, ℕ, ◌≤◌, ◌<◌, slice_get, length, List, [], ◌∷◌, ◌++◌, Option, Some, None}
+use Rattle.std.specs.Prelude.{◌≡◌, ℕ, ◌-◌, ◌≤◌, ◌<◌, nat_lt, if◌then◌else◌, slice_get, length, List, [], ◌∷◌, ◌++◌, Option, Some, None}
 use Rattle.smallvec.specs.SmallVec.{SmallVec}
 use Rattle.superstep_memory.specs.declared.arrays.Put.{Put}
 use Rattle.task_lang.specs.TaskValue.{TaskValue}
@@ -15,6 +15,20 @@ puts_of (Some g) = g.puts
 -- the puts that were delivered for a task
 abbrev pub puts_in : SlotValue → List Put
 puts_in s = puts_of s.done
+
+-- the puts of all tasks, one after another, as far as was delivered
+abbrev pub log_in : List SlotValue → List Put
+log_in [] = []
+log_in (s ∷ ss) = puts_in s ++ log_in ss
+
+-- the path of the task whose put stands at this place of them
+abbrev pub path_at : List SlotValue → ℕ → Option (List ℕ)
+path_at [] place = None
+path_at (s ∷ ss) place = if nat_lt place (length (puts_in s)) then Some s.task.path else path_at ss (place - length (puts_in s))
+
+-- fault 8 of a task
+abbrev pub told_at : List ℕ → ℕ × List ℕ
+told_at path = (8, path)
 
 abbrev pub synced_in : After → List TaskValue
 synced_in (after.Synced t) = t ∷ []

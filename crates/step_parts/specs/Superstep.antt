@@ -15,8 +15,9 @@ use Rattle.std.specs.Prelude.{
   Some,
   None,
 }
+use Rattle.std.specs.Option.{option_map}
 use Rattle.superstep_memory.specs.declared.arrays.Put.{Put}
-use Rattle.superstep_memory.specs.Landing.{joined, landed}
+use Rattle.superstep_memory.specs.Landing.{joined, landed, first_over}
 use Rattle.phase_records.specs.PrintValue.{PrintValue}
 use Rattle.phase_records.specs.declared.record.PhaseRecord.{PhaseRecord}
 use Rattle.task_lang.specs.FaultCode.{code_of}
@@ -116,17 +117,32 @@ gone_on st ss next = record {
 }
 
 -- fault 7, where over 4096 tasks would live on
-abbrev pub unless_many : State → List (List ℕ × Segment) → List Task → State
-unless_many st ss next = if nat_lt 4096 (length next) then ended_by st (7, []) else gone_on st ss next
+abbrev pub too_many : List Task → Option (ℕ × List ℕ)
+too_many next = if nat_lt 4096 (length next) then Some (7, []) else None
 
--- the first faulting path comes first, then the number of tasks
+abbrev pub fault_eight : List ℕ × ℕ → ℕ × List ℕ
+fault_eight e = (8, e.0)
+
+-- fault 8, with the path of the first put whose sum is outside of 64 signed bits
+abbrev pub overflow : List (List ℕ × List ℤ) → List (List ℕ × Segment) → Option (ℕ × List ℕ)
+overflow arrays ss = option_map fault_eight (first_over arrays (map log_of ss))
+
+abbrev pub or_next : Option (ℕ × List ℕ) → Option (ℕ × List ℕ) → Option (ℕ × List ℕ)
+or_next (Some f) next = Some f
+or_next None next = next
+
+-- How a superstep ends the job, if it does: the first faulting task comes first, then the number of tasks, then the first
+-- put that overflows.
+abbrev pub fault_in : List (List ℕ × List ℤ) → List (List ℕ × Segment) → Option (ℕ × List ℕ)
+fault_in arrays ss = or_next (first_fault ss) (or_next (too_many (next_live ss)) (overflow arrays ss))
+
 abbrev pub closed : State → List (List ℕ × Segment) → Option (ℕ × List ℕ) → State
 closed st ss (Some f) = ended_by st f
-closed st ss None = unless_many st ss (next_live ss)
+closed st ss None = gone_on st ss (next_live ss)
 
 -- one superstep, by the segments of its live tasks
 abbrev pub closed_by : State → List (List ℕ × Segment) → State
-closed_by st ss = closed st ss (first_fault ss)
+closed_by st ss = closed st ss (fault_in st.arrays ss)
 
 -- one superstep
 abbrev pub superstep : Program → State → State

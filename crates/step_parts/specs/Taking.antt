@@ -1,5 +1,5 @@
 -- What a round takes and refuses (own).
-use Rattle.std.specs.Prelude.{◌≡◌, ℕ, nat_lt, if◌then◌else◌, is_some, ◌||◌, List, [], ◌∷◌, length, Bool, true, false, Option, Some, None, slice_get}
+use Rattle.std.specs.Prelude.{◌≡◌, ℕ, ℤ, is_some, ◌||◌, List, [], ◌∷◌, Bool, true, false, Option, Some, None, slice_get}
 use Rattle.std.specs.Option.{option_map}
 use Rattle.std.specs.Str.{bytes_eq}
 use Rattle.task_lang.specs.TaskValue.{TaskValue}
@@ -9,11 +9,11 @@ use Rattle.step_parts.specs.declared.fault.AcceptFault.TheVariants as accept
 use Rattle.step_parts.specs.declared.fault.CloseFault.{CloseFault}
 use Rattle.step_parts.specs.declared.fault.CloseFault.TheVariants as close
 use Rattle.step_parts.specs.declared.fault.Outcome as outcomes
-use Rattle.step_parts.specs.declared.fault.Outcome.TheVariants.{Landed, Faulted, TooMany}
+use Rattle.step_parts.specs.declared.fault.Outcome.TheVariants.{Landed, Faulted, TooMany, Overflowed}
 use Rattle.step_parts.specs.SlotValue.{SlotValue}
 use Rattle.step_parts.specs.SlotParts.{IsPath}
 use Rattle.step_parts.specs.Slots.{with_segment, first_missing}
-use Rattle.step_parts.specs.Superstep.{first_fault, next_live}
+use Rattle.step_parts.specs.Superstep.{first_fault, too_many, overflow, next_live}
 use Rattle.step_parts.specs.RoundValue.{RoundValue, slots_in}
 use Rattle.step_parts.specs.OrderValue.{OrderValue, DeliveryValue}
 
@@ -66,13 +66,15 @@ abbrev pub NotClosed : CloseFault → RoundValue → Type 0
 NotClosed (close.Missing path) r = first_missing (slots_in r) ≡ Some path.items
 NotClosed (close.Memory e) r = Unit {0}
 
-abbrev pub outcome_by : Option (ℕ × List ℕ) → ℕ → outcomes.Outcome
-outcome_by (Some f) count = Faulted
-outcome_by None count = if nat_lt 4096 count then TooMany else Landed
+abbrev pub outcome_by : Option (ℕ × List ℕ) → Option (ℕ × List ℕ) → Option (ℕ × List ℕ) → outcomes.Outcome
+outcome_by (Some f) many over = Faulted
+outcome_by None (Some f) over = TooMany
+outcome_by None None (Some f) = Overflowed
+outcome_by None None None = Landed
 
--- how a superstep of these segments ends
-abbrev pub outcome_of : List (List ℕ × Segment) → outcomes.Outcome
-outcome_of ss = outcome_by (first_fault ss) (length (next_live ss))
+-- how a superstep of these segments over these arrays ends
+abbrev pub outcome_of : List (List ℕ × List ℤ) → List (List ℕ × Segment) → outcomes.Outcome
+outcome_of arrays ss = outcome_by (first_fault ss) (too_many (next_live ss)) (overflow arrays ss)
 
 -- one of these tasks has this path
 abbrev pub is_live : List SlotValue → List ℕ → Bool

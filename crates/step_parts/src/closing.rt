@@ -1,9 +1,7 @@
 //! What a round does with what was delivered.
-ghost use Rattle.std.specs.Prelude.{◌≡◌, ◌≤◌, ◌++◌, List, IfOk, OnOk, OnErr, map, length, option_map, []};
-ghost use Rattle.std.specs.Arc.{arc_value};
-ghost use Rattle.superstep_memory.specs.Landing.{landed, joined};
+ghost use Rattle.std.specs.Prelude.{◌≡◌, ◌≤◌, ◌++◌, List, IfOk, OnOk, map, length, option_map, []};
 ghost use Rattle.task_lang.specs.Meaning.{Plan};
-ghost use Rattle.step_parts.specs.Superstep.{first_fault, prints_of, print_of, record_of, spawned, left, log_of};
+ghost use Rattle.step_parts.specs.Superstep.{first_fault, prints_of, print_of, record_of, spawned, left};
 ghost use Rattle.step_parts.specs.Slots.{slots_of, delivered, first_missing};
 ghost use Rattle.step_parts.specs.SlotParts.{path_of, AllSmall};
 
@@ -11,8 +9,6 @@ use crate::slot::{Blame, Slots, task_path};
 use phase_records::{PhaseRecord, Print};
 use smallvec::SmallVec;
 use std::alloc::{AllocError, Global};
-use std::sync::Arc;
-use superstep_memory::arrays::Arrays;
 use superstep_memory::path::Path;
 use task_lang::task::{After, Task};
 
@@ -58,6 +54,16 @@ pub fn too_many(alloc: Global) -> Blame
     }
 }
 
+/// The fault of a put of this task that overflows.
+pub fn overflowed(task: &Task) -> Blame
+    ensures { result ≡ (8, task.now.path) }
+{
+    Blame {
+        code: 8,
+        path: task_path(task),
+    }
+}
+
 /// Puts prints of a task behind what is there.
 pub fn push_prints(
     prints: &mut Vec<Print>,
@@ -96,42 +102,6 @@ pub(crate) fn collect_prints(
         rest = after;
     }
     Ok(prints)
-}
-
-/// Lands what was delivered.
-pub(crate) fn land_slots(arrays: &mut Arrays, slots: &Slots<'_>)
-    ensures { (ps : List Plan) → arrays.new ≡ landed (joined (map log_of (delivered (slots_of ps slots.now)))) arrays.old }
-{
-    let mut rest = slots.again();
-    while let Some((slot, after)) = rest.split_first() {
-        slot.land(arrays);
-        rest = after;
-    }
-}
-
-/// Lands what was delivered in the opening arrays: in place where nobody else has them, else in a copy.
-pub(crate) fn land_opening(
-    alloc: Global,
-    opening: &mut Arc<Arrays>,
-    slots: &Slots<'_>,
-) -> Result<(), AllocError>
-    ensures lands { OnOk result ((ps : List Plan)
-        → arc_value opening.new ≡ landed (joined (map log_of (delivered (slots_of ps slots.now)))) (arc_value opening.old)) }
-    ensures unchanged { OnErr result (arc_value opening.new ≡ arc_value opening.old) }
-{
-    if let Some(arrays) = Arc::get_mut(opening) {
-        land_slots(arrays, slots);
-        return Ok(());
-    }
-    let mut copy = opening.copy(alloc)?;
-    land_slots(&mut copy, slots);
-    match Arc::new(alloc, copy) {
-        Ok(landed) => {
-            *opening = landed;
-            Ok(())
-        }
-        Err(_) => Err(AllocError),
-    }
 }
 
 /// The record of a superstep.

@@ -65,4 +65,6 @@ pub enum Outcome {
     Faulted,
     /// Over 4096 tasks would have lived on, and the job ended with fault 7. Its number among a round's answers is 5.
     TooMany,
+    /// A put that adds had a sum outside of 64 signed bits, and the job ended with fault 8.
+    Overflowed,
 }

@@ -3,6 +3,7 @@
 
 pub mod closing;
 pub mod fault;
+mod landing;
 pub mod live;
 pub mod next;
 pub mod order;

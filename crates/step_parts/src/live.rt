@@ -1,17 +1,18 @@
 //! The live tasks of a round, and what was delivered for them.
-ghost use Rattle.std.specs.Prelude.{◌≡◌, ◌≤◌, ◌++◌, ◌∷◌, List, [], OnOk, OnErr, map, length};
+ghost use Rattle.std.specs.Prelude.{◌≡◌, ◌≤◌, ◌++◌, ◌∷◌, List, [], None, IsSome, IfOk, OnOk, OnErr, map, length};
 ghost use Rattle.std.specs.Arc.{arc_value};
 ghost use Rattle.std.specs.Vec.{vec_capacity};
 ghost use Rattle.superstep_memory.specs.Landing.{landed, joined};
 ghost use Rattle.task_lang.specs.Meaning.{Plan};
-ghost use Rattle.step_parts.specs.Superstep.{log_of};
+ghost use Rattle.step_parts.specs.Superstep.{log_of, overflow};
 ghost use Rattle.step_parts.specs.Slots.{slots_of, delivered, told_by};
 ghost use Rattle.superstep_memory.specs.PathOrder.{in_path_order};
 ghost use Rattle.step_parts.specs.SlotParts.{AllSmall, beside, living_by, no_segment, path_in};
 
-use crate::closing::{collect_prints, land_opening, record_of};
+use crate::closing::{collect_prints, record_of};
+use crate::landing::land_opening;
 use crate::next::{go_on, make_room, set_undone};
-use crate::slot::{Finished, Slots};
+use crate::slot::{Blame, Finished, Slots};
 use std::alloc::{AllocError, Global};
 use std::marker::Model;
 use std::sync::Arc;
@@ -40,29 +41,36 @@ impl Model for Live {
     ghost invariant = { λ l. length (arc_value l.tasks).items ≡ length l.done.items };
 }
 
-// Lands what was delivered, and keeps what the superstep printed and its record. Without memory nothing changes.
+// Lands what was delivered, and keeps what the superstep printed and its record. Or tells the first put that overflows; then, and
+// without memory, nothing changes.
 fn finish(
     alloc: Global,
     step: u32,
     slots: &Slots<'_>,
     opening: &mut Arc<Arrays>,
     finished: &mut Vec<Finished>,
-) -> Result<(), AllocError>
+) -> Result<Option<Blame>, AllocError>
     requires few { length slots.now ≤ 4096 }
     requires small { AllSmall slots.now }
-    ensures lands { OnOk result ((ps : List Plan)
+    ensures fault { IfOk result (λ fault. (ps : List Plan)
+        → fault ≡ overflow (arc_value opening.old) (delivered (slots_of ps slots.now))) }
+    ensures lands { IfOk result (λ fault. fault ≡ None → (ps : List Plan)
         → arc_value opening.new ≡ landed (joined (map log_of (delivered (slots_of ps slots.now)))) (arc_value opening.old)) }
-    ensures tells { OnOk result ((ps : List Plan)
+    ensures tells { IfOk result (λ fault. fault ≡ None → (ps : List Plan)
         → finished.new.items ≡ finished.old.items ++ told_by step (delivered (slots_of ps slots.now)) ∷ []) }
+    ensures unlanded { IfOk result (λ fault. IsSome fault
+        → (arc_value opening.new ≡ arc_value opening.old) × (finished.new.items ≡ finished.old.items)) }
     ensures same_arrays { OnErr result (arc_value opening.new ≡ arc_value opening.old) }
     ensures same_tales { OnErr result (finished.new.items ≡ finished.old.items) }
 {
     let prints = collect_prints(alloc, step, slots)?;
     let told = record_of(step, slots);
     finished.reserve(1)?;
-    land_opening(alloc, opening, slots)?;
+    if let Some(blame) = land_opening(alloc, opening, slots)? {
+        return Ok(Some(blame));
+    }
     match finished.push(Finished { prints, told }) {
-        Ok(()) => Ok(()),
+        Ok(()) => Ok(None),
         Err(_) => unreachable!(),
     }
 }
@@ -86,8 +94,8 @@ fn list_for(
     }
 }
 
-// Lands what was delivered for these tasks, and puts the next into a list that nobody else has. Without memory nothing
-// changes.
+// Lands what was delivered for these tasks, and puts the next into a list that nobody else has. Or tells the first put that
+// overflows; then, and without memory, nothing changes.
 fn close_into(
     alloc: Global,
     step: u32,
@@ -97,18 +105,22 @@ fn close_into(
     next: &mut Arc<Vec<Task>>,
     opening: &mut Arc<Arrays>,
     finished: &mut Vec<Finished>,
-) -> Result<(), AllocError>
+) -> Result<Option<Blame>, AllocError>
     requires few { length (beside tasks.now done.old.items) ≤ 4096 }
     requires small { AllSmall (beside tasks.now done.old.items) }
     requires none_yet { room.old.items ≡ [] }
     requires room { length (living_by done.old.items) ≤ vec_capacity room.old }
     requires places { length (living_by done.old.items) ≤ vec_capacity done.old }
-    ensures lands { OnOk result ((ps : List Plan) → arc_value opening.new
+    ensures fault { IfOk result (λ fault. (ps : List Plan)
+        → fault ≡ overflow (arc_value opening.old) (delivered (slots_of ps (beside tasks.now done.old.items)))) }
+    ensures lands { IfOk result (λ fault. fault ≡ None → (ps : List Plan) → arc_value opening.new
         ≡ landed (joined (map log_of (delivered (slots_of ps (beside tasks.now done.old.items))))) (arc_value opening.old)) }
-    ensures tells { OnOk result ((ps : List Plan) → finished.new.items
+    ensures tells { IfOk result (λ fault. fault ≡ None → (ps : List Plan) → finished.new.items
         ≡ finished.old.items ++ told_by step (delivered (slots_of ps (beside tasks.now done.old.items))) ∷ []) }
-    ensures tasks { OnOk result ((arc_value next.new).items ≡ in_path_order path_in (living_by done.old.items)) }
-    ensures none { OnOk result (done.new.items ≡ map no_segment (arc_value next.new).items) }
+    ensures tasks { IfOk result (λ fault. fault ≡ None → (arc_value next.new).items ≡ in_path_order path_in (living_by done.old.items)) }
+    ensures none { IfOk result (λ fault. fault ≡ None → done.new.items ≡ map no_segment (arc_value next.new).items) }
+    ensures unlanded { IfOk result (λ fault. IsSome fault → (done.new.items ≡ done.old.items)
+        × (arc_value opening.new ≡ arc_value opening.old) × (finished.new.items ≡ finished.old.items)) }
     ensures same_done { OnErr result (done.new.items ≡ done.old.items) }
     ensures same_arrays { OnErr result (arc_value opening.new ≡ arc_value opening.old) }
     ensures same_tales { OnErr result (finished.new.items ≡ finished.old.items) }
@@ -116,9 +128,11 @@ fn close_into(
     let Some(list) = Arc::get_mut(next) else {
         return Err(AllocError);
     };
-    finish(alloc, step, &Slots::of(tasks, done), opening, finished)?;
+    if let Some(blame) = finish(alloc, step, &Slots::of(tasks, done), opening, finished)? {
+        return Ok(Some(blame));
+    }
     go_on(done, room, list);
-    Ok(())
+    Ok(None)
 }
 
 // Keeps the room of a list of tasks that nobody has any more.
@@ -130,12 +144,12 @@ fn reuse(last: Arc<Vec<Task>>, room: &mut Vec<Task>) {
 }
 
 impl Live {
-    ghost use Rattle.std.specs.Prelude.{◌≡◌, ◌<◌, ◌≤◌, ◌↔◌, ◌++◌, ◌∷◌, List, [], IfOk, OnOk, OnErr, IsTrue, map, length, slice_get};
+    ghost use Rattle.std.specs.Prelude.{◌≡◌, ◌<◌, ◌≤◌, ◌↔◌, ◌++◌, ◌∷◌, List, [], None, IsSome, IfOk, OnErr, IsTrue, map, length, slice_get};
     ghost use Rattle.std.specs.Arc.{arc_value};
     ghost use Rattle.superstep_memory.specs.Landing.{landed, joined};
     ghost use Rattle.superstep_memory.specs.PathOrder.{in_path_order};
     ghost use Rattle.task_lang.specs.Meaning.{Plan};
-    ghost use Rattle.step_parts.specs.Superstep.{log_of};
+    ghost use Rattle.step_parts.specs.Superstep.{log_of, overflow};
     ghost use Rattle.step_parts.specs.Slots.{slots_of, delivered, told_by, with_segment};
     ghost use Rattle.step_parts.specs.SlotParts.{AllSmall, path_in, fresh_slot, living_in};
     ghost use Rattle.step_parts.specs.Taking.{is_done, task_at};
@@ -194,7 +208,7 @@ impl Live {
     }
 
     /// Lands what was delivered, keeps what the superstep printed and its record, and goes on to the next live tasks, of
-    /// whom there are so many. Without memory nothing changes.
+    /// whom there are so many. Or tells the first put that overflows; then, and without memory, nothing changes.
     pub fn take_superstep(
         &mut self,
         alloc: Global,
@@ -202,21 +216,25 @@ impl Live {
         count: usize,
         opening: &mut Arc<Arrays>,
         finished: &mut Vec<Finished>,
-    ) -> Result<(), AllocError>
+    ) -> Result<Option<Blame>, AllocError>
         requires few { length self.old ≤ 4096 }
         requires small { AllSmall self.old }
         requires count { count ≡ length (living_in self.old) }
-        ensures lands { OnOk result ((ps : List Plan)
+        ensures fault { IfOk result (λ fault. (ps : List Plan)
+            → fault ≡ overflow (arc_value opening.old) (delivered (slots_of ps self.old))) }
+        ensures lands { IfOk result (λ fault. fault ≡ None → (ps : List Plan)
             → arc_value opening.new ≡ landed (joined (map log_of (delivered (slots_of ps self.old)))) (arc_value opening.old)) }
-        ensures tells { OnOk result ((ps : List Plan)
+        ensures tells { IfOk result (λ fault. fault ≡ None → (ps : List Plan)
             → finished.new.items ≡ finished.old.items ++ told_by step (delivered (slots_of ps self.old)) ∷ []) }
-        ensures next { OnOk result (self.new ≡ map fresh_slot (in_path_order path_in (living_in self.old))) }
+        ensures next { IfOk result (λ fault. fault ≡ None → self.new ≡ map fresh_slot (in_path_order path_in (living_in self.old))) }
+        ensures unlanded { IfOk result (λ fault. IsSome fault → (self.new ≡ self.old)
+            × (arc_value opening.new ≡ arc_value opening.old) × (finished.new.items ≡ finished.old.items)) }
         ensures same_tasks { OnErr result (self.new ≡ self.old) }
         ensures same_arrays { OnErr result (arc_value opening.new ≡ arc_value opening.old) }
         ensures same_tales { OnErr result (finished.new.items ≡ finished.old.items) }
     {
         let mut next = list_for(alloc, &mut self.room, &mut self.done, count)?;
-        close_into(
+        let told = close_into(
             alloc,
             step,
             &self.tasks,
@@ -226,8 +244,11 @@ impl Live {
             opening,
             finished,
         )?;
+        if let Some(blame) = told {
+            return Ok(Some(blame));
+        }
         let last = std::mem::replace(&mut self.tasks, next);
         reuse(last, &mut self.room);
-        Ok(())
+        Ok(None)
     }
 }

@@ -4,8 +4,7 @@ ghost use Rattle.std.specs.Prelude.{◌≡◌, ◌≤◌, length};
 use phase_records::{JobStatus, PhaseRecord, Print};
 use smallvec::SmallVec;
 use std::marker::Model;
-use superstep_memory::arrays::Arrays;
-use superstep_memory::landing::write_puts;
+use superstep_memory::arrays::Put;
 use superstep_memory::path::Path;
 use task_lang::task::{After, Segment, Task};
 
@@ -98,7 +97,6 @@ impl<'a> Slot<'a> {
     ghost use Rattle.std.specs.Prelude.{◌≡◌, is_some, Some, None, length};
     ghost use Rattle.std.specs.Option.{option_copied};
     ghost use Rattle.std.specs.Str.{bytes_eq};
-    ghost use Rattle.superstep_memory.specs.Landing.{written};
     ghost use Rattle.step_parts.specs.SlotParts.{puts_in, living_of, IsSmall};
 
     pub(crate) fn task(&self) -> &'a Task
@@ -141,15 +139,17 @@ impl<'a> Slot<'a> {
         }
     }
 
-    /// Lands what was delivered, if it was.
-    pub fn land(&self, arrays: &mut Arrays)
-        ensures { arrays.new ≡ written (puts_in self.now) arrays.old }
+    /// The puts that were delivered.
+    pub(crate) fn puts(&self) -> &'a [Put]
+        ensures { result.now ≡ puts_in self.now }
     {
-        if let Some(segment) = self.done {
-            write_puts(arrays, &segment.puts);
+        match self.done {
+            Some(segment) => &segment.puts,
+            None => &[],
         }
     }
 }
+
 /// A path of its own, like this one. It takes no memory.
 pub(crate) fn copy_path(path: &Path) -> Path
     requires { length path.now.items ≤ 8 }

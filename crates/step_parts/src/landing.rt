@@ -1,0 +1,127 @@
+//! How the puts that were delivered land.
+ghost use Rattle.std.specs.Prelude.{◌≡◌, ◌<◌, List, None, IsTrue, IsSome, IfOk, OnErr, map, length};
+ghost use Rattle.std.specs.List.{list_all};
+ghost use Rattle.std.specs.Option.{option_map};
+ghost use Rattle.std.specs.Arc.{arc_value};
+ghost use Rattle.superstep_memory.specs.Landing.{landed, joined, is_set};
+ghost use Rattle.task_lang.specs.Meaning.{Plan};
+ghost use Rattle.step_parts.specs.Superstep.{overflow, fault_eight, log_of};
+ghost use Rattle.step_parts.specs.Slots.{slots_of, delivered};
+ghost use Rattle.step_parts.specs.SlotParts.{log_in, path_at, told_at};
+
+use crate::closing::overflowed;
+use crate::slot::{Blame, Slots};
+use std::alloc::{AllocError, Global};
+use std::sync::Arc;
+use superstep_memory::arrays::{Arrays, PutLog};
+use superstep_memory::log::{are_sets, land_log, write_sets};
+
+// Whether each put that was delivered sets its cell.
+fn are_all_sets(slots: &Slots<'_>) -> bool
+    ensures { result ≡ list_all is_set (log_in slots.now) }
+{
+    let mut rest = slots.again();
+    while let Some((slot, after)) = rest.split_first() {
+        if !are_sets(slot.puts()) {
+            return false;
+        }
+        rest = after;
+    }
+    true
+}
+
+// Lands puts each of which sets its cell, in their places.
+fn write_all(arrays: &mut Arrays, slots: &Slots<'_>)
+    requires { IsTrue (list_all is_set (log_in slots.now)) }
+    ensures { arrays.new ≡ landed (log_in slots.now) arrays.old }
+{
+    let mut rest = slots.again();
+    while let Some((slot, after)) = rest.split_first() {
+        write_sets(arrays, slot.puts());
+        rest = after;
+    }
+}
+
+// All puts that were delivered, one after another.
+fn join(alloc: Global, slots: &Slots<'_>) -> Result<PutLog, AllocError>
+    ensures { IfOk result (λ puts. puts.items ≡ log_in slots.now) }
+{
+    let mut puts = Vec::new(alloc);
+    let mut rest = slots.again();
+    while let Some((slot, after)) = rest.split_first() {
+        puts.extend_from_slice(slot.puts())?;
+        rest = after;
+    }
+    Ok(puts)
+}
+
+// The fault of the task whose put stands at this place of all of them.
+fn blame_at(slots: &Slots<'_>, place: usize) -> Option<Blame>
+    ensures { result ≡ option_map told_at (path_at slots.now place) }
+{
+    let mut left = place;
+    let mut rest = slots.again();
+    while let Some((slot, after)) = rest.split_first() {
+        let count = slot.puts().len();
+        if left < count {
+            return Some(overflowed(slot.task()));
+        }
+        left -= count;
+        rest = after;
+    }
+    None
+}
+
+// Lands what was delivered, or tells the first put that overflows, and changes nothing.
+fn land_slots(
+    alloc: Global,
+    arrays: &mut Arrays,
+    slots: &Slots<'_>,
+) -> Result<Option<Blame>, AllocError>
+    ensures fault { IfOk result (λ fault. (ps : List Plan) → fault ≡ overflow arrays.old (delivered (slots_of ps slots.now))) }
+    ensures lands { IfOk result (λ fault. fault ≡ None → (ps : List Plan)
+        → arrays.new ≡ landed (joined (map log_of (delivered (slots_of ps slots.now)))) arrays.old) }
+    ensures unlanded { IfOk result (λ fault. IsSome fault → arrays.new ≡ arrays.old) }
+    ensures memory { OnErr result (arrays.new ≡ arrays.old) }
+{
+    if are_all_sets(slots) {
+        write_all(arrays, slots);
+        return Ok(None);
+    }
+    let puts = join(alloc, slots)?;
+    let mut olds = Vec::new(alloc);
+    match land_log(arrays, &puts, &mut olds)? {
+        None => Ok(None),
+        Some(place) => Ok(blame_at(slots, place)),
+    }
+}
+
+/// Lands what was delivered in the opening arrays: in place where nobody else has them, else in a copy. Or tells the first
+/// put that overflows, and changes nothing.
+pub(crate) fn land_opening(
+    alloc: Global,
+    opening: &mut Arc<Arrays>,
+    slots: &Slots<'_>,
+) -> Result<Option<Blame>, AllocError>
+    ensures fault { IfOk result (λ fault. (ps : List Plan)
+        → fault ≡ overflow (arc_value opening.old) (delivered (slots_of ps slots.now))) }
+    ensures lands { IfOk result (λ fault. fault ≡ None → (ps : List Plan)
+        → arc_value opening.new ≡ landed (joined (map log_of (delivered (slots_of ps slots.now)))) (arc_value opening.old)) }
+    ensures unlanded { IfOk result (λ fault. IsSome fault → arc_value opening.new ≡ arc_value opening.old) }
+    ensures memory { OnErr result (arc_value opening.new ≡ arc_value opening.old) }
+{
+    if let Some(arrays) = Arc::get_mut(opening) {
+        return land_slots(alloc, arrays, slots);
+    }
+    let mut copy = opening.copy(alloc)?;
+    if let Some(blame) = land_slots(alloc, &mut copy, slots)? {
+        return Ok(Some(blame));
+    }
+    match Arc::new(alloc, copy) {
+        Ok(landed) => {
+            *opening = landed;
+            Ok(None)
+        }
+        Err(_) => Err(AllocError),
+    }
+}
