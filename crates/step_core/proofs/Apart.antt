@@ -14,7 +14,7 @@ use Rattle.task_lang.proofs.AllSegments.{numbers-its-spawns, stays-the-same-task
 use Rattle.step_parts.specs.Program.{Program, program_of}
 use Rattle.step_parts.specs.RoundValue.{RoundValue, IsRound, state_of}
 use Rattle.superstep_memory.specs.PathOrder.{put_in, in_path_order}
-use Rattle.step_parts.specs.Superstep.{State, superstep, closed, ended_by, gone_on, segments, first_fault, next_live, living_on, synced, live_paths}
+use Rattle.step_parts.specs.Superstep.{State, superstep, closed, segments, fault_in, next_live, living_on, synced, live_paths}
 use Rattle.step_parts.specs.JobMeaning.{so_far, status, unless_ended, start_tasks}
 use Rattle.step_core.specs.Laws.{LivePathsRise}
 
@@ -340,11 +340,7 @@ next_in_order p a n ts h =
 
 closed_in_order : (st : State) (ss : List (List ℕ × Segment)) (f : Option (ℕ × List ℕ)) → InOrder st.live → InOrder (next_live ss) → InOrder (closed st ss f).live
 closed_in_order st ss (Some f) h next = h
-closed_in_order st ss None h next = by (nat_lt 4096 (length (next_live ss)))
-  where
-    by : (b : Bool) → InOrder (if b then ended_by st (7, []) else gone_on st ss (next_live ss)).live
-    by true = h
-    by false = next
+closed_in_order st ss None h next = next
 
 start_run : (ps : List Plan) (n : ℕ) (ss : List Start) → IsRun [] n (start_tasks ps n ss)
 start_run ps n [] = tt
@@ -373,7 +369,7 @@ in_order p limit (suc k) = by (status limit (so_far p limit k)) (in_order p limi
     by (Some s) h = h
     by None h =
         closed_in_order (so_far p limit k) (segments p (so_far p limit k).arrays (so_far p limit k).step (so_far p limit k).live)
-        (first_fault (segments p (so_far p limit k).arrays (so_far p limit k).step (so_far p limit k).live)) h
+        (fault_in (so_far p limit k).arrays (segments p (so_far p limit k).arrays (so_far p limit k).step (so_far p limit k).live)) h
         (next_in_order p (so_far p limit k).arrays (so_far p limit k).step (so_far p limit k).live h.pairs)
 
 pub live-paths-rise : LivePathsRise

@@ -12,12 +12,12 @@ use Rattle.task_lang.specs.Views.{plans, task_of, meant}
 use Rattle.task_lang.proofs.AllSegments.{numbers-its-spawns}
 use Rattle.step_parts.specs.Program.{Program, program_of}
 use Rattle.superstep_memory.specs.PathOrder.{in_path_order}
-use Rattle.step_parts.specs.Superstep.{State, superstep, closed, closed_by, ended_by, gone_on, segments, first_fault, next_live, log_of, prints_of, record_of}
+use Rattle.step_parts.specs.Superstep.{State, superstep, closed, closed_by, ended_by, gone_on, segments, first_fault, too_many, overflow, or_next, fault_in, next_live, log_of, prints_of, record_of}
 use Rattle.smallvec.specs.SmallVec.{SmallVec}
 use Rattle.task_lang.specs.JobValue.{JobValue}
 use Rattle.task_lang.specs.declared.job.Start.{Start}
 use Rattle.task_lang.specs.BodyValue.{BodyValue}
-use Rattle.step_parts.specs.declared.fault.Outcome.TheVariants.{TooMany, Landed}
+use Rattle.step_parts.specs.declared.fault.Outcome.TheVariants.{TooMany, Landed, Overflowed}
 use Rattle.step_parts.specs.Taking.{outcome_of, outcome_by}
 use Rattle.step_parts.specs.JobMeaning.{so_far, status, opening, start_tasks}
 use Rattle.step_parts.specs.SlotValue.{SlotValue}
@@ -111,7 +111,7 @@ one_more r c st e =
     )
 
 -- a superstep by what was delivered
-by_delivered : (r : RoundValue) → Closes r → next_state r ≡ closed (state_of r) (deeds r) (first_fault (deeds r))
+by_delivered : (r : RoundValue) → Closes r → next_state r ≡ closed (state_of r) (deeds r) (fault_in r.arrays (deeds r))
 by_delivered r c = ap (closed_by (state_of r)) (sym (all_delivered (program_of r.job) r.arrays r.step (slots_in r) c.round.fits c.all))
 
 -- a round that this fault ends
@@ -125,13 +125,11 @@ by_fault r c f e = (
   λ new is. subst (λ (x : RoundValue). Opens x r.job r.limit (next_state r)) (sym is) (record { job = refl; limit = refl; state = sym e; none_yet = λ h. cc }),
 )
 
-chosen : (b : Bool) (x y : State) → b ≡ true → (if b then x else y) ≡ x
-chosen true x y h = refl
-chosen false x y h = cc
+not_many : (ts : List Task) → nat_lt 4096 (length ts) ≡ false → too_many ts ≡ None
+not_many ts b = ap (λ (t : Bool). if t then Some (7, []) else None) b
 
-other : (b : Bool) (x y : State) → b ≡ false → (if b then x else y) ≡ y
-other true x y h = cc
-other false x y h = refl
+are_many : (ts : List Task) → nat_lt 4096 (length ts) ≡ true → too_many ts ≡ Some (7, [])
+are_many ts b = ap (λ (t : Bool). if t then Some (7, []) else None) b
 
 -- the next live tasks as the code has them
 pub next_mapped : (ps : List Plan) (ss : List SlotValue) → map (task_of ps) (in_path_order path_in (living_in ss)) ≡ next_live (delivered (slots_of ps ss))
@@ -153,19 +151,19 @@ next_count : (ss : List SlotValue) (n : ℕ) → n ≡ length (living_in ss) →
 next_count ss n e = length-map (in_path_order path_in (living_in ss)) fresh_slot ∙ count_in_order path_in (living_in ss) ∙ sym e
 
 -- the round goes on
-pub gone_further : (r : RoundValue) → Closes r → first_fault (deeds r) ≡ None → (xs : List SlotValue)
+pub gone_further : (r : RoundValue) → Closes r → first_fault (deeds r) ≡ None → overflow r.arrays (deeds r) ≡ None → (xs : List SlotValue)
     → xs ≡ map fresh_slot (in_path_order path_in (living_in r.slots)) → length xs ≤ 4096
     → (a : List (List ℕ × List ℤ)) → a ≡ landed (joined (map log_of (deeds r))) r.arrays
     → (prints : List PrintValue) → prints ≡ r.prints ++ prints_of r.step (deeds r)
     → (records : List PhaseRecord) → records ≡ r.records ++ record_of r.step (deeds r) ∷ []
     → IsClosed r (record r { step = r.step + 1; arrays = a; slots = xs; prints = prints; records = records })
-gone_further r c none xs ex le a ea prints ep records er =
+gone_further r c none fits xs ex le a ea prints ep records er =
     let ps = plans r.job.bodies in
     let ts = in_path_order path_in (living_in r.slots) in
     let l = next_length r xs ex in
     let b : nat_lt 4096 (length (next_live (deeds r))) ≡ false = grind arith in
     let k : next_state r ≡ gone_on (state_of r) (deeds r) (next_live (deeds r)) =
-    by_delivered r c ∙ ap (closed (state_of r) (deeds r)) none ∙ other _ _ _ b in
+    by_delivered r c ∙ (λ i. closed (state_of r) (deeds r) (or_next (none i) (or_next (not_many (next_live (deeds r)) b i) (fits i)))) in
     let slots : slots_of ps xs ≡ map fresh (map (task_of ps) ts) = ap (slots_of ps) ex ∙ fresh_mapped ps ts in
     let live : map task_in (slots_of ps xs) ≡ next_live (deeds r) = ap (map task_in) slots ∙ fresh_tasks (map (task_of ps) ts) ∙ next_mapped ps r.slots in
     let s : state_of (record r { step = r.step + 1; arrays = a; slots = xs; prints = prints; records = records }) ≡ next_state r =
@@ -204,13 +202,13 @@ more_told fs gs f e = ap all_told e ∙ by fs
 -- as the code keeps it
 pub went_on : (job : JobValue) (limit step : ℕ) (arrays : List (List ℕ × List ℤ)) (slots : List SlotValue) (finished : List FinishedValue) (fault : Option (ℕ × List ℕ))
     → Closes (whole job limit step arrays slots finished fault) → first_fault (deeds (whole job limit step arrays slots finished fault)) ≡ None
-    → (xs : List SlotValue) → xs ≡ map fresh_slot (in_path_order path_in (living_in slots)) → length xs ≤ 4096
+    → overflow arrays (deeds (whole job limit step arrays slots finished fault)) ≡ None → (xs : List SlotValue) → xs ≡ map fresh_slot (in_path_order path_in (living_in slots)) → length xs ≤ 4096
     → (a : List (List ℕ × List ℤ)) → a ≡ landed (joined (map log_of (deeds (whole job limit step arrays slots finished fault)))) arrays
     → (fs : List FinishedValue) → fs ≡ finished ++ told_by step (deeds (whole job limit step arrays slots finished fault)) ∷ []
     → IsClosed (whole job limit step arrays slots finished fault) (whole job limit (step + 1) a xs fs fault)
-went_on job limit step arrays slots finished fault c none xs ex le a ea fs ef =
+went_on job limit step arrays slots finished fault c none fits xs ex le a ea fs ef =
     let f = told_by step (deeds (whole job limit step arrays slots finished fault)) in
-    gone_further (whole job limit step arrays slots finished fault) c none xs ex le a ea
+    gone_further (whole job limit step arrays slots finished fault) c none fits xs ex le a ea
     (all_prints fs) (more_prints finished fs f ef) (all_told fs) (more_told finished fs f ef)
 
 pub closed_now : (r now new : RoundValue) → r ≡ now → IsClosed r new → Opens new now.job now.limit (next_state now)
@@ -243,20 +241,25 @@ looked_through {now = now} round is run slots missing whole first =
 -- a round in whose slots a fault was found is ended by it
 pub ends_faulted : {r : RoundValue} {ss : List SlotValue} {fault : Option (ℕ × List ℕ)} {f : ℕ × List ℕ}
     → IsLookedThrough r ss fault → fault ≡ Some f → EndsBy r f
-ends_faulted {r = r} {f = f} at some = by_fault r at.closes f (by_delivered r at.closes ∙ ap (closed (state_of r) (deeds r)) (at.first ∙ some))
+ends_faulted {r = r} {f = f} at some =
+    by_fault r at.closes f
+    (by_delivered r at.closes
+    ∙ ap (λ o. closed (state_of r) (deeds r) (or_next o (or_next (too_many (next_live (deeds r))) (overflow r.arrays (deeds r))))) (at.first ∙ some))
 
 -- one in which none was found, but after which too many would live, is ended by that, and tells so
 pub ends_by_many : {r : RoundValue} {ss : List SlotValue} {fault : Option (ℕ × List ℕ)} {n : ℕ} {f : ℕ × List ℕ}
     → IsLookedThrough r ss fault → fault ≡ None → n ≡ length (living_in ss) → 4096 < n → f ≡ (7, [])
-    → EndsBy r f × (TooMany ≡ outcome_of (deeds r))
+    → EndsBy r f × (TooMany ≡ outcome_of r.arrays (deeds r))
 ends_by_many {r = r} {n = n} {f = f} at none count many seven =
     let l = next_length r (map fresh_slot (in_path_order path_in (living_in r.slots))) refl in
     let k = next_count r.slots n (count ∙ ap (λ (xs : List SlotValue). length (living_in xs)) at.slots) in
     let b : nat_lt 4096 (length (next_live (deeds r))) ≡ true = grind arith in
     let faultless = at.first ∙ none in (
       by_fault r at.closes f
-          (by_delivered r at.closes ∙ ap (closed (state_of r) (deeds r)) faultless ∙ chosen _ _ _ b ∙ ap (ended_by (state_of r)) (sym seven)),
-      sym (ap (λ e. outcome_by e (length (next_live (deeds r)))) faultless ∙ ap (λ t. if t then TooMany else Landed) b),
+          (by_delivered r at.closes
+          ∙ (λ i. closed (state_of r) (deeds r) (or_next (faultless i) (or_next (are_many (next_live (deeds r)) b i) (overflow r.arrays (deeds r)))))
+          ∙ ap (ended_by (state_of r)) (sym seven)),
+      sym (λ i. outcome_by (faultless i) (are_many (next_live (deeds r)) b i) (overflow r.arrays (deeds r))),
     )
 
 -- a round that lands, and how many live then
@@ -273,13 +276,38 @@ lands r now round is run all none count k = (
   next_count r.slots count (k ∙ ap (λ (x : RoundValue). length (living_in x.slots)) (sym is)),
 )
 
-pub few_outcome : (r now : RoundValue) → r ≡ now → first_fault (deeds r) ≡ None → (xs : List SlotValue)
-    → xs ≡ map fresh_slot (in_path_order path_in (living_in r.slots)) → length xs ≤ 4096 → Landed ≡ outcome_of (deeds now)
-few_outcome r now e none xs ex le =
+pub few_outcome : (r now : RoundValue) → r ≡ now → first_fault (deeds r) ≡ None → overflow r.arrays (deeds r) ≡ None → (xs : List SlotValue)
+    → xs ≡ map fresh_slot (in_path_order path_in (living_in r.slots)) → length xs ≤ 4096 → Landed ≡ outcome_of now.arrays (deeds now)
+few_outcome r now e none fits xs ex le =
     let l = next_length r xs ex in
     let b : nat_lt 4096 (length (next_live (deeds r))) ≡ false = grind arith in
-    sym (ap (λ (x : RoundValue). outcome_of (deeds x)) (sym e) ∙ ap (λ f. outcome_by f (length (next_live (deeds r)))) none
-    ∙ ap (λ t. if t then TooMany else Landed) b)
+    sym (ap (λ (x : RoundValue). outcome_of x.arrays (deeds x)) (sym e)
+    ∙ (λ i. outcome_by (none i) (not_many (next_live (deeds r)) b i) (fits i)))
+
+-- one in which neither was found is ended by the first put that overflows, if one does, and tells so
+pub ends_by_over : (r now : RoundValue) → r ≡ now → Closes r → first_fault (deeds r) ≡ None → (xs : List SlotValue)
+    → xs ≡ map fresh_slot (in_path_order path_in (living_in r.slots)) → length xs ≤ 4096 → (f : ℕ × List ℕ) → Some f ≡ overflow r.arrays (deeds r)
+    → EndsBy r f × (Overflowed ≡ outcome_of now.arrays (deeds now))
+ends_by_over r now e c none xs ex le f over =
+    let l = next_length r xs ex in
+    let b : nat_lt 4096 (length (next_live (deeds r))) ≡ false = grind arith in (
+      by_fault r c f
+          (by_delivered r c ∙ (λ i. closed (state_of r) (deeds r) (or_next (none i) (or_next (not_many (next_live (deeds r)) b i) (sym over i))))),
+      sym (ap (λ (x : RoundValue). outcome_of x.arrays (deeds x)) (sym e)
+          ∙ (λ i. outcome_by (none i) (not_many (next_live (deeds r)) b i) (sym over i))),
+    )
+
+-- a round in which nothing but rooms changed is the same
+pub over_now : (job : JobValue) (limit step : ℕ) {a b : List (List ℕ × List ℤ)} → b ≡ a → {xs ys : List SlotValue} → ys ≡ xs → {fs gs : List FinishedValue} → gs ≡ fs
+    → (fault : Option (ℕ × List ℕ)) (f : ℕ × List ℕ) → IsRound (with_fault (whole job limit step a xs fs fault) f) → IsRound (with_fault (whole job limit step b ys gs fault) f)
+over_now job limit step ea ex ef fault f h = subst IsRound (sym (λ i. with_fault (whole job limit step (ea i) (ex i) (ef i) fault) f)) h
+
+pub over_opens : (job : JobValue) (limit step : ℕ) {a b : List (List ℕ × List ℤ)} → b ≡ a → {xs ys : List SlotValue} → ys ≡ xs → {fs gs : List FinishedValue} → gs ≡ fs
+    → (fault : Option (ℕ × List ℕ)) (f : ℕ × List ℕ) (now new : RoundValue) → whole job limit step a xs fs fault ≡ now
+    → EndsBy (whole job limit step a xs fs fault) f → new ≡ with_fault (whole job limit step b ys gs fault) f → Opens new now.job now.limit (next_state now)
+over_opens job limit step ea ex ef fault f now new is ends e =
+    subst (λ (r : RoundValue). Opens new r.job r.limit (next_state r)) is
+    (ends.1 new (e ∙ (λ i. with_fault (whole job limit step (ea i) (ex i) (ef i) fault) f)))
 
 -- a round as it opens
 pub opened : (job : JobValue) (limit : ℕ) (arrays : List (List ℕ × List ℤ)) (slots : List SlotValue)

@@ -1,11 +1,13 @@
 -- One superstep of a job on one thread.
 use Rattle.std.proofs.Common.{◌≡◌, ◌==◌, ℕ, suc, ◌+◌, ◌≤◌, ◌<◌, Bool, true, false, nat_lt, nat_le, List, [], ◌∷◌, ◌++◌, map, length, take, Option, Some, None, refl, sym, ap, ◌∙◌, subst, arith, append-nil}
-use Rattle.std.specs.Prelude.{ℤ, if◌then◌else◌}
+use Rattle.std.specs.Prelude.{ℤ, IsSome, if◌then◌else◌}
 use Rattle.std.proofs.lemmas.List.{length-map}
 use Rattle.superstep_memory.specs.declared.arrays.Put.{Put}
-use Rattle.superstep_memory.specs.Landing.{landed, joined, written}
+use Rattle.std.specs.Option.{option_map}
+use Rattle.superstep_memory.specs.Landing.{landed, joined, over_in}
+use Rattle.superstep_memory.specs.Logs.{located}
 use Rattle.superstep_memory.specs.Paths.{is_rising}
-use Rattle.superstep_memory.proofs.Landed.{landed_written, landed_none}
+use Rattle.superstep_memory.proofs.Over.{at_log, first_located, over_inside, found_there}
 use Rattle.phase_records.specs.PrintValue.{PrintValue}
 use Rattle.phase_records.specs.declared.record.PhaseRecord.{PhaseRecord}
 use Rattle.phase_records.specs.Status.{Status, Fault, Ended, Limit}
@@ -18,14 +20,14 @@ use Rattle.task_lang.specs.BodyValue.{BodyValue}
 use Rattle.step_deeds.specs.DeedValue.{DeedValue}
 use Rattle.step_parts.specs.Program.{Program, program_of}
 use Rattle.superstep_memory.specs.PathOrder.{in_path_order}
-use Rattle.step_parts.specs.SlotParts.{path_in}
-use Rattle.step_parts.specs.Superstep.{State, superstep, closed, ended_by, gone_on, first_fault, next_live, log_of, prints_of, record_of, live_paths}
+use Rattle.step_parts.specs.SlotParts.{path_in, told_at}
+use Rattle.step_parts.specs.Superstep.{State, superstep, closed, ended_by, first_fault, too_many, overflow, fault_eight, or_next, next_live, log_of, prints_of, record_of, live_paths}
 use Rattle.step_parts.specs.JobMeaning.{opening, so_far, status, status_of, start_tasks, told, report_of}
-use Rattle.step_deeds.specs.InPlace.{AllDone, deeds_of, IsAllDone, Told, living_with, left_in, spawned_in, AllFew, told_in}
-use Rattle.step_core.specs.Course.{course_state, HasFaulted, HasGone, left_by}
+use Rattle.step_deeds.specs.InPlace.{AllDone, deeds_of, IsAllDone, Told, maker, living_with, left_in, spawned_in, AllFew, told_in}
+use Rattle.step_core.specs.Course.{course_state, HasFaulted, HasGone, HasTakenOne, left_by}
 use Rattle.step_core.specs.declared.alone.Course.{Course}
 use Rattle.step_parts.proofs.InOrder.{put_all_mapped, count_in_order}
-use Rattle.step_deeds.proofs.InPlace.{no_fault, living_told, counted, all_few, paths_kept}
+use Rattle.step_deeds.proofs.InPlace.{no_fault, maker_told, living_told, counted, all_few, paths_kept}
 use Rattle.step_parts.proofs.Runs.{goes, ended_is_last}
 use Rattle.step_parts.proofs.Deeds.{paths_mapped}
 use Rattle.step_core.proofs.Apart.{live-paths-rise}
@@ -53,15 +55,14 @@ next_count p us ds ss h =
 
 -- a fault ends the job
 pub by_fault : (p : Program) (c : Course) (f : ℕ × List ℕ) → first_fault (deeds_in p c) ≡ Some f → superstep p (course_state p c) ≡ ended_by (course_state p c) f
-by_fault p c f h = ap (closed (course_state p c) (deeds_in p c)) h
+by_fault p c f h =
+    ap (λ o. closed (course_state p c) (deeds_in p c) (or_next o (or_next (too_many (next_live (deeds_in p c))) (overflow c.arrays (deeds_in p c))))) h
 
-chosen : (b : Bool) (x y : State) → b ≡ true → (if b then x else y) ≡ x
-chosen true x y h = refl
-chosen false x y h = cc
+not_many : (ts : List Task) → nat_lt 4096 (length ts) ≡ false → too_many ts ≡ None
+not_many ts b = ap (λ (t : Bool). if t then Some (7, []) else None) b
 
-other : (b : Bool) (x y : State) → b ≡ false → (if b then x else y) ≡ y
-other true x y h = cc
-other false x y h = refl
+are_many : (ts : List Task) → nat_lt 4096 (length ts) ≡ true → too_many ts ≡ Some (7, [])
+are_many ts b = ap (λ (t : Bool). if t then Some (7, []) else None) b
 
 -- too many tasks end it
 pub by_many : (p : Program) (c : Course) (us : List TaskValue) (ds : List DeedValue) → AllDone p.plans us ds (deeds_in p c) → 4096 < length (living_with us ds)
@@ -69,8 +70,52 @@ pub by_many : (p : Program) (c : Course) (us : List TaskValue) (ds : List DeedVa
 by_many p c us ds h lt =
     let l = next_count p us ds (deeds_in p c) h in
     let b : nat_lt 4096 (length (next_live (deeds_in p c))) ≡ true = grind arith in
-    ap (closed (course_state p c) (deeds_in p c)) (none_faults p us ds (deeds_in p c) h)
-    ∙ chosen _ (ended_by (course_state p c) (7, [])) (gone_on (course_state p c) (deeds_in p c) (next_live (deeds_in p c))) b
+    λ i. closed (course_state p c) (deeds_in p c)
+    (or_next (none_faults p us ds (deeds_in p c) h i) (or_next (are_many (next_live (deeds_in p c)) b i) (overflow c.arrays (deeds_in p c))))
+
+-- what the log tells is what the segments tell
+over_told : (p : Program) (c : Course) (puts : List Put) (us : List TaskValue) (ds : List DeedValue) → AllDone p.plans us ds (deeds_in p c)
+    → puts ≡ joined (map log_of (deeds_in p c)) → (o : Option ℕ) → o ≡ over_in c.arrays [] 0 puts
+    → overflow c.arrays (deeds_in p c) ≡ option_map fault_eight (at_log (map log_of (deeds_in p c)) o)
+over_told p c puts us ds h log o e =
+    let logs = map log_of (deeds_in p c) in
+    ap (option_map fault_eight)
+    (first_located c.arrays logs ∙ ap (λ (qs : List Put). at_log logs (over_in c.arrays [] 0 qs)) (sym log) ∙ ap (at_log logs) (sym e))
+
+-- the first put that overflows ends it
+pub by_over : (p : Program) (old new : Course) (puts : List Put) (us : List TaskValue) (ds : List DeedValue) (after : List PrintValue) (place : ℕ) (fault : Option (ℕ × List ℕ))
+    → IsAllDone p.plans (deeds_in p old) old.step puts us ds old.prints.items after → length (living_with us ds) ≤ 4096
+    → Some place ≡ over_in old.arrays [] 0 puts → fault ≡ option_map told_at (maker us ds place)
+    → new.step ≡ old.step → new.arrays ≡ old.arrays → new.prints.items ≡ old.prints.items → new.records.items ≡ old.records.items
+    → HasTakenOne p fault old new
+by_over p old new puts us ds after place fault h le over made es ea ep er = by fault (made ∙ sym (maker_told p.plans us ds ss h.done place)) (sym told)
+  where
+    ss : List (List ℕ × Segment)
+    ss = deeds_in p old
+
+    told : overflow old.arrays ss ≡ option_map fault_eight (located (map log_of ss) place)
+    told = over_told p old puts us ds h.done h.log (Some place) over
+
+    inside : place < length (joined (map log_of ss))
+    inside = let m = over_inside old.arrays [] 0 place puts (sym over) in let l = ap length h.log in omega (arith, m.1, l)
+
+    not_none : (o : Option (List ℕ × ℕ)) → None ≡ option_map fault_eight o → o ≡ None
+    not_none None e = refl
+    not_none (Some x) e = cc
+
+    by : (o : Option (ℕ × List ℕ)) → o ≡ option_map fault_eight (located (map log_of ss) place) → option_map fault_eight (located (map log_of ss) place) ≡ overflow old.arrays ss
+        → HasTakenOne p o old new
+    by None e t = absurd (found_there (map log_of ss) place inside (not_none (located (map log_of ss) place) e))
+    by (Some f) e t =
+        let l = next_count p us ds ss h.done in
+        let b : nat_lt 4096 (length (next_live ss)) ≡ false = grind arith in
+        record {
+          fault = λ i. closed (course_state p old) ss (or_next (none_faults p us ds ss h.done i) (or_next (not_many (next_live ss) b i) (sym (e ∙ t) i)));
+          step = es;
+          arrays = ea;
+          prints = ep;
+          records = er;
+        }
 
 -- the record that was made is that of the segments
 pub record_told : (p : Program) (c : Course) (us : List TaskValue) (ds : List DeedValue) → AllDone p.plans us ds (deeds_in p c)
@@ -83,15 +128,16 @@ record_told p c us ds h =
 pub by_landing : (p : Program) (old new : Course) (puts : List Put) (us : List TaskValue) (ds : List DeedValue) (after : List PrintValue) (told : PhaseRecord)
     → IsAllDone p.plans (deeds_in p old) old.step puts us ds old.prints.items after → length (living_with us ds) ≤ 4096
     → told ≡ told_in old.step ds
-    → new.step ≡ old.step + 1 → new.arrays ≡ written puts old.arrays → new.tasks.items ≡ in_path_order path_in (living_with us ds)
+    → None ≡ over_in old.arrays [] 0 puts
+    → new.step ≡ old.step + 1 → new.arrays ≡ landed puts old.arrays → new.tasks.items ≡ in_path_order path_in (living_with us ds)
     → new.prints.items ≡ after → new.records.items ≡ old.records.items ++ told ∷ [] → HasGone p old new
-by_landing p old new puts us ds after told h le et es ea ek ep er =
+by_landing p old new puts us ds after told h le et over es ea ek ep er =
     let ss = deeds_in p old in
     let l = next_count p us ds ss h.done in
     let b : nat_lt 4096 (length (next_live ss)) ≡ false = grind arith in
     let lands : new.arrays ≡ landed (joined (map log_of ss)) old.arrays =
-    ea ∙ sym (landed_none (written puts old.arrays)) ∙ sym (landed_written puts [] old.arrays)
-    ∙ ap (λ (xs : List Put). landed xs old.arrays) (append-nil puts ∙ h.log) in
+    ea ∙ ap (λ (xs : List Put). landed xs old.arrays) h.log in
+    let fits : overflow old.arrays ss ≡ None = over_told p old puts us ds h.done h.log None over in
     let live : map (task_of p.plans) new.tasks.items ≡ next_live ss = ap (map (task_of p.plans)) ek ∙ next_told p us ds ss h.done in
     let records : new.records.items ≡ old.records.items ++ record_of old.step ss ∷ [] =
     er ∙ ap (λ (r : PhaseRecord). old.records.items ++ r ∷ []) (et ∙ record_told p old us ds h.done) in
@@ -99,8 +145,7 @@ by_landing p old new puts us ds after told h le et es ea ek ep er =
     record {
       state =
           (λ i. record { step = es i; arrays = lands i; live = live i; prints = prints i; records = records i; fault = None })
-          ∙ sym (ap (closed (course_state p old) ss) (none_faults p us ds ss h.done)
-          ∙ other _ (ended_by (course_state p old) (7, [])) (gone_on (course_state p old) ss (next_live ss)) b);
+          ∙ sym (λ i. closed (course_state p old) ss (or_next (none_faults p us ds ss h.done i) (or_next (not_many (next_live ss) b i) (fits i))));
       step = es;
       few = let c = ap length ek ∙ count_in_order path_in (living_with us ds) in omega (arith, c, le);
     }
@@ -245,3 +290,7 @@ none_there n b h t = grind arith
 
 pub some_there : (n : ℕ) (b : Bool) → b ≡ (n == 0) → b ≡ false → 0 < n
 some_there n b h t = grind arith
+
+pub is_there : {A : Type 0} {o : Option A} {x : A} → o ≡ Some x → IsSome o
+is_there {o = None} h = cc
+is_there {o = Some y} h = refl

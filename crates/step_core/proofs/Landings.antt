@@ -1,19 +1,20 @@
 -- What supersteps leave in the arrays, by what their tasks put.
-use Rattle.std.proofs.Common.{◌≡◌, ℕ, zero, suc, ◌<◌, Bool, true, false, nat_lt, List, [], ◌∷◌, ◌++◌, map, length, Option, Some, None, refl, sym, ap, ◌∙◌, arith}
-use Rattle.std.specs.Prelude.{pos, if◌then◌else◌, ◌&&◌, ◌||◌, slice_index_or}
+use Rattle.std.proofs.Common.{◌≡◌, ℕ, zero, suc, ◌<◌, Bool, true, false, List, [], ◌∷◌, ◌++◌, map, length, Option, Some, None, refl, sym, ap, ◌∙◌, arith}
+use Rattle.std.specs.Prelude.{pos, ◌&&◌, ◌||◌, slice_index_or}
 use Rattle.std.specs.List.{Contains, list_all}
+use Rattle.superstep_memory.specs.declared.arrays.Kind.TheVariants.{Set}
 use Rattle.superstep_memory.specs.declared.arrays.Put.{Put}
 use Rattle.superstep_memory.specs.Cells.{cell_at}
 use Rattle.superstep_memory.specs.Paths.{path_lt, is_rising}
-use Rattle.superstep_memory.specs.Landing.{joined, landed}
+use Rattle.superstep_memory.specs.Landing.{joined, landed, is_to, is_set, sets}
 use Rattle.superstep_memory.specs.Logs.{paths}
-use Rattle.superstep_memory.specs.Laws.{is_to, has_put}
+use Rattle.superstep_memory.specs.Laws.{has_put, has_set}
 use Rattle.superstep_memory.proofs.LandedLaws as landings
 use Rattle.task_lang.specs.Meaning.{Task, Segment}
 use Rattle.task_lang.specs.Laws.{is_to_cell}
 use Rattle.task_lang.proofs.AllSegments.{puts-into-cells}
 use Rattle.step_parts.specs.Program.{Program}
-use Rattle.step_parts.specs.Superstep.{State, closed, ended_by, gone_on, segments, first_fault, next_live, log_of}
+use Rattle.step_parts.specs.Superstep.{State, closed, segments, fault_in, log_of}
 use Rattle.step_parts.specs.JobMeaning.{so_far}
 use Rattle.step_core.specs.Laws.{deed, LaterPathWins, OthersKeepTheirValues}
 use Rattle.step_core.proofs.Apart.{live-paths-rise}
@@ -56,12 +57,7 @@ log_from p st (u ∷ us) e (suc k) lt at =
 -- a superstep without a fault lands what its tasks put
 lands : (st : State) (ss : List (List ℕ × Segment)) (f : Option (ℕ × List ℕ)) → (closed st ss f).fault ≡ None → (closed st ss f).arrays ≡ landed (joined (map log_of ss)) st.arrays
 lands st ss (Some f) h = cc
-lands st ss None h = by (nat_lt 4096 (length (next_live ss))) h
-  where
-    by : (b : Bool) → (if b then ended_by st (7, []) else gone_on st ss (next_live ss)).fault ≡ None
-        → (if b then ended_by st (7, []) else gone_on st ss (next_live ss)).arrays ≡ landed (joined (map log_of ss)) st.arrays
-    by true h = cc
-    by false h = refl
+lands st ss None h = refl
 
 left_side : (a b : Bool) → (a && b) ≡ true → a ≡ true
 left_side true b h = refl
@@ -83,16 +79,17 @@ or_true false = refl
 is_itself : (q : Put) → is_to q.array q.index q ≡ true
 is_itself q = grind arith
 
-put_within : (front back : List Put) (q : Put) → has_put (front ++ q ∷ back) q.array q.index ≡ true
-put_within [] back q = ap (λ (b : Bool). b || has_put back q.array q.index) (is_itself q)
-put_within (x ∷ xs) back q = ap (λ (b : Bool). is_to q.array q.index x || b) (put_within xs back q) ∙ or_true (is_to q.array q.index x)
+set_within : (front back : List Put) (q : Put) → q.kind ≡ Set → has_set (front ++ q ∷ back) q.array q.index ≡ true
+set_within [] back q set = λ i. (is_itself q i && sets (set i)) || has_set back q.array q.index
+set_within (x ∷ xs) back q set =
+    ap (λ (b : Bool). (is_to q.array q.index x && is_set x) || b) (set_within xs back q set) ∙ or_true (is_to q.array q.index x && is_set x)
 
 pub later-path-wins : LaterPathWins
-later-path-wins p limit n t front back q ok lives puts last later =
-    ap (λ arrays. cell_at arrays q.array (pos q.index)) (lands st (segments p st.arrays st.step st.live) (first_fault (segments p st.arrays st.step st.live)) ok)
+later-path-wins p limit n t front back q set ok lives puts last later =
+    ap (λ arrays. cell_at arrays q.array (pos q.index)) (lands st (segments p st.arrays st.step st.live) (fault_in st.arrays (segments p st.arrays st.step st.live)) ok)
     ∙ landings.later-path-wins st.arrays (logs_in p st st.live) (log_by p st t) q.array q.index rising (log_there p st st.live t lives.0 lives.1 lives.2) put none
     ∙ ap (λ (ps : List Put). cell_at (landed ps st.arrays) q.array (pos q.index)) puts
-    ∙ landings.last-put-wins st.arrays front back q (holds_within (is_to_cell st.arrays) front back q cells) last
+    ∙ landings.last-set-wins st.arrays front back q (holds_within (is_to_cell st.arrays) front back q cells) set last
   where
     st : State
     st = so_far p limit n
@@ -100,8 +97,8 @@ later-path-wins p limit n t front back q ok lives puts last later =
     rising : is_rising (paths (logs_in p st st.live)) ≡ true
     rising = ap is_rising (paths_in p st st.live) ∙ live-paths-rise p limit n
 
-    put : has_put (deed p st t).puts q.array q.index ≡ true
-    put = ap (λ (ps : List Put). has_put ps q.array q.index) puts ∙ put_within front back q
+    put : has_set (deed p st t).puts q.array q.index ≡ true
+    put = ap (λ (ps : List Put). has_set ps q.array q.index) puts ∙ set_within front back q set
 
     cells : list_all (is_to_cell st.arrays) (front ++ q ∷ back) ≡ true
     cells = ap (λ (ps : List Put). list_all (is_to_cell st.arrays) ps) (sym puts) ∙ puts-into-cells p.plans t st.arrays st.step
@@ -129,15 +126,8 @@ none_joined p st (t ∷ ts) a i h =
     (none_joined p st ts a i (λ u c. h u (suc c.0, omega (arith, c.1), c.2)))
 
 pub others-keep-their-values : OthersKeepTheirValues
-others-keep-their-values p st a i h = by (first_fault (segments p st.arrays st.step st.live))
+others-keep-their-values p st a i h = by (fault_in st.arrays (segments p st.arrays st.step st.live))
   where
-    many : (b : Bool) (ss : List (List ℕ × Segment)) → has_put (joined (map log_of ss)) a i ≡ false
-        → cell_at (if b then ended_by st (7, []) else gone_on st ss (next_live ss)).arrays a (pos i) ≡ cell_at st.arrays a (pos i)
-    many true ss none = refl
-    many false ss none = landings.others-keep-their-values st.arrays (joined (map log_of ss)) a i none
-
     by : (f : Option (ℕ × List ℕ)) → cell_at (closed st (segments p st.arrays st.step st.live) f).arrays a (pos i) ≡ cell_at st.arrays a (pos i)
     by (Some f) = refl
-    by None =
-        many (nat_lt 4096 (length (next_live (segments p st.arrays st.step st.live)))) (segments p st.arrays st.step st.live)
-        (none_joined p st st.live a i h)
+    by None = landings.others-keep-their-values st.arrays (joined (map log_of (segments p st.arrays st.step st.live))) a i (none_joined p st st.live a i h)

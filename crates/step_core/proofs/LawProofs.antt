@@ -1,5 +1,5 @@
 -- What holds of rounds and of jobs.
-use Rattle.std.proofs.Common.{◌≡◌, ℕ, zero, suc, ◌+◌, ◌-◌, ◌≤◌, ◌<◌, Bool, true, false, nat_lt, nat_le, List, [], ◌∷◌, ◌++◌, length, map, ℤ, Option, Some, None, is_some, slice_get, refl, sym, ap, ◌∙◌, subst, arith, append_assoc}
+use Rattle.std.proofs.Common.{◌≡◌, ℕ, zero, suc, ◌+◌, ◌-◌, ◌≤◌, ◌<◌, Bool, true, false, nat_le, List, [], ◌∷◌, ◌++◌, length, map, ℤ, Option, Some, None, is_some, slice_get, refl, sym, ap, ◌∙◌, subst, arith, append_assoc}
 use Rattle.std.specs.Prelude.{if◌then◌else◌}
 use Rattle.std.proofs.lemmas.List.{append-nil}
 use Rattle.superstep_memory.specs.Paths.{path_lt}
@@ -12,10 +12,13 @@ use Rattle.step_parts.specs.Superstep.{
   State,
   superstep,
   closed,
-  ended_by,
   gone_on,
   segments,
   first_fault,
+  too_many,
+  overflow,
+  or_next,
+  fault_in,
   or_later,
   next_live,
   living_on,
@@ -32,6 +35,7 @@ use Rattle.step_parts.specs.OrderValue.{DeliveryValue, IsDelivery}
 use Rattle.step_parts.specs.RoundValue.{RoundValue, IsRound, state_of, status_in, slots_in, with_slots}
 use Rattle.step_parts.specs.Taking.{Takes, IsFor, with_delivery}
 use Rattle.step_core.specs.Laws.{
+  FormatsMeanTheSame,
   after_all,
   TakesAll,
   DeliveryOrderIsFree,
@@ -106,16 +110,12 @@ delivery-order-is-free r ds es h run td te md me =
 
 closed_step : (st : State) (ss : List (List ℕ × Segment)) (f : Option (ℕ × List ℕ)) → (closed st ss f).step ≤ st.step + 1
 closed_step st ss (Some f) = omega arith
-closed_step st ss None = by (nat_lt 4096 (length (next_live ss)))
-  where
-    by : (b : Bool) → (if b then ended_by st (7, []) else gone_on st ss (next_live ss)).step ≤ st.step + 1
-    by true = omega arith
-    by false = omega arith
+closed_step st ss None = omega arith
 
 -- no more supersteps than were asked for
 at_most : (p : Program) (limit k : ℕ) → (so_far p limit k).step ≤ k
 at_most p limit zero = omega arith
-at_most p limit (suc k) = by (status limit (so_far p limit k)) (at_most p limit k) (closed_step st (segments p st.arrays st.step st.live) (first_fault (segments p st.arrays st.step st.live)))
+at_most p limit (suc k) = by (status limit (so_far p limit k)) (at_most p limit k) (closed_step st (segments p st.arrays st.step st.live) (fault_in st.arrays (segments p st.arrays st.step st.live)))
   where
     st : State
     st = so_far p limit k
@@ -159,11 +159,7 @@ adds_same st = record { prints = begins_same st.prints; records = begins_same st
 
 closed_adds : (st : State) (ss : List (List ℕ × Segment)) (f : Option (ℕ × List ℕ)) → Adds st (closed st ss f)
 closed_adds st ss (Some f) = record { prints = begins_same st.prints; records = begins_same st.records }
-closed_adds st ss None = by (nat_lt 4096 (length (next_live ss)))
-  where
-    by : (b : Bool) → Adds st (if b then ended_by st (7, []) else gone_on st ss (next_live ss))
-    by true = record { prints = begins_same st.prints; records = begins_same st.records }
-    by false = record { prints = (_, refl); records = (_, refl) }
+closed_adds st ss None = record { prints = (_, refl); records = (_, refl) }
 
 one_adds : (p : Program) (limit k : ℕ) → Adds (so_far p limit k) (so_far p limit (suc k))
 one_adds p limit k = by (status limit st)
@@ -172,7 +168,7 @@ one_adds p limit k = by (status limit st)
     st = so_far p limit k
 
     by : (o : Option Status) → Adds (so_far p limit k) (unless_ended o (so_far p limit k) (superstep p (so_far p limit k)))
-    by None = closed_adds st (segments p st.arrays st.step st.live) (first_fault (segments p st.arrays st.step st.live))
+    by None = closed_adds st (segments p st.arrays st.step st.live) (fault_in st.arrays (segments p st.arrays st.step st.live))
     by (Some s) = adds_same st
 
 more_adds : (p : Program) (limit m k : ℕ) → Adds (so_far p limit m) (so_far p limit (k + m))
@@ -236,19 +232,21 @@ all_tally (s ∷ ss) h =
     let y = length_append (synced s.1.after) s.1.spawns in
     omega (arith, one.1, more, x, y)
 
-closed_tallies : (st : State) (ss : List (List ℕ × Segment)) (f : Option (ℕ × List ℕ)) → first_fault ss ≡ f → (closed st ss f).fault ≡ None
+none_of : (a b : Option (ℕ × List ℕ)) → or_next a b ≡ None → a ≡ None
+none_of None b h = refl
+none_of (Some f) b h = cc
+
+closed_tallies : (st : State) (ss : List (List ℕ × Segment)) (f : Option (ℕ × List ℕ)) → fault_in st.arrays ss ≡ f → (closed st ss f).fault ≡ None
     → length (closed st ss f).live + (record_of st.step ss).left ≡ (record_of st.step ss).parties
 closed_tallies st ss (Some f) e h = cc
-closed_tallies st ss None e h = by (nat_lt 4096 (length (next_live ss))) h
-  where
-    by : (b : Bool) → (if b then ended_by st (7, []) else gone_on st ss (next_live ss)).fault ≡ None
-        → length (if b then ended_by st (7, []) else gone_on st ss (next_live ss)).live + left ss ≡ length ss + spawned ss
-    by true h = cc
-    by false h = let l = length_ordered (living_on ss) in let m = all_tally ss e in omega (arith, l, m)
+closed_tallies st ss None e h =
+    let l = length_ordered (living_on ss) in
+    let m = all_tally ss (none_of (first_fault ss) (or_next (too_many (next_live ss)) (overflow st.arrays ss)) e) in
+    omega (arith, l, m)
 
 pub records-tally : RecordsTally
 records-tally p st h =
-    closed_tallies st (segments p st.arrays st.step st.live) (first_fault (segments p st.arrays st.step st.live)) refl h
+    closed_tallies st (segments p st.arrays st.step st.live) (fault_in st.arrays (segments p st.arrays st.step st.live)) refl h
 
 living_paths : (p : Program) (a : List (List ℕ × List ℤ)) (n : ℕ) (ts : List Task) → map (λ (t : Task). t.path) (living_on (segments p a n ts)) ≡ paths_on (segments p a n ts)
 living_paths p a n [] = refl
@@ -264,7 +262,7 @@ living_paths p a n (t ∷ ts) =
     by (Faulted f) h = refl
 
 pub next-live-synced-or-spawned : NextLiveSyncedOrSpawned
-next-live-synced-or-spawned p st = by (first_fault ss)
+next-live-synced-or-spawned p st = by (fault_in st.arrays ss)
   where
     ss : List (List ℕ × Segment)
     ss = segments p st.arrays st.step st.live
@@ -276,9 +274,7 @@ next-live-synced-or-spawned p st = by (first_fault ss)
 
     by : (o : Option (ℕ × List ℕ)) → (closed st ss o).fault ≡ None → live_paths (closed st ss o) ≡ in_path_order (λ (path : List ℕ). path) (paths_on ss)
     by (Some f) h = cc
-    by None h = many (nat_lt 4096 (length (next_live ss))) h
-      where
-        many : (b : Bool) → (if b then ended_by st (7, []) else gone_on st ss (next_live ss)).fault ≡ None
-            → live_paths (if b then ended_by st (7, []) else gone_on st ss (next_live ss)) ≡ in_path_order (λ (path : List ℕ). path) (paths_on ss)
-        many true h = cc
-        many false h = all
+    by None h = all
+
+pub formats-mean-the-same : FormatsMeanTheSame
+formats-mean-the-same j k limit arrays bodies starts = λ i. report_of (record { arrays = arrays i; plans = plans (bodies i); starts = starts i }) limit

@@ -1,12 +1,14 @@
 -- What holds of rounds and of jobs (own).
 use Rattle.std.specs.Prelude.{◌≡◌, ◌↔◌, if◌then◌else◌, slice_get, ℕ, ◌+◌, ◌≤◌, pos, true, false, IsTrue, is_some, List, [], ◌∷◌, ◌++◌, length, Some, None}
 use Rattle.std.specs.List.{Contains}
+use Rattle.superstep_memory.specs.declared.arrays.Kind.TheVariants.{Set}
 use Rattle.superstep_memory.specs.declared.arrays.Put.{Put}
 use Rattle.superstep_memory.specs.Cells.{cell_at}
 use Rattle.superstep_memory.specs.Paths.{path_lt, is_rising}
 use Rattle.superstep_memory.specs.Laws.{has_put}
 use Rattle.task_lang.specs.Meaning.{Task, Segment, segment_of}
-use Rattle.step_parts.specs.Program.{Program}
+use Rattle.task_lang.specs.JobValue.{JobValue}
+use Rattle.step_parts.specs.Program.{Program, program_of}
 use Rattle.step_parts.specs.Superstep.{State, superstep, segments, record_of, live_paths}
 use Rattle.step_parts.specs.JobMeaning.{so_far, report_of}
 use Rattle.step_parts.specs.Slots.{delivered, first_missing, missing_in}
@@ -70,11 +72,12 @@ abbrev pub NoneLater : Program → State → List ℕ → ℕ → ℕ → Type 0
 NoneLater p st path array index =
     (u : Task) → Contains st.live u → path_lt path u.path ≡ true → has_put (deed p st u).puts array index ≡ false
 
--- A put of a later path wins over every put of an earlier one: where a live task's segment puts to a cell, with no later put
--- of its own to it, and no task of a later path puts there, the superstep leaves the value of that put in the cell.
+-- A put of a later path that sets wins over every put of an earlier one: where a live task's segment sets a cell, with no later
+-- put of its own to it, and no task of a later path puts there, the superstep leaves the value of that put in the cell.
 abbrev pub LaterPathWins : Type 0
 LaterPathWins =
     (p : Program) (limit n : ℕ) (t : Task) (front back : List Put) (q : Put)
+    → q.kind ≡ Set
     → (superstep p (so_far p limit n)).fault ≡ None
     → Contains (so_far p limit n).live t
     → (deed p (so_far p limit n) t).puts ≡ front ++ q ∷ back
@@ -88,6 +91,12 @@ OthersKeepTheirValues =
     (p : Program) (st : State) (array index : ℕ)
     → ((u : Task) → Contains st.live u → has_put (deed p st u).puts array index ≡ false)
     → cell_at (superstep p st).arrays array (pos index) ≡ cell_at st.arrays array (pos index)
+
+-- A job's meaning looks at its arrays, bodies and start lines alone, and not at its format.
+abbrev pub FormatsMeanTheSame : Type 0
+FormatsMeanTheSame =
+    (j k : JobValue) (limit : ℕ) → j.arrays ≡ k.arrays → j.bodies ≡ k.bodies → j.starts ≡ k.starts
+    → report_of (program_of j) limit ≡ report_of (program_of k) limit
 
 -- Nothing is missing exactly where closing answers no missing path.
 abbrev pub MissingTells : Type 0

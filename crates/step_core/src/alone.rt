@@ -1,6 +1,5 @@
 //! A job on one thread: its tasks stand in one list, in path order, and are changed in place.
 ghost use Rattle.std.specs.Prelude.{◌≡◌, ◌≤◌, ◌+◌, ◌++◌, ◌∷◌, ◌^◌, ◌<◌, [], ◌↔◌, true, Some, IsTrue, IfOk, OnOk, map, length};
-ghost use Rattle.superstep_memory.specs.Landing.{written};
 ghost use Rattle.superstep_memory.specs.Paths.{is_rising};
 ghost use Rattle.phase_records.specs.Status.{IsShort};
 ghost use Rattle.phase_records.specs.StatusSeen.{status_seen};
@@ -16,11 +15,11 @@ use crate::regroup::regroup;
 use phase_records::{JobStatus, PhaseRecord, Print, Report};
 use smallvec::SmallVec;
 use std::alloc::{AllocError, Global};
-use step_deeds::in_place::{Deed, StepScene, do_all, record_deeds};
+use step_deeds::in_place::{Deed, StepScene, blame_at, do_all, record_deeds};
 use step_parts::closing::too_many;
 use step_parts::slot::Blame;
 use superstep_memory::arrays::Arrays;
-use superstep_memory::landing::write_puts;
+use superstep_memory::log::land_log;
 use task_lang::body::Body;
 use task_lang::job::{Job, Start};
 use task_lang::scene::Work;
@@ -42,6 +41,7 @@ struct Room {
     work: Work,
     deeds: Vec<Deed>,
     living: Vec<Task>,
+    olds: Vec<i64>,
 }
 
 /// The tasks of the start lines.
@@ -77,6 +77,7 @@ fn no_room(alloc: Global) -> Room {
         },
         deeds: Vec::new(alloc),
         living: Vec::new(alloc),
+        olds: Vec::new(alloc),
     }
 }
 
@@ -108,7 +109,7 @@ fn renew(
     regroup(tasks, deeds, living, count)
 }
 
-// Records what the tasks did, lands the log, and goes on to the next live tasks.
+// Records what the tasks did, whose log has landed, and goes on to the next live tasks.
 fn go_on(course: &mut Course, room: &mut Room, told: PhaseRecord) -> Result<(), AllocError>
     requires same { length course.old.tasks.items ≡ length room.old.deeds.items }
     requires left { told.left ≡ left_in room.old.deeds.items }
@@ -117,14 +118,13 @@ fn go_on(course: &mut Course, room: &mut Room, told: PhaseRecord) -> Result<(), 
     requires rising { is_rising (map path_in course.old.tasks.items) ≡ true }
     requires below { course.old.step + 1 < 2 ^ 32 }
     ensures step { OnOk result (course.new.step ≡ course.old.step + 1) }
-    ensures arrays { OnOk result (course.new.arrays ≡ written room.old.work.puts.items course.old.arrays) }
+    ensures arrays { OnOk result (course.new.arrays ≡ course.old.arrays) }
     ensures tasks { OnOk result (course.new.tasks.items
         ≡ in_path_order path_in (living_with course.old.tasks.items room.old.deeds.items)) }
     ensures prints { OnOk result (course.new.prints.items ≡ course.old.prints.items) }
     ensures records { OnOk result (course.new.records.items ≡ course.old.records.items ++ told ∷ []) }
 {
     course.records.push(told)?;
-    write_puts(&mut course.arrays, &room.work.puts);
     renew(&mut course.tasks, &mut room.deeds, &mut room.living, told)?;
     course.step += 1;
     Ok(())
@@ -169,8 +169,17 @@ fn take_superstep(
                 course.prints.truncate(printed);
                 return Ok(Some(too_many(alloc)));
             }
-            go_on(course, room, told)?;
-            Ok(None)
+            let over = land_log(&mut course.arrays, &room.work.puts, &mut room.olds)?;
+            match over {
+                Some(place) => {
+                    course.prints.truncate(printed);
+                    Ok(blame_at(&course.tasks, &room.deeds, place))
+                }
+                None => {
+                    go_on(course, room, told)?;
+                    Ok(None)
+                }
+            }
         }
     }
 }

@@ -1,7 +1,7 @@
 //! Laws on rounds and on what jobs mean. Each function does nothing: its contract is the law.
 ghost use Rattle.step_core.specs.Laws.{DeliveryOrderIsFree, LongerLimitsOnlyAdd, JobsEnd, RecordsTally, LivePathsRise};
 ghost use Rattle.step_core.specs.Laws.{LaterPathWins, OthersKeepTheirValues};
-ghost use Rattle.step_core.specs.Laws.{MissingTells, OrdersAreOwn, NextLiveSyncedOrSpawned};
+ghost use Rattle.step_core.specs.Laws.{MissingTells, OrdersAreOwn, NextLiveSyncedOrSpawned, FormatsMeanTheSame};
 
 /// What a superstep does doesn't depend on the order in which deliveries come.
 pub fn delivery_order_is_free()
@@ -51,4 +51,10 @@ pub fn orders_are_own()
 /// The next live paths are those of the tasks that synced and of the spawned ones, in path order.
 pub fn next_live_synced_or_spawned()
     ensures { NextLiveSyncedOrSpawned }
+{}
+
+/// What a job leaves within a limit is told by its arrays, bodies and start lines: two jobs that have these alike leave the same,
+/// whatever their formats.
+pub fn formats_mean_the_same()
+    ensures { FormatsMeanTheSame }
 {}

@@ -17,7 +17,7 @@ fn put_deed(living: &mut Vec<Task>, task: Task, deed: Deed)
     ensures more { vec_len living.new ≡ vec_len living.old + length (kept deed.synced task ++ deed.spawns) }
     ensures room { vec_capacity living.new ≡ vec_capacity living.old }
 {
-    let Deed { synced, spawns } = deed;
+    let Deed { synced, spawns, .. } = deed;
     put_tasks(living, spawns);
     if synced {
         put_task(living, task);

@@ -303,14 +303,15 @@ impl<'j> Round<'j> {
         self.fault = Some(blame);
     }
 
-    /// Takes one superstep, where each live task has its delivery, or refuses to and changes nothing. A task's fault, or
-    /// over 4096 tasks that would live on, is no refusal: it ends the job, and the superstep leaves nothing else.
+    /// Takes one superstep, where each live task has its delivery, or refuses to and changes nothing. A task's fault, over
+    /// 4096 tasks that would live on, or a put that overflows, is no refusal: it ends the job, and the superstep leaves nothing
+    /// else.
     pub fn close_round(&mut self, alloc: Global) -> Result<Outcome, CloseFault>
         requires running { status_in self.old ≡ None }
         ensures whole { OnOk result (first_missing (slots_in self.old) ≡ None) }
         ensures closed { OnOk result (Opens self.new self.old.job self.old.limit
             (superstep (program_of self.old.job) (state_of self.old))) }
-        ensures outcome { IfOk result (λ outcome. outcome ≡ outcome_of (delivered (slots_in self.old))) }
+        ensures outcome { IfOk result (λ outcome. outcome ≡ outcome_of self.old.arrays (delivered (slots_in self.old))) }
         ensures refused { IfErr result (λ fault. NotClosed fault self.old) }
         ensures unchanged { OnErr result (self.new ≡ self.old) }
     {
@@ -330,7 +331,8 @@ impl<'j> Round<'j> {
         self.land(alloc, count)
     }
 
-    // Takes one superstep in which no task faults, after which so many live, or changes nothing.
+    // Takes one superstep in which no task faults, after which so many live, or ends the job by the first put that overflows. Without
+    // memory nothing changes.
     fn land(&mut self, alloc: Global, count: usize) -> Result<Outcome, CloseFault>
         requires running { status_in self.old ≡ None }
         requires whole { first_missing (slots_in self.old) ≡ None }
@@ -339,7 +341,7 @@ impl<'j> Round<'j> {
         requires few { count ≤ 4096 }
         ensures closed { OnOk result (Opens self.new self.old.job self.old.limit
             (superstep (program_of self.old.job) (state_of self.old))) }
-        ensures outcome { IfOk result (λ outcome. outcome ≡ outcome_of (delivered (slots_in self.old))) }
+        ensures outcome { IfOk result (λ outcome. outcome ≡ outcome_of self.old.arrays (delivered (slots_in self.old))) }
         ensures refused { IfErr result (λ fault. NotClosed fault self.old) }
         ensures unchanged { OnErr result (self.new ≡ self.old) }
     {
@@ -350,11 +352,17 @@ impl<'j> Round<'j> {
             &mut self.opening,
             &mut self.finished,
         );
-        if let Err(fault) = taken {
-            return Err(CloseFault::Memory(fault));
+        match taken {
+            Err(fault) => Err(CloseFault::Memory(fault)),
+            Ok(Some(blame)) => {
+                self.end(blame);
+                Ok(Outcome::Overflowed)
+            }
+            Ok(None) => {
+                self.missing = count;
+                self.step += 1;
+                Ok(Outcome::Landed)
+            }
         }
-        self.missing = count;
-        self.step += 1;
-        Ok(Outcome::Landed)
     }
 }

@@ -1,9 +1,11 @@
 -- What live tasks did in their places.
 use Rattle.std.proofs.Common.{◌≡◌, ℕ, suc, ◌+◌, ◌≤◌, ◌<◌, Bool, true, false, List, [], ◌∷◌, ◌++◌, map, length, Some, None, slice_set, get_or, refl, sym, ap, ◌∙◌, subst, arith, append_assoc, append-nil}
-use Rattle.std.specs.Prelude.{ℤ}
+use Rattle.std.specs.Prelude.{ℤ, ◌-◌, nat_lt, if◌then◌else◌}
+use Rattle.std.specs.Option.{option_map}
 use Rattle.std.proofs.lemmas.List.{length-map, length-append}
 use Rattle.task_lang.proofs.AllSegments.{numbers-its-spawns}
-use Rattle.step_parts.specs.SlotParts.{path_in}
+use Rattle.step_parts.specs.SlotParts.{path_in, told_at}
+use Rattle.superstep_memory.specs.Logs.{located}
 use Rattle.superstep_memory.specs.declared.arrays.Put.{Put}
 use Rattle.superstep_memory.specs.Landing.{joined}
 use Rattle.phase_records.specs.PrintValue.{PrintValue}
@@ -14,8 +16,8 @@ use Rattle.task_lang.specs.Lent.{HasAdded}
 use Rattle.task_lang.specs.declared.scene.Work.{Work}
 use Rattle.step_deeds.specs.DeedValue.{DeedValue}
 use Rattle.step_parts.specs.Program.{Program}
-use Rattle.step_parts.specs.Superstep.{first_fault, or_later, log_of, print_of, prints_of, living_on, synced, stopped, left, spawned}
-use Rattle.step_deeds.specs.InPlace.{end_of, IsDeed, ToldOne, AllDone, deeds_of, IsAllDone, kept, living_with, one_left, left_in, spawned_in, AllFew}
+use Rattle.step_parts.specs.Superstep.{first_fault, fault_eight, or_later, log_of, print_of, prints_of, living_on, synced, stopped, left, spawned}
+use Rattle.step_deeds.specs.InPlace.{end_of, IsDeed, ToldOne, AllDone, deeds_of, IsAllDone, maker, kept, living_with, one_left, left_in, spawned_in, AllFew}
 
 -- the first tasks are done, and the others stand as they were
 pub record IsUnderWay (p : Program) (arrays : List (List ℕ × List ℤ)) (step : ℕ) (olds : List TaskValue) (place : ℕ) (puts : List Put) (tasks : List TaskValue) (ds : List DeedValue) (before after : List PrintValue) : Type 0 where
@@ -83,16 +85,20 @@ next_is us (x ∷ rest) tasks place t e c lt g =
     record { behind = rest; is = λ i. sym is i ∷ rest }
 
 -- what a task did that didn't fault is kept
-pub kept_one : (ps : List Plan) (goes_on : Bool) (g : Segment) (step : ℕ) (t u : TaskValue) (old new : Work) (qs : List Put) (ds es : List DeedValue) (before after : List PrintValue)
+pub kept_one : (ps : List Plan) (goes_on : Bool) (count : ℕ) (g : Segment) (step : ℕ) (t u : TaskValue) (old new : Work) (qs : List Put) (ds es : List DeedValue) (before after : List PrintValue)
     → HasAdded ps old new g → g.after ≡ end_of ps goes_on u → u.path ≡ t.path
-    → qs ≡ new.puts.items → es ≡ ds ++ record { synced = goes_on; spawns = new.spawns.items } ∷ [] → after ≡ before ++ map (print_of step u.path) new.prints.items
+    → qs ≡ new.puts.items → count ≡ length new.puts.items - length old.puts.items
+    → es ≡ ds ++ record { synced = goes_on; puts = count; spawns = new.spawns.items } ∷ [] → after ≡ before ++ map (print_of step u.path) new.prints.items
     → ToldOne ps g step None t u old.puts.items qs ds es before after
-kept_one ps goes_on g step t u old new qs ds es before after added ended path puts deeds prints = (
+kept_one ps goes_on count g step t u old new qs ds es before after added ended path puts counts deeds prints = (
   puts ∙ added.puts,
   prints ∙ (λ i. before ++ map (print_of step (path i)) (added.prints i)),
   path,
-  (record { synced = goes_on; spawns = new.spawns.items }, deeds, (added.spawns, ended)),
+  (record { synced = goes_on; puts = count; spawns = new.spawns.items }, deeds, (added.spawns, ended, made)),
 )
+  where
+    made : count ≡ length g.puts
+    made = let l = ap length added.puts ∙ length-append old.puts.items g.puts in omega (arith, l, counts)
 
 -- one task more is done
 pub one_more : (p : Program) (arrays : List (List ℕ × List ℤ)) (step : ℕ) (olds : List TaskValue) (place : ℕ) (puts qs : List Put) (tasks : List TaskValue) (ds es : List DeedValue) (before after shown : List PrintValue) (t u : TaskValue)
@@ -150,6 +156,25 @@ all_done p arrays step olds place puts tasks ds before after h le = by h.rest h.
         longer : (xs ys : List TaskValue) (y : TaskValue) → length xs < length (xs ++ y ∷ ys)
         longer [] ys y = omega arith
         longer (x ∷ xs) ys y = let l = longer xs ys y in omega (arith, l)
+
+-- the task whose put stands at a place of the log is the one that made it
+pub maker_told : (ps : List Plan) (us : List TaskValue) (ds : List DeedValue) (ss : List (List ℕ × Segment)) → AllDone ps us ds ss → (k : ℕ)
+    → option_map fault_eight (located (map log_of ss) k) ≡ option_map told_at (maker us ds k)
+maker_told ps [] [] [] h k = refl
+maker_told ps [] [] (s ∷ ss) h k = absurd h
+maker_told ps [] (d ∷ ds) ss h k = absurd h
+maker_told ps (u ∷ us) [] [] h k = absurd h
+maker_told ps (u ∷ us) [] (s ∷ ss) h k = absurd h
+maker_told ps (u ∷ us) (d ∷ ds) [] h k = absurd h
+maker_told ps (u ∷ us) (d ∷ ds) (s ∷ ss) h k =
+    ap (λ (n : ℕ). option_map fault_eight (if nat_lt k n then Some (s.0, k) else located (map log_of ss) (k - n))) (sym h.1.2)
+    ∙ by (nat_lt k d.puts) (maker_told ps us ds ss h.2 (k - d.puts))
+  where
+    by : (b : Bool) → option_map fault_eight (located (map log_of ss) (k - d.puts)) ≡ option_map told_at (maker us ds (k - d.puts))
+        → option_map fault_eight (if b then Some (s.0, k) else located (map log_of ss) (k - d.puts))
+        ≡ option_map told_at (if b then Some u.path else maker us ds (k - d.puts))
+    by true e = ap (λ (p : List ℕ). Some (8, p)) (sym h.0)
+    by false e = e
 
 -- who did something didn't fault
 pub no_fault : (ps : List Plan) (us : List TaskValue) (ds : List DeedValue) (ss more : List (List ℕ × Segment)) → AllDone ps us ds ss → first_fault (ss ++ more) ≡ first_fault more

@@ -1,5 +1,5 @@
 -- What live tasks did in their places (own).
-use Rattle.std.specs.Prelude.{◌≡◌, ◌≤◌, ℕ, ◌+◌, ℤ, Bool, true, false, List, [], ◌∷◌, ◌++◌, map, length, Option, Some, None}
+use Rattle.std.specs.Prelude.{◌≡◌, ◌≤◌, ℕ, ◌+◌, ◌-◌, nat_lt, if◌then◌else◌, ℤ, Bool, true, false, List, [], ◌∷◌, ◌++◌, map, length, Option, Some, None}
 use Rattle.superstep_memory.specs.declared.arrays.Put.{Put}
 use Rattle.superstep_memory.specs.Landing.{joined}
 use Rattle.phase_records.specs.PrintValue.{PrintValue}
@@ -29,7 +29,7 @@ end_of ps false u = Stopped
 
 -- this deed, and this task as it goes on, are what the segment says
 abbrev pub IsDeed : List Plan → TaskValue → DeedValue → Segment → Type 0
-IsDeed ps u d g = (map (task_of ps) d.spawns ≡ g.spawns) × (g.after ≡ end_of ps d.synced u)
+IsDeed ps u d g = (map (task_of ps) d.spawns ≡ g.spawns) × (g.after ≡ end_of ps d.synced u) × (d.puts ≡ length g.puts)
 
 -- nobody faulted: the puts, prints and the deed came behind the others'; or the fault is told
 abbrev pub ToldOne : List Plan → Segment → ℕ → Option (ℕ × List ℕ) → TaskValue → TaskValue → List Put → List Put → List DeedValue → List DeedValue → List PrintValue → List PrintValue → Type 0
@@ -59,6 +59,12 @@ pub record IsAllDone (ps : List Plan) (ss : List (List ℕ × Segment)) (step : 
 abbrev pub Told : List Plan → List (List ℕ × Segment) → ℕ → Option (ℕ × List ℕ) → List Put → List TaskValue → List DeedValue → List PrintValue → List PrintValue → Type 0
 Told ps ss step (Some f) puts us ds before after = (first_fault ss ≡ Some f) × ((more : List PrintValue) × (after ≡ before ++ more))
 Told ps ss step None puts us ds before after = IsAllDone ps ss step puts us ds before after
+
+-- the path of the task whose put stands at this place of the log
+abbrev pub maker : List TaskValue → List DeedValue → ℕ → Option (List ℕ)
+maker ts [] place = None
+maker [] (d ∷ ds) place = None
+maker (t ∷ ts) (d ∷ ds) place = if nat_lt place d.puts then Some t.path else maker ts ds (place - d.puts)
 
 abbrev pub kept : Bool → TaskValue → List TaskValue
 kept true t = t ∷ []

@@ -1,15 +1,17 @@
 //! What live tasks do in a superstep, each in its place.
 ghost use Rattle.std.specs.Prelude.{◌≡◌, ◌≤◌, ◌++◌, ◌∷◌, [], IfOk, OnOk, length, map};
+ghost use Rattle.std.specs.Option.{option_map};
 ghost use Rattle.task_lang.specs.Meaning.{segment_of};
 ghost use Rattle.task_lang.specs.Views.{plans, task_of};
 ghost use Rattle.step_parts.specs.Program.{program_of};
 ghost use Rattle.step_parts.specs.Superstep.{print_of};
-ghost use Rattle.step_deeds.specs.InPlace.{IsDone, ToldOne, Told, deeds_of, told_in, AllFew};
+ghost use Rattle.step_parts.specs.SlotParts.{told_at};
+ghost use Rattle.step_deeds.specs.InPlace.{IsDone, ToldOne, Told, deeds_of, told_in, maker, AllFew};
 
 use phase_records::{PhaseRecord, Print};
 use std::alloc::{AllocError, Global};
 use std::marker::Model;
-use step_parts::closing::push_prints;
+use step_parts::closing::{overflowed, push_prints};
 use step_parts::slot::{Blame, task_path};
 use superstep_memory::arrays::Arrays;
 use task_lang::job::Job;
@@ -28,11 +30,13 @@ pub struct StepScene<'a> {
     pub step: u32,
 }
 
-/// What a task did: whether it goes on, and the tasks that it spawned.
+/// What a task did: whether it goes on, how many puts it made, and the tasks that it spawned.
 #[derive(Drop)]
 pub struct Deed {
     /// Whether it synced, and so goes on.
     pub synced: bool,
+    /// How many puts it made: its part of the log.
+    pub puts: usize,
     /// The tasks that it spawned, in program order.
     pub spawns: Vec<Task>,
 }
@@ -42,7 +46,7 @@ impl Model for Deed {
 
     ghost Value = { DeedValue };
 
-    ghost view = { λ d. record { synced = d.synced; spawns = d.spawns.items } };
+    ghost view = { λ d. record { synced = d.synced; puts = d.puts; spawns = d.spawns.items } };
 }
 
 // Does the task's segment: its puts come behind those in the log, its prints and spawns replace what stood in their
@@ -74,18 +78,23 @@ fn keep(
     step: u32,
     task: &Task,
     synced: bool,
+    puts: usize,
     work: &mut Work,
     deeds: &mut Vec<Deed>,
     prints: &mut Vec<Print>,
 ) -> Result<(), AllocError>
     ensures prints { OnOk result (prints.new.items ≡ prints.old.items ++ map (print_of step task.now.path) work.old.prints.items) }
     ensures deeds { OnOk result (deeds.new.items
-        ≡ deeds.old.items ++ record { synced = synced; spawns = work.old.spawns.items } ∷ []) }
-    ensures puts { OnOk result (work.new.puts.items ≡ work.old.puts.items) }
+        ≡ deeds.old.items ++ record { synced = synced; puts = puts; spawns = work.old.spawns.items } ∷ []) }
+    ensures log { OnOk result (work.new.puts.items ≡ work.old.puts.items) }
 {
     push_prints(prints, step, task, &work.prints)?;
     let spawns = std::mem::replace(&mut work.spawns, Vec::new(alloc));
-    deeds.push(Deed { synced, spawns })?;
+    deeds.push(Deed {
+        synced,
+        puts,
+        spawns,
+    })?;
     Ok(())
 }
 
@@ -102,13 +111,16 @@ fn do_one(
         ToldOne ps (segment_of ps (task_of ps task.old) scene.now.arrays.now scene.now.step) scene.now.step fault task.old task.new
         work.old.puts.items work.new.puts.items deeds.old.items deeds.new.items prints.old.items prints.new.items) }
 {
+    let before = work.puts.len();
     match do_task(alloc, scene, task, work)? {
         Ending::Synced(_) => {
-            keep(alloc, scene.step, task, true, work, deeds, prints)?;
+            let puts = work.puts.len() - before;
+            keep(alloc, scene.step, task, true, puts, work, deeds, prints)?;
             Ok(None)
         }
         Ending::Stopped => {
-            keep(alloc, scene.step, task, false, work, deeds, prints)?;
+            let puts = work.puts.len() - before;
+            keep(alloc, scene.step, task, false, puts, work, deeds, prints)?;
             Ok(None)
         }
         Ending::Fault(fault) => {
@@ -143,6 +155,27 @@ pub fn do_all(
         }
     }
     Ok(None)
+}
+
+/// The fault of the task whose put stands at this place of the log; `None` where fewer were made.
+pub fn blame_at(tasks: &[Task], deeds: &[Deed], place: usize) -> Option<Blame>
+    ensures { result ≡ option_map told_at (maker tasks.now deeds.now place) }
+{
+    let mut left = place;
+    let mut rest = deeds;
+    let mut others = tasks;
+    while let Some((deed, after)) = rest.split_first() {
+        let Some((task, behind)) = others.split_first() else {
+            return None;
+        };
+        if left < deed.puts {
+            return Some(overflowed(task));
+        }
+        left -= deed.puts;
+        rest = after;
+        others = behind;
+    }
+    None
 }
 
 /// The record of a superstep in which tasks did this.

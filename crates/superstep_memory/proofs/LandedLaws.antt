@@ -1,6 +1,6 @@
 -- What holds of every landing.
 use Rattle.std.proofs.Common.{◌≡◌, ℕ, zero, suc, ◌+◌, ◌<◌, ◌&&◌, Bool, true, false, List, [], ◌∷◌, ◌++◌, length, map, Option, Some, None, slice_get, refl, sym, ap, ◌∙◌, subst, arith}
-use Rattle.std.specs.Prelude.{ℤ, pos, ◌+ℤ◌, not, if◌then◌else◌, unwrap_or, ◌||◌, slice_index_or}
+use Rattle.std.specs.Prelude.{ℤ, pos, ◌+ℤ◌, not, if◌then◌else◌, unwrap_or, ◌||◌, is_some, nat_lt, slice_index_or}
 use Rattle.std.specs.Option.{option_map}
 use Rattle.std.specs.List.{Contains, AllByRecursion, list_all}
 use Rattle.std.proofs.Math.IntN.{+ℤ_assoc, +ℤ_idl, +ℤ_idr}
@@ -8,11 +8,27 @@ use Rattle.text_lines.specs.Number.{fits_i64}
 use Rattle.superstep_memory.specs.declared.arrays.Kind.{Kind}
 use Rattle.superstep_memory.specs.declared.arrays.Kind.TheVariants.{Set, Add}
 use Rattle.superstep_memory.specs.declared.arrays.Put.{Put}
-use Rattle.superstep_memory.specs.Cells.{cell_at, cell_of, value_at, taken}
+use Rattle.superstep_memory.specs.Cells.{cell_at, cell_of, place_of, place_in, is_cell, value_at, taken}
 use Rattle.superstep_memory.specs.Paths.{path_lt, is_rising}
 use Rattle.superstep_memory.specs.Landing.{joined, is_to, gone_through, landed_cells, landed_from, landed, is_set, sets, is_over, overflows, over_in, first_outside, first_over}
 use Rattle.superstep_memory.specs.Logs.{paths, NotInOrder, first_bad, refusal}
-use Rattle.superstep_memory.specs.Laws.{has_put, has_set, sum_to, or_else, last_put, shape, PutsLandInTurn, LastPutWins, SetsForget, AddsAddUp, OthersKeepTheirValues, KeepsShape, LaterPathWins, EachSumFits}
+use Rattle.superstep_memory.specs.Laws.{
+  has_put,
+  has_set,
+  sum_to,
+  or_else,
+  last_put,
+  shape,
+  PutsLandInTurn,
+  LastPutWins,
+  LastSetWins,
+  SetsForget,
+  AddsAddUp,
+  OthersKeepTheirValues,
+  KeepsShape,
+  LaterPathWins,
+  EachSumFits,
+}
 use Rattle.superstep_memory.proofs.Landed.{landed_append}
 use Rattle.superstep_memory.proofs.Over.{over_append, over_inside, first_of, at_log, first_located, found_there}
 use Rattle.superstep_memory.proofs.PathOrder.{rising_all, rising_rest}
@@ -95,6 +111,37 @@ sets-forget xs front back p set =
     (sets_to p.kind set (is_to p.array p.index p) (is_itself p) p.value (gone_through front p.array p.index v) v))
     (cell_at xs p.array (pos p.index))
     ∙ sym (landed_at (p ∷ back) xs p.array p.index)
+
+-- there is a value where there is a cell
+there : (xs : List (List ℕ × List ℤ)) (p : Put) → is_cell xs p ≡ true → (v : ℤ) × (cell_at xs p.array (pos p.index) ≡ Some v)
+there xs p h = of (slice_get xs p.array) h
+  where
+    none : (b : Bool) (i : ℕ) → b ≡ false → is_some (if b then Some i else None) ≡ true → ⊥
+    none true i e h = cc
+    none false i e h = cc
+
+    in_cells : (vs : List ℤ) (i : ℕ) → is_some (place_in vs (pos i)) ≡ true → (v : ℤ) × (slice_get vs i ≡ Some v)
+    in_cells [] i h = absurd (none (nat_lt i 0) i (grind arith) h)
+    in_cells (v ∷ vs) zero h = (v, refl)
+    in_cells (v ∷ vs) (suc i) h = in_cells vs i (less i (length vs) h)
+      where
+        less : (m n : ℕ) → is_some (if nat_lt (suc m) (suc n) then Some (suc m) else None) ≡ true → is_some (if nat_lt m n then Some m else None) ≡ true
+        less m n h = grind arith
+
+    of : (o : Option (List ℕ × List ℤ)) → is_some (place_of o (pos p.index)) ≡ true → (v : ℤ) × (cell_of o (pos p.index) ≡ Some v)
+    of None h = cc
+    of (Some a) h = in_cells a.1 p.index h
+
+pub last-set-wins : LastSetWins
+last-set-wins xs front back p cell set h =
+    let c = there xs p cell in
+    landed_at (front ++ p ∷ back) xs p.array p.index
+    ∙ ap (option_map (gone_through (front ++ p ∷ back) p.array p.index)) c.1
+    ∙ ap Some
+    (gone_append front (p ∷ back) p.array p.index c.0
+    ∙ ap (λ (b : Bool). gone_through back p.array p.index (if b then taken p.kind p.value (gone_through front p.array p.index c.0) else gone_through front p.array p.index c.0)) (is_itself p)
+    ∙ none_through back p.array p.index (taken p.kind p.value (gone_through front p.array p.index c.0)) h
+    ∙ ap (λ (k : Kind). taken k p.value (gone_through front p.array p.index c.0)) set)
 
 -- one cell, with the put in front of the others
 one_hit : (o : Option ℤ) (b : Bool) (x v : ℤ) → unwrap_or (or_else o (if b then Some x else None)) v ≡ unwrap_or o (if b then x else v)

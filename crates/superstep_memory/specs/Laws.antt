@@ -5,7 +5,7 @@ use Rattle.std.specs.Option.{option_map}
 use Rattle.text_lines.specs.Number.{fits_i64}
 use Rattle.superstep_memory.specs.declared.arrays.Kind.TheVariants.{Set, Add}
 use Rattle.superstep_memory.specs.declared.arrays.Put.{Put}
-use Rattle.superstep_memory.specs.Cells.{cell_at, value_at}
+use Rattle.superstep_memory.specs.Cells.{cell_at, is_cell, value_at}
 use Rattle.superstep_memory.specs.Paths.{path_lt, is_rising}
 use Rattle.superstep_memory.specs.Landing.{joined, is_to, landed, is_set}
 use Rattle.superstep_memory.specs.Logs.{paths, refusal}
@@ -48,6 +48,13 @@ LastPutWins =
     (arrays : List (List ℕ × List ℤ)) (puts : List Put) (array index : ℕ)
     → IsTrue (list_all is_set puts)
     → cell_at (landed puts arrays) array (pos index) ≡ option_map (unwrap_or (last_put puts array index)) (cell_at arrays array (pos index))
+
+-- The last put to a cell wins where it sets.
+abbrev pub LastSetWins : Type 0
+LastSetWins =
+    (arrays : List (List ℕ × List ℤ)) (front back : List Put) (p : Put)
+    → IsTrue (is_cell arrays p) → p.kind ≡ Set → has_put back p.array p.index ≡ false
+    → cell_at (landed (front ++ p ∷ back) arrays) p.array (pos p.index) ≡ Some p.value
 
 -- What stands before a put that sets a cell doesn't count there.
 abbrev pub SetsForget : Type 0

@@ -1,12 +1,16 @@
 use Rattle.std.proofs.Common.{◌∙◌, sym, ap, subst, arith, refl, ℕ, List, length, ◌≤◌}
-use Rattle.std.specs.Prelude.{ℤ}
+use Rattle.std.specs.Prelude.{ℤ, []}
+use Rattle.std.specs.Option.{option_map}
+use Rattle.superstep_memory.specs.declared.arrays.Put.{Put}
+use Rattle.superstep_memory.specs.Landing.{landed, over_in}
+use Rattle.step_parts.specs.SlotParts.{told_at}
 use Rattle.phase_records.specs.declared.record.PhaseRecord.{PhaseRecord}
 use Rattle.step_deeds.specs.DeedValue.{DeedValue}
 use Rattle.step_parts.specs.Program.{program_of}
 use Rattle.step_parts.specs.Superstep.{ended_by}
 use Rattle.step_core.specs.Course.{course_state}
-use Rattle.step_deeds.specs.InPlace.{AllFew, told_in}
-use Rattle.step_core.proofs.Course.{by_fault, by_many, by_landing, cut_off, did, faulted, fits, tallied}
+use Rattle.step_deeds.specs.InPlace.{AllFew, told_in, maker}
+use Rattle.step_core.proofs.Course.{by_fault, by_many, by_over, by_landing, is_there, cut_off, did, faulted, fits, tallied}
 use Rattle.step_core.proofs.alone.take_superstep.Goals as goal
 
 pub record_deeds-told-requires-clause-few : goal.record_deeds-told-requires-clause-few
@@ -70,8 +74,8 @@ go_on-requires-clause-rising c =
     let h = did p c.args.course.now c.in_ok-fault.fault c.do_all.new.work.puts.items c.do_all.new.tasks.items c.do_all.new.deeds.items c.do_all.new.prints.items c.in_ok-fault.ensures c.in-None.is in
     (fits p c.args.course.now c.do_all.new.tasks.items c.do_all.new.deeds.items h.done c.requires.few c.requires.rising).rising
 
-pub returns-in_ok-go_on-in-None : goal.returns-in_ok-go_on-in-None
-returns-in_ok-go_on-in-None c =
+pub returns-in_ok-go_on-in-None-over : goal.returns-in_ok-go_on-in-None-over
+returns-in_ok-go_on-in-None-over c =
     let p = program_of c.args.job.now in
     let us = c.do_all.new.tasks.items in
     let ds = c.do_all.new.deeds.items in
@@ -79,9 +83,33 @@ returns-in_ok-go_on-in-None c =
     let f = fits p c.args.course.now us ds h.done c.requires.few c.requires.rising in
     let e = c.record_deeds-told.ensures ∙ ap (told_in c.args.course.now.step) c.deref.ensures.value in
     let k = tallied c.args.course.now us ds c.record_deeds-told.result f e in
-    let g = c.in_ok-go_on-in-None.ensures in
+    let g = c.in_ok-go_on-in-None-over.ensures in
+    let l = c.in_ok-over-in-None.ensures in
     by_landing p c.args.course.now c.go_on.new.course c.do_all.new.work.puts.items us ds c.do_all.new.prints.items c.record_deeds-told.result
-    h (omega (arith, k, c.if-told-gt4096.false)) e g.step g.arrays g.tasks g.prints g.records
+    h (omega (arith, k, c.if-told-gt4096.false)) e
+    (sym c.in-None-over.is ∙ l.place ∙ ap (over_in c.args.course.now.arrays [] 0) c.deref-in-None.ensures.value)
+    g.step
+    (g.arrays ∙ l.lands c.in-None-over.is ∙ ap (λ (qs : List Put). landed qs c.args.course.now.arrays) c.deref-in-None.ensures.value)
+    g.tasks g.prints g.records
+
+pub returns-in-Some-over : goal.returns-in-Some-over
+returns-in-Some-over c =
+    let p = program_of c.args.job.now in
+    let us = c.do_all.new.tasks.items in
+    let ds = c.do_all.new.deeds.items in
+    let h = did p c.args.course.now c.in_ok-fault.fault c.do_all.new.work.puts.items us ds c.do_all.new.prints.items c.in_ok-fault.ensures c.in-None.is in
+    let f = fits p c.args.course.now us ds h.done c.requires.few c.requires.rising in
+    let e = c.record_deeds-told.ensures ∙ ap (told_in c.args.course.now.step) c.deref.ensures.value in
+    let k = tallied c.args.course.now us ds c.record_deeds-told.result f e in
+    let l = c.in_ok-over-in-None.ensures in
+    by_over p c.args.course.now _ c.do_all.new.work.puts.items us ds c.do_all.new.prints.items c.in-Some-over.place c.blame_at.result
+    h (omega (arith, k, c.if-told-gt4096.false))
+    (sym c.in-Some-over.is ∙ l.place ∙ ap (over_in c.args.course.now.arrays [] 0) c.deref-in-None.ensures.value)
+    (c.blame_at.ensures ∙ (λ i. option_map told_at (maker (c.deref-in-Some-over.ensures.value i) (c.deref-in-Some-over-2.ensures.value i) c.in-Some-over.place)))
+    refl
+    (l.unlanded (is_there c.in-Some-over.is))
+    (cut_off c.len-printed.result c.args.course.now.prints.items c.do_all.new.prints.items _ _ c.truncate-in-Some-over.ensures.items (omega (arith, c.len-printed.ensures, c.args.course.now.prints.ok.0)) h.shown)
+    refl
 
 pub returns-in-Some : goal.returns-in-Some
 returns-in-Some c =
