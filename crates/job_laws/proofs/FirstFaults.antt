@@ -1,12 +1,14 @@
 -- The fault that ends a job.
-use Rattle.std.proofs.Common.{◌≡◌, ◌⊎◌, inl, inr, ℕ, Bool, true, false, nat_lt, List, [], ◌∷◌, length, Option, Some, None, refl, sym, ap, ◌∙◌, subst}
+use Rattle.std.proofs.Common.{◌≡◌, ◌⊎◌, inl, inr, ℕ, Bool, true, false, nat_lt, List, [], ◌∷◌, length, map, Option, Some, None, refl, sym, ap, ◌∙◌, subst}
 use Rattle.std.specs.Prelude.{if◌then◌else◌}
-use Rattle.std.proofs.lemmas.Bool.{ltb-true}
+use Rattle.std.proofs.lemmas.Bool.{ltb-true, ltb-false}
+use Rattle.std.specs.Option.{option_map}
+use Rattle.superstep_memory.specs.Landing.{first_over}
 use Rattle.task_lang.specs.FaultCode.{code_of}
-use Rattle.task_lang.specs.Meaning.{Task, After, Synced, Stopped, Faulted, segment_of}
+use Rattle.task_lang.specs.Meaning.{Task, After, Synced, Stopped, Faulted, Segment, segment_of}
 use Rattle.step_core.specs.Program.{Program}
-use Rattle.step_core.specs.Superstep.{State, segments, first_fault, or_later, closed, ended_by, gone_on, next_live}
-use Rattle.job_laws.specs.Reports.{HasNoFault, NoneFaults, IsFirstFault, IsTooMany, FaultsTellTheFirst}
+use Rattle.step_core.specs.Superstep.{State, segments, first_fault, too_many, overflow, fault_eight, or_next, or_later, closed, next_live, log_of}
+use Rattle.job_laws.specs.Reports.{HasNoFault, NoneFaults, IsFirstFault, IsTooMany, IsOverflow, FaultsTellTheFirst}
 
 none_here : (p : Program) (st : State) (t : Task) (ts : List Task) → (first_fault (segments p st.arrays st.step ts) ≡ None → NoneFaults p st ts)
     → first_fault (segments p st.arrays st.step (t ∷ ts)) ≡ None → (a : After) → (segment_of p.plans t st.arrays st.step).after ≡ a → NoneFaults p st (t ∷ ts)
@@ -68,23 +70,40 @@ first_faults p st (t ∷ ts) told h = first_here p st t ts told (first_faults p 
 pub faults_tell : FaultsTellTheFirst
 faults_tell p st told h = by (first_fault (segments p st.arrays st.step st.live)) refl h
   where
-    next : List Task
-    next = next_live (segments p st.arrays st.step st.live)
+    ss : List (List ℕ × Segment)
+    ss = segments p st.arrays st.step st.live
 
-    over : (b : Bool) → nat_lt 4096 (length next) ≡ b → first_fault (segments p st.arrays st.step st.live) ≡ None
-        → (if b then ended_by st (7, []) else gone_on st (segments p st.arrays st.step st.live) next).fault ≡ Some told
-        → IsTooMany p st told
-    over true e none k =
-        let pair : (7, []) ≡ told = cc in
+    next : List Task
+    next = next_live ss
+
+    overflows : (o : Option (List ℕ × ℕ)) → first_over st.arrays (map log_of ss) ≡ o → nat_lt 4096 (length next) ≡ false → first_fault ss ≡ None
+        → (closed st ss (option_map fault_eight o)).fault ≡ Some told → IsOverflow p st told
+    overflows None e b none k = let bad : ◌≡◌ {A = Option (ℕ × List ℕ)} None (Some told) = k in absurd cc
+    overflows (Some x) e b none k =
+        let pair : (8, x.0) ≡ told = cc in
         record {
+          none = none_faults p st st.live none;
+          few = ltb-false _ _ b;
+          place = x.1;
+          over = e ∙ ap (λ (y : ℕ × List ℕ). Some (y.1, x.1)) pair;
+          code = ap (λ (y : ℕ × List ℕ). y.0) (sym pair);
+        }
+
+    late : (b : Bool) → nat_lt 4096 (length next) ≡ b → first_fault ss ≡ None
+        → (closed st ss (or_next (if b then Some (7, []) else None) (overflow st.arrays ss))).fault ≡ Some told
+        → IsTooMany p st told ⊎ IsOverflow p st told
+    late true e none k =
+        let pair : (7, []) ≡ told = cc in
+        inl record {
           none = none_faults p st st.live none;
           many = ltb-true _ _ e;
           code = ap (λ (x : ℕ × List ℕ). x.0) (sym pair);
           path = ap (λ (x : ℕ × List ℕ). x.1) (sym pair);
         }
-    over false e none k = let bad : ◌≡◌ {A = Option (ℕ × List ℕ)} None (Some told) = k in absurd cc
+    late false e none k = inr (overflows (first_over st.arrays (map log_of ss)) refl e none k)
 
-    by : (o : Option (ℕ × List ℕ)) → first_fault (segments p st.arrays st.step st.live) ≡ o
-        → (closed st (segments p st.arrays st.step st.live) o).fault ≡ Some told → IsFirstFault p st st.live told ⊎ IsTooMany p st told
+    by : (o : Option (ℕ × List ℕ)) → first_fault ss ≡ o
+        → (closed st ss (or_next o (or_next (too_many next) (overflow st.arrays ss)))).fault ≡ Some told
+        → IsFirstFault p st st.live told ⊎ (IsTooMany p st told ⊎ IsOverflow p st told)
     by (Some f) e k = let same : Some f ≡ Some told = k in inl (first_faults p st st.live told (e ∙ same))
-    by None e k = inr (over (nat_lt 4096 (length next)) refl e k)
+    by None e k = inr (late (nat_lt 4096 (length next)) refl e k)

@@ -14,7 +14,7 @@ use Rattle.phase_records.specs.ReportLaws.{AreFrom, AreWithin, of_step, each_ste
 use Rattle.phase_records.proofs.ReportLawProofs.{each-step-has-its-prints}
 use Rattle.task_lang.specs.Meaning.{Task, After, Synced, Stopped, Faulted, Segment}
 use Rattle.step_core.specs.Program.{Program}
-use Rattle.step_core.specs.Superstep.{State, superstep, segments, first_fault, closed, ended_by, gone_on, next_live, prints_of, print_of, record_of, spawned, stopped, left}
+use Rattle.step_core.specs.Superstep.{State, superstep, segments, fault_in, closed, ended_by, gone_on, next_live, prints_of, print_of, record_of, spawned, stopped, left}
 use Rattle.step_core.specs.JobMeaning.{opening, so_far, status, told}
 use Rattle.step_core.specs.Laws.{deed}
 use Rattle.step_parts.proofs.Runs.{goes, stays, going_on}
@@ -38,11 +38,7 @@ along p limit P first next (suc n) = one_along p limit P n (along p limit P firs
 by_superstep_of : (P : State → Type 0) (st : State) (ss : List (List ℕ × Segment)) → ((f : ℕ × List ℕ) → P (ended_by st f)) → P (gone_on st ss (next_live ss))
     → (o : Option (ℕ × List ℕ)) → P (closed st ss o)
 by_superstep_of P st ss ends goes_on (Some f) = ends f
-by_superstep_of P st ss ends goes_on None = many (nat_lt 4096 (length (next_live ss)))
-  where
-    many : (b : Bool) → P (if b then ended_by st (7, []) else gone_on st ss (next_live ss))
-    many true = ends (7, [])
-    many false = goes_on
+by_superstep_of P st ss ends goes_on None = goes_on
 
 -- prints that are all of one superstep
 abbrev AllAt : ℕ → List PrintValue → Type 0
@@ -96,7 +92,7 @@ one_more p st h =
       taken = count ∙ ap (λ (k : ℕ). k + 1) taken;
       prints = within_more 0 st.step st.prints (prints_of st.step ss) least h.prints (all_printed st.step ss);
     })
-    (first_fault ss)
+    (fault_in st.arrays ss)
 
 opened : (p : Program) → IsBySuperstep (opening p)
 opened p = record { records = tt; taken = refl; prints = tt }
@@ -169,7 +165,7 @@ PrintsSo p limit st = (k : ℕ) → k < st.step → of_step k st.prints ≡ prin
 
 prints_more : (p : Program) (limit n : ℕ) → status limit (so_far p limit n) ≡ None → PrintsSo p limit (so_far p limit n) → PrintsSo p limit (superstep p (so_far p limit n))
 prints_more p limit n going h =
-    by_superstep_of (PrintsSo p limit) (so_far p limit n) ss (λ f. h) went (first_fault ss)
+    by_superstep_of (PrintsSo p limit) (so_far p limit n) ss (λ f. h) went (fault_in st.arrays ss)
   where
     st : State
     st = so_far p limit n
@@ -244,7 +240,7 @@ RecordsSo p limit st = TellFrom p limit 0 st.records
 
 records_more : (p : Program) (limit n : ℕ) → status limit (so_far p limit n) ≡ None → RecordsSo p limit (so_far p limit n) → RecordsSo p limit (superstep p (so_far p limit n))
 records_more p limit n going h =
-    by_superstep_of (RecordsSo p limit) (so_far p limit n) ss (λ f. h) (tell_more p limit 0 st.records (record_of st.step ss) h own) (first_fault ss)
+    by_superstep_of (RecordsSo p limit) (so_far p limit n) ss (λ f. h) (tell_more p limit 0 st.records (record_of st.step ss) h own) (fault_in st.arrays ss)
   where
     st : State
     st = so_far p limit n

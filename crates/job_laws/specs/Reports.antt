@@ -1,6 +1,7 @@
 -- What the report of a job tells of its supersteps (own).
-use Rattle.std.specs.Prelude.{◌≡◌, ◌⊎◌, ℕ, suc, ◌+◌, ◌<◌, Bool, true, false, List, [], ◌∷◌, ◌++◌, length, sum_by, count_by, Some}
+use Rattle.std.specs.Prelude.{◌≡◌, ◌⊎◌, ℕ, suc, ◌+◌, ◌<◌, ◌≤◌, Bool, true, false, List, [], ◌∷◌, ◌++◌, length, map, sum_by, count_by, Some}
 use Rattle.std.specs.List.{flat_map}
+use Rattle.superstep_memory.specs.Landing.{first_over}
 use Rattle.phase_records.specs.declared.record.PhaseRecord.{PhaseRecord}
 use Rattle.phase_records.specs.ReportValue.{ReportValue}
 use Rattle.phase_records.specs.ReportText.{report_text, array_line, status_line}
@@ -9,7 +10,7 @@ use Rattle.task_lang.specs.FaultCode.{code_of}
 use Rattle.task_lang.specs.declared.fault.Fault.{Fault}
 use Rattle.task_lang.specs.Meaning.{Task, After, Synced, Stopped, Faulted}
 use Rattle.step_core.specs.Program.{Program}
-use Rattle.step_core.specs.Superstep.{State, superstep, segments, prints_of, next_live}
+use Rattle.step_core.specs.Superstep.{State, superstep, segments, prints_of, next_live, log_of}
 use Rattle.step_core.specs.JobMeaning.{so_far, report_of}
 use Rattle.step_core.specs.Laws.{deed}
 
@@ -84,8 +85,17 @@ pub record IsTooMany (p : Program) (st : State) (told : ℕ × List ℕ) : Type 
   pub code : told.0 ≡ 7
   pub path : told.1 ≡ []
 
--- A superstep that ends the job by a fault tells the first faulting live task, or that too many would live on.
+-- no task faults, at most 4096 would live on, and a put overflows: fault 8, of the task that made the first of these
+pub record IsOverflow (p : Program) (st : State) (told : ℕ × List ℕ) : Type 0 where
+  pub none : NoneFaults p st st.live
+  pub few : length (next_live (segments p st.arrays st.step st.live)) ≤ 4096
+  pub place : ℕ
+  pub over : first_over st.arrays (map log_of (segments p st.arrays st.step st.live)) ≡ Some (told.1, place)
+  pub code : told.0 ≡ 8
+
+-- A superstep that ends the job by a fault tells the first faulting live task, or that too many would live on, or the first put
+-- that overflows.
 abbrev pub FaultsTellTheFirst : Type 0
 FaultsTellTheFirst =
     (p : Program) (st : State) (told : ℕ × List ℕ) → (superstep p st).fault ≡ Some told
-    → IsFirstFault p st st.live told ⊎ IsTooMany p st told
+    → IsFirstFault p st st.live told ⊎ (IsTooMany p st told ⊎ IsOverflow p st told)

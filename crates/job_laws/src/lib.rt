@@ -35,7 +35,8 @@ pub fn faults_tell_the_first()
     ensures { FaultsTellTheFirst }
 {}
 
-/// What six jobs leave is written down and not said by a rule: a swap, a conflict in both orders, a spawn, a fault, and a limit.
+/// What some jobs leave is written down and not said by a rule: a swap, a conflict in both orders, a spawn, a fault, a limit, a sum
+/// by all, sums that overflow, also under a put that would cover one, and such a sum beside a faulting task.
 pub fn jobs_are_worked_out()
     ensures { JobsAreWorkedOut }
 {}

@@ -3,6 +3,7 @@ use smallvec::SmallVec;
 use std::alloc::{AllocError, Global};
 use std::process::Abort;
 use std::test::Fail;
+use superstep_memory::arrays::Kind::{Add, Set};
 use superstep_memory::arrays::{Arrays, Kind, Put, PutLog};
 use superstep_memory::landing::{LandFault, land};
 use superstep_memory::path::Path;
@@ -21,27 +22,31 @@ fn cells_of(arrays: &Arrays) -> [Option<i64>; 3] {
     [arrays.cell(0, 0), arrays.cell(0, 1), arrays.cell(0, 2)]
 }
 
-// What the task of this path has put: a cell and a value each.
-fn entry(alloc: Global, path: &[u16], puts: &[(u32, i64)]) -> Result<(Path, PutLog), AllocError> {
+// What the task of this path has put: a cell, a kind and a value each.
+fn entry(
+    alloc: Global,
+    path: &[u16],
+    puts: &[(u32, Kind, i64)],
+) -> Result<(Path, PutLog), AllocError> {
     let path = SmallVec::from_slice(alloc, path)?;
     let mut log = Vec::new(alloc);
-    for (index, value) in puts {
+    for (index, kind, value) in puts {
         log.push(Put {
             array: 0,
             index: *index,
-            kind: Kind::Set,
+            kind: *kind,
             value: *value,
         })?;
     }
     Ok((path, log))
 }
 
-// What three tasks have put: one of them to the first cell alone, the others to two cells each.
+// What three tasks have put: one of them adds to the first cell alone, the others put to two cells each.
 fn entries(alloc: Global) -> Result<Run, AllocError> {
     let mut entries = Vec::new(alloc);
-    entries.push(entry(alloc, &[0], &[(0, 5), (2, 6), (0, 7)])?)?;
-    entries.push(entry(alloc, &[0, 3], &[(2, 8), (1, 4)])?)?;
-    entries.push(entry(alloc, &[1], &[(0, 9)])?)?;
+    entries.push(entry(alloc, &[0], &[(0, Set, 5), (2, Set, 6), (0, Set, 7)])?)?;
+    entries.push(entry(alloc, &[0, 3], &[(2, Set, 8), (1, Add, 2)])?)?;
+    entries.push(entry(alloc, &[1], &[(0, Add, 2)])?)?;
     Ok(entries)
 }
 
@@ -54,7 +59,7 @@ const AFTER: [Option<i64>; 3] = [Some(9), Some(4), Some(8)];
 // The logs of these three tasks, and one of a fourth between them, as two runs.
 fn two_runs(alloc: Global) -> Result<Vec<Run>, AllocError> {
     let mut last = Vec::new(alloc);
-    last.push(entry(alloc, &[0, 2], &[(2, 0)])?)?;
+    last.push(entry(alloc, &[0, 2], &[(2, Set, 0)])?)?;
     Ok(vec![in alloc; entries(alloc)?, last]?)
 }
 

@@ -18,6 +18,7 @@ pub(crate) enum Answer {
     Landed,
     Faulted,
     TooMany,
+    Overflowed,
     Running,
     // The first number of the path that is missing.
     Missing(u16),
@@ -101,6 +102,7 @@ fn closed(outcome: Outcome) -> Answer {
         Outcome::Landed => Answer::Landed,
         Outcome::Faulted => Answer::Faulted,
         Outcome::TooMany => Answer::TooMany,
+        Outcome::Overflowed => Answer::Overflowed,
     }
 }
 

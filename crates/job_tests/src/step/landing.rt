@@ -1,14 +1,15 @@
-//! Landing by itself: the later put wins, and what is refused leaves the arrays as they were.
+//! Landing by itself: the later put that sets wins, puts that add add up, and what is refused leaves the arrays as they were.
 use crate::step::fixtures::{is_cell, three_cells};
 use smallvec::SmallVec;
 use std::alloc::{AllocError, Global};
 use std::process::Abort;
+use superstep_memory::arrays::Kind::{Add, Set};
 use superstep_memory::arrays::{Arrays, Kind, Put};
 use superstep_memory::landing::{Entry, LandFault, land};
 use superstep_memory::runs::{Run, land_runs};
 
 // What a task has put: its path, and an array, a cell and a value of each put.
-type Log = (&'static [u16], &'static [(u16, u32, i64)]);
+type Log = (&'static [u16], &'static [(u16, u32, Kind, i64)]);
 
 // What landing says.
 #[derive(Clone, Copy, PartialEq, Eq)]
@@ -17,6 +18,8 @@ enum Said {
     NotInOrder,
     // The last number of the path of the task that has put to no cell, and the place of that put.
     OutOfRange(u16, usize),
+    // The last number of the path of the task that has a put that overflows, and the place of that put.
+    Overflow(u16, usize),
     NoMemory,
 }
 
@@ -27,61 +30,84 @@ const UNCHANGED: [i64; 3] = [10, 20, 30];
 
 // Puts of three tasks; none; paths that don't rise; a put to no cell, which isn't the last of those. Then two runs, whose
 // last log has a later path than all others, the path of one in the other run, or an earlier one than the log in front of it.
-const ROWS: [Row; 7] = [
+// Then puts that add: behind one that sets, and in both runs; one that overflows, though it would be covered; and one behind which
+// another is to no cell.
+const ROWS: [Row; 10] = [
     (
         &[&[
-            (&[0], &[(0, 0, 1), (0, 0, 2), (0, 1, 3)]),
-            (&[0, 3], &[(1, 0, 4)]),
-            (&[1], &[(0, 0, 5)]),
+            (&[0], &[(0, 0, Set, 1), (0, 0, Set, 2), (0, 1, Set, 3)]),
+            (&[0, 3], &[(1, 0, Set, 4)]),
+            (&[1], &[(0, 0, Set, 5)]),
         ]],
         Said::Landed,
         [5, 3, 4],
     ),
     (&[&[]], Said::Landed, UNCHANGED),
     (
-        &[&[(&[1], &[(2, 0, 1)]), (&[1], &[(0, 0, 2)])]],
+        &[&[(&[1], &[(2, 0, Set, 1)]), (&[1], &[(0, 0, Set, 2)])]],
         Said::NotInOrder,
         UNCHANGED,
     ),
     (
         &[&[
-            (&[0], &[(0, 0, 1)]),
-            (&[0, 7], &[(0, 1, 2), (0, 2, 3)]),
-            (&[2], &[(9, 0, 4)]),
+            (&[0], &[(0, 0, Set, 1)]),
+            (&[0, 7], &[(0, 1, Set, 2), (0, 2, Set, 3)]),
+            (&[2], &[(9, 0, Set, 4)]),
         ]],
         Said::OutOfRange(7, 1),
         UNCHANGED,
     ),
     (
-        &[TWO_LOGS, &[(&[0, 0], &[(1, 0, 8)]), (&[2], &[])]],
+        &[TWO_LOGS, &[(&[0, 0], &[(1, 0, Set, 8)]), (&[2], &[])]],
         Said::Landed,
         [7, 9, 8],
     ),
     (
-        &[TWO_LOGS, &[(&[0, 0], &[(1, 0, 8)]), (&[1], &[])]],
+        &[TWO_LOGS, &[(&[0, 0], &[(1, 0, Set, 8)]), (&[1], &[])]],
         Said::NotInOrder,
         UNCHANGED,
     ),
     (
-        &[TWO_LOGS, &[(&[0, 0], &[(1, 0, 8)]), (&[0], &[])]],
+        &[TWO_LOGS, &[(&[0, 0], &[(1, 0, Set, 8)]), (&[0], &[])]],
         Said::NotInOrder,
+        UNCHANGED,
+    ),
+    (
+        &[TWO_LOGS, &[(&[0, 0], &[(0, 0, Add, 8), (1, 0, Add, -3)])]],
+        Said::Landed,
+        [15, 9, 3],
+    ),
+    (
+        &[&[
+            (&[0], &[(0, 1, Add, 1), (0, 0, Set, i64::MAX)]),
+            (&[0, 4], &[(0, 1, Set, 0), (0, 0, Add, 1), (0, 0, Set, 0)]),
+        ]],
+        Said::Overflow(4, 1),
+        UNCHANGED,
+    ),
+    (
+        &[&[
+            (&[0], &[(0, 0, Set, i64::MAX), (0, 0, Add, 1)]),
+            (&[2], &[(9, 0, Add, 4)]),
+        ]],
+        Said::OutOfRange(2, 0),
         UNCHANGED,
     ),
 ];
 
 const TWO_LOGS: &[Log] = &[
-    (&[0], &[(0, 0, 5), (1, 0, 6), (0, 0, 7)]),
-    (&[1], &[(0, 1, 9)]),
+    (&[0], &[(0, 0, Set, 5), (1, 0, Set, 6), (0, 0, Set, 7)]),
+    (&[1], &[(0, 1, Set, 9)]),
 ];
 
 // The path and the puts of a log.
-fn entry_of(alloc: Global, path: &[u16], puts: &[(u16, u32, i64)]) -> Result<Entry, AllocError> {
+fn entry_of(alloc: Global, path: &[u16], puts: &[(u16, u32, Kind, i64)]) -> Result<Entry, AllocError> {
     let mut all = Vec::new(alloc);
-    for (array, index, value) in puts {
+    for (array, index, kind, value) in puts {
         all.push(Put {
             array: *array,
             index: *index,
-            kind: Kind::Set,
+            kind: *kind,
             value: *value,
         })?;
     }
@@ -113,6 +139,9 @@ fn said_of(done: &Result<(), LandFault>) -> Said {
         Err(LandFault::NotInOrder) => Said::NotInOrder,
         Err(LandFault::OutOfRange(path, place)) => {
             Said::OutOfRange(path.last().copied().unwrap_or(u16::MAX), *place)
+        }
+        Err(LandFault::Overflow(path, place)) => {
+            Said::Overflow(path.last().copied().unwrap_or(u16::MAX), *place)
         }
         Err(LandFault::Memory(_)) => Said::NoMemory,
     }
