@@ -2,9 +2,9 @@ use Rattle.std.proofs.Common.{◌≡◌, ℕ, ◌+◌, ◌-◌, ◌<◌, ◌≤�
 use Rattle.std.proofs.lemmas.Bool.Decides.{nat_tests}
 use Rattle.advance_rule.specs.Action.{fails_at}
 use Rattle.cyclic_barrier.specs.Machine.{Machine, machine, fresh}
-use Rattle.cyclic_barrier.specs.Steps.{Answer, Breaks, Absent, is_in, others, indexed, answer, after}
+use Rattle.cyclic_barrier.specs.Steps.{Answer, Breaks, Absent, is_in, others, indexed, answer, after, next_generation}
 use Rattle.cyclic_barrier.specs.Runs.{answers}
-use Rattle.cyclic_barrier.specs.Laws.{times, callers_of, indices_of, GivesEachOnce, IsRightTrip, AllRight, TripsGiveEachOnce}
+use Rattle.cyclic_barrier.specs.Laws.{times, callers_of, indices_of, GivesEachOnce, IsRightTrip, AllRight, TripsGiveEachOnce, GenerationsFollow}
 use Rattle.cyclic_barrier.specs.declared.call.Call.{Call}
 use Rattle.cyclic_barrier.specs.declared.call.Call.TheVariants.{Await, Abandon, BreakOff, Reset}
 
@@ -89,3 +89,10 @@ run_right fails (c ∷ cs) p m same good =
 
 pub trips_give_each_once : TripsGiveEachOnce
 trips_give_each_once p fails calls some = run_right fails calls p (fresh p) refl (nobody p some)
+
+-- the generation after one
+next_below : (g : ℕ) → g < 18446744073709551615 → next_generation g ≡ g + 1
+next_below g low = grind (arith, nat_tests)
+
+pub generations_follow : GenerationsFollow
+generations_follow = record { below = next_below; half = refl; last = refl; wraps = refl }

@@ -1,7 +1,7 @@
 -- What a barrier promises over whole runs, in the words of those who use it (Java SE 21, `CyclicBarrier`).
 use Rattle.std.specs.Prelude.{◌≡◌, ℕ, ◌+◌, ◌<◌, ◌≤◌, ◌==◌, nat_lt, if◌then◌else◌, List, [], ◌∷◌, ◌++◌, Option}
 use Rattle.cyclic_barrier.specs.Machine.{Machine, fresh}
-use Rattle.cyclic_barrier.specs.Steps.{Answer, Waiting, Trips, Fails, Breaks, answer, after, others}
+use Rattle.cyclic_barrier.specs.Steps.{Answer, Waiting, Trips, Fails, Breaks, answer, after, others, next_generation}
 use Rattle.cyclic_barrier.specs.Runs.{answers}
 use Rattle.cyclic_barrier.specs.declared.call.Call.{Call}
 use Rattle.cyclic_barrier.specs.declared.call.Call.TheVariants.{Await, Abandon}
@@ -59,3 +59,10 @@ RunEndsTold fails (c ∷ cs) told m = EndsTold told c (answer fails c m) × RunE
 -- In every run the one list that ends a generation names exactly those who were told to wait in it.
 abbrev pub EndsNameTheTold : Type 0
 EndsNameTheTold = (parties : ℕ) (fails : Option ℕ) (calls : List Call) → 0 < parties → RunEndsTold fails calls [] (fresh parties)
+
+-- Each generation is followed by the next number, and the greatest of 64 bits by 0: about the half of them and at the end, worked out by hand.
+pub record GenerationsFollow : Type 0 where
+  pub below : (g : ℕ) → g < 18446744073709551615 → next_generation g ≡ g + 1
+  pub half : next_generation 9223372036854775807 ≡ 9223372036854775808
+  pub last : next_generation 18446744073709551614 ≡ 18446744073709551615
+  pub wraps : next_generation 18446744073709551615 ≡ 0

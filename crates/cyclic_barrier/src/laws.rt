@@ -1,5 +1,5 @@
 //! What a barrier promises over whole runs.
-ghost use Rattle.cyclic_barrier.specs.Laws.{TripsGiveEachOnce, EndsNameTheTold};
+ghost use Rattle.cyclic_barrier.specs.Laws.{TripsGiveEachOnce, EndsNameTheTold, GenerationsFollow};
 ghost use Rattle.cyclic_barrier.specs.Wakers.{LateWakersAreTold};
 
 /// In every run each tripped generation gives each index below the parties exactly once, and no caller
@@ -22,4 +22,10 @@ pub fn ends_name_the_told()
 #[tactic(auto, using(crate::proofs::Waking::late_wakers_are_told))]
 pub fn late_wakers_are_told()
     ensures { LateWakersAreTold }
+{}
+
+/// Each generation is followed by the next number, and only 18446744073709551615 by 0 (own).
+#[tactic(auto, using(crate::proofs::Trips::generations_follow))]
+pub fn generations_follow()
+    ensures { GenerationsFollow }
 {}

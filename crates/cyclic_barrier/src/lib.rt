@@ -9,6 +9,8 @@ mod state;
 
 pub use barrier::BarrierCore;
 pub use call::{Awaited, BarrierFault, Call, MOST_PARTIES};
-pub use laws::{ends_name_the_told, late_wakers_are_told, trips_give_each_once};
+pub use laws::{
+    ends_name_the_told, generations_follow, late_wakers_are_told, trips_give_each_once,
+};
 pub use ledger::{Ledger, Note, Outcome};
 pub use state::BarrierState;

@@ -1,7 +1,9 @@
 -- What contracts see of a gate and of its answers.
-use Rattle.std.specs.Prelude.{◌≡◌, ℕ, true, Option}
+use Rattle.std.specs.Prelude.{◌≡◌, ℕ, true, Option, Result, Ok, Err}
 use Rattle.advance_rule.specs.Stored.{Stored}
 use Rattle.cyclic_barrier.specs.Steps.{Answer, Waiting, Trips, Fails, IsBroken, Already, is_change}
+use Rattle.cyclic_barrier.specs.Ledger.{Book, booked}
+use Rattle.cyclic_barrier.specs.declared.call.Call.TheVariants.{Await}
 use Rattle.cyclic_gate.specs.declared.gate.Arrival.{Arrival}
 use Rattle.cyclic_gate.specs.declared.gate.Arrival.TheVariants as arrival
 use Rattle.cyclic_gate.specs.declared.gate.GateFault.{GateFault}
@@ -38,3 +40,11 @@ RefusesArrival gate.ActionFailed (Fails others) = Unit {0}
 RefusesArrival gate.ActionFailed _ = ⊥
 RefusesArrival gate.AlreadyWaiting a = a ≡ Already
 RefusesArrival gate.Memory a = is_change a ≡ true
+
+-- The ledger that an arrival leaves: with the call noted where the caller waits or was the last, also where the action failed then; else as it was.
+abbrev pub left_by : Result Arrival GateFault → ℕ → Book → Book
+left_by (Ok arrival) caller b = booked (Await caller) b
+left_by (Err gate.ActionFailed) caller b = booked (Await caller) b
+left_by (Err gate.Broken) caller b = b
+left_by (Err gate.AlreadyWaiting) caller b = b
+left_by (Err gate.Memory) caller b = b

@@ -1,10 +1,11 @@
 //! The barrier under a lock, where threads wait.
-ghost use Rattle.std.specs.Prelude.{◌≡◌, ◌⊎◌, ◌↔◌, ◌<◌, ◌≤◌, ◌<ℤ◌, pos, length, IfOk, IfErr, MatchResult};
+ghost use Rattle.std.specs.Prelude.{◌≡◌, ◌⊎◌, ◌↔◌, ◌<◌, ◌≤◌, ◌<ℤ◌, pos, length, if◌then◌else◌, IfOk, IfErr, MatchResult};
 ghost use Rattle.advance_rule.specs.Action.{AnswersAction};
 ghost use Rattle.cyclic_barrier.specs.Steps.{answer, Breaks};
 ghost use Rattle.cyclic_barrier.specs.Runs.{AfterSome};
 ghost use Rattle.cyclic_barrier.specs.Seen.{RefusesAbandon};
-ghost use Rattle.cyclic_gate.specs.Gate.{GivesTurn, GivesNoTurn, IsArrival, RefusesArrival};
+ghost use Rattle.cyclic_barrier.specs.Ledger.{booked};
+ghost use Rattle.cyclic_gate.specs.Gate.{GivesTurn, GivesNoTurn, IsArrival, RefusesArrival, left_by};
 ghost use Rattle.cyclic_barrier.specs.declared.call.Call.TheVariants.{Await, Abandon, BreakOff, Reset};
 
 use advance_rule::StoredAction;
@@ -147,6 +148,7 @@ impl<F: Fn(u64) -> bool> CyclicGate<F> {
         ensures arrival { MatchResult result
             (λ a. IsArrival a (answer ledger.old.fails (Await caller) ledger.old.barrier) (length ledger.new.history))
             (λ e. RefusesArrival e (answer ledger.old.fails (Await caller) ledger.old.barrier)) }
+        ensures book { ledger.new ≡ left_by result caller ledger.old }
     {
         match ledger.await_step(&self.action, caller) {
             Ok(Awaited::Waits(index)) => Ok(Arrival::Waits(index, ledger.noted())),
@@ -177,6 +179,16 @@ impl<F: Fn(u64) -> bool> CyclicGate<F> {
         if !ledger.is_of(self.parties, self.action.fails()) {
             return Err(BarrierFault::NotWaiting);
         }
+        self.take_away(&mut ledger, caller)
+    }
+
+    // Takes a waiting caller away under the lock, and wakes the others.
+    fn take_away(&self, ledger: &mut Ledger, caller: u32) -> Result<Vec<u32>, BarrierFault>
+        ensures answer { MatchResult result
+            (λ l. answer ledger.old.fails (Abandon caller) ledger.old.barrier ≡ Breaks l.items)
+            (λ e. RefusesAbandon e (answer ledger.old.fails (Abandon caller) ledger.old.barrier)) }
+        ensures book { MatchResult result (λ l. ledger.new ≡ booked (Abandon caller) ledger.old) (λ e. ledger.new ≡ ledger.old) }
+    {
         let others = ledger.abandon(caller)?;
         self.ended.notify_all();
         Ok(others)
@@ -191,6 +203,14 @@ impl<F: Fn(u64) -> bool> CyclicGate<F> {
         if !ledger.is_of(self.parties, self.action.fails()) {
             return Vec::new(self.alloc);
         }
+        self.send_home(&mut ledger)
+    }
+
+    // Breaks the barrier under the lock, and wakes those who wait.
+    fn send_home(&self, ledger: &mut Ledger) -> Vec<u32>
+        ensures answer { answer ledger.old.fails BreakOff ledger.old.barrier ≡ Breaks result.items }
+        ensures book { ledger.new ≡ (if ledger.old.barrier.broken then ledger.old else booked BreakOff ledger.old) }
+    {
         let callers = ledger.break_off();
         self.ended.notify_all();
         callers
@@ -206,6 +226,14 @@ impl<F: Fn(u64) -> bool> CyclicGate<F> {
         if !ledger.is_of(self.parties, self.action.fails()) {
             return Ok(Vec::new(self.alloc));
         }
+        self.renew(&mut ledger)
+    }
+
+    // Begins the next generation under the lock, and wakes those who wait.
+    fn renew(&self, ledger: &mut Ledger) -> Result<Vec<u32>, AllocError>
+        ensures answer { IfOk result (λ l. answer ledger.old.fails Reset ledger.old.barrier ≡ Breaks l.items) }
+        ensures book { MatchResult result (λ l. ledger.new ≡ booked Reset ledger.old) (λ e. ledger.new ≡ ledger.old) }
+    {
         let Ok(callers) = ledger.reset() else {
             return Err(AllocError);
         };
