@@ -25,17 +25,11 @@ use Rattle.table_tiers.specs.Openings.{asked_tier, asked_size, IsOpening}
 use Rattle.table_tiers.specs.Goes.{position, starts, Ran}
 use Rattle.table_tiers.specs.Arrives.{IsSoon, IsSpent}
 use Rattle.table_tiers.specs.Joins.{IsJoined, Refusal, JoinAnswer, JoinAt}
+use Rattle.tier_steps.specs.declared.view.Errand.TheVariants.{Rest}
+use Rattle.table_tiers.specs.Passes.{IsFresh}
 use Rattle.table_tiers.specs.Registers.{IsLookedAround, IsFor, Registers, Opens, MayAnswer, AnswersJoin, NoBusy, SameAnswer}
-use Rattle.table_tiers.proofs.Seeks.{look_unended, joins_do_as_asked}
-use Rattle.table_tiers.proofs.Settling.{unseen}
-
-none_of : (o : Option ℕ) → ((p : ℕ) → o ≡ Some p → ⊥) → o ≡ None
-none_of None h = refl
-none_of (Some p) h = absurd (h p refl)
-
--- a token that finds the root open hasn't seen the end
-pub seen_nothing : {h h' : Holding} → Looked Look 0 h h' → h'.word.ended ≡ false → h.view.end_seen ≡ None
-seen_nothing {h} {h'} took e = none_of h.view.end_seen (λ p is. unseen took e p is)
+use Rattle.table_tiers.proofs.Seeks.{joins_do_as_asked}
+use Rattle.table_tiers.proofs.Settling.{first_fresh}
 
 nobody : (ps : List ℕ) (t : ℕ) (h : Holding) (v : View) → Beside ps t h.word v → v.size ≡ 0 → v.arrived ≡ 0
 nobody ps t h v b none = let fits = (mine ps b.words b.front b.back v b.tally).within in omega arith
@@ -71,10 +65,10 @@ asked_for ps least home tier size v a (Refreshing passed_on) sh fits more some =
 
 -- a call without claims still seeks its tier
 home_of : (ps : List ℕ) (least home tier size : ℕ) (v : View) (a : Played) (p : Progress) → JoinAt ps least home tier size v a p → CallFits ps p v → p ≢ Idle → claimed_by v.errand ≡ 0
-    → (v.tier ≡ home) × (v.size ≡ 0) × (least ≡ 0)
+    → (v.tier ≡ home) × (v.size ≡ 0) × (least ≡ 0) × IsFresh v
 home_of ps least home tier size v a Idle sh fits more none = absurd (more refl)
 home_of ps least home tier size v a (Begun c) sh fits more none = absurd sh
-home_of ps least home tier size v a (ToSeek tier' size') sh fits more none = (sh.at_home, fits.1.none, (let c = sh.claims in omega arith))
+home_of ps least home tier size v a (ToSeek tier' size') sh fits more none = (sh.at_home, fits.1.none, (let c = sh.claims in omega arith), record { unseen = sh.unseen; unled = sh.unled })
 home_of ps least home tier size v a Settling sh fits more none = let c = ap claimed_by sh.errand in absurd (omega arith)
 home_of ps least home tier size v a (ToGiveBack b) sh fits more none = let c = ap claimed_by sh.errand in absurd (omega arith)
 home_of ps least home tier size v a (Passing trip) sh fits more none = absurd sh
@@ -102,6 +96,9 @@ module _ (n : Named) (least home tier size tries : ℕ) (o g : Going) (start : J
   over a e f = subst (λ (b : Played). JoinAnswer n.key.shape tier size g.token.view b) f
       (subst (λ (p : Progress). JoinAt n.key.shape least home tier size g.token.view g.answer p) e shown)
 
+  rests : g.progress ≡ Idle → g.token.view.errand ≡ Rest
+  rests e = subst (λ (p : Progress). CallFits n.key.shape p g.token.view) e ran.went.at.fits
+
   goes_now : g.progress ≢ Idle → is_going g.progress ≡ true
   goes_now more = going_on n.key.shape least home tier size g.token.view g.answer g.progress shown more
 
@@ -110,7 +107,7 @@ module _ (n : Named) (least home tier size tries : ℕ) (o g : Going) (start : J
       let a = asked_for n.key.shape least home tier size g.token.view g.answer g.progress shown ran.went.at.fits more some in
       record { seat = a.0; members = a.1; claims = omega arith }
 
-  at_home : g.progress ≢ Idle → claimed_by g.token.view.errand ≡ 0 → (g.token.view.tier ≡ home) × (g.token.view.size ≡ 0) × (least ≡ 0)
+  at_home : g.progress ≢ Idle → claimed_by g.token.view.errand ≡ 0 → (g.token.view.tier ≡ home) × (g.token.view.size ≡ 0) × (least ≡ 0) × IsFresh g.token.view
   at_home more none = home_of n.key.shape least home tier size g.token.view g.answer g.progress shown ran.went.at.fits more none
 
 abbrev pub seeking : Holding → ℕ → ℕ → Going
@@ -124,7 +121,8 @@ module _ (n : Named) (tier size tries : ℕ) (h h' : Holding) (g : Going) (is : 
     same_size = refl;
     at_home = ap (λ (v : View). v.tier) took.view ∙ looked_tier h'.word h.view;
     claims = omega arith;
-    unseen = ap (λ (v : View). v.end_seen) took.view ∙ (look_unended h'.word h.view opened ∙ seen_nothing took opened);
+    unseen = (first_fresh took opened).unseen;
+    unled = (first_fresh took opened).unled;
   }
 
   pub join_may_answer : MayAnswer g
@@ -145,7 +143,8 @@ module _ (n : Named) (tier size tries : ℕ) (h h' : Holding) (g : Going) (is : 
   pub registers : (r : Registered) → AnswersJoin g r → Registers h tier size tries r
   registers (registered.Joined crew phase) s =
       let o = ends_so (Done phase) s.1 s.2 in
-      subst (λ (z : Holding). IsSoon tries h z × IsJoined tier size z.view × (phase ≡ z.view.phase)) (sym s.0) (soon, o.0, o.1)
+      subst (λ (z : Holding). IsSoon tries h z × IsJoined tier size z.view × (z.view.errand ≡ Rest) × (phase ≡ z.view.phase)) (sym s.0)
+      (soon, o.0, rests n 0 h.view.tier tier size tries (seeking h' tier size) g begins ran s.1, o.1)
   registers (registered.Held door' phase cause) s =
       let o = ends_so (Held phase cause) s.1 s.2 in
       subst (λ (z : Holding). IsSoon tries h z × Refusal h.tree.key.shape tier size z.view (Held phase cause)) (sym s.0) (soon, o.1)
@@ -157,13 +156,14 @@ module _ (n : Named) (tier size tries : ℕ) (h h' : Holding) (g : Going) (is : 
       subst (λ (z : Holding). IsSoon tries h z × Refusal h.tree.key.shape tier size z.view (Ended shown_as)) (sym s.0) (soon, o.1)
   registers (registered.Busy door') s =
       let o = at_home n 0 h.view.tier tier size tries (seeking h' tier size) g begins ran s.1 s.2 in
-      subst (λ (z : Holding). IsSpent tries h z × IsLookedAround h.view z.view) (sym s.0) (
+      subst (λ (z : Holding). IsSpent tries h z × IsLookedAround h.view z.view × IsFresh z.view) (sym s.0) (
         spent s.1,
         record {
           tier = o.0;
           size = o.1 ∙ sym door.none;
           arrived = nobody n.key.shape g.token.tier g.token g.token.view ran.went.at.known o.1 ∙ sym (nobody h.tree.key.shape 0 h' h.view took.before door.none);
         },
+        o.3,
       )
   registers (registered.Owing opening') s =
       subst (λ (z : Going). IsSpent tries h z.token × IsFor tier size z) (sym s.0)
@@ -200,7 +200,8 @@ module _ (n : Named) (tries : ℕ) (o g : Going) (is : o.token.tree ≡ n) (open
   pub opens : (a : Registered) (r : Opened) → AnswersJoin g a → SameAnswer a r → Opens o tries r
   opens a (opened.Joined crew phase) s same =
       let t = subst (AnswersJoin g) same s in let e = ends_as (Done phase) t.1 t.2 in
-      subst (λ (z : Holding). IsSoon tries o.token z × IsJoined tier size z.view × (phase ≡ z.view.phase)) (sym t.0) (early, e.0, e.1)
+      subst (λ (z : Holding). IsSoon tries o.token z × IsJoined tier size z.view × (z.view.errand ≡ Rest) × (phase ≡ z.view.phase)) (sym t.0)
+      (early, e.0, rests n 1 o.token.view.tier tier size tries o g stood ran t.1, e.1)
   opens a (opened.Held door phase cause) s same =
       let t = subst (AnswersJoin g) same s in let e = ends_as (Held phase cause) t.1 t.2 in
       subst (λ (z : Holding). IsSoon tries o.token z × Refusal o.token.tree.key.shape tier size z.view (Held phase cause)) (sym t.0) (early, e.1)

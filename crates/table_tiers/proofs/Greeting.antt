@@ -25,16 +25,16 @@ use Rattle.table_rule.specs.Tell.{Beside}
 use Rattle.table_tiers.specs.Holding.{Named, Holding, Looked, Took, Lost, Won, IsDoor, IsCrew}
 use Rattle.table_tiers.specs.Passes.{IsSame}
 use Rattle.table_tiers.specs.Joins.{IsJoined, Refusal}
-use Rattle.table_tiers.specs.Passes.{EndSeen}
+use Rattle.table_tiers.specs.Passes.{EndSeen, IsFresh}
 use Rattle.table_tiers.specs.Arrives.{IsSoon, IsSpent}
 use Rattle.table_tiers.specs.Registers.{IsLookedAround}
-use Rattle.table_tiers.specs.JoinsHere.{Waits, IsStill, AreSoon, AreSpent, KeepsCrew, AnswersMeeting, JoinsOnce, JoinsHere}
+use Rattle.table_tiers.specs.JoinsHere.{Waits, IsStill, IsFullHere, AreSoon, AreSpent, KeepsCrew, AnswersMeeting, JoinsOnce, JoinsHere}
 use Rattle.table_tiers.specs.declared.joining.Registered.{Registered}
 use Rattle.table_tiers.specs.declared.joining.Registered.TheVariants as registered
 use Rattle.table_tiers.proofs.Turning.{refuse_at, ended_at, glanced}
-use Rattle.table_tiers.proofs.Passing.{root_of}
-use Rattle.table_tiers.proofs.Coming.{seen_nothing}
-use Rattle.table_tiers.proofs.Seeks.{look_unended, look_end, refused_note, refused_size, refused_end, glance_unended}
+use Rattle.table_tiers.proofs.Passing.{root_of, glance_unled}
+use Rattle.table_tiers.proofs.Settling.{first_fresh}
+use Rattle.table_tiers.proofs.Seeks.{look_end, refused_note, refused_size, refused_end, refused_unled, glance_unended}
 
 -- a tier that doesn't lag waits for a member that hasn't arrived there
 one_here : (n t : ℕ) → only_at t n t ≡ n
@@ -101,12 +101,13 @@ pub record Peeks (w : Fields) (v u : View) : Type 0 where
   pub size : u.size ≡ v.size
   pub tier : u.tier ≡ v.tier
   pub unseen : w.ended ≡ false → u.end_seen ≡ v.end_seen
+  pub unled : v.led ≡ false → u.led ≡ false
 
 peeks_by : (above t size : ℕ) (w : Fields) (v : View) → v.errand ≡ Rest → Peeks w v (view_after above (looking (Join t 0 size) t w) t w v)
 peeks_by above t size w v rests =
     by_test (λ b. Peeks w v (view_after above (cond b (Refuse t 0 size) (glance t)) t w v)) (not w.ended && is_refusing size w)
-    (λ e. record { rests = refused_rests t w v rests; size = refused_size t w v; tier = refused_tier t w v; unseen = refused_end t w v })
-    (λ e. let d = glanced above t w v in record { rests = glance_rests above t w v rests; size = d.size; tier = d.tier; unseen = glance_unended above t w v })
+    (λ e. record { rests = refused_rests t w v rests; size = refused_size t w v; tier = refused_tier t w v; unseen = refused_end t w v; unled = refused_unled t w v })
+    (λ e. let d = glanced above t w v in record { rests = glance_rests above t w v rests; size = d.size; tier = d.tier; unseen = glance_unended above t w v; unled = glance_unled above t w v })
 
 pub peeks : {h h' : Holding} {t : ℕ} (size tries : ℕ) → IsDoor h → Took (looking (Join t 0 size) t h'.word) t h'.word tries h h' → Peeks h'.word h.view h'.view
 peeks {h} {h'} {t} size tries door took =
@@ -140,17 +141,21 @@ room_alone size w some = go (has_no_room size w) (eqb w.unarrived 0) (is_being_o
     go false false true e f = not_both true refl f
 
 pub peeks_full : {h h' : Holding} {count : ℕ} (t size : ℕ) → Looked (Join t 0 size) t h h' → Waits h'.word → h'.word.ended ≡ false → is_refusing size h'.word ≡ true → h.view.end_seen ≡ None
-    → count ≡ h'.word.parties → Refusal h.tree.key.shape t size h'.view (played.Full count)
+    → count ≡ h'.word.parties → IsFullHere h.tree.key.shape t size h'.view count
 peeks_full {h} {h'} {count} t size took waits going full unseen is =
     let k = refuse_at t t 0 size h'.word going full in
     let view : h'.view ≡ refused t h'.word h.view = took.view ∙ ap (λ (k : Kind). view_after (parent_of h.tree.key.shape t) k t h'.word h.view) k in
     record {
-      claimed = 0;
-      word = h'.word;
-      note = ap (λ (v : View). v.note) view ∙ refused_note t h'.word h.view;
-      refuses = full;
-      says = (sym (room_alone size h'.word (waits going)) ∙ full, is);
-      unseen = ap (λ (v : View). v.end_seen) view ∙ (refused_end t h'.word h.view going ∙ unseen);
+      refusal = record {
+        claimed = 0;
+        alone = λ z. refl;
+        word = h'.word;
+        note = ap (λ (v : View). v.note) view ∙ refused_note t h'.word h.view;
+        refuses = full;
+        says = (sym (room_alone size h'.word (waits going)) ∙ full, is);
+        unseen = ap (λ (v : View). v.end_seen) view ∙ (refused_end t h'.word h.view going ∙ unseen);
+      };
+      itself = refl;
     }
 
 room_so : (n : ℕ) → ltb 65535 n ≡ false → n ≤ 65535
@@ -179,34 +184,35 @@ around_by {h} {h'} {t} size tries door took = peeked_around h h' door (peeks siz
 around_then : {a b c : View} → IsLookedAround a b → IsLookedAround b c → IsLookedAround a c
 around_then {a} {b} {c} x y = record { tier = y.tier ∙ x.tier; size = y.size ∙ x.size; arrived = y.arrived ∙ x.arrived }
 
-pub met_late : {h h' : Holding} (t size : ℕ) → IsDoor h → Looked (Join t 0 size) t h h' → h'.word.ended ≡ false → h.view.end_seen ≡ None → IsStill 0 h h'
-met_late {h} {h'} t size door took going unseen = record {
+pub met_late : {h h' : Holding} (t size : ℕ) → IsDoor h → Looked (Join t 0 size) t h h' → h'.word.ended ≡ false → IsFresh h.view → IsStill 0 h h'
+met_late {h} {h'} t size door took going fresh = record {
   spent = record { tree = took.tree; tried = took.tried };
   looked = around_by size 0 door took;
-  unseen = (peeks size 0 door took).unseen going ∙ unseen;
+  fresh = (let p = peeks size 0 door took in record { unseen = p.unseen going ∙ fresh.unseen; unled = p.unled fresh.unled });
 }
 
 -- a lost try is one more look
 lost_took : {h' h'' : Holding} (t size : ℕ) → h'.tier ≡ t → Lost (Join t 0 size) h' h'' → Took (looking (Join t 0 size) t h''.word) t h''.word 1 h' h''
 lost_took {h'} {h''} t size at l = subst (λ (n : ℕ). Took (looking (Join t 0 size) n h''.word) n h''.word 1 h' h'') at l.took
 
-pub met_busy : {h h' h'' : Holding} (t size : ℕ) → IsDoor h → Looked (Join t 0 size) t h h' → Lost (Join t 0 size) h' h'' → h'.word.ended ≡ false → h''.word.ended ≡ false → h.view.end_seen ≡ None
+pub met_busy : {h h' h'' : Holding} (t size : ℕ) → IsDoor h → Looked (Join t 0 size) t h h' → Lost (Join t 0 size) h' h'' → h'.word.ended ≡ false → h''.word.ended ≡ false → IsFresh h.view
     → IsStill 1 h h''
-met_busy {h} {h'} {h''} t size door took lost going on unseen =
+met_busy {h} {h'} {h''} t size door took lost going on fresh =
     let p = peeks size 0 door took in
     let second = lost_took t size took.tier lost in
     let door' = peeked_door {h = h} {h' = h'} door p in
     record {
       spent = record { tree = second.tree ∙ took.tree; tried = (let a = second.tried in let b = took.tried in omega arith) };
       looked = around_then (around_by size 0 door took) (around_by size 1 door' second);
-      unseen = (peeks size 1 door' second).unseen on ∙ (p.unseen going ∙ unseen);
+      fresh = (let q = peeks size 1 door' second in record { unseen = q.unseen on ∙ (p.unseen going ∙ fresh.unseen); unled = q.unled (p.unled fresh.unled) });
     }
 
-pub met_joined : {h h' h'' : Holding} {phase : ℕ} (t size : ℕ) → Looked (Join t 0 size) t h h' → Won (Join t 0 size) h' h'' → phase ≡ h'.word.phase
-    → IsSpent 1 h h'' × IsJoined t size h''.view × (phase ≡ h''.view.phase)
-met_joined {h} {h'} {h''} {phase} t size took won is = (
+pub met_joined : {h h' h'' : Holding} {phase : ℕ} (t size : ℕ) → IsDoor h → IsFresh h.view → Looked (Join t 0 size) t h h' → Won (Join t 0 size) h' h'' → phase ≡ h'.word.phase
+    → IsSpent 1 h h'' × IsJoined t size h''.view × (h''.view.errand ≡ Rest) × (phase ≡ h''.view.phase)
+met_joined {h} {h'} {h''} {phase} t size door fresh took won is = (
   record { tree = won.tree ∙ took.tree; tried = (let a = won.tried in let b = took.tried in omega arith) },
-  record { seat = ap (λ (v : View). v.tier) won.view; members = ap (λ (v : View). v.size) won.view; none_arrived = ap (λ (v : View). v.arrived) won.view },
+  record { seat = ap (λ (v : View). v.tier) won.view; members = ap (λ (v : View). v.size) won.view; none_arrived = ap (λ (v : View). v.arrived) won.view; unled = ap (λ (v : View). v.led) won.view ∙ (peeks size 0 door took).unled fresh.unled },
+  ap (λ (v : View). v.errand) won.view,
   is ∙ ap (λ (v : View). v.phase) (sym won.view),
 )
 
@@ -243,10 +249,11 @@ met_round {old} {new} {tier} door size (registered.Joined crew phase) k at m = (
   record { crew_tree = k.tree; door_tree = m.0.tree; crew = k.crew; tried = (let a = k.tried in let b = m.0.tried in omega arith) },
   subst (λ (t : ℕ). IsJoined t size crew.view) at m.1,
   m.2,
+  m.3,
 )
 met_round {old} {new} {tier} door size (registered.Full after count) k at m = (
   record { crew_tree = k.tree; door_tree = m.0.tree; crew = k.crew; tried = (let a = k.tried in let b = m.0.tried in omega arith) },
-  subst (λ (t : ℕ). Refusal door.tree.key.shape t size after.view (played.Full count)) at m.1,
+  subst (λ (t : ℕ). IsFullHere door.tree.key.shape t size after.view count) at m.1,
 )
 met_round {old} {new} {tier} door size (registered.Ended after shown) k at m = (
   record { crew_tree = k.tree; door_tree = m.0.tree; crew = k.crew; tried = (let a = k.tried in let b = m.0.tried in omega arith) },
@@ -255,7 +262,7 @@ met_round {old} {new} {tier} door size (registered.Ended after shown) k at m = (
 met_round {old} {new} {tier} door size (registered.Busy after) k at m = (
   record { crew_tree = k.tree; door_tree = m.spent.tree; crew = k.crew; tried = (let a = k.tried in let b = m.spent.tried in omega arith) },
   m.looked,
-  m.unseen,
+  m.fresh,
 )
 met_round {old} {new} {tier} door size (registered.Held after phase cause) k at m = absurd m
 met_round {old} {new} {tier} door size (registered.Owing opening) k at m = absurd m
@@ -264,21 +271,21 @@ same_then : {a b c : View} → IsSame a b → IsSame b c → IsSame a c
 same_then {a} {b} {c} x y = record { tier = y.tier ∙ x.tier; size = y.size ∙ x.size; phase = y.phase ∙ x.phase; arrived = y.arrived ∙ x.arrived }
 
 -- a round in which another step came between
-pub late_round : {old mid new door after : Holding} → KeepsCrew 0 old mid → KeepsCrew 1 mid new → IsStill 0 door after → AreSpent 1 old new door after × IsLookedAround door.view after.view × (after.view.end_seen ≡ None)
+pub late_round : {old mid new door after : Holding} → KeepsCrew 0 old mid → KeepsCrew 1 mid new → IsStill 0 door after → AreSpent 1 old new door after × IsLookedAround door.view after.view × IsFresh after.view
 late_round {old} {mid} {new} {door} {after} a b s = (
   record { crew_tree = b.tree ∙ a.tree; door_tree = s.spent.tree; crew = same_then a.crew b.crew; tried = (let x = a.tried in let y = b.tried in let z = s.spent.tried in omega arith) },
   s.looked,
-  s.unseen,
+  s.fresh,
 )
 
 pub around_none : (v : View) → IsLookedAround v v
 around_none v = record { tier = refl; size = refl; arrived = refl }
 
-pub lagging_round : {old mid new door : Holding} → KeepsCrew 0 old mid → KeepsCrew 1 mid new → door.view.end_seen ≡ None → AreSpent 1 old new door door × IsLookedAround door.view door.view × (door.view.end_seen ≡ None)
-lagging_round {old} {mid} {new} {door} a b unseen = (
+pub lagging_round : {old mid new door : Holding} → KeepsCrew 0 old mid → KeepsCrew 1 mid new → IsFresh door.view → AreSpent 1 old new door door × IsLookedAround door.view door.view × IsFresh door.view
+lagging_round {old} {mid} {new} {door} a b fresh = (
   record { crew_tree = b.tree ∙ a.tree; door_tree = refl; crew = same_then a.crew b.crew; tried = (let x = a.tried in let y = b.tried in omega arith) },
   around_none door.view,
-  unseen,
+  fresh,
 )
 
 -- rounds one after another
@@ -293,9 +300,9 @@ soon_then {old} {mid} {new} {door} {d} {after} {a} {b} {tries} x y few = record 
 pub rounds_answer : {old mid door d : Holding} {made tries : ℕ} (new : Holding) (size : ℕ) (a : Registered) → ((after : Holding) → a ≢ registered.Busy after) → AreSpent made old mid door d → made < tries → JoinsOnce mid new d size a
     → JoinsHere old new door size tries a
 rounds_answer {old} {mid} {door} {d} {made} {tries} new size (registered.Joined crew phase) other x few m =
-    (soon_then x m.0 (omega arith), subst (λ (t : ℕ). IsJoined t size crew.view) x.crew.tier m.1, m.2)
+    (soon_then x m.0 (omega arith), subst (λ (t : ℕ). IsJoined t size crew.view) x.crew.tier m.1, m.2, m.3)
 rounds_answer {old} {mid} {door} {d} {made} {tries} new size (registered.Full after count) other x few m =
-    (soon_then x m.0 (omega arith), subst (λ (z : Named × ℕ). Refusal z.0.key.shape z.1 size after.view (played.Full count)) (λ i. (x.door_tree i, x.crew.tier i)) m.1)
+    (soon_then x m.0 (omega arith), subst (λ (z : Named × ℕ). IsFullHere z.0.key.shape z.1 size after.view count) (λ i. (x.door_tree i, x.crew.tier i)) m.1)
 rounds_answer {old} {mid} {door} {d} {made} {tries} new size (registered.Ended after shown) other x few m = (soon_then x m.0 (omega arith), m.1)
 rounds_answer {old} {mid} {door} {d} {made} {tries} new size (registered.Busy after) other x few m = absurd (other after refl)
 rounds_answer {old} {mid} {door} {d} {made} {tries} new size (registered.Held after phase cause) other x few m = absurd m
@@ -321,5 +328,5 @@ refusal_of {b} {c} {w} {w'} size is e f = ap (is_refusing size) (sym is) ∙ (sy
 pub ended_word : {u w w' : Fields} → u ≡ w → w ≡ w' → u.ended ≡ true → w'.ended ≡ true
 ended_word {u} {w} {w'} is same e = ap (λ (z : Fields). z.ended) (sym (is ∙ same)) ∙ e
 
-pub still_unseen : {h h' : Holding} → Looked Look 0 h h' → h'.word.ended ≡ false → h'.view.end_seen ≡ None
-still_unseen {h} {h'} took e = ap (λ (v : View). v.end_seen) took.view ∙ (look_unended h'.word h.view e ∙ seen_nothing took e)
+pub still_fresh : {h h' : Holding} → Looked Look 0 h h' → h'.word.ended ≡ false → IsFresh h'.view
+still_fresh {h} {h'} took e = first_fresh took e

@@ -33,7 +33,7 @@ use Rattle.table_tiers.specs.Holding.{Named}
 use Rattle.table_tiers.specs.Goes.{Position, position, Goes, starts, steps, looks, after_look, WentOn, EndsAsPlanned}
 use Rattle.table_tiers.specs.Joins.{IsJoined, IsNoted, Refusal, SeeksFor, SettlesFor, GivesBackFor, JoinAt, JoinsDoAsAsked, is_joining}
 use Rattle.table_tiers.proofs.Turning.{by_cond, SeekIs, ends, refused as turned_away, claims, joins, seek_is, admit_at, glanced, look_is}
-use Rattle.table_tiers.proofs.Passing.{root_of}
+use Rattle.table_tiers.proofs.Passing.{root_of, looked_unled, glance_unled}
 
 -- a claimed tier is below the root
 claims_one : (ps : List ℕ) (tier claimed t : ℕ) → t ≡ ancestor ps tier claimed → 0 < claims_on ps tier (suc claimed) t
@@ -49,6 +49,23 @@ claimed_below ps zero w v tier claimed size s b e is =
     let none : bit (is_being_opened (word_at b.words 0)) ≡ 0 = ap bit b.tally.root_claims in
     let c = k.claims in absurd (omega arith)
 claimed_below ps (suc t) w v tier claimed size s b e is = omega arith
+
+root_ancestor : (ps : List ℕ) → parent_of ps 0 ≡ 0 → (above : ℕ) → ancestor ps 0 above ≡ 0
+root_ancestor ps is zero = refl
+root_ancestor ps is (suc above) = ap (parent_of ps) (root_ancestor ps is above) ∙ is
+
+-- a join at the root claims nothing
+pub root_unclaimed : (ps : List ℕ) (tier claimed size : ℕ) (w : Fields) (v : View) → Beside ps (ancestor ps tier claimed) w v → v.errand ≡ opening tier claimed stage.Seeking size
+    → tier ≡ 0 → claimed ≡ 0
+root_unclaimed ps tier zero size w v b e z = refl
+root_unclaimed ps tier (suc claimed) size w v b e z =
+    let up : (n : ℕ) → ancestor ps tier n ≡ 0 = λ n. ap (λ (t : ℕ). ancestor ps t n) z ∙ root_ancestor ps b.shape.shape.root n in
+    let low = claimed_below ps (ancestor ps tier (suc claimed)) w v tier claimed size stage.Seeking b e (up (suc claimed) ∙ sym (up claimed)) in
+    let none = up (suc claimed) in absurd (omega arith)
+
+pub refused_unled : (t : ℕ) (w : Fields) (v : View) → v.led ≡ false → (refused t w v).led ≡ false
+refused_unled zero w v l = looked_unled w v
+refused_unled (suc t) w v l = l
 
 -- what a look at the root leaves of the end that was seen
 pub look_unended : (w : Fields) (v : View) → w.ended ≡ false → (looked w v).end_seen ≡ v.end_seen
@@ -85,11 +102,12 @@ refused_errand (suc t) w v e = refl
 
 module _ (ps : List ℕ) (least home tier size : ℕ) where
   -- a refusal as the word says it
-  refusal_says : (claimed t : ℕ) (w : Fields) (v : View) → t ≡ ancestor ps tier claimed → v.note ≡ Some (t, w) → v.end_seen ≡ None → is_refusing (added claimed size) w ≡ true
+  refusal_says : (claimed t : ℕ) (w : Fields) (v : View) → (tier ≡ 0 → claimed ≡ 0) → t ≡ ancestor ps tier claimed → v.note ≡ Some (t, w) → v.end_seen ≡ None → is_refusing (added claimed size) w ≡ true
       → Refusal ps tier size v (refusal t (added claimed size) v.phase w)
-  refusal_says claimed t w v is note unseen full =
+  refusal_says claimed t w v alone is note unseen full =
       let noted : (R : ℕ → ℕ → Fields → Type 0) → R t (added claimed size) w → IsNoted ps tier size v R = λ R r. record {
         claimed = claimed;
+        alone = alone;
         word = w;
         note = note ∙ ap (λ (n : ℕ). Some (n, w)) is;
         refuses = full;
@@ -130,26 +148,26 @@ module _ (ps : List ℕ) (least home tier size : ℕ) where
 
   -- a step of a join that seeks its tier
   seek_shown : (above claimed t : ℕ) (w : Fields) (v : View) → t ≡ ancestor ps tier claimed → v.errand ≡ opening tier claimed stage.Seeking size → v.size ≡ 0 → v.tier ≡ home
-      → least ≤ claimed → v.end_seen ≡ None
+      → least ≤ claimed → v.end_seen ≡ None → v.led ≡ false → (tier ≡ 0 → claimed ≡ 0)
       → let r = seek_turn tier claimed size t w v in JoinAt ps least home tier size (view_after above r.kind t w v) r.answer r.next
-  seek_shown above claimed t w v is errand none here few unseen =
+  seek_shown above claimed t w v is errand none here few unseen unled alone =
       by_cond (λ r. JoinAt ps least home tier size (view_after above r.kind t w v) r.answer r.next) w.ended _ _
       (λ e. over_or_back claimed (end_shown w) (looked w v) (looked_size w v ∙ none) (looked_ended w v e ∙ (ap dropped errand ∙ dropped_opening claimed)) (w.phase, look_end w v e, refl))
       (λ e. by_cond (λ r. JoinAt ps least home tier size (view_after above r.kind t w v) r.answer r.next) (is_refusing (added claimed size) w) _ _
       (λ f. over_or_back claimed (refusal t (added claimed size) (refused t w v).phase w) (refused t w v) (refused_size t w v ∙ none)
       (refused_errand t w v e ∙ (ap given_up errand ∙ given_opening claimed))
-      (refusal_says claimed t w (refused t w v) is (refused_note t w v) (refused_end t w v e ∙ unseen) f))
+      (refusal_says claimed t w (refused t w v) alone is (refused_note t w v) (refused_end t w v e ∙ unseen) f))
       (λ f. by_cond (λ r. JoinAt ps least home tier size (view_after above r.kind t w v) r.answer r.next) (is_claimable t w) _ _
-      (λ g. record { same_tier = refl; same_size = refl; at_home = here; claims = omega arith; unseen = unseen })
-      (λ g. over_or_settles claimed w.phase (joined_view tier claimed size w v) refl (record { seat = refl; members = refl; none_arrived = refl }) refl)))
+      (λ g. record { same_tier = refl; same_size = refl; at_home = here; claims = omega arith; unseen = unseen; unled = unled })
+      (λ g. over_or_settles claimed w.phase (joined_view tier claimed size w v) refl (record { seat = refl; members = refl; none_arrived = refl; unled = unled }) refl)))
 
   rest_same : (a : Played) (v : View) (e : Errand) → Refusal ps tier size v a → Refusal ps tier size (record v { errand = e }) a
   rest_same GoesOn v e r = r
   rest_same (Done phase) v e r = r
   rest_same (Passed phase) v e r = r
   rest_same Waiting v e r = r
-  rest_same (Held phase cause) v e r = (r.0, record { claimed = r.1.claimed; word = r.1.word; note = r.1.note; refuses = r.1.refuses; says = r.1.says; unseen = r.1.unseen })
-  rest_same (Full count) v e r = record { claimed = r.claimed; word = r.word; note = r.note; refuses = r.refuses; says = r.says; unseen = r.unseen }
+  rest_same (Held phase cause) v e r = (r.0, record { claimed = r.1.claimed; alone = r.1.alone; word = r.1.word; note = r.1.note; refuses = r.1.refuses; says = r.1.says; unseen = r.1.unseen })
+  rest_same (Full count) v e r = record { claimed = r.claimed; alone = r.alone; word = r.word; note = r.note; refuses = r.refuses; says = r.says; unseen = r.unseen }
   rest_same (AlreadyArrived phase) v e r = r
   rest_same (Ended shown) v e r = r
   rest_same (MustAdvance phase count) v e r = r
@@ -163,10 +181,11 @@ module _ (ps : List ℕ) (least home tier size : ℕ) where
       subst (λ (z : ℕ × ℕ). let t : ℕ = ancestor ps z.0 (claimed_by u.errand) in let r = seek_turn z.0 (claimed_by u.errand) z.1 t w u in
       JoinAt ps least home tier size (view_after (parent_of ps t) r.kind t w u) r.answer r.next) (λ i. (sym sh.same_tier i, sym sh.same_size i))
       (seek_shown (parent_of ps (ancestor ps tier (claimed_by u.errand))) (claimed_by u.errand) (ancestor ps tier (claimed_by u.errand)) w u refl
-      (subst (λ (z : ℕ × ℕ). u.errand ≡ opening z.0 (claimed_by u.errand) stage.Seeking z.1) (λ i. (sh.same_tier i, sh.same_size i)) fits.0) fits.1.none sh.at_home sh.claims sh.unseen)
+      (subst (λ (z : ℕ × ℕ). u.errand ≡ opening z.0 (claimed_by u.errand) stage.Seeking z.1) (λ i. (sh.same_tier i, sh.same_size i)) fits.0) fits.1.none sh.at_home sh.claims sh.unseen sh.unled (let z = subst (λ (z : ℕ × ℕ). (u.errand ≡ opening z.0 (claimed_by u.errand) stage.Seeking z.1) × Beside ps (ancestor ps z.0 (claimed_by u.errand)) w u)
+      (λ i. (sh.same_tier i, sh.same_size i)) (fits.0, beside) in root_unclaimed ps tier (claimed_by u.errand) size w u z.1 z.0))
   step_shown Settling u a b w sh fits g beside =
       subst (λ (e : Errand). let r = settle_turn ps u e in let t = errand_place ps e in JoinAt ps least home tier size (view_after (parent_of ps t) r.kind t w u) r.answer r.next) (sym sh.errand)
-      (over_or_settles sh.claimed u.phase (settled_view tier sh.claimed stage.Joined size u) refl (record { seat = sh.joined.seat; members = sh.joined.members; none_arrived = sh.joined.none_arrived }) refl)
+      (over_or_settles sh.claimed u.phase (settled_view tier sh.claimed stage.Joined size u) refl (record { seat = sh.joined.seat; members = sh.joined.members; none_arrived = sh.joined.none_arrived; unled = sh.joined.unled }) refl)
   step_shown (ToGiveBack answer) u a b w sh fits g beside =
       subst (λ (e : Errand). let r = give_back_turn ps answer e in let t = errand_place ps e in JoinAt ps least home tier size (view_after (parent_of ps t) r.kind t w u) r.answer r.next) (sym sh.errand)
       (over_or_back sh.claimed answer (settled_view tier sh.claimed stage.GoingBack size u) sh.none refl (rest_same answer u (opening tier sh.claimed stage.GoingBack size) sh.refusal))
@@ -197,6 +216,7 @@ module _ (ps : List ℕ) (least home tier size : ℕ) where
             at_home = d.tier ∙ sh.at_home;
             claims = subst (λ (x : Errand). least ≤ claimed_by x) (sym (d.open_errand e)) sh.claims;
             unseen = glance_unended above t w u e ∙ sh.unseen;
+            unled = glance_unled above t w u sh.unled;
           })
   seek_stays tier' size' t above w u sh (joins e f k at) quiet =
       subst (λ (k : Kind). SeeksFor least home tier size tier' size' (view_after above k t w u)) (sym (admit_at t tier' (claimed_by u.errand) size' w f))
@@ -206,6 +226,7 @@ module _ (ps : List ℕ) (least home tier size : ℕ) where
         at_home = d.tier ∙ sh.at_home;
         claims = subst (λ (x : Errand). least ≤ claimed_by x) (sym (d.open_errand e)) sh.claims;
         unseen = glance_unended above t w u e ∙ sh.unseen;
+        unled = glance_unled above t w u sh.unled;
       })
 
   -- after a look that is none

@@ -1,6 +1,6 @@
 -- What an arrival or a departure answers.
 use Rattle.std.specs.Prelude.{ℤ}
-use Rattle.std.proofs.Common.{◌≡◌, ◌≢◌, ℕ, ◌<◌, inl, inr, ⊎_elim, Bool, true, false, not, cond, List, refl, sym, ◌∙◌, ap, subst, arith, Some, None}
+use Rattle.std.proofs.Common.{◌≡◌, ◌≢◌, ℕ, ◌<◌, inl, inr, ⊎_elim, Bool, true, false, not, cond, List, refl, sym, ◌∙◌, ap, subst, arith, Option, Some, None}
 use Rattle.phaser_word.specs.Fields.{Fields}
 use Rattle.phaser_word.specs.Phase.{shown_of}
 use Rattle.tier_steps.specs.Word.{next_phase_of}
@@ -26,12 +26,12 @@ use Rattle.table_tiers.specs.declared.arriving.Arrived.TheVariants as arrived
 use Rattle.table_tiers.specs.declared.arriving.Resumed.{Resumed}
 use Rattle.table_tiers.specs.declared.arriving.Resumed.TheVariants as resumed
 use Rattle.table_tiers.specs.Goes.{position, starts, Ran}
-use Rattle.table_tiers.specs.Passes.{IsSame, HasCounted, EndSeen, PassAnswer, PassAt}
+use Rattle.table_tiers.specs.Passes.{IsSame, HasCounted, EndSeen, IsFresh, PassAnswer, PassAt}
 use Rattle.table_tiers.specs.Holding.{Named, Holding, Looked, IsCrew}
 use Rattle.table_tiers.specs.Calls.{IsAt, IsErrand}
 use Rattle.table_tiers.specs.Next.{is_owing}
 use Rattle.table_tiers.specs.Arrives.{IsLooked, HasPassed, IsSoon, IsSpent, Arrives, Resumes, MaySettle, MayEnd, Settles, Ends}
-use Rattle.table_tiers.proofs.Passing.{passes_count_once, passes_count_no_more}
+use Rattle.table_tiers.proofs.Passing.{passes_count_once, passes_count_no_more, looked_fresh}
 
 -- the first look of a call by a token with members
 looked_first : (ps : List ℕ) (w : Fields) (v : View) → Beside ps 0 w v → 0 < v.size → IsLooked v (looked w v)
@@ -107,6 +107,22 @@ unseen_at {A} {ps} {t} {t'} {w} {v} b same z e p is = not_both w.ended (end_foun
 pub unseen : {A : Type 0} {h h' : Holding} → Looked Look 0 h h' → h'.word.ended ≡ false → (p : ℕ) → h.view.end_seen ≡ Some p → A
 unseen {A} {h} {h'} took e p is = not_both h'.word.ended (end_found h.tree.key.shape h'.word h.view p took.before is) e
 
+none_of : (o : Option ℕ) → ((p : ℕ) → o ≡ Some p → ⊥) → o ≡ None
+none_of None h = refl
+none_of (Some p) h = absurd (h p refl)
+
+-- a token that finds the root open hasn't seen the end
+pub seen_nothing : {h h' : Holding} → Looked Look 0 h h' → h'.word.ended ≡ false → h.view.end_seen ≡ None
+seen_nothing {h} {h'} took e = none_of h.view.end_seen (λ p is. unseen took e p is)
+
+-- the first look of a call, at a root that goes on
+pub first_fresh : {h h' : Holding} → Looked Look 0 h h' → h'.word.ended ≡ false → IsFresh h'.view
+first_fresh {h} {h'} took e = subst IsFresh (sym took.view) (looked_fresh h'.word h.view e (seen_nothing took e))
+
+-- where the root goes on nobody has seen an end
+pub seen_none : {ps : List ℕ} {t : ℕ} {w : Fields} {v : View} → Beside ps t w v → t ≡ 0 → w.ended ≡ false → v.end_seen ≡ None
+seen_none {ps} {t} {w} {v} b z e = none_of v.end_seen (λ p is. unseen_at b refl z e p is)
+
 pub not_true : (b : Bool) → not b ≡ true → b ≡ false
 not_true false e = refl
 not_true true e = not_both false e refl
@@ -124,9 +140,9 @@ first_ended {h} {h'} {shown} own tries crew took e is =
     let f = first h h' crew took in
     (soon_looked took, f.looked, (h'.word.phase, f.ended e, is ∙ ap (shown_of h'.word.phase) e))
 
-pub first_arrived : {h h' : Holding} {phase : ℕ} (own : Trip) (tries : ℕ) → IsCrew h → Looked Look 0 h h' → h'.view.arrived ≡ h'.view.size → phase ≡ h'.view.phase
+pub first_arrived : {h h' : Holding} {phase : ℕ} (own : Trip) (tries : ℕ) → IsCrew h → Looked Look 0 h h' → h'.word.ended ≡ false → h'.view.arrived ≡ h'.view.size → phase ≡ h'.view.phase
     → Arrives own h tries (arrived.AlreadyArrived h' phase)
-first_arrived {h} {h'} {phase} own tries crew took all is = (soon_looked took, (first h h' crew took).looked, all, is)
+first_arrived {h} {h'} {phase} own tries crew took going all is = (soon_looked took, (first h h' crew took).looked, first_fresh took going, all, is)
 
 -- a call that may answer as it stands
 settles_at : (P C : View → Type 0) (own : Trip) (g : Going) → IsAt g.token.tree g → PassAt own P C g.token.view g.answer g.progress → ((u : View) → P u → 0 < u.size) → MaySettle g
@@ -146,9 +162,9 @@ settles_at P C own g at sh some = record { at = at; trip = own; shown = go g.pro
     go (ToSeek tier size) a s = s
     go Settling a s = s
     go (ToGiveBack b) a s = s
-    go (Passing trip) a s = (s.0, some g.token.view s.1)
-    go (Owing trip) a s = tt
-    go (Due trip) a s = tt
+    go (Passing trip) a s = (s.0, some g.token.view s.1, s.2)
+    go (Owing trip) a s = (tt, s.1)
+    go (Due trip) a s = (tt, s.1)
     go (Refreshing moved_on) a s = s
 
 ends_at : (C : View → Type 0) (own : Trip) (g : Going) → IsAt g.token.tree g → PassAt own (λ u. ⊥) C g.token.view g.answer g.progress → MayEnd g
@@ -169,8 +185,8 @@ ends_at C own g at sh = record { at = at; trip = own; shown = go g.progress g.an
     go Settling a s = s
     go (ToGiveBack b) a s = s
     go (Passing trip) a s = s
-    go (Owing trip) a s = tt
-    go (Due trip) a s = tt
+    go (Owing trip) a s = (tt, s.1)
+    go (Due trip) a s = (tt, s.1)
     go (Refreshing moved_on) a s = s
 
 -- a token whose call owes nothing rests
@@ -219,7 +235,7 @@ left_is_departure : (own : Trip) (v u : View) → v.arrived < v.size → HasCoun
 left_is_departure Arrival v u lt c z = let s = (c.arrival refl).0 in absurd (omega arith)
 left_is_departure Departure v u lt c z = refl
 
-module _ (n : Named) (own : Trip) (tries : ℕ) (h h' : Holding) (g : Going) (is : h.tree ≡ n) (crew : IsCrew h) (took : Looked Look 0 h h') (some : h'.view.arrived ≢ h'.view.size)
+module _ (n : Named) (own : Trip) (tries : ℕ) (h h' : Holding) (g : Going) (is : h.tree ≡ n) (crew : IsCrew h) (took : Looked Look 0 h h') (going : h'.word.ended ≡ false) (some : h'.view.arrived ≢ h'.view.size)
     (ran : Ran n tries (record { token = h'; progress = Passing own; answer = GoesOn }) g) where
   abbrev at0 : Going
   at0 = record { token = h'; progress = Passing own; answer = GoesOn }
@@ -228,7 +244,7 @@ module _ (n : Named) (own : Trip) (tries : ℕ) (h h' : Holding) (g : Going) (is
   more = (began {n = n} {h = h} {h' = h'} {own = own} is crew took some).fits.1
 
   shown : PassAt own (IsSame h'.view) (HasCounted own h'.view) g.token.view g.answer g.progress
-  shown = passes_count_once n.key own h'.view (position at0) (position g) refl refl more (ran.went.goes (position at0) starts)
+  shown = passes_count_once n.key own h'.view (position at0) (position g) refl refl more (first_fresh took going) (ran.went.goes (position at0) starts)
 
   pub may_settle : MaySettle g
   may_settle = settles_at (IsSame h'.view) (HasCounted own h'.view) own g (subst (λ (z : Named). IsAt z g) (sym ran.went.at.own) ran.went.at) shown
@@ -241,31 +257,35 @@ module _ (n : Named) (own : Trip) (tries : ℕ) (h h' : Holding) (g : Going) (is
   spent e = record { tree = ran.went.at.own ∙ sym is; tried = (let a = ran.went.tried in let b = took.tried in let c = ran.all e in omega arith) }
 
   passed_on : HasCounted own h'.view g.token.view → HasPassed own h.view g.token.view
-  passed_on c = record { from = h'.view; looked = (first h h' crew took).looked; counted = c }
+  passed_on c = record { from = h'.view; looked = (first h h' crew took).looked; unled = (first_fresh took going).unled; counted = c }
+
+  rests_now : g.progress ≡ Idle → g.token.view.errand ≡ Rest
+  rests_now e = subst (λ (p : Progress). CallFits n.key.shape p g.token.view) e ran.went.at.fits
 
   over : (a : Played) → g.progress ≡ Idle → g.answer ≡ a → PassAnswer (IsSame h'.view) (HasCounted own h'.view) g.token.view a
   over a e f = subst (λ (b : Played). PassAnswer (IsSame h'.view) (HasCounted own h'.view) g.token.view b) f
       (subst (λ (p : Progress). PassAt own (IsSame h'.view) (HasCounted own h'.view) g.token.view g.answer p) e shown)
 
-  owed_now : (p : Progress) → is_owing p ≡ true → PassAt own (IsSame h'.view) (HasCounted own h'.view) g.token.view g.answer p → HasCounted own h'.view g.token.view × (is_going p ≡ true)
+  owed_now : (p : Progress) → is_owing p ≡ true → PassAt own (IsSame h'.view) (HasCounted own h'.view) g.token.view g.answer p → HasCounted own h'.view g.token.view × (is_going p ≡ true) × (g.token.view.led ≡ false)
   owed_now Idle o s = absurd (cc)
   owed_now (Begun x) o s = absurd s
   owed_now (ToSeek tier size) o s = absurd s
   owed_now Settling o s = absurd s
   owed_now (ToGiveBack b) o s = absurd s
   owed_now (Passing trip) o s = absurd (cc)
-  owed_now (Owing trip) o s = (s, refl)
-  owed_now (Due trip) o s = (s, refl)
+  owed_now (Owing trip) o s = (s.0, refl, s.1)
+  owed_now (Due trip) o s = (s.0, refl, s.1)
   owed_now (Refreshing moved_on) o s = absurd s
 
   pub arrives : (r : Arrived) → Settles g r → Arrives own h tries r
   arrives (arrived.Done token phase led) s =
       let o = over (Done phase) s.1 s.2 in
-      subst (λ (z : Holding). IsSoon tries h z × HasPassed own h.view z.view × (phase ≡ z.view.phase) × (led ≡ z.view.led)) (sym s.0) (soon, passed_on o.0, o.1, s.3)
+      subst (λ (z : Holding). IsSoon tries h z × HasPassed own h.view z.view × (z.view.errand ≡ Rest) × (phase ≡ z.view.phase) × (led ≡ z.view.led)) (sym s.0)
+      (soon, passed_on o.0, rests_now s.1, o.1, s.3)
   arrives (arrived.Left token phase led) s =
       let o = over (Done phase) s.1 s.2 in
-      subst (λ (z : Holding). (own ≡ Departure) × IsSoon tries h z × HasPassed own h.view z.view × (phase ≡ z.view.phase) × (led ≡ z.view.led)) (sym s.0)
-      (left_is_departure own h'.view g.token.view more o.0 s.4, soon, passed_on o.0, o.1, s.3)
+      subst (λ (z : Holding). (own ≡ Departure) × IsSoon tries h z × HasPassed own h.view z.view × (z.view.errand ≡ Rest) × (phase ≡ z.view.phase) × (led ≡ z.view.led)) (sym s.0)
+      (left_is_departure own h'.view g.token.view more o.0 s.4, soon, passed_on o.0, rests_now s.1, o.1, s.3)
   arrives (arrived.AlreadyArrived token phase) s = absurd s
   arrives (arrived.Ended token shown_as) s =
       let o = over (Ended shown_as) s.1 s.2 in
@@ -273,16 +293,17 @@ module _ (n : Named) (own : Trip) (tries : ℕ) (h h' : Holding) (g : Going) (is
       (soon, looked_same h.view h'.view g.token.view (first h h' crew took).looked o.0, o.1)
   arrives (arrived.Busy token) s =
       let p = subst (λ (q : Progress). PassAt own (IsSame h'.view) (HasCounted own h'.view) g.token.view g.answer q) s.1.1 shown in
-      subst (λ (z : Holding). IsSpent tries h z × IsLooked h.view z.view) (sym s.0)
-      (spent (ap is_going s.1.1), looked_same h.view h'.view g.token.view (first h h' crew took).looked p.1)
+      subst (λ (z : Holding). IsSpent tries h z × IsLooked h.view z.view × IsFresh z.view) (sym s.0)
+      (spent (ap is_going s.1.1), looked_same h.view h'.view g.token.view (first h h' crew took).looked p.1, p.2)
   arrives (arrived.Owing going) s =
       let both = owed_now g.progress s.1 shown in
-      subst (λ (z : Going). IsSpent tries h z.token × HasPassed own h.view z.token.view) (sym s.0) (spent both.1, passed_on both.0)
+      subst (λ (z : Going). IsSpent tries h z.token × HasPassed own h.view z.token.view × (is_owing z.progress ≡ true) × (z.token.view.led ≡ false)) (sym s.0)
+      (spent both.1, passed_on both.0, s.1, both.2)
 
 -- a call that is resumed
 module _ (n : Named) (own : Trip) (tries : ℕ) (e g : Going) (is : e.token.tree ≡ n) (errand : IsErrand e) (ran : Ran n tries e g) where
   noted : PassAt own (λ u. ⊥) (IsSame e.token.view) g.token.view g.answer g.progress
-  noted = passes_count_no_more n.key own e.token.view (position e) (position g) errand.owes refl (ran.went.goes (position e) starts)
+  noted = passes_count_no_more n.key own e.token.view (position e) (position g) errand.owes refl errand.unled (ran.went.goes (position e) starts)
 
   pub may_end : MayEnd g
   may_end = ends_at (IsSame e.token.view) own g (subst (λ (z : Named). IsAt z g) (sym ran.went.at.own) ran.went.at) noted
@@ -305,9 +326,23 @@ module _ (n : Named) (own : Trip) (tries : ℕ) (e g : Going) (is : e.token.tree
   same_at Settling a s = absurd s
   same_at (ToGiveBack b) a s = absurd s
   same_at (Passing trip) a s = absurd s.1
-  same_at (Owing trip) a s = s
-  same_at (Due trip) a s = s
+  same_at (Owing trip) a s = s.0
+  same_at (Due trip) a s = s.0
   same_at (Refreshing moved_on) a s = absurd s
+
+  rests_then : g.progress ≡ Idle → g.token.view.errand ≡ Rest
+  rests_then i = subst (λ (p : Progress). CallFits n.key.shape p g.token.view) i ran.went.at.fits
+
+  unled_at : (p : Progress) (a : Played) → is_owing p ≡ true → PassAt own (λ u. ⊥) (IsSame e.token.view) g.token.view a p → g.token.view.led ≡ false
+  unled_at Idle a o s = absurd (cc)
+  unled_at (Begun c) a o s = absurd s
+  unled_at (ToSeek tier size) a o s = absurd s
+  unled_at Settling a o s = absurd s
+  unled_at (ToGiveBack b) a o s = absurd s
+  unled_at (Passing trip) a o s = absurd s.1
+  unled_at (Owing trip) a o s = s.1
+  unled_at (Due trip) a o s = s.1
+  unled_at (Refreshing moved_on) a o s = absurd s
 
   owing_goes : (p : Progress) → is_owing p ≡ true → is_going p ≡ true
   owing_goes Idle o = absurd (cc)
@@ -322,11 +357,15 @@ module _ (n : Named) (own : Trip) (tries : ℕ) (e g : Going) (is : e.token.tree
 
   pub resumes : (r : Resumed) → Ends g r → Resumes e tries r
   resumes (resumed.Done token phase led) s =
-      subst (λ (z : Holding). IsSoon tries e.token z × IsSame e.token.view z.view × (phase ≡ z.view.phase) × (led ≡ z.view.led)) (sym s.0)
-      (early, same_at g.progress g.answer noted, s.2, s.3)
+      subst (λ (z : Holding). IsSoon tries e.token z × IsSame e.token.view z.view × (z.view.errand ≡ Rest) × (phase ≡ z.view.phase) × (led ≡ z.view.led)) (sym s.0)
+      (early, same_at g.progress g.answer noted, rests_then s.1, s.2, s.3)
   resumes (resumed.Left token phase led) s =
-      subst (λ (z : Holding). IsSoon tries e.token z × IsSame e.token.view z.view × (phase ≡ z.view.phase) × (led ≡ z.view.led)) (sym s.0)
-      (early, same_at g.progress g.answer noted, s.2, s.3)
+      subst (λ (z : Holding). IsSoon tries e.token z × IsSame e.token.view z.view × (z.view.errand ≡ Rest) × (phase ≡ z.view.phase) × (led ≡ z.view.led)) (sym s.0)
+      (early, same_at g.progress g.answer noted, rests_then s.1, s.2, s.3)
   resumes (resumed.Owing going) s =
-      subst (λ (z : Going). IsSpent tries e.token z.token × IsSame e.token.view z.token.view) (sym s.0)
-      (record { tree = ran.went.at.own ∙ sym is; tried = (let a = ran.went.tried in let c = ran.all (owing_goes g.progress s.1) in omega arith) }, same_at g.progress g.answer noted)
+      subst (λ (z : Going). IsSpent tries e.token z.token × IsSame e.token.view z.token.view × (is_owing z.progress ≡ true) × (z.token.view.led ≡ false)) (sym s.0) (
+        record { tree = ran.went.at.own ∙ sym is; tried = (let a = ran.went.tried in let c = ran.all (owing_goes g.progress s.1) in omega arith) },
+        same_at g.progress g.answer noted,
+        s.1,
+        unled_at g.progress g.answer s.1 noted,
+      )

@@ -20,14 +20,15 @@ use Rattle.table_tiers.specs.Holding.{Named, Holding, Looked, Took, Won, Lost, I
 use Rattle.table_tiers.specs.Arrives.{IsLooked, IsSoon}
 use Rattle.table_tiers.specs.Polls.{Polls}
 use Rattle.table_tiers.specs.declared.polling.Polled.TheVariants.{Passed, Waiting, Here}
-use Rattle.table_tiers.proofs.Settling.{first}
+use Rattle.table_tiers.specs.Passes.{IsFresh}
+use Rattle.table_tiers.proofs.Settling.{first, first_fresh}
 
 -- the tier of a token's members is one of the shape
 pub seat_within : {n : Named} {h : Holding} → h.tree ≡ n → IsCrew h → Beside h.tree.key.shape h.tier h.word h.view → h.view.tier < length n.key.shape
 seat_within {n} {h} is crew b =
     subst (λ (z : Named). h.view.tier < length z.key.shape) is ((mine h.tree.key.shape b.words b.front b.back h.view b.tally).seated crew.some)
 
-module _ (h h' new : Holding) (crew : IsCrew h) (took : Looked Look 0 h h') (some : h'.view.arrived ≢ h'.view.size)
+module _ (h h' new : Holding) (crew : IsCrew h) (took : Looked Look 0 h h') (going : h'.word.ended ≡ false) (some : h'.view.arrived ≢ h'.view.size)
     (tree : new.tree ≡ h'.tree) (same : new.view ≡ h'.view) (few : new.tried ≤ h'.tried + 1) where
   soon : IsSoon 1 h new
   soon = record { tree = tree ∙ took.tree; tried = (let a = took.tried in omega arith) }
@@ -35,17 +36,21 @@ module _ (h h' new : Holding) (crew : IsCrew h) (took : Looked Look 0 h h') (som
   looked_so : IsLooked h.view new.view
   looked_so = subst (λ (v : View). IsLooked h.view v) (sym same) (first h h' crew took).looked
 
+  fresh : IsFresh new.view
+  fresh = subst IsFresh (sym same) (first_fresh took going)
+
   pub polls_here : (phase : ℕ) → phase ≡ h'.view.phase → Polls h new (Here phase)
   polls_here phase is =
       let b = took.after in
       let fits = (mine h.tree.key.shape b.words b.front b.back h'.view b.tally).within in
-      (soon, looked_so, subst (λ (v : View). v.arrived < v.size) (sym same) (omega arith), is ∙ ap (λ (v : View). v.phase) (sym same))
+      (soon, looked_so, fresh, subst (λ (v : View). v.arrived < v.size) (sym same) (omega arith), is ∙ ap (λ (v : View). v.phase) (sym same))
 
   pub polls_passed : (phase : ℕ) → phase ≡ h'.view.phase → h'.view.phase ≢ h.view.phase → Polls h new (Passed phase)
   polls_passed phase is other =
       let l = (first h h' crew took).looked in (
         soon,
         looked_so,
+        fresh,
         ⊎_elim
             (λ (z : (h'.view.phase ≡ h.view.phase) × (h'.view.arrived ≡ h.view.arrived)). absurd (other z.0))
             (λ (z : (h.view.arrived ≡ h.view.size) × (h'.view.phase ≡ next_phase_of h.view.phase) × (h'.view.arrived ≡ 0)). record {
@@ -94,5 +99,5 @@ left_some {h} {h'} took some =
     let fits = (mine h.tree.key.shape b.words b.front b.back h'.view b.tally).within in
     omega arith
 
-pub polls_waiting : (h h' : Holding) → IsCrew h → Looked Look 0 h h' → h'.view.arrived ≡ h'.view.size → Polls h h' Waiting
-polls_waiting h h' crew took all = (record { tree = took.tree; tried = (let a = took.tried in omega arith) }, (first h h' crew took).looked, all)
+pub polls_waiting : (h h' : Holding) → IsCrew h → Looked Look 0 h h' → h'.word.ended ≡ false → h'.view.arrived ≡ h'.view.size → Polls h h' Waiting
+polls_waiting h h' crew took going all = (record { tree = took.tree; tried = (let a = took.tried in omega arith) }, (first h h' crew took).looked, first_fresh took going, all)

@@ -1,7 +1,8 @@
 -- What arrivals and departures answer, by the view of their token (own; the calls are those of Java SE 21, `Phaser`).
-use Rattle.std.specs.Prelude.{true, ◌≡◌, ℕ, ◌+◌, ◌<◌, ◌≤◌, ◌⊎◌}
+use Rattle.std.specs.Prelude.{true, false, None, ◌≡◌, ℕ, ◌+◌, ◌<◌, ◌≤◌, ◌⊎◌}
 use Rattle.tier_steps.specs.Word.{next_phase_of}
 use Rattle.tier_steps.specs.declared.view.View.{View}
+use Rattle.tier_steps.specs.declared.view.Errand.TheVariants.{Rest}
 use Rattle.tier_steps.specs.declared.view.Trip.{Trip}
 use Rattle.tier_steps.specs.declared.view.Trip.TheVariants.{Departure}
 use Rattle.tier_core.specs.declared.call.Progress.TheVariants as progress
@@ -10,7 +11,7 @@ use Rattle.table_tiers.specs.declared.going.Going.{Going}
 use Rattle.table_tiers.specs.Holding.{Holding}
 use Rattle.table_tiers.specs.Calls.{IsAt}
 use Rattle.table_tiers.specs.Next.{is_owing}
-use Rattle.table_tiers.specs.Passes.{IsSame, HasCounted, EndSeen, PassAt}
+use Rattle.table_tiers.specs.Passes.{IsSame, HasCounted, EndSeen, IsFresh, PassAt}
 use Rattle.table_tiers.specs.declared.arriving.Arrived.{Arrived}
 use Rattle.table_tiers.specs.declared.arriving.Arrived.TheVariants.{Done, Left, AlreadyArrived, Ended, Busy, Owing}
 use Rattle.table_tiers.specs.declared.arriving.Resumed.{Resumed}
@@ -22,10 +23,11 @@ pub record IsLooked (old new : View) : Type 0 where
   pub size : new.size ≡ old.size
   pub phase : ((new.phase ≡ old.phase) × (new.arrived ≡ old.arrived)) ⊎ ((old.arrived ≡ old.size) × (new.phase ≡ next_phase_of old.phase) × (new.arrived ≡ 0))
 
--- looked, and then one member counted
+-- looked, with no advance taken since the call began, and then one member counted
 pub record HasPassed (own : Trip) (old new : View) : Type 0 where
   pub from : View
   pub looked : IsLooked old from
+  pub unled : from.led ≡ false
   pub counted : HasCounted own from new
 
 -- the same token, with at most so many tries more
@@ -38,14 +40,15 @@ pub record IsSpent (tries : ℕ) (old new : Holding) : Type 0 where
   pub tree : new.tree ≡ old.tree
   pub tried : new.tried ≡ old.tried + tries
 
--- `led` is the view's mark that its token took the advance.
+-- `led` is the view's mark that its token took the advance: since the call's first look, which finds it cleared. What is over owes nothing; what isn't owes a
+-- climb or the advance, and has led none. Busy and AlreadyArrived have seen no end.
 abbrev pub Arrives : Trip → Holding → ℕ → Arrived → Type 0
-Arrives own h tries (Done crew phase led) = IsSoon tries h crew × HasPassed own h.view crew.view × (phase ≡ crew.view.phase) × (led ≡ crew.view.led)
-Arrives own h tries (Left door phase led) = (own ≡ Departure) × IsSoon tries h door × HasPassed own h.view door.view × (phase ≡ door.view.phase) × (led ≡ door.view.led)
-Arrives own h tries (AlreadyArrived crew phase) = IsSoon tries h crew × IsLooked h.view crew.view × (crew.view.arrived ≡ crew.view.size) × (phase ≡ crew.view.phase)
+Arrives own h tries (Done crew phase led) = IsSoon tries h crew × HasPassed own h.view crew.view × (crew.view.errand ≡ Rest) × (phase ≡ crew.view.phase) × (led ≡ crew.view.led)
+Arrives own h tries (Left door phase led) = (own ≡ Departure) × IsSoon tries h door × HasPassed own h.view door.view × (door.view.errand ≡ Rest) × (phase ≡ door.view.phase) × (led ≡ door.view.led)
+Arrives own h tries (AlreadyArrived crew phase) = IsSoon tries h crew × IsLooked h.view crew.view × IsFresh crew.view × (crew.view.arrived ≡ crew.view.size) × (phase ≡ crew.view.phase)
 Arrives own h tries (Ended crew shown) = IsSoon tries h crew × IsLooked h.view crew.view × EndSeen crew.view shown
-Arrives own h tries (Busy crew) = IsSpent tries h crew × IsLooked h.view crew.view
-Arrives own h tries (Owing errand) = IsSpent tries h errand.token × HasPassed own h.view errand.token.view
+Arrives own h tries (Busy crew) = IsSpent tries h crew × IsLooked h.view crew.view × IsFresh crew.view
+Arrives own h tries (Owing errand) = IsSpent tries h errand.token × HasPassed own h.view errand.token.view × (is_owing errand.progress ≡ true) × (errand.token.view.led ≡ false)
 
 -- it tells that the tree has ended
 abbrev pub HasEnded : Arrived → Type 0
@@ -58,9 +61,9 @@ HasEnded (Owing errand) = ⊥
 
 -- No member is counted any more.
 abbrev pub Resumes : Going → ℕ → Resumed → Type 0
-Resumes g tries (resumed.Done crew phase led) = IsSoon tries g.token crew × IsSame g.token.view crew.view × (phase ≡ crew.view.phase) × (led ≡ crew.view.led)
-Resumes g tries (resumed.Left door phase led) = IsSoon tries g.token door × IsSame g.token.view door.view × (phase ≡ door.view.phase) × (led ≡ door.view.led)
-Resumes g tries (resumed.Owing errand) = IsSpent tries g.token errand.token × IsSame g.token.view errand.token.view
+Resumes g tries (resumed.Done crew phase led) = IsSoon tries g.token crew × IsSame g.token.view crew.view × (crew.view.errand ≡ Rest) × (phase ≡ crew.view.phase) × (led ≡ crew.view.led)
+Resumes g tries (resumed.Left door phase led) = IsSoon tries g.token door × IsSame g.token.view door.view × (door.view.errand ≡ Rest) × (phase ≡ door.view.phase) × (led ≡ door.view.led)
+Resumes g tries (resumed.Owing errand) = IsSpent tries g.token errand.token × IsSame g.token.view errand.token.view × (is_owing errand.progress ≡ true) × (errand.token.view.led ≡ false)
 
 -- a call that arrives or leaves, by a token with members until one has left
 pub record MaySettle (g : Going) : Type 0 where

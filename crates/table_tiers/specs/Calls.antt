@@ -1,5 +1,5 @@
 -- Calls under way (own).
-use Rattle.std.specs.Prelude.{◌≡◌, true}
+use Rattle.std.specs.Prelude.{◌≡◌, true, false}
 use Rattle.table_tiers.specs.Next.{is_owing}
 use Rattle.tier_core.specs.Machine.{CallFits}
 use Rattle.table_rule.specs.Tell.{Beside}
@@ -12,7 +12,8 @@ pub record IsAt (n : Named) (g : Going) : Type 0 where
   pub fits : CallFits n.key.shape g.progress g.token.view
   pub known : Beside n.key.shape g.token.tier g.token.word g.token.view
 
--- a token that owes a climb or the advance
+-- a token that owes a climb or the advance, and has taken none in its call
 pub record IsErrand (g : Going) : Type 0 where
   pub at : IsAt g.token.tree g
   pub owes : is_owing g.progress ≡ true
+  pub unled : g.token.view.led ≡ false

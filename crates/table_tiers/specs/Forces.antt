@@ -1,5 +1,5 @@
 -- What a call that ends the tree by force answers (own; `forceTermination` of Java SE 21, `Phaser`).
-use Rattle.std.specs.Prelude.{◌≡◌, ℕ, false}
+use Rattle.std.specs.Prelude.{◌≡◌, ℕ, false, None}
 use Rattle.table_tiers.specs.Holding.{Holding}
 use Rattle.table_tiers.specs.Passes.{EndSeen}
 use Rattle.table_tiers.specs.Arrives.{IsSoon, IsSpent}
@@ -7,9 +7,10 @@ use Rattle.table_tiers.specs.Registers.{IsLookedAround}
 use Rattle.table_tiers.specs.declared.forcing.Forced.{Forced}
 use Rattle.table_tiers.specs.declared.forcing.Forced.TheVariants.{Ended, Busy}
 
+-- Busy has seen no end: so no word was changed.
 abbrev pub Forces : Holding → ℕ → Holding → Forced → Type 0
 Forces old tries new (Ended shown) = IsSoon tries old new × IsLookedAround old.view new.view × EndSeen new.view shown
-Forces old tries new Busy = IsSpent tries old new × IsLookedAround old.view new.view
+Forces old tries new Busy = IsSpent tries old new × IsLookedAround old.view new.view × (new.view.end_seen ≡ None)
 
 -- a token that has the root's word before it, and that word hasn't ended
 pub record IsBefore (h : Holding) : Type 0 where
@@ -18,7 +19,7 @@ pub record IsBefore (h : Holding) : Type 0 where
 
 abbrev pub ForcesOnce : Holding → Holding → Forced → Type 0
 ForcesOnce old new (Ended shown) = IsSpent 1 old new × IsLookedAround old.view new.view × EndSeen new.view shown
-ForcesOnce old new Busy = IsSpent 1 old new × IsLookedAround old.view new.view × IsBefore new
+ForcesOnce old new Busy = IsSpent 1 old new × IsLookedAround old.view new.view × IsBefore new × (new.view.end_seen ≡ None)
 
 abbrev pub HasEnded : Forced → Type 0
 HasEnded (Ended shown) = Unit {0}

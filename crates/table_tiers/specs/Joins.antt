@@ -15,15 +15,18 @@ use Rattle.table_rule.specs.declared.sight.Key.{Key}
 use Rattle.table_tiers.specs.Passes.{EndSeen}
 use Rattle.table_tiers.specs.Goes.{Position, Goes}
 
--- so many members at this tier, all of them unarrived
+-- so many members at this tier, all of them unarrived, by a token that took no advance
 pub record IsJoined (tier size : ℕ) (v : View) : Type 0 where
   pub seat : v.tier ≡ tier
   pub members : v.size ≡ size
   pub none_arrived : v.arrived ≡ 0
+  pub unled : v.led ≡ false
 
--- The token noted a word on the path of its join, which refuses what would have been added there; it hasn't seen the end.
+-- The token noted a word on the path of its join, above so many claimed tiers, which refuses what would have been added there; it hasn't seen the end. Above
+-- the root nothing is claimed.
 pub record IsNoted (parents : List ℕ) (tier size : ℕ) (v : View) (R : ℕ → ℕ → Fields → Type 0) : Type 0 where
   pub claimed : ℕ
+  pub alone : tier ≡ 0 → claimed ≡ 0
   pub word : Fields
   pub note : v.note ≡ Some (ancestor parents tier claimed, word)
   pub refuses : is_refusing (added claimed size) word ≡ true
@@ -61,6 +64,7 @@ pub record SeeksFor (least home tier size tier' size' : ℕ) (v : View) : Type 0
   pub at_home : v.tier ≡ home
   pub claims : least ≤ claimed_by v.errand
   pub unseen : v.end_seen ≡ None
+  pub unled : v.led ≡ false
 
 -- its members have joined, and claimed tiers are left
 pub record SettlesFor (tier size : ℕ) (v : View) : Type 0 where

@@ -1,11 +1,13 @@
 -- What a registration at a crew's own tier answers (own).
-use Rattle.std.specs.Prelude.{◌≡◌, ℕ, ◌+◌, ◌<◌, ◌≤◌, false, None}
+use Rattle.std.specs.Prelude.{◌≡◌, ℕ, ◌+◌, ◌<◌, ◌≤◌, false, None, List}
 use Rattle.phaser_word.specs.Fields.{Fields}
+use Rattle.tier_steps.specs.declared.view.View.{View}
+use Rattle.tier_steps.specs.declared.view.Errand.TheVariants.{Rest}
 use Rattle.tier_core.specs.declared.call.Played.TheVariants as played
 use Rattle.table_tiers.specs.Holding.{Holding, shape_of, IsCrew}
 use Rattle.table_tiers.specs.Passes.{IsSame}
 use Rattle.table_tiers.specs.Joins.{IsJoined, Refusal}
-use Rattle.table_tiers.specs.Passes.{EndSeen}
+use Rattle.table_tiers.specs.Passes.{EndSeen, IsFresh}
 use Rattle.table_tiers.specs.Arrives.{IsSoon, IsSpent}
 use Rattle.table_tiers.specs.Registers.{IsLookedAround}
 use Rattle.table_tiers.specs.declared.beside.Met.{Met}
@@ -27,21 +29,26 @@ pub record AreSpent (tries : ℕ) (old new door after : Holding) : Type 0 where
   pub crew : IsSame old.view new.view
   pub tried : new.tried + after.tried ≡ old.tried + door.tried + tries
 
+-- There is no room: the word of the tier itself was noted, whose parties with those members would be too many.
+pub record IsFullHere (parents : List ℕ) (tier size : ℕ) (v : View) (count : ℕ) : Type 0 where
+  pub refusal : Refusal parents tier size v (played.Full count)
+  pub itself : refusal.claimed ≡ 0
+
 -- It is never held off, and opens no path: the crew has an unarrived member there.
 abbrev pub JoinsHere : Holding → Holding → Holding → ℕ → ℕ → Registered → Type 0
-JoinsHere old new door size tries (Joined crew phase) = AreSoon tries old new door crew × IsJoined old.view.tier size crew.view × (phase ≡ crew.view.phase)
-JoinsHere old new door size tries (Full after count) = AreSoon tries old new door after × Refusal (shape_of door) old.view.tier size after.view (played.Full count)
+JoinsHere old new door size tries (Joined crew phase) = AreSoon tries old new door crew × IsJoined old.view.tier size crew.view × (crew.view.errand ≡ Rest) × (phase ≡ crew.view.phase)
+JoinsHere old new door size tries (Full after count) = AreSoon tries old new door after × IsFullHere (shape_of door) old.view.tier size after.view count
 JoinsHere old new door size tries (Ended after shown) = AreSoon tries old new door after × Refusal (shape_of door) old.view.tier size after.view (played.Ended shown)
-JoinsHere old new door size tries (Busy after) = AreSpent tries old new door after × IsLookedAround door.view after.view
+JoinsHere old new door size tries (Busy after) = AreSpent tries old new door after × IsLookedAround door.view after.view × IsFresh after.view
 JoinsHere old new door size tries (Held after phase cause) = ⊥
 JoinsHere old new door size tries (Owing opening) = ⊥
 
 -- one try of it, and the end wasn't seen
 abbrev pub JoinsOnce : Holding → Holding → Holding → ℕ → Registered → Type 0
-JoinsOnce old new door size (Joined crew phase) = AreSoon 1 old new door crew × IsJoined old.view.tier size crew.view × (phase ≡ crew.view.phase)
-JoinsOnce old new door size (Full after count) = AreSoon 1 old new door after × Refusal (shape_of door) old.view.tier size after.view (played.Full count)
+JoinsOnce old new door size (Joined crew phase) = AreSoon 1 old new door crew × IsJoined old.view.tier size crew.view × (crew.view.errand ≡ Rest) × (phase ≡ crew.view.phase)
+JoinsOnce old new door size (Full after count) = AreSoon 1 old new door after × IsFullHere (shape_of door) old.view.tier size after.view count
 JoinsOnce old new door size (Ended after shown) = AreSoon 1 old new door after × Refusal (shape_of door) old.view.tier size after.view (played.Ended shown)
-JoinsOnce old new door size (Busy after) = AreSpent 1 old new door after × IsLookedAround door.view after.view × (after.view.end_seen ≡ None)
+JoinsOnce old new door size (Busy after) = AreSpent 1 old new door after × IsLookedAround door.view after.view × IsFresh after.view
 JoinsOnce old new door size (Held after phase cause) = ⊥
 JoinsOnce old new door size (Owing opening) = ⊥
 
@@ -61,12 +68,12 @@ Waits w = w.ended ≡ false → (0 < w.parties) × (0 < w.unarrived)
 pub record IsStill (tries : ℕ) (door after : Holding) : Type 0 where
   pub spent : IsSpent tries door after
   pub looked : IsLookedAround door.view after.view
-  pub unseen : after.view.end_seen ≡ None
+  pub fresh : IsFresh after.view
 
 -- what the door's part of such a try answers
 abbrev pub AnswersMeeting : Holding → ℕ → ℕ → Registered → Type 0
-AnswersMeeting door tier size (Joined crew phase) = IsSpent 1 door crew × IsJoined tier size crew.view × (phase ≡ crew.view.phase)
-AnswersMeeting door tier size (Full after count) = IsSpent 0 door after × Refusal (shape_of door) tier size after.view (played.Full count)
+AnswersMeeting door tier size (Joined crew phase) = IsSpent 1 door crew × IsJoined tier size crew.view × (crew.view.errand ≡ Rest) × (phase ≡ crew.view.phase)
+AnswersMeeting door tier size (Full after count) = IsSpent 0 door after × IsFullHere (shape_of door) tier size after.view count
 AnswersMeeting door tier size (Ended after shown) = IsSoon 1 door after × EndSeen after.view shown
 AnswersMeeting door tier size (Busy after) = IsStill 1 door after
 AnswersMeeting door tier size (Held after phase cause) = ⊥

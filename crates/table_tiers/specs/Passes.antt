@@ -1,5 +1,5 @@
 -- What a call that arrives or leaves shows of its token, wherever it stands (own).
-use Rattle.std.specs.Prelude.{◌≡◌, ℕ, ◌+◌, ◌<◌, true, Some, ℤ}
+use Rattle.std.specs.Prelude.{◌≡◌, ℕ, ◌+◌, ◌<◌, true, false, Some, None, ℤ}
 use Rattle.phaser_word.specs.Phase.{shown_of}
 use Rattle.tier_steps.specs.declared.view.View.{View}
 use Rattle.tier_steps.specs.declared.view.Trip.{Trip}
@@ -30,6 +30,11 @@ pub record HasCounted (own : Trip) (old new : View) : Type 0 where
 abbrev pub EndSeen : View → ℤ → Type 0
 EndSeen v shown = (phase : ℕ) × (v.end_seen ≡ Some phase) × (shown ≡ shown_of phase true)
 
+-- nothing of a call was seen or led: not the end, and no advance
+pub record IsFresh (v : View) : Type 0 where
+  pub unseen : v.end_seen ≡ None
+  pub unled : v.led ≡ false
+
 -- What such a call answers that is over, where `P` says of its token that nothing was counted yet, and `C` that it has counted.
 abbrev pub PassAnswer : (View → Type 0) → (View → Type 0) → View → Played → Type 0
 PassAnswer P C u (Done phase) = C u × (phase ≡ u.phase)
@@ -42,12 +47,12 @@ PassAnswer P C u (Full count) = ⊥
 PassAnswer P C u (AlreadyArrived phase) = ⊥
 PassAnswer P C u (MustAdvance phase count) = ⊥
 
--- how such a call stands, wherever it stands
+-- How such a call stands, wherever it stands. Before its own step it has seen no end, and until it is over it has taken no advance.
 abbrev pub PassAt : Trip → (View → Type 0) → (View → Type 0) → View → Played → Progress → Type 0
 PassAt own P C u answer Idle = PassAnswer P C u answer
-PassAt own P C u answer (Passing trip) = (trip ≡ own) × P u
-PassAt own P C u answer (Owing trip) = C u
-PassAt own P C u answer (Due trip) = C u
+PassAt own P C u answer (Passing trip) = (trip ≡ own) × P u × IsFresh u
+PassAt own P C u answer (Owing trip) = C u × (u.led ≡ false)
+PassAt own P C u answer (Due trip) = C u × (u.led ≡ false)
 PassAt own P C u answer (Begun c) = ⊥
 PassAt own P C u answer (ToSeek tier size) = ⊥
 PassAt own P C u answer Settling = ⊥
@@ -57,11 +62,11 @@ PassAt own P C u answer (Refreshing moved) = ⊥
 -- An arrival or a departure that goes on from its first look, by whatever steps and looks, counts one member, once.
 abbrev pub PassesCountOnce : Type 0
 PassesCountOnce =
-    (k : Key) (own : Trip) (v : View) (from at : Position) → from.progress ≡ Passing own → from.view ≡ v → v.arrived < v.size
+    (k : Key) (own : Trip) (v : View) (from at : Position) → from.progress ≡ Passing own → from.view ≡ v → v.arrived < v.size → IsFresh v
     → Goes k from at → PassAt own (IsSame v) (HasCounted own v) at.view at.answer at.progress
 
 -- One that has counted counts no more.
 abbrev pub PassesCountNoMore : Type 0
 PassesCountNoMore =
-    (k : Key) (own : Trip) (v : View) (from at : Position) → is_owing from.progress ≡ true → from.view ≡ v
+    (k : Key) (own : Trip) (v : View) (from at : Position) → is_owing from.progress ≡ true → from.view ≡ v → v.led ≡ false
     → Goes k from at → PassAt own (λ u. ⊥) (IsSame v) at.view at.answer at.progress

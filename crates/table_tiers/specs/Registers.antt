@@ -1,6 +1,7 @@
 -- What registrations answer, by the view of their token (own; `register` and `bulkRegister` of Java SE 21, `Phaser`).
 use Rattle.std.specs.Prelude.{◌≡◌, ◌≢◌, ℕ, ◌<◌}
 use Rattle.tier_steps.specs.declared.view.View.{View}
+use Rattle.tier_steps.specs.declared.view.Errand.TheVariants.{Rest}
 use Rattle.tier_core.specs.declared.call.Progress.TheVariants as progress
 use Rattle.tier_core.specs.declared.call.Played.TheVariants as played
 use Rattle.tier_core.specs.Turn.{claimed_by}
@@ -9,6 +10,7 @@ use Rattle.table_tiers.specs.Holding.{Holding, shape_of}
 use Rattle.table_tiers.specs.Calls.{IsAt}
 use Rattle.table_tiers.specs.Openings.{asked_tier, asked_size}
 use Rattle.table_tiers.specs.Joins.{IsJoined, Refusal, JoinAt}
+use Rattle.table_tiers.specs.Passes.{IsFresh}
 use Rattle.table_tiers.specs.Arrives.{IsSoon, IsSpent}
 use Rattle.table_tiers.specs.declared.joining.Registered.{Registered}
 use Rattle.table_tiers.specs.declared.joining.Registered.TheVariants.{Joined, Held, Full, Ended, Busy, Owing}
@@ -27,12 +29,13 @@ pub record IsFor (tier size : ℕ) (g : Going) : Type 0 where
   pub members : asked_size g.token.view.errand ≡ size
   pub claims : 0 < claimed_by g.token.view.errand
 
+-- Joined owes nothing; Busy has seen no end, and its token has claimed nothing.
 abbrev pub Registers : Holding → ℕ → ℕ → ℕ → Registered → Type 0
-Registers h tier size tries (Joined crew phase) = IsSoon tries h crew × IsJoined tier size crew.view × (phase ≡ crew.view.phase)
+Registers h tier size tries (Joined crew phase) = IsSoon tries h crew × IsJoined tier size crew.view × (crew.view.errand ≡ Rest) × (phase ≡ crew.view.phase)
 Registers h tier size tries (Held door phase cause) = IsSoon tries h door × Refusal (shape_of h) tier size door.view (played.Held phase cause)
 Registers h tier size tries (Full door count) = IsSoon tries h door × Refusal (shape_of h) tier size door.view (played.Full count)
 Registers h tier size tries (Ended door shown) = IsSoon tries h door × Refusal (shape_of h) tier size door.view (played.Ended shown)
-Registers h tier size tries (Busy door) = IsSpent tries h door × IsLookedAround h.view door.view
+Registers h tier size tries (Busy door) = IsSpent tries h door × IsLookedAround h.view door.view × IsFresh door.view
 Registers h tier size tries (Owing opening) = IsSpent tries h opening.token × IsFor tier size opening
 
 -- it tells that the tree has ended
@@ -46,7 +49,7 @@ HasEnded (Owing opening) = ⊥
 
 -- The members are those for which the path is opened.
 abbrev pub OpensFor : ℕ → ℕ → Going → ℕ → Opened → Type 0
-OpensFor tier size g tries (opened.Joined crew phase) = IsSoon tries g.token crew × IsJoined tier size crew.view × (phase ≡ crew.view.phase)
+OpensFor tier size g tries (opened.Joined crew phase) = IsSoon tries g.token crew × IsJoined tier size crew.view × (crew.view.errand ≡ Rest) × (phase ≡ crew.view.phase)
 OpensFor tier size g tries (opened.Held door phase cause) = IsSoon tries g.token door × Refusal (shape_of g.token) tier size door.view (played.Held phase cause)
 OpensFor tier size g tries (opened.Full door count) = IsSoon tries g.token door × Refusal (shape_of g.token) tier size door.view (played.Full count)
 OpensFor tier size g tries (opened.Ended door shown) = IsSoon tries g.token door × Refusal (shape_of g.token) tier size door.view (played.Ended shown)

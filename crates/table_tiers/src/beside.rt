@@ -1,9 +1,10 @@
 //! Registrations at a crew's own tier.
 
-ghost use Rattle.std.specs.Prelude.{◌≡◌, ◌<◌, ◌≤◌, ℕ, None, Some, true, length};
+ghost use Rattle.std.specs.Prelude.{◌≡◌, ◌<◌, ◌≤◌, ℕ, Some, true, length};
 ghost use Rattle.table_rule.specs.Tell.{Beside};
 ghost use Rattle.tier_core.specs.Turn.{lags};
 ghost use Rattle.table_tiers.specs.Holding.{IsCrew, shape_of};
+ghost use Rattle.table_tiers.specs.Passes.{IsFresh};
 ghost use Rattle.table_tiers.specs.JoinsHere.{JoinsHere, JoinsOnce, KeepsCrew, Meets, Waits};
 ghost use Rattle.table_tiers.specs.Registers.{HasEnded};
 
@@ -80,7 +81,7 @@ impl Tiers {
         requires own { door.tree ≡ self.now }
         requires tier { tier < length self.now.key.shape }
         requires size { (0 < size) × (size ≤ 65535) }
-        requires unseen { door.view.end_seen ≡ None }
+        requires fresh { IsFresh door.view }
         requires waits { Waits seen }
         ensures { Meets door tier size result }
     {
@@ -116,7 +117,7 @@ impl Tiers {
         requires own { (crew.old.tree ≡ self.now) × (door.tree ≡ self.now) }
         requires some { crew.old.view.arrived < crew.old.view.size }
         requires size { (0 < size) × (size ≤ 65535) }
-        requires unseen { door.view.end_seen ≡ None }
+        requires fresh { IsFresh door.view }
         ensures { JoinsOnce crew.old crew.new door size result }
     {
         let member = &mut crew.token;
@@ -140,7 +141,7 @@ impl Tiers {
         requires own { (crew.old.tree ≡ self.now) × (door.tree ≡ self.now) }
         requires some { crew.old.view.arrived < crew.old.view.size }
         requires size { (0 < size) × (size ≤ 65535) }
-        requires unseen { door.view.end_seen ≡ None }
+        requires fresh { IsFresh door.view }
         ensures { JoinsHere crew.old crew.new door size tries result }
     {
         let mut door = door;

@@ -1,6 +1,6 @@
 //! The end by force.
 
-ghost use Rattle.std.specs.Prelude.{◌≡◌, ℕ, Some};
+ghost use Rattle.std.specs.Prelude.{◌≡◌, ℕ, None, Some};
 ghost use Rattle.table_tiers.specs.Forces.{Forces, ForcesOnce, HasEnded, IsBefore};
 
 use crate::tiers::Tiers;
@@ -21,6 +21,7 @@ impl Tiers {
     fn force_once(&self, door: &mut Door) -> Forced
         requires own { door.old.tree ≡ self.now }
         requires root { IsBefore door.old }
+        requires unseen { door.old.view.end_seen ≡ None }
         ensures { ForcesOnce door.old door.new result }
     {
         let token = &mut door.token;
@@ -37,6 +38,7 @@ impl Tiers {
     fn force_on(&self, door: &mut Door, tries: u32) -> Forced
         requires own { door.old.tree ≡ self.now }
         requires root { IsBefore door.old }
+        requires unseen { door.old.view.end_seen ≡ None }
         ensures tree { door.new.tree ≡ door.old.tree }
         ensures answer { Forces door.old tries door.new result }
     {

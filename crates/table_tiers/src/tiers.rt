@@ -3,6 +3,7 @@
 ghost use Rattle.std.specs.Prelude.{◌≡◌, ◌≤◌, ◌<◌, IfOk, MatchBool, length, replicate};
 ghost use Rattle.tier_shape.specs.Paths.{IsTiers};
 ghost use Rattle.tier_steps.specs.View.{new_view};
+ghost use Rattle.tier_steps.specs.Start.{empty_word};
 ghost use Rattle.tier_steps.specs.Step.{Needs};
 ghost use Rattle.tier_steps.specs.declared.kind.Kind.TheVariants.{Look};
 ghost use Rattle.table_tiers.specs.Holding.{Looked, Lost, Won};
@@ -63,7 +64,7 @@ impl Tiers {
     ) -> Result<(Tiers, Seated), AllocError>
         requires { phase ≤ 2147483647 }
         ensures tree { IfOk result (λ r. r.0.key ≡ record { shape = shape; phase = phase; plan = plan }) }
-        ensures token { IfOk result (λ r. (r.1.tree ≡ r.0) × (r.1.view ≡ new_view phase) × (r.1.tried ≡ 0)) }
+        ensures token { IfOk result (λ r. (r.1.tree ≡ r.0) × (r.1.view ≡ new_view phase) × (r.1.tier ≡ 0) × (r.1.word ≡ empty_word phase) × (r.1.tried ≡ 0)) }
     {
         let word = Word {
             phase,
@@ -95,7 +96,7 @@ impl Tiers {
     ) -> Result<(Tiers, Door), AllocError>
         requires { phase ≤ 2147483647 }
         ensures tree { IfOk result (λ r. r.0.key ≡ record { shape = shape; phase = phase; plan = plan }) }
-        ensures token { IfOk result (λ r. (r.1.tree ≡ r.0) × (r.1.view ≡ new_view phase) × (r.1.tried ≡ 0)) }
+        ensures token { IfOk result (λ r. (r.1.tree ≡ r.0) × (r.1.view ≡ new_view phase) × (r.1.tier ≡ 0) × (r.1.word ≡ empty_word phase) × (r.1.tried ≡ 0)) }
     {
         let (tiers, token) = Tiers::seated(alloc, shape, phase, plan)?;
         Ok((tiers, Door { token }))
@@ -183,7 +184,7 @@ impl Tiers {
 
     /// A new token without members, in the root's phase.
     fn sit(&self) -> Seated
-        ensures { (result.tree ≡ self.now) × (result.view ≡ new_view result.word.phase) × (result.tried ≡ 0) }
+        ensures { (result.tree ≡ self.now) × (result.view ≡ new_view result.word.phase) × (result.tier ≡ 0) × (result.tried ≡ 0) }
     {
         let (found, seat) = self.table.shared.load_new_seat::<Sits>(0);
         let word = Word::unpack(found).unwrap();
@@ -195,9 +196,10 @@ impl Tiers {
             word,
         }
     }
+
     /// A new token without members, in the root's phase.
     pub fn open_door(&self) -> Door
-        ensures { (result.tree ≡ self.now) × (result.view ≡ new_view result.word.phase) × (result.tried ≡ 0) }
+        ensures { (result.tree ≡ self.now) × (result.view ≡ new_view result.word.phase) × (result.tier ≡ 0) × (result.tried ≡ 0) }
     {
         Door { token: self.sit() }
     }

@@ -38,12 +38,13 @@ pub looked_then : {a b c : View} → 0 < b.size → IsLooked a b → IsLooked b 
 looked_then {a} {b} {c} some s t = record { tier = t.tier ∙ s.tier; size = t.size ∙ s.size; phase = later a b c some s.size s.phase t.phase }
 
 pub passed_then : {own : Trip} {a b c : View} → 0 < b.size → IsLooked a b → HasPassed own b c → HasPassed own a c
-passed_then some s p = record { from = p.from; looked = looked_then some s p.looked; counted = p.counted }
+passed_then some s p = record { from = p.from; looked = looked_then some s p.looked; unled = p.unled; counted = p.counted }
 
 pub passed_same : {own : Trip} {a b c : View} → HasPassed own a b → IsSame b c → HasPassed own a c
 passed_same p s = record {
   from = p.from;
   looked = p.looked;
+  unled = p.unled;
   counted = record {
     tier = s.tier ∙ p.counted.tier;
     phase = s.phase ∙ p.counted.phase;
@@ -80,16 +81,16 @@ same_passed_on s p = record { all = sym s.arrived ∙ (p.all ∙ s.size); next =
 -- What is answered of a member that was counted, and then owed.
 pub counted_at_last : (own : Trip) (h e : Holding) (r : Counted) → e.tree ≡ h.tree → HasPassed own h.view e.view → ResumesAtLast e r
     → ((door : Holding) (phase : ℕ) (led : Bool) → r ≡ Left door phase led → ⊥) → ArrivesAtLast own h r
-counted_at_last own h e (Done crew phase led) tree passed told other = (told.0 ∙ tree, passed_same passed told.1, told.2, told.3)
+counted_at_last own h e (Done crew phase led) tree passed told other = (told.0 ∙ tree, passed_same passed told.1, told.2, told.3, told.4)
 counted_at_last own h e (Left door phase led) tree passed told other = absurd (other door phase led refl)
 counted_at_last own h e (AlreadyArrived crew phase) tree passed told other = absurd told
 counted_at_last own h e (Ended crew shown) tree passed told other = absurd told
 
 -- What is answered of a crew that was looked at before.
 pub arrives_then : (own : Trip) (h g : Holding) (r : Counted) → 0 < g.view.size → g.tree ≡ h.tree → IsLooked h.view g.view → ArrivesAtLast own g r → ArrivesAtLast own h r
-arrives_then own h g (Done crew phase led) some tree looked told = (told.0 ∙ tree, passed_then some looked told.1, told.2, told.3)
-arrives_then own h g (Left door phase led) some tree looked told = (told.0, told.1 ∙ tree, passed_then some looked told.2, told.3, told.4)
-arrives_then own h g (AlreadyArrived crew phase) some tree looked told = (told.0 ∙ tree, looked_then some looked told.1, told.2, told.3)
+arrives_then own h g (Done crew phase led) some tree looked told = (told.0 ∙ tree, passed_then some looked told.1, told.2, told.3, told.4)
+arrives_then own h g (Left door phase led) some tree looked told = (told.0, told.1 ∙ tree, passed_then some looked told.2, told.3, told.4, told.5)
+arrives_then own h g (AlreadyArrived crew phase) some tree looked told = (told.0 ∙ tree, looked_then some looked told.1, told.2, told.3, told.4)
 arrives_then own h g (Ended crew shown) some tree looked told = (told.0 ∙ tree, looked_then some looked told.1, told.2)
 
 -- What was asked for is what the path is opened for.

@@ -1,10 +1,11 @@
 -- What calls that wait answer, by the view of their token: as the calls that they repeat, without a number of tries (own).
 use Rattle.std.specs.Prelude.{◌≡◌, ℕ, ◌<◌, Result, Ok, Err}
+use Rattle.tier_steps.specs.declared.view.Errand.TheVariants.{Rest}
 use Rattle.tier_steps.specs.declared.view.Trip.{Trip}
 use Rattle.tier_steps.specs.declared.view.Trip.TheVariants.{Departure}
 use Rattle.tier_core.specs.declared.call.Played.TheVariants as played
 use Rattle.table_tiers.specs.Holding.{Named, Holding}
-use Rattle.table_tiers.specs.Passes.{IsSame, EndSeen}
+use Rattle.table_tiers.specs.Passes.{IsSame, EndSeen, IsFresh}
 use Rattle.table_tiers.specs.Arrives.{IsLooked, HasPassed}
 use Rattle.table_tiers.specs.Joins.{IsJoined, Refusal}
 use Rattle.table_tiers.specs.Polls.{HasPassedOn}
@@ -17,7 +18,7 @@ use Rattle.tier_table.specs.declared.waiting.Awaited.TheVariants as awaited
 
 -- a registration of so many members at this tier of a tree
 abbrev pub RegistersAtLast : Named → ℕ → ℕ → Admitted → Type 0
-RegistersAtLast n tier size (admitted.Joined crew phase) = (crew.tree ≡ n) × IsJoined tier size crew.view × (phase ≡ crew.view.phase)
+RegistersAtLast n tier size (admitted.Joined crew phase) = (crew.tree ≡ n) × IsJoined tier size crew.view × (crew.view.errand ≡ Rest) × (phase ≡ crew.view.phase)
 RegistersAtLast n tier size (admitted.Full door count) = (door.tree ≡ n) × Refusal n.key.shape tier size door.view (played.Full count)
 RegistersAtLast n tier size (admitted.Ended door shown) = (door.tree ≡ n) × EndSeen door.view shown
 
@@ -28,22 +29,22 @@ OpensAtLast n tier size (Err door) = door.tree ≡ n
 
 -- an arrival or a departure
 abbrev pub ArrivesAtLast : Trip → Holding → Counted → Type 0
-ArrivesAtLast own h (counted.Done crew phase led) = (crew.tree ≡ h.tree) × HasPassed own h.view crew.view × (phase ≡ crew.view.phase) × (led ≡ crew.view.led)
-ArrivesAtLast own h (counted.Left door phase led) = (own ≡ Departure) × (door.tree ≡ h.tree) × HasPassed own h.view door.view × (phase ≡ door.view.phase) × (led ≡ door.view.led)
-ArrivesAtLast own h (counted.AlreadyArrived crew phase) = (crew.tree ≡ h.tree) × IsLooked h.view crew.view × (crew.view.arrived ≡ crew.view.size) × (phase ≡ crew.view.phase)
+ArrivesAtLast own h (counted.Done crew phase led) = (crew.tree ≡ h.tree) × HasPassed own h.view crew.view × (crew.view.errand ≡ Rest) × (phase ≡ crew.view.phase) × (led ≡ crew.view.led)
+ArrivesAtLast own h (counted.Left door phase led) = (own ≡ Departure) × (door.tree ≡ h.tree) × HasPassed own h.view door.view × (door.view.errand ≡ Rest) × (phase ≡ door.view.phase) × (led ≡ door.view.led)
+ArrivesAtLast own h (counted.AlreadyArrived crew phase) = (crew.tree ≡ h.tree) × IsLooked h.view crew.view × IsFresh crew.view × (crew.view.arrived ≡ crew.view.size) × (phase ≡ crew.view.phase)
 ArrivesAtLast own h (counted.Ended crew shown) = (crew.tree ≡ h.tree) × IsLooked h.view crew.view × EndSeen crew.view shown
 
 -- one that has counted: no member is counted any more
 abbrev pub ResumesAtLast : Holding → Counted → Type 0
-ResumesAtLast h (counted.Done crew phase led) = (crew.tree ≡ h.tree) × IsSame h.view crew.view × (phase ≡ crew.view.phase) × (led ≡ crew.view.led)
-ResumesAtLast h (counted.Left door phase led) = (door.tree ≡ h.tree) × IsSame h.view door.view × (phase ≡ door.view.phase) × (led ≡ door.view.led)
+ResumesAtLast h (counted.Done crew phase led) = (crew.tree ≡ h.tree) × IsSame h.view crew.view × (crew.view.errand ≡ Rest) × (phase ≡ crew.view.phase) × (led ≡ crew.view.led)
+ResumesAtLast h (counted.Left door phase led) = (door.tree ≡ h.tree) × IsSame h.view door.view × (door.view.errand ≡ Rest) × (phase ≡ door.view.phase) × (led ≡ door.view.led)
 ResumesAtLast h (counted.AlreadyArrived crew phase) = ⊥
 ResumesAtLast h (counted.Ended crew shown) = ⊥
 
 -- a crew that waits until its phase has passed
 abbrev pub AwaitsAdvance : Holding → Holding → Awaited → Type 0
-AwaitsAdvance old new (awaited.Passed phase) = IsLooked old.view new.view × HasPassedOn old new × (phase ≡ new.view.phase)
-AwaitsAdvance old new (awaited.Here phase) = IsLooked old.view new.view × (new.view.arrived < new.view.size) × (phase ≡ new.view.phase)
+AwaitsAdvance old new (awaited.Passed phase) = IsLooked old.view new.view × IsFresh new.view × HasPassedOn old new × (phase ≡ new.view.phase)
+AwaitsAdvance old new (awaited.Here phase) = IsLooked old.view new.view × IsFresh new.view × (new.view.arrived < new.view.size) × (phase ≡ new.view.phase)
 AwaitsAdvance old new (awaited.Ended shown) = IsLooked old.view new.view × EndSeen new.view shown
 
 -- they tell that the tree has ended

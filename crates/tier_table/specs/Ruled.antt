@@ -3,6 +3,7 @@ use Rattle.std.specs.Prelude.{◌≡◌, ℕ, List}
 use Rattle.advance_rule.specs.Stored.{Stored}
 use Rattle.advance_rule.specs.declared.EndPlan.{EndPlan}
 use Rattle.tier_steps.specs.View.{new_view}
+use Rattle.tier_steps.specs.Start.{empty_word}
 use Rattle.table_tiers.specs.Holding.{Named, Holding}
 
 -- a tree, and the closure that says when it ends
@@ -10,7 +11,7 @@ pub record Ruled (F : Type 0) : Type 0 where
   pub tree : Named
   pub rule : Stored F EndPlan
 
--- A new tree keeps what it was told, and its first token has no members and is in its phase.
+-- A new tree keeps what it was told, and its first token has no members, is in its phase, and knows the root to be empty.
 pub record IsNew {F : Type 0} (shape : List ℕ) (phase : ℕ) (rule : Stored F EndPlan) (tree : Ruled F) (door : Holding) : Type 0 where
   pub same_shape : tree.tree.key.shape ≡ shape
   pub same_phase : tree.tree.key.phase ≡ phase
@@ -18,10 +19,13 @@ pub record IsNew {F : Type 0} (shape : List ℕ) (phase : ℕ) (rule : Stored F 
   pub same_rule : tree.rule ≡ rule
   pub own : door.tree ≡ tree.tree
   pub view : door.view ≡ new_view phase
+  pub root : door.tier ≡ 0
+  pub empty : door.word ≡ empty_word phase
   pub untried : door.tried ≡ 0
 
--- a new token of the same tree, in the phase of the root
+-- a new token of the same tree, in the phase of the root, whose word it has read
 pub record IsSplit (from new : Holding) : Type 0 where
   pub own : new.tree ≡ from.tree
   pub view : new.view ≡ new_view new.word.phase
+  pub root : new.tier ≡ 0
   pub untried : new.tried ≡ 0

@@ -16,7 +16,7 @@ join-requires-clause-size g c = c.requires.members
 pub returns-in-Joined : goal.returns-in-Joined
 returns-in-Joined g c =
     let told = c.in-Joined.ensures.answer in
-    record { answer = (told.0.tree ∙ c.requires.own, told.1, told.2); ended = λ p e. absurd (c.in-Joined.ensures.ended p e) }
+    record { answer = (told.0.tree ∙ c.requires.own, told.1, told.2, told.3); ended = λ p e. absurd (c.in-Joined.ensures.ended p e) }
 
 pub returns-in-Full : goal.returns-in-Full
 returns-in-Full g c =

@@ -14,6 +14,7 @@ returns-in-Joined g c =
       told.0.tree ∙ kept.2,
       joined_for (asked_tier now) (asked_tier first) (asked_size now) (asked_size first) c.in-Joined.crew.view kept.3 kept.4 told.1,
       told.2,
+      told.3,
     )
 
 pub returns-in-Full : goal.returns-in-Full

@@ -1,7 +1,7 @@
-use Rattle.std.proofs.Common.{ap, ◌∙◌}
+use Rattle.std.proofs.Common.{ap, sym, ◌∙◌}
 use Rattle.table_tiers.specs.Holding.{Holding}
 use Rattle.table_tiers.proofs.Seating.{took_by}
-use Rattle.table_tiers.proofs.Settling.{unseen, unseen_at, not_ended, not_true}
+use Rattle.table_tiers.proofs.Settling.{unseen, unseen_at, seen_none, first_fresh, not_ended, not_true}
 use Rattle.table_tiers.proofs.tiers.Tiers.force.Goals as goal
 
 pub returns-then-not-before-clause-ended : goal.returns-then-not-before-clause-ended
@@ -11,3 +11,10 @@ returns-then-not-before-clause-ended c = λ p e.
 
 pub returns-clause-ended : goal.returns-clause-ended
 returns-clause-ended c = λ p e. unseen (took_by c.door.view_is c.look_at_root.ensures) (not_ended c.word.view_is c.word-word.ensures.word c.if-word.false) p e
+
+pub force_on-requires-clause-unseen : goal.force_on-requires-clause-unseen
+force_on-requires-clause-unseen c =
+    seen_none c.word-before.ensures.beside (sym c.tier.ensures ∙ c.if-tier-eq0.true) (not_ended c.before-2.view_is c.word-before.ensures.word (not_true _ c.if-not-before.true))
+
+pub force_on-requires-2-clause-unseen : goal.force_on-requires-2-clause-unseen
+force_on-requires-2-clause-unseen c = (first_fresh c.look_at_root.ensures (not_ended c.word.view_is c.word-word.ensures.word c.if-word.false)).unseen

@@ -13,7 +13,7 @@ returns-then-word c =
 
 pub returns-then-not-is_same : goal.returns-then-not-is_same
 returns-then-not-is_same c =
-    met_late c.args.tier c.args.size (subst IsDoor c.door.view_is c.door.invariant) (took_by c.door.view_is c.look.ensures) (not_ended c.word.view_is c.word-word.ensures.word c.if-word.false) c.requires.unseen
+    met_late c.args.tier c.args.size (subst IsDoor c.door.view_is c.door.invariant) (took_by c.door.view_is c.look.ensures) (not_ended c.word.view_is c.word-word.ensures.word c.if-word.false) c.requires.fresh
 
 pub invariant_of-result-then-turns_away : goal.invariant_of-result-then-turns_away
 invariant_of-result-then-turns_away c = first_door c.args.tier c.args.size c.door.invariant c.look.ensures
@@ -24,7 +24,7 @@ returns-then-turns_away c = (
   peeks_full c.args.tier c.args.size (took_by c.door.view_is c.look.ensures)
       (waits_by c.word-word.ensures.word (c.is_same.ensures c.if-not-is_same.false) c.requires.waits)
       (not_ended c.word.view_is c.word-word.ensures.word c.if-word.false)
-      (refusal_of c.args.size c.word-word.ensures.word c.turns_away.ensures c.if-turns_away.true) c.requires.unseen (ap (λ (w : Fields). w.parties) (c.word-2.view_is ∙ c.word-word.ensures.word)),
+      (refusal_of c.args.size c.word-word.ensures.word c.turns_away.ensures c.if-turns_away.true) c.requires.fresh.unseen (ap (λ (w : Fields). w.parties) (c.word-2.view_is ∙ c.word-word.ensures.word)),
 )
 
 pub attempt-requires-clause-needs : goal.attempt-requires-clause-needs
@@ -48,7 +48,7 @@ invariant_of-result-2 c = second_door c.args.tier c.args.size c.door.invariant c
 pub returns : goal.returns
 returns c =
     met_busy c.args.tier c.args.size (subst IsDoor c.door.view_is c.door.invariant) (took_by c.door.view_is c.look.ensures) c.if-attempt.ensures
-    (not_ended c.word.view_is c.word-word.ensures.word c.if-word.false) (not_ended c.found.view_is c.word-found.ensures.word c.if-found.false) c.requires.unseen
+    (not_ended c.word.view_is c.word-word.ensures.word c.if-word.false) (not_ended c.found.view_is c.word-found.ensures.word c.if-found.false) c.requires.fresh
 
 pub invariant_of-result : goal.invariant_of-result
 invariant_of-result c = first_door c.args.tier c.args.size c.door.invariant c.look.ensures

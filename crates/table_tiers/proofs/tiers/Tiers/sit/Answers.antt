@@ -1,4 +1,4 @@
-use Rattle.std.proofs.Common.{◌≡◌, ap, ◌∙◌, arith, List}
+use Rattle.std.proofs.Common.{refl, ◌≡◌, ap, ◌∙◌, arith, List}
 use Rattle.atomic_table.specs.Table.{Me}
 use Rattle.phaser_word.specs.Fields.{Fields}
 use Rattle.tier_steps.specs.declared.kind.Kind.{Kind}
@@ -30,4 +30,4 @@ returns c =
     let id = c.load_new_seat-found.ensures.0 in
     let tree : record { id = c.load_new_seat-found.result.1.table_id; key = (sight_of c.load_new_seat-found.result.1.me).key } ≡ record { id = c.self.inside.table.shared.table_id; key = c.self.inside.table.shared.key } =
     λ i. record { id = id i; key = key i } in
-    (tree ∙ c.self.view_is, c.new-view.ensures ∙ ap (λ (w : Fields). new_view w.phase) c.word.view_is, ap (λ (m : Me Kind (List Sight)). (sight_of m).tried) s.at)
+    (tree ∙ c.self.view_is, c.new-view.ensures ∙ ap (λ (w : Fields). new_view w.phase) c.word.view_is, refl, ap (λ (m : Me Kind (List Sight)). (sight_of m).tried) s.at)

@@ -11,16 +11,16 @@ loop-preserved g c =
       tt,
       tt,
       c.in-Waiting.ensures.tree ∙ kept.2,
-      same_then kept.3 (waits_same (let x = kept.3.size in let y = told.1.size in omega arith) told.2 told.1),
+      same_then kept.3 (waits_same (let x = kept.3.size in let y = told.1.size in omega arith) told.3 told.1),
       λ p e. absurd (c.in-Waiting.ensures.ended p (kept.4 p e)),
     )
 
 pub returns-in-Passed-clause-answer : goal.returns-in-Passed-clause-answer
 returns-in-Passed-clause-answer g c =
-    let kept = c.loop.invariant in let told = c.in-Passed.ensures.answer in (same_looked kept.3 told.1, same_passed_on kept.3 told.2, told.3)
+    let kept = c.loop.invariant in let told = c.in-Passed.ensures.answer in (same_looked kept.3 told.1, told.2, same_passed_on kept.3 told.3, told.4)
 
 pub returns-in-Here-clause-answer : goal.returns-in-Here-clause-answer
-returns-in-Here-clause-answer g c = let told = c.in-Here.ensures.answer in (same_looked c.loop.invariant.3 told.1, told.2, told.3)
+returns-in-Here-clause-answer g c = let told = c.in-Here.ensures.answer in (same_looked c.loop.invariant.3 told.1, told.2, told.3, told.4)
 
 pub returns-in-Ended-clause-answer : goal.returns-in-Ended-clause-answer
 returns-in-Ended-clause-answer g c = let told = c.in-Ended.ensures.answer in (same_looked c.loop.invariant.3 told.1, (told.2.0, told.2.1, search rules))

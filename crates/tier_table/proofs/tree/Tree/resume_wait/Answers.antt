@@ -11,11 +11,11 @@ resume-requires-clause-rule g c = c.requires.rule
 
 pub returns-in-Done : goal.returns-in-Done
 returns-in-Done g c =
-    let told = c.in-Done.ensures in let kept = c.loop.invariant in (told.0.tree ∙ kept.2, same_then kept.3 told.1, told.2, told.3)
+    let told = c.in-Done.ensures in let kept = c.loop.invariant in (told.0.tree ∙ kept.2, same_then kept.3 told.1, told.2, told.3, told.4)
 
 pub returns-in-Left : goal.returns-in-Left
 returns-in-Left g c =
-    let told = c.in-Left.ensures in let kept = c.loop.invariant in (told.0.tree ∙ kept.2, same_then kept.3 told.1, told.2, told.3)
+    let told = c.in-Left.ensures in let kept = c.loop.invariant in (told.0.tree ∙ kept.2, same_then kept.3 told.1, told.2, told.3, told.4)
 
 pub loop-preserved : goal.loop-preserved
 loop-preserved g c = let told = c.in-Owing.ensures in let kept = c.loop.invariant in (tt, tt, told.0.tree ∙ kept.2, same_then kept.3 told.1)

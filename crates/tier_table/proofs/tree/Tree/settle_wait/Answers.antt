@@ -7,7 +7,7 @@ returns-in-Left g c h some tree counted =
     let none = c.phase.ensures.none in
     let told = c.in-Left.ensures in
     let passed = passed_same counted told.1 in
-    (left_departs c.args.own some passed none, told.0 ∙ tree, passed, told.2, told.3)
+    (left_departs c.args.own some passed none, told.0 ∙ tree, passed, told.2, told.3, told.4)
 
 pub returns-in_default : goal.returns-in_default
 returns-in_default g c h some tree counted =
