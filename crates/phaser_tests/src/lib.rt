@@ -5,6 +5,8 @@
 mod barrier;
 pub mod calls;
 #[cfg(test)]
+mod closures;
+#[cfg(test)]
 mod lists;
 #[cfg(test)]
 mod machine;

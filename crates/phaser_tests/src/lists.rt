@@ -4,6 +4,6 @@ mod act;
 #[cfg(test)]
 mod mirror;
 #[cfg(test)]
-mod numbers;
+pub mod numbers;
 #[cfg(test)]
 mod played;

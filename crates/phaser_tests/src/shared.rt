@@ -1,5 +1,11 @@
 //! The tree on atomic words: threads that share a tree.
 #[cfg(test)]
+mod counts;
+#[cfg(test)]
 mod deeds;
 #[cfg(test)]
+mod random;
+#[cfg(test)]
 mod threads;
+#[cfg(test)]
+mod told;

@@ -41,6 +41,10 @@ fn beside(rt: &impl Abort, tree: &Tree<Rule>, crew: Slot, door: Slot, row: Row) 
     };
     assert!(rt; crew.unarrived() > 0);
     match tree.join_here(&mut crew, door, 1, row.2) {
+        Registered::Busy(door) => {
+            assert!(rt; row.3 == Told::Busy);
+            (Slot::Inside(crew), Slot::Outside(door))
+        }
         Registered::Joined(new, phase) => {
             assert!(rt; row.3 == Told::Joined(phase));
             (Slot::Inside(crew), Slot::Inside(new))

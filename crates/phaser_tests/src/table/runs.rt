@@ -1,6 +1,6 @@
 //! Worked runs on one thread, row by row. Each run has three tokens, and ends where nobody is registered.
 
-ghost use Rattle.std.specs.Prelude.{◌≤◌};
+ghost use Rattle.std.specs.Prelude.{◌≡◌, ◌==◌, ◌≤◌};
 ghost use Rattle.advance_rule.specs.Stored.{Answers};
 ghost use Rattle.advance_rule.specs.Plan.{end_ends_at};
 
@@ -12,7 +12,7 @@ use crate::calls::slots::Slot;
 use crate::table::rows::{Row, played};
 use crate::table::trees::{are, left_by_three, with_three};
 use crate::trees::{Rule, WHEN_EMPTY, is_empty};
-use advance_rule::StoredAdvance;
+use advance_rule::{EndPlan, StoredAdvance};
 use std::alloc::Global;
 use std::process::Abort;
 use tier_core::call::Cause;
@@ -103,7 +103,7 @@ const THE_LAST_PHASE: [Row; 6] = [
 
 // An end by force between the steps of an arrival, at no try, and then twice: the arrival is counted, and
 // leads nothing, and all learn of the end.
-const A_FORCE: [Row; 10] = [
+const A_FORCE: [Row; 12] = [
     (0, Register(1, 1), 16, Joined(0)),
     (1, Register(2, 1), 16, Joined(0)),
     (1, Arrive, 16, Done(0, false)),
@@ -114,6 +114,8 @@ const A_FORCE: [Row; 10] = [
     (0, Resume, 1, Done(0, false)),
     (1, Poll, 1, Ended(i32::MIN)),
     (0, Arrive, 16, Ended(i32::MIN)),
+    (0, Leave, 16, Ended(i32::MIN)),
+    (2, Register(1, 1), 16, Ended(i32::MIN)),
 ];
 
 // A member joins a leaf, another beside it, which had not arrived, and then both arrive.
@@ -122,6 +124,45 @@ const A_CREW_TAKES_IN: [Row; 4] = [
     (1, Beside, 16, Joined(0)),
     (0, Arrive, 16, Done(0, false)),
     (1, Arrive, 16, Done(0, true)),
+];
+
+// The last member leaves: the advance ends the tree, and all learn of it.
+const THE_LAST_LEAVES: [Row; 5] = [
+    (0, Register(1, 2), 16, Joined(0)),
+    (0, Leave, 16, Done(0, false)),
+    (0, Leave, 16, Left(0, true)),
+    (0, Register(1, 1), 16, Ended(-2147483647)),
+    (1, Register(0, 1), 16, Ended(-2147483647)),
+];
+
+// Each call with no try: it is busy, or owes on. Those that are answered by a look alone are answered.
+const NO_TRY: [Row; 14] = [
+    (2, Register(0, 1), 0, Busy),
+    (2, Force, 0, Busy),
+    (0, Register(1, 1), 1, Owing),
+    (0, Open, 0, Owing),
+    (0, Open, 16, Joined(0)),
+    (0, Beside, 0, Busy),
+    (0, Arrive, 0, Busy),
+    (0, Leave, 0, Busy),
+    (0, Poll, 0, Here(0)),
+    (0, Arrive, 1, Owing),
+    (0, Resume, 0, Owing),
+    (0, Resume, 16, Done(0, true)),
+    (0, Poll, 0, Passed(1)),
+    (0, Leave, 16, Left(1, true)),
+];
+
+// A tree that ends at its phase, with members who have all arrived.
+const AT_ITS_PHASE: [Row; 8] = [
+    (0, Register(1, 1), 16, Joined(0)),
+    (1, Register(2, 1), 16, Joined(0)),
+    (0, Arrive, 16, Done(0, false)),
+    (1, Leave, 16, Left(0, true)),
+    (0, Arrive, 16, Done(1, true)),
+    (0, Poll, 1, Ended(-2147483646)),
+    (0, Leave, 16, Ended(-2147483646)),
+    (1, Register(2, 1), 16, Ended(-2147483646)),
 ];
 
 const LAST: u32 = 2147483647;
@@ -133,7 +174,7 @@ const IS_LET_IN: ClosedToken = ClosedToken {
     phase: 1,
 };
 
-const RUNS: [Run; 8] = [
+const RUNS: [Run; 11] = [
     ("flat", 0, &ONE_TIER, &[(1, 65535, 65535, false)], None),
     (
         "1x1",
@@ -184,6 +225,27 @@ const RUNS: [Run; 8] = [
         &[(1, 1, 1, false), (0, 2, 0, false), (0, 0, 1, false)],
         None,
     ),
+    (
+        "1x1",
+        5,
+        &[],
+        &[(5, 0, 1, false), (5, 0, 1, false), (5, 0, 1, false)],
+        None,
+    ),
+    (
+        "2",
+        0,
+        &THE_LAST_LEAVES,
+        &[(1, 0, 1, true), (0, 0, 1, false), (0, 0, 1, false)],
+        None,
+    ),
+    (
+        "2",
+        0,
+        &NO_TRY,
+        &[(2, 0, 1, true), (1, 0, 1, false), (0, 0, 1, false)],
+        None,
+    ),
 ];
 
 // Whether a token is a crew that tells this of itself, where it is told at all.
@@ -200,6 +262,20 @@ fn is_told(slot: &Slot, want: Option<ClosedToken>) -> bool {
     }
 }
 
+// Whether the third of the tokens that were handed back is this, where it is told at all.
+fn is_handed_back(tokens: &[ClosedToken], want: Option<ClosedToken>) -> bool {
+    match (tokens.last(), want) {
+        (_, None) => true,
+        (Some(token), Some(want)) => {
+            token.tier == want.tier
+                && token.size == want.size
+                && token.unarrived == want.unarrived
+                && token.phase == want.phase
+        }
+        _ => false,
+    }
+}
+
 // Plays a run from its first phase to its last words.
 fn run(rt: &impl Abort, alloc: Global, rule: StoredAdvance<Rule>, run: Run)
     requires rule { Answers (pre rule.closure) (post rule.closure) (end_ends_at rule.plan) }
@@ -211,6 +287,7 @@ fn run(rt: &impl Abort, alloc: Global, rule: StoredAdvance<Rule>, run: Run)
     assert!(rt; is_told(&slots.2, third));
     let closed = left_by_three(rt, alloc, tree, slots);
     assert!(rt; closed.tokens.len() == 3 && are(&closed.words, words));
+    assert!(rt; is_handed_back(&closed.tokens, third));
 }
 
 #[test]
@@ -219,4 +296,24 @@ fn answers_as_worked_out(rt: HostRuntime) {
         let rule = StoredAdvance::new(is_empty as Rule, WHEN_EMPTY);
         run(&rt, rt.alloc(), rule, worked);
     }
+}
+
+// The end of phase 1 ends the tree.
+const AT_ONE: EndPlan = EndPlan {
+    when_empty: false,
+    at: Some(1),
+};
+
+// Whether this phase is 1.
+fn is_one(phase: u32, _count: u32) -> bool
+    ensures { result ≡ (1 == phase) }
+{
+    phase == 1
+}
+
+#[test]
+fn ends_at_its_phase(rt: HostRuntime) {
+    let rule = StoredAdvance::new(is_one as Rule, AT_ONE);
+    let words = &[(2, 1, 1, true), (1, 1, 0, false), (0, 0, 1, false)];
+    run(&rt, rt.alloc(), rule, ("2", 0, &AT_ITS_PHASE, words, None));
 }

@@ -1,0 +1,145 @@
+//! What a call may be told, by its token before it and after it.
+
+use crate::calls::ask::{Ask, Told};
+use crate::calls::slots::Slot;
+
+/// What a token tells of itself.
+#[derive(Clone, Copy, PartialEq, Eq)]
+pub enum Seen {
+    /// No members, in this phase.
+    Door(u32),
+    /// Its tier, how many members it has, how many of them have not arrived, and its phase.
+    Crew(u16, u32, u32, u32),
+    /// A climb or an advance is owed.
+    Errand,
+    /// A path is being opened or given back.
+    Opening,
+}
+
+/// What a token tells of itself.
+pub(crate) fn tells(slot: &Slot) -> Seen {
+    match slot {
+        Slot::Outside(door) => Seen::Door(door.phase()),
+        Slot::Inside(crew) => {
+            Seen::Crew(crew.tier(), crew.size(), crew.unarrived(), crew.phase())
+        }
+        Slot::Owing(_) => Seen::Errand,
+        Slot::Opening(_) => Seen::Opening,
+    }
+}
+
+// The phase after this one.
+fn next(phase: u32) -> u32 {
+    (phase.wrapping_add(1)) % 2147483648
+}
+
+// How many members are unarrived, and in which phase, as an arrival finds them: all of them in the next phase
+// where all had arrived.
+fn found(size: u32, unarrived: u32, phase: u32) -> (u32, u32) {
+    if unarrived == 0 {
+        (size, next(phase))
+    } else {
+        (unarrived, phase)
+    }
+}
+
+// What a registration of so many members at a tier may be told.
+fn registered(tier: u16, members: u32, after: Seen, told: Told) -> bool {
+    match told {
+        Told::Joined(phase) => after == Seen::Crew(tier, members, members, phase),
+        Told::Held(phase, _) => after == Seen::Door(phase),
+        Told::Full(count) => {
+            matches!(after, Seen::Door(_))
+                && count <= 65535
+                && count.saturating_add(members) > 65535
+        }
+        Told::Ended(shown) => matches!(after, Seen::Door(_)) && shown < 0,
+        Told::Busy => matches!(after, Seen::Door(_)),
+        Told::Owing => after == Seen::Opening,
+        _ => false,
+    }
+}
+
+// What one may be told that goes on.
+fn opened(after: Seen, told: Told) -> bool {
+    match told {
+        Told::Joined(phase) => {
+            matches!(after, Seen::Crew(_, size, unarrived, at) if size == unarrived && at == phase)
+        }
+        Told::Held(phase, _) => after == Seen::Door(phase),
+        Told::Full(count) => matches!(after, Seen::Door(_)) && count <= 65535,
+        Told::Ended(shown) => matches!(after, Seen::Door(_)) && shown < 0,
+        Told::Owing => after == Seen::Opening,
+        _ => false,
+    }
+}
+
+// What an arrival or a departure may be told by a crew of this tier, of so many members, so many of them
+// unarrived, in this phase.
+fn passed(leaves: bool, crew: (u16, u32, u32, u32), after: Seen, told: Told) -> bool {
+    let (tier, size, unarrived, phase) = crew;
+    let (here, now) = found(size, unarrived, phase);
+    let left = size.saturating_sub(u32::from(leaves));
+    match told {
+        Told::Done(at, _) => {
+            at == now && after == Seen::Crew(tier, left, here.saturating_sub(1), now)
+        }
+        Told::Left(at, _) => leaves && size == 1 && at == now && matches!(after, Seen::Door(_)),
+        Told::AlreadyArrived(at) => {
+            unarrived == 0 && at == phase && after == Seen::Crew(tier, size, 0, phase)
+        }
+        Told::Ended(shown) => {
+            shown < 0 && matches!(after, Seen::Crew(at, n, _, _) if at == tier && n == size)
+        }
+        Told::Busy => matches!(after, Seen::Crew(at, n, _, _) if at == tier && n == size),
+        Told::Owing => after == Seen::Errand,
+        _ => false,
+    }
+}
+
+// What one may be told that goes on.
+fn resumed(after: Seen, told: Told) -> bool {
+    match told {
+        Told::Done(phase, _) => matches!(after, Seen::Crew(_, _, _, at) if at == phase),
+        Told::Left(_, _) => matches!(after, Seen::Door(_)),
+        Told::Owing => after == Seen::Errand,
+        _ => false,
+    }
+}
+
+// What a poll may be told.
+fn polled(crew: (u16, u32, u32, u32), after: Seen, told: Told) -> bool {
+    let (tier, size, unarrived, phase) = crew;
+    let (here, now) = found(size, unarrived, phase);
+    match told {
+        Told::Passed(at) => unarrived == 0
+            && at == now
+            && after == Seen::Crew(tier, size, here, now),
+        Told::Waiting => unarrived == 0 && after == Seen::Crew(tier, size, 0, phase),
+        Told::Here(at) => unarrived > 0
+            && at == phase
+            && after == Seen::Crew(tier, size, unarrived, at),
+        Told::Ended(shown) => shown < 0,
+        _ => false,
+    }
+}
+
+/// Whether a call may be told this.
+pub(crate) fn may_be_told(ask: Ask, before: Seen, after: Seen, told: Told) -> bool {
+    match (ask, before) {
+        (Ask::Register(tier, members), Seen::Door(_)) => registered(tier, members, after, told),
+        (Ask::Open, Seen::Opening) => opened(after, told),
+        (Ask::Arrive, Seen::Crew(tier, size, unarrived, phase)) => {
+            passed(false, (tier, size, unarrived, phase), after, told)
+        }
+        (Ask::Leave, Seen::Crew(tier, size, unarrived, phase)) => {
+            passed(true, (tier, size, unarrived, phase), after, told)
+        }
+        (Ask::Resume, Seen::Errand) => resumed(after, told),
+        (Ask::Poll, Seen::Crew(tier, size, unarrived, phase)) => {
+            polled((tier, size, unarrived, phase), after, told)
+        }
+        (Ask::Force, Seen::Door(_)) => matches!(told, Told::Ended(_) | Told::Busy),
+        _ => false,
+    }
+}
