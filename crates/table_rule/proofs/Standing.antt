@@ -1,11 +1,7 @@
 -- The flat phaser that the table stands for, and where its end comes from.
-use Rattle.std.proofs.Common.{◌≡◌, ℕ, zero, suc, ◌<◌, ◌==◌, Bool, true, false, List, [], ◌∷◌, ◌++◌, length, set, take, refl, sym, ◌∙◌, ap, subst, arith, append_assoc, eq-eqb, ne_eqb, eqb, get_or-set_same}
-use Rattle.std.proofs.lemmas.Bool.{cases_eq}
-use mathlib.Core.Option.{some, some-injective, some-ne-none}
-use lib.ListN.{get_elem?}
-use Rattle.flat_phaser.proofs.Everyone.{either}
+use Rattle.std.proofs.Common.{◌≡◌, ℕ, zero, suc, ◌<◌, ◌==◌, Bool, true, false, List, [], ◌∷◌, ◌++◌, length, set, refl, sym, ◌∙◌, ap, subst, arith, ne_eqb, get_or-set_same}
 use Rattle.advance_rule.specs.Plan.{end_ends}
-use Rattle.flat_phaser.specs.Flat.{Flat, registered}
+use Rattle.flat_phaser.specs.Flat.{registered}
 use Rattle.phaser_word.specs.Fields.{Fields}
 use Rattle.tier_steps.specs.declared.view.View.{View}
 use Rattle.tier_steps.specs.declared.kind.Kind.{Kind}
@@ -14,8 +10,7 @@ use Rattle.tier_steps.specs.Tally.{blank, word_at, Tallies}
 use Rattle.tier_steps.specs.Step.{word_after}
 use Rattle.tier_steps.specs.Laws.{words_after, stepped_view, IsStep}
 use Rattle.tier_steps.specs.Image.{image, label, labelled, IsAllowedLabel, LooksAlike}
-use Rattle.tier_steps.specs.Start.{empty_word, empty_words}
-use Rattle.tier_steps.specs.Due.{IsReady}
+use Rattle.tier_steps.specs.Start.{empty_words}
 use Rattle.tier_steps.proofs.KindLaw.{ended_same}
 use Rattle.tier_steps.proofs.FlatLaw.{kinds_are_flat}
 use Rattle.tier_steps.proofs.Passing.{ended_passed}
@@ -23,9 +18,9 @@ use Rattle.tier_steps.proofs.Ready.{advances_are_due}
 use Rattle.tier_steps.specs.declared.view.Trip.TheVariants.{Arrival, Departure}
 use Rattle.table_rule.specs.declared.sight.Key.{Key}
 use Rattle.table_rule.specs.declared.sight.Sight.{Sight}
-use Rattle.table_rule.specs.Reach.{those, views_of, Reached, opens, steps, splits, joins}
-use Rattle.table_rule.specs.Laws.{MayStep, number_of, ended_by, StepsAreFlat, EndsAreForcedOrPlanned, IsEnd, EndsHaveAStep}
-use Rattle.table_rule.proofs.Seats.{Around, around}
+use Rattle.table_rule.specs.Reach.{views_of, opens, steps, splits, joins}
+use Rattle.table_rule.specs.Laws.{MayStep, number_of, StepsAreFlat, EndsAreForcedOrPlanned, IsEnd, EndsHaveAStep}
+use Rattle.table_rule.proofs.Seats.{around}
 use Rattle.table_rule.proofs.Reaching.{shaped, reached_states_tally}
 
 -- the step among all views
@@ -107,7 +102,7 @@ open_at_first (p ∷ ps) phase = refl
 
 pub ends_have_a_step : EndsHaveAStep
 ends_have_a_step k ws vs (opens x shape small is) ended = absurd (let a = sym ended ∙ open_at_first k.shape k.phase in cc)
-ends_have_a_step k ws vs (steps us ts id t x y kind r at within needs says is) ended =
+ends_have_a_step k ws vs (steps us ts id t tries x y kind r at within needs says own is few) ended =
     let m : MayStep k us ts id t x kind = record { reached = r; seat = at; within = within; needs = needs; says = says } in
     elim (word_at us 0).ended as (λ b. (word_at us 0).ended ≡ b → IsEnd k) [
       | true ↦ λ e. ends_have_a_step k us ts r e

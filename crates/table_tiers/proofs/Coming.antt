@@ -1,5 +1,5 @@
 -- What a registration answers.
-use Rattle.std.proofs.Common.{◌≡◌, ◌≢◌, ℕ, zero, suc, ◌<◌, true, false, List, refl, sym, ◌∙◌, ap, subst, arith, Option, Some, None}
+use Rattle.std.proofs.Common.{◌≡◌, ◌≢◌, ℕ, zero, suc, ◌<◌, true, false, List, refl, sym, ◌∙◌, ap, subst, arith}
 use Rattle.tier_steps.specs.Step.{opening}
 use Rattle.tier_steps.specs.declared.view.View.{View}
 use Rattle.tier_steps.specs.declared.view.Errand.{Errand}

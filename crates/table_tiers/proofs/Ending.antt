@@ -1,5 +1,5 @@
 -- An end that was seen stays seen, and a path that is given back ends in a refusal.
-use Rattle.std.proofs.Common.{◌≡◌, ℕ, zero, suc, ◌<◌, Bool, true, false, cond, List, refl, sym, ◌∙◌, ap, subst, arith, Option, Some, None}
+use Rattle.std.proofs.Common.{◌≡◌, ℕ, zero, suc, ◌<◌, Bool, true, false, cond, ◌∷◌, List, refl, sym, ◌∙◌, ap, subst, arith, Option, Some, None}
 use Rattle.phaser_word.specs.Fields.{Fields}
 use Rattle.tier_shape.specs.Parents.{parent_of}
 use Rattle.tier_steps.specs.Step.{looked, refused, view_after}
@@ -67,7 +67,7 @@ seen_goes k from at h (looks at' w go fits g beside) =
     let t : ℕ = place k.shape at'.progress at'.view in
     let u : View = view_after (parent_of k.shape t) (looking (meant at'.progress at'.view) t w) t w at'.view in
     let s : seen u.end_seen ≡ true = seen_step (parent_of k.shape t) (looking (meant at'.progress at'.view) t w) t w at'.view (seen_goes k from at' h go) in
-    by_test (λ c. seen (cond {A = Position} c (record { progress = r.next; view = u; answer = r.answer }) (record { progress = at'.progress; view = u; answer = GoesOn })).view.end_seen ≡ true)
+    by_test (λ c. seen (cond {A = Position} c (record { progress = r.next; view = u; answer = r.answer; steps = looking (meant at'.progress at'.view) t w ∷ at'.steps }) (record { progress = at'.progress; view = u; answer = GoesOn; steps = looking (meant at'.progress at'.view) t w ∷ at'.steps })).view.end_seen ≡ true)
     (is_look r.kind) (λ e. s) (λ e. s)
 
 -- a call that gives its path back for a refusal, or has answered one
@@ -119,7 +119,7 @@ refuses_goes k from at h (looks at' w go fits g beside) =
     let t : ℕ = place k.shape at'.progress at'.view in
     let u : View = view_after (parent_of k.shape t) (looking (meant at'.progress at'.view) t w) t w at'.view in
     let before = refuses_goes k from at' h go in
-    by_test (λ c. let x : Position = cond c (record { progress = r.next; view = u; answer = r.answer }) (record { progress = at'.progress; view = u; answer = GoesOn }) in
+    by_test (λ c. let x : Position = cond c (record { progress = r.next; view = u; answer = r.answer; steps = looking (meant at'.progress at'.view) t w ∷ at'.steps }) (record { progress = at'.progress; view = u; answer = GoesOn; steps = looking (meant at'.progress at'.view) t w ∷ at'.steps }) in
     refuses x.answer x.progress ≡ true)
     (is_look r.kind)
     (λ e. refuses_next k.shape false w at'.progress at'.view at'.answer fits g before)

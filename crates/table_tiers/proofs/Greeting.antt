@@ -1,5 +1,5 @@
 -- A door that joins at a tier where a crew has an unarrived member.
-use Rattle.std.proofs.Common.{◌≡◌, ◌≢◌, ℕ, zero, suc, ◌+◌, ◌-◌, ◌≤◌, ◌<◌, ⊎_elim, Bool, true, false, cond, eqb, not, ◌&&◌, ◌||◌, ltb, List, length, refl, sym, ◌∙◌, ap, subst, arith, Some, None}
+use Rattle.std.proofs.Common.{◌≡◌, ◌≢◌, ℕ, zero, suc, ◌+◌, ◌-◌, ◌≤◌, ◌<◌, ⊎_elim, Bool, true, false, cond, eqb, not, ◌&&◌, ◌||◌, ltb, List, ◌∷◌, length, refl, sym, ◌∙◌, ap, subst, arith, Some, None}
 use Rattle.std.proofs.lemmas.Bool.{eq-eqb, ne_eqb, lt-ltb, ltb-false}
 use Rattle.flat_phaser.proofs.Everyone.{either}
 use Rattle.phaser_word.specs.Fields.{Fields}
@@ -18,13 +18,12 @@ use Rattle.tier_steps.proofs.Known.{tally_is_known}
 use Rattle.tier_steps.proofs.KindLaw.{mine}
 use Rattle.std.specs.Prelude.{ℤ}
 use Rattle.tier_core.specs.Turn.{lags, has_no_room, is_refusing}
-use Rattle.tier_core.specs.declared.call.Played.TheVariants as played
-use Rattle.tier_core.proofs.Turns.{by_test, not_both, looked_rests, looked_tier}
+use Rattle.tier_core.proofs.Turns.{by_test, not_both, looked_rests, looked_tier, looked_size}
 use Rattle.table_rule.specs.Look.{glance, looking}
 use Rattle.table_rule.specs.Tell.{Beside}
 use Rattle.table_tiers.specs.Holding.{Named, Holding, Looked, Took, Lost, Won, IsDoor, IsCrew}
 use Rattle.table_tiers.specs.Passes.{IsSame}
-use Rattle.table_tiers.specs.Joins.{IsJoined, Refusal}
+use Rattle.table_tiers.specs.Joins.{IsJoined}
 use Rattle.table_tiers.specs.Passes.{EndSeen, IsFresh}
 use Rattle.table_tiers.specs.Arrives.{IsSoon, IsSpent}
 use Rattle.table_tiers.specs.Registers.{IsLookedAround}
@@ -32,9 +31,12 @@ use Rattle.table_tiers.specs.JoinsHere.{Waits, IsStill, IsFullHere, AreSoon, Are
 use Rattle.table_tiers.specs.declared.joining.Registered.{Registered}
 use Rattle.table_tiers.specs.declared.joining.Registered.TheVariants as registered
 use Rattle.table_tiers.proofs.Turning.{refuse_at, ended_at, glanced}
-use Rattle.table_tiers.proofs.Passing.{root_of, glance_unled}
+use Rattle.table_tiers.proofs.Passing.{root_of, glance_unled, looked_unled}
 use Rattle.table_tiers.proofs.Settling.{first_fresh}
-use Rattle.table_tiers.proofs.Seeks.{look_end, refused_note, refused_size, refused_end, refused_unled, glance_unended}
+use Rattle.table_tiers.specs.Made.{MadeOnly, is_quiet, is_entering}
+use Rattle.table_tiers.proofs.Making.{made_more, made_none, made_then}
+use Rattle.table_tiers.proofs.Entering.{join_enters, looked_enters}
+use Rattle.table_tiers.proofs.Seeks.{look_unended, look_end, refused_note, refused_size, refused_end, refused_unled, glance_unended}
 
 -- a tier that doesn't lag waits for a member that hasn't arrived there
 one_here : (n t : ℕ) → only_at t n t ≡ n
@@ -181,18 +183,26 @@ within_of {ps} {t} {w} {v} b = (mine ps b.words b.front b.back v b.tally).within
 around_by : {h h' : Holding} {t : ℕ} (size tries : ℕ) → IsDoor h → Took (looking (Join t 0 size) t h'.word) t h'.word tries h h' → IsLookedAround h.view h'.view
 around_by {h} {h'} {t} size tries door took = peeked_around h h' door (peeks size tries door took) (within_of took.before) (within_of took.after)
 
-around_then : {a b c : View} → IsLookedAround a b → IsLookedAround b c → IsLookedAround a c
+pub around_then : {a b c : View} → IsLookedAround a b → IsLookedAround b c → IsLookedAround a c
 around_then {a} {b} {c} x y = record { tier = y.tier ∙ x.tier; size = y.size ∙ x.size; arrived = y.arrived ∙ x.arrived }
+
+-- what the door makes there: looks, and the join
+one_enters : (k : Kind) (old new : List Kind) → is_entering k ≡ true → new ≡ k ∷ old → MadeOnly is_entering old new
+one_enters k old new such is = subst (MadeOnly is_entering old) (sym is) (made_more is_entering k old old such (made_none is_entering old))
+
+pub peek_made : {h h' : Holding} (t size tries : ℕ) → Took (looking (Join t 0 size) t h'.word) t h'.word tries h h' → MadeOnly is_entering h.steps h'.steps
+peek_made {h} {h'} t size tries took = one_enters (looking (Join t 0 size) t h'.word) h.steps h'.steps (join_enters t 0 size t h'.word) took.steps
 
 pub met_late : {h h' : Holding} (t size : ℕ) → IsDoor h → Looked (Join t 0 size) t h h' → h'.word.ended ≡ false → IsFresh h.view → IsStill 0 h h'
 met_late {h} {h'} t size door took going fresh = record {
   spent = record { tree = took.tree; tried = took.tried };
   looked = around_by size 0 door took;
   fresh = (let p = peeks size 0 door took in record { unseen = p.unseen going ∙ fresh.unseen; unled = p.unled fresh.unled });
+  made = peek_made t size 0 took;
 }
 
 -- a lost try is one more look
-lost_took : {h' h'' : Holding} (t size : ℕ) → h'.tier ≡ t → Lost (Join t 0 size) h' h'' → Took (looking (Join t 0 size) t h''.word) t h''.word 1 h' h''
+pub lost_took : {h' h'' : Holding} (t size : ℕ) → h'.tier ≡ t → Lost (Join t 0 size) h' h'' → Took (looking (Join t 0 size) t h''.word) t h''.word 1 h' h''
 lost_took {h'} {h''} t size at l = subst (λ (n : ℕ). Took (looking (Join t 0 size) n h''.word) n h''.word 1 h' h'') at l.took
 
 pub met_busy : {h h' h'' : Holding} (t size : ℕ) → IsDoor h → Looked (Join t 0 size) t h h' → Lost (Join t 0 size) h' h'' → h'.word.ended ≡ false → h''.word.ended ≡ false → IsFresh h.view
@@ -205,15 +215,17 @@ met_busy {h} {h'} {h''} t size door took lost going on fresh =
       spent = record { tree = second.tree ∙ took.tree; tried = (let a = second.tried in let b = took.tried in omega arith) };
       looked = around_then (around_by size 0 door took) (around_by size 1 door' second);
       fresh = (let q = peeks size 1 door' second in record { unseen = q.unseen on ∙ (p.unseen going ∙ fresh.unseen); unled = q.unled (p.unled fresh.unled) });
+      made = made_then is_entering (peek_made t size 0 took) (peek_made t size 1 second);
     }
 
 pub met_joined : {h h' h'' : Holding} {phase : ℕ} (t size : ℕ) → IsDoor h → IsFresh h.view → Looked (Join t 0 size) t h h' → Won (Join t 0 size) h' h'' → phase ≡ h'.word.phase
-    → IsSpent 1 h h'' × IsJoined t size h''.view × (h''.view.errand ≡ Rest) × (phase ≡ h''.view.phase)
+    → IsSpent 1 h h'' × IsJoined t size h''.view × (h''.view.errand ≡ Rest) × (phase ≡ h''.view.phase) × MadeOnly is_entering h.steps h''.steps
 met_joined {h} {h'} {h''} {phase} t size door fresh took won is = (
   record { tree = won.tree ∙ took.tree; tried = (let a = won.tried in let b = took.tried in omega arith) },
   record { seat = ap (λ (v : View). v.tier) won.view; members = ap (λ (v : View). v.size) won.view; none_arrived = ap (λ (v : View). v.arrived) won.view; unled = ap (λ (v : View). v.led) won.view ∙ (peeks size 0 door took).unled fresh.unled },
   ap (λ (v : View). v.errand) won.view,
   is ∙ ap (λ (v : View). v.phase) (sym won.view),
+  made_then is_entering (peek_made t size 0 took) (one_enters (Join t 0 size) h'.steps h''.steps refl won.steps),
 )
 
 pub met_ended : {h h' : Holding} {shown : ℤ} (t size : ℕ) → Looked (Join t 0 size) t h h' → h'.word.ended ≡ true → shown ≡ shown_of h'.word.phase h'.word.ended
@@ -246,21 +258,21 @@ new_crew {h'} {h''} {t} {size} some won = record {
 -- a round, from what the door's part answers
 pub met_round : {old new : Holding} {tier : ℕ} (door : Holding) (size : ℕ) (a : Registered) → KeepsCrew 0 old new → tier ≡ old.view.tier → AnswersMeeting door tier size a → JoinsOnce old new door size a
 met_round {old} {new} {tier} door size (registered.Joined crew phase) k at m = (
-  record { crew_tree = k.tree; door_tree = m.0.tree; crew = k.crew; tried = (let a = k.tried in let b = m.0.tried in omega arith) },
+  record { crew_tree = k.tree; door_tree = m.0.tree; crew = k.crew; tried = (let a = k.tried in let b = m.0.tried in omega arith); crew_made = k.made; door_made = m.4 },
   subst (λ (t : ℕ). IsJoined t size crew.view) at m.1,
   m.2,
   m.3,
 )
 met_round {old} {new} {tier} door size (registered.Full after count) k at m = (
-  record { crew_tree = k.tree; door_tree = m.0.tree; crew = k.crew; tried = (let a = k.tried in let b = m.0.tried in omega arith) },
+  record { crew_tree = k.tree; door_tree = m.0.tree; crew = k.crew; tried = (let a = k.tried in let b = m.0.tried in omega arith); crew_made = k.made; door_made = m.2 },
   subst (λ (t : ℕ). IsFullHere door.tree.key.shape t size after.view count) at m.1,
 )
 met_round {old} {new} {tier} door size (registered.Ended after shown) k at m = (
-  record { crew_tree = k.tree; door_tree = m.0.tree; crew = k.crew; tried = (let a = k.tried in let b = m.0.tried in omega arith) },
+  record { crew_tree = k.tree; door_tree = m.0.tree; crew = k.crew; tried = (let a = k.tried in let b = m.0.tried in omega arith); crew_made = k.made; door_made = m.2 },
   m.1,
 )
 met_round {old} {new} {tier} door size (registered.Busy after) k at m = (
-  record { crew_tree = k.tree; door_tree = m.spent.tree; crew = k.crew; tried = (let a = k.tried in let b = m.spent.tried in omega arith) },
+  record { crew_tree = k.tree; door_tree = m.spent.tree; crew = k.crew; tried = (let a = k.tried in let b = m.spent.tried in omega arith); crew_made = k.made; door_made = m.made },
   m.looked,
   m.fresh,
 )
@@ -273,7 +285,7 @@ same_then {a} {b} {c} x y = record { tier = y.tier ∙ x.tier; size = y.size ∙
 -- a round in which another step came between
 pub late_round : {old mid new door after : Holding} → KeepsCrew 0 old mid → KeepsCrew 1 mid new → IsStill 0 door after → AreSpent 1 old new door after × IsLookedAround door.view after.view × IsFresh after.view
 late_round {old} {mid} {new} {door} {after} a b s = (
-  record { crew_tree = b.tree ∙ a.tree; door_tree = s.spent.tree; crew = same_then a.crew b.crew; tried = (let x = a.tried in let y = b.tried in let z = s.spent.tried in omega arith) },
+  record { crew_tree = b.tree ∙ a.tree; door_tree = s.spent.tree; crew = same_then a.crew b.crew; tried = (let x = a.tried in let y = b.tried in let z = s.spent.tried in omega arith); crew_made = made_then is_quiet a.made b.made; door_made = s.made },
   s.looked,
   s.fresh,
 )
@@ -283,7 +295,7 @@ around_none v = record { tier = refl; size = refl; arrived = refl }
 
 pub lagging_round : {old mid new door : Holding} → KeepsCrew 0 old mid → KeepsCrew 1 mid new → IsFresh door.view → AreSpent 1 old new door door × IsLookedAround door.view door.view × IsFresh door.view
 lagging_round {old} {mid} {new} {door} a b fresh = (
-  record { crew_tree = b.tree ∙ a.tree; door_tree = refl; crew = same_then a.crew b.crew; tried = (let x = a.tried in let y = b.tried in omega arith) },
+  record { crew_tree = b.tree ∙ a.tree; door_tree = refl; crew = same_then a.crew b.crew; tried = (let x = a.tried in let y = b.tried in omega arith); crew_made = made_then is_quiet a.made b.made; door_made = made_none is_entering door.steps },
   around_none door.view,
   fresh,
 )
@@ -295,6 +307,8 @@ soon_then {old} {mid} {new} {door} {d} {after} {a} {b} {tries} x y few = record 
   door_tree = y.door_tree ∙ x.door_tree;
   crew = same_then x.crew y.crew;
   tried = (let p = x.tried in let q = y.tried in omega arith);
+  crew_made = made_then is_quiet x.crew_made y.crew_made;
+  door_made = made_then is_entering x.door_made y.door_made;
 }
 
 pub rounds_answer : {old mid door d : Holding} {made tries : ℕ} (new : Holding) (size : ℕ) (a : Registered) → ((after : Holding) → a ≢ registered.Busy after) → AreSpent made old mid door d → made < tries → JoinsOnce mid new d size a
@@ -314,6 +328,8 @@ spent_then {old} {mid} {new} {door} {d} {after} {a} x y = record {
   door_tree = y.door_tree ∙ x.door_tree;
   crew = same_then x.crew y.crew;
   tried = (let p = x.tried in let q = y.tried in omega arith);
+  crew_made = made_then is_quiet x.crew_made y.crew_made;
+  door_made = made_then is_entering x.door_made y.door_made;
 }
 
 pub waits_by : {w w' seen : Fields} → w ≡ w' → w ≡ seen → Waits seen → Waits w'
@@ -330,3 +346,60 @@ ended_word {u} {w} {w'} is same e = ap (λ (z : Fields). z.ended) (sym (is ∙ s
 
 pub still_fresh : {h h' : Holding} → Looked Look 0 h h' → h'.word.ended ≡ false → IsFresh h'.view
 still_fresh {h} {h'} took e = first_fresh took e
+
+-- the look at the root before all rounds
+pub beside_ended : {h h' : Holding} {shown : ℤ} (crew : Holding) (tries : ℕ) → Looked Look 0 h h' → h'.word.ended ≡ true → shown ≡ shown_of h'.word.phase h'.word.ended
+    → AreSoon tries crew crew h h' × EndSeen h'.view shown
+beside_ended {h} {h'} {shown} crew tries took e is = (
+  record {
+    crew_tree = refl;
+    door_tree = took.tree;
+    crew = record { tier = refl; size = refl; phase = refl; arrived = refl };
+    tried = (let a = took.tried in omega arith);
+    crew_made = made_none is_quiet crew.steps;
+    door_made = looked_enters took;
+  },
+  (h'.word.phase, ap (λ (v : View). v.end_seen) took.view ∙ look_end h'.word h.view e, is ∙ ap (shown_of h'.word.phase) e),
+)
+
+looked_around : {h h' : Holding} → IsDoor h → Looked Look 0 h h' → IsLookedAround h.view h'.view
+looked_around {h} {h'} door took =
+    let p : Peeks h'.word h.view h'.view = subst (Peeks h'.word h.view) (sym took.view) (record {
+      rests = looked_rests h'.word h.view door.rests;
+      size = looked_size h'.word h.view;
+      tier = looked_tier h'.word h.view;
+      unseen = look_unended h'.word h.view;
+      unled = λ l. looked_unled h'.word h.view;
+    }) in
+    peeked_around h h' door p (within_of took.before) (within_of took.after)
+
+module _ {h h' : Holding} (old new : Holding) (size tries : ℕ) where
+  soon_first : {after : Holding} → Looked Look 0 h h' → AreSoon tries old new h' after → AreSoon tries old new h after
+  soon_first {after} took x = record {
+    crew_tree = x.crew_tree;
+    door_tree = x.door_tree ∙ took.tree;
+    crew = x.crew;
+    tried = (let a = took.tried in let b = x.tried in omega arith);
+    crew_made = x.crew_made;
+    door_made = made_then is_entering (looked_enters took) x.door_made;
+  }
+
+  pub beside_then : (r : Registered) → IsDoor h → Looked Look 0 h h' → JoinsHere old new h' size tries r → JoinsHere old new h size tries r
+  beside_then (registered.Joined crew phase) door took m = (soon_first took m.0, m.1, m.2, m.3)
+  beside_then (registered.Full after count) door took m =
+      (soon_first took m.0, subst (λ (n : Named). IsFullHere n.key.shape old.view.tier size after.view count) took.tree m.1)
+  beside_then (registered.Ended after shown) door took m = (soon_first took m.0, m.1)
+  beside_then (registered.Busy after) door took m = (
+    record {
+      crew_tree = m.0.crew_tree;
+      door_tree = m.0.door_tree ∙ took.tree;
+      crew = m.0.crew;
+      tried = (let a = took.tried in let b = m.0.tried in omega arith);
+      crew_made = m.0.crew_made;
+      door_made = made_then is_entering (looked_enters took) m.0.door_made;
+    },
+    around_then (looked_around door took) m.1,
+    m.2,
+  )
+  beside_then (registered.Held after phase cause) door took m = absurd m
+  beside_then (registered.Owing opening) door took m = absurd m

@@ -4,8 +4,11 @@ pub mod Turning
 pub mod Running
 pub mod Tries
 pub mod Passing
+pub mod Making
+pub mod Breaking
 pub mod Settling
 pub mod Seeks
+pub mod Entering
 pub mod Coming
 pub mod Waits
 pub mod Ending

@@ -30,7 +30,7 @@ use Rattle.tier_steps.specs.Tally.{word_at, root_phase, ErrandFits}
 use Rattle.tier_steps.proofs.KindLaw.{mine}
 use Rattle.table_tiers.proofs.Turning.{by_cond, ended_root, look_is, PassIs, over, behind, passes, pass_is}
 
-owed_cases : (P : Errand → Type 0) (above t : ℕ) (trip : Trip) (w : Fields) → P Rest → P Advancing → ((to : ℕ) (up : Trip) → P (Climbing to up)) → P (owed above t trip w)
+pub owed_cases : (P : Errand → Type 0) (above t : ℕ) (trip : Trip) (w : Fields) → P Rest → P Advancing → ((to : ℕ) (up : Trip) → P (Climbing to up)) → P (owed above t trip w)
 owed_cases P above zero trip w a b c = by_test (λ x. P (cond x Advancing Rest)) (eqb w.unarrived 1) (λ e. b) (λ e. a)
 owed_cases P above (suc t) Arrival w a b c = by_test (λ x. P (cond x (Climbing above Arrival) Rest)) (eqb w.unarrived 1) (λ e. c above Arrival) (λ e. a)
 owed_cases P above (suc t) Departure w a b c =
@@ -88,7 +88,7 @@ open_pass t kind w r (behind e k at) quiet = e
 open_pass t kind w r (passes e k at) quiet = e
 
 -- the own step leads nothing
-own_led : (own : Trip) (above t : ℕ) (w : Fields) (u : View) → u.led ≡ false → (view_after above (own_kind own) t w u).led ≡ false
+pub own_led : (own : Trip) (above t : ℕ) (w : Fields) (u : View) → u.led ≡ false → (view_after above (own_kind own) t w u).led ≡ false
 own_led Arrival above t w u l = l
 own_led Departure above t w u l = l
 
@@ -213,7 +213,7 @@ module _ (ps : List ℕ) (own : Trip) (P C : View → Type 0) (stays : (u u' : V
       let r : Turn = turn_by ps false w at.progress at.view in
       let t : ℕ = place ps at.progress at.view in
       let u : View = view_after (parent_of ps t) (looking (meant at.progress at.view) t w) t w at.view in
-      let Q : Bool → Type 0 = λ c. let x : Position = cond c (record { progress = r.next; view = u; answer = r.answer }) (record { progress = at.progress; view = u; answer = GoesOn }) in
+      let Q : Bool → Type 0 = λ c. let x : Position = cond c (record { progress = r.next; view = u; answer = r.answer; steps = looking (meant at.progress at.view) t w ∷ at.steps }) (record { progress = at.progress; view = u; answer = GoesOn; steps = looking (meant at.progress at.view) t w ∷ at.steps }) in
       PassAt own P C x.view x.answer x.progress in
       let l = look_is ps w at.view (parent_of ps t) at.progress fits g (root_of ps t w at.view beside) in
       by_test Q (is_look r.kind)

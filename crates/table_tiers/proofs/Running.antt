@@ -121,6 +121,9 @@ module _ (n : Named) (tries : ℕ) (g g' : Going) (h : Holding) (at : IsAt n g) 
   next : NextBy ps before.words g.progress g.token.view h.word r
   next = let b = before in next_by ps b.words b.front b.back g.progress g.token.view h.word false b.shape b.tally at.fits going b.word
 
+  told_steps : g'.token.steps ≡ kind ∷ g.token.steps
+  told_steps = ap (λ (z : Holding). z.steps) is ∙ took.steps
+
   word : g'.token.word ≡ h.word
   word = ap (λ (z : Holding). z.word) is
 
@@ -162,11 +165,11 @@ module _ (n : Named) (tries : ℕ) (g g' : Going) (h : Holding) (at : IsAt n g) 
 
   went : (b : Bool) → is_look r.kind ≡ b → position g' ≡ after_look ps h.word (position g)
   went true e = let x = here true e in
-      (λ i. record { progress = x.0 i; view = view i; answer = x.1 i })
-      ∙ sym (ap (λ (b : Bool). cond b (record { progress = r.next; view = u; answer = r.answer }) (record { progress = g.progress; view = u; answer = GoesOn })) e)
+      (λ i. record { progress = x.0 i; view = view i; answer = x.1 i; steps = told_steps i })
+      ∙ sym (ap (λ (b : Bool). cond b (record { progress = r.next; view = u; answer = r.answer; steps = kind ∷ g.token.steps }) (record { progress = g.progress; view = u; answer = GoesOn; steps = kind ∷ g.token.steps })) e)
   went false e = let x = here false e in
-      (λ i. record { progress = x.0 i; view = view i; answer = x.1 i })
-      ∙ sym (ap (λ (b : Bool). cond b (record { progress = r.next; view = u; answer = r.answer }) (record { progress = g.progress; view = u; answer = GoesOn })) e)
+      (λ i. record { progress = x.0 i; view = view i; answer = x.1 i; steps = told_steps i })
+      ∙ sym (ap (λ (b : Bool). cond b (record { progress = r.next; view = u; answer = r.answer; steps = kind ∷ g.token.steps }) (record { progress = g.progress; view = u; answer = GoesOn; steps = kind ∷ g.token.steps })) e)
 
   pub looks_on : LooksOn n tries g g'
   looks_on = record {
@@ -281,7 +284,7 @@ module _ (n : Named) (b : Bool) (g : Going) (at : IsAt n g) (st : Stands n.key g
           known = subst (λ (z : Holding). Beside n.key.shape z.tier z.word z.view) (sym is) (subst (λ (z : Named). Beside z.key.shape h.tier h.word h.view) at.own took.after);
         };
         tried = ap (λ (z : Holding). z.tried) is ∙ took.tried;
-        goes = λ from before_. subst (Goes n.key from) (sym (λ i. record { progress = p i; view = view i; answer = a i }))
+        goes = λ from before_. subst (Goes n.key from) (sym (λ i. record { progress = p i; view = view i; answer = a i; steps = (ap (λ (z : Holding). z.steps) is ∙ took.steps) i }))
             (steps (position g) g.token.word b before_ at.fits st.going here_known try_says);
       }
 

@@ -32,7 +32,7 @@ legal_word ps t w v b = subst IsLegal b.word (b.tally.legal t b.within)
 
 -- what a seat stands for
 abbrev pub holding : TableId → Me Kind (List Sight) → View → ℕ → Fields → Holding
-holding id me v t w = record { tree = record { id = id; key = (sight_of me).key }; view = v; tier = t; word = w; tried = (sight_of me).tried }
+holding id me v t w = record { tree = record { id = id; key = (sight_of me).key }; view = v; tier = t; word = w; tried = (sight_of me).tried; steps = (sight_of me).steps }
 
 module _ (k : Key) (slots id : ℕ) (me : Me Kind (List Sight)) (v : View) (t0 : ℕ) (w0 : Fields) (seat : IsSeated me v t0 w0) (own : (sight_of me).key ≡ k) where
   pub load_allow : (t : ℕ) (kind : Kind) → t < length k.shape → MayLook k.shape kind t v → Allows (Kept k) slots id me t (λ n. n) (Saw kind (step slots t 0 0 none) me)
@@ -58,6 +58,7 @@ pub record Moved (kind : Kind) (t : ℕ) (w : Fields) (tries : ℕ) (me me' : Me
   pub seat : IsSeated me' (view_after (parent_of (sight_of me).key.shape t) kind t w v) t (word_after kind t w v)
   pub key : (sight_of me').key ≡ (sight_of me).key
   pub tried : (sight_of me').tried ≡ (sight_of me).tried + tries
+  pub steps : (sight_of me').steps ≡ kind ∷ (sight_of me).steps
   pub before : Beside (sight_of me).key.shape t w v
 
 moved_by : (kind : Kind) (t : ℕ) (w : Fields) (tries : ℕ) (me me' : Me Kind (List Sight)) (v : View) (t0 : ℕ) (w0 : Fields) → IsSeated me v t0 w0
@@ -79,6 +80,7 @@ moved_by kind t w tries me me' v t0 w0 seat y is s =
       };
       key = ap (λ (z : Sight). z.key) here ∙ s.key;
       tried = ap (λ (z : Sight). z.tried) here ∙ s.tried;
+      steps = ap (λ (z : Sight). z.steps) here ∙ s.steps;
       before = subst (Beside k.shape t w) seat.view s.before;
     }
 
@@ -164,6 +166,7 @@ module _ (k : Key) (kind : Kind) (t n tries : ℕ) (me me' : Me Kind (List Sight
       let l = is_look k kind t s.word v may in record {
         tree = λ i. record { id = same i; key = s.moved.key i };
         tried = s.moved.tried;
+        steps = s.moved.steps ∙ ap (λ (z : Fields). looking kind t z ∷ (sight_of me).steps) (sym is);
         tier = refl;
         word = subst (λ (z : Fields). z ≡ word_after (looking kind t z) t z v) (sym is) (sym l.stays);
         view = b ∙ (ap (λ (z : Kind). view_after above z t w v) lk
@@ -282,6 +285,7 @@ won_took {id} {id'} {one} {k} {me} {me'} {v} {u} {t} {above} {w} {next} {kind} m
     let seat = won_seated m f a b c in record {
       tree = λ i. record { id = e i; key = m.key i };
       tried = m.tried;
+      steps = m.steps;
       tier = refl;
       word = c;
       view = b ∙ ap (λ (z : ℕ). view_after z kind t w v) (a ∙ ap (λ (z : Key). parent_of z.shape t) (sym f.own));

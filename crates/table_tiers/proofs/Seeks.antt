@@ -1,5 +1,5 @@
 -- What a call that joins shows of its token, by induction on its looks and steps.
-use Rattle.std.proofs.Common.{◌≡◌, ℕ, zero, suc, ◌+◌, ◌≤◌, ◌<◌, Bool, true, false, cond, eqb, List, refl, sym, ◌∙◌, ap, subst, arith, Some, None}
+use Rattle.std.proofs.Common.{◌≡◌, ℕ, zero, suc, ◌+◌, ◌≤◌, ◌<◌, Bool, true, false, cond, ◌∷◌, eqb, List, refl, sym, ◌∙◌, ap, subst, arith, Some, None}
 use Rattle.std.proofs.lemmas.Bool.{eq-eqb}
 use Rattle.phaser_word.specs.Fields.{Fields}
 use Rattle.tier_shape.specs.Parents.{parent_of}
@@ -258,7 +258,7 @@ module _ (ps : List ℕ) (least home tier size : ℕ) where
       let r : Turn = turn_by ps false w at.progress at.view in
       let t : ℕ = place ps at.progress at.view in
       let u : View = view_after (parent_of ps t) (looking (meant at.progress at.view) t w) t w at.view in
-      let Q : Bool → Type 0 = λ c. let x : Position = cond c (record { progress = r.next; view = u; answer = r.answer }) (record { progress = at.progress; view = u; answer = GoesOn }) in
+      let Q : Bool → Type 0 = λ c. let x : Position = cond c (record { progress = r.next; view = u; answer = r.answer; steps = looking (meant at.progress at.view) t w ∷ at.steps }) (record { progress = at.progress; view = u; answer = GoesOn; steps = looking (meant at.progress at.view) t w ∷ at.steps }) in
       JoinAt ps least home tier size x.view x.answer x.progress in
       let l = look_is ps w at.view (parent_of ps t) at.progress fits g (root_of ps t w at.view beside) in
       by_test Q (is_look r.kind)
@@ -295,14 +295,14 @@ joining_next ps b w (Owing own) v fits j = absurd (cc)
 joining_next ps b w (Due own) v fits j = absurd (cc)
 joining_next ps b w (Refreshing passed_on) v fits j = absurd (cc)
 
-joining_stays : (k : Key) (from at : Position) → is_joining from.progress ≡ true → Goes k from at → is_joining at.progress ≡ true
+pub joining_stays : (k : Key) (from at : Position) → is_joining from.progress ≡ true → Goes k from at → is_joining at.progress ≡ true
 joining_stays k from at j starts = j
 joining_stays k from at j (steps at' w b go fits g beside says) = joining_next k.shape b w at'.progress at'.view fits (joining_stays k from at' j go)
 joining_stays k from at j (looks at' w go fits g beside) =
     let r : Turn = turn_by k.shape false w at'.progress at'.view in
     let t : ℕ = place k.shape at'.progress at'.view in
     let u : View = view_after (parent_of k.shape t) (looking (meant at'.progress at'.view) t w) t w at'.view in
-    by_test (λ c. is_joining (cond {A = Position} c (record { progress = r.next; view = u; answer = r.answer }) (record { progress = at'.progress; view = u; answer = GoesOn })).progress ≡ true)
+    by_test (λ c. is_joining (cond {A = Position} c (record { progress = r.next; view = u; answer = r.answer; steps = looking (meant at'.progress at'.view) t w ∷ at'.steps }) (record { progress = at'.progress; view = u; answer = GoesOn; steps = looking (meant at'.progress at'.view) t w ∷ at'.steps })).progress ≡ true)
     (is_look r.kind)
     (λ e. joining_next k.shape false w at'.progress at'.view fits (joining_stays k from at' j go))
     (λ e. joining_stays k from at' j go)

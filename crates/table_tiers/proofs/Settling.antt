@@ -1,6 +1,6 @@
 -- What an arrival or a departure answers.
 use Rattle.std.specs.Prelude.{ℤ}
-use Rattle.std.proofs.Common.{◌≡◌, ◌≢◌, ℕ, ◌<◌, inl, inr, ⊎_elim, Bool, true, false, not, cond, List, refl, sym, ◌∙◌, ap, subst, arith, Option, Some, None}
+use Rattle.std.proofs.Common.{◌≡◌, ◌≢◌, ℕ, ◌<◌, inl, inr, ⊎_elim, Bool, true, false, not, cond, List, ◌∷◌, refl, sym, ◌∙◌, ap, subst, arith, Option, Some, None}
 use Rattle.phaser_word.specs.Fields.{Fields}
 use Rattle.phaser_word.specs.Phase.{shown_of}
 use Rattle.tier_steps.specs.Word.{next_phase_of}
@@ -31,7 +31,11 @@ use Rattle.table_tiers.specs.Holding.{Named, Holding, Looked, IsCrew}
 use Rattle.table_tiers.specs.Calls.{IsAt, IsErrand}
 use Rattle.table_tiers.specs.Next.{is_owing}
 use Rattle.table_tiers.specs.Arrives.{IsLooked, HasPassed, IsSoon, IsSpent, Arrives, Resumes, MaySettle, MayEnd, Settles, Ends}
+use Rattle.tier_steps.specs.declared.kind.Kind.{Kind}
+use Rattle.table_tiers.specs.Made.{is_quiet, is_upward, MadeOnly, HasLooked, HasStepped, LedBy, MadeAnswer, MadeAt}
+use Rattle.table_tiers.specs.Goes.{Position, Goes}
 use Rattle.table_tiers.proofs.Passing.{passes_count_once, passes_count_no_more, looked_fresh}
+use Rattle.table_tiers.proofs.Making.{made_more, made_none, made_along, stepped_more, steps_own}
 
 -- the first look of a call by a token with members
 looked_first : (ps : List ℕ) (w : Fields) (v : View) → Beside ps 0 w v → 0 < v.size → IsLooked v (looked w v)
@@ -131,18 +135,22 @@ not_true true e = not_both false e refl
 pub not_ended : {u w w' : Fields} → u ≡ w → w ≡ w' → u.ended ≡ false → w'.ended ≡ false
 not_ended {u} {w} {w'} is same e = ap (λ (z : Fields). z.ended) (sym (is ∙ same)) ∙ e
 
-soon_looked : {h h' : Holding} {tries : ℕ} → Looked Look 0 h h' → IsSoon tries h h'
+-- it is the first step that the call made
+pub first_made : {h h' : Holding} → Looked Look 0 h h' → HasLooked h.steps h'.steps
+first_made {h} {h'} took = subst (λ (ks : List Kind). HasLooked h.steps ks) (sym took.steps) (made_none is_quiet (Look ∷ h.steps))
+
+pub soon_looked : {h h' : Holding} {tries : ℕ} → Looked Look 0 h h' → IsSoon tries h h'
 soon_looked {h} {h'} {tries} took = record { tree = took.tree; tried = (let a = took.tried in omega arith) }
 
 pub first_ended : {h h' : Holding} {shown : ℤ} (own : Trip) (tries : ℕ) → IsCrew h → Looked Look 0 h h' → h'.word.ended ≡ true → shown ≡ shown_of h'.word.phase h'.word.ended
     → Arrives own h tries (arrived.Ended h' shown)
 first_ended {h} {h'} {shown} own tries crew took e is =
     let f = first h h' crew took in
-    (soon_looked took, f.looked, (h'.word.phase, f.ended e, is ∙ ap (shown_of h'.word.phase) e))
+    (soon_looked took, f.looked, (h'.word.phase, f.ended e, is ∙ ap (shown_of h'.word.phase) e), first_made took)
 
 pub first_arrived : {h h' : Holding} {phase : ℕ} (own : Trip) (tries : ℕ) → IsCrew h → Looked Look 0 h h' → h'.word.ended ≡ false → h'.view.arrived ≡ h'.view.size → phase ≡ h'.view.phase
     → Arrives own h tries (arrived.AlreadyArrived h' phase)
-first_arrived {h} {h'} {phase} own tries crew took going all is = (soon_looked took, (first h h' crew took).looked, first_fresh took going, all, is)
+first_arrived {h} {h'} {phase} own tries crew took going all is = (soon_looked took, (first h h' crew took).looked, first_fresh took going, all, is, first_made took)
 
 -- a call that may answer as it stands
 settles_at : (P C : View → Type 0) (own : Trip) (g : Going) → IsAt g.token.tree g → PassAt own P C g.token.view g.answer g.progress → ((u : View) → P u → 0 < u.size) → MaySettle g
@@ -259,6 +267,29 @@ module _ (n : Named) (own : Trip) (tries : ℕ) (h h' : Holding) (g : Going) (is
   passed_on : HasCounted own h'.view g.token.view → HasPassed own h.view g.token.view
   passed_on c = record { from = h'.view; looked = (first h h' crew took).looked; unled = (first_fresh took going).unled; counted = c }
 
+  goes_shown : (at : Position) → Goes n.key (position at0) at → PassAt own (IsSame h'.view) (HasCounted own h'.view) at.view at.answer at.progress
+  goes_shown at go = passes_count_once n.key own h'.view (position at0) at refl refl more (first_fresh took going) go
+
+  made : MadeAt (HasLooked h.steps) (HasStepped own h.steps) g.token.view.led g.answer g.progress g.token.steps
+  made = made_along n.key own (IsSame h'.view) (HasCounted own h'.view) (HasLooked h.steps) (HasStepped own h.steps)
+      (λ k ks such m. made_more is_quiet k (Look ∷ h.steps) ks such m) (stepped_more own h.steps) (steps_own own h.steps)
+      (position at0) goes_shown (position g) (first_made took) (ran.went.goes (position at0) starts)
+
+  made_over : (a : Played) → g.progress ≡ Idle → g.answer ≡ a → MadeAnswer (HasLooked h.steps) (HasStepped own h.steps) g.token.view.led a g.token.steps
+  made_over a e f = subst (λ (b : Played). MadeAnswer (HasLooked h.steps) (HasStepped own h.steps) g.token.view.led b g.token.steps) f
+      (subst (λ (p : Progress). MadeAt (HasLooked h.steps) (HasStepped own h.steps) g.token.view.led g.answer p g.token.steps) e made)
+
+  made_owed : (p : Progress) → is_owing p ≡ true → MadeAt (HasLooked h.steps) (HasStepped own h.steps) g.token.view.led g.answer p g.token.steps → HasStepped own h.steps g.token.steps
+  made_owed Idle o m = absurd (cc)
+  made_owed (Begun x) o m = absurd m
+  made_owed (ToSeek tier size) o m = absurd m
+  made_owed Settling o m = absurd m
+  made_owed (ToGiveBack b) o m = absurd m
+  made_owed (Passing trip) o m = absurd (cc)
+  made_owed (Owing trip) o m = m
+  made_owed (Due trip) o m = m
+  made_owed (Refreshing moved_on) o m = absurd m
+
   rests_now : g.progress ≡ Idle → g.token.view.errand ≡ Rest
   rests_now e = subst (λ (p : Progress). CallFits n.key.shape p g.token.view) e ran.went.at.fits
 
@@ -280,25 +311,26 @@ module _ (n : Named) (own : Trip) (tries : ℕ) (h h' : Holding) (g : Going) (is
   pub arrives : (r : Arrived) → Settles g r → Arrives own h tries r
   arrives (arrived.Done token phase led) s =
       let o = over (Done phase) s.1 s.2 in
-      subst (λ (z : Holding). IsSoon tries h z × HasPassed own h.view z.view × (z.view.errand ≡ Rest) × (phase ≡ z.view.phase) × (led ≡ z.view.led)) (sym s.0)
-      (soon, passed_on o.0, rests_now s.1, o.1, s.3)
+      subst (λ (z : Holding). IsSoon tries h z × HasPassed own h.view z.view × (z.view.errand ≡ Rest) × (phase ≡ z.view.phase) × (led ≡ z.view.led) × LedBy (HasStepped own h.steps) led z.steps) (sym s.0)
+      (soon, passed_on o.0, rests_now s.1, o.1, s.3, subst (λ (b : Bool). LedBy (HasStepped own h.steps) b g.token.steps) (sym s.3) (made_over (Done phase) s.1 s.2))
   arrives (arrived.Left token phase led) s =
       let o = over (Done phase) s.1 s.2 in
-      subst (λ (z : Holding). (own ≡ Departure) × IsSoon tries h z × HasPassed own h.view z.view × (z.view.errand ≡ Rest) × (phase ≡ z.view.phase) × (led ≡ z.view.led)) (sym s.0)
-      (left_is_departure own h'.view g.token.view more o.0 s.4, soon, passed_on o.0, rests_now s.1, o.1, s.3)
+      subst (λ (z : Holding). (own ≡ Departure) × IsSoon tries h z × HasPassed own h.view z.view × (z.view.errand ≡ Rest) × (phase ≡ z.view.phase) × (led ≡ z.view.led) × LedBy (HasStepped own h.steps) led z.steps) (sym s.0)
+      (left_is_departure own h'.view g.token.view more o.0 s.4, soon, passed_on o.0, rests_now s.1, o.1, s.3, subst (λ (b : Bool). LedBy (HasStepped own h.steps) b g.token.steps) (sym s.3) (made_over (Done phase) s.1 s.2))
   arrives (arrived.AlreadyArrived token phase) s = absurd s
   arrives (arrived.Ended token shown_as) s =
       let o = over (Ended shown_as) s.1 s.2 in
-      subst (λ (z : Holding). IsSoon tries h z × IsLooked h.view z.view × EndSeen z.view shown_as) (sym s.0)
-      (soon, looked_same h.view h'.view g.token.view (first h h' crew took).looked o.0, o.1)
+      subst (λ (z : Holding). IsSoon tries h z × IsLooked h.view z.view × EndSeen z.view shown_as × HasLooked h.steps z.steps) (sym s.0)
+      (soon, looked_same h.view h'.view g.token.view (first h h' crew took).looked o.0, o.1, made_over (Ended shown_as) s.1 s.2)
   arrives (arrived.Busy token) s =
       let p = subst (λ (q : Progress). PassAt own (IsSame h'.view) (HasCounted own h'.view) g.token.view g.answer q) s.1.1 shown in
-      subst (λ (z : Holding). IsSpent tries h z × IsLooked h.view z.view × IsFresh z.view) (sym s.0)
-      (spent (ap is_going s.1.1), looked_same h.view h'.view g.token.view (first h h' crew took).looked p.1, p.2)
+      let m = subst (λ (q : Progress). MadeAt (HasLooked h.steps) (HasStepped own h.steps) g.token.view.led g.answer q g.token.steps) s.1.1 made in
+      subst (λ (z : Holding). IsSpent tries h z × IsLooked h.view z.view × IsFresh z.view × HasLooked h.steps z.steps) (sym s.0)
+      (spent (ap is_going s.1.1), looked_same h.view h'.view g.token.view (first h h' crew took).looked p.1, p.2, m)
   arrives (arrived.Owing going) s =
       let both = owed_now g.progress s.1 shown in
-      subst (λ (z : Going). IsSpent tries h z.token × HasPassed own h.view z.token.view × (is_owing z.progress ≡ true) × (z.token.view.led ≡ false)) (sym s.0)
-      (spent both.1, passed_on both.0, s.1, both.2)
+      subst (λ (z : Going). IsSpent tries h z.token × HasPassed own h.view z.token.view × (is_owing z.progress ≡ true) × (z.token.view.led ≡ false) × HasStepped own h.steps z.token.steps) (sym s.0)
+      (spent both.1, passed_on both.0, s.1, both.2, made_owed g.progress s.1 made)
 
 -- a call that is resumed
 module _ (n : Named) (own : Trip) (tries : ℕ) (e g : Going) (is : e.token.tree ≡ n) (errand : IsErrand e) (ran : Ran n tries e g) where
@@ -330,6 +362,56 @@ module _ (n : Named) (own : Trip) (tries : ℕ) (e g : Going) (is : e.token.tree
   same_at (Due trip) a s = s.0
   same_at (Refreshing moved_on) a s = absurd s
 
+  goes_noted : (at : Position) → Goes n.key (position e) at → PassAt own (λ u. ⊥) (IsSame e.token.view) at.view at.answer at.progress
+  goes_noted at go = passes_count_no_more n.key own e.token.view (position e) at errand.owes refl errand.unled go
+
+  made_first : (p : Progress) (a : Played) → is_owing p ≡ true → MadeAt (λ ks. ⊥) (MadeOnly is_upward e.token.steps) e.token.view.led a p e.token.steps
+  made_first Idle a o = absurd (cc)
+  made_first (Begun c) a o = absurd (cc)
+  made_first (ToSeek tier size) a o = absurd (cc)
+  made_first Settling a o = absurd (cc)
+  made_first (ToGiveBack b) a o = absurd (cc)
+  made_first (Passing trip) a o = absurd (cc)
+  made_first (Owing trip) a o = made_none is_upward e.token.steps
+  made_first (Due trip) a o = made_none is_upward e.token.steps
+  made_first (Refreshing moved_on) a o = absurd (cc)
+
+  made_then : MadeAt (λ ks. ⊥) (MadeOnly is_upward e.token.steps) g.token.view.led g.answer g.progress g.token.steps
+  made_then = made_along n.key own (λ u. ⊥) (IsSame e.token.view) (λ ks. ⊥) (MadeOnly is_upward e.token.steps)
+      (λ k ks such m. m) (λ k ks such m. made_more is_upward k e.token.steps ks such m) (λ ks m. absurd m)
+      (position e) goes_noted (position g) (made_first e.progress e.answer errand.owes) (ran.went.goes (position e) starts)
+
+  made_last : (p : Progress) (a : Played) (led : Bool) → p ≡ Idle → PassAt own (λ u. ⊥) (IsSame e.token.view) g.token.view a p
+      → MadeAt (λ ks. ⊥) (MadeOnly is_upward e.token.steps) g.token.view.led a p g.token.steps → led ≡ g.token.view.led → LedBy (MadeOnly is_upward e.token.steps) led g.token.steps
+  made_last Idle (Done phase) led i s m is_led = subst (λ (b : Bool). LedBy (MadeOnly is_upward e.token.steps) b g.token.steps) (sym is_led) m
+  made_last Idle GoesOn led i s m is_led = absurd s
+  made_last Idle (Passed phase) led i s m is_led = absurd s
+  made_last Idle Waiting led i s m is_led = absurd s
+  made_last Idle (Held phase cause) led i s m is_led = absurd s
+  made_last Idle (Full count) led i s m is_led = absurd s
+  made_last Idle (AlreadyArrived phase) led i s m is_led = absurd s
+  made_last Idle (Ended shown_as) led i s m is_led = absurd s.0
+  made_last Idle (MustAdvance phase count) led i s m is_led = absurd s
+  made_last (Begun c) a led i s m is_led = absurd s
+  made_last (ToSeek tier size) a led i s m is_led = absurd s
+  made_last Settling a led i s m is_led = absurd s
+  made_last (ToGiveBack b) a led i s m is_led = absurd s
+  made_last (Passing trip) a led i s m is_led = absurd s.1
+  made_last (Owing trip) a led i s m is_led = absurd (cc)
+  made_last (Due trip) a led i s m is_led = absurd (cc)
+  made_last (Refreshing moved_on) a led i s m is_led = absurd s
+
+  made_owing : (p : Progress) (a : Played) → is_owing p ≡ true → MadeAt (λ ks. ⊥) (MadeOnly is_upward e.token.steps) g.token.view.led a p g.token.steps → MadeOnly is_upward e.token.steps g.token.steps
+  made_owing Idle a o m = absurd (cc)
+  made_owing (Begun c) a o m = absurd m
+  made_owing (ToSeek tier size) a o m = absurd m
+  made_owing Settling a o m = absurd m
+  made_owing (ToGiveBack b) a o m = absurd m
+  made_owing (Passing trip) a o m = absurd m
+  made_owing (Owing trip) a o m = m
+  made_owing (Due trip) a o m = m
+  made_owing (Refreshing moved_on) a o m = absurd m
+
   rests_then : g.progress ≡ Idle → g.token.view.errand ≡ Rest
   rests_then i = subst (λ (p : Progress). CallFits n.key.shape p g.token.view) i ran.went.at.fits
 
@@ -357,15 +439,16 @@ module _ (n : Named) (own : Trip) (tries : ℕ) (e g : Going) (is : e.token.tree
 
   pub resumes : (r : Resumed) → Ends g r → Resumes e tries r
   resumes (resumed.Done token phase led) s =
-      subst (λ (z : Holding). IsSoon tries e.token z × IsSame e.token.view z.view × (z.view.errand ≡ Rest) × (phase ≡ z.view.phase) × (led ≡ z.view.led)) (sym s.0)
-      (early, same_at g.progress g.answer noted, rests_then s.1, s.2, s.3)
+      subst (λ (z : Holding). IsSoon tries e.token z × IsSame e.token.view z.view × (z.view.errand ≡ Rest) × (phase ≡ z.view.phase) × (led ≡ z.view.led) × LedBy (MadeOnly is_upward e.token.steps) led z.steps) (sym s.0)
+      (early, same_at g.progress g.answer noted, rests_then s.1, s.2, s.3, made_last g.progress g.answer led s.1 noted made_then s.3)
   resumes (resumed.Left token phase led) s =
-      subst (λ (z : Holding). IsSoon tries e.token z × IsSame e.token.view z.view × (z.view.errand ≡ Rest) × (phase ≡ z.view.phase) × (led ≡ z.view.led)) (sym s.0)
-      (early, same_at g.progress g.answer noted, rests_then s.1, s.2, s.3)
+      subst (λ (z : Holding). IsSoon tries e.token z × IsSame e.token.view z.view × (z.view.errand ≡ Rest) × (phase ≡ z.view.phase) × (led ≡ z.view.led) × LedBy (MadeOnly is_upward e.token.steps) led z.steps) (sym s.0)
+      (early, same_at g.progress g.answer noted, rests_then s.1, s.2, s.3, made_last g.progress g.answer led s.1 noted made_then s.3)
   resumes (resumed.Owing going) s =
-      subst (λ (z : Going). IsSpent tries e.token z.token × IsSame e.token.view z.token.view × (is_owing z.progress ≡ true) × (z.token.view.led ≡ false)) (sym s.0) (
+      subst (λ (z : Going). IsSpent tries e.token z.token × IsSame e.token.view z.token.view × (is_owing z.progress ≡ true) × (z.token.view.led ≡ false) × MadeOnly is_upward e.token.steps z.token.steps) (sym s.0) (
         record { tree = ran.went.at.own ∙ sym is; tried = (let a = ran.went.tried in let c = ran.all (owing_goes g.progress s.1) in omega arith) },
         same_at g.progress g.answer noted,
         s.1,
         unled_at g.progress g.answer s.1 noted,
+        made_owing g.progress g.answer s.1 made_then,
       )

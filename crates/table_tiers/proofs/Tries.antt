@@ -1,5 +1,5 @@
 -- The steps of arrivals and departures, each with the kind that it has.
-use Rattle.std.proofs.Common.{◌≡◌, ℕ, ◌+◌, ◌≤◌, inl, inr, ⊎_elim, Bool, true, false, cond, List, refl, sym, ◌∙◌, ap, subst, arith}
+use Rattle.std.proofs.Common.{◌≡◌, ℕ, ◌+◌, ◌≤◌, inl, inr, ⊎_elim, Bool, true, false, cond, ◌∷◌, List, refl, sym, ◌∙◌, ap, subst, arith}
 use Rattle.phaser_word.specs.Fields.{Fields}
 use Rattle.tier_shape.specs.Parents.{parent_of}
 use Rattle.tier_steps.specs.Step.{owed, passed, view_after}
@@ -242,7 +242,7 @@ passing_stays k from at q (looks at' w go fits g beside) =
     let r : Turn = turn_by k.shape false w at'.progress at'.view in
     let t : ℕ = place k.shape at'.progress at'.view in
     let u : View = view_after (parent_of k.shape t) (looking (meant at'.progress at'.view) t w) t w at'.view in
-    by_test (λ c. OnlyPasses (cond {A = Position} c (record { progress = r.next; view = u; answer = r.answer }) (record { progress = at'.progress; view = u; answer = GoesOn })).progress)
+    by_test (λ c. OnlyPasses (cond {A = Position} c (record { progress = r.next; view = u; answer = r.answer; steps = looking (meant at'.progress at'.view) t w ∷ at'.steps }) (record { progress = at'.progress; view = u; answer = GoesOn; steps = looking (meant at'.progress at'.view) t w ∷ at'.steps })).progress)
     (is_look r.kind)
     (λ e. next_passes k.shape false w at'.progress at'.view fits (passing_stays k from at' q go g))
     (λ e. passing_stays k from at' q go)
@@ -285,7 +285,7 @@ owing_stays k from at q (looks at' w go fits g beside) =
     let r : Turn = turn_by k.shape false w at'.progress at'.view in
     let t : ℕ = place k.shape at'.progress at'.view in
     let u : View = view_after (parent_of k.shape t) (looking (meant at'.progress at'.view) t w) t w at'.view in
-    by_test (λ c. OnlyOwes (cond {A = Position} c (record { progress = r.next; view = u; answer = r.answer }) (record { progress = at'.progress; view = u; answer = GoesOn })).progress)
+    by_test (λ c. OnlyOwes (cond {A = Position} c (record { progress = r.next; view = u; answer = r.answer; steps = looking (meant at'.progress at'.view) t w ∷ at'.steps }) (record { progress = at'.progress; view = u; answer = GoesOn; steps = looking (meant at'.progress at'.view) t w ∷ at'.steps })).progress)
     (is_look r.kind)
     (λ e. next_owes k.shape false w at'.progress at'.view fits (owing_stays k from at' q go g))
     (λ e. owing_stays k from at' q go)

@@ -1,5 +1,5 @@
 -- What a poll answers.
-use Rattle.std.proofs.Common.{◌≡◌, ◌≢◌, ℕ, zero, suc, ◌<◌, ◌≤◌, ◌+◌, ⊎_elim, inl, Bool, true, false, ltb, eqb, not, ◌&&◌, List, length, refl, sym, ◌∙◌, ap, subst, arith}
+use Rattle.std.proofs.Common.{◌∷◌, ◌≡◌, ◌≢◌, ℕ, zero, suc, ◌<◌, ◌≤◌, ◌+◌, ⊎_elim, inl, Bool, true, false, ltb, eqb, not, ◌&&◌, List, length, refl, sym, ◌∙◌, ap, subst, arith}
 use Rattle.std.specs.Prelude.{MatchBool}
 use Rattle.std.proofs.lemmas.Bool.{ltb-true, eqb-true, eq-eqb}
 use Rattle.flat_phaser.proofs.Everyone.{both_true}
@@ -21,7 +21,9 @@ use Rattle.table_tiers.specs.Arrives.{IsLooked, IsSoon}
 use Rattle.table_tiers.specs.Polls.{Polls}
 use Rattle.table_tiers.specs.declared.polling.Polled.TheVariants.{Passed, Waiting, Here}
 use Rattle.table_tiers.specs.Passes.{IsFresh}
-use Rattle.table_tiers.proofs.Settling.{first, first_fresh}
+use Rattle.table_tiers.proofs.Settling.{first, first_fresh, first_made}
+use Rattle.table_tiers.specs.Made.{MadeOnly, HasLooked, is_quiet}
+use Rattle.table_tiers.proofs.Making.{made_none, made_more, made_then, glance_quiet}
 
 -- the tier of a token's members is one of the shape
 pub seat_within : {n : Named} {h : Holding} → h.tree ≡ n → IsCrew h → Beside h.tree.key.shape h.tier h.word h.view → h.view.tier < length n.key.shape
@@ -29,12 +31,15 @@ seat_within {n} {h} is crew b =
     subst (λ (z : Named). h.view.tier < length z.key.shape) is ((mine h.tree.key.shape b.words b.front b.back h.view b.tally).seated crew.some)
 
 module _ (h h' new : Holding) (crew : IsCrew h) (took : Looked Look 0 h h') (going : h'.word.ended ≡ false) (some : h'.view.arrived ≢ h'.view.size)
-    (tree : new.tree ≡ h'.tree) (same : new.view ≡ h'.view) (few : new.tried ≤ h'.tried + 1) where
+    (tree : new.tree ≡ h'.tree) (same : new.view ≡ h'.view) (few : new.tried ≤ h'.tried + 1) (more : MadeOnly is_quiet h'.steps new.steps) where
   soon : IsSoon 1 h new
   soon = record { tree = tree ∙ took.tree; tried = (let a = took.tried in omega arith) }
 
   looked_so : IsLooked h.view new.view
   looked_so = subst (λ (v : View). IsLooked h.view v) (sym same) (first h h' crew took).looked
+
+  made : HasLooked h.steps new.steps
+  made = made_then is_quiet (first_made took) more
 
   fresh : IsFresh new.view
   fresh = subst IsFresh (sym same) (first_fresh took going)
@@ -43,7 +48,7 @@ module _ (h h' new : Holding) (crew : IsCrew h) (took : Looked Look 0 h h') (goi
   polls_here phase is =
       let b = took.after in
       let fits = (mine h.tree.key.shape b.words b.front b.back h'.view b.tally).within in
-      (soon, looked_so, fresh, subst (λ (v : View). v.arrived < v.size) (sym same) (omega arith), is ∙ ap (λ (v : View). v.phase) (sym same))
+      (soon, looked_so, fresh, subst (λ (v : View). v.arrived < v.size) (sym same) (omega arith), is ∙ ap (λ (v : View). v.phase) (sym same), made)
 
   pub polls_passed : (phase : ℕ) → phase ≡ h'.view.phase → h'.view.phase ≢ h.view.phase → Polls h new (Passed phase)
   polls_passed phase is other =
@@ -59,6 +64,7 @@ module _ (h h' new : Holding) (crew : IsCrew h) (took : Looked Look 0 h h') (goi
               nobody = ap (λ (v : View). v.arrived) same ∙ z.2;
             }) l.phase,
         is ∙ ap (λ (v : View). v.phase) (sym same),
+        made,
       )
 
 -- A look at a tier below the root leaves the view, and so does a refresh there, whether it is taken or lost.
@@ -100,4 +106,16 @@ left_some {h} {h'} took some =
     omega arith
 
 pub polls_waiting : (h h' : Holding) → IsCrew h → Looked Look 0 h h' → h'.word.ended ≡ false → h'.view.arrived ≡ h'.view.size → Polls h h' Waiting
-polls_waiting h h' crew took going all = (record { tree = took.tree; tried = (let a = took.tried in omega arith) }, (first h h' crew took).looked, first_fresh took going, all)
+polls_waiting h h' crew took going all = (record { tree = took.tree; tried = (let a = took.tried in omega arith) }, (first h h' crew took).looked, first_fresh took going, all, first_made took)
+
+-- what is made of a look, or a refresh, at the members' own tier
+glance_made : (t : ℕ) (old new : List Kind) → new ≡ glance t ∷ old → MadeOnly is_quiet old new
+glance_made t old new is = subst (MadeOnly is_quiet old) (sym is) (made_more is_quiet (glance t) old old (glance_quiet t) (made_none is_quiet old))
+
+pub look_made_one : {h h' : Holding} {t : ℕ} → Looked Look t h h' → MadeOnly is_quiet h.steps h'.steps
+look_made_one {h} {h'} {t} took = glance_made t h.steps h'.steps took.steps
+
+pub refresh_made : (b : Bool) {h h' : Holding} (h'' : Holding) {t : ℕ} → Looked Look t h h' → MatchBool b (Won Refresh h' h'') (Lost Refresh h' h'') → MadeOnly is_quiet h.steps h''.steps
+refresh_made true {h} {h'} h'' {t} took won =
+    made_then is_quiet (look_made_one took) (subst (MadeOnly is_quiet h'.steps) (sym won.steps) (made_more is_quiet Refresh h'.steps h'.steps refl (made_none is_quiet h'.steps)))
+refresh_made false {h} {h'} h'' {t} took lost = made_then is_quiet (look_made_one took) (glance_made h'.tier h'.steps h''.steps lost.took.steps)

@@ -1,5 +1,5 @@
 -- What arrivals and departures answer, by the view of their token (own; the calls are those of Java SE 21, `Phaser`).
-use Rattle.std.specs.Prelude.{true, false, None, ◌≡◌, ℕ, ◌+◌, ◌<◌, ◌≤◌, ◌⊎◌}
+use Rattle.std.specs.Prelude.{true, false, ◌≡◌, ℕ, ◌+◌, ◌<◌, ◌≤◌, ◌⊎◌}
 use Rattle.tier_steps.specs.Word.{next_phase_of}
 use Rattle.tier_steps.specs.declared.view.View.{View}
 use Rattle.tier_steps.specs.declared.view.Errand.TheVariants.{Rest}
@@ -9,6 +9,7 @@ use Rattle.tier_core.specs.declared.call.Progress.TheVariants as progress
 use Rattle.tier_core.specs.declared.call.Played.TheVariants as played
 use Rattle.table_tiers.specs.declared.going.Going.{Going}
 use Rattle.table_tiers.specs.Holding.{Holding}
+use Rattle.table_tiers.specs.Made.{is_upward, MadeOnly, HasLooked, HasStepped, LedBy}
 use Rattle.table_tiers.specs.Calls.{IsAt}
 use Rattle.table_tiers.specs.Next.{is_owing}
 use Rattle.table_tiers.specs.Passes.{IsSame, HasCounted, EndSeen, IsFresh, PassAt}
@@ -44,11 +45,15 @@ pub record IsSpent (tries : ℕ) (old new : Holding) : Type 0 where
 -- climb or the advance, and has led none. Busy and AlreadyArrived have seen no end.
 abbrev pub Arrives : Trip → Holding → ℕ → Arrived → Type 0
 Arrives own h tries (Done crew phase led) = IsSoon tries h crew × HasPassed own h.view crew.view × (crew.view.errand ≡ Rest) × (phase ≡ crew.view.phase) × (led ≡ crew.view.led)
+    × LedBy (HasStepped own h.steps) led crew.steps
 Arrives own h tries (Left door phase led) = (own ≡ Departure) × IsSoon tries h door × HasPassed own h.view door.view × (door.view.errand ≡ Rest) × (phase ≡ door.view.phase) × (led ≡ door.view.led)
+    × LedBy (HasStepped own h.steps) led door.steps
 Arrives own h tries (AlreadyArrived crew phase) = IsSoon tries h crew × IsLooked h.view crew.view × IsFresh crew.view × (crew.view.arrived ≡ crew.view.size) × (phase ≡ crew.view.phase)
-Arrives own h tries (Ended crew shown) = IsSoon tries h crew × IsLooked h.view crew.view × EndSeen crew.view shown
-Arrives own h tries (Busy crew) = IsSpent tries h crew × IsLooked h.view crew.view × IsFresh crew.view
+    × HasLooked h.steps crew.steps
+Arrives own h tries (Ended crew shown) = IsSoon tries h crew × IsLooked h.view crew.view × EndSeen crew.view shown × HasLooked h.steps crew.steps
+Arrives own h tries (Busy crew) = IsSpent tries h crew × IsLooked h.view crew.view × IsFresh crew.view × HasLooked h.steps crew.steps
 Arrives own h tries (Owing errand) = IsSpent tries h errand.token × HasPassed own h.view errand.token.view × (is_owing errand.progress ≡ true) × (errand.token.view.led ≡ false)
+    × HasStepped own h.steps errand.token.steps
 
 -- it tells that the tree has ended
 abbrev pub HasEnded : Arrived → Type 0
@@ -62,8 +67,11 @@ HasEnded (Owing errand) = ⊥
 -- No member is counted any more.
 abbrev pub Resumes : Going → ℕ → Resumed → Type 0
 Resumes g tries (resumed.Done crew phase led) = IsSoon tries g.token crew × IsSame g.token.view crew.view × (crew.view.errand ≡ Rest) × (phase ≡ crew.view.phase) × (led ≡ crew.view.led)
+    × LedBy (MadeOnly is_upward g.token.steps) led crew.steps
 Resumes g tries (resumed.Left door phase led) = IsSoon tries g.token door × IsSame g.token.view door.view × (door.view.errand ≡ Rest) × (phase ≡ door.view.phase) × (led ≡ door.view.led)
+    × LedBy (MadeOnly is_upward g.token.steps) led door.steps
 Resumes g tries (resumed.Owing errand) = IsSpent tries g.token errand.token × IsSame g.token.view errand.token.view × (is_owing errand.progress ≡ true) × (errand.token.view.led ≡ false)
+    × MadeOnly is_upward g.token.steps errand.token.steps
 
 -- a call that arrives or leaves, by a token with members until one has left
 pub record MaySettle (g : Going) : Type 0 where

@@ -1,7 +1,8 @@
 -- How a call goes on at the table: looks and steps of its token, each the next one by the word that was found (own).
-use Rattle.std.specs.Prelude.{◌≡◌, ℕ, ◌+◌, ◌≤◌, ◌⊎◌, ◌==◌, Bool, true, false, if◌then◌else◌, List}
+use Rattle.std.specs.Prelude.{◌≡◌, ℕ, ◌+◌, ◌≤◌, ◌⊎◌, ◌==◌, Bool, true, false, if◌then◌else◌, List, ◌∷◌}
 use Rattle.phaser_word.specs.Fields.{Fields}
 use Rattle.tier_shape.specs.Parents.{parent_of}
+use Rattle.tier_steps.specs.declared.kind.Kind.{Kind}
 use Rattle.tier_steps.specs.declared.view.View.{View}
 use Rattle.tier_steps.specs.Step.{view_after}
 use Rattle.tier_core.specs.declared.call.Played.{Played}
@@ -21,29 +22,31 @@ use Rattle.table_tiers.specs.Calls.{IsAt}
 use Rattle.table_tiers.specs.declared.going.Going.{Going}
 use Rattle.table_tiers.specs.Next.{meant, is_look}
 
--- how far a call has come, what its token knows, and the answer of its last step
+-- how far a call has come, what its token knows, the answer of its last step, and the kinds of its token's steps
 pub record Position : Type 0 where
   pub progress : Progress
   pub view : View
   pub answer : Played
+  pub steps : List Kind
 
 abbrev pub position : Going → Position
-position g = record { progress = g.progress; view = g.token.view; answer = g.answer }
+position g = record { progress = g.progress; view = g.token.view; answer = g.answer; steps = g.token.steps }
 
 -- a step of the call that found this word
 abbrev pub after_step : List ℕ → Bool → Fields → Position → Position
 after_step parents ends w at =
     let r : Turn = turn_by parents ends w at.progress at.view in
     let t : ℕ = place parents at.progress at.view in
-    record { progress = r.next; view = view_after (parent_of parents t) r.kind t w at.view; answer = r.answer }
+    record { progress = r.next; view = view_after (parent_of parents t) r.kind t w at.view; answer = r.answer; steps = r.kind ∷ at.steps }
 
 -- A look that found this word is the next step where that is a look, and else it changes nothing of the call.
 abbrev pub after_look : List ℕ → Fields → Position → Position
 after_look parents w at =
     let r : Turn = turn_by parents false w at.progress at.view in
     let t : ℕ = place parents at.progress at.view in
-    let v : View = view_after (parent_of parents t) (looking (meant at.progress at.view) t w) t w at.view in
-    if is_look r.kind then record { progress = r.next; view = v; answer = r.answer } else record { progress = at.progress; view = v; answer = GoesOn }
+    let kind : Kind = looking (meant at.progress at.view) t w in
+    let v : View = view_after (parent_of parents t) kind t w at.view in
+    if is_look r.kind then record { progress = r.next; view = v; answer = r.answer; steps = kind ∷ at.steps } else record { progress = at.progress; view = v; answer = GoesOn; steps = kind ∷ at.steps }
 
 pub data Goes (k : Key) (from : Position) : Position → Type 0 where
   starts : Goes k from from

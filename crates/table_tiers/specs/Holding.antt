@@ -21,13 +21,14 @@ pub record Named : Type 0 where
   pub id : TableId
   pub key : Key
 
--- a token: its tree, its view, the tier and word of its last step as that step left it, and its tries so far
+-- a token: its tree, its view, the tier and word of its last step as that step left it, its tries so far, and the kinds of its steps so far, the last first
 pub record Holding : Type 0 where
   pub tree : Named
   pub view : View
   pub tier : ℕ
   pub word : Fields
   pub tried : ℕ
+  pub steps : List Kind
 
 -- the shape of a token's tree
 abbrev pub shape_of : Holding → List ℕ
@@ -45,6 +46,7 @@ no_sight = record {
   tier = 0;
   word = empty_word 0;
   tried = 0;
+  steps = [];
 }
 
 abbrev pub sight_of : Me Kind (List Sight) → Sight
@@ -62,6 +64,7 @@ pub record IsSeated (me : Me Kind (List Sight)) (v : View) (t : ℕ) (w : Fields
 pub record Took (kind : Kind) (t : ℕ) (w : Fields) (tries : ℕ) (old new : Holding) : Type 0 where
   pub tree : new.tree ≡ old.tree
   pub tried : new.tried ≡ old.tried + tries
+  pub steps : new.steps ≡ kind ∷ old.steps
   pub tier : new.tier ≡ t
   pub word : new.word ≡ word_after kind t w old.view
   pub view : new.view ≡ view_after (parent_of (shape_of old) t) kind t w old.view

@@ -1,11 +1,12 @@
 -- What a registration at a crew's own tier answers (own).
-use Rattle.std.specs.Prelude.{◌≡◌, ℕ, ◌+◌, ◌<◌, ◌≤◌, false, None, List}
+use Rattle.std.specs.Prelude.{◌≡◌, ℕ, ◌+◌, ◌<◌, ◌≤◌, false, List}
 use Rattle.phaser_word.specs.Fields.{Fields}
 use Rattle.tier_steps.specs.declared.view.View.{View}
 use Rattle.tier_steps.specs.declared.view.Errand.TheVariants.{Rest}
 use Rattle.tier_core.specs.declared.call.Played.TheVariants as played
 use Rattle.table_tiers.specs.Holding.{Holding, shape_of, IsCrew}
 use Rattle.table_tiers.specs.Passes.{IsSame}
+use Rattle.table_tiers.specs.Made.{MadeOnly, is_quiet, is_entering}
 use Rattle.table_tiers.specs.Joins.{IsJoined, Refusal}
 use Rattle.table_tiers.specs.Passes.{EndSeen, IsFresh}
 use Rattle.table_tiers.specs.Arrives.{IsSoon, IsSpent}
@@ -15,12 +16,15 @@ use Rattle.table_tiers.specs.declared.beside.Met.TheVariants.{Answer, Late}
 use Rattle.table_tiers.specs.declared.joining.Registered.{Registered}
 use Rattle.table_tiers.specs.declared.joining.Registered.TheVariants.{Joined, Held, Full, Ended, Busy, Owing}
 
--- the same two tokens, with at most so many tries more between them; the crew's members are as they were
+-- The same two tokens, with at most so many tries more between them; the crew's members are as they were. The crew has looked and refreshed, the door has
+-- made steps of a registration.
 pub record AreSoon (tries : ℕ) (old new door after : Holding) : Type 0 where
   pub crew_tree : new.tree ≡ old.tree
   pub door_tree : after.tree ≡ door.tree
   pub crew : IsSame old.view new.view
   pub tried : new.tried + after.tried ≤ old.tried + door.tried + tries
+  pub crew_made : MadeOnly is_quiet old.steps new.steps
+  pub door_made : MadeOnly is_entering door.steps after.steps
 
 -- with just so many tries more
 pub record AreSpent (tries : ℕ) (old new door after : Holding) : Type 0 where
@@ -28,6 +32,8 @@ pub record AreSpent (tries : ℕ) (old new door after : Holding) : Type 0 where
   pub door_tree : after.tree ≡ door.tree
   pub crew : IsSame old.view new.view
   pub tried : new.tried + after.tried ≡ old.tried + door.tried + tries
+  pub crew_made : MadeOnly is_quiet old.steps new.steps
+  pub door_made : MadeOnly is_entering door.steps after.steps
 
 -- There is no room: the word of the tier itself was noted, whose parties with those members would be too many.
 pub record IsFullHere (parents : List ℕ) (tier size : ℕ) (v : View) (count : ℕ) : Type 0 where
@@ -59,6 +65,7 @@ pub record KeepsCrew (tries : ℕ) (old new : Holding) : Type 0 where
   pub rests : IsCrew new
   pub tier : new.tier ≡ old.view.tier
   pub tried : new.tried ≡ old.tried + tries
+  pub made : MadeOnly is_quiet old.steps new.steps
 
 -- a tier at which a party is unarrived, unless it is a root that has ended
 abbrev pub Waits : Fields → Type 0
@@ -69,12 +76,13 @@ pub record IsStill (tries : ℕ) (door after : Holding) : Type 0 where
   pub spent : IsSpent tries door after
   pub looked : IsLookedAround door.view after.view
   pub fresh : IsFresh after.view
+  pub made : MadeOnly is_entering door.steps after.steps
 
 -- what the door's part of such a try answers
 abbrev pub AnswersMeeting : Holding → ℕ → ℕ → Registered → Type 0
-AnswersMeeting door tier size (Joined crew phase) = IsSpent 1 door crew × IsJoined tier size crew.view × (crew.view.errand ≡ Rest) × (phase ≡ crew.view.phase)
-AnswersMeeting door tier size (Full after count) = IsSpent 0 door after × IsFullHere (shape_of door) tier size after.view count
-AnswersMeeting door tier size (Ended after shown) = IsSoon 1 door after × EndSeen after.view shown
+AnswersMeeting door tier size (Joined crew phase) = IsSpent 1 door crew × IsJoined tier size crew.view × (crew.view.errand ≡ Rest) × (phase ≡ crew.view.phase) × MadeOnly is_entering door.steps crew.steps
+AnswersMeeting door tier size (Full after count) = IsSpent 0 door after × IsFullHere (shape_of door) tier size after.view count × MadeOnly is_entering door.steps after.steps
+AnswersMeeting door tier size (Ended after shown) = IsSoon 1 door after × EndSeen after.view shown × MadeOnly is_entering door.steps after.steps
 AnswersMeeting door tier size (Busy after) = IsStill 1 door after
 AnswersMeeting door tier size (Held after phase cause) = ⊥
 AnswersMeeting door tier size (Owing opening) = ⊥

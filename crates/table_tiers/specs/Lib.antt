@@ -1,6 +1,7 @@
 pub mod Holding
 pub mod Calls
 pub mod Next
+pub mod Made
 pub mod Goes
 pub mod Passes
 pub mod Arrives

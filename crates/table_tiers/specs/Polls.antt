@@ -3,6 +3,7 @@ use Rattle.std.specs.Prelude.{◌≡◌, ◌<◌}
 use Rattle.tier_steps.specs.Word.{next_phase_of}
 use Rattle.table_tiers.specs.Holding.{Holding}
 use Rattle.table_tiers.specs.Passes.{EndSeen, IsFresh}
+use Rattle.table_tiers.specs.Made.{HasLooked}
 use Rattle.table_tiers.specs.Arrives.{IsLooked, IsSoon}
 use Rattle.table_tiers.specs.declared.polling.Polled.{Polled}
 use Rattle.table_tiers.specs.declared.polling.Polled.TheVariants.{Passed, Waiting, Here, Ended}
@@ -15,10 +16,10 @@ pub record HasPassedOn (old new : Holding) : Type 0 where
 
 -- All but Ended come of a look that has cleared the mark of an advance, and has seen no end.
 abbrev pub Polls : Holding → Holding → Polled → Type 0
-Polls old new (Passed phase) = IsSoon 1 old new × IsLooked old.view new.view × IsFresh new.view × HasPassedOn old new × (phase ≡ new.view.phase)
-Polls old new Waiting = IsSoon 1 old new × IsLooked old.view new.view × IsFresh new.view × (new.view.arrived ≡ new.view.size)
-Polls old new (Here phase) = IsSoon 1 old new × IsLooked old.view new.view × IsFresh new.view × (new.view.arrived < new.view.size) × (phase ≡ new.view.phase)
-Polls old new (Ended shown) = IsSoon 1 old new × IsLooked old.view new.view × EndSeen new.view shown
+Polls old new (Passed phase) = IsSoon 1 old new × IsLooked old.view new.view × IsFresh new.view × HasPassedOn old new × (phase ≡ new.view.phase) × HasLooked old.steps new.steps
+Polls old new Waiting = IsSoon 1 old new × IsLooked old.view new.view × IsFresh new.view × (new.view.arrived ≡ new.view.size) × HasLooked old.steps new.steps
+Polls old new (Here phase) = IsSoon 1 old new × IsLooked old.view new.view × IsFresh new.view × (new.view.arrived < new.view.size) × (phase ≡ new.view.phase) × HasLooked old.steps new.steps
+Polls old new (Ended shown) = IsSoon 1 old new × IsLooked old.view new.view × EndSeen new.view shown × HasLooked old.steps new.steps
 
 -- it tells that the tree has ended
 abbrev pub HasEnded : Polled → Type 0

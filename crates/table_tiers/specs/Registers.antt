@@ -38,6 +38,22 @@ Registers h tier size tries (Ended door shown) = IsSoon tries h door × Refusal 
 Registers h tier size tries (Busy door) = IsSpent tries h door × IsLookedAround h.view door.view × IsFresh door.view
 Registers h tier size tries (Owing opening) = IsSpent tries h opening.token × IsFor tier size opening
 
+-- the token that is handed back
+abbrev pub token_of : Registered → Holding
+token_of (Joined crew phase) = crew
+token_of (Held door phase cause) = door
+token_of (Full door count) = door
+token_of (Ended door shown) = door
+token_of (Busy door) = door
+token_of (Owing opening) = opening.token
+
+abbrev pub opened_of : Opened → Holding
+opened_of (opened.Joined crew phase) = crew
+opened_of (opened.Held door phase cause) = door
+opened_of (opened.Full door count) = door
+opened_of (opened.Ended door shown) = door
+opened_of (opened.Owing opening) = opening.token
+
 -- it tells that the tree has ended
 abbrev pub HasEnded : Registered → Type 0
 HasEnded (Ended door shown) = Unit {0}

@@ -1,7 +1,7 @@
 //! The end by force.
 
 ghost use Rattle.std.specs.Prelude.{◌≡◌, ℕ, None, Some};
-ghost use Rattle.table_tiers.specs.Forces.{Forces, ForcesOnce, HasEnded, IsBefore};
+ghost use Rattle.table_tiers.specs.Forces.{Forces, ForcedBy, ForcesOnce, HasEnded, IsBefore};
 
 use crate::tiers::Tiers;
 use crate::tokens::Door;
@@ -22,16 +22,16 @@ impl Tiers {
         requires own { door.old.tree ≡ self.now }
         requires root { IsBefore door.old }
         requires unseen { door.old.view.end_seen ≡ None }
-        ensures { ForcesOnce door.old door.new result }
+        ensures answer { ForcesOnce door.old door.new result }
+        ensures made { ForcedBy result door.old.steps door.new.steps }
     {
         let token = &mut door.token;
         self.attempt(token, Kind::Force);
         let word = token.word();
         if word.ended {
-            Forced::Ended(word.shown())
-        } else {
-            Forced::Busy
+            return Forced::Ended(word.shown());
         }
+        Forced::Busy
     }
 
     /// So many tries at most to end the tree.
@@ -41,6 +41,7 @@ impl Tiers {
         requires unseen { door.old.view.end_seen ≡ None }
         ensures tree { door.new.tree ≡ door.old.tree }
         ensures answer { Forces door.old tries door.new result }
+        ensures made { ForcedBy result door.old.steps door.new.steps }
     {
         for _ in 0..tries {
             let forced = self.force_once(door);
@@ -56,6 +57,7 @@ impl Tiers {
         requires own { door.old.tree ≡ self.now }
         ensures tree { door.new.tree ≡ door.old.tree }
         ensures answer { Forces door.old tries door.new result }
+        ensures made { ForcedBy result door.old.steps door.new.steps }
         ensures ended { (phase : ℕ) → door.old.view.end_seen ≡ Some phase → HasEnded result }
     {
         let token = &mut door.token;

@@ -1,7 +1,8 @@
 //! Registrations.
 
 ghost use Rattle.std.specs.Prelude.{◌≡◌, ◌<◌, ◌≤◌, ℕ, Some, length};
-ghost use Rattle.table_tiers.specs.Registers.{Registers, Opens, HasEnded, IsEndedOrOwed, NoBusy, MayAnswer, AnswersJoin, SameAnswer};
+ghost use Rattle.table_tiers.specs.Made.{MadeOnly, is_entering};
+ghost use Rattle.table_tiers.specs.Registers.{token_of, opened_of, Registers, Opens, HasEnded, IsEndedOrOwed, NoBusy, MayAnswer, AnswersJoin, SameAnswer};
 
 use crate::going::Going;
 use crate::next::claims;
@@ -92,6 +93,7 @@ impl Tiers {
         requires tier { tier < length self.now.key.shape }
         requires size { (0 < size) × (size ≤ 65535) }
         ensures answer { Registers door tier size tries result }
+        ensures made { MadeOnly is_entering door.steps (token_of result).steps }
         ensures ended { (phase : ℕ) → door.view.end_seen ≡ Some phase → HasEnded result }
     {
         let Door { mut token } = door;
@@ -112,6 +114,7 @@ impl Tiers {
     pub fn open_on(&self, opening: Opening, tries: u32) -> Opened
         requires own { opening.token.tree ≡ self.now }
         ensures answer { Opens opening tries result }
+        ensures made { MadeOnly is_entering opening.token.steps (opened_of result).steps }
         ensures ended { (phase : ℕ) → opening.token.view.end_seen ≡ Some phase → opening.token.view.size ≡ 0 → IsEndedOrOwed result }
     {
         let Opening { going } = opening;

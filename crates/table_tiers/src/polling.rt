@@ -3,6 +3,7 @@
 ghost use Rattle.std.specs.Prelude.{◌≡◌, ◌<◌, ◌≤◌, ◌+◌, ℕ, Some};
 ghost use Rattle.table_rule.specs.Tell.{Beside};
 ghost use Rattle.table_tiers.specs.Holding.{IsCrew, shape_of};
+ghost use Rattle.table_tiers.specs.Made.{MadeOnly, is_quiet};
 ghost use Rattle.table_tiers.specs.Polls.{Polls, HasEnded};
 
 use crate::seated::Seated;
@@ -34,6 +35,7 @@ impl Tiers {
         ensures tree { token.new.tree ≡ token.old.tree }
         ensures view { token.new.view ≡ token.old.view }
         ensures tried { token.new.tried ≤ token.old.tried + 1 }
+        ensures made { MadeOnly is_quiet token.old.steps token.new.steps }
     {
         let view = token.view();
         if view.tier == 0 {

@@ -22,7 +22,7 @@ impl Model for Seated {
 
     ghost Value = { Holding };
 
-    ghost view = { λ t. record { tree = record { id = t.seat.table_id; key = (sight_of t.seat.me).key }; view = t.view; tier = t.tier; word = t.word; tried = (sight_of t.seat.me).tried } };
+    ghost view = { λ t. record { tree = record { id = t.seat.table_id; key = (sight_of t.seat.me).key }; view = t.view; tier = t.tier; word = t.word; tried = (sight_of t.seat.me).tried; steps = (sight_of t.seat.me).steps } };
 
     ghost invariant = { λ t. IsSeated t.seat.me t.view t.tier t.word };
 }

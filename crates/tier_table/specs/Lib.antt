@@ -1,6 +1,7 @@
 pub use Rattle.table_tiers.specs.Holding
 pub use Rattle.table_tiers.specs.Calls
 pub use Rattle.table_tiers.specs.Next
+pub use Rattle.table_tiers.specs.Made
 pub use Rattle.table_tiers.specs.Goes
 pub use Rattle.table_tiers.specs.Passes
 pub use Rattle.table_tiers.specs.Arrives

@@ -8,12 +8,13 @@ ghost use Rattle.tier_steps.specs.declared.view.Trip.TheVariants.{Arrival, Depar
 ghost use Rattle.tier_table.specs.Ruled.{IsNew, IsSplit};
 ghost use Rattle.table_tiers.specs.Arrives.{Arrives, Resumes};
 ghost use Rattle.table_tiers.specs.Arrives as arrives;
-ghost use Rattle.table_tiers.specs.Registers.{Registers, Opens};
+ghost use Rattle.table_tiers.specs.Made.{MadeOnly, is_entering};
+ghost use Rattle.table_tiers.specs.Registers.{token_of, opened_of, Registers, Opens};
 ghost use Rattle.table_tiers.specs.Registers as registers;
 ghost use Rattle.table_tiers.specs.JoinsHere.{JoinsHere};
 ghost use Rattle.table_tiers.specs.Polls.{Polls};
 ghost use Rattle.table_tiers.specs.Polls as polls;
-ghost use Rattle.table_tiers.specs.Forces.{Forces};
+ghost use Rattle.table_tiers.specs.Forces.{Forces, ForcedBy};
 ghost use Rattle.table_tiers.specs.Forces as forces;
 
 use crate::closing::{Closed, Unclosed};
@@ -103,6 +104,7 @@ impl<F: Fn(u32, u32) -> bool> Tree<F> {
         requires tier { tier < length self.now.tree.key.shape }
         requires members { (0 < n) × (n ≤ 65535) }
         ensures answer { Registers door tier n tries result }
+        ensures made { MadeOnly is_entering door.steps (token_of result).steps }
         ensures ended { (phase : ℕ) → door.view.end_seen ≡ Some phase → registers.HasEnded result }
     {
         self.tiers.join(door, tier, n, tries)
@@ -113,6 +115,7 @@ impl<F: Fn(u32, u32) -> bool> Tree<F> {
     pub fn resume_opening(&self, opening: Opening, tries: u32) -> Opened
         requires own { opening.token.tree ≡ self.now.tree }
         ensures answer { Opens opening tries result }
+        ensures made { MadeOnly is_entering opening.token.steps (opened_of result).steps }
         ensures ended { (phase : ℕ) → opening.token.view.end_seen ≡ Some phase → opening.token.view.size ≡ 0 → registers.IsEndedOrOwed result }
     {
         self.tiers.open_on(opening, tries)
@@ -175,6 +178,7 @@ impl<F: Fn(u32, u32) -> bool> Tree<F> {
         requires own { door.old.tree ≡ self.now.tree }
         ensures tree { door.new.tree ≡ door.old.tree }
         ensures answer { Forces door.old tries door.new result }
+        ensures made { ForcedBy result door.old.steps door.new.steps }
         ensures ended { (phase : ℕ) → door.old.view.end_seen ≡ Some phase → forces.HasEnded result }
     {
         self.tiers.force(door, tries)

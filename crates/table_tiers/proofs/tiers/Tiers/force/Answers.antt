@@ -2,6 +2,7 @@ use Rattle.std.proofs.Common.{ap, sym, ◌∙◌}
 use Rattle.table_tiers.specs.Holding.{Holding}
 use Rattle.table_tiers.proofs.Seating.{took_by}
 use Rattle.table_tiers.proofs.Settling.{unseen, unseen_at, seen_none, first_fresh, not_ended, not_true}
+use Rattle.table_tiers.proofs.Breaking.{looked_glance, looked_forced, forced_on}
 use Rattle.table_tiers.proofs.tiers.Tiers.force.Goals as goal
 
 pub returns-then-not-before-clause-ended : goal.returns-then-not-before-clause-ended
@@ -18,3 +19,9 @@ force_on-requires-clause-unseen c =
 
 pub force_on-requires-2-clause-unseen : goal.force_on-requires-2-clause-unseen
 force_on-requires-2-clause-unseen c = (first_fresh c.look_at_root.ensures (not_ended c.word.view_is c.word-word.ensures.word c.if-word.false)).unseen
+
+pub returns-then-word-clause-made : goal.returns-then-word-clause-made
+returns-then-word-clause-made c = looked_forced (took_by c.door.view_is c.look_at_root.ensures)
+
+pub returns-clause-made : goal.returns-clause-made
+returns-clause-made c = forced_on c.force_on-2.result c.force_on-2.new.door.steps (looked_glance (took_by c.door.view_is c.look_at_root.ensures)) c.force_on-2.ensures.made

@@ -4,6 +4,7 @@ use Rattle.table_tiers.specs.Openings.{IsOpening}
 use Rattle.table_tiers.specs.Goes.{Ran}
 use Rattle.table_tiers.proofs.Ending.{opening_ends}
 use Rattle.table_tiers.proofs.Coming.{open_may_answer, never_busy, opens}
+use Rattle.table_tiers.proofs.Entering.{ran_enters, opened_enters, opening_joins}
 use Rattle.table_tiers.proofs.tiers.Tiers.open_on.Goals as goal
 
 pub answer_join-requires : goal.answer_join-requires
@@ -27,3 +28,9 @@ returns-clause-ended c = λ p e none.
     opening_ends c.args.self.now c.args.tries c.args.opening c.go_joining.result c.requires.own (subst IsOpening c.opening.view_is c.opening.invariant)
     (subst (λ (o : Going). Ran c.args.self.now c.args.tries o c.go_joining.result) c.opening.view_is c.go_joining.ensures) p e none c.answer_join.result c.answer_opening.result c.answer_join.ensures
     c.answer_opening.ensures
+
+pub returns-clause-made : goal.returns-clause-made
+returns-clause-made c =
+    opened_enters c.args.opening.token.steps c.go_joining.result c.answer_join.result c.answer_opening.result c.answer_join.ensures c.answer_opening.ensures
+    (ran_enters {o = c.args.opening} (opening_joins c.args.opening (subst IsOpening c.opening.view_is c.opening.invariant))
+    (subst (λ (o : Going). Ran c.args.self.now c.args.tries o c.go_joining.result) c.opening.view_is c.go_joining.ensures))
