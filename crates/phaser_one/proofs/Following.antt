@@ -41,7 +41,7 @@ force_follows plan w f a =
     (rw same (forced_alike f w a), ap (λ (p : ℕ). Number (shown_of p true)) (sym a.phase))
 
 -- an ended phaser, a full one, and one in which nobody is unarrived stay as they are
-unchanged : (plan : CountPlan) (b : Bool) (f g : Flat) → f.due ≡ false → b ≡ true → settled plan (cond b f g) ≡ f
+pub unchanged : (plan : CountPlan) (b : Bool) (f g : Flat) → f.due ≡ false → b ≡ true → settled plan (cond b f g) ≡ f
 unchanged plan b f g d e = ap (λ (x : Bool). settled plan (cond x f g)) e ∙ ap (λ (x : Bool). cond x (flat_step (flat.Advance (count_ends plan f.phase (registered f))) f) f) d
 
 pub refused_follows : (plan : CountPlan) (call : Call) (w : Fields) (f : Flat) (reply : Reply) → IsAlike f (flat_of w) → answer call f ≡ reply → is_refused reply ≡ true

@@ -26,7 +26,7 @@ use Rattle.flat_phaser.specs.Alike.{IsAlike}
 use Rattle.std.proofs.lemmas.Bool.{eq-eqb}
 use Rattle.std.proofs.Common.{nat_eq}
 
-no_contradiction : false ≡ true → {A : Type 0} → A
+pub no_contradiction : false ≡ true → {A : Type 0} → A
 no_contradiction e = absurd (let wrong : false ≡ true = e in cc)
 
 -- of two phasers the one that a test picks
@@ -38,7 +38,7 @@ picked_ended : (b : Bool) (f g : Flat) → f.due ≡ false → (g.due ≡ true �
 picked_ended true f g q h e = refl
 picked_ended false f g q h e = h e
 
-picked_due : (b : Bool) (f g : Flat) → f.due ≡ false → g.due ≡ false → (cond b f g).due ≡ false
+pub picked_due : (b : Bool) (f g : Flat) → f.due ≡ false → g.due ≡ false → (cond b f g).due ≡ false
 picked_due true f g h k = h
 picked_due false f g h k = k
 

@@ -2,3 +2,4 @@ pub mod Counting
 pub mod Following
 pub mod LawProofs
 pub mod RunProofs
+pub mod WordProofs

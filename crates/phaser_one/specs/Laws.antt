@@ -1,5 +1,5 @@
 -- What a single phaser promises, in the words of those who use it.
-use Rattle.std.specs.Prelude.{◌≡◌, ◌≢◌, ◌⊎◌, ◌≤◌, ◌<◌, ◌+◌, ℕ, true, false, pos, negsuc}
+use Rattle.std.specs.Prelude.{◌≡◌, ◌≢◌, ◌⊎◌, ◌≤◌, ◌<◌, ◌+◌, ℕ, Bool, true, false, pos, negsuc}
 use Rattle.phaser_word.specs.Fields.{Fields}
 use Rattle.phaser_word.specs.Phase.{next_phase_of}
 use Rattle.advance_rule.specs.declared.CountPlan.{CountPlan}
@@ -7,7 +7,7 @@ use Rattle.advance_rule.specs.Plan.{count_ends}
 use Rattle.flat_phaser.specs.Flat.{Flat, registered, unarrived, everyone_arrived}
 use Rattle.phaser_word.specs.Phase.{shown_of}
 use Rattle.flat_phaser.specs.Alike.{IsAlike}
-use Rattle.phaser_one.specs.Calls.{Call, Bulk, Arrive, Leave, Await, Number, Waiting, Refused, Full, NobodyUnarrived, Negative, answer, called, after}
+use Rattle.phaser_one.specs.Calls.{Call, Register, Bulk, Arrive, Leave, Await, Force, Reply, Number, Waiting, Refused, Full, NobodyUnarrived, Negative, answer, called, after}
 use Rattle.phaser_one.specs.Seen.{flat_of}
 
 -- a call advances: everyone who was then registered has arrived, and the phase is the next one
@@ -74,3 +74,30 @@ pub record ArriveTells (call : Call) (f : Flat) : Type 0 where
 
 abbrev pub ArrivalsAreTold : Type 0
 ArrivalsAreTold = (f : Flat) → ArriveTells Arrive f × ArriveTells Leave f
+
+-- Two words that stand for alike phasers are one.
+abbrev pub AlikeWordsAreOne : Type 0
+AlikeWordsAreOne = (u v : Fields) → u.unarrived ≤ u.parties → v.unarrived ≤ v.parties → IsAlike (flat_of u) (flat_of v) → u ≡ v
+
+-- whether a call arrives or leaves
+abbrev pub is_arrival : Call → Bool
+is_arrival Register = false
+is_arrival (Bulk count) = false
+is_arrival Arrive = true
+is_arrival Leave = true
+is_arrival (Await phase) = false
+is_arrival Force = false
+
+-- Only arrivals and departures ask the plan: any other call leaves the same by each.
+abbrev pub OnlyArrivalsAskThePlan : Type 0
+OnlyArrivalsAskThePlan = (p q : CountPlan) (call : Call) (f : Flat) → f.due ≡ false → is_arrival call ≡ false → after p call f ≡ after q call f
+
+-- whether a reply is a phase
+abbrev pub is_number : Reply → Bool
+is_number (Number phase) = true
+is_number Waiting = false
+is_number (Refused fault) = false
+
+-- A call that is refused or told to wait leaves the phaser as it is.
+abbrev pub RefusalsLeaveAll : Type 0
+RefusalsLeaveAll = (plan : CountPlan) (call : Call) (f : Flat) → f.due ≡ false → is_number (answer call f) ≡ false → after plan call f ≡ f

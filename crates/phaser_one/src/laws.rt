@@ -7,6 +7,9 @@ ghost use Rattle.phaser_one.specs.Laws.{
   AwaitsAreTold,
   RegistrationsAreTold,
   ArrivalsAreTold,
+  AlikeWordsAreOne,
+  OnlyArrivalsAskThePlan,
+  RefusalsLeaveAll,
 };
 
 /// While a phaser hasn't ended its phase takes one step at each advance, which comes only where everyone
@@ -43,4 +46,20 @@ pub fn registrations_are_told()
 /// When an arrival or a departure is refused, and what it answers else.
 pub fn arrivals_are_told()
     ensures { ArrivalsAreTold }
+{}
+
+/// Two words that stand for alike phasers are one word.
+pub fn alike_words_are_one()
+    ensures { AlikeWordsAreOne }
+{}
+
+/// Only arrivals and departures ask the plan that says when the phaser ends; any other call leaves the same by
+/// each plan.
+pub fn only_arrivals_ask_the_plan()
+    ensures { OnlyArrivalsAskThePlan }
+{}
+
+/// A call that is refused or told to wait leaves the phaser as it is.
+pub fn refusals_leave_all()
+    ensures { RefusalsLeaveAll }
 {}

@@ -7,5 +7,8 @@ mod phaser;
 mod step;
 
 pub use call::{Advance, Awaited, Call, OneFault, Reply};
-pub use laws::{ended_stays, not_all_arrived, phase_moves_by_one, words_are_seen};
+pub use laws::{
+    alike_words_are_one, ended_stays, not_all_arrived, only_arrivals_ask_the_plan,
+    phase_moves_by_one, refusals_leave_all, words_are_seen,
+};
 pub use phaser::PhaserOne;

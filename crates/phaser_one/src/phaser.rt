@@ -67,6 +67,23 @@ impl<F: Fn(u32, u32) -> bool> PhaserOne<F> {
         }
     }
 
+    /// The phaser in this state: no more are unarrived than there are parties.
+    pub fn of_word(word: Word, rule: StoredCount<F>) -> Self
+        requires counted { word.unarrived ≤ word.parties }
+        ensures word { result.word ≡ word }
+        ensures rule { result.rule ≡ rule }
+    {
+        PhaserOne { word, rule }
+    }
+
+    /// Its state.
+    pub fn word(&self) -> Word
+        ensures word { result ≡ self.now.word }
+        ensures counted { result.unarrived ≤ result.parties }
+    {
+        self.word
+    }
+
     /// Registers one party, and answers the phase to which this applied, or the phase shown once ended.
     /// Refused with `Full` exactly where 65535 are registered and it has not ended.
     pub fn register(&mut self) -> Result<i32, OneFault>

@@ -1,0 +1,3 @@
+pub mod Told
+pub mod Stepping
+pub mod Running
