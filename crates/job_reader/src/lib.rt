@@ -18,4 +18,4 @@ pub use laws::{each_text_is_read_or_refused, read_texts_are_jobs};
 pub use read::read_job;
 pub use text_lines::{Code, Refusal};
 pub use upgrades::upgrade;
-pub use write::write_job;
+pub use write::{canonical, write_job};

@@ -161,8 +161,8 @@ fn push_header(out: &mut Vec<u8>, format: u32) -> Result<(), AllocError>
     Ok(())
 }
 
-// The canonical text of a job.
-fn canonical(alloc: Global, job: &Job) -> Result<Vec<u8>, AllocError>
+/// The canonical text of a job, as `write_job` writes it (own).
+pub fn canonical(alloc: Global, job: &Job) -> Result<Vec<u8>, AllocError>
     ensures text { IfOk result (λ text. text.items ≡ spec.canonical_text (job_tree job.now)) }
     ensures kept { IsJob job.now }
 {

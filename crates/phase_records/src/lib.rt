@@ -16,4 +16,4 @@ pub use device::{
 };
 pub use laws::each_step_has_its_prints;
 pub use record::{JobStatus, PhaseRecord, Print, Report};
-pub use report::{WriteFault, write_report};
+pub use report::{WriteFault, text_of, write_report};

@@ -179,8 +179,9 @@ fn push_status(out: &mut Vec<u8>, status: &JobStatus) -> Result<(), AllocError>
     out.extend_from_slice(b"\n")
 }
 
-// The text of a report.
-fn text_of(alloc: Global, report: &Report) -> Result<Vec<u8>, AllocError>
+/// The text of a report: for each superstep its prints and its record, then the arrays in declared order, then how the
+/// job ended, each on a line of its own (own).
+pub fn text_of(alloc: Global, report: &Report) -> Result<Vec<u8>, AllocError>
     ensures { IfOk result (λ text. text.items ≡ report_text report.now) }
 {
     let mut out = Vec::new(alloc);
