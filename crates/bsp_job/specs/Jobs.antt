@@ -1,0 +1,57 @@
+-- What a caller is told of a job's text (own; the numbers of the statuses are those of the program).
+use Rattle.std.specs.Prelude.{◌≡◌, ◌⊎◌, ℕ, ℤ, pos, List, map, length, Some, Result, Ok, Err}
+use Rattle.phase_records.specs.Status.{Status, Ended, Fault, Limit}
+use Rattle.phase_records.specs.ReportValue.{ReportValue}
+use Rattle.phase_records.specs.ReportText.{report_text}
+use Rattle.task_lang.specs.Meaning.{Plan}
+use Rattle.text_lines.specs.Refusals.{code_number}
+use Rattle.text_lines.specs.declared.refusal.Refusal.{Refusal}
+use Rattle.job_reader.specs.Trees.{BodyTree, JobTree}
+use Rattle.job_reader.specs.Reading.{job_in}
+use Rattle.job_reader.specs.Grammar.{canonical_text}
+use Rattle.step_parts.specs.Program.{Program}
+use Rattle.step_parts.specs.JobMeaning.{report_of}
+use Rattle.bsp_job.specs.declared.Told.{Told}
+use Rattle.bsp_job.specs.Given.{IsGiven}
+
+-- the status of a job that ended so: a fault is 2, the limit is 3
+abbrev pub status_number : Status → ℤ
+status_number (Ended steps) = pos 0
+status_number (Fault code step path) = pos 2
+status_number (Limit steps) = pos 3
+
+-- a body and a job as supersteps read them
+abbrev pub plan_of : BodyTree → Plan
+plan_of b = record { ahead = b.block; locals = length b.locals }
+
+abbrev pub program_of_tree : JobTree → Program
+program_of_tree j = record { arrays = j.arrays; plans = map plan_of j.bodies; starts = j.starts }
+
+-- status 4, and where the text is refused and why
+pub record IsRefusedAs (refusal : Refusal) (status : ℤ) (told : Told) : Type 0 where
+  pub four : status ≡ pos 4
+  pub line : told.line ≡ refusal.line
+  pub code : told.code ≡ code_number refusal.code
+
+-- what a check tells of a text that is read so: its canonical text, or its first refusal
+abbrev pub TellsCheck : Result JobTree Refusal → List ℕ → ℤ → Told → Type 0
+TellsCheck (Ok job) out status told = IsGiven (canonical_text job) out (pos 0) status told.bytes
+TellsCheck (Err refusal) out status told = IsRefusedAs refusal status told
+
+-- what a job leaves within a limit was given as text, and the status tells how it ended
+pub record GivesReport (job : JobTree) (limit : ℕ) (out : List ℕ) (status : ℤ) (told : Told) : Type 0 where
+  pub report : ReportValue
+  pub leaves : report_of (program_of_tree job) limit ≡ Some report
+  pub given : IsGiven (report_text report) out (status_number report.status) status told.bytes
+
+-- what a run tells of it: the text of what the job leaves within the limit, or its first refusal
+abbrev pub TellsRun : ℕ → Result JobTree Refusal → List ℕ → ℤ → Told → Type 0
+TellsRun limit (Ok job) out status told = GivesReport job limit out status told
+TellsRun limit (Err refusal) out status told = IsRefusedAs refusal status told
+
+-- Unless there was no memory, which is status 6, a check tells that of the text, and a run that.
+abbrev pub Checks : List ℕ → List ℕ → ℤ → Told → Type 0
+Checks text out status told = (status ≡ pos 6) ⊎ TellsCheck (job_in text) out status told
+
+abbrev pub Runs : ℕ → List ℕ → List ℕ → ℤ → Told → Type 0
+Runs limit text out status told = (status ≡ pos 6) ⊎ TellsRun limit (job_in text) out status told

@@ -1,0 +1,133 @@
+//! Jobs as texts, for C: a text is checked, or run on the caller's thread, and what is told stands in the caller's bytes.
+#![tactic(auto)]
+
+ghost use Rattle.std.specs.Prelude.{◌≡◌, ◌⊎◌, ◌≤◌, length, pos};
+ghost use Rattle.phase_records.specs.StatusSeen.{status_seen};
+ghost use Rattle.job_reader.specs.Trees.{job_tree};
+ghost use Rattle.bsp_job.specs.Given.{IsGiven};
+ghost use Rattle.bsp_job.specs.Jobs.{Checks, Runs, IsRefusedAs, GivesReport, status_number};
+
+use job_reader::{ReadJobFault, Refusal, canonical, read_job};
+use phase_records::{JobStatus, text_of};
+use std::alloc::{AllocError, Global};
+use step_core::run_alone;
+use task_lang::job::Job;
+
+/// There was no memory.
+const NO_MEMORY: i32 = 6;
+
+/// A limit of 0.
+const NO_LIMIT: i32 = 5;
+
+/// The caller's bytes are too few.
+const TOO_SHORT: i32 = 10;
+
+/// What a call tells beside its status; what a status doesn't speak of is 0.
+#[repr(C)]
+#[derive(Clone, Copy)]
+pub struct Told {
+    /// How long the text is that was, or would have been, put into the caller's bytes.
+    pub bytes: usize,
+    /// The line of a refusal, from 1.
+    pub line: usize,
+    /// The code of a refusal, from 1.
+    pub code: u32,
+}
+
+const NOTHING: Told = Told {
+    bytes: 0,
+    line: 0,
+    code: 0,
+};
+
+// Puts a text in front of the caller's bytes where there is room for it, and answers the status.
+fn give(text: &[u8], done: i32, out: &mut [u8]) -> i32
+    ensures { IsGiven text.now out.new done result (length text.now) }
+{
+    if out.len() < text.len() {
+        return TOO_SHORT;
+    }
+    let (front, _) = out.split_at_mut(text.len());
+    front.copy_from_slice(text);
+    done
+}
+
+// Tells where a text is refused, and why.
+fn refuse(refusal: Refusal, told: &mut Told) -> i32
+    ensures { IsRefusedAs refusal result told.new }
+{
+    told.line = refusal.line;
+    told.code = u32::from(refusal.code.number());
+    4
+}
+
+// How a job ended, as the program's status.
+fn status_of(status: &JobStatus) -> i32
+    ensures { result ≡ status_number (status_seen status.now) }
+{
+    match status {
+        JobStatus::Ended(_) => 0,
+        JobStatus::Fault { .. } => 2,
+        JobStatus::Limit(_) => 3,
+    }
+}
+
+/// Reads a job and puts its canonical text into `out`: 0; 4 where the text is refused; 6 without memory; 10 where
+/// `out` is too short, and then nothing of it is to be relied on.
+#[unsafe(no_mangle)]
+pub extern "C" fn bsp_check(alloc: Global, text: &[u8], out: &mut [u8], told: &mut Told) -> i32
+    ensures { Checks text.now out.new result told.new }
+{
+    *told = NOTHING;
+    match read_job(alloc, text) {
+        Ok(job) => match canonical(alloc, &job) {
+            Ok(bytes) => {
+                told.bytes = bytes.len();
+                give(&bytes, 0, out)
+            }
+            Err(AllocError) => NO_MEMORY,
+        },
+        Err(ReadJobFault::Text(refusal)) => refuse(refusal, told),
+        Err(ReadJobFault::Memory) => NO_MEMORY,
+    }
+}
+
+// Runs a job, and puts the text of its report into the caller's bytes.
+fn run_and_give(alloc: Global, job: &Job, limit: u32, out: &mut [u8], told: &mut Told) -> i32
+    requires { 1 ≤ limit }
+    ensures { (result ≡ pos 6) ⊎ GivesReport (job_tree job.now) limit out.new result told.new }
+{
+    let Ok(report) = run_alone(alloc, job, limit) else {
+        return NO_MEMORY;
+    };
+    let Ok(text) = text_of(alloc, &report) else {
+        return NO_MEMORY;
+    };
+    told.bytes = text.len();
+    give(&text, status_of(&report.status), out)
+}
+
+/// Reads a job, runs it on the caller's thread within this limit of supersteps, and puts the text of its report into
+/// `out`: 0 where it ended, 2 where a task faulted, 3 where the limit was reached; 4 where the text is refused; 5 for
+/// a limit of 0; 6 without memory; 10 where `out` is too short, and then nothing of it is to be relied on.
+#[unsafe(no_mangle)]
+pub extern "C" fn bsp_run(
+    alloc: Global,
+    text: &[u8],
+    limit: u32,
+    out: &mut [u8],
+    told: &mut Told,
+) -> i32
+    ensures none { limit ≡ 0 → result ≡ pos 5 }
+    ensures run { 1 ≤ limit → Runs limit text.now out.new result told.new }
+{
+    *told = NOTHING;
+    if limit == 0 {
+        return NO_LIMIT;
+    }
+    match read_job(alloc, text) {
+        Ok(job) => run_and_give(alloc, &job, limit, out, told),
+        Err(ReadJobFault::Text(refusal)) => refuse(refusal, told),
+        Err(ReadJobFault::Memory) => NO_MEMORY,
+    }
+}
