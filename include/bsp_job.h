@@ -1,0 +1,59 @@
+/* bsp_job.h: jobs of the task language as texts (docs/LANGUAGE.md, docs/FORMATS.md).
+ *
+ * Proved: both calls, which the static library libbsp_job.a has; nothing is inline here. They take memory from the
+ * program's malloc, realloc and free, and give all of it back. Link the library with -lc and, where one is asked
+ * for, with liblibc_c.a of the toolchain (docs/EMBEDDING.md).
+ *
+ * What is promised, for any bytes of any length:
+ *   a text is one job or is refused at its first fault, which is told by line and code (status 4);
+ *   bsp_check, status 0: the first `told->bytes` bytes of `out` are the canonical text of the job that the text is;
+ *   bsp_run, status 0, 2 and 3: they are the text of the report of what that job leaves within the limit, as the
+ *   program `bsp run` prints it, and the status is that report's;
+ *   10: `out` is too short for that text, which is `told->bytes` bytes long; nothing of `out` is to be relied on;
+ *   what of `told` a status doesn't speak of is 0. Nothing halts; every call returns.
+ *
+ * What the caller owes: `text` points to `text_len` bytes, `out` to `out_len` bytes (any pointer but null where the
+ * number is 0) and `told` to one object, none of which overlap or are touched by others during the call; malloc,
+ * realloc and free are those of one allocator; no call from a signal's handler, nor in the child of a process with
+ * threads. Calls may run on any threads at once. */
+#ifndef BSP_JOB_H
+#define BSP_JOB_H
+
+#include <stddef.h>
+#include <stdint.h>
+
+#ifdef __cplusplus
+extern "C" {
+#endif
+
+/* Beside the status: how long the text is that was, or would have been, put into `out`; the line of a refusal, from
+ * 1, and its code, from 1. */
+struct bsp_told {
+    size_t bytes;
+    size_t line;
+    uint32_t code;
+};
+
+/* the statuses: those of the program, and one */
+enum {
+    BSP_JOB_ENDED = 0,
+    BSP_JOB_FAULT = 2,
+    BSP_JOB_LIMIT = 3,
+    BSP_JOB_REFUSED = 4,
+    BSP_JOB_NO_LIMIT = 5,
+    BSP_JOB_NO_MEMORY = 6,
+    BSP_JOB_SHORT = 10
+};
+
+/* Puts the canonical text of a job into `out`: 0, 4, 6 or 10. */
+int32_t bsp_check(const uint8_t *text, size_t text_len, uint8_t *out, size_t out_len, struct bsp_told *told);
+
+/* Runs a job on the caller's thread, within this limit of supersteps, and puts the text of its report into `out`: 0
+ * where it ended, 2 where a task faulted, 3 where the limit was reached with live tasks; 4, 6, 10; 5 for a limit of
+ * 0, where the text isn't looked at. */
+int32_t bsp_run(const uint8_t *text, size_t text_len, uint32_t limit, uint8_t *out, size_t out_len, struct bsp_told *told);
+
+#ifdef __cplusplus
+}
+#endif
+#endif
