@@ -12,7 +12,7 @@ fn timed(threads: usize, body: impl Fn() + Sync) -> Duration {
 }
 
 fn main() -> Result<(), Refused> {
-    let rounds = std::env::args().nth(1).map_or(20000, |word| word.parse().expect("a number of rounds"));
+    let rounds = std::env::args().nth(1).map_or(5000, |word| word.parse().expect("a number of rounds"));
     let phaser = Phaser::new(4)?;
     let came: Vec<AtomicU32> = (0..rounds).map(|_| AtomicU32::new(0)).collect();
     timed(4, || {

@@ -6,6 +6,7 @@
 
 use std::sync::atomic::{AtomicU64, Ordering::SeqCst};
 
+mod sleep;
 pub mod sys;
 
 /// No phase ends the phaser.
@@ -85,7 +86,12 @@ impl Phaser {
             let (mut next, mut answer) = (old, 0);
             told(call(old, &mut next, &mut answer), 0)?;
             match self.word.compare_exchange_weak(old, next, SeqCst, SeqCst) {
-                Ok(_) => return Ok(answer),
+                Ok(_) => {
+                    if old >> 32 != next >> 32 {
+                        sleep::wake(&self.word);
+                    }
+                    return Ok(answer);
+                }
                 Err(found) => old = found,
             }
         }
@@ -111,20 +117,24 @@ impl Phaser {
         self.exchanged(|word, next, answer| sys::bsp_phaser_force(word, next, answer))
     }
 
-    /// Waits until this phase is over: spins a little, then yields. Answers the phase then, negative once ended.
+    /// Waits until this phase is over: spins a little, yields, and sleeps. Answers the phase then, negative once ended.
     pub fn wait(&self, phase: i32) -> Result<i32, Refused> {
-        let mut turn = 0u32;
+        let mut turn = 0;
         loop {
+            let seen = self.word.load(SeqCst);
             let mut answer = 0;
-            let status = sys::bsp_phaser_await(self.word.load(SeqCst), phase, &mut answer);
+            let status = sys::bsp_phaser_await(seen, phase, &mut answer);
             if status != 2 {
                 return told(status, answer);
             }
-            turn = turn.saturating_add(1);
-            if turn < 100 {
-                std::hint::spin_loop();
-            } else {
-                std::thread::yield_now();
+            turn += 1;
+            match turn {
+                ..60 => std::hint::spin_loop(),
+                60..80 => std::thread::yield_now(),
+                _ => {
+                    turn = 80;
+                    sleep::sleep(&self.word, seen);
+                }
             }
         }
     }
