@@ -8,7 +8,7 @@ use Rattle.phase_records.specs.Status.{Status}
 use Rattle.task_lang.specs.Meaning.{Task, Segment, segment_of}
 use Rattle.task_lang.proofs.AllSegments.{numbers-its-spawns}
 use Rattle.step_core.specs.Program.{Program}
-use Rattle.step_core.specs.Superstep.{State, segments, first_fault, superstep, closed, next_live, ended_by, gone_on, live_paths}
+use Rattle.step_core.specs.Superstep.{State, segments, first_fault, too_many, overflow, or_next, fault_in, superstep, closed, next_live, live_paths}
 use Rattle.step_core.specs.JobMeaning.{status, unless_ended, so_far}
 use Rattle.step_core.specs.OrderValue.{spawned_paths}
 use Rattle.job_seats.specs.SeatValue.{SeatValue, seat_at, seat_path, kid_path}
@@ -19,16 +19,28 @@ use Rattle.schedule_laws.proofs.Opening.{starts_long}
 use Rattle.schedule_laws.proofs.Room.{AreFew}
 
 step_few : (p : Program) (st : State) → length st.live ≤ 4096 → length (superstep p st).live ≤ 4096
-step_few p st h = by (first_fault (segments p st.arrays st.step st.live))
+step_few p st h = by (fault_in st.arrays ss) refl
   where
-    unless : (b : Bool) → nat_lt 4096 (length (next_live (segments p st.arrays st.step st.live))) ≡ b
-        → length (if b then ended_by st (7, []) else gone_on st (segments p st.arrays st.step st.live) (next_live (segments p st.arrays st.step st.live))).live ≤ 4096
-    unless true e = h
-    unless false e = ltb-false 4096 (length (next_live (segments p st.arrays st.step st.live))) e
+    ss : List (List ℕ × Segment)
+    ss = segments p st.arrays st.step st.live
 
-    by : (o : Option (ℕ × List ℕ)) → length (closed st (segments p st.arrays st.step st.live) o).live ≤ 4096
-    by (Some f) = h
-    by None = unless (nat_lt 4096 (length (next_live (segments p st.arrays st.step st.live)))) refl
+    later : (o rest : Option (ℕ × List ℕ)) → or_next o rest ≡ None → rest ≡ None
+    later None rest e = e
+    later (Some f) rest e = cc
+
+    first : (o rest : Option (ℕ × List ℕ)) → or_next o rest ≡ None → o ≡ None
+    first None rest e = refl
+    first (Some f) rest e = cc
+
+    few : (b : Bool) → nat_lt 4096 (length (next_live ss)) ≡ b → (if b then Some (7, []) else None) ≡ None → length (next_live ss) ≤ 4096
+    few true e none = cc
+    few false e none = ltb-false 4096 (length (next_live ss)) e
+
+    by : (o : Option (ℕ × List ℕ)) → fault_in st.arrays ss ≡ o → length (closed st ss o).live ≤ 4096
+    by (Some f) e = h
+    by None e =
+        few (nat_lt 4096 (length (next_live ss))) refl
+        (first (too_many (next_live ss)) (overflow st.arrays ss) (later (first_fault ss) (or_next (too_many (next_live ss)) (overflow st.arrays ss)) e))
 
 live_few : (p : Program) (limit n : ℕ) → length p.starts ≤ 4096 → length (so_far p limit n).live ≤ 4096
 live_few p limit zero h = let a = starts_long p.plans 0 p.starts in omega arith

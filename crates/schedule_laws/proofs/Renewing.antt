@@ -12,7 +12,7 @@ use Rattle.tier_core.proofs.Turns.{not_both}
 use Rattle.tier_answers.specs.Frame.{flat_of}
 use Rattle.task_lang.specs.Meaning.{Task, Segment}
 use Rattle.step_core.specs.Program.{Program}
-use Rattle.step_core.specs.Superstep.{State, segments, first_fault, superstep, closed, next_live, live_paths, ended_by, gone_on}
+use Rattle.step_core.specs.Superstep.{State, segments, fault_in, superstep, closed, next_live, live_paths}
 use Rattle.step_core.specs.JobMeaning.{status, status_of, told, report_in}
 use Rattle.schedule_laws.specs.Roles.{Role, Out, Late, Past}
 use Rattle.schedule_laws.specs.Cast.{role_at, turned}
@@ -157,20 +157,12 @@ over_at (g ∷ gs) (suc q) h l = over_at gs q (both (is_over g.stage) (all_over 
 -- the superstep
 
 step_fault : (p : Program) (st : State) → (superstep p st).fault ≡ None → (superstep p st).step ≡ suc st.step
-step_fault p st h = by (first_fault (segments p st.arrays st.step st.live)) h
+step_fault p st h = by (fault_in st.arrays (segments p st.arrays st.step st.live)) h
   where
-    ss : List (List ℕ × Segment)
-    ss = segments p st.arrays st.step st.live
-
-    few : (b : Bool) → (if b then ended_by st (7, []) else gone_on st (segments p st.arrays st.step st.live) (next_live (segments p st.arrays st.step st.live))).fault ≡ None
-        → (if b then ended_by st (7, []) else gone_on st (segments p st.arrays st.step st.live) (next_live (segments p st.arrays st.step st.live))).step ≡ suc st.step
-    few true e = cc
-    few false e = (let one : st.step + 1 ≡ suc st.step = omega arith in one)
-
     by : (o : Option (ℕ × List ℕ)) → (closed st (segments p st.arrays st.step st.live) o).fault ≡ None
         → (closed st (segments p st.arrays st.step st.live) o).step ≡ suc st.step
     by (Some f) e = cc
-    by None e = few (nat_lt 4096 (length (next_live (segments p st.arrays st.step st.live)))) e
+    by None e = (let one : st.step + 1 ≡ suc st.step = omega arith in one)
 
 pub no_status : (o : Option Status) (st : State) → told st o ≡ None → is_some o ≡ false
 no_status None st h = refl

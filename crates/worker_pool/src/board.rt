@@ -34,7 +34,7 @@ pub trait Running {
 impl Running for Brand {
     ghost use Rattle.std.specs.Prelude.{[], false, None};
 
-    ghost job = { record { arrays = []; bodies = []; starts = [] } };
+    ghost job = { record { format = 1; arrays = []; bodies = []; starts = [] } };
 
     ghost limit = { 1 };
 
@@ -230,7 +230,7 @@ impl<'j, J: Running> Board<'j, J> {
     fn close(&mut self, alloc: Global) -> Result<Outcome, Note>
         ensures closed { OnOk result (Opens self.new self.old.job self.old.limit
             (superstep (program_of self.old.job) (state_of self.old))) }
-        ensures outcome { IfOk result (λ outcome. outcome ≡ outcome_of (delivered (slots_in self.old))) }
+        ensures outcome { IfOk result (λ outcome. outcome ≡ outcome_of self.old.arrays (delivered (slots_in self.old))) }
         ensures unchanged { OnErr result (self.new ≡ self.old) }
     {
         if !self.ready.is_empty() {
@@ -254,7 +254,7 @@ impl<'j, J: Running> Board<'j, J> {
         if led {
             return match self.close(alloc)? {
                 Outcome::Landed => Ok(Turned::Opened),
-                Outcome::Faulted | Outcome::TooMany => Ok(Turned::Ended),
+                Outcome::Faulted | Outcome::TooMany | Outcome::Overflowed => Ok(Turned::Ended),
             };
         }
         Ok(if late { Turned::Opened } else { Turned::Goes })
@@ -327,7 +327,7 @@ fn accept<'j>(round: &mut Round<'j>, delivery: Delivery<'j>) -> Result<(), Note>
 fn close_round(round: &mut Round<'_>, alloc: Global) -> Result<Outcome, Note>
     ensures closed { OnOk result (Opens round.new round.old.job round.old.limit
         (superstep (program_of round.old.job) (state_of round.old))) }
-    ensures outcome { IfOk result (λ outcome. outcome ≡ outcome_of (delivered (slots_in round.old))) }
+    ensures outcome { IfOk result (λ outcome. outcome ≡ outcome_of round.old.arrays (delivered (slots_in round.old))) }
     ensures unchanged { OnErr result (round.new ≡ round.old) }
 {
     if round.has_ended() {
