@@ -6,8 +6,10 @@ use tier_shape::Shape;
 
 // Packed numbers, and what they are unpacked into: the phase, the parties, how many of them are unarrived, and
 // whether it has ended; or nothing, where no legal word has the number.
-const WORDS: [(u64, Option<(u32, u32, u32, bool)>); 6] = [
+const WORDS: [(u64, Option<(u32, u32, u32, bool)>); 8] = [
+    (0x0000000000000000, Some((0, 0, 0, false))),
     (0x0000000000000001, Some((0, 0, 1, false))),
+    (0x0000000000000002, Some((0, 0, 2, false))),
     (0x0000000100020002, Some((1, 2, 2, false))),
     (0x7fffffffffffffff, Some((LAST_PHASE, 65535, 65535, false))),
     (0xffffffffffffffff, Some((LAST_PHASE, 65535, 65535, true))),
