@@ -1,8 +1,8 @@
 /* bsp_job.h: jobs of the task language as texts (docs/LANGUAGE.md, docs/FORMATS.md).
  *
  * Proved: both calls, which the static library libbsp_job.a has; nothing is inline here. They take memory from the
- * program's malloc, realloc and free, and give all of it back. Link the library with -lc and, where one is asked
- * for, with liblibc_c.a of the toolchain (docs/EMBEDDING.md).
+ * program's malloc, realloc and free, and give all of it back. Link liblibc_c.a of the toolchain too, which has the
+ * three calls between (docs/EMBEDDING.md).
  *
  * What is promised, for any bytes of any length:
  *   a text is one job or is refused at its first fault, which is told by line and code (status 4);

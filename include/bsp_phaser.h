@@ -25,8 +25,8 @@
  *
  * A user keeps a word in an atomic and exchanges it for the next one, as bsp_shared_* does. If each exchange
  * puts there what a call gave of the word that stood there, the calls in the order of the exchanges are a run of
- * one phaser, whatever the number of threads (the law exchanges_are_one_run): no phase passes before all
- * parties then registered have arrived.
+ * one phaser, whatever the number of threads (the law exchanges_are_one_run), and no call takes the phase on
+ * before all parties then registered have arrived (no_phase_passes_early).
  */
 #ifndef BSP_PHASER_H
 #define BSP_PHASER_H

@@ -1,3 +1,4 @@
 pub mod Told
 pub mod Stepping
 pub mod Running
+pub mod Passing

@@ -1,6 +1,7 @@
 -- A word that threads exchange for the next one: what stood in it one after another is a run of one phaser (own).
-use Rattle.std.specs.Prelude.{◌≡◌, ℕ, ℤ, List, [], ◌∷◌, map}
+use Rattle.std.specs.Prelude.{◌≡◌, ◌≢◌, ◌≤◌, ℕ, ℤ, List, [], ◌∷◌, map}
 use Rattle.phaser_word.specs.Fields.{Fields}
+use Rattle.phaser_word.specs.Phase.{next_phase_of}
 use Rattle.advance_rule.specs.declared.CountPlan.{CountPlan}
 use Rattle.phaser_one.specs.declared.call.Call.{Call}
 use Rattle.phaser_one.specs.declared.call.Reply.{Reply}
@@ -38,3 +39,15 @@ pub record IsOneRun (plan : CountPlan) (first : Fields) (number : ℕ) (xs : Lis
 abbrev pub ExchangesAreOneRun : Type 0
 ExchangesAreOneRun =
     (plan : CountPlan) (first : Fields) (number : ℕ) (xs : List Exchange) → IsWordOf first number → AreExchanged plan number xs → IsOneRun plan first number xs
+
+-- a phase has passed: all but the one that made the call, if it arrived or left, had arrived before; the next phase has begun, and in it nobody has arrived
+pub record HasPassed (before after : Fields) : Type 0 where
+  pub last : before.unarrived ≤ 1
+  pub next : after.phase ≡ next_phase_of before.phase
+  pub fresh : after.unarrived ≡ after.parties
+
+-- No call takes the phase on before all parties then registered have arrived.
+abbrev pub NoPhasePassesEarly : Type 0
+NoPhasePassesEarly =
+    (plan : CountPlan) (call : Call) (old : Fields) (number next : ℕ) (status answer : ℤ) (step : IsStep plan call number next status answer) (word : IsWordOf old number)
+    → (step.done old word).new.phase ≢ old.phase → HasPassed old (step.done old word).new

@@ -10,7 +10,7 @@ ghost use Rattle.flat_phaser.specs.Flat.{shown};
 ghost use Rattle.phaser_one.specs.declared.call.Call.TheVariants as spec;
 ghost use Rattle.bsp_phaser.specs.Steps.{IsStep, IsNew, status_of_new, plan_of};
 ghost use Rattle.bsp_phaser.specs.Readings.{IsReading, parties_in, arrived_in, unarrived_in, ended_in};
-ghost use Rattle.bsp_phaser.specs.Runs.{ExchangesAreOneRun};
+ghost use Rattle.bsp_phaser.specs.Runs.{ExchangesAreOneRun, NoPhasePassesEarly};
 
 mod number;
 mod reading;
@@ -158,4 +158,9 @@ pub extern "C" fn bsp_phaser_ended(word: u64, answer: &mut i32) -> i32
 /// exchanges are a run of one phaser.
 pub fn exchanges_are_one_run()
     ensures { ExchangesAreOneRun }
+{}
+
+/// No call takes the phase on before all parties then registered have arrived.
+pub fn no_phase_passes_early()
+    ensures { NoPhasePassesEarly }
 {}
