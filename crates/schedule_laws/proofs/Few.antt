@@ -32,7 +32,10 @@ step_few p st h = by (fault_in st.arrays ss) refl
     first None rest e = refl
     first (Some f) rest e = cc
 
-    few : (b : Bool) → nat_lt 4096 (length (next_live ss)) ≡ b → (if b then Some (7, []) else None) ≡ None → length (next_live ss) ≤ 4096
+    seven : Option (ℕ × List ℕ)
+    seven = Some (7, [])
+
+    few : (b : Bool) → nat_lt 4096 (length (next_live ss)) ≡ b → (if b then seven else None) ≡ None → length (next_live ss) ≤ 4096
     few true e none = cc
     few false e none = ltb-false 4096 (length (next_live ss)) e
 
