@@ -5,3 +5,4 @@ mod Parsed
 mod Refusals
 mod RunJobs
 mod TooLong
+pub mod Upgrading

@@ -18,6 +18,7 @@ unfolding clap_on_literals
 words-ask name = record {
   trace = (refl, refl);
   check = (refl, refl);
+  upgrade = (refl, refl);
   run = (refl, refl);
   least = (refl, refl);
   most = (refl, refl);
@@ -34,6 +35,7 @@ words-refused name = record {
   nothing = refl;
   unknown = refl;
   more = refl;
+  more_upgrade = refl;
   none = refl;
   many = refl;
   no_worker = refl;
@@ -52,6 +54,8 @@ words-help name = record {
   trace_long = refl;
   check = refl;
   check_long = refl;
+  upgrade = refl;
+  upgrade_long = refl;
   run = refl;
   run_long = refl;
 }

@@ -8,7 +8,7 @@ use Rattle.clap.specs.declared.error.kind.ErrorKind.{ErrorKind}
 use Rattle.clap.specs.declared.error.kind.ErrorKind.TheVariants as kinds
 use Rattle.bsp_cli.specs.Did.{Did, RunsOut, is_refusal, are_refused}
 use Rattle.bsp_cli.specs.declared.asked.Asked.{Asked}
-use Rattle.bsp_cli.specs.declared.asked.Asked.TheVariants.{Trace, Check, Run}
+use Rattle.bsp_cli.specs.declared.asked.Asked.TheVariants.{Trace, Check, Upgrade, Run}
 
 keeps : (old : Option (List ℕ)) → Keeps old old
 keeps None = tt
@@ -17,6 +17,7 @@ keeps (Some xs) = refl
 out : (a : Asked) (input old : Option (List ℕ)) → RunsOut a input old old
 out Trace input old = inl (keeps old)
 out Check input old = keeps old
+out Upgrade input old = keeps old
 out (Run workers limit) input old = keeps old
 
 -- memory ran out before anything was read

@@ -8,7 +8,7 @@ use Rattle.clap.specs.ValueTests.{is_unsigned_in}
 use Rattle.clap.specs.declared.builder.action.ArgAction.TheVariants.{Set}
 use Rattle.clap.specs.declared.builder.value_parser.ValueParser.TheVariants as parser
 use Rattle.bsp_cli.specs.declared.asked.Asked.{Asked}
-use Rattle.bsp_cli.specs.declared.asked.Asked.TheVariants.{Trace, Check, Run}
+use Rattle.bsp_cli.specs.declared.asked.Asked.TheVariants.{Trace, Check, Upgrade, Run}
 
 -- an option that is a number, from 1 to the most
 abbrev pub number_rule : List ℕ → ℕ → Rule
@@ -40,8 +40,10 @@ abbrev pub program : App
 program =
     with_subcommand
     (with_subcommand
+    (with_subcommand
     (with_subcommand (record bare { top = record bare.top { subcommand_required = true; has_version = true } }) (new_app (codes "trace")).top)
     (new_app (codes "check")).top)
+    (new_app (codes "upgrade")).top)
     run_app.top
 
 -- the number of an option, from 1 to the most; the usual one where it isn't given
@@ -70,13 +72,17 @@ chosen most usual (Some n) = if nat_le 1 n && nat_le n most then n else usual
 abbrev pub asked_by : Option (List ℕ × List Row) → Asked
 asked_by None = Trace
 asked_by (Some p) =
-    if bytes_eq p.0 (codes "check") then Check else if bytes_eq p.0 (codes "run") then Run (workers_in p.1) (limit_in p.1) else Trace
+    if bytes_eq p.0 (codes "check") then Check
+    else if bytes_eq p.0 (codes "upgrade") then Upgrade
+    else if bytes_eq p.0 (codes "run") then Run (workers_in p.1) (limit_in p.1) else Trace
 
--- the text of the tree at which workers meet; traces and texts that are checked have none
+-- the text of the tree at which workers meet; traces, and texts that are checked or upgraded, have none
 abbrev pub tree_by : Option (List ℕ × List Row) → List ℕ
 tree_by None = codes "flat"
 tree_by (Some p) =
-    if bytes_eq p.0 (codes "check") then codes "flat" else if bytes_eq p.0 (codes "run") then tree_in p.1 else codes "flat"
+    if bytes_eq p.0 (codes "check") then codes "flat"
+    else if bytes_eq p.0 (codes "upgrade") then codes "flat"
+    else if bytes_eq p.0 (codes "run") then tree_in p.1 else codes "flat"
 
 -- what words ask for, where they are taken
 abbrev pub asked_in : List (List ℕ) → Asked

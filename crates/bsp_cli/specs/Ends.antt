@@ -11,11 +11,11 @@ use Rattle.trace_text.specs.Trace.{asked_of}
 use Rattle.trace_text.specs.Outcome.{WritesAnswers, WritesBeginning}
 use Rattle.job_reader.specs.Trees.{job_tree}
 use Rattle.job_reader.specs.Reading.{job_in}
-use Rattle.bsp_cli.specs.Jobs.{status_number, WritesCanonical, BeginsCanonical, WritesReportOf, BeginsReport}
+use Rattle.bsp_cli.specs.Jobs.{status_number, WritesCanonical, BeginsCanonical, WritesUpgraded, BeginsUpgraded, WritesReportOf, BeginsReport}
 use Rattle.bsp_cli.specs.Did.{Finishes, Begins, Refuses, RunsOut, IsWorkerOf}
 use Rattle.bsp_cli.specs.Texts.{fault_status}
 use Rattle.bsp_cli.specs.declared.asked.Asked.{Asked}
-use Rattle.bsp_cli.specs.declared.asked.Asked.TheVariants.{Trace, Check, Run}
+use Rattle.bsp_cli.specs.declared.asked.Asked.TheVariants.{Trace, Check, Upgrade, Run}
 use Rattle.bsp_cli.specs.declared.fault.RunFault.{RunFault}
 use Rattle.bsp_cli.specs.declared.fault.RunFault.TheVariants.{Text, Read, Write, Memory, NotStarted, Internal}
 
@@ -67,6 +67,15 @@ Checks input old new (Err Memory) = Keeps old new
 Checks input old new (Err (NotStarted k)) = ⊥
 Checks input old new (Err Internal) = ⊥
 
+abbrev pub Upgrades : Option (List ℕ) → Option (List ℕ) → Option (List ℕ) → Result (Unit {0}) RunFault → Type 0
+Upgrades input old new (Ok x) = IfSome input (λ bytes. WritesUpgraded bytes old new)
+Upgrades input old new (Err (Text r)) = IfSome input (λ bytes. job_in bytes ≡ Err r) × Keeps old new
+Upgrades input old new (Err Read) = Keeps old new
+Upgrades input old new (Err Write) = IfSome input (λ bytes. BeginsUpgraded bytes old new)
+Upgrades input old new (Err Memory) = Keeps old new
+Upgrades input old new (Err (NotStarted k)) = ⊥
+Upgrades input old new (Err Internal) = ⊥
+
 -- the report was written, or a beginning of it where the writer failed
 abbrev pub Reports : ReportValue → Option (List ℕ) → Option (List ℕ) → Result JobStatus RunFault → Type 0
 Reports report old new (Ok status) = Appends old new (report_text report) × (status_seen status ≡ report.status)
@@ -111,6 +120,7 @@ Does a input old new (Err Internal) = Keeps old new
 abbrev pub IsAsked : Asked → Type 0
 IsAsked Trace = Unit {0}
 IsAsked Check = Unit {0}
+IsAsked Upgrade = Unit {0}
 IsAsked (Run workers limit) = ((1 ≤ workers) × (workers ≤ 64)) × ((1 ≤ limit) × (limit ≤ 1000000))
 
 -- how a run of a job ended, as a status

@@ -1,4 +1,4 @@
--- What `check` and `run` print of a job's text (own).
+-- What `check`, `upgrade` and `run` print of a job's text (own).
 use Rattle.std.specs.Prelude.{◌≡◌, ℕ, List, map, length, Option, Some, Ok}
 use Rattle.std.specs.Io.KnownBytes.{Appends}
 use Rattle.phase_records.specs.Device.{AppendsBeginning}
@@ -9,6 +9,7 @@ use Rattle.task_lang.specs.Meaning.{Plan}
 use Rattle.job_reader.specs.Trees.{BodyTree, JobTree}
 use Rattle.job_reader.specs.Reading.{job_in}
 use Rattle.job_reader.specs.Grammar.{canonical_text}
+use Rattle.job_reader.specs.Upgrade.{upgraded_tree}
 use Rattle.step_core.specs.Program.{Program}
 use Rattle.step_core.specs.JobMeaning.{report_of}
 
@@ -32,6 +33,14 @@ WritesCanonical input old new = (job : JobTree) × (job_in input ≡ Ok job) × 
 -- or a beginning of it
 abbrev pub BeginsCanonical : List ℕ → Option (List ℕ) → Option (List ℕ) → Type 0
 BeginsCanonical input old new = (job : JobTree) × (job_in input ≡ Ok job) × AppendsBeginning old new (canonical_text job)
+
+-- the input is the text of a job, and its canonical text as a job of format 2 was written
+abbrev pub WritesUpgraded : List ℕ → Option (List ℕ) → Option (List ℕ) → Type 0
+WritesUpgraded input old new = (job : JobTree) × (job_in input ≡ Ok job) × Appends old new (canonical_text (upgraded_tree job))
+
+-- or a beginning of it
+abbrev pub BeginsUpgraded : List ℕ → Option (List ℕ) → Option (List ℕ) → Type 0
+BeginsUpgraded input old new = (job : JobTree) × (job_in input ≡ Ok job) × AppendsBeginning old new (canonical_text (upgraded_tree job))
 
 -- the input is the text of a job that leaves this report within the limit
 abbrev pub Leaves : ℕ → List ℕ → ReportValue → Type 0

@@ -6,7 +6,7 @@ use Rattle.bsp_cli.specs.CommandLine.{asked_in, refused_by, tree_asked}
 use Rattle.bsp_cli.specs.Did.{are_refused}
 use Rattle.clap.specs.declared.error.kind.ErrorKind.TheVariants.{DisplayHelp, DisplayVersion}
 use Rattle.bsp_cli.specs.declared.asked.Asked.{Asked}
-use Rattle.bsp_cli.specs.declared.asked.Asked.TheVariants.{Trace, Check, Run}
+use Rattle.bsp_cli.specs.declared.asked.Asked.TheVariants.{Trace, Check, Upgrade, Run}
 
 -- words that are taken, and what they ask for
 abbrev pub Asks : List (List ℕ) → Asked → Type 0
@@ -23,6 +23,7 @@ AreRefused words = are_refused (refused_by words) ≡ true
 pub record WordsAsk (name : List ℕ) : Type 0 where
   pub trace : Asks (name ∷ codes "trace" ∷ []) Trace
   pub check : Asks (name ∷ codes "check" ∷ []) Check
+  pub upgrade : Asks (name ∷ codes "upgrade" ∷ []) Upgrade
   pub run : Asks (name ∷ codes "run" ∷ []) (Run 1 1000000)
   pub least : Asks (name ∷ codes "run" ∷ codes "--limit" ∷ codes "1" ∷ []) (Run 1 1)
   pub most : Asks (name ∷ codes "run" ∷ codes "--limit" ∷ codes "1000000" ∷ []) (Run 1 1000000)
@@ -37,6 +38,7 @@ pub record WordsAreRefused (name : List ℕ) : Type 0 where
   pub nothing : AreRefused (name ∷ [])
   pub unknown : AreRefused (name ∷ codes "runs" ∷ [])
   pub more : AreRefused (name ∷ codes "check" ∷ codes "job" ∷ [])
+  pub more_upgrade : AreRefused (name ∷ codes "upgrade" ∷ codes "job" ∷ [])
   pub none : AreRefused (name ∷ codes "run" ∷ codes "--limit" ∷ codes "0" ∷ [])
   pub many : AreRefused (name ∷ codes "run" ∷ codes "--limit" ∷ codes "1000001" ∷ [])
   pub no_worker : AreRefused (name ∷ codes "run" ∷ codes "--workers" ∷ codes "0" ∷ [])
@@ -56,6 +58,8 @@ pub record WordsAskForHelp (name : List ℕ) : Type 0 where
   pub trace_long : AskForHelp (name ∷ codes "trace" ∷ codes "--help" ∷ [])
   pub check : AskForHelp (name ∷ codes "check" ∷ codes "-h" ∷ [])
   pub check_long : AskForHelp (name ∷ codes "check" ∷ codes "--help" ∷ [])
+  pub upgrade : AskForHelp (name ∷ codes "upgrade" ∷ codes "-h" ∷ [])
+  pub upgrade_long : AskForHelp (name ∷ codes "upgrade" ∷ codes "--help" ∷ [])
   pub run : AskForHelp (name ∷ codes "run" ∷ codes "-h" ∷ [])
   pub run_long : AskForHelp (name ∷ codes "run" ∷ codes "--help" ∷ [])
 

@@ -16,6 +16,8 @@ pub enum Asked {
     Trace,
     /// To check a job's text.
     Check,
+    /// To write a job in format 2.
+    Upgrade,
     /// To run a job.
     Run {
         /// On so many workers.
@@ -85,18 +87,20 @@ Codes of refusals:
   7   words too few, too many or misplaced
   12  over 4096 commands, or over 256 tokens";
 
-// What stands in a job, how the command ends, and why a text is refused, for the help of `check` and `run`.
+// What stands in a job, how the command ends, and why a text is refused, for the help of `check`, `upgrade`
+// and `run`.
 macro_rules! job_help {
     ($ends:literal) => {
         concat!(
-            "The first line: bsp 1
+            "The first line: bsp 1, or bsp 2
 Then, one a line:
   array NAME LENGTH [VALUE ..]  an array; values left out are 0
-  body NAME                     a body begins, and a line end ends it
+  body NAME [LOCAL ..]          a body begins, and a line end ends it; bsp 2 lists its locals
   start NAME N                  a task of that body, with the argument N
 In a body:
   let NAME = EXPR               sets a local
   put ARRAY[INDEX] = EXPR       a value for that cell, as the superstep ends
+  add ARRAY[INDEX] = EXPR       a value to add to that cell then; bsp 2 only
   print EXPR                    prints a value
   spawn NAME EXPR               a task of that body, from the next superstep on
   sync, stop                    waits for the superstep's end; ends the task
@@ -108,13 +112,13 @@ a local, arg, step or ARRAY[INDEX]. A line that begins with # is a comment.",
             "Codes of refusals:
   1   over 1048576 bytes
   2   a byte that isn't allowed
-  3   the first line isn't bsp 1
+  3   the first line is neither bsp 1 nor bsp 2
   4   a line whose first word isn't allowed there
   5   not a name
   6   not a number, or one out of its range
   7   words too few, too many or misplaced
-  8   an array or a body declared twice
-  9   no such array above, or no such body
+  8   an array or a body declared twice, or a local listed twice
+  9   no such array above, no such body, or in bsp 2 no such local
   10  the text ends in a body
   11  an else that fits no if
   12  past a limit of the language
@@ -130,6 +134,20 @@ const CHECK_LINES: &str = job_help!(
 
 Statuses, and the line on standard error:
   0  the text is a job's
+  4  the text is refused: refused line L code C
+  5  command line refused
+  6  out of memory
+  8  read or write failed
+
+"
+);
+
+// The help of `upgrade`.
+const UPGRADE_LINES: &str = job_help!(
+    "
+
+Statuses, and the line on standard error:
+  0  the job is written with bsp 2
   4  the text is refused: refused line L code C
   5  command line refused
   6  out of memory
@@ -161,6 +179,7 @@ Faults, as the report's last line tells them:
   5  a spawn by a task whose path has 8 numbers
   6  the ninth spawn of a task in one superstep, or its 65536th in all
   7  over 4096 tasks would live on
+  8  a cell's sum doesn't fit 64 bits as its values are added
 
 "
 );
@@ -251,6 +270,16 @@ fn check_command<'a>(alloc: Global) -> Command<'a>
         .after_help(CHECK_LINES)
 }
 
+// The subcommand `upgrade`.
+fn upgrade_command<'a>(alloc: Global) -> Command<'a>
+    ensures app { app_of result ≡ new_app (codes "upgrade") }
+    ensures local { (fields_of result).has_globals ≡ false }
+{
+    Command::new(alloc, "upgrade")
+        .about("Reads the text of a job of either format, and prints the job in format 2")
+        .after_help(UPGRADE_LINES)
+}
+
 // The program, which wants a subcommand, without any.
 fn bare_program<'a>(alloc: Global) -> Command<'a>
     ensures { app_of result ≡ record bare { top = record bare.top { subcommand_required = true; has_version = true } } }
@@ -268,7 +297,8 @@ pub(crate) fn parser<'a>(alloc: Global) -> Result<Command<'a>, Error>
 {
     let with_trace = bare_program(alloc).subcommand(trace_command(alloc))?;
     let with_check = with_trace.subcommand(check_command(alloc))?;
-    let with_run = with_check.subcommand(run_command(alloc)?)?;
+    let with_upgrade = with_check.subcommand(upgrade_command(alloc))?;
+    let with_run = with_upgrade.subcommand(run_command(alloc)?)?;
     Ok(with_run)
 }
 
@@ -324,6 +354,12 @@ pub(crate) fn asked_for<'a>(matches: &ArgMatches<'a>) -> Request<'a>
             if name == "check" {
                 return Request {
                     asked: Asked::Check,
+                    tree: "flat",
+                };
+            }
+            if name == "upgrade" {
+                return Request {
+                    asked: Asked::Upgrade,
                     tree: "flat",
                 };
             }

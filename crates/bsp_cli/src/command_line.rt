@@ -10,7 +10,7 @@ ghost use Rattle.bsp_cli.specs.Texts.{Tells};
 
 use crate::asked::{Asked, Request, asked_for, parser};
 use crate::fault::{RunFault, tell};
-use crate::job::{check, run_bytes, run_status};
+use crate::job::{check, run_bytes, run_status, upgrade};
 use crate::status::{COMMAND_LINE_REFUSED, DEVICE_FAILED, INTERNAL, OUT_OF_MEMORY};
 use crate::trace::trace;
 use clap::Error;
@@ -101,6 +101,10 @@ fn do_asked<T: Threads + Wait + Sync, R: CountedRead, W: CountedWrite>(
             Err(fault) => Err(fault),
         },
         Asked::Check => match check(alloc, reader, writer) {
+            Ok(()) => Ok(0),
+            Err(fault) => Err(fault),
+        },
+        Asked::Upgrade => match upgrade(alloc, reader, writer) {
             Ok(()) => Ok(0),
             Err(fault) => Err(fault),
         },

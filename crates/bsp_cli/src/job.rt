@@ -1,16 +1,16 @@
-//! The subcommands `check` and `run`.
+//! The subcommands `check`, `upgrade` and `run`.
 ghost use Rattle.std.specs.Prelude.{◌≡◌, ◌≤◌, ℕ, Some, IfOk, IfErr};
 ghost use Rattle.phase_records.specs.StatusSeen.{status_seen};
 ghost use Rattle.bsp_cli.specs.Jobs.{status_number};
 ghost use Rattle.step_core.specs.Program.{program_of};
 ghost use Rattle.step_core.specs.JobMeaning.{report_of};
 ghost use Rattle.worker_pool.specs.Refusals.{IsOfWorkers};
-ghost use Rattle.bsp_cli.specs.Ends.{TakesJob, Checks, IsOfPool, Reports, Runs, ReadCause, WriteCause, end_result};
+ghost use Rattle.bsp_cli.specs.Ends.{TakesJob, Checks, Upgrades, IsOfPool, Reports, Runs, ReadCause, WriteCause, end_result};
 
 use crate::fault::RunFault;
 use crate::status::{LIMIT_REACHED, TASK_FAULT};
 use advance_rule::{EndPlan, StoredAdvance};
-use job_reader::{Code, ReadJobFault, Refusal, read_job, write_job};
+use job_reader::{Code, ReadJobFault, Refusal, read_job, upgrade as upgraded, write_job};
 use phase_records::{
     CountedRead, CountedWrite, JobStatus, ReadFault, Report, WriteFault, read_all, write_report,
 };
@@ -55,6 +55,27 @@ pub(crate) fn check<R: CountedRead, W: CountedWrite>(
 {
     let job = match take_job(alloc, reader) {
         Ok(job) => job,
+        Err(fault) => return Err(fault),
+    };
+    match write_job(alloc, &job, writer) {
+        Ok(()) => Ok(()),
+        Err(WriteFault::Write) => Err(RunFault::Write),
+        Err(WriteFault::Memory) => Err(RunFault::Memory),
+    }
+}
+
+/// Reads a job of either format, and writes its canonical text as one of format 2.
+pub(crate) fn upgrade<R: CountedRead, W: CountedWrite>(
+    alloc: Global,
+    reader: &mut R,
+    writer: &mut W,
+) -> Result<(), RunFault>
+    ensures upgrades { Upgrades (R.remaining reader.old) (W.contents writer.old) (W.contents writer.new) result }
+    ensures read_failures { ReadCause (R.failures reader.old) (R.failures reader.new) result }
+    ensures write_failures { WriteCause (W.failures writer.old) (W.failures writer.new) result }
+{
+    let job = match take_job(alloc, reader) {
+        Ok(job) => upgraded(job),
         Err(fault) => return Err(fault),
     };
     match write_job(alloc, &job, writer) {

@@ -2,7 +2,7 @@
 ghost use Rattle.bsp_cli.specs.Laws.{EachNameAsks, EachNameHelps, EachNameRefuses, EachNameTellsVersion};
 ghost use Rattle.bsp_cli.specs.Laws.{EachLimitAsks, EachNumberAsks, EachNumberOfWorkersAsks, EachOtherNumberIsRefused};
 
-/// Which words ask for what: `trace`, `check`, and `run` with its limits, behind any name of the program.
+/// Which words ask for what: `trace`, `check`, `upgrade`, and `run` with its limits, behind any name of the program.
 pub fn words_ask()
     ensures { EachNameAsks }
 {}

@@ -9,4 +9,6 @@ returns-clause-app c =
     ∙ ap₂ with_subcommand c.bare_program.ensures (ap top c.trace_command.ensures.app) in
     let second = c.in_ok-with_check.ensures.shape c.check_command.ensures.local
     ∙ ap₂ with_subcommand first (ap top c.check_command.ensures.app) in
-    c.in_ok-with_run.ensures.shape c.in_ok-run_command.ensures.local ∙ ap₂ with_subcommand second (ap top c.in_ok-run_command.ensures.app)
+    let third = c.in_ok-with_upgrade.ensures.shape c.upgrade_command.ensures.local
+    ∙ ap₂ with_subcommand second (ap top c.upgrade_command.ensures.app) in
+    c.in_ok-with_run.ensures.shape c.in_ok-run_command.ensures.local ∙ ap₂ with_subcommand third (ap top c.in_ok-run_command.ensures.app)
