@@ -20,6 +20,13 @@ const ALONE: [&str; 2] = ["bsp", "run"];
 
 const SHARED: [&str; 6] = ["bsp", "run", "--workers", "3", "--tree", "2x2"];
 
+// The words that write a job in format 2, and that run one on four workers.
+const UPGRADE: [&str; 2] = ["bsp", "upgrade"];
+
+const BY_FOUR: [&str; 6] = ["bsp", "run", "--workers", "4", "--tree", "2x2"];
+
+const BENCH: [&str; 3] = ["bench/many", "bench/ring", "bench/spawns"];
+
 const JOBS: [&str; 5] = ["breadth", "halves", "prefix", "sort", "swap"];
 
 // What the program left of a text.
@@ -82,6 +89,57 @@ fn is_taken<R: Threads + Wait + Sync>(rt: &R, alloc: Global, text: &str) -> bool
     }
 }
 
+// A job's text in format 2, which is that again where it is upgraded again; none where the text is refused.
+fn upgraded<R: Threads + Wait + Sync>(
+    rt: &R,
+    alloc: Global,
+    text: &str,
+) -> Result<Option<String>, AllocError> {
+    let once = run_on(rt, alloc, &UPGRADE, text.as_bytes());
+    let Ok(canonical) = str::from_utf8(once.output.as_slice()) else {
+        return Ok(None);
+    };
+    if once.status != 0 || !prints(rt, alloc, &UPGRADE, canonical, canonical) {
+        return Ok(None);
+    }
+    Ok(Some(String::from_str(alloc, canonical)?))
+}
+
+// Whether a job in format 2 prints the same, on one worker and on four.
+fn stays<R: Threads + Wait + Sync>(
+    rt: &R,
+    alloc: Global,
+    text: &str,
+    want: &str,
+) -> Result<bool, AllocError> {
+    let Some(text) = upgraded(rt, alloc, text)? else {
+        return Ok(false);
+    };
+    Ok(
+        prints(rt, alloc, &ALONE, text.as_str(), want)
+            && prints(rt, alloc, &BY_FOUR, text.as_str(), want),
+    )
+}
+
+// Whether the text of a row that runs a job leaves the same in format 2, where it isn't refused.
+fn row_stays<R: Threads + Wait + Sync>(
+    rt: &R,
+    alloc: Global,
+    row: &Row<'_>,
+    want: &str,
+) -> Result<bool, AllocError> {
+    if !row.runs() {
+        return Ok(true);
+    }
+    let text = row.whole_text(alloc)?;
+    let Some(text) = upgraded(rt, alloc, text.as_str())? else {
+        return Ok(true);
+    };
+    let words = row.command_line(alloc)?;
+    let left = run_on(rt, alloc, words.as_slice(), text.as_bytes());
+    Ok(left.status == row.status && left.printed(want))
+}
+
 // What the program leaves of a row's text.
 fn run_row<R: Threads + Wait + Sync>(
     rt: &R,
@@ -101,7 +159,10 @@ fn holds<R: Threads + Wait + Sync>(
 ) -> Result<bool, AllocError> {
     let left = run_row(rt, alloc, row)?;
     let want = row.whole_output(alloc)?;
-    Ok(left.status == row.status && left.printed(want.as_str()))
+    if left.status != row.status || !left.printed(want.as_str()) {
+        return Ok(false);
+    }
+    row_stays(rt, alloc, row, want.as_str())
 }
 
 // What is said of an example.
@@ -165,7 +226,8 @@ fn is_job<R: AllocGlobal + Files + Threads + Wait + Sync>(
     Ok(
         is_taken(rt, alloc, text.as_str())
             && prints(rt, alloc, &ALONE, text.as_str(), want.as_str())
-            && is_shared(rt, alloc, text.as_str(), want.as_str()),
+            && is_shared(rt, alloc, text.as_str(), want.as_str())
+            && stays(rt, alloc, text.as_str(), want.as_str())?,
     )
 }
 
@@ -173,6 +235,33 @@ fn is_job<R: AllocGlobal + Files + Threads + Wait + Sync>(
 fn run_jobs<R: AllocGlobal + Files + Print + Threads + Wait + Sync>(rt: &R) -> Result<(), Error> {
     for name in JOBS {
         let said = verdict(is_job(rt, name)?);
+        println!(rt; "{name}.job {said}")?;
+    }
+    Ok(())
+}
+
+// Whether a job for measuring leaves the same in format 2.
+fn is_bench<R: AllocGlobal + Files + Threads + Wait + Sync>(
+    rt: &R,
+    name: &str,
+) -> Result<bool, Error> {
+    let alloc = rt.alloc();
+    let text = stored(rt, name, "job")?;
+    let left = run_on(rt, alloc, &ALONE, text.as_bytes());
+    let Ok(want) = str::from_utf8(left.output.as_slice()) else {
+        return Ok(false);
+    };
+    Ok(stays(rt, alloc, text.as_str(), want)?)
+}
+
+// Runs the jobs for measuring.
+fn run_bench<R: AllocGlobal + Files + Print + Threads + Wait + Sync>(rt: &R) -> Result<(), Error> {
+    for name in BENCH {
+        let said = if is_bench(rt, name)? {
+            "leaves the same in format 2"
+        } else {
+            "leaves something else in format 2"
+        };
         println!(rt; "{name}.job {said}")?;
     }
     Ok(())
@@ -217,5 +306,6 @@ fn run_rows<R: AllocGlobal + Files + Print + Threads + Wait + Sync>(rt: &R) -> R
 fn main(rt: HostRuntime) -> Result<(), Error> {
     run_traces(&rt)?;
     run_jobs(&rt)?;
+    run_bench(&rt)?;
     run_rows(&rt)
 }

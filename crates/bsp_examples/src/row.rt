@@ -38,6 +38,11 @@ impl<'a> Row<'a> {
         Ok(line)
     }
 
+    /// Whether the program is to run a job.
+    pub(crate) fn runs(&self) -> bool {
+        self.words == "run" || self.words.starts_with("run ")
+    }
+
     /// The text that the program reads.
     pub(crate) fn whole_text(&self, alloc: Global) -> Result<String, AllocError> {
         written_out(alloc, self.text)
