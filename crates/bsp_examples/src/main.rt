@@ -29,6 +29,23 @@ const BENCH: [&str; 3] = ["bench/many", "bench/ring", "bench/spawns"];
 
 const JOBS: [&str; 5] = ["breadth", "halves", "prefix", "sort", "swap"];
 
+// The jobs of the gallery, which one worker runs, and four.
+const GALLERY: [&str; 13] = [
+    "bitonic",
+    "collatz",
+    "components",
+    "events",
+    "histogram",
+    "jacobi",
+    "life",
+    "matrix",
+    "paths",
+    "queens",
+    "ranking",
+    "sieve",
+    "treesum",
+];
+
 // What the program left of a text.
 #[derive(Drop)]
 struct Ran {
@@ -267,6 +284,34 @@ fn run_bench<R: AllocGlobal + Files + Print + Threads + Wait + Sync>(rt: &R) -> 
     Ok(())
 }
 
+// Whether a job of the gallery prints what is stored, on one worker and on four, and its text is taken; so too in format 2.
+fn is_of_gallery<R: AllocGlobal + Files + Threads + Wait + Sync>(
+    rt: &R,
+    name: &str,
+) -> Result<bool, Error> {
+    let alloc = rt.alloc();
+    let name = format!(in alloc; "gallery/{name}")?;
+    let text = stored(rt, name.as_str(), "job")?;
+    let want = stored(rt, name.as_str(), "out")?;
+    Ok(
+        is_taken(rt, alloc, text.as_str())
+            && prints(rt, alloc, &ALONE, text.as_str(), want.as_str())
+            && prints(rt, alloc, &BY_FOUR, text.as_str(), want.as_str())
+            && stays(rt, alloc, text.as_str(), want.as_str())?,
+    )
+}
+
+// Runs the jobs of the gallery.
+fn run_gallery<R: AllocGlobal + Files + Print + Threads + Wait + Sync>(
+    rt: &R,
+) -> Result<(), Error> {
+    for name in GALLERY {
+        let said = verdict(is_of_gallery(rt, name)?);
+        println!(rt; "gallery/{name}.job {said}")?;
+    }
+    Ok(())
+}
+
 // Whether a line is a row that holds.
 fn is_row<R: Threads + Wait + Sync>(rt: &R, alloc: Global, line: &str) -> Result<bool, AllocError> {
     match row_of(line) {
@@ -306,6 +351,7 @@ fn run_rows<R: AllocGlobal + Files + Print + Threads + Wait + Sync>(rt: &R) -> R
 fn main(rt: HostRuntime) -> Result<(), Error> {
     run_traces(&rt)?;
     run_jobs(&rt)?;
+    run_gallery(&rt)?;
     run_bench(&rt)?;
     run_rows(&rt)
 }
