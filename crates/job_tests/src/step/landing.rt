@@ -101,7 +101,11 @@ const TWO_LOGS: &[Log] = &[
 ];
 
 // The path and the puts of a log.
-fn entry_of(alloc: Global, path: &[u16], puts: &[(u16, u32, Kind, i64)]) -> Result<Entry, AllocError> {
+fn entry_of(
+    alloc: Global,
+    path: &[u16],
+    puts: &[(u16, u32, Kind, i64)],
+) -> Result<Entry, AllocError> {
     let mut all = Vec::new(alloc);
     for (array, index, kind, value) in puts {
         all.push(Put {
