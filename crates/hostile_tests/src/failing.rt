@@ -154,12 +154,14 @@ fn errors_are_cut<R: Threads + Wait + Sync>(
 
 #[test]
 fn a_writer_of_errors_that_fails_leaves_the_status(rt: HostRuntime) {
-    let rows: [(&str, &str, usize, (u8, &[u8])); 5] = [
+    let rows: [(&str, &str, usize, (u8, &[u8])); 7] = [
         ("trace", "phaser\n", usize::MAX, (4, b"refu")),
         ("check", "phaser\n", usize::MAX, (4, b"refu")),
+        ("upgrade", "phaser\n", usize::MAX, (4, b"refu")),
         ("run", "phaser\n", usize::MAX, (4, b"refu")),
         ("walk", SWAP, usize::MAX, (5, b"comm")),
         ("check", SWAP, 0, (8, b"read")),
+        ("upgrade", SWAP, 0, (8, b"read")),
     ];
     for (word, text, room, want) in rows {
         assert!(rt; errors_are_cut(&rt, rt.alloc(), &["bsp", word], text, room, want));
@@ -183,7 +185,7 @@ fn is_refused_in_time<R: Abort + Threads + Wait + Sync>(
 #[test]
 fn a_text_is_read_by_at_most_1048577_reads(rt: HostRuntime) {
     let text = Vec::from_elem(rt.alloc(), b'\n', 2097152).expect(&rt, "memory");
-    for word in ["trace", "check", "run"] {
+    for word in ["trace", "check", "upgrade", "run"] {
         is_refused_in_time(&rt, rt.alloc(), &["bsp", word], &text);
     }
 }

@@ -5,9 +5,10 @@ use std::sync::Wait;
 use std::thread::Threads;
 
 // Words of a command line that asks for help, and what the help tells.
-const HELPS: [(&[&str], &str); 11] = [
+const HELPS: [(&[&str], &str); 13] = [
     (&["bsp", "--help"], "\n  trace  "),
     (&["bsp", "--help"], "\n  check  "),
+    (&["bsp", "--help"], "\n  upgrade  "),
     (&["bsp", "--help"], "\n  run  "),
     (&["bsp", "run", "--help"], "--limit <N>"),
     (&["bsp", "run", "--help"], "--workers <N>"),
@@ -15,6 +16,7 @@ const HELPS: [(&[&str], &str); 11] = [
     (&["bsp", "run", "--help"], "\n  10  "),
     (&["bsp", "run", "--help"], "worker K not started"),
     (&["bsp", "check", "--help"], "\n  10  "),
+    (&["bsp", "upgrade", "--help"], "\n  10  "),
     (&["bsp", "trace", "--help"], "\n  12  "),
     (&["bsp", "trace", "-h"], "trace"),
 ];

@@ -73,15 +73,31 @@ end
 start p 0
 ";
 
+// A job of format 2, whose tasks add to one cell.
+const SUMS: &str = "bsp 2
+array c 2 10 20
+body sum from to
+let from = c[arg]
+add c[0] = from
+put c[to] = arg
+end
+start sum 0
+start sum 1
+";
+
 /// Texts that each subcommand takes, behind its name.
-pub(crate) fn texts() -> [(&'static str, &'static str); 6] {
+pub(crate) fn texts() -> [(&'static str, &'static str); 10] {
     [
         ("trace", PHASER),
         ("trace", IN_FLIGHT),
         ("trace", BARRIER),
         ("check", SWAP),
+        ("check", SUMS),
+        ("upgrade", SWAP),
+        ("upgrade", SUMS),
         ("run", SWAP),
         ("run", SPAWNS),
+        ("run", SUMS),
     ]
 }
 
