@@ -1,12 +1,13 @@
 /* bsp_job.h: jobs of the task language as texts (docs/LANGUAGE.md, docs/FORMATS.md).
  *
- * Proved: both calls, which the static library libbsp_job.a has; nothing is inline here. They take memory from the
+ * Proved: the three calls, which the static library libbsp_job.a has; nothing is inline here. They take memory from the
  * program's malloc, realloc and free, and give all of it back. Link liblibc_c.a of the toolchain too, which has the
  * three calls between (docs/EMBEDDING.md).
  *
  * What is promised, for any bytes of any length:
  *   a text is one job or is refused at its first fault, which is told by line and code (status 4);
  *   bsp_check, status 0: the first `told->bytes` bytes of `out` are the canonical text of the job that the text is;
+ *   bsp_upgrade, status 0: they are that of this job in format 2;
  *   bsp_run, status 0, 2 and 3: they are the text of the report of what that job leaves within the limit, as the
  *   program `bsp run` prints it, and the status is that report's;
  *   10: `out` is too short for that text, which is `told->bytes` bytes long; nothing of `out` is to be relied on;
@@ -47,6 +48,9 @@ enum {
 
 /* Puts the canonical text of a job into `out`: 0, 4, 6 or 10. */
 int32_t bsp_check(const uint8_t *text, size_t text_len, uint8_t *out, size_t out_len, struct bsp_told *told);
+
+/* Puts the canonical text of the job in format 2, which means the same, into `out`: 0, 4, 6 or 10. */
+int32_t bsp_upgrade(const uint8_t *text, size_t text_len, uint8_t *out, size_t out_len, struct bsp_told *told);
 
 /* Runs a job on the caller's thread, within this limit of supersteps, and puts the text of its report into `out`: 0
  * where it ended, 2 where a task faulted, 3 where the limit was reached with live tasks; 4, 6, 10; 5 for a limit of

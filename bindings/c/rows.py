@@ -1,5 +1,5 @@
 #!/usr/bin/env python3
-"""Runs each stored row of `run` and `check` that asks for no workers through PROGRAM (bindings/c/jobs.c): rows.py PROGRAM ROWS"""
+"""Runs each stored row of `run`, `check` and `upgrade` that asks for no workers through PROGRAM (bindings/c/jobs.c): rows.py PROGRAM ROWS"""
 import re, subprocess, sys
 
 
@@ -24,7 +24,7 @@ def main(program, rows):
             if not line.strip() or line.startswith("--"):
                 continue
             row = line.rstrip("\n").split(" | ", 3)
-            asked = re.fullmatch(r"(run|check)(?: --limit (\d+))?", row[0])
+            asked = re.fullmatch(r"(run|check|upgrade)(?: --limit (\d+))?", row[0])
             if not asked or row[2] == "5":
                 continue
             text, status, output = row[1:]

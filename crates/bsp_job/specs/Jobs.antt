@@ -9,6 +9,7 @@ use Rattle.text_lines.specs.declared.refusal.Refusal.{Refusal}
 use Rattle.job_reader.specs.Trees.{BodyTree, JobTree}
 use Rattle.job_reader.specs.Reading.{job_in}
 use Rattle.job_reader.specs.Grammar.{canonical_text}
+use Rattle.job_reader.specs.Upgrade.{upgraded_tree}
 use Rattle.step_parts.specs.Program.{Program}
 use Rattle.step_parts.specs.JobMeaning.{report_of}
 use Rattle.bsp_job.specs.declared.Told.{Told}
@@ -38,6 +39,11 @@ abbrev pub TellsCheck : Result JobTree Refusal → List ℕ → ℤ → Told →
 TellsCheck (Ok job) out status told = IsGiven (canonical_text job) out (pos 0) status told.bytes
 TellsCheck (Err refusal) out status told = IsRefusedAs refusal status told
 
+-- what an upgrade tells of it: the canonical text of that job in format 2, or its first refusal
+abbrev pub TellsUpgrade : Result JobTree Refusal → List ℕ → ℤ → Told → Type 0
+TellsUpgrade (Ok job) out status told = IsGiven (canonical_text (upgraded_tree job)) out (pos 0) status told.bytes
+TellsUpgrade (Err refusal) out status told = IsRefusedAs refusal status told
+
 -- what a job leaves within a limit was given as text, and the status tells how it ended
 pub record GivesReport (job : JobTree) (limit : ℕ) (out : List ℕ) (status : ℤ) (told : Told) : Type 0 where
   pub report : ReportValue
@@ -49,9 +55,12 @@ abbrev pub TellsRun : ℕ → Result JobTree Refusal → List ℕ → ℤ → To
 TellsRun limit (Ok job) out status told = GivesReport job limit out status told
 TellsRun limit (Err refusal) out status told = IsRefusedAs refusal status told
 
--- Unless there was no memory, which is status 6, a check tells that of the text, and a run that.
+-- Unless there was no memory, which is status 6, a check, an upgrade and a run tell that of the text.
 abbrev pub Checks : List ℕ → List ℕ → ℤ → Told → Type 0
 Checks text out status told = (status ≡ pos 6) ⊎ TellsCheck (job_in text) out status told
+
+abbrev pub Upgrades : List ℕ → List ℕ → ℤ → Told → Type 0
+Upgrades text out status told = (status ≡ pos 6) ⊎ TellsUpgrade (job_in text) out status told
 
 abbrev pub Runs : ℕ → List ℕ → List ℕ → ℤ → Told → Type 0
 Runs limit text out status told = (status ≡ pos 6) ⊎ TellsRun limit (job_in text) out status told

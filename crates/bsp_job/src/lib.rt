@@ -5,9 +5,10 @@ ghost use Rattle.std.specs.Prelude.{◌≡◌, ◌⊎◌, ◌≤◌, length, pos
 ghost use Rattle.phase_records.specs.StatusSeen.{status_seen};
 ghost use Rattle.job_reader.specs.Trees.{job_tree};
 ghost use Rattle.bsp_job.specs.Given.{IsGiven};
-ghost use Rattle.bsp_job.specs.Jobs.{Checks, Runs, IsRefusedAs, GivesReport, status_number};
+ghost use Rattle.job_reader.specs.Grammar.{canonical_text};
+ghost use Rattle.bsp_job.specs.Jobs.{Checks, Upgrades, Runs, IsRefusedAs, GivesReport, status_number};
 
-use job_reader::{ReadJobFault, Refusal, canonical, read_job};
+use job_reader::{ReadJobFault, Refusal, canonical, read_job, upgrade};
 use phase_records::{JobStatus, text_of};
 use std::alloc::{AllocError, Global};
 use step_core::run_alone;
@@ -72,6 +73,19 @@ fn status_of(status: &JobStatus) -> i32
     }
 }
 
+// Puts the canonical text of a job into the caller's bytes.
+fn write_and_give(alloc: Global, job: &Job, out: &mut [u8], told: &mut Told) -> i32
+    ensures { (result ≡ pos 6) ⊎ IsGiven (canonical_text (job_tree job.now)) out.new (pos 0) result told.new.bytes }
+{
+    match canonical(alloc, job) {
+        Ok(bytes) => {
+            told.bytes = bytes.len();
+            give(&bytes, 0, out)
+        }
+        Err(AllocError) => NO_MEMORY,
+    }
+}
+
 /// Reads a job and puts its canonical text into `out`: 0; 4 where the text is refused; 6 without memory; 10 where
 /// `out` is too short, and then nothing of it is to be relied on.
 #[unsafe(no_mangle)]
@@ -80,13 +94,21 @@ pub extern "C" fn bsp_check(alloc: Global, text: &[u8], out: &mut [u8], told: &m
 {
     *told = NOTHING;
     match read_job(alloc, text) {
-        Ok(job) => match canonical(alloc, &job) {
-            Ok(bytes) => {
-                told.bytes = bytes.len();
-                give(&bytes, 0, out)
-            }
-            Err(AllocError) => NO_MEMORY,
-        },
+        Ok(job) => write_and_give(alloc, &job, out, told),
+        Err(ReadJobFault::Text(refusal)) => refuse(refusal, told),
+        Err(ReadJobFault::Memory) => NO_MEMORY,
+    }
+}
+
+/// Reads a job of either format and puts the canonical text of the job in format 2, which means the same, into `out`. The
+/// statuses are those of `bsp_check`.
+#[unsafe(no_mangle)]
+pub extern "C" fn bsp_upgrade(alloc: Global, text: &[u8], out: &mut [u8], told: &mut Told) -> i32
+    ensures { Upgrades text.now out.new result told.new }
+{
+    *told = NOTHING;
+    match read_job(alloc, text) {
+        Ok(job) => write_and_give(alloc, &upgrade(job), out, told),
         Err(ReadJobFault::Text(refusal)) => refuse(refusal, told),
         Err(ReadJobFault::Memory) => NO_MEMORY,
     }
