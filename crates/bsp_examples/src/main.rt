@@ -30,20 +30,23 @@ const BENCH: [&str; 3] = ["bench/many", "bench/ring", "bench/spawns"];
 const JOBS: [&str; 5] = ["breadth", "halves", "prefix", "sort", "swap"];
 
 // The jobs of the gallery, which one worker runs, and four.
-const GALLERY: [&str; 13] = [
+const GALLERY: [&str; 16] = [
     "bitonic",
     "collatz",
     "components",
     "events",
     "histogram",
+    "histogram2",
     "jacobi",
     "life",
     "matrix",
     "paths",
     "queens",
+    "queens2",
     "ranking",
     "sieve",
     "treesum",
+    "treesum2",
 ];
 
 // What the program left of a text.
