@@ -88,7 +88,9 @@ fn keep(
         ≡ deeds.old.items ++ record { synced = synced; puts = puts; spawns = work.old.spawns.items } ∷ []) }
     ensures log { OnOk result (work.new.puts.items ≡ work.old.puts.items) }
 {
-    push_prints(prints, step, task, &work.prints)?;
+    if !work.prints.is_empty() {
+        push_prints(prints, step, task, &work.prints)?;
+    }
     let spawns = std::mem::replace(&mut work.spawns, Vec::new(alloc));
     deeds.push(Deed {
         synced,
