@@ -51,6 +51,7 @@ impl Model for Deed {
 
 // Does the task's segment: its puts come behind those in the log, its prints and spawns replace what stood in their
 // buffers, and the task itself goes on where it synced. After a fault the task means nothing but its path.
+#[inline(always)]
 fn do_task(
     alloc: Global,
     scene: &StepScene<'_>,
@@ -72,8 +73,9 @@ fn do_task(
     Ok(ending)
 }
 
-// Keeps what a task did: its prints behind those of others, and its deed.
-fn keep(
+// Keeps what a task did that printed or spawned.
+#[inline(never)]
+fn keep_all(
     alloc: Global,
     step: u32,
     task: &Task,
@@ -100,7 +102,37 @@ fn keep(
     Ok(())
 }
 
+// Keeps what a task did: its prints behind those of others, and its deed.
+#[inline(always)]
+fn keep(
+    alloc: Global,
+    step: u32,
+    task: &Task,
+    synced: bool,
+    puts: usize,
+    work: &mut Work,
+    deeds: &mut Vec<Deed>,
+    prints: &mut Vec<Print>,
+) -> Result<(), AllocError>
+    ensures prints { OnOk result (prints.new.items ≡ prints.old.items ++ map (print_of step task.now.path) work.old.prints.items) }
+    ensures deeds { OnOk result (deeds.new.items
+        ≡ deeds.old.items ++ record { synced = synced; puts = puts; spawns = work.old.spawns.items } ∷ []) }
+    ensures log { OnOk result (work.new.puts.items ≡ work.old.puts.items) }
+{
+    if work.prints.is_empty() && work.spawns.is_empty() {
+        let spawns = Vec::new(alloc);
+        deeds.push(Deed {
+            synced,
+            puts,
+            spawns,
+        })?;
+        return Ok(());
+    }
+    keep_all(alloc, step, task, synced, puts, work, deeds, prints)
+}
+
 // Does a task's segment, and keeps what it did behind what others did, or tells its fault.
+#[inline(always)]
 fn do_one(
     alloc: Global,
     scene: &StepScene<'_>,

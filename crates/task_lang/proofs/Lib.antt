@@ -15,3 +15,5 @@ pub mod Unread
 mod Firsts
 pub mod Named
 pub mod Behind
+pub mod Said
+pub mod Played

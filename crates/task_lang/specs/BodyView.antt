@@ -2,9 +2,12 @@
 use Rattle.task_lang.specs.declared.body.Body.TheInside.{Inside}
 use Rattle.task_lang.specs.BodyValue.{BodyValue, body_value}
 use Rattle.task_lang.specs.Rules.{IsBody}
+use Rattle.task_lang.specs.Operations.{AllSay}
 
 abbrev pub body_of : Inside → BodyValue
 body_of b = body_value b.name b.locals b.code
 
-abbrev pub IsInside : Inside → Type 0
-IsInside b = IsBody (body_of b)
+-- its operations say what its lines say
+pub record IsInside (b : Inside) : Type 0 where
+  pub body : IsBody (body_of b)
+  pub said : AllSay b.code.items b.operations.items

@@ -17,3 +17,4 @@ pub mod TaskValue
 pub mod Tree
 pub mod Views
 pub mod Lent
+pub mod Operations

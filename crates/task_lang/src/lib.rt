@@ -12,6 +12,7 @@ mod limits;
 mod mentions;
 pub mod names;
 mod operands;
+mod operation;
 mod same;
 pub mod scene;
 pub mod segment;
