@@ -11,11 +11,11 @@ ghost use Rattle.step_deeds.specs.InPlace.{living_with, left_in, spawned_in};
 ghost use Rattle.step_parts.specs.JobMeaning.{start_tasks, opening, report_of};
 ghost use Rattle.step_core.specs.Course.{course_state, HasTakenOne, left_by};
 
-use crate::regroup::regroup;
 use phase_records::{JobStatus, PhaseRecord, Print, Report};
 use smallvec::SmallVec;
 use std::alloc::{AllocError, Global};
-use step_deeds::in_place::{Deed, StepScene, blame_at, do_all, record_deeds};
+use step_deeds::deeds::Deeds;
+use step_deeds::in_place::{StepScene, do_all};
 use step_parts::closing::too_many;
 use step_parts::slot::Blame;
 use superstep_memory::arrays::Arrays;
@@ -39,7 +39,7 @@ struct Course {
 #[derive(Drop)]
 struct Room {
     work: Work,
-    deeds: Vec<Deed>,
+    deeds: Deeds,
     living: Vec<Task>,
     olds: Vec<i64>,
 }
@@ -75,7 +75,7 @@ fn no_room(alloc: Global) -> Room {
             prints: Vec::new(alloc),
             spawns: Vec::new(alloc),
         },
-        deeds: Vec::new(alloc),
+        deeds: Deeds::new(alloc),
         living: Vec::new(alloc),
         olds: Vec::new(alloc),
     }
@@ -91,36 +91,36 @@ fn all_stay(told: PhaseRecord) -> bool
 // The tasks that live on in place of these. Only where tasks came or left they are moved.
 fn renew(
     tasks: &mut Vec<Task>,
-    deeds: &mut Vec<Deed>,
+    deeds: &mut Deeds,
     living: &mut Vec<Task>,
     told: PhaseRecord,
 ) -> Result<(), AllocError>
-    requires same { length tasks.old.items ≡ length deeds.old.items }
-    requires left { told.left ≡ left_in deeds.old.items }
-    requires spawned { told.spawned ≡ spawned_in deeds.old.items }
-    requires count { length (living_with tasks.old.items deeds.old.items) + told.left ≡ told.parties }
+    requires same { length tasks.old.items ≡ length deeds.old }
+    requires left { told.left ≡ left_in deeds.old }
+    requires spawned { told.spawned ≡ spawned_in deeds.old }
+    requires count { length (living_with tasks.old.items deeds.old) + told.left ≡ told.parties }
     requires rising { is_rising (map path_in tasks.old.items) ≡ true }
-    ensures { OnOk result (tasks.new.items ≡ in_path_order path_in (living_with tasks.old.items deeds.old.items)) }
+    ensures { OnOk result (tasks.new.items ≡ in_path_order path_in (living_with tasks.old.items deeds.old)) }
 {
     if all_stay(told) {
         return Ok(());
     }
     let count = (told.parties - told.left) as usize;
-    regroup(tasks, deeds, living, count)
+    deeds.regroup(tasks, living, count)
 }
 
 // Records what the tasks did, whose log has landed, and goes on to the next live tasks.
 fn go_on(course: &mut Course, room: &mut Room, told: PhaseRecord) -> Result<(), AllocError>
-    requires same { length course.old.tasks.items ≡ length room.old.deeds.items }
-    requires left { told.left ≡ left_in room.old.deeds.items }
-    requires spawned { told.spawned ≡ spawned_in room.old.deeds.items }
-    requires count { length (living_with course.old.tasks.items room.old.deeds.items) + told.left ≡ told.parties }
+    requires same { length course.old.tasks.items ≡ length room.old.deeds }
+    requires left { told.left ≡ left_in room.old.deeds }
+    requires spawned { told.spawned ≡ spawned_in room.old.deeds }
+    requires count { length (living_with course.old.tasks.items room.old.deeds) + told.left ≡ told.parties }
     requires rising { is_rising (map path_in course.old.tasks.items) ≡ true }
     requires below { course.old.step + 1 < 2 ^ 32 }
     ensures step { OnOk result (course.new.step ≡ course.old.step + 1) }
     ensures arrays { OnOk result (course.new.arrays ≡ course.old.arrays) }
     ensures tasks { OnOk result (course.new.tasks.items
-        ≡ in_path_order path_in (living_with course.old.tasks.items room.old.deeds.items)) }
+        ≡ in_path_order path_in (living_with course.old.tasks.items room.old.deeds)) }
     ensures prints { OnOk result (course.new.prints.items ≡ course.old.prints.items) }
     ensures records { OnOk result (course.new.records.items ≡ course.old.records.items ++ told ∷ []) }
 {
@@ -164,7 +164,7 @@ fn take_superstep(
             Ok(Some(blame))
         }
         None => {
-            let told = record_deeds(course.step, &room.deeds);
+            let told = room.deeds.record(course.step);
             if told.parties - told.left > 4096 {
                 course.prints.truncate(printed);
                 return Ok(Some(too_many(alloc)));
@@ -173,7 +173,7 @@ fn take_superstep(
             match over {
                 Some(place) => {
                     course.prints.truncate(printed);
-                    Ok(blame_at(&course.tasks, &room.deeds, place))
+                    Ok(room.deeds.blame_at(&course.tasks, place))
                 }
                 None => {
                     go_on(course, room, told)?;

@@ -3,7 +3,6 @@
 
 mod alone;
 pub mod laws;
-mod regroup;
 mod round;
 
 pub use alone::run_alone;

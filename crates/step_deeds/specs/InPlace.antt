@@ -31,6 +31,10 @@ end_of ps false u = Stopped
 abbrev pub IsDeed : List Plan → TaskValue → DeedValue → Segment → Type 0
 IsDeed ps u d g = (map (task_of ps) d.spawns ≡ g.spawns) × (g.after ≡ end_of ps d.synced u) × (d.puts ≡ length g.puts)
 
+-- a fault of the task at this path
+abbrev pub at_path : List ℕ → ℕ → ℕ × List ℕ
+at_path path code = (code, path)
+
 -- nobody faulted: the puts, prints and the deed came behind the others'; or the fault is told
 abbrev pub ToldOne : List Plan → Segment → ℕ → Option (ℕ × List ℕ) → TaskValue → TaskValue → List Put → List Put → List DeedValue → List DeedValue → List PrintValue → List PrintValue → Type 0
 ToldOne ps g step (Some f) t u puts qs ds es before after =

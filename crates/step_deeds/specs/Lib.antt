@@ -1,2 +1,3 @@
 pub mod DeedValue
 pub mod InPlace
+pub mod DeedsView

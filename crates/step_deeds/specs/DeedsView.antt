@@ -1,0 +1,36 @@
+-- What live tasks did, without where it lies in memory: the tasks that they spawned stand in one list, those of the
+-- first task first.
+use Rattle.std.specs.Prelude.{◌≡◌, ℕ, zero, suc, ◌+◌, List, [], ◌∷◌, length, take}
+use Rattle.task_lang.specs.TaskValue.{TaskValue}
+use Rattle.step_deeds.specs.DeedValue.{DeedValue}
+use Rattle.step_deeds.specs.InPlace.{one_left}
+use Rattle.step_deeds.specs.declared.deeds.Deed.{Deed}
+use Rattle.step_deeds.specs.declared.deeds.Deeds.TheInside.{Inside}
+
+-- all but the first so many
+abbrev pub behind : {A : Type 0} → ℕ → List A → List A
+behind zero xs = xs
+behind (suc n) [] = []
+behind (suc n) (x ∷ xs) = behind n xs
+
+-- each deed with its tasks, which are the next of the list
+abbrev pub deeds_with : List Deed → List TaskValue → List DeedValue
+deeds_with [] ts = []
+deeds_with (d ∷ ds) ts =
+    record { synced = d.synced; puts = d.puts; spawns = take d.spawned ts } ∷ deeds_with ds (behind d.spawned ts)
+
+-- how many tasks were spawned
+abbrev pub spawned_by : List Deed → ℕ
+spawned_by [] = 0
+spawned_by (d ∷ ds) = d.spawned + spawned_by ds
+
+-- how many tasks stopped
+abbrev pub stopped_by : List Deed → ℕ
+stopped_by [] = 0
+stopped_by (d ∷ ds) = one_left d.synced + stopped_by ds
+
+abbrev pub deeds_in : Inside → List DeedValue
+deeds_in i = deeds_with i.each.items i.spawns.items
+
+abbrev pub IsInside : Inside → Type 0
+IsInside i = spawned_by i.each.items ≡ length i.spawns.items

@@ -1,0 +1,232 @@
+//! What live tasks did in their places, beside all that they spawned in one list.
+ghost use Rattle.std.specs.Prelude.{◌≡◌, ◌≤◌, ◌+◌, ◌-◌, ◌++◌, ◌∷◌, [], OnOk, OnErr, length, reverse, take};
+ghost use Rattle.std.specs.Option.{option_map};
+ghost use Rattle.std.specs.Vec.{vec_len, vec_capacity};
+ghost use Rattle.superstep_memory.specs.PathOrder.{put_all, in_path_order};
+ghost use Rattle.step_parts.specs.SlotParts.{path_in, told_at};
+ghost use Rattle.step_deeds.specs.DeedsView.{deeds_with, spawned_by, stopped_by, behind};
+ghost use Rattle.step_deeds.specs.InPlace.{told_in, maker, kept, living_with, AllFew};
+
+use phase_records::PhaseRecord;
+use std::alloc::{AllocError, Global};
+use std::marker::Model;
+use step_parts::closing::overflowed;
+use step_parts::next::put_task;
+use step_parts::slot::Blame;
+use task_lang::task::Task;
+
+// What a task did: whether it goes on, how many puts it made, which are its part of the log, and how many tasks it
+// spawned.
+#[derive(Clone, Copy)]
+struct Deed {
+    synced: bool,
+    puts: usize,
+    spawned: usize,
+}
+
+/// What live tasks did, one deed a task: whether it synced, and so goes on, how many puts it made, and the tasks that it
+/// spawned, in program order.
+#[derive(Drop)]
+pub struct Deeds {
+    each: Vec<Deed>,
+    spawns: Vec<Task>,
+}
+
+impl Model for Deeds {
+    ghost use Rattle.std.specs.Prelude.{List};
+    ghost use Rattle.step_deeds.specs.DeedValue.{DeedValue};
+
+    ghost Value = { List DeedValue };
+
+    ghost use Rattle.step_deeds.specs.DeedsView.{deeds_in, IsInside};
+
+    ghost view = { deeds_in };
+
+    ghost invariant = { IsInside };
+}
+
+// Puts the last tasks of a list in their places among those that live on, so many of them.
+fn put_last(living: &mut Vec<Task>, spawns: &mut Vec<Task>, count: usize)
+    requires enough { count ≤ length spawns.old.items }
+    requires room { vec_len living.old + count ≤ vec_capacity living.old }
+    ensures items { living.new.items ≡ reverse (put_all path_in (behind (length spawns.old.items - count) spawns.old.items) (reverse living.old.items)) }
+    ensures rest { spawns.new.items ≡ take (length spawns.old.items - count) spawns.old.items }
+    ensures more { vec_len living.new ≡ vec_len living.old + count }
+    ensures room { vec_capacity living.new ≡ vec_capacity living.old }
+{
+    let mut left = count;
+    while left > 0 {
+        match spawns.pop() {
+            Some(task) => put_task(living, task),
+            None => unreachable!(),
+        }
+        left -= 1;
+    }
+}
+
+// Puts a task, if it goes on, and those that it spawned in their places.
+fn put_deed(living: &mut Vec<Task>, task: Task, deed: Deed, spawns: &mut Vec<Task>)
+    requires enough { deed.spawned ≤ length spawns.old.items }
+    requires room { vec_len living.old + (length (kept deed.synced task) + deed.spawned) ≤ vec_capacity living.old }
+    ensures items { living.new.items ≡ reverse (put_all path_in
+        (kept deed.synced task ++ behind (length spawns.old.items - deed.spawned) spawns.old.items) (reverse living.old.items)) }
+    ensures rest { spawns.new.items ≡ take (length spawns.old.items - deed.spawned) spawns.old.items }
+    ensures more { vec_len living.new ≡ vec_len living.old + (length (kept deed.synced task) + deed.spawned) }
+    ensures room { vec_capacity living.new ≡ vec_capacity living.old }
+{
+    put_last(living, spawns, deed.spawned);
+    if deed.synced {
+        put_task(living, task);
+    }
+}
+
+// The tasks that go on and those that they spawned, the last by path first.
+fn collect(
+    tasks: &mut Vec<Task>,
+    each: &mut Vec<Deed>,
+    spawns: &mut Vec<Task>,
+    living: &mut Vec<Task>,
+)
+    requires same { length tasks.old.items ≡ length each.old.items }
+    requires all { spawned_by each.old.items ≡ length spawns.old.items }
+    requires none_yet { living.old.items ≡ [] }
+    requires room { length (living_with tasks.old.items (deeds_with each.old.items spawns.old.items)) ≤ vec_capacity living.old }
+    ensures living { living.new.items ≡ reverse (in_path_order path_in (living_with tasks.old.items (deeds_with each.old.items spawns.old.items))) }
+    ensures tasks { tasks.new.items ≡ [] }
+    ensures each { each.new.items ≡ [] }
+    ensures spawns { spawns.new.items ≡ [] }
+{
+    while let Some(deed) = each.pop() {
+        match tasks.pop() {
+            Some(task) => put_deed(living, task, deed, spawns),
+            None => unreachable!(),
+        }
+    }
+}
+
+// How many tasks stopped.
+fn count_stopped(each: &[Deed]) -> u32
+    requires few { length each.now ≤ 4096 }
+    ensures { result ≡ stopped_by each.now }
+{
+    let mut left: u32 = 0;
+    let mut rest = each;
+    while let Some((deed, after)) = rest.split_first() {
+        if !deed.synced {
+            left += 1;
+        }
+        rest = after;
+    }
+    left
+}
+
+// Moves tasks behind others.
+#[inline(always)]
+fn take_all(all: &mut Vec<Task>, spawns: &mut Vec<Task>) -> Result<(), AllocError>
+    ensures items { OnOk result (all.new.items ≡ all.old.items ++ spawns.old.items) }
+    ensures memory { OnErr result (all.new.items ≡ all.old.items) }
+{
+    if spawns.is_empty() {
+        return Ok(());
+    }
+    all.append(spawns)
+}
+
+impl Deeds {
+    /// None yet.
+    pub fn new(alloc: Global) -> Self
+        ensures { result ≡ [] }
+    {
+        Deeds {
+            each: Vec::new(alloc),
+            spawns: Vec::new(alloc),
+        }
+    }
+
+    /// Forgets them all.
+    pub fn clear(&mut self)
+        ensures { self.new ≡ [] }
+    {
+        self.each.clear();
+        self.spawns.clear();
+    }
+
+    /// Notes what the next task did. What it spawned is moved out of the list.
+    #[inline(always)]
+    pub fn push(
+        &mut self,
+        synced: bool,
+        puts: usize,
+        spawns: &mut Vec<Task>,
+    ) -> Result<(), AllocError>
+        ensures deeds { OnOk result (self.new ≡ self.old ++ record { synced = synced; puts = puts; spawns = spawns.old.items } ∷ []) }
+    {
+        let spawned = spawns.len();
+        self.each.reserve(1)?;
+        take_all(&mut self.spawns, spawns)?;
+        self.each.push_reserved(Deed {
+            synced,
+            puts,
+            spawned,
+        });
+        Ok(())
+    }
+
+    /// The fault of the task whose put stands at this place of the log; `None` where fewer were made.
+    pub fn blame_at(&self, tasks: &[Task], place: usize) -> Option<Blame>
+        ensures { result ≡ option_map told_at (maker tasks.now self.now place) }
+    {
+        let mut left = place;
+        let mut rest = self.each.as_slice();
+        let mut others = tasks;
+        while let Some((deed, after)) = rest.split_first() {
+            let Some((task, behind)) = others.split_first() else {
+                return None;
+            };
+            if left < deed.puts {
+                return Some(overflowed(task));
+            }
+            left -= deed.puts;
+            rest = after;
+            others = behind;
+        }
+        None
+    }
+
+    /// The record of the superstep in which tasks did this.
+    pub fn record(&self, step: u32) -> PhaseRecord
+        requires few { length self.now ≤ 4096 }
+        requires small { AllFew self.now }
+        ensures { result ≡ told_in step self.now }
+    {
+        let left = count_stopped(&self.each);
+        let count = self.each.len() as u32;
+        let spawned = self.spawns.len() as u32;
+        PhaseRecord {
+            phase: step,
+            parties: count + spawned,
+            left,
+            spawned,
+        }
+    }
+
+    /// The tasks that go on and those that they spawned, in path order, in place of the tasks. There are so many of them.
+    /// `room` is lent. Where there is no memory the tasks are as they were.
+    pub fn regroup(
+        &mut self,
+        tasks: &mut Vec<Task>,
+        room: &mut Vec<Task>,
+        count: usize,
+    ) -> Result<(), AllocError>
+        requires same { length tasks.old.items ≡ length self.old }
+        requires count { length (living_with tasks.old.items self.old) ≤ count }
+        ensures { OnOk result (tasks.new.items ≡ in_path_order path_in (living_with tasks.old.items self.old)) }
+    {
+        room.clear();
+        room.reserve(count)?;
+        collect(tasks, &mut self.each, &mut self.spawns, room);
+        room.reverse();
+        std::mem::swap(room, tasks);
+        Ok(())
+    }
+}
