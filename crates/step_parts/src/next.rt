@@ -53,6 +53,10 @@ pub fn put_task(living: &mut Vec<Task>, task: Task)
     ensures room { vec_capacity living.new ≡ vec_capacity living.old }
 {
     let place = place_for(living, task.path.as_slice());
+    if place == living.len() {
+        living.push_reserved(task);
+        return;
+    }
     match living.insert(place, task) {
         Ok(()) => {}
         Err(_) => unreachable!(),

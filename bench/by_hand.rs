@@ -1,0 +1,165 @@
+//! The work of the jobs that `tools/bench` times, written by hand: plain loops, or threads that meet at a barrier. It prints what
+//! `bsp run` prints for the job, so that the script can compare them.
+use std::fmt::Write;
+use std::hint::black_box;
+use std::sync::Barrier;
+
+const TASKS: usize = 4096;
+
+fn record(out: &mut String, phase: usize, parties: usize, left: usize, spawned: usize) {
+    writeln!(out, "phase {phase} parties {parties} left {left} spawned {spawned}").unwrap();
+}
+
+fn finish(mut out: String, array: &[i64], ended: usize) -> String {
+    out.push_str("array a");
+    for value in array {
+        write!(out, " {value}").unwrap();
+    }
+    writeln!(out, "\nended {ended}").unwrap();
+    out
+}
+
+/// The records of tasks that all sync so often, and then stop.
+fn records(steps: usize) -> String {
+    let mut out = String::new();
+    for step in 0..=steps {
+        record(&mut out, step, TASKS, if step == steps { TASKS } else { 0 }, 0);
+    }
+    out
+}
+
+/// A task of the ring: where it puts.
+struct Shift {
+    to: usize,
+    turn: usize,
+}
+
+/// All tasks read before any put lands, by a log of puts.
+fn ring(steps: usize) -> String {
+    let mut cells: Vec<i64> = (0..TASKS as i64).collect();
+    let mut tasks: Vec<Shift> = (0..TASKS).map(|arg| Shift { to: (arg + 1) % TASKS, turn: 0 }).collect();
+    let mut log: Vec<(usize, i64)> = Vec::new();
+    for _ in 0..steps {
+        for (arg, task) in tasks.iter_mut().enumerate() {
+            log.push((task.to, cells[arg]));
+            task.turn += 1;
+        }
+        for (to, value) in log.drain(..) {
+            cells[to] = value;
+        }
+    }
+    let turns: usize = tasks.iter().map(|task| task.turn).sum();
+    assert_eq!(turns, steps * TASKS);
+    finish(records(steps), &cells, steps + 1)
+}
+
+/// A segment that counts, by itself so that no loop is folded away.
+fn counted(turns: i64) -> i64 {
+    let mut i = 0;
+    while i < turns {
+        i = black_box(i) + 1;
+    }
+    i
+}
+
+fn many(steps: usize) -> String {
+    let mut cells = vec![0; TASKS];
+    for turn in 0..steps as i64 {
+        for cell in cells.iter_mut() {
+            *cell = counted(47) + turn;
+        }
+    }
+    finish(records(steps), &cells, steps + 1)
+}
+
+fn remainder(steps: usize) -> String {
+    let mut cells = vec![0; TASKS];
+    for _ in 0..steps {
+        for cell in cells.iter_mut() {
+            let (mut i, mut j) = (0, 0);
+            while i < 25 {
+                j = black_box(j) + i;
+                j %= 7;
+                i += 1;
+            }
+            *cell = j;
+        }
+    }
+    finish(records(steps), &cells, steps + 1)
+}
+
+struct Task {
+    path: Vec<u16>,
+    parent: bool,
+    spawned: u16,
+    turn: usize,
+}
+
+fn spawns(steps: usize) -> String {
+    let parents = 455;
+    let mut tasks: Vec<Task> = (0..parents)
+        .map(|i| Task { path: vec![i as u16], parent: true, spawned: 0, turn: 0 })
+        .collect();
+    let mut out = String::new();
+    let mut step = 0;
+    while !tasks.is_empty() {
+        let (mut next, mut left, mut spawned) = (Vec::with_capacity(tasks.len()), 0, 0);
+        let live = tasks.len();
+        for mut task in tasks {
+            if !task.parent || task.turn == steps {
+                left += 1;
+                continue;
+            }
+            let children = (0..8).map(|i| {
+                let mut path = task.path.clone();
+                path.push(task.spawned + i);
+                Task { path, parent: false, spawned: 0, turn: 0 }
+            });
+            let children: Vec<Task> = children.collect();
+            task.spawned += 8;
+            task.turn += 1;
+            spawned += 8;
+            next.push(task);
+            next.extend(children);
+        }
+        record(&mut out, step, live + spawned, left, spawned);
+        tasks = next;
+        step += 1;
+    }
+    finish(out, &[0], step)
+}
+
+/// Tasks that count so many turns and put, in equal parts on threads that meet at a barrier after each superstep.
+fn turns(steps: usize, turns: i64, threads: usize) -> String {
+    let barrier = Barrier::new(threads);
+    let mut cells = vec![0; TASKS];
+    std::thread::scope(|scope| {
+        for part in cells.chunks_mut(TASKS / threads) {
+            let barrier = &barrier;
+            scope.spawn(move || {
+                for turn in 0..steps as i64 {
+                    for cell in part.iter_mut() {
+                        *cell = counted(turns) + turn;
+                    }
+                    barrier.wait();
+                }
+            });
+        }
+    });
+    finish(records(steps), &cells, steps + 1)
+}
+
+fn main() {
+    let words: Vec<String> = std::env::args().collect();
+    let number = |i: usize| words[i].parse::<usize>().unwrap();
+    let steps = number(2);
+    let out = match words[1].as_str() {
+        "ring" => ring(steps),
+        "many" => many(steps),
+        "remainder" => remainder(steps),
+        "spawns" => spawns(steps),
+        "turns" => turns(steps, number(3) as i64, number(4)),
+        other => panic!("no such job: {other}"),
+    };
+    print!("{out}");
+}
