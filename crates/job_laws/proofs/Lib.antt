@@ -1,2 +1,4 @@
 pub mod Reported
 pub mod FirstFaults
+pub mod Operators
+pub mod Spawning

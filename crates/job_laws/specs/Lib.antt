@@ -1,2 +1,4 @@
 pub mod Reports
 pub mod Worked
+pub mod WorkedOperators
+pub mod WorkedFaults

@@ -9,6 +9,8 @@ ghost use Rattle.job_laws.specs.Reports.{
   FaultsTellTheFirst,
 };
 ghost use Rattle.job_laws.specs.Worked.{JobsAreWorkedOut};
+ghost use Rattle.job_laws.specs.WorkedFaults.{SpawnsAreNumbered, FaultsAreWorkedOut};
+ghost use Rattle.job_laws.specs.WorkedOperators.{OperatorsAreArithmetic, OperatorsAreWorkedOut};
 
 /// The records of a job are those of phases 0, 1, 2, .., one for each superstep taken, and its prints stand by superstep.
 pub fn reports_are_by_superstep()
@@ -39,4 +41,27 @@ pub fn faults_tell_the_first()
 /// by all, sums that overflow, also under a put that would cover one, and such a sum beside a faulting task.
 pub fn jobs_are_worked_out()
     ensures { JobsAreWorkedOut }
+{}
+
+/// Each operator is what its sign says: a sum, a difference and a product where that has 64 signed bits; a quotient rounded to 0 and
+/// a remainder with the sign of the left number; a comparison, which is 1 exactly where it holds.
+pub fn operators_are_arithmetic()
+    ensures { OperatorsAreArithmetic }
+{}
+
+/// What each operator gives of some numbers, on both sides of 0 and at the ends, is written down and not said by a rule.
+pub fn operators_are_worked_out()
+    ensures { OperatorsAreWorkedOut }
+{}
+
+/// Where a task may spawn, and as what: with a path of fewer than 8 numbers, fewer than 8 spawns in the superstep and fewer than 65535
+/// in all; else it faults.
+pub fn spawns_are_numbered()
+    ensures { SpawnsAreNumbered }
+{}
+
+/// What some jobs with a fault leave, each with its number, and what jobs leave that just don't fault or just reach the limit, is
+/// written down and not said by a rule.
+pub fn faults_are_worked_out()
+    ensures { FaultsAreWorkedOut }
 {}
