@@ -2,3 +2,4 @@ pub mod Reported
 pub mod FirstFaults
 pub mod Operators
 pub mod Spawning
+pub mod Refused

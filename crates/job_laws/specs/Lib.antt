@@ -2,3 +2,4 @@ pub mod Reports
 pub mod Worked
 pub mod WorkedOperators
 pub mod WorkedFaults
+pub mod Refusals

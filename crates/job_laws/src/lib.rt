@@ -8,6 +8,12 @@ ghost use Rattle.job_laws.specs.Reports.{
   RecordsTellSupersteps,
   FaultsTellTheFirst,
 };
+ghost use Rattle.job_laws.specs.Refusals.{
+  LandingsAreRefusedInOrder,
+  DeliveriesAreRefusedInOrder,
+  RefusalsAreNumbered,
+  RunsAreLandedSo,
+};
 ghost use Rattle.job_laws.specs.Worked.{JobsAreWorkedOut};
 ghost use Rattle.job_laws.specs.WorkedFaults.{SpawnsAreNumbered, FaultsAreWorkedOut};
 ghost use Rattle.job_laws.specs.WorkedOperators.{OperatorsAreArithmetic, OperatorsAreWorkedOut};
@@ -64,4 +70,24 @@ pub fn spawns_are_numbered()
 /// written down and not said by a rule.
 pub fn faults_are_worked_out()
     ensures { FaultsAreWorkedOut }
+{}
+
+/// Of puts whose paths don't rise nothing else is told; then the first put to no cell counts, by its path and its place from 0.
+pub fn landings_are_refused_in_order()
+    ensures { LandingsAreRefusedInOrder }
+{}
+
+/// A delivery of another step is told so, also where it is of another job; else one of another job; else a second one.
+pub fn deliveries_are_refused_in_order()
+    ensures { DeliveriesAreRefusedInOrder }
+{}
+
+/// The numbers of the refusals of landings and of closings.
+pub fn refusals_are_numbered()
+    ensures { RefusalsAreNumbered }
+{}
+
+/// What logs in two runs leave, and why some don't land, is written down and not said by a rule.
+pub fn runs_are_landed_so()
+    ensures { RunsAreLandedSo }
 {}
