@@ -3,3 +3,4 @@ pub mod Worked
 pub mod WorkedOperators
 pub mod WorkedFaults
 pub mod Refusals
+pub mod WorkedTexts

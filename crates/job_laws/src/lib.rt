@@ -14,6 +14,7 @@ ghost use Rattle.job_laws.specs.Refusals.{
   RefusalsAreNumbered,
   RunsAreLandedSo,
 };
+ghost use Rattle.job_laws.specs.WorkedTexts.{ReportsAreWrittenSo};
 ghost use Rattle.job_laws.specs.Worked.{JobsAreWorkedOut};
 ghost use Rattle.job_laws.specs.WorkedFaults.{SpawnsAreNumbered, FaultsAreWorkedOut};
 ghost use Rattle.job_laws.specs.WorkedOperators.{OperatorsAreArithmetic, OperatorsAreWorkedOut};
@@ -90,4 +91,10 @@ pub fn refusals_are_numbered()
 /// What logs in two runs leave, and why some don't land, is written down and not said by a rule.
 pub fn runs_are_landed_so()
     ensures { RunsAreLandedSo }
+{}
+
+/// What is printed of some reports is written down byte for byte: one that ended, one with a spawned task, faults of a task and of
+/// none, and the limit.
+pub fn reports_are_written_so()
+    ensures { ReportsAreWrittenSo }
 {}
