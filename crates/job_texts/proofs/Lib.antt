@@ -1,3 +1,4 @@
+pub mod Told
 pub mod TextOfLines
 pub mod PrintedLines
 pub mod MentionedLocals

@@ -4,3 +4,5 @@ pub mod Refusals
 pub mod Worked
 pub mod WorkedSecond
 pub mod Upgrades
+pub mod WorkedRefusals
+pub mod WorkedNames

@@ -3,6 +3,7 @@
 //! * [`canonical`]: the canonical text of a job.
 //! * [`laws`]: texts that are a job's: these and no others are read, each as that job.
 //! * [`upgrades`]: what is upgraded is read as it was written; texts of format 2, worked out.
+//! * [`worked`]: bytes and names in numbers; the order of faults; refusals, worked out.
 //! * [`refusals`]: that of a line holds whatever follows it, and what stands above may go on to a job.
 #![tactic(auto)]
 
@@ -10,6 +11,7 @@ mod canonical;
 mod laws;
 mod refusals;
 mod upgrades;
+mod worked;
 
 pub use canonical::{canonical_texts_are_texts, read_jobs_are_jobs};
 pub use laws::{
@@ -23,4 +25,8 @@ pub use refusals::{
 };
 pub use upgrades::{
     second_format_is_worked_out, upgraded_texts_are_read, upgrading_twice_is_upgrading_once,
+};
+pub use worked::{
+    bytes_are_told, codes_are_numbered, faults_count_in_order, names_are_told,
+    names_are_worked_out, refusals_are_worked_out,
 };
