@@ -1,6 +1,7 @@
 //! A call on a number.
 ghost use Rattle.std.specs.Prelude.{◌≡◌, ◌≤◌};
 ghost use Rattle.phaser_one.specs.Seen.{Follows};
+ghost use Rattle.bsp_phaser.specs.Numbers.{IsWordOf};
 ghost use Rattle.bsp_phaser.specs.Steps.{IsStep, status_of as status_told, answer_of as answer_told};
 
 use crate::number::{NO_WORD, word_of};
@@ -44,6 +45,14 @@ fn called(word: Word, plan: CountPlan, call: Call) -> (Word, Reply)
     (phaser.word(), reply)
 }
 
+// The number of a state of a single phaser.
+fn number_of(word: Word) -> u64
+    requires counted { word.unarrived ≤ word.parties }
+    ensures { IsWordOf word result }
+{
+    word.pack()
+}
+
 // The call on a number: puts the next one and the answer, and answers the status.
 pub(crate) fn step(
     number: u64,
@@ -60,7 +69,7 @@ pub(crate) fn step(
         return NO_WORD;
     };
     let (after, reply) = called(word, plan, call);
-    *next = after.pack();
+    *next = number_of(after);
     *answer = answer_of(reply);
     status_of(reply)
 }
