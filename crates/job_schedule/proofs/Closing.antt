@@ -10,6 +10,7 @@ use Rattle.tier_core.specs.declared.call.Answer.TheVariants as answer
 use Rattle.tier_core.specs.declared.call.Step.TheVariants.{Begin, Go, Finish}
 use Rattle.tier_core.specs.declared.call.Call.TheVariants as call
 use Rattle.tier_core.specs.Run.{after, answer_to}
+use Rattle.tier_core.proofs.Turns.{not_both}
 use Rattle.step_core.specs.Superstep.{superstep}
 use Rattle.step_core.specs.JobMeaning.{status, unless_ended, told, report_in}
 use Rattle.job_seats.specs.declared.stage.Mode.{Mode}
@@ -18,13 +19,13 @@ use Rattle.job_seats.specs.declared.stage.Move.{Move}
 use Rattle.job_seats.specs.declared.stage.Move.TheVariants.{Takes, Delivers, Calls, Advances, Closes, Ends}
 use Rattle.job_schedule.specs.declared.step.JobStep.{JobStep}
 use Rattle.job_schedule.specs.declared.step.JobStep.TheVariants.{Take, Deliver, Tree as TreeStep, Advance, Close}
-use Rattle.job_schedule.specs.AnswerValue.{Closed, NotNow}
+use Rattle.job_schedule.specs.AnswerValue.{AnswerValue, Took, Delivered, Stepped, Advanced, Closed, Finished, NotNow}
 use Rattle.job_seats.specs.declared.stage.Stage.{Stage}
 use Rattle.job_seats.specs.declared.stage.Stage.TheVariants.{Waits, Taken, Polling, Joining, Arriving, Leaving, Over}
 use Rattle.job_seats.specs.SeatValue.{SeatValue, seat_at, all_over}
 use Rattle.job_seats.specs.Moves.{by_stage, passing}
-use Rattle.job_schedule.specs.World.{World, called_by, advanced_by, ended_by, next_job, closed_as, done_by, kind_of, kind_for, if_asked, move_of, worker_of, answer_of, by_mode, by_hand, opening_world, reached}
-use Rattle.job_schedule.specs.Laws.{IsClosing, RoundsAreClosedOnce}
+use Rattle.job_schedule.specs.World.{World, called_by, advanced_by, ended_by, next_job, closed_as, done_by, kind_of, kind_for, if_asked, move_of, worker_of, step_of, answer_of, by_mode, by_hand, opening_world, reached}
+use Rattle.job_schedule.specs.Laws.{IsClosing, IsFinishing, RoundsAreClosedOnce}
 
 not_called : (w : World) (worker place : ℕ) (tree : Tree) (a : TreeAnswer) {A : Type 0} → (called_by w worker place tree a).0 ≡ Closed → A
 not_called w worker place tree answer.Begun h = cc
@@ -167,5 +168,89 @@ is_closing w x h =
     whole None e c = cc
     whole (Some m) e c = if_so m (kind_of x == kind_for m) e refl c
 
+-- the answers of a step that closes a round
+abbrev pub closes_round : AnswerValue → Bool
+closes_round (Took path) = false
+closes_round Delivered = false
+closes_round (Stepped played) = false
+closes_round (Advanced played) = false
+closes_round Closed = true
+closes_round (Finished report) = true
+closes_round NotNow = false
+
+call_closes_none : (w : World) (worker place : ℕ) (tree : Tree) (a : TreeAnswer) → closes_round (called_by w worker place tree a).0 ≡ false
+call_closes_none w worker place tree answer.Begun = refl
+call_closes_none w worker place tree (answer.Played a) = refl
+call_closes_none w worker place tree answer.NotNow = refl
+
+advance_closes_none : (w : World) (worker place : ℕ) (tree : Tree) (a : TreeAnswer) → closes_round (advanced_by w worker place tree a).0 ≡ false
+advance_closes_none w worker place tree answer.Begun = refl
+advance_closes_none w worker place tree (answer.Played a) = refl
+advance_closes_none w worker place tree answer.NotNow = refl
+
+force_closes_none : (w : World) (tree : Tree) (a : TreeAnswer) → closes_round (ended_by w tree a).0 ≡ false
+force_closes_none w tree answer.Begun = refl
+force_closes_none w tree (answer.Played a) = refl
+force_closes_none w tree answer.NotNow = refl
+
+closing_token : (w : World) (worker : ℕ) (m : Move) → closes_round (done_by w worker m).0 ≡ true → (token : ℕ) × (m ≡ Closes token)
+closing_token w worker (Takes place) h = cc
+closing_token w worker (Delivers place) h = cc
+closing_token w worker (Calls place token c) h =
+    not_both (closes_round (done_by w worker (Calls place token c)).0) h
+    (call_closes_none w worker place (after (after w.tree (Begin token c)) (Go token)) (answer_to (after w.tree (Begin token c)) (Go token)))
+closing_token w worker (Advances place) h =
+    not_both (closes_round (done_by w worker (Advances place)).0) h
+    (advance_closes_none w worker place (after w.tree (Finish (seat_at w.seats place).token)) (answer_to w.tree (Finish (seat_at w.seats place).token)))
+closing_token w worker (Closes token) h = (token, refl)
+closing_token w worker (Ends token) h =
+    not_both (closes_round (done_by w worker (Ends token)).0) h
+    (force_closes_none w (after (after w.tree (Begin token call.Force)) (Go token)) (answer_to (after w.tree (Begin token call.Force)) (Go token)))
+
+-- a step that closes, and what it comes to
+pub record ClosesBy (w : World) (x : JobStep) (made : AnswerValue × World) : Type 0 where
+  pub token : ℕ
+  pub by : x ≡ Close (worker_of x)
+  pub move : move_of w (worker_of x) ≡ Some (Closes token)
+  pub told : made ≡ done_by w (worker_of x) (Closes token)
+
+pub closes_by : (w : World) (x : JobStep) → closes_round (answer_of w x) ≡ true → ClosesBy w x (step_of w x)
+closes_by w x h = whole (move_of w (worker_of x)) refl h
+  where
+    if_so : (m : Move) (b : Bool) → move_of w (worker_of x) ≡ Some m → (kind_of x == kind_for m) ≡ b
+        → closes_round (if b then done_by w (worker_of x) m else (NotNow, w)).0 ≡ true
+        → ClosesBy w x (if b then done_by w (worker_of x) m else (NotNow, w))
+    if_so m true e k c =
+        let t = closing_token w (worker_of x) m c in
+        record {
+          token = t.0;
+          by = is_close x t.0 (ap (λ (n : Move). kind_of x == kind_for n) (sym t.1) ∙ k);
+          move = e ∙ ap (λ (n : Move). Some n) t.1;
+          told = ap (done_by w (worker_of x)) t.1;
+        }
+    if_so m false e k c = cc
+
+    whole : (o : Option Move) → move_of w (worker_of x) ≡ o → closes_round (if_asked w x o).0 ≡ true → ClosesBy w x (if_asked w x o)
+    whole None e c = cc
+    whole (Some m) e c = if_so m (kind_of x == kind_for m) e refl c
+
+pub closed_job : (w : World) (worker token : ℕ) (o : Option ReportValue) → (closed_as w worker token (next_job w) o).1.job ≡ next_job w
+closed_job w worker token None = refl
+closed_job w worker token (Some r) = refl
+
+is_finishing : (w : World) (x : JobStep) (report : ReportValue) → answer_of w x ≡ Finished report → IsFinishing w x
+is_finishing w x report h =
+    let c = closes_by w x (ap closes_round h) in
+    record {
+      by = c.by;
+      from = ⊎_elim (λ q. inl q) (λ q. inr ((c.token, q.0), q.1)) (from_mode w (worker_of x) c.token c.move);
+      step =
+          ap (λ (r : AnswerValue × World). r.1.job) c.told
+          ∙ closed_job w (worker_of x) c.token (report_in w.limit (next_job w));
+    }
+
 pub rounds_are_closed_once : RoundsAreClosedOnce
-rounds_are_closed_once p parents limit xs x h = is_closing (reached (opening_world p parents limit) xs) x h
+rounds_are_closed_once p parents limit xs x = (
+  λ h. is_closing (reached (opening_world p parents limit) xs) x h,
+  λ report h. is_finishing (reached (opening_world p parents limit) xs) x report h,
+)

@@ -43,7 +43,7 @@ kid_keeps : (w : World) (place : ℕ) (path free : List ℕ) → SameJob w (kid_
 kid_keeps w place path [] = record { program = refl; limit = refl; job = refl }
 kid_keeps w place path (token ∷ free) = record { program = refl; limit = refl; job = refl }
 
-kids_keep : (w : World) (place : ℕ) (paths : List (List ℕ)) → SameJob w (with_kids w place paths)
+pub kids_keep : (w : World) (place : ℕ) (paths : List (List ℕ)) → SameJob w (with_kids w place paths)
 kids_keep w place [] = same w
 kids_keep w place (path ∷ paths) =
     and_then w (kid_from w place path w.free) (with_kids w place (path ∷ paths)) (kid_keeps w place path w.free)

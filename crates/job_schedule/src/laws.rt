@@ -1,15 +1,21 @@
 //! What holds of every world that schedules of a job reach. Each law is the contract of a function without parameters that
 //! does nothing.
 
-ghost use Rattle.job_schedule.specs.Laws.{FinishedTellsTheJob, RoundsAreClosedOnce, RefusedStepsChangeNothing, SeatsAreTheLiveTasks};
+ghost use Rattle.job_schedule.specs.Laws.{FinishedTellsTheJob, FinishedIsTheEnd, RoundsAreClosedOnce, RefusedStepsChangeNothing, SeatsAreTheLiveTasks};
 
 /// Whatever the schedule, the answer that finishes a job carries the report of the job's meaning with its limit.
 pub fn finished_tells_the_job()
     ensures { FinishedTellsTheJob }
 {}
 
-/// A round is closed by the worker that advanced the root last, once: then the next tasks are ready. It is one superstep of
-/// the job.
+/// Behind that answer each step is answered `NotNow`, but one: after a fault the first step in the tree of the worker that
+/// closed the round answers the end of the tree.
+pub fn finished_is_the_end()
+    ensures { FinishedIsTheEnd }
+{}
+
+/// A round is closed by the worker that advanced the root last, once: then the next tasks are ready, or the job is finished.
+/// It is one superstep of the job. Only a job that is over as it begins is closed by anybody.
 pub fn rounds_are_closed_once()
     ensures { RoundsAreClosedOnce }
 {}

@@ -54,7 +54,7 @@ step_advances w x played h = by (move_of w (worker_of x)) h
     by (Some m) k = if_so m (kind_of x == kind_for m) k
 
 -- a close that is its worker's move is answered
-closed_answer : {A : Type 0} (w : World) (worker token : ℕ) (o : Option ReportValue) → (closed_as w worker token (next_job w) o).0 ≡ NotNow → A
+pub closed_answer : {A : Type 0} (w : World) (worker token : ℕ) (o : Option ReportValue) → (closed_as w worker token (next_job w) o).0 ≡ NotNow → A
 closed_answer w worker token None h = cc
 closed_answer w worker token (Some r) h = cc
 

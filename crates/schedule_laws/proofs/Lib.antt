@@ -20,4 +20,5 @@ pub mod Few
 pub mod Claiming
 pub mod Spawning
 pub mod Following
+pub mod Answered
 pub mod Worked

@@ -111,16 +111,24 @@ module _ (parents : List ℕ) (w : World) (roles : List Role) (worker place : �
   sits_at stage at = subst (λ (s : Stage). At s) at (is.sits place h)
 
   -- its poll
+  pub poll_step : (seat_at w.seats place).stage ≡ Polling
+      → (next : Role) × ((a : Played) × IsCalled w.tree roles (seat_at w.seats place).token call.Poll (Polls (seat_at w.seats place).home) next a)
+  poll_step at =
+      let g : SeatValue = seat_at w.seats place in
+      let i : ℕ = (seat_at w.seats place).token in
+      let mine = own_in (seat_at w.seats place) in
+      ⊎_elim
+      (λ (q : role_at roles i ≡ Late g.home). call_begins w.tree roles i call.Poll (Polls g.home) is.cast (known i mine) (inl (g.home, q, refl, refl)) refl)
+      (λ (q : role_at roles i ≡ Polls g.home). call_goes_on w.tree roles i call.Poll (Polls g.home) is.cast (known i mine) q refl)
+      (sits_at Polling at).own
+
   pub polling_works : (seat_at w.seats place).stage ≡ Polling → Works parents (done_by w worker (Calls place (seat_at w.seats place).token call.Poll)).1
   polling_works at =
       let g : SeatValue = seat_at w.seats place in
       let i : ℕ = (seat_at w.seats place).token in
       let sits = sits_at Polling at in
       let mine = own_in (seat_at w.seats place) in
-      let step : (next : Role) × ((a : Played) × IsCalled w.tree roles i call.Poll (Polls g.home) next a) = ⊎_elim
-      (λ (q : role_at roles i ≡ Late g.home). call_begins w.tree roles i call.Poll (Polls g.home) is.cast (known i mine) (inl (g.home, q, refl, refl)) refl)
-      (λ (q : role_at roles i ≡ Polls g.home). call_goes_on w.tree roles i call.Poll (Polls g.home) is.cast (known i mine) q refl)
-      sits.own in
+      let step = poll_step at in
       let next = poll_next (flat_of w.tree).phase g.home step.1.0 step.0 step.1.1.follows in
       call_works i call.Poll (Polls g.home) step.0 step.1.0 (ap is_ready at) mine step.1.1
       (after_poll (seat_at w.seats place) roles (set roles i step.0) (length parents) step.0 step.1.0 (now_plays i step.0 mine) (kids_stay step.0) at sits
@@ -136,14 +144,14 @@ module _ (parents : List ℕ) (w : World) (roles : List Role) (worker place : �
       let c : length w.tree.parents ≡ length parents = ap length is.built.shape in omega arith
 
   -- how it goes, by what it is: at the tier of its spawner it is never refused
-  record IsJoinStep (home i : ℕ) : Type 0 where
-    role : Role
-    next : Role
-    a : Played
-    called : IsCalled w.tree roles i (call.Join home 1) role next a
-    ends : JoinEnds (seat_at w.seats place).home home a next
+  pub record IsJoinStep (home i : ℕ) : Type 0 where
+    pub role : Role
+    pub next : Role
+    pub a : Played
+    pub called : IsCalled w.tree roles i (call.Join home 1) role next a
+    pub ends : JoinEnds (seat_at w.seats place).home home a next
 
-  abbrev HasRoom : Type 0
+  abbrev pub HasRoom : Type 0
   HasRoom = (word_at w.tree.words (seat_at w.seats place).home).parties + 1 ≤ 65535
 
   join_step : (i home : ℕ) → i < length w.tree.views → home < length w.tree.parents
@@ -190,7 +198,7 @@ module _ (parents : List ℕ) (w : World) (roles : List Role) (worker place : �
             ends = claim_next (flat_of w.tree).phase (seat_at w.seats place).home home (role_at roles i) step.1.0 step.0 n q step.1.1.follows;
           }
 
-  kid_step : (n : ℕ) → (seat_at w.seats place).stage ≡ Joining n → HasRoom
+  pub kid_step : (n : ℕ) → (seat_at w.seats place).stage ≡ Joining n → HasRoom
       → IsJoinStep (kid_at (seat_at w.seats place).kids n).home (kid_at (seat_at w.seats place).kids n).token
   kid_step n at room =
       let k : KidValue = kid_at (seat_at w.seats place).kids n in
@@ -227,9 +235,13 @@ module _ (parents : List ℕ) (w : World) (roles : List Role) (worker place : �
       played_same e = cc
 
   -- a token on its trip begins it, or is on its way
+  abbrev pub IsPassingStep : ℕ → ℕ → Trip → Type 0
+  IsPassingStep i home trip =
+      (role : Role) × (IsPassing home trip role × ((next : Role) × ((a : Played) × IsCalled w.tree roles i (call_by trip) role next a)))
+
   passing : (i home : ℕ) (trip : Trip) → i < length w.tree.views
       → ((role_at roles i ≡ Here home) ⊎ (role_at roles i ≡ Ready home)) ⊎ IsPassing home trip (role_at roles i)
-      → (role : Role) × (IsPassing home trip role × ((next : Role) × ((a : Played) × IsCalled w.tree roles i (call_by trip) role next a)))
+      → IsPassingStep i home trip
   passing i home trip m f = ⊎_elim
       (λ q. (
         Looks home trip,
@@ -241,6 +253,14 @@ module _ (parents : List ℕ) (w : World) (roles : List Role) (worker place : �
       ))
       f
 
+  pub arrival_step : (n : ℕ) → (seat_at w.seats place).stage ≡ Arriving n
+      → IsPassingStep (kid_at (seat_at w.seats place).kids n).token (kid_at (seat_at w.seats place).kids n).home Arrival
+  arrival_step n at =
+      let k : KidValue = kid_at (seat_at w.seats place).kids n in
+      let sits = sits_at (Arriving n) at in
+      let way : ArrivesAt k.home (role_at roles k.token) = (sits.each n sits.turn).1 refl in
+      passing k.token k.home Arrival (known k.token (kid_in (seat_at w.seats place) n sits.turn)) (⊎_elim (λ q. inl (inr q)) (λ q. inr q) way)
+
   -- an arrival of a spawned task's token: while its spawner is awaited it never has to advance the root
   pub arriving_works : (n : ℕ) → (seat_at w.seats place).stage ≡ Arriving n
       → Works parents (done_by w worker (Calls place (kid_at (seat_at w.seats place).kids n).token call.Arrive)).1
@@ -250,8 +270,7 @@ module _ (parents : List ℕ) (w : World) (roles : List Role) (worker place : �
       let sits = sits_at (Arriving n) at in
       let turn : n < length g.kids = sits.turn in
       let mine = kid_in (seat_at w.seats place) n turn in
-      let way : ArrivesAt k.home (role_at roles k.token) = (sits.each n turn).1 refl in
-      let step = passing k.token k.home Arrival (known k.token mine) (⊎_elim (λ q. inl (inr q)) (λ q. inr q) way) in
+      let step = arrival_step n at in
       let called = step.1.1.1.1 in
       call_works k.token call.Arrive step.0 step.1.1.0 step.1.1.1.0 (ap is_ready at) mine called
       (after_arrival (seat_at w.seats place) roles (set roles k.token step.1.1.0) (length parents) n step.1.1.0 step.1.1.1.0 (own_stays step.1.1.0 n turn)
@@ -277,6 +296,25 @@ module _ (parents : List ℕ) (w : World) (roles : List Role) (worker place : �
           (ap is_awaited (own_stays next n turn ∙ own))
 
   -- its own arrival or departure, until it has to advance the root
+  must : (i : ℕ) → i < length w.tree.views → is_leading (role_at roles i) ≡ true → may_finish w.tree i ≡ true
+  must i m e =
+      ap (λ (b : Bool). b && is_due (call_at w.tree.calls i)) (lt-ltb i (length w.tree.views) m)
+      ∙ (leads_is_due w.tree i (role_at roles i) (is.cast.plays i m) ∙ e)
+
+  pub own_step : (seat_at w.seats place).stage ≡ Leaving → may_finish w.tree (seat_at w.seats place).token ≡ false
+      → IsPassingStep (seat_at w.seats place).token (seat_at w.seats place).home (trip_if (seat_at w.seats place).synced)
+  own_step at due =
+      let g : SeatValue = seat_at w.seats place in
+      let i : ℕ = (seat_at w.seats place).token in
+      let mine = own_in (seat_at w.seats place) in
+      passing i g.home (trip_if (seat_at w.seats place).synced) (known i mine) (⊎_elim (λ q. inl (inl q))
+      (λ q. ⊎_elim (λ q. inr (inl q)) (λ q. ⊎_elim (λ q. inr (inr (inl q))) (λ q. ⊎_elim (λ q. inr (inr (inr q)))
+      (λ q. not_both (may_finish w.tree i) (must i (known i mine) (ap is_leading q)) due) q) q) q) (sits_at Leaving at).own)
+
+  pub trip_call : (b : Bool) → (if b then call.Arrive else call.Leave) ≡ call_by (trip_if b)
+  trip_call true = refl
+  trip_call false = refl
+
   pub leaving_works : (seat_at w.seats place).stage ≡ Leaving → may_finish w.tree (seat_at w.seats place).token ≡ false
       → Works parents (done_by w worker (Calls place (seat_at w.seats place).token (if (seat_at w.seats place).synced then call.Arrive else call.Leave))).1
   leaving_works at due =
@@ -285,20 +323,9 @@ module _ (parents : List ℕ) (w : World) (roles : List Role) (worker place : �
       let trip : Trip = trip_if (seat_at w.seats place).synced in
       let sits = sits_at Leaving at in
       let mine = own_in (seat_at w.seats place) in
-      let step = passing i g.home (trip_if (seat_at w.seats place).synced) (known i mine) (⊎_elim (λ q. inl (inl q))
-      (λ q. ⊎_elim (λ q. inr (inl q)) (λ q. ⊎_elim (λ q. inr (inr (inl q))) (λ q. ⊎_elim (λ q. inr (inr (inr q)))
-      (λ q. not_both (may_finish w.tree i) (must i (known i mine) (ap is_leading q)) due) q) q) q) sits.own) in
+      let step = own_step at due in
       let called = step.1.1.1.1 in
       subst (λ (c : Call). Works parents (done_by w worker (Calls place i c)).1) (sym (trip_call (seat_at w.seats place).synced))
       (call_works i (call_by (trip_if (seat_at w.seats place).synced)) step.0 step.1.1.0 step.1.1.1.0 (ap is_ready at) mine called
       (after_pass (seat_at w.seats place) roles (set roles i step.1.1.0) (length parents) step.1.1.0 step.1.1.1.0 (now_plays i step.1.1.0 mine) (kids_stay step.1.1.0) at sits
       (pass_next (flat_of w.tree).phase g.home (trip_if (seat_at w.seats place).synced) step.0 step.1.1.1.0 step.1.1.0 step.1.0 called.follows)))
-    where
-      trip_call : (b : Bool) → (if b then call.Arrive else call.Leave) ≡ call_by (trip_if b)
-      trip_call true = refl
-      trip_call false = refl
-
-      must : (i : ℕ) → i < length w.tree.views → is_leading (role_at roles i) ≡ true → may_finish w.tree i ≡ true
-      must i m e =
-          ap (λ (b : Bool). b && is_due (call_at w.tree.calls i)) (lt-ltb i (length w.tree.views) m)
-          ∙ (leads_is_due w.tree i (role_at roles i) (is.cast.plays i m) ∙ e)

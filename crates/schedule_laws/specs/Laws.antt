@@ -13,8 +13,9 @@ use Rattle.job_schedule.specs.declared.step.JobStep.{JobStep}
 use Rattle.job_schedule.specs.declared.step.JobStep.TheVariants.{Close}
 use Rattle.job_seats.specs.SeatValue.{is_delivered, is_refused, seat_at}
 use Rattle.job_schedule.specs.AnswerValue.{Advanced, Stepped, NotNow}
+use Rattle.job_seats.specs.declared.stage.Move.{Move}
 use Rattle.job_seats.specs.declared.stage.Move.TheVariants.{Calls, Closes}
-use Rattle.job_schedule.specs.World.{World, opening_world, answer_of, move_of, worker_of, world_after, reached}
+use Rattle.job_schedule.specs.World.{World, opening_world, answer_of, move_of, kind_of, kind_for, worker_of, world_after, reached}
 use Rattle.schedule_laws.specs.Working.{IsKept}
 
 -- a job with a limit on a tree, as it may be driven
@@ -47,6 +48,13 @@ ClosesFollowAdvances =
     (p : Program) (parents : List ℕ) (limit : ℕ) (xs : List JobStep) (x : JobStep) (played : Played) → IsDriven p parents limit
     → answer_of (reached (opening_world p parents limit) xs) x ≡ Advanced played
     → answer_of (world_after (reached (opening_world p parents limit) xs) x) (Close (worker_of x)) ≢ NotNow
+
+-- In every schedule a worker's next step is answered, whatever the others have done: a step answers NotNow only where it isn't its worker's next.
+abbrev pub NextStepsAreAnswered : Type 0
+NextStepsAreAnswered =
+    (p : Program) (parents : List ℕ) (limit : ℕ) (xs : List JobStep) (x : JobStep) (move : Move) → IsDriven p parents limit
+    → move_of (reached (opening_world p parents limit) xs) (worker_of x) ≡ Some move → kind_of x ≡ kind_for move
+    → answer_of (reached (opening_world p parents limit) xs) x ≢ NotNow
 
 -- what the live tasks do in this superstep
 abbrev pub deeds : World → List (List ℕ × Segment)

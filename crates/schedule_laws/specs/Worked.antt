@@ -1,9 +1,14 @@
--- Two schedules worked out, so that no law of this crate is about nothing (own).
-use Rattle.std.specs.Prelude.{◌≡◌, pos, List, [], ◌∷◌}
-use Rattle.phase_records.specs.Status.{Ended}
-use Rattle.task_lang.specs.declared.code.Action.TheVariants.{Sync}
+-- Three schedules worked out, so that no law of this crate is about nothing (own).
+use Rattle.std.specs.Prelude.{◌≡◌, pos, negsuc, List, [], ◌∷◌}
+use Rattle.phase_records.specs.Status.{Ended, Fault}
+use Rattle.task_lang.specs.declared.code.Action.TheVariants.{Print, Spawn, Sync}
+use Rattle.task_lang.specs.declared.code.Expr.TheVariants.{One, Two}
+use Rattle.task_lang.specs.declared.code.Operand.TheVariants.{Plain}
+use Rattle.task_lang.specs.declared.code.Operator.TheVariants.{Divide}
+use Rattle.task_lang.specs.declared.code.Index.TheVariants.{Number}
 use Rattle.task_lang.specs.Tree.{Done, Do}
-use Rattle.tier_core.specs.declared.call.Played.TheVariants.{GoesOn, MustAdvance, Done as IsDone}
+use Rattle.tier_core.specs.declared.call.Cause.TheVariants.{AllArrived}
+use Rattle.tier_core.specs.declared.call.Played.TheVariants.{GoesOn, MustAdvance, Held, Done as IsDone, Ended as IsEnded}
 use Rattle.step_core.specs.Program.{Program}
 use Rattle.job_schedule.specs.declared.step.JobStep.{JobStep}
 use Rattle.job_schedule.specs.declared.step.JobStep.TheVariants.{Take, Deliver, Tree, Advance, Close}
@@ -44,8 +49,41 @@ told_two =
     Took (0 ∷ []) ∷ Took (1 ∷ []) ∷ Delivered ∷ Delivered ∷ Stepped (IsDone 0) ∷ Stepped GoesOn ∷ Stepped GoesOn ∷ Stepped (IsDone 0) ∷ NotNow ∷ NotNow
     ∷ Stepped (IsDone 0) ∷ Stepped GoesOn ∷ Stepped GoesOn ∷ Stepped (MustAdvance 0 2) ∷ NotNow ∷ Advanced (IsDone 0) ∷ NotNow ∷ Closed ∷ Took (0 ∷ []) ∷ []
 
+-- a task that spawns one and goes on, one that goes on, and one that divides by zero
+abbrev pub uneven : Program
+uneven = record {
+  arrays = [];
+  plans =
+      record { ahead = Do (Spawn 1 (One (Plain (Number (pos 0))))) (Do Sync Done); locals = 0 }
+      ∷ record { ahead = Do Sync Done; locals = 0 }
+      ∷ record { ahead = Do (Print (Two (Plain (Number (pos 1))) Divide (Plain (Number (pos 0))))) Done; locals = 0 }
+      ∷ [];
+  starts = record { body = 0; arg = pos 0 } ∷ record { body = 1; arg = pos 0 } ∷ record { body = 2; arg = pos 0 } ∷ [];
+}
+
+-- Three workers on a root with two children, of which the first has a child: leaves 2 and 3. The start tasks are at 2, at 3, and at 2 again. The
+-- second arrives at 3, and climbs over 1 to the root. So the spawned task of the first is held at 3, its preferred leaf, and joins at 2. The third
+-- task faults, leaves as the last and advances the root; its worker closes the round, and ends the tree by force, which goes on.
+abbrev pub three_workers : List JobStep
+three_workers =
+    Take 0 ∷ Take 1 ∷ Take 2 ∷ Deliver 0 ∷ Deliver 1 ∷ Deliver 2 ∷ Tree 1 ∷ Tree 1 ∷ Tree 1 ∷ Tree 1 ∷ Tree 1 ∷ Tree 1
+    ∷ Tree 0 ∷ Tree 0 ∷ Tree 0 ∷ Tree 0 ∷ Tree 0 ∷ Tree 0 ∷ Tree 0 ∷ Tree 0 ∷ Tree 0
+    ∷ Tree 2 ∷ Tree 2 ∷ Tree 2 ∷ Tree 2 ∷ Advance 2 ∷ Close 2 ∷ Tree 1 ∷ Tree 2 ∷ Tree 2 ∷ []
+
+abbrev pub told_three : List AnswerValue
+told_three =
+    Took (0 ∷ []) ∷ Took (1 ∷ []) ∷ Took (2 ∷ []) ∷ Delivered ∷ Delivered ∷ Delivered
+    ∷ Stepped (IsDone 0) ∷ Stepped GoesOn ∷ Stepped GoesOn ∷ Stepped GoesOn ∷ Stepped (IsDone 0) ∷ NotNow
+    ∷ Stepped (IsDone 0) ∷ Stepped GoesOn ∷ Stepped (Held 0 AllArrived) ∷ Stepped GoesOn ∷ Stepped (IsDone 0)
+    ∷ Stepped GoesOn ∷ Stepped (IsDone 0) ∷ Stepped GoesOn ∷ Stepped (IsDone 0)
+    ∷ Stepped (IsDone 0) ∷ Stepped GoesOn ∷ Stepped GoesOn ∷ Stepped (MustAdvance 0 2) ∷ Advanced (IsDone 0)
+    ∷ Finished (record { prints = []; records = []; arrays = []; status = Fault 2 0 (2 ∷ []) })
+    ∷ NotNow ∷ Stepped (IsEnded (negsuc 2147483646)) ∷ NotNow ∷ []
+
 pub record SchedulesAreWorkedOut : Type 0 where
   pub alone_is_driven : IsDriven alone (0 ∷ []) 10
   pub one : answers (opening_world alone (0 ∷ []) 10) one_worker ≡ told_one
   pub pair_is_driven : IsDriven pair (0 ∷ 0 ∷ 0 ∷ []) 10
   pub two : answers (opening_world pair (0 ∷ 0 ∷ 0 ∷ []) 10) two_workers ≡ told_two
+  pub uneven_is_driven : IsDriven uneven (0 ∷ 0 ∷ 0 ∷ 1 ∷ []) 10
+  pub three : answers (opening_world uneven (0 ∷ 0 ∷ 0 ∷ 1 ∷ []) 10) three_workers ≡ told_three

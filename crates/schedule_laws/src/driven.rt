@@ -17,8 +17,9 @@ pub fn jobs_are_driven(job: &Job, shape: &Shape, limit: u32)
     let _tiers = shape.count();
 }
 
-/// Two schedules, by one worker on one tier and by two workers on three, with the answer of each step written down: such
-/// schedules exist, and none of these laws is about nothing.
+/// Three schedules, by one worker on one tier, by two workers on three, and by three on an uneven tree of four, with the
+/// answer of each step written down: such schedules exist, and none of these laws is about nothing. They tell which leaf is
+/// whose: a start task's, the preferred one of a spawned task, at which it is held, and that of its spawner.
 pub fn schedules_are_worked_out()
     ensures { SchedulesAreWorkedOut }
 {}

@@ -1,7 +1,7 @@
 //! What holds of every world that schedules of a job reach. Each law is the contract of a function without parameters
 //! that does nothing.
 
-ghost use Rattle.schedule_laws.specs.Laws.{WorldsAreKept, ClosingMissesNothing, ClosesFollowAdvances, AdvancesAreCounted, SpawnsHaveRoomAtHome};
+ghost use Rattle.schedule_laws.specs.Laws.{WorldsAreKept, ClosingMissesNothing, ClosesFollowAdvances, NextStepsAreAnswered, AdvancesAreCounted, SpawnsHaveRoomAtHome};
 
 /// In every schedule each token of the tree is a live task's, a spawned one's or free, and does what the stage of its task
 /// says. The other laws here follow from this one.
@@ -18,6 +18,12 @@ pub fn closing_misses_nothing()
 /// So an advance is answered, and then the close of the same worker is: never NotNow.
 pub fn closes_follow_advances()
     ensures { ClosesFollowAdvances }
+{}
+
+/// A worker's next step is answered whatever the others have done: a step answers NotNow only where it isn't its worker's
+/// next.
+pub fn next_steps_are_answered()
+    ensures { NextStepsAreAnswered }
 {}
 
 /// The root advances in the phase of the superstep, which is its number; where none of its tasks faults, the members of

@@ -36,7 +36,7 @@ fn told(answer: &Answer) -> Seen {
 type Row = (JobStep, Seen);
 
 // One worker does a job.
-const A_WHOLE_JOB: [Row; 8] = [
+const A_WHOLE_JOB: [Row; 10] = [
     (JobStep::Take(0), Seen::Took(1)),
     (JobStep::Deliver(0), Seen::Delivered),
     (JobStep::Tree(0), Seen::Stepped(Played::Done(0))),
@@ -45,6 +45,8 @@ const A_WHOLE_JOB: [Row; 8] = [
     (JobStep::Advance(0), Seen::Advanced(Played::Done(0))),
     (JobStep::Close(0), Seen::Finished),
     (JobStep::Take(0), Seen::NotNow),
+    (JobStep::Tree(0), Seen::NotNow),
+    (JobStep::Close(0), Seen::NotNow),
 ];
 
 // A step that isn't next changes nothing.
