@@ -1,3 +1,4 @@
+pub mod BoardValue
 pub mod Entries
 pub mod JobPlan
 pub mod Refusals

@@ -18,7 +18,7 @@ use std::marker::{Brand, Model, PhantomData};
 use std::mem;
 use step_core::{Delivery, Order, Outcome, Round};
 
-/// Which job runs, within which limit, and at which tree its workers meet. Each run picks it.
+/// Which job runs, within which limit, by how many workers, and at which tree they meet. Each run picks it.
 pub trait Running {
     ghost use Rattle.std.specs.Prelude.{ℕ};
     ghost use Rattle.task_lang.specs.JobValue.{JobValue};
@@ -27,6 +27,8 @@ pub trait Running {
     ghost job: { JobValue };
 
     ghost limit: { ℕ };
+
+    ghost workers: { ℕ };
 
     ghost tree: { Named };
 }
@@ -38,14 +40,16 @@ impl Running for Brand {
 
     ghost limit = { 1 };
 
+    ghost workers = { 1 };
+
     ghost tree = { record {
       id = record { words = 0; slots = 0; views_name = 0; atom = 0; block = 0; offset = 0; slot_names = [] };
       key = record { shape = []; phase = 0; plan = record { when_empty = false; at = None } };
     } };
 }
 
-/// The round of the job that runs, the seats of its tasks, and the first note. Its type keeps that the round is of that
-/// job and limit.
+/// The round of the job that runs, the seats of its tasks, and the first refusal. Its type keeps that the round is of that
+/// job and limit, and that a worker that couldn't be started is one of the run's.
 #[derive(Drop)]
 pub(crate) struct Board<'j, J: Running> {
     round: Round<'j>,
@@ -53,7 +57,8 @@ pub(crate) struct Board<'j, J: Running> {
     ready: VecDeque<Seat<J>>,
     // The seats of the next round's tasks, as far as they are back from the tree.
     coming: VecDeque<Seat<J>>,
-    note: Option<Note>,
+    // What came first of all that refused the run.
+    first: Option<Refused>,
     of: PhantomData<J>,
 }
 
@@ -80,44 +85,46 @@ pub(crate) enum Turned {
 }
 
 impl<'j, J: Running> Model for Board<'j, J> {
-    ghost use Rattle.std.specs.Prelude.{◌≡◌};
-    ghost use Rattle.step_core.specs.RoundValue.{RoundValue};
+    ghost use Rattle.std.specs.Prelude.{◌≡◌, IfSome};
+    ghost use Rattle.worker_pool.specs.BoardValue.{BoardValue};
+    ghost use Rattle.worker_pool.specs.Refusals.{IsOfWorkers};
 
-    ghost Value = { RoundValue };
+    ghost Value = { BoardValue };
 
-    ghost view = { λ b. b.round };
+    ghost view = { λ b. record { round = b.round; first = b.first } };
 
-    ghost invariant = { λ b. (b.round.job ≡ J.job) × (b.round.limit ≡ J.limit) };
+    ghost invariant = { λ b. (b.round.job ≡ J.job) × (b.round.limit ≡ J.limit) × IfSome b.first (IsOfWorkers J.workers) };
 }
 
 impl<'j, J: Running> Board<'j, J> {
-    ghost use Rattle.std.specs.Prelude.{◌≡◌, ℕ, Some, is_some, IfOk, IfSome, IfErr, OnOk, OnErr};
+    ghost use Rattle.std.specs.Prelude.{◌≡◌, Some, None, Err, is_some, IfOk, IfSome, IfErr, OnOk, OnErr};
     ghost use Rattle.step_core.specs.Program.{program_of};
     ghost use Rattle.step_core.specs.JobMeaning.{report_of};
     ghost use Rattle.step_core.specs.Superstep.{superstep};
     ghost use Rattle.step_core.specs.Slots.{delivered};
     ghost use Rattle.step_core.specs.Taking.{Takes, with_delivery, IsOrderOf, outcome_of};
     ghost use Rattle.step_core.specs.RoundValue.{Opens, IsRound, state_of, slots_in, status_in};
-    ghost use Rattle.worker_pool.specs.Refusals.{IsOfWorkers};
+    ghost use Rattle.worker_pool.specs.BoardValue.{with_round, refused_by};
+    ghost use Rattle.worker_pool.specs.Refusals.{IsOfWorkers, refusal_of};
 
     /// A board for this round, with these seats for its tasks.
     pub(crate) fn new(alloc: Global, round: Round<'j>, ready: VecDeque<Seat<J>>) -> Self
         requires job { round.job ≡ J.job }
         requires limit { round.limit ≡ J.limit }
-        ensures { result ≡ round.entry }
+        ensures { result ≡ record { round = round.entry; first = None } }
     {
         Board {
             round,
             ready,
             coming: VecDeque::new(alloc),
-            note: None,
+            first: None,
             of: PhantomData,
         }
     }
 
-    /// Whether workers go home: the job has ended, or one of them noted why it can't go on.
+    /// Whether workers go home: the job has ended, or the run is refused.
     pub(crate) fn is_over(&self) -> bool {
-        self.note.is_some() || self.round.has_ended()
+        self.first.is_some() || self.round.has_ended()
     }
 
     /// Whether there is nothing to do here for now.
@@ -158,7 +165,7 @@ impl<'j, J: Running> Board<'j, J> {
 
     // What the segment of the task of this path needs. Where no task came or left before it, it is at this place.
     fn order(&self, near: usize, path: &[u16]) -> Result<Option<Order<'j>>, Note>
-        ensures order { IfOk result (λ order. IfSome order (λ o. IsOrderOf self.now path.now o)) }
+        ensures order { IfOk result (λ order. IfSome order (λ o. IsOrderOf self.now.round path.now o)) }
         ensures job { IfOk result (λ order. IfSome order (λ o. o.job ≡ J.job)) }
     {
         match self.round.order_near(near, path) {
@@ -196,8 +203,8 @@ impl<'j, J: Running> Board<'j, J> {
 
     // Takes what the segment of a task did.
     fn deliver(&mut self, made: Made<'j, J>) -> Result<(), Note>
-        ensures taken { OnOk result (Takes self.old made.entry) }
-        ensures added { OnOk result (self.new ≡ with_delivery self.old made.entry) }
+        ensures taken { OnOk result (Takes self.old.round made.entry) }
+        ensures added { OnOk result (self.new ≡ with_round self.old (with_delivery self.old.round made.entry)) }
         ensures unchanged { OnErr result (self.new ≡ self.old) }
     {
         accept(&mut self.round, made.into_delivery())
@@ -217,20 +224,29 @@ impl<'j, J: Running> Board<'j, J> {
         Ok(late)
     }
 
-    /// Notes why a worker can't go on; the first note stays.
-    pub(crate) fn note(&mut self, note: Note)
-        ensures { self.new ≡ self.old }
+    /// Notes why the run is refused; what was noted first stays.
+    pub(crate) fn refuse(&mut self, refused: Refused)
+        requires { IsOfWorkers J.workers refused }
+        ensures { self.new ≡ refused_by self.old refused }
     {
-        if self.note.is_none() {
-            self.note = Some(note);
+        if self.first.is_none() {
+            self.first = Some(refused);
         }
+    }
+
+    /// Notes why a worker can't go on; what was noted first stays.
+    pub(crate) fn note(&mut self, note: Note)
+        ensures { self.new ≡ refused_by self.old (refusal_of note) }
+    {
+        self.refuse(note.refusal());
     }
 
     // Takes the superstep, and makes those of the next live tasks ready that are back from the tree.
     fn close(&mut self, alloc: Global) -> Result<Outcome, Note>
-        ensures closed { OnOk result (Opens self.new self.old.job self.old.limit
-            (superstep (program_of self.old.job) (state_of self.old))) }
-        ensures outcome { IfOk result (λ outcome. outcome ≡ outcome_of self.old.arrays (delivered (slots_in self.old))) }
+        ensures closed { OnOk result (Opens self.new.round self.old.round.job self.old.round.limit
+            (superstep (program_of self.old.round.job) (state_of self.old.round))) }
+        ensures first { self.new.first ≡ self.old.first }
+        ensures outcome { IfOk result (λ outcome. outcome ≡ outcome_of self.old.round.arrays (delivered (slots_in self.old.round))) }
         ensures unchanged { OnErr result (self.new ≡ self.old) }
     {
         if !self.ready.is_empty() {
@@ -260,38 +276,18 @@ impl<'j, J: Running> Board<'j, J> {
         Ok(if late { Turned::Opened } else { Turned::Goes })
     }
 
-    /// What the job left, once it has ended, where the workers were started and have gone so.
-    pub(crate) fn conclude(
-        self,
-        alloc: Global,
-        done: Result<(), Refused>,
-    ) -> Result<Report, Refused>
+    /// What the job left, once it has ended, unless the run is refused: then what refused it first.
+    pub(crate) fn conclude(self, alloc: Global) -> Result<Report, Refused>
         ensures report { IfOk result (λ report. report_of (program_of J.job) J.limit ≡ Some report) }
-        ensures started { (workers : ℕ) → IfErr done (IsOfWorkers workers) → IfErr result (IsOfWorkers workers) }
+        ensures first { IfSome self.entry.first (λ refused. result ≡ Err refused) }
+        ensures started { IfErr result (IsOfWorkers J.workers) }
     {
-        let Board { round, note, .. } = self;
-        left_by(alloc, round, first_refusal(done, note))
+        let Board { round, first, .. } = self;
+        match first {
+            Some(refused) => Err(refused),
+            None => report_by(alloc, round),
+        }
     }
-}
-
-// Why a run is refused whose workers were started and have gone so, with this note.
-fn first_refusal(done: Result<(), Refused>, note: Option<Note>) -> Result<(), Refused>
-    ensures { (workers : ℕ) → IfErr done (IsOfWorkers workers) → IfErr result (IsOfWorkers workers) }
-{
-    done?;
-    match note {
-        Some(note) => Err(note.refusal()),
-        None => Ok(()),
-    }
-}
-
-// What the job of this round left, once it has ended, unless its run is refused.
-fn left_by(alloc: Global, round: Round<'_>, refused: Result<(), Refused>) -> Result<Report, Refused>
-    ensures report { IfOk result (λ report. report_of (program_of round.entry.job) round.entry.limit ≡ Some report) }
-    ensures started { (workers : ℕ) → IfErr refused (IsOfWorkers workers) → IfErr result (IsOfWorkers workers) }
-{
-    refused?;
-    report_by(alloc, round)
 }
 
 // What the job of this round left, once it has ended.

@@ -1,6 +1,6 @@
 //! Why a run gives no report.
 ghost use Rattle.std.specs.Prelude.{◌≡◌, ℕ};
-ghost use Rattle.worker_pool.specs.Refusals.{IsOfWorkers, refusal_number};
+ghost use Rattle.worker_pool.specs.Refusals.{IsOfWorkers, refusal_number, refusal_of};
 
 use std::alloc::AllocError;
 use step_core::{AcceptFault, CloseFault};
@@ -51,7 +51,8 @@ pub(crate) enum Note {
 impl Note {
     /// What the run then answers.
     pub(crate) fn refusal(self) -> Refused
-        ensures { (workers : ℕ) → IsOfWorkers workers result }
+        ensures told { result ≡ refusal_of self }
+        ensures workers { (workers : ℕ) → IsOfWorkers workers result }
     {
         match self {
             Note::Memory => Refused::Memory,

@@ -3,6 +3,7 @@ ghost use Rattle.std.specs.Prelude.{◌≡◌, ◌<◌, IfOk, length};
 ghost use Rattle.tier_shape.specs.Leaves.{leaves_of};
 
 use crate::board::Running;
+use job_seats::leaves::{leaf_at, preferred};
 use std::alloc::{AllocError, Global};
 use std::marker::PhantomData;
 use tier_shape::Shape;
@@ -26,6 +27,8 @@ pub(crate) fn leaves_in(alloc: Global, shape: &Shape) -> Result<Vec<u16>, AllocE
 }
 
 impl<J: Running> Leaves<J> {
+    ghost use Rattle.job_seats.specs.Moves.{leaf_at, preferred};
+
     /// The leaves of the tree of the run.
     pub(crate) fn new(tiers: Vec<u16>) -> Self
         requires all { tiers.items ≡ leaves_of J.tree.key.shape }
@@ -39,15 +42,17 @@ impl<J: Running> Leaves<J> {
 
     /// The tier of the leaf of this number.
     pub(crate) fn tier(&self, number: usize) -> u16
-        ensures { result < length J.tree.key.shape }
+        ensures leaf { result ≡ leaf_at (leaves_of J.tree.key.shape) number }
+        ensures within { result < length J.tree.key.shape }
     {
-        self.tiers[number % self.tiers.len()]
+        leaf_at(&self.tiers, number)
     }
 
-    /// The leaf at which a spawned task is to be registered: the one behind its spawner's, and as many further as the last
-    /// number of its own path says.
-    pub(crate) fn preferred(&self, spawner: usize, path: &[u16]) -> usize {
-        let last = path.last().copied().unwrap_or(0);
-        spawner.wrapping_add(1).wrapping_add(usize::from(last)) % self.tiers.len()
+    /// The tier at which a spawned task is to be registered first, by its spawner's tier and its own path.
+    pub(crate) fn preferred(&self, home: u16, path: &[u16]) -> u16
+        ensures leaf { result ≡ preferred (leaves_of J.tree.key.shape) home path.now }
+        ensures within { result < length J.tree.key.shape }
+    {
+        preferred(&self.tiers, home, path)
     }
 }

@@ -1,11 +1,12 @@
 //! A job on worker threads.
-ghost use Rattle.std.specs.Prelude.{◌≡◌, ◌≤◌, ◌<◌, false, Some, IfOk, IfErr, length};
+ghost use Rattle.std.specs.Prelude.{◌≡◌, ◌≤◌, ◌<◌, ◌++◌, ◌∷◌, [], false, Some, IfOk, IfErr, OnOk, map, length};
 ghost use Rattle.advance_rule.specs.Stored.{Answers};
 ghost use Rattle.advance_rule.specs.Action.{AnswersAction};
 ghost use Rattle.advance_rule.specs.Plan.{end_ends_at};
 ghost use Rattle.step_core.specs.Program.{program_of};
 ghost use Rattle.step_core.specs.JobMeaning.{report_of};
 ghost use Rattle.tier_shape.specs.Leaves.{leaves_of};
+ghost use Rattle.job_seats.specs.Moves.{leaf_at};
 ghost use Rattle.tier_table.specs.Ruled.{IsNew};
 ghost use Rattle.worker_pool.specs.JobPlan.{limit_of, IsJobPlan};
 ghost use Rattle.worker_pool.specs.Refusals.{IsOfWorkers};
@@ -40,14 +41,17 @@ fn meet(_generation: u64) -> bool
     false
 }
 
-// Registers the next start task, whose number is that of those before it.
+// Registers the next start task, whose number is that of those before it, at the leaf of that number.
 fn seat_one<J: Running, R: Wait, F: Fn(u32, u32) -> bool>(
     rt: &R,
     meeting: &Meeting<J, F>,
     key: &mut Key<J>,
     path: Path,
     seats: &mut Vec<Seat<J>>,
-) -> Result<(), Note> {
+) -> Result<(), Note>
+    ensures { OnOk result (map (λ seat. seat.crew.view.tier) seats.new.items
+        ≡ map (λ seat. seat.crew.view.tier) seats.old.items ++ leaf_at (leaves_of J.tree.key.shape) (length seats.old.items) ∷ []) }
+{
     let seat = meeting.register_start(rt, key, path, seats.len())?;
     match seats.push(seat) {
         Ok(()) => Ok(()),
@@ -113,6 +117,7 @@ fn run_at<
 ) -> Result<Report, Refused>
     requires job { round.job ≡ J.job }
     requires limit { round.limit ≡ J.limit }
+    requires workers { workers ≡ J.workers }
     requires tree { door.tree ≡ J.tree }
     requires rule { Answers (F.pre meeting.tree.rule.closure) (F.post meeting.tree.rule.closure) (end_ends_at meeting.tree.rule.plan) }
     requires action { IfOk start.now (λ start. AnswersAction (A.pre start.action.closure) (A.post start.action.closure) start.action.plan) }
@@ -123,13 +128,13 @@ fn run_at<
     let mut seats = Vec::new(alloc);
     let seated = seat_all(rt, alloc, &meeting, &mut key, &round, &mut seats);
     let shop = shop_of(alloc, round, meeting, seats);
-    let done = start_seated(
+    start_seated(
         rt, alloc, &shop, &mut key, gate, start, starter, workers, seated,
     );
-    shop.conclude(alloc, done)
+    shop.conclude(alloc)
 }
 
-// Starts the workers where the start tasks were seated and there is a gate of the start.
+// Starts the workers where the start tasks were seated and there is a gate of the start; else why not is noted.
 fn start_seated<
     'j,
     J: Running + Send + Sync,
@@ -148,18 +153,19 @@ fn start_seated<
     starter: &S,
     workers: u32,
     seated: Result<(), Note>,
-) -> Result<(), Refused>
+)
+    requires workers { workers ≡ J.workers }
     requires rule { Answers (F.pre shop.now.meeting.tree.rule.closure) (F.post shop.now.meeting.tree.rule.closure) (end_ends_at shop.now.meeting.tree.rule.plan) }
     requires action { IfOk start.now (λ start. AnswersAction (A.pre start.action.closure) (A.post start.action.closure) start.action.plan) }
-    ensures { IfErr result (IsOfWorkers workers) }
 {
     if let Err(note) = seated {
-        return Err(note.refusal());
+        shop.board.lock(rt).note(note);
+        return;
     }
     match start {
         Ok(start) => start_all(rt, alloc, shop, key, gate, start, starter, workers),
-        Err(BarrierFault::Memory) => Err(Refused::Memory),
-        Err(_) => Err(Refused::Internal),
+        Err(BarrierFault::Memory) => shop.board.lock(rt).note(Note::Memory),
+        Err(_) => shop.board.lock(rt).note(Note::Internal),
     }
 }
 
@@ -184,6 +190,7 @@ fn run_shared<
 ) -> Result<Report, Refused>
     requires job { round.job ≡ J.job }
     requires limit { round.limit ≡ J.limit }
+    requires workers { workers ≡ J.workers }
     requires tree { (tree.tree ≡ J.tree) × (door.tree ≡ J.tree) }
     requires leaves { (leaves.items ≡ leaves_of J.tree.key.shape) × (0 < length leaves.items) }
     requires rule { Answers (F.pre tree.rule.closure) (F.post tree.rule.closure) (end_ends_at tree.rule.plan) }

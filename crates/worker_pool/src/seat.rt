@@ -6,27 +6,26 @@ use std::marker::PhantomData;
 use superstep_memory::path::Path;
 use tier_table::tokens::{Crew, Door};
 
-/// A task between two segments, as workers hand it on: its path, its place among the live tasks when it was last taken, the
-/// number of its leaf, and the crew whose one member arrives for it. Its type keeps that the crew is of the tree of the run.
+/// A task between two segments, as workers hand it on: its path, its place among the live tasks when it was last taken, and
+/// the crew whose one member arrives for it at its tier. Its type keeps that the crew is of the tree of the run.
 #[derive(Drop)]
 pub(crate) struct Seat<J: Running> {
     pub(crate) path: Path,
     pub(crate) place: usize,
-    pub(crate) leaf: usize,
     pub(crate) crew: Crew,
     pub(crate) of: PhantomData<J>,
     ghost own: { crew.tree ≡ J.tree },
 }
 
 impl<J: Running> Seat<J> {
-    /// A task at this leaf, expected at this place of the live tasks.
-    pub(crate) fn new(path: Path, place: usize, leaf: usize, crew: Crew) -> Self
+    /// A task with this crew, expected at this place of the live tasks.
+    pub(crate) fn new(path: Path, place: usize, crew: Crew) -> Self
         requires { crew.tree ≡ J.tree }
+        ensures { result.crew ≡ crew }
     {
         Seat {
             path,
             place,
-            leaf,
             crew,
             of: PhantomData,
         }

@@ -20,7 +20,7 @@ pub(crate) struct Shop<'j, J: Running, F: Fn(u32, u32) -> bool> {
 }
 
 impl<'j, J: Running, F: Fn(u32, u32) -> bool> Shop<'j, J, F> {
-    ghost use Rattle.std.specs.Prelude.{◌≡◌, ◌<◌, ℕ, Some, IfOk, IfErr};
+    ghost use Rattle.std.specs.Prelude.{◌≡◌, ◌<◌, Some, IfOk, IfErr};
     ghost use Rattle.advance_rule.specs.Stored.{Answers};
     ghost use Rattle.advance_rule.specs.Plan.{end_ends_at};
     ghost use Rattle.step_core.specs.Program.{program_of};
@@ -55,12 +55,11 @@ impl<'j, J: Running, F: Fn(u32, u32) -> bool> Shop<'j, J, F> {
         let Seat {
             path,
             place,
-            leaf,
             crew,
             of: _,
         } = seat;
         let (crew, led) = self.meeting.arrive(rt, crew)?;
-        match passed.push_back(Seat::new(path, place, leaf, crew)) {
+        match passed.push_back(Seat::new(path, place, crew)) {
             Ok(()) => Ok(led),
             Err(_) => Err(Note::Memory),
         }
@@ -80,7 +79,7 @@ impl<'j, J: Running, F: Fn(u32, u32) -> bool> Shop<'j, J, F> {
     {
         let kid = self
             .meeting
-            .register_spawned(rt, &mut seat.crew, seat.place, seat.leaf, path)?;
+            .register_spawned(rt, &mut seat.crew, seat.place, path)?;
         self.arrive(rt, kid, passed)?;
         Ok(())
     }
@@ -176,20 +175,16 @@ impl<'j, J: Running, F: Fn(u32, u32) -> bool> Shop<'j, J, F> {
         self.meeting.force(rt, key);
     }
 
-    /// What the job left, once all workers have gone home, where they were started and have gone so.
-    pub(crate) fn conclude(
-        self,
-        alloc: Global,
-        done: Result<(), Refused>,
-    ) -> Result<Report, Refused>
+    /// What the job left, once all workers have gone home.
+    pub(crate) fn conclude(self, alloc: Global) -> Result<Report, Refused>
         ensures report { IfOk result (λ report. report_of (program_of J.job) J.limit ≡ Some report) }
-        ensures started { (workers : ℕ) → IfErr done (IsOfWorkers workers) → IfErr result (IsOfWorkers workers) }
+        ensures started { IfErr result (IsOfWorkers J.workers) }
     {
         let Shop {
             board,
             changed: _,
             meeting: _,
         } = self;
-        board.into_inner().conclude(alloc, done)
+        board.into_inner().conclude(alloc)
     }
 }

@@ -7,7 +7,7 @@ ghost use Rattle.advance_rule.specs.Plan.{end_ends_at};
 ghost use Rattle.worker_pool.specs.Refusals.{IsOfWorkers};
 
 use crate::board::Running;
-use crate::fault::{Note, Refused};
+use crate::fault::Refused;
 use crate::hooks::{Gate, Starter};
 use crate::seat::Key;
 use crate::shop::Shop;
@@ -17,6 +17,20 @@ use std::alloc::Global;
 use std::sync::Wait;
 use std::thread;
 use std::thread::{JoinHandle, Threads};
+
+// Notes why the run is refused before all workers have met, and sends those home who wait for the others.
+fn call_off<'j, J: Running, R: Wait, F: Fn(u32, u32) -> bool, A: Fn(u64) -> bool>(
+    rt: &R,
+    shop: &Shop<'j, J, F>,
+    meeting: &CyclicGate<A>,
+    refused: Refused,
+)
+    requires refused { IsOfWorkers J.workers refused }
+    requires action { AnswersAction (A.pre meeting.now.action.closure) (A.post meeting.now.action.closure) meeting.now.action.plan }
+{
+    shop.board.lock(rt).refuse(refused);
+    meeting.break_off(rt);
+}
 
 // What a worker does once it was started: it meets the others, and works. Where it finds no memory at the meeting, it
 // sends the others home.
@@ -35,10 +49,7 @@ fn meet_and_work<'j, J: Running, R: Wait, F: Fn(u32, u32) -> bool, A: Fn(u64) ->
     let mut key = key;
     match meeting.await_turn(rt, k) {
         Ok(_) => work(rt, alloc, shop, gate, &mut key),
-        Err(GateFault::Memory) => {
-            shop.board.lock(rt).note(Note::Memory);
-            meeting.break_off(rt);
-        }
+        Err(GateFault::Memory) => call_off(rt, shop, meeting, Refused::Memory),
         Err(_) => {}
     }
 }
@@ -68,8 +79,8 @@ fn join_all<R: Threads + Wait>(rt: &R, started: Vec<JoinHandle<()>>) {
     }
 }
 
-/// Starts the workers, and returns once all that were started have been joined. Where one can't be started the others
-/// are sent home before they take a task.
+/// Starts the workers, and returns once all that were started have been joined. Where one can't be started that is noted, and
+/// the others are sent home before they take a task.
 pub(crate) fn start_all<
     'j,
     J: Running + Send + Sync,
@@ -87,40 +98,34 @@ pub(crate) fn start_all<
     meeting: &CyclicGate<A>,
     starter: &S,
     workers: u32,
-) -> Result<(), Refused>
+)
+    requires workers { workers ≡ J.workers }
     requires rule { Answers (F.pre shop.now.meeting.tree.rule.closure) (F.post shop.now.meeting.tree.rule.closure) (end_ends_at shop.now.meeting.tree.rule.plan) }
     requires action { AnswersAction (A.pre meeting.now.action.closure) (A.post meeting.now.action.closure) meeting.now.action.plan }
-    ensures { IfErr result (IsOfWorkers workers) }
 {
     thread::scope(
         thread::scope_env(),
         rt,
-        move |scope| -> Result<(), Refused>
-            requires { Answers (F.pre shop.now.meeting.tree.rule.closure) (F.post shop.now.meeting.tree.rule.closure) (end_ends_at shop.now.meeting.tree.rule.plan)
+        move |scope|
+            requires { (workers ≡ J.workers) × Answers (F.pre shop.now.meeting.tree.rule.closure) (F.post shop.now.meeting.tree.rule.closure) (end_ends_at shop.now.meeting.tree.rule.plan)
                 × AnswersAction (A.pre meeting.now.action.closure) (A.post meeting.now.action.closure) meeting.now.action.plan }
-            ensures { IfErr result (IsOfWorkers workers) }
         {
             let mut started = Vec::new(alloc);
-            let mut done = Ok(());
             for k in 0..workers {
                 if let Err(refused) = may_start(starter, k, &mut started) {
-                    done = Err(refused);
+                    call_off(rt, shop, meeting, refused);
                     break;
                 }
                 let own = shop.meeting.key(key);
                 match scope.spawn(move || meet_and_work(rt, alloc, shop, gate, meeting, k, own)) {
                     Ok(thread) => started.push_reserved(thread),
                     Err(_) => {
-                        done = Err(Refused::NotStarted(k));
+                        call_off(rt, shop, meeting, Refused::NotStarted(k));
                         break;
                     }
                 }
             }
-            if done.is_err() {
-                meeting.break_off(rt);
-            }
             join_all(rt, started);
-            done
         },
     )
 }

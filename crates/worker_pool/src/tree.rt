@@ -38,7 +38,10 @@ impl<J: Running, F: Fn(u32, u32) -> bool> Meeting<J, F> {
     ghost use Rattle.std.specs.Prelude.{◌≡◌, ◌<◌, IfOk, IfSome, OnOk, length};
     ghost use Rattle.advance_rule.specs.Stored.{Answers};
     ghost use Rattle.advance_rule.specs.Plan.{end_ends_at};
-    ghost use Rattle.worker_pool.specs.Entries.{IsOf};
+    ghost use Rattle.tier_shape.specs.Leaves.{leaves_of};
+    ghost use Rattle.tier_table.specs.Openings.{asked_tier};
+    ghost use Rattle.job_seats.specs.Moves.{leaf_at};
+    ghost use Rattle.worker_pool.specs.Entries.{IsOf, IsAtLeaf};
 
     /// A tree, with its leaves.
     pub(crate) fn new(tree: Tree<F>, leaves: Leaves<J>) -> Self
@@ -56,7 +59,7 @@ impl<J: Running, F: Fn(u32, u32) -> bool> Meeting<J, F> {
     // Goes on with the opening of a path until it is done.
     fn open<R: Wait>(&self, rt: &R, opening: Opening) -> Entry
         requires { opening.token.tree ≡ J.tree }
-        ensures { IsOf J.tree result }
+        ensures { IsOf J.tree (asked_tier opening.token.view.errand) result }
     {
         let mut opening = opening;
         for _ in rt.forever() {
@@ -75,7 +78,7 @@ impl<J: Running, F: Fn(u32, u32) -> bool> Meeting<J, F> {
     fn register<R: Wait>(&self, rt: &R, door: Door, tier: u16) -> Entry
         requires own { door.tree ≡ J.tree }
         requires tier { tier < length J.tree.key.shape }
-        ensures { IsOf J.tree result }
+        ensures { IsOf J.tree tier result }
     {
         match self.tree.register(door, tier, 1, TRIES) {
             Registered::Joined(crew, _phase) => Entry::In(crew),
@@ -91,8 +94,8 @@ impl<J: Running, F: Fn(u32, u32) -> bool> Meeting<J, F> {
     fn join_here<R: Wait>(&self, rt: &R, crew: &mut Crew, door: Door) -> Result<Crew, Note>
         requires own { (crew.old.tree ≡ J.tree) × (door.tree ≡ J.tree) }
         requires unarrived { crew.old.view.arrived < crew.old.view.size }
-        ensures same { (crew.new.tree ≡ J.tree) × (crew.new.view.arrived < crew.new.view.size) }
-        ensures joined { IfOk result (λ kid. kid.tree ≡ J.tree) }
+        ensures same { (crew.new.tree ≡ J.tree) × (crew.new.view.arrived < crew.new.view.size) × (crew.new.view.tier ≡ crew.old.view.tier) }
+        ensures joined { IfOk result (λ kid. (kid.tree ≡ J.tree) × (kid.view.tier ≡ crew.old.view.tier)) }
     {
         let mut door = door;
         for _ in rt.forever() {
@@ -107,17 +110,19 @@ impl<J: Running, F: Fn(u32, u32) -> bool> Meeting<J, F> {
         unreachable!()
     }
 
-    /// Registers the start task of this number at the leaf of this number. Nothing refuses it, since nobody has arrived there.
+    /// Registers the start task of this number at the leaf of this number, from 0 again behind the last leaf. Nothing refuses it, since nobody has arrived there.
     pub(crate) fn register_start<R: Wait>(
         &self,
         rt: &R,
         key: &mut Key<J>,
         path: Path,
-        leaf: usize,
-    ) -> Result<Seat<J>, Note> {
+        number: usize,
+    ) -> Result<Seat<J>, Note>
+        ensures { IfOk result (λ seat. seat.crew.view.tier ≡ leaf_at (leaves_of J.tree.key.shape) number) }
+    {
         let fresh = self.tree.split(&mut key.door);
-        match self.register(rt, fresh, self.leaves.tier(leaf)) {
-            Entry::In(crew) => Ok(Seat::new(path, leaf, leaf, crew)),
+        match self.register(rt, fresh, self.leaves.tier(number)) {
+            Entry::In(crew) => Ok(Seat::new(path, number, crew)),
             Entry::Off(_) | Entry::Over => Err(Note::Internal),
         }
     }
@@ -128,20 +133,20 @@ impl<J: Running, F: Fn(u32, u32) -> bool> Meeting<J, F> {
         rt: &R,
         crew: &mut Crew,
         place: usize,
-        spawner: usize,
         path: Path,
     ) -> Result<Seat<J>, Note>
         requires own { crew.old.tree ≡ J.tree }
         requires unarrived { crew.old.view.arrived < crew.old.view.size }
-        ensures same { (crew.new.tree ≡ J.tree) × (crew.new.view.arrived < crew.new.view.size) }
+        ensures same { (crew.new.tree ≡ J.tree) × (crew.new.view.arrived < crew.new.view.size) × (crew.new.view.tier ≡ crew.old.view.tier) }
+        ensures leaf { IfOk result (λ seat. IsAtLeaf (leaves_of J.tree.key.shape) crew.old.view.tier path.items seat.crew.view.tier) }
     {
         let fresh = self.tree.split_crew(crew);
-        let leaf = self.leaves.preferred(spawner, path.as_slice());
-        match self.register(rt, fresh, self.leaves.tier(leaf)) {
-            Entry::In(kid) => Ok(Seat::new(path, place, leaf, kid)),
+        let tier = self.leaves.preferred(crew.tier(), path.as_slice());
+        match self.register(rt, fresh, tier) {
+            Entry::In(kid) => Ok(Seat::new(path, place, kid)),
             Entry::Off(door) => {
                 let kid = self.join_here(rt, crew, door)?;
-                Ok(Seat::new(path, place, spawner, kid))
+                Ok(Seat::new(path, place, kid))
             }
             Entry::Over => Err(Note::Internal),
         }

@@ -1,13 +1,10 @@
-use Rattle.std.proofs.Common.{◌≡◌, ◌<◌, ◌%◌, length, subst, ℕ, arith}
-use Rattle.std.proofs.Math.Nat.{mod-lt}
-use Rattle.worker_pool.proofs.Meeting.{leaf_at}
+use Rattle.std.proofs.Common.{ℕ, List, ap, ◌∙◌}
+use Rattle.job_seats.specs.Moves.{leaf_at}
+use Rattle.worker_pool.proofs.Meeting.{numbered_within}
 use Rattle.worker_pool.proofs.leaves.Leaves.tier.Goals as goal
 
-pub returns : goal.returns
-returns g c =
+pub returns-clause-within : goal.returns-clause-within
+returns-clause-within g c =
     let leaves = c.args.self.now in
-    let long : c.len.result ≡ length leaves.tiers.items = omega (arith, c.len.ensures, leaves.tiers.ok.0) in
-    let some : 0 < c.len.result = omega (arith, long, leaves.some) in
-    let below : c.args.number % c.len.result < length leaves.tiers.items =
-    subst (λ (m : ℕ). c.args.number % c.len.result < m) long (mod-lt c.args.number some) in
-    leaf_at g.J.Running.tree.key.shape leaves.tiers.items _ c.index.result.now leaves.all below c.index.ensures
+    numbered_within g.J.Running.tree.key.shape leaves.tiers.items c.args.number c.leaf_at.result leaves.all leaves.some
+    (c.leaf_at.ensures ∙ ap (λ (ls : List ℕ). leaf_at ls c.args.number) (c.deref.ensures.value ∙ leaves.all))
