@@ -6,6 +6,8 @@ use Rattle.step_core.specs.Program.{program_of}
 use Rattle.step_core.specs.Superstep.{superstep}
 use Rattle.step_core.specs.JobMeaning.{unless_ended}
 use Rattle.step_core.specs.RoundValue.{RoundValue, state_of, status_in}
+use Rattle.step_core.specs.OrderValue.{DeliveryValue}
+use Rattle.step_core.specs.Taking.{Takes as IsTakenBy, with_delivery}
 use Rattle.task_lang.specs.Meaning.{Segment}
 use Rattle.step_core.specs.Superstep.{segments}
 use Rattle.job_schedule.specs.declared.schedule.Schedule.{Schedule}
@@ -40,6 +42,13 @@ pub record IsAsBefore (old new : RoundValue) : Type 0 where
   pub job : new.job ≡ old.job
   pub limit : new.limit ≡ old.limit
   pub state : state_of new ≡ state_of old
+
+-- a delivery for the task of this path was taken, and nothing else is changed
+pub record IsTaken (old : RoundValue) (path : List ℕ) (new : RoundValue) : Type 0 where
+  pub delivery : DeliveryValue
+  pub own : delivery.path ≡ path
+  pub takes : IsTakenBy old delivery
+  pub added : new ≡ with_delivery old delivery
 
 -- one superstep more, unless the job had ended
 pub record IsNext (old new : RoundValue) : Type 0 where

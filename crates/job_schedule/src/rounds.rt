@@ -2,7 +2,7 @@
 ghost use Rattle.std.specs.Prelude.{◌≡◌, None, OnOk, IfOk, map};
 ghost use Rattle.step_core.specs.OrderValue.{delivered_segment, has_synced, spawned_paths};
 ghost use Rattle.step_core.specs.RoundValue.{status_in};
-ghost use Rattle.job_schedule.specs.Parts.{IsAsBefore, IsNext, deed_by, path_items};
+ghost use Rattle.job_schedule.specs.Parts.{IsAsBefore, IsTaken, IsNext, deed_by, path_items};
 
 use std::alloc::{AllocError, Global};
 use step_core::{Delivery, Order, Round};
@@ -30,6 +30,7 @@ fn segment_for<'j>(
     ensures running { OnOk result (status_in round.now ≡ None) }
     ensures job { IfOk result (λ d. d.job ≡ round.now.job) }
     ensures step { IfOk result (λ d. d.step ≡ round.now.step) }
+    ensures path { IfOk result (λ d. d.path ≡ path.now) }
     ensures deed { IfOk result (λ d. delivered_segment d ≡ deed_by round.now path.now) }
 {
     let _known = round.has_ended();
@@ -39,12 +40,14 @@ fn segment_for<'j>(
     Ok(delivery)
 }
 
-/// Hands in the segment of the live task of this path, and tells whether it synced, and the paths that it spawned.
+/// Hands in the segment of the live task of this path, which the round takes, and tells whether it synced, and the paths that
+/// it spawned.
 pub(crate) fn hand_in<'j>(
     alloc: Global,
     round: &mut Round<'j>,
     path: &[u16],
 ) -> Result<(bool, Vec<Path>), AllocError>
+    ensures taken { OnOk result (IsTaken round.old path.now round.new) }
     ensures round { OnOk result (IsAsBefore round.old round.new) }
     ensures synced { IfOk result (λ told. told.0 ≡ has_synced (deed_by round.old path.now)) }
     ensures spawns { IfOk result (λ told. map path_items told.1.items ≡ spawned_paths (deed_by round.old path.now)) }
