@@ -27,6 +27,9 @@ words-ask name = record {
   many_workers = (refl, refl);
   flat = (refl, refl);
   tree = (refl, refl);
+  draw = (refl, refl);
+  drawn_by = (refl, refl);
+  drawn_at = (refl, refl);
 }
 
 pub words-refused : EachNameRefuses
@@ -36,6 +39,9 @@ words-refused name = record {
   unknown = refl;
   more = refl;
   more_upgrade = refl;
+  more_draw = refl;
+  drawn_never = refl;
+  drawn_by_none = refl;
   none = refl;
   many = refl;
   no_worker = refl;
@@ -58,6 +64,8 @@ words-help name = record {
   upgrade_long = refl;
   run = refl;
   run_long = refl;
+  draw = refl;
+  draw_long = refl;
 }
 
 pub words-version : EachNameTellsVersion

@@ -2,6 +2,8 @@
 use Rattle.std.proofs.Common.{◌≡◌, ℕ, List, [], ◌∷◌, map, Option, Some, None, Result, Ok, Err, refl, ap, ◌∙◌, ◌≤◌, arith}
 use Rattle.std.specs.Prelude.{IfSome}
 use Rattle.phase_records.specs.ReportValue.{ReportValue}
+use Rattle.phase_records.specs.ReportText.{report_text}
+use Rattle.job_picture.specs.Picture.{picture}
 use Rattle.phase_records.specs.Status.{Status, Ended, Fault, Limit}
 use Rattle.phase_records.specs.StatusSeen.{status_seen}
 use Rattle.phase_records.specs.declared.record.JobStatus.{JobStatus}
@@ -16,7 +18,7 @@ use Rattle.step_core.specs.JobMeaning.{report_of}
 use Rattle.bsp_cli.specs.Jobs.{plan_of, program_of_tree, status_number}
 use Rattle.std.specs.Io.KnownBytes.{Keeps}
 use Rattle.bsp_cli.specs.Ends.{IsOfPool, ReadCause, WriteCause, Reports, Runs, Does, end_result}
-use Rattle.bsp_cli.specs.declared.asked.Asked.TheVariants.{Run}
+use Rattle.bsp_cli.specs.declared.asked.Asked.TheVariants.{Run, Draw}
 use Rattle.bsp_cli.specs.declared.fault.RunFault.{RunFault}
 use Rattle.bsp_cli.specs.declared.fault.RunFault.TheVariants.{Text, Read, Write, Memory, NotStarted, Internal}
 
@@ -41,20 +43,20 @@ small (Fault c n p) = omega arith
 small (Limit n) = omega arith
 
 -- a job that was read and run, and its report that was written
-pub runs : (workers limit : ℕ) (input old new : Option (List ℕ)) (j : JobValue) (report : ReportValue) (r : Result JobStatus RunFault)
-    → IfSome input (λ bytes. job_in bytes ≡ Ok (job_tree j)) → report_of (program_of j) limit ≡ Some report → Reports report old new r
-    → Runs workers limit input old new r
-runs workers limit input old new j report (Ok status) read left_it h =
+pub runs : (form : ReportValue → List ℕ) (workers limit : ℕ) (input old new : Option (List ℕ)) (j : JobValue) (report : ReportValue) (r : Result JobStatus RunFault)
+    → IfSome input (λ bytes. job_in bytes ≡ Ok (job_tree j)) → report_of (program_of j) limit ≡ Some report → Reports form report old new r
+    → Runs form workers limit input old new r
+runs form workers limit input old new j report (Ok status) read left_it h =
     if-some input (λ bytes e. (report, (job_tree j, e, left j limit report left_it), h.0, h.1)) read
-runs workers limit input old new j report (Err (Text x)) read left_it h = absurd h
-runs workers limit input old new j report (Err Read) read left_it h = absurd h
-runs workers limit input old new j report (Err Write) read left_it h = if-some input (λ bytes e. (report, (job_tree j, e, left j limit report left_it), h)) read
-runs workers limit input old new j report (Err Memory) read left_it h = h
-runs workers limit input old new j report (Err (NotStarted k)) read left_it h = absurd h
-runs workers limit input old new j report (Err Internal) read left_it h = absurd h
+runs form workers limit input old new j report (Err (Text x)) read left_it h = absurd h
+runs form workers limit input old new j report (Err Read) read left_it h = absurd h
+runs form workers limit input old new j report (Err Write) read left_it h = if-some input (λ bytes e. (report, (job_tree j, e, left j limit report left_it), h)) read
+runs form workers limit input old new j report (Err Memory) read left_it h = h
+runs form workers limit input old new j report (Err (NotStarted k)) read left_it h = absurd h
+runs form workers limit input old new j report (Err Internal) read left_it h = absurd h
 
 -- and so what was asked for was done
-pub does : (workers limit : ℕ) (input old new : Option (List ℕ)) (r : Result JobStatus RunFault) → Runs workers limit input old new r
+pub does : (workers limit : ℕ) (input old new : Option (List ℕ)) (r : Result JobStatus RunFault) → Runs report_text workers limit input old new r
     → Does (Run workers limit) input old new (end_result r)
 does workers limit input old new (Ok status) h =
     (small (status_seen status), if-some input (λ bytes w. (w.0, w.1, w.2, ap status_number w.3)) h)
@@ -65,18 +67,30 @@ does workers limit input old new (Err Memory) h = h
 does workers limit input old new (Err (NotStarted k)) h = h
 does workers limit input old new (Err Internal) h = h
 
+-- and drawn
+pub draws : (workers limit : ℕ) (input old new : Option (List ℕ)) (r : Result JobStatus RunFault) → Runs picture workers limit input old new r
+    → Does (Draw workers limit) input old new (end_result r)
+draws workers limit input old new (Ok status) h =
+    (small (status_seen status), if-some input (λ bytes w. (w.0, w.1, w.2, ap status_number w.3)) h)
+draws workers limit input old new (Err (Text x)) h = h
+draws workers limit input old new (Err Read) h = h
+draws workers limit input old new (Err Write) h = h
+draws workers limit input old new (Err Memory) h = h
+draws workers limit input old new (Err (NotStarted k)) h = h
+draws workers limit input old new (Err Internal) h = h
+
 keeps : (o : Option (List ℕ)) → Keeps o o
 keeps None = tt
 keeps (Some xs) = refl
 
 -- where workers leave nothing, nothing was written
-pub pool_runs : (workers limit : ℕ) (input old : Option (List ℕ)) (fault : RunFault) → IsOfPool workers fault → Runs workers limit input old old (Err fault)
-pool_runs workers limit input old (Text r) h = absurd h
-pool_runs workers limit input old Read h = absurd h
-pool_runs workers limit input old Write h = absurd h
-pool_runs workers limit input old Memory h = keeps old
-pool_runs workers limit input old (NotStarted k) h = (keeps old, h)
-pool_runs workers limit input old Internal h = keeps old
+pub pool_runs : (form : ReportValue → List ℕ) (workers limit : ℕ) (input old : Option (List ℕ)) (fault : RunFault) → IsOfPool workers fault → Runs form workers limit input old old (Err fault)
+pool_runs form workers limit input old (Text r) h = absurd h
+pool_runs form workers limit input old Read h = absurd h
+pool_runs form workers limit input old Write h = absurd h
+pool_runs form workers limit input old Memory h = keeps old
+pool_runs form workers limit input old (NotStarted k) h = (keeps old, h)
+pool_runs form workers limit input old Internal h = keeps old
 
 -- and no device failed
 pub pool_reads : (workers old new : ℕ) (fault : RunFault) → IsOfPool workers fault → new ≡ old → ReadCause {T = JobStatus} old new (Err fault)

@@ -8,7 +8,7 @@ use Rattle.clap.specs.ValueTests.{is_unsigned_in}
 use Rattle.clap.specs.declared.builder.action.ArgAction.TheVariants.{Set}
 use Rattle.clap.specs.declared.builder.value_parser.ValueParser.TheVariants as parser
 use Rattle.bsp_cli.specs.declared.asked.Asked.{Asked}
-use Rattle.bsp_cli.specs.declared.asked.Asked.TheVariants.{Trace, Check, Upgrade, Run}
+use Rattle.bsp_cli.specs.declared.asked.Asked.TheVariants.{Trace, Check, Upgrade, Run, Draw}
 
 -- an option that is a number, from 1 to the most
 abbrev pub number_rule : List ℕ → ℕ → Rule
@@ -27,10 +27,10 @@ tree_rule = record (new_rule (codes "tree")) {
   action = Some Set;
 }
 
--- `run` with its three options
-abbrev pub run_app : App
-run_app =
-    with_rule (with_rule (with_rule (new_app (codes "run")) (number_rule (codes "workers") 64)) tree_rule) (number_rule (codes "limit") 1000000)
+-- `run` or `draw` with its three options
+abbrev pub job_app : List ℕ → App
+job_app name =
+    with_rule (with_rule (with_rule (new_app name) (number_rule (codes "workers") 64)) tree_rule) (number_rule (codes "limit") 1000000)
 
 abbrev pub bare : App
 bare = new_app (codes "bsp")
@@ -41,10 +41,12 @@ program =
     with_subcommand
     (with_subcommand
     (with_subcommand
+    (with_subcommand
     (with_subcommand (record bare { top = record bare.top { subcommand_required = true; has_version = true } }) (new_app (codes "trace")).top)
     (new_app (codes "check")).top)
     (new_app (codes "upgrade")).top)
-    run_app.top
+    (job_app (codes "run")).top)
+    (job_app (codes "draw")).top
 
 -- the number of an option, from 1 to the most; the usual one where it isn't given
 abbrev pub number_from : ℕ → ℕ → Option (List ℕ) → ℕ
@@ -74,7 +76,8 @@ asked_by None = Trace
 asked_by (Some p) =
     if bytes_eq p.0 (codes "check") then Check
     else if bytes_eq p.0 (codes "upgrade") then Upgrade
-    else if bytes_eq p.0 (codes "run") then Run (workers_in p.1) (limit_in p.1) else Trace
+    else if bytes_eq p.0 (codes "run") then Run (workers_in p.1) (limit_in p.1)
+    else if bytes_eq p.0 (codes "draw") then Draw (workers_in p.1) (limit_in p.1) else Trace
 
 -- the text of the tree at which workers meet; traces, and texts that are checked or upgraded, have none
 abbrev pub tree_by : Option (List ℕ × List Row) → List ℕ
@@ -82,7 +85,8 @@ tree_by None = codes "flat"
 tree_by (Some p) =
     if bytes_eq p.0 (codes "check") then codes "flat"
     else if bytes_eq p.0 (codes "upgrade") then codes "flat"
-    else if bytes_eq p.0 (codes "run") then tree_in p.1 else codes "flat"
+    else if bytes_eq p.0 (codes "run") then tree_in p.1
+    else if bytes_eq p.0 (codes "draw") then tree_in p.1 else codes "flat"
 
 -- what words ask for, where they are taken
 abbrev pub asked_in : List (List ℕ) → Asked

@@ -3,6 +3,8 @@ use Rattle.std.specs.Prelude.{◌≡◌, ◌≤◌, ◌<◌, ◌⊎◌, ℕ, Boo
 use Rattle.std.specs.List.{list_all}
 use Rattle.std.specs.Io.KnownBytes.{Keeps}
 use Rattle.text_lines.specs.declared.refusal.Refusal.{Refusal}
+use Rattle.phase_records.specs.ReportText.{report_text}
+use Rattle.job_picture.specs.Picture.{picture}
 use Rattle.trace_text.specs.Trace.{asked_of}
 use Rattle.trace_text.specs.Outcome.{WritesAnswers, WritesBeginning}
 use Rattle.job_reader.specs.Reading.{job_in}
@@ -12,21 +14,23 @@ use Rattle.clap.specs.Words.{Kinds}
 use Rattle.bsp_cli.specs.Jobs.{WritesCanonical, BeginsCanonical, WritesUpgraded, BeginsUpgraded, WritesReport, BeginsReport}
 use Rattle.bsp_cli.specs.Texts.{refusal_line, worker_line}
 use Rattle.bsp_cli.specs.declared.asked.Asked.{Asked}
-use Rattle.bsp_cli.specs.declared.asked.Asked.TheVariants.{Trace, Check, Upgrade, Run}
+use Rattle.bsp_cli.specs.declared.asked.Asked.TheVariants.{Trace, Check, Upgrade, Run, Draw}
 
 -- the input was read, and all that is asked for was written
 abbrev pub Finishes : Asked → List ℕ → Option (List ℕ) → Option (List ℕ) → ℕ → Type 0
 Finishes Trace input old new status = (status ≡ 0) × WritesAnswers input old new
 Finishes Check input old new status = (status ≡ 0) × WritesCanonical input old new
 Finishes Upgrade input old new status = (status ≡ 0) × WritesUpgraded input old new
-Finishes (Run workers limit) input old new status = WritesReport limit input old new status
+Finishes (Run workers limit) input old new status = WritesReport report_text limit input old new status
+Finishes (Draw workers limit) input old new status = WritesReport picture limit input old new status
 
 -- or a beginning of it
 abbrev pub Begins : Asked → List ℕ → Option (List ℕ) → Option (List ℕ) → Type 0
 Begins Trace input old new = WritesBeginning input old new
 Begins Check input old new = BeginsCanonical input old new
 Begins Upgrade input old new = BeginsUpgraded input old new
-Begins (Run workers limit) input old new = BeginsReport limit input old new
+Begins (Run workers limit) input old new = BeginsReport report_text limit input old new
+Begins (Draw workers limit) input old new = BeginsReport picture limit input old new
 
 -- the input is refused, first here
 abbrev pub Refuses : Asked → List ℕ → Refusal → Type 0
@@ -34,6 +38,7 @@ Refuses Trace input r = asked_of input ≡ Err r
 Refuses Check input r = job_in input ≡ Err r
 Refuses Upgrade input r = job_in input ≡ Err r
 Refuses (Run workers limit) input r = job_in input ≡ Err r
+Refuses (Draw workers limit) input r = job_in input ≡ Err r
 
 -- where memory ran out, only a trace may have written some of its answers
 abbrev pub RunsOut : Asked → Option (List ℕ) → Option (List ℕ) → Option (List ℕ) → Type 0
@@ -41,6 +46,7 @@ RunsOut Trace input old new = Keeps old new ⊎ IfSome input (λ bytes. WritesBe
 RunsOut Check input old new = Keeps old new
 RunsOut Upgrade input old new = Keeps old new
 RunsOut (Run workers limit) input old new = Keeps old new
+RunsOut (Draw workers limit) input old new = Keeps old new
 
 -- a worker of those that are asked for, numbered from 0
 abbrev pub IsWorkerOf : Asked → ℕ → Type 0
@@ -48,6 +54,7 @@ IsWorkerOf Trace k = ⊥
 IsWorkerOf Check k = ⊥
 IsWorkerOf Upgrade k = ⊥
 IsWorkerOf (Run workers limit) k = k < workers
+IsWorkerOf (Draw workers limit) k = k < workers
 
 -- what is asked for is done where the status is 0, 2 or 3; else the output and the line on standard error say what went
 -- wrong

@@ -5,7 +5,6 @@ use Rattle.phase_records.specs.Device.{AppendsBeginning}
 use Rattle.phase_records.specs.ReportValue.{ReportValue}
 use Rattle.phase_records.specs.StatusSeen.{status_seen}
 use Rattle.phase_records.specs.declared.record.JobStatus.{JobStatus}
-use Rattle.phase_records.specs.ReportText.{report_text}
 use Rattle.task_lang.specs.JobValue.{JobValue}
 use Rattle.trace_text.specs.Trace.{asked_of}
 use Rattle.trace_text.specs.Outcome.{WritesAnswers, WritesBeginning}
@@ -15,7 +14,7 @@ use Rattle.bsp_cli.specs.Jobs.{status_number, WritesCanonical, BeginsCanonical, 
 use Rattle.bsp_cli.specs.Did.{Finishes, Begins, Refuses, RunsOut, IsWorkerOf}
 use Rattle.bsp_cli.specs.Texts.{fault_status}
 use Rattle.bsp_cli.specs.declared.asked.Asked.{Asked}
-use Rattle.bsp_cli.specs.declared.asked.Asked.TheVariants.{Trace, Check, Upgrade, Run}
+use Rattle.bsp_cli.specs.declared.asked.Asked.TheVariants.{Trace, Check, Upgrade, Run, Draw}
 use Rattle.bsp_cli.specs.declared.fault.RunFault.{RunFault}
 use Rattle.bsp_cli.specs.declared.fault.RunFault.TheVariants.{Text, Read, Write, Memory, NotStarted, Internal}
 
@@ -76,15 +75,15 @@ Upgrades input old new (Err Memory) = Keeps old new
 Upgrades input old new (Err (NotStarted k)) = ⊥
 Upgrades input old new (Err Internal) = ⊥
 
--- the report was written, or a beginning of it where the writer failed
-abbrev pub Reports : ReportValue → Option (List ℕ) → Option (List ℕ) → Result JobStatus RunFault → Type 0
-Reports report old new (Ok status) = Appends old new (report_text report) × (status_seen status ≡ report.status)
-Reports report old new (Err (Text r)) = ⊥
-Reports report old new (Err Read) = ⊥
-Reports report old new (Err Write) = AppendsBeginning old new (report_text report)
-Reports report old new (Err Memory) = Keeps old new
-Reports report old new (Err (NotStarted k)) = ⊥
-Reports report old new (Err Internal) = ⊥
+-- the report was written in this form, or a beginning of it where the writer failed
+abbrev pub Reports : (ReportValue → List ℕ) → ReportValue → Option (List ℕ) → Option (List ℕ) → Result JobStatus RunFault → Type 0
+Reports form report old new (Ok status) = Appends old new (form report) × (status_seen status ≡ report.status)
+Reports form report old new (Err (Text r)) = ⊥
+Reports form report old new (Err Read) = ⊥
+Reports form report old new (Err Write) = AppendsBeginning old new (form report)
+Reports form report old new (Err Memory) = Keeps old new
+Reports form report old new (Err (NotStarted k)) = ⊥
+Reports form report old new (Err Internal) = ⊥
 
 -- why so many workers leave nothing
 abbrev pub IsOfPool : ℕ → RunFault → Type 0
@@ -95,16 +94,16 @@ IsOfPool workers Memory = Unit {0}
 IsOfPool workers (NotStarted k) = k < workers
 IsOfPool workers Internal = Unit {0}
 
--- what the job of the input leaves within the limit was written, and nothing else, and this is how it ended; a text that is
+-- what the job of the input leaves within the limit was written in this form, and nothing else, and this is how it ended; a text that is
 -- refused is refused at its first fault, with nothing written
-abbrev pub Runs : ℕ → ℕ → Option (List ℕ) → Option (List ℕ) → Option (List ℕ) → Result JobStatus RunFault → Type 0
-Runs workers limit input old new (Ok status) = IfSome input (λ bytes. WritesReportOf limit bytes old new (status_seen status))
-Runs workers limit input old new (Err (Text r)) = IfSome input (λ bytes. job_in bytes ≡ Err r) × Keeps old new
-Runs workers limit input old new (Err Read) = Keeps old new
-Runs workers limit input old new (Err Write) = IfSome input (λ bytes. BeginsReport limit bytes old new)
-Runs workers limit input old new (Err Memory) = Keeps old new
-Runs workers limit input old new (Err (NotStarted k)) = Keeps old new × (k < workers)
-Runs workers limit input old new (Err Internal) = Keeps old new
+abbrev pub Runs : (ReportValue → List ℕ) → ℕ → ℕ → Option (List ℕ) → Option (List ℕ) → Option (List ℕ) → Result JobStatus RunFault → Type 0
+Runs form workers limit input old new (Ok status) = IfSome input (λ bytes. WritesReportOf form limit bytes old new (status_seen status))
+Runs form workers limit input old new (Err (Text r)) = IfSome input (λ bytes. job_in bytes ≡ Err r) × Keeps old new
+Runs form workers limit input old new (Err Read) = Keeps old new
+Runs form workers limit input old new (Err Write) = IfSome input (λ bytes. BeginsReport form limit bytes old new)
+Runs form workers limit input old new (Err Memory) = Keeps old new
+Runs form workers limit input old new (Err (NotStarted k)) = Keeps old new × (k < workers)
+Runs form workers limit input old new (Err Internal) = Keeps old new
 
 -- and what is asked for, whichever it is
 abbrev pub Does : Asked → Option (List ℕ) → Option (List ℕ) → Option (List ℕ) → Result ℕ RunFault → Type 0
@@ -122,6 +121,7 @@ IsAsked Trace = Unit {0}
 IsAsked Check = Unit {0}
 IsAsked Upgrade = Unit {0}
 IsAsked (Run workers limit) = ((1 ≤ workers) × (workers ≤ 64)) × ((1 ≤ limit) × (limit ≤ 1000000))
+IsAsked (Draw workers limit) = ((1 ≤ workers) × (workers ≤ 64)) × ((1 ≤ limit) × (limit ≤ 1000000))
 
 -- how a run of a job ended, as a status
 abbrev pub end_result : Result JobStatus RunFault → Result ℕ RunFault

@@ -1,10 +1,9 @@
--- What `check`, `upgrade` and `run` print of a job's text (own).
+-- What `check`, `upgrade`, `run` and `draw` print of a job's text (own).
 use Rattle.std.specs.Prelude.{◌≡◌, ℕ, List, map, length, Option, Some, Ok}
 use Rattle.std.specs.Io.KnownBytes.{Appends}
 use Rattle.phase_records.specs.Device.{AppendsBeginning}
 use Rattle.phase_records.specs.Status.{Status, Ended, Fault, Limit}
 use Rattle.phase_records.specs.ReportValue.{ReportValue}
-use Rattle.phase_records.specs.ReportText.{report_text}
 use Rattle.task_lang.specs.Meaning.{Plan}
 use Rattle.job_reader.specs.Trees.{BodyTree, JobTree}
 use Rattle.job_reader.specs.Reading.{job_in}
@@ -46,16 +45,16 @@ BeginsUpgraded input old new = (job : JobTree) × (job_in input ≡ Ok job) × A
 abbrev pub Leaves : ℕ → List ℕ → ReportValue → Type 0
 Leaves limit input report = (job : JobTree) × (job_in input ≡ Ok job) × (report_of (program_of_tree job) limit ≡ Some report)
 
--- what the job of the input leaves was written, and this is how it ended
-abbrev pub WritesReportOf : ℕ → List ℕ → Option (List ℕ) → Option (List ℕ) → Status → Type 0
-WritesReportOf limit input old new status =
-    (report : ReportValue) × Leaves limit input report × Appends old new (report_text report) × (status ≡ report.status)
+-- what the job of the input leaves was written in this form, as a text or a picture, and this is how it ended
+abbrev pub WritesReportOf : (ReportValue → List ℕ) → ℕ → List ℕ → Option (List ℕ) → Option (List ℕ) → Status → Type 0
+WritesReportOf form limit input old new status =
+    (report : ReportValue) × Leaves limit input report × Appends old new (form report) × (status ≡ report.status)
 
 -- the same, with the number of the status
-abbrev pub WritesReport : ℕ → List ℕ → Option (List ℕ) → Option (List ℕ) → ℕ → Type 0
-WritesReport limit input old new status =
-    (report : ReportValue) × Leaves limit input report × Appends old new (report_text report) × (status ≡ status_number report.status)
+abbrev pub WritesReport : (ReportValue → List ℕ) → ℕ → List ℕ → Option (List ℕ) → Option (List ℕ) → ℕ → Type 0
+WritesReport form limit input old new status =
+    (report : ReportValue) × Leaves limit input report × Appends old new (form report) × (status ≡ status_number report.status)
 
 -- or a beginning of it
-abbrev pub BeginsReport : ℕ → List ℕ → Option (List ℕ) → Option (List ℕ) → Type 0
-BeginsReport limit input old new = (report : ReportValue) × Leaves limit input report × AppendsBeginning old new (report_text report)
+abbrev pub BeginsReport : (ReportValue → List ℕ) → ℕ → List ℕ → Option (List ℕ) → Option (List ℕ) → Type 0
+BeginsReport form limit input old new = (report : ReportValue) × Leaves limit input report × AppendsBeginning old new (form report)

@@ -6,7 +6,7 @@ use Rattle.bsp_cli.specs.CommandLine.{asked_in, refused_by, tree_asked}
 use Rattle.bsp_cli.specs.Did.{are_refused}
 use Rattle.clap.specs.declared.error.kind.ErrorKind.TheVariants.{DisplayHelp, DisplayVersion}
 use Rattle.bsp_cli.specs.declared.asked.Asked.{Asked}
-use Rattle.bsp_cli.specs.declared.asked.Asked.TheVariants.{Trace, Check, Upgrade, Run}
+use Rattle.bsp_cli.specs.declared.asked.Asked.TheVariants.{Trace, Check, Upgrade, Run, Draw}
 
 -- words that are taken, and what they ask for
 abbrev pub Asks : List (List ℕ) → Asked → Type 0
@@ -19,7 +19,7 @@ AsksTree words text = (refused_by words ≡ []) × (tree_asked words ≡ text)
 abbrev pub AreRefused : List (List ℕ) → Type 0
 AreRefused words = are_refused (refused_by words) ≡ true
 
--- the program under any name, a subcommand behind it, and the options of `run`
+-- the program under any name, a subcommand behind it, and the options of `run` and `draw`
 pub record WordsAsk (name : List ℕ) : Type 0 where
   pub trace : Asks (name ∷ codes "trace" ∷ []) Trace
   pub check : Asks (name ∷ codes "check" ∷ []) Check
@@ -32,6 +32,9 @@ pub record WordsAsk (name : List ℕ) : Type 0 where
   pub many_workers : Asks (name ∷ codes "run" ∷ codes "--workers" ∷ codes "64" ∷ codes "--limit" ∷ codes "7" ∷ []) (Run 64 7)
   pub flat : AsksTree (name ∷ codes "run" ∷ []) (codes "flat")
   pub tree : AsksTree (name ∷ codes "run" ∷ codes "--tree" ∷ codes "2x3" ∷ []) (codes "2x3")
+  pub draw : Asks (name ∷ codes "draw" ∷ []) (Draw 1 1000000)
+  pub drawn_by : Asks (name ∷ codes "draw" ∷ codes "--workers" ∷ codes "64" ∷ codes "--limit" ∷ codes "7" ∷ []) (Draw 64 7)
+  pub drawn_at : AsksTree (name ∷ codes "draw" ∷ codes "--tree" ∷ codes "2x3" ∷ []) (codes "2x3")
 
 -- words that aren't taken
 pub record WordsAreRefused (name : List ℕ) : Type 0 where
@@ -39,6 +42,9 @@ pub record WordsAreRefused (name : List ℕ) : Type 0 where
   pub unknown : AreRefused (name ∷ codes "runs" ∷ [])
   pub more : AreRefused (name ∷ codes "check" ∷ codes "job" ∷ [])
   pub more_upgrade : AreRefused (name ∷ codes "upgrade" ∷ codes "job" ∷ [])
+  pub more_draw : AreRefused (name ∷ codes "draw" ∷ codes "job" ∷ [])
+  pub drawn_never : AreRefused (name ∷ codes "draw" ∷ codes "--limit" ∷ codes "0" ∷ [])
+  pub drawn_by_none : AreRefused (name ∷ codes "draw" ∷ codes "--workers" ∷ codes "0" ∷ [])
   pub none : AreRefused (name ∷ codes "run" ∷ codes "--limit" ∷ codes "0" ∷ [])
   pub many : AreRefused (name ∷ codes "run" ∷ codes "--limit" ∷ codes "1000001" ∷ [])
   pub no_worker : AreRefused (name ∷ codes "run" ∷ codes "--workers" ∷ codes "0" ∷ [])
@@ -62,6 +68,8 @@ pub record WordsAskForHelp (name : List ℕ) : Type 0 where
   pub upgrade_long : AskForHelp (name ∷ codes "upgrade" ∷ codes "--help" ∷ [])
   pub run : AskForHelp (name ∷ codes "run" ∷ codes "-h" ∷ [])
   pub run_long : AskForHelp (name ∷ codes "run" ∷ codes "--help" ∷ [])
+  pub draw : AskForHelp (name ∷ codes "draw" ∷ codes "-h" ∷ [])
+  pub draw_long : AskForHelp (name ∷ codes "draw" ∷ codes "--help" ∷ [])
 
 -- words that ask for the version
 abbrev pub AskForVersion : List (List ℕ) → Type 0

@@ -3,7 +3,7 @@ ghost use Rattle.std.specs.Prelude.{◌≡◌, ◌≤◌, false, true, codes, If
 ghost use Rattle.clap.specs.Words.{app_of, found_of, kind_of, new_app, rows_of, rule_of, subcommand_rows_of};
 ghost use Rattle.clap.specs.declared.builder.command.Command.TheViews.{out-Command as fields_of};
 ghost use Rattle.clap.specs.declared.error.kind.ErrorKind.TheVariants as kinds;
-ghost use Rattle.bsp_cli.specs.CommandLine.{asked_by, bare, chosen, limit_in, number_rule, program, run_app, tree_by, tree_in, tree_rule, workers_in};
+ghost use Rattle.bsp_cli.specs.CommandLine.{asked_by, bare, chosen, job_app, limit_in, number_rule, program, tree_by, tree_in, tree_rule, workers_in};
 ghost use Rattle.bsp_cli.specs.Ends.{IsAsked};
 
 use clap::{Arg, ArgAction, ArgMatches, Command, Error};
@@ -21,6 +21,13 @@ pub enum Asked {
     /// To run a job.
     Run {
         /// On so many workers.
+        workers: u32,
+        /// Within so many supersteps.
+        limit: u32,
+    },
+    /// To draw a job.
+    Draw {
+        /// Run on so many workers.
         workers: u32,
         /// Within so many supersteps.
         limit: u32,
@@ -224,28 +231,50 @@ fn tree_option<'a>(alloc: Global) -> Arg<'a>
         .action(ArgAction::Set)
 }
 
-// The subcommand `run` without its options.
-fn bare_run<'a>(alloc: Global) -> Command<'a>
-    ensures app { app_of result ≡ new_app (codes "run") }
+// A subcommand that runs a job, without its options.
+fn bare_job<'a>(alloc: Global, name: &'a str, about: &'a str, lines: &'a str) -> Command<'a>
+    ensures app { app_of result ≡ new_app name.entry.now }
     ensures local { (fields_of result).has_globals ≡ false }
 {
-    Command::new(alloc, "run")
-        .about(
-            "Runs a job, and prints its supersteps with what they print, its arrays, and how it ended",
-        )
-        .after_help(RUN_LINES)
+    Command::new(alloc, name).about(about).after_help(lines)
 }
 
-// The subcommand `run` with its options.
-fn run_command<'a>(alloc: Global) -> Result<Command<'a>, Error>
-    ensures app { IfOk result (λ c. app_of c ≡ run_app) }
+// A subcommand that runs a job, with its options.
+fn job_command<'a>(
+    alloc: Global,
+    name: &'a str,
+    about: &'a str,
+    lines: &'a str,
+) -> Result<Command<'a>, Error>
+    ensures app { IfOk result (λ c. app_of c ≡ job_app name.entry.now) }
     ensures local { IfOk result (λ c. (fields_of c).has_globals ≡ false) }
     ensures memory { IfErr result (λ e. kind_of e ≡ kinds.OutOfMemory) }
 {
-    let with_workers = bare_run(alloc).arg(workers_option(alloc))?;
+    let with_workers = bare_job(alloc, name, about, lines).arg(workers_option(alloc))?;
     let with_tree = with_workers.arg(tree_option(alloc))?;
     let with_limit = with_tree.arg(limit_option(alloc))?;
     Ok(with_limit)
+}
+
+// The subcommand `run`.
+fn run_command<'a>(alloc: Global) -> Result<Command<'a>, Error>
+    ensures app { IfOk result (λ c. app_of c ≡ job_app (codes "run")) }
+    ensures local { IfOk result (λ c. (fields_of c).has_globals ≡ false) }
+    ensures memory { IfErr result (λ e. kind_of e ≡ kinds.OutOfMemory) }
+{
+    let about =
+        "Runs a job, and prints its supersteps with what they print, its arrays, and how it ended";
+    job_command(alloc, "run", about, RUN_LINES)
+}
+
+// The subcommand `draw`.
+fn draw_command<'a>(alloc: Global) -> Result<Command<'a>, Error>
+    ensures app { IfOk result (λ c. app_of c ≡ job_app (codes "draw")) }
+    ensures local { IfOk result (λ c. (fields_of c).has_globals ≡ false) }
+    ensures memory { IfErr result (λ e. kind_of e ≡ kinds.OutOfMemory) }
+{
+    let about = "Runs a job, and prints a picture of its supersteps and arrays, an SVG file";
+    job_command(alloc, "draw", about, RUN_LINES)
 }
 
 // The subcommand `trace`.
@@ -299,7 +328,8 @@ pub(crate) fn parser<'a>(alloc: Global) -> Result<Command<'a>, Error>
     let with_check = with_trace.subcommand(check_command(alloc))?;
     let with_upgrade = with_check.subcommand(upgrade_command(alloc))?;
     let with_run = with_upgrade.subcommand(run_command(alloc)?)?;
-    Ok(with_run)
+    let with_draw = with_run.subcommand(draw_command(alloc)?)?;
+    Ok(with_draw)
 }
 
 // The number that was read, where it is one of 1 to `most`; else the usual one.
@@ -343,6 +373,17 @@ fn tree_of<'a>(matches: &ArgMatches<'a>) -> &'a str
     }
 }
 
+// What a subcommand that has no options asks for.
+fn without_tree<'a>(asked: Asked) -> Request<'a>
+    ensures asked { result.asked ≡ asked }
+    ensures tree { result.tree.now ≡ codes "flat" }
+{
+    Request {
+        asked,
+        tree: "flat",
+    }
+}
+
 /// What words that are taken ask for.
 pub(crate) fn asked_for<'a>(matches: &ArgMatches<'a>) -> Request<'a>
     ensures asked { result.asked ≡ asked_by (subcommand_rows_of matches.now) }
@@ -352,33 +393,23 @@ pub(crate) fn asked_for<'a>(matches: &ArgMatches<'a>) -> Request<'a>
     match matches.subcommand() {
         Some((name, options)) => {
             if name == "check" {
-                return Request {
-                    asked: Asked::Check,
-                    tree: "flat",
-                };
+                return without_tree(Asked::Check);
             }
             if name == "upgrade" {
-                return Request {
-                    asked: Asked::Upgrade,
-                    tree: "flat",
-                };
+                return without_tree(Asked::Upgrade);
             }
+            let (workers, limit) = (workers_of(options), limit_of(options));
+            let tree = tree_of(options);
             if name == "run" {
-                let workers = workers_of(options);
-                let limit = limit_of(options);
-                return Request {
-                    asked: Asked::Run { workers, limit },
-                    tree: tree_of(options),
-                };
+                let asked = Asked::Run { workers, limit };
+                return Request { asked, tree };
             }
-            Request {
-                asked: Asked::Trace,
-                tree: "flat",
+            if name == "draw" {
+                let asked = Asked::Draw { workers, limit };
+                return Request { asked, tree };
             }
+            without_tree(Asked::Trace)
         }
-        None => Request {
-            asked: Asked::Trace,
-            tree: "flat",
-        },
+        None => without_tree(Asked::Trace),
     }
 }

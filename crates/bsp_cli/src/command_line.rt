@@ -10,7 +10,7 @@ ghost use Rattle.bsp_cli.specs.Texts.{Tells};
 
 use crate::asked::{Asked, Request, asked_for, parser};
 use crate::fault::{RunFault, tell};
-use crate::job::{check, run_bytes, run_status, upgrade};
+use crate::job::{check, draw_bytes, run_bytes, run_status, upgrade};
 use crate::status::{COMMAND_LINE_REFUSED, DEVICE_FAILED, INTERNAL, OUT_OF_MEMORY};
 use crate::trace::trace;
 use clap::Error;
@@ -109,6 +109,9 @@ fn do_asked<T: Threads + Wait + Sync, R: CountedRead, W: CountedWrite>(
             Err(fault) => Err(fault),
         },
         Asked::Run { workers, limit } => run_status(run_bytes(
+            rt, alloc, reader, writer, shape, workers, limit,
+        )),
+        Asked::Draw { workers, limit } => run_status(draw_bytes(
             rt, alloc, reader, writer, shape, workers, limit,
         )),
     }

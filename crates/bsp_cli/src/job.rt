@@ -1,7 +1,9 @@
-//! The subcommands `check`, `upgrade` and `run`.
+//! The subcommands `check`, `upgrade`, `run` and `draw`.
 ghost use Rattle.std.specs.Prelude.{◌≡◌, ◌≤◌, ℕ, Some, IfOk, IfErr};
 ghost use Rattle.phase_records.specs.StatusSeen.{status_seen};
 ghost use Rattle.bsp_cli.specs.Jobs.{status_number};
+ghost use Rattle.phase_records.specs.ReportText.{report_text};
+ghost use Rattle.job_picture.specs.Picture.{picture};
 ghost use Rattle.step_core.specs.Program.{program_of};
 ghost use Rattle.step_core.specs.JobMeaning.{report_of};
 ghost use Rattle.worker_pool.specs.Refusals.{IsOfWorkers};
@@ -10,11 +12,13 @@ ghost use Rattle.bsp_cli.specs.Ends.{TakesJob, Checks, Upgrades, IsOfPool, Repor
 use crate::fault::RunFault;
 use crate::status::{LIMIT_REACHED, TASK_FAULT};
 use advance_rule::{EndPlan, StoredAdvance};
+use job_picture::picture_of;
 use job_reader::{Code, ReadJobFault, Refusal, read_job, upgrade as upgraded, write_job};
 use phase_records::{
-    CountedRead, CountedWrite, JobStatus, ReadFault, Report, WriteFault, read_all, write_report,
+    CountedRead, CountedWrite, JobStatus, ReadFault, Report, WriteFault, read_all, write_all,
+    write_report,
 };
-use std::alloc::Global;
+use std::alloc::{AllocError, Global};
 use std::sync::Wait;
 use std::thread::Threads;
 use step_core::run_alone;
@@ -148,22 +152,46 @@ fn fault_of(refused: Refused) -> RunFault
     }
 }
 
+// How a job ended that left this report.
+fn status_of(report: Report) -> JobStatus
+    ensures { status_seen result ≡ report.status }
+{
+    let Report { status, .. } = report;
+    status
+}
+
 // Writes a report, and answers how its job ended.
 fn write_end<W: CountedWrite>(
     alloc: Global,
     report: Report,
     writer: &mut W,
 ) -> Result<JobStatus, RunFault>
-    ensures reports { Reports report (W.contents writer.old) (W.contents writer.new) result }
+    ensures reports { Reports report_text report (W.contents writer.old) (W.contents writer.new) result }
     ensures write_failures { WriteCause (W.failures writer.old) (W.failures writer.new) result }
 {
     match write_report(alloc, &report, writer) {
-        Ok(()) => {
-            let Report { status, .. } = report;
-            Ok(status)
-        }
+        Ok(()) => Ok(status_of(report)),
         Err(WriteFault::Write) => Err(RunFault::Write),
         Err(WriteFault::Memory) => Err(RunFault::Memory),
+    }
+}
+
+// Writes the picture of a report, and answers how its job ended. All memory is taken before the first byte is written.
+fn draw_end<W: CountedWrite>(
+    alloc: Global,
+    report: Report,
+    writer: &mut W,
+) -> Result<JobStatus, RunFault>
+    ensures reports { Reports picture report (W.contents writer.old) (W.contents writer.new) result }
+    ensures write_failures { WriteCause (W.failures writer.old) (W.failures writer.new) result }
+{
+    let text = match picture_of(alloc, &report) {
+        Ok(text) => text,
+        Err(AllocError) => return Err(RunFault::Memory),
+    };
+    match write_all(writer, &text) {
+        Ok(()) => Ok(status_of(report)),
+        Err(_) => Err(RunFault::Write),
     }
 }
 
@@ -180,7 +208,7 @@ pub fn run_bytes<T: Threads + Wait + Sync, R: CountedRead, W: CountedWrite>(
 ) -> Result<JobStatus, RunFault>
     requires workers { (1 ≤ workers) × (workers ≤ 64) }
     requires limit { (1 ≤ limit) × (limit ≤ 2147483648) }
-    ensures runs { Runs workers limit (R.remaining reader.old) (W.contents writer.old) (W.contents writer.new) result }
+    ensures runs { Runs report_text workers limit (R.remaining reader.old) (W.contents writer.old) (W.contents writer.new) result }
     ensures read_failures { ReadCause (R.failures reader.old) (R.failures reader.new) result }
     ensures write_failures { WriteCause (W.failures writer.old) (W.failures writer.new) result }
 {
@@ -190,6 +218,32 @@ pub fn run_bytes<T: Threads + Wait + Sync, R: CountedRead, W: CountedWrite>(
     };
     match leave(rt, alloc, &job, shape, workers, limit) {
         Ok(report) => write_end(alloc, report, writer),
+        Err(refused) => Err(fault_of(refused)),
+    }
+}
+
+/// Reads a job to the reader's end, runs it likewise, and writes the picture of its report, an SVG file (own).
+pub fn draw_bytes<T: Threads + Wait + Sync, R: CountedRead, W: CountedWrite>(
+    rt: &T,
+    alloc: Global,
+    reader: &mut R,
+    writer: &mut W,
+    shape: Shape,
+    workers: u32,
+    limit: u32,
+) -> Result<JobStatus, RunFault>
+    requires workers { (1 ≤ workers) × (workers ≤ 64) }
+    requires limit { (1 ≤ limit) × (limit ≤ 2147483648) }
+    ensures runs { Runs picture workers limit (R.remaining reader.old) (W.contents writer.old) (W.contents writer.new) result }
+    ensures read_failures { ReadCause (R.failures reader.old) (R.failures reader.new) result }
+    ensures write_failures { WriteCause (W.failures writer.old) (W.failures writer.new) result }
+{
+    let job = match take_job(alloc, reader) {
+        Ok(job) => job,
+        Err(fault) => return Err(fault),
+    };
+    match leave(rt, alloc, &job, shape, workers, limit) {
+        Ok(report) => draw_end(alloc, report, writer),
         Err(refused) => Err(fault_of(refused)),
     }
 }

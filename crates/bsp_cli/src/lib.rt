@@ -12,7 +12,7 @@ mod trace;
 pub use asked::Asked;
 pub use command_line::run;
 pub use fault::RunFault;
-pub use job::run_bytes;
+pub use job::{draw_bytes, run_bytes};
 pub use laws::{words_are_refused, words_ask, words_help, words_tell_the_version};
 pub use program::run_program;
 

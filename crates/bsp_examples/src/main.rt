@@ -49,6 +49,22 @@ const GALLERY: [&str; 16] = [
     "treesum2",
 ];
 
+// The words that draw a job on one worker, and on four.
+const DRAW: [&str; 2] = ["bsp", "draw"];
+
+const DRAW_BY_FOUR: [&str; 6] = ["bsp", "draw", "--workers", "4", "--tree", "2x2"];
+
+// The jobs whose pictures are stored.
+const PICTURES: [&str; 1] = ["breadth"];
+
+// A job of 8001 supersteps, and what its picture has where three share a column.
+const LONG: &str = "bsp 1\nbody b\nwhile step < 8000\nsync\nend\nend\nstart b 0\n";
+
+const LONG_TITLE: &str =
+    ">supersteps 8001, parties at most 1, ended, each column the greatest of 3 supersteps<";
+
+const LONG_LAST: &str = "<rect class=\"p\" x=\"7998\" width=\"2.9\" y=\"0\" height=\"1\"/>";
+
 // What the program left of a text.
 #[derive(Drop)]
 struct Ran {
@@ -315,6 +331,48 @@ fn run_gallery<R: AllocGlobal + Files + Print + Threads + Wait + Sync>(
     Ok(())
 }
 
+// Whether the picture of a job is the one that is stored, drawn on one worker and on four.
+fn is_picture<R: AllocGlobal + Files + Threads + Wait + Sync>(
+    rt: &R,
+    name: &str,
+) -> Result<bool, Error> {
+    let alloc = rt.alloc();
+    let text = stored(rt, name, "job")?;
+    let want = stored(rt, name, "svg")?;
+    Ok(prints(rt, alloc, &DRAW, text.as_str(), want.as_str())
+        && prints(rt, alloc, &DRAW_BY_FOUR, text.as_str(), want.as_str()))
+}
+
+// Whether three supersteps share a column in the picture of a long job.
+fn shares_columns<R: Threads + Wait + Sync>(rt: &R, alloc: Global) -> bool {
+    let left = run_on(rt, alloc, &DRAW, LONG.as_bytes());
+    match str::from_utf8(left.output.as_slice()) {
+        Ok(text) => left.status == 0 && text.contains(LONG_TITLE) && text.contains(LONG_LAST),
+        Err(_) => false,
+    }
+}
+
+// Draws the pictures.
+fn draw_pictures<R: AllocGlobal + Files + Print + Threads + Wait + Sync>(
+    rt: &R,
+) -> Result<(), Error> {
+    for name in PICTURES {
+        let said = if is_picture(rt, name)? {
+            "is what is stored"
+        } else {
+            "is something else"
+        };
+        println!(rt; "{name}.svg {said}")?;
+    }
+    let said = if shares_columns(rt, rt.alloc()) {
+        "shares its columns"
+    } else {
+        "shares no columns"
+    };
+    println!(rt; "the picture of 8001 supersteps {said}")?;
+    Ok(())
+}
+
 // Whether a line is a row that holds.
 fn is_row<R: Threads + Wait + Sync>(rt: &R, alloc: Global, line: &str) -> Result<bool, AllocError> {
     match row_of(line) {
@@ -356,5 +414,6 @@ fn main(rt: HostRuntime) -> Result<(), Error> {
     run_jobs(&rt)?;
     run_gallery(&rt)?;
     run_bench(&rt)?;
+    draw_pictures(&rt)?;
     run_rows(&rt)
 }

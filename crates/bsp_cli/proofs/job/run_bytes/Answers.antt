@@ -1,15 +1,16 @@
+use Rattle.phase_records.specs.ReportText.{report_text}
 use Rattle.bsp_cli.proofs.RunJobs.{runs, pool_runs, pool_reads, pool_writes}
 use Rattle.bsp_cli.proofs.job.run_bytes.Goals as goal
 
 pub returns-in-Ok-leave-clause-runs : goal.returns-in-Ok-leave-clause-runs
 returns-in-Ok-leave-clause-runs g c =
-    runs c.args.workers c.args.limit (g.R.CountedRead.remaining c.args.reader.now) (g.W.CountedWrite.contents c.args.writer.now)
+    runs report_text c.args.workers c.args.limit (g.R.CountedRead.remaining c.args.reader.now) (g.W.CountedWrite.contents c.args.writer.now)
     (g.W.CountedWrite.contents c.write_end.new.writer) c.in-Ok.job c.in-Ok-leave.report c.write_end.result c.in-Ok.ensures.takes
     c.in-Ok-leave.ensures.report c.write_end.ensures.reports
 
 pub returns-clause-runs : goal.returns-clause-runs
 returns-clause-runs g c =
-    pool_runs c.args.workers c.args.limit _ _ c.fault_of.result (c.fault_of.ensures c.args.workers c.in-Err-leave.ensures.started)
+    pool_runs report_text c.args.workers c.args.limit _ _ c.fault_of.result (c.fault_of.ensures c.args.workers c.in-Err-leave.ensures.started)
 
 pub returns-clause-read_failures : goal.returns-clause-read_failures
 returns-clause-read_failures g c =

@@ -1,0 +1,19 @@
+-- The numbers at the axes (own): each stands where its unit is, and is drawn back to its own size by a scale that undoes
+-- the scale of the units.
+use Rattle.std.specs.Prelude.{ℕ, ◌-◌, ◌/◌, List, ◌++◌, codes, decimal}
+
+-- a line across at a number of parties, of so many at most
+abbrev pub party_tick : ℕ → ℕ → List ℕ
+party_tick most n =
+    codes "<g transform=\"translate(0," ++ decimal (most - n) ++ codes ") scale(.00125," ++ decimal most
+    ++ codes ") scale(1,.005)\"><path class=\"a\" d=\"M-5 0H800\"/><text class=\"n\" x=\"-9\" y=\"4\">" ++ decimal n ++ codes "</text></g>\n"
+
+-- a number below the middle of its superstep, of so many
+abbrev pub step_tick : ℕ → ℕ → List ℕ
+step_tick steps n =
+    codes "<g transform=\"translate(" ++ decimal n ++ codes ".5,0) scale(" ++ decimal steps
+    ++ codes ",1) scale(.00125,.05)\"><text class=\"m\" y=\"12\">" ++ decimal n ++ codes "</text></g>\n"
+
+-- the numbers at an axis: 0, the last, and those at its quarters
+abbrev pub ticks : (ℕ → List ℕ) → ℕ → List ℕ
+ticks tick last = tick 0 ++ tick (last / 4) ++ tick (last / 2) ++ tick (last - last / 4) ++ tick last

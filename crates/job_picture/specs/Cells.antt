@@ -1,0 +1,83 @@
+-- An array as a strip of cells (own): a cell is one unit wide.
+use Rattle.std.specs.Prelude.{ℕ, zero, suc, ◌+◌, ◌-◌, ◌*◌, ◌/◌, min, max, ◌==◌, nat_le, if◌then◌else◌, ℤ, pos, ◌-ℤ◌, unsigned_abs, List, [], ◌∷◌, ◌++◌, length, codes, decimal}
+use Rattle.std.specs.List.{fold, flat_map}
+use Rattle.std.specs.Int.{int_min, int_max}
+use Rattle.std.specs.Fmt.{signed_decimal}
+use Rattle.job_picture.specs.declared.cells.Extent.{Extent}
+
+-- a byte of a name as a text of XML may hold it
+abbrev pub escaped : ℕ → List ℕ
+escaped b =
+    if b == 38 then codes "&amp;" else if b == 60 then codes "&lt;" else if b == 62 then codes "&gt;" else b ∷ []
+
+abbrev pub least : List ℤ → ℤ
+least [] = pos 0
+least (v ∷ vs) = fold int_min v vs
+
+abbrev pub most : List ℤ → ℤ
+most [] = pos 0
+most (v ∷ vs) = fold int_max v vs
+
+-- both
+abbrev pub extent_of : List ℤ → Extent
+extent_of values = record { low = least values; high = most values }
+
+-- how far up a value lies between the least and the greatest, in ninths
+abbrev pub shade : Extent → ℤ → ℕ
+shade e v =
+    if unsigned_abs (e.high -ℤ e.low) == 0 then 0 else unsigned_abs (v -ℤ e.low) * 9 / unsigned_abs (e.high -ℤ e.low)
+
+-- a cell, and how dark it is
+abbrev pub cell : ℕ → ℕ → List ℕ
+cell at dark =
+    codes "<rect x=\"" ++ decimal at ++ codes "\" width=\"1\" height=\"1\" fill-opacity=\"." ++ decimal dark ++ codes "\"/>\n"
+
+-- the last cells of an array of so many
+abbrev pub cells_from : Extent → ℕ → List ℤ → List ℕ
+cells_from e count [] = []
+cells_from e count (v ∷ vs) = cell (count - length (v ∷ vs)) (shade e v) ++ cells_from e count vs
+
+-- how many signs the longest of these values has
+abbrev pub longest : List ℤ → ℕ
+longest values = fold (λ n v. max n (length (signed_decimal v))) 1 values
+
+-- a value in the middle of its cell, of so many
+abbrev pub value_at : ℕ → ℕ → ℤ → List ℕ
+value_at count at v =
+    codes "<text class=\"v\" transform=\"translate(" ++ decimal at ++ codes ".5,.68) scale(" ++ decimal count ++ codes ",1) scale(.00125,.04)\">"
+    ++ signed_decimal v ++ codes "</text>\n"
+
+-- the last values of so many
+abbrev pub values_from : ℕ → List ℤ → List ℕ
+values_from count [] = []
+values_from count (v ∷ vs) = value_at count (count - length (v ∷ vs)) v ++ values_from count vs
+
+-- the values of a few cells, in letters that have room
+abbrev pub few_values : List ℤ → List ℕ
+few_values values =
+    codes "<g font-size=\"" ++ decimal (min (1300 / max (length values) 1 / longest values) 12) ++ codes "\">\n"
+    ++ values_from (length values) values ++ codes "</g>\n"
+
+-- where there are 64 cells or fewer their values
+abbrev pub shown_values : List ℤ → List ℕ
+shown_values values = if nat_le (length values) 64 then few_values values else []
+
+-- what stands over the cells of the array that so many others stand before: its name, how many cells it has, the least and
+-- the greatest
+abbrev pub label : ℕ → List ℕ → ℕ → Extent → List ℕ
+label place name count e =
+    codes "<g transform=\"translate(0," ++ decimal (310 + 50 * place) ++ codes ")\"><text class=\"k\" x=\"80\" y=\"12\">" ++ flat_map escaped name
+    ++ codes ": cells " ++ decimal count ++ codes ", least " ++ signed_decimal e.low ++ codes ", greatest " ++ signed_decimal e.high ++ codes "</text>\n"
+
+-- and the array
+abbrev pub strip : ℕ → List ℕ × List ℤ → List ℕ
+strip place a =
+    label place a.0 (length a.1) (extent_of a.1)
+    ++ codes "<svg x=\"80\" y=\"18\" width=\"800\" height=\"25\" viewBox=\"0 0 " ++ decimal (length a.1)
+    ++ codes " 1\" preserveAspectRatio=\"none\" overflow=\"visible\"><g class=\"c\">\n" ++ cells_from (extent_of a.1) (length a.1) a.1 ++ codes "</g>\n"
+    ++ shown_values a.1 ++ codes "</svg><path class=\"o\" d=\"M80 18h800v25h-800z\"/></g>\n"
+
+-- arrays, the first of which so many others stand before
+abbrev pub strips_from : ℕ → List (List ℕ × List ℤ) → List ℕ
+strips_from place [] = []
+strips_from place (a ∷ rest) = strip place a ++ strips_from (place + 1) rest

@@ -1,0 +1,4 @@
+pub mod Axes
+pub mod Cells
+pub mod Columns
+pub mod Picture

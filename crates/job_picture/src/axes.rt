@@ -1,0 +1,58 @@
+//! Numbers at the axes.
+ghost use Rattle.std.specs.Prelude.{◌≡◌, ◌-◌, ◌<◌, ◌++◌, OnOk};
+ghost use Rattle.job_picture.specs.Axes.{party_tick, step_tick, ticks};
+
+use crate::pieces::{push_field, push_text};
+use std::alloc::AllocError;
+
+// Puts a line across at a number of parties behind what is there.
+fn push_party_tick(out: &mut Vec<u8>, most: u32, n: u32) -> Result<(), AllocError>
+    ensures { OnOk result (out.new.items ≡ out.old.items ++ party_tick most n) }
+{
+    push_field(out, b"<g transform=\"translate(0,", most.saturating_sub(n))?;
+    push_field(out, b") scale(.00125,", most)?;
+    push_field(
+        out,
+        b") scale(1,.005)\"><path class=\"a\" d=\"M-5 0H800\"/><text class=\"n\" x=\"-9\" y=\"4\">",
+        n,
+    )?;
+    push_text(out, b"</text></g>\n")
+}
+
+// Puts a number below its superstep behind what is there.
+fn push_step_tick(out: &mut Vec<u8>, steps: usize, n: usize) -> Result<(), AllocError>
+    ensures { OnOk result (out.new.items ≡ out.old.items ++ step_tick steps n) }
+{
+    push_field(out, b"<g transform=\"translate(", n)?;
+    push_field(out, b".5,0) scale(", steps)?;
+    push_field(
+        out,
+        b",1) scale(.00125,.05)\"><text class=\"m\" y=\"12\">",
+        n,
+    )?;
+    push_text(out, b"</text></g>\n")
+}
+
+/// Puts the lines across behind what is there, from 0 to this many parties.
+pub(crate) fn push_party_ticks(out: &mut Vec<u8>, most: u32) -> Result<(), AllocError>
+    ensures { OnOk result (out.new.items ≡ out.old.items ++ ticks (party_tick most) most) }
+{
+    push_party_tick(out, most, 0)?;
+    push_party_tick(out, most, most / 4)?;
+    push_party_tick(out, most, most / 2)?;
+    push_party_tick(out, most, most - most / 4)?;
+    push_party_tick(out, most, most)
+}
+
+/// Puts the numbers below so many supersteps behind what is there.
+pub(crate) fn push_step_ticks(out: &mut Vec<u8>, steps: usize) -> Result<(), AllocError>
+    requires { 0 < steps }
+    ensures { OnOk result (out.new.items ≡ out.old.items ++ ticks (step_tick steps) (steps - 1)) }
+{
+    let last = steps - 1;
+    push_step_tick(out, steps, 0)?;
+    push_step_tick(out, steps, last / 4)?;
+    push_step_tick(out, steps, last / 2)?;
+    push_step_tick(out, steps, last - last / 4)?;
+    push_step_tick(out, steps, last)
+}

@@ -1,0 +1,250 @@
+//! Arrays as strips of cells.
+ghost use Rattle.std.specs.Prelude.{◌≡◌, ◌++◌, ◌^◌, ◌≤◌, ◌<◌, OnOk, length};
+ghost use Rattle.std.specs.List.{flat_map};
+ghost use Rattle.std.specs.Fmt.{signed_decimal};
+ghost use Rattle.job_picture.specs.Cells.{
+  escaped,
+  least as least_of,
+  most as most_of,
+  extent_of,
+  shade as shade_of,
+  cell,
+  cells_from,
+  longest as longest_of,
+  value_at,
+  values_from,
+  few_values,
+  shown_values,
+  label,
+  strip,
+  strips_from,
+};
+
+use crate::pieces::{push_field, push_text};
+use itoa::Buffer;
+use std::alloc::AllocError;
+use superstep_memory::arrays::Arrays;
+
+// Puts a name behind what is there, as a text of XML may hold it.
+fn push_escaped(out: &mut Vec<u8>, name: &[u8]) -> Result<(), AllocError>
+    ensures { OnOk result (out.new.items ≡ out.old.items ++ flat_map escaped name.now) }
+{
+    let mut rest = name;
+    while let Some((byte, after)) = rest.split_first() {
+        match *byte {
+            b'&' => push_text(out, b"&amp;")?,
+            b'<' => push_text(out, b"&lt;")?,
+            b'>' => push_text(out, b"&gt;")?,
+            other => push_text(out, &[other])?,
+        }
+        rest = after;
+    }
+    Ok(())
+}
+
+// The least value, 0 of none.
+fn least(values: &[i64]) -> i64
+    ensures { result ≡ least_of values.now }
+{
+    let Some((first, mut rest)) = values.split_first() else {
+        return 0;
+    };
+    let mut low = *first;
+    while let Some((value, after)) = rest.split_first() {
+        low = low.min(*value);
+        rest = after;
+    }
+    low
+}
+
+// The greatest value, 0 of none.
+fn most(values: &[i64]) -> i64
+    ensures { result ≡ most_of values.now }
+{
+    let Some((first, mut rest)) = values.split_first() else {
+        return 0;
+    };
+    let mut high = *first;
+    while let Some((value, after)) = rest.split_first() {
+        high = high.max(*value);
+        rest = after;
+    }
+    high
+}
+
+// The least and the greatest value of an array.
+#[derive(Clone, Copy)]
+pub(crate) struct Extent {
+    pub(crate) low: i64,
+    pub(crate) high: i64,
+}
+
+// The least and the greatest of these values.
+fn range_of(values: &[i64]) -> Extent
+    ensures { result ≡ extent_of values.now }
+{
+    Extent {
+        low: least(values),
+        high: most(values),
+    }
+}
+
+// How far up a value lies between the least and the greatest, in ninths.
+fn shade(extent: Extent, value: &i64) -> u128
+    ensures { result ≡ shade_of extent value.now }
+{
+    let span = u128::from(extent.high.abs_diff(extent.low));
+    if span == 0 {
+        return 0;
+    }
+    u128::from(value.abs_diff(extent.low)) * 9 / span
+}
+
+// Puts a value behind what is there.
+fn push_signed(out: &mut Vec<u8>, value: &i64) -> Result<(), AllocError>
+    ensures { OnOk result (out.new.items ≡ out.old.items ++ signed_decimal value.now) }
+{
+    push_text(out, Buffer::new().format(*value).as_bytes())
+}
+
+// Puts a cell behind what is there.
+fn push_cell(out: &mut Vec<u8>, at: usize, shade: u128) -> Result<(), AllocError>
+    ensures { OnOk result (out.new.items ≡ out.old.items ++ cell at shade) }
+{
+    push_field(out, b"<rect x=\"", at)?;
+    push_field(out, b"\" width=\"1\" height=\"1\" fill-opacity=\".", shade)?;
+    push_text(out, b"\"/>\n")
+}
+
+// Puts the cells of an array behind what is there.
+fn push_cells(out: &mut Vec<u8>, extent: Extent, values: &[i64]) -> Result<(), AllocError>
+    ensures { OnOk result (out.new.items ≡ out.old.items ++ cells_from extent (length values.now) values.now) }
+{
+    let count = values.len();
+    let mut rest = values;
+    while let Some((value, after)) = rest.split_first() {
+        push_cell(out, count.saturating_sub(rest.len()), shade(extent, value))?;
+        rest = after;
+    }
+    Ok(())
+}
+
+// How many signs the longest of these values has.
+fn longest(values: &[i64]) -> usize
+    ensures longest { result ≡ longest_of values.now }
+    ensures some { 0 < result }
+{
+    let mut rest = values;
+    let mut signs = 1;
+    while let Some((value, after)) = rest.split_first() {
+        signs = signs.max(Buffer::new().format(*value).len());
+        rest = after;
+    }
+    signs
+}
+
+// Puts a value behind what is there, in the middle of its cell.
+fn push_value(out: &mut Vec<u8>, count: usize, at: usize, value: &i64) -> Result<(), AllocError>
+    ensures { OnOk result (out.new.items ≡ out.old.items ++ value_at count at value.now) }
+{
+    push_field(out, b"<text class=\"v\" transform=\"translate(", at)?;
+    push_field(out, b".5,.68) scale(", count)?;
+    push_text(out, b",1) scale(.00125,.04)\">")?;
+    push_signed(out, value)?;
+    push_text(out, b"</text>\n")
+}
+
+// Puts values behind what is there, each in the middle of its cell.
+fn push_values(out: &mut Vec<u8>, values: &[i64]) -> Result<(), AllocError>
+    ensures { OnOk result (out.new.items ≡ out.old.items ++ values_from (length values.now) values.now) }
+{
+    let count = values.len();
+    let mut rest = values;
+    while let Some((value, after)) = rest.split_first() {
+        push_value(out, count, count.saturating_sub(rest.len()), value)?;
+        rest = after;
+    }
+    Ok(())
+}
+
+// Puts the values of a few cells behind what is there.
+fn push_few_values(out: &mut Vec<u8>, values: &[i64]) -> Result<(), AllocError>
+    ensures { OnOk result (out.new.items ≡ out.old.items ++ few_values values.now) }
+{
+    let size = 1300 / values.len().max(1) / longest(values);
+    push_field(out, b"<g font-size=\"", size.min(12))?;
+    push_text(out, b"\">\n")?;
+    push_values(out, values)?;
+    push_text(out, b"</g>\n")
+}
+
+// Puts the values of an array of 64 cells or fewer behind what is there.
+fn push_shown_values(out: &mut Vec<u8>, values: &[i64]) -> Result<(), AllocError>
+    ensures { OnOk result (out.new.items ≡ out.old.items ++ shown_values values.now) }
+{
+    if values.len() <= 64 {
+        return push_few_values(out, values);
+    }
+    Ok(())
+}
+
+// Puts what stands over the cells of an array behind what is there.
+fn push_label(
+    out: &mut Vec<u8>,
+    place: usize,
+    name: &str,
+    count: usize,
+    extent: Extent,
+) -> Result<(), AllocError>
+    ensures { OnOk result (out.new.items ≡ out.old.items ++ label place name.now count extent) }
+{
+    push_field(
+        out,
+        b"<g transform=\"translate(0,",
+        310 + 50 * u128::from(place as u64),
+    )?;
+    push_text(out, b")\"><text class=\"k\" x=\"80\" y=\"12\">")?;
+    push_escaped(out, name.as_bytes())?;
+    push_field(out, b": cells ", count)?;
+    push_text(out, b", least ")?;
+    push_signed(out, &extent.low)?;
+    push_text(out, b", greatest ")?;
+    push_signed(out, &extent.high)?;
+    push_text(out, b"</text>\n")
+}
+
+// Puts an array behind what is there, which so many others stand before.
+fn push_strip(out: &mut Vec<u8>, place: usize, name: &str, values: &[i64]) -> Result<(), AllocError>
+    ensures { OnOk result (out.new.items ≡ out.old.items ++ strip place (name.now, values.now)) }
+{
+    let extent = range_of(values);
+    push_label(out, place, name, values.len(), extent)?;
+    push_field(
+        out,
+        b"<svg x=\"80\" y=\"18\" width=\"800\" height=\"25\" viewBox=\"0 0 ",
+        values.len(),
+    )?;
+    push_text(
+        out,
+        b" 1\" preserveAspectRatio=\"none\" overflow=\"visible\"><g class=\"c\">\n",
+    )?;
+    push_cells(out, extent, values)?;
+    push_text(out, b"</g>\n")?;
+    push_shown_values(out, values)?;
+    push_text(
+        out,
+        b"</svg><path class=\"o\" d=\"M80 18h800v25h-800z\"/></g>\n",
+    )
+}
+
+/// Puts arrays behind what is there, each as a strip of cells.
+pub(crate) fn push_strips(out: &mut Vec<u8>, arrays: &Arrays) -> Result<(), AllocError>
+    ensures { OnOk result (out.new.items ≡ out.old.items ++ strips_from 0 arrays.now) }
+{
+    for place in 0..arrays.len() {
+        if let Some((name, cells)) = arrays.get(place) {
+            push_strip(out, place, name, cells)?;
+        }
+    }
+    Ok(())
+}

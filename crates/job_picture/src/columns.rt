@@ -1,0 +1,225 @@
+//! Supersteps as columns.
+ghost use Rattle.std.specs.Prelude.{◌≡◌, ◌++◌, OnOk, IfOk, take, drop};
+ghost use Rattle.std.specs.List.{flat_map};
+ghost use Rattle.phase_records.specs.ReportText.{rest_of};
+ghost use Rattle.job_picture.specs.Columns.{
+  begins,
+  columns_of as told_columns,
+  no_superstep,
+  greater as greater_of,
+  greatest as greatest_of,
+  joined,
+  bar,
+  bars,
+  mark,
+};
+
+use crate::pieces::{push_field, push_text};
+use phase_records::{PhaseRecord, Print};
+use std::alloc::{AllocError, Global};
+
+/// What a column shows: one superstep, or the greatest of several (own).
+#[derive(Clone, Copy)]
+pub struct Column {
+    /// Where it begins, with its counts.
+    pub told: PhaseRecord,
+    /// How many supersteps it stands for.
+    pub steps: usize,
+    /// Whether a task printed.
+    pub prints: bool,
+}
+
+// The prints behind those in front that are of this superstep.
+fn skip_prints<'a>(prints: &'a [Print], step: u32) -> &'a [Print]
+    ensures { result.now ≡ rest_of step prints.now }
+{
+    let mut rest = prints;
+    while let Some((print, after)) = rest.split_first() {
+        if print.step != step {
+            break;
+        }
+        rest = after;
+    }
+    rest
+}
+
+// Whether the first of these prints is of this superstep.
+fn begins_in(prints: &[Print], step: u32) -> bool
+    ensures { result ≡ begins step prints.now }
+{
+    match prints.first() {
+        Some(print) => print.step == step,
+        None => false,
+    }
+}
+
+/// A column for each superstep.
+pub(crate) fn columns_of(
+    alloc: Global,
+    prints: &[Print],
+    records: &[PhaseRecord],
+) -> Result<Vec<Column>, AllocError>
+    ensures { IfOk result (λ columns. columns.items ≡ told_columns prints.now records.now) }
+{
+    let mut columns = Vec::new(alloc);
+    let mut prints = prints;
+    let mut rest = records;
+    while let Some((told, after)) = rest.split_first() {
+        columns.push(Column {
+            told: *told,
+            steps: 1,
+            prints: begins_in(prints, told.phase),
+        })?;
+        prints = skip_prints(prints, told.phase);
+        rest = after;
+    }
+    Ok(columns)
+}
+
+// The greater of each count, from where the first begins on.
+fn greater(a: Column, b: Column) -> Column
+    ensures { result ≡ greater_of a b }
+{
+    Column {
+        told: PhaseRecord {
+            phase: a.told.phase,
+            parties: a.told.parties.max(b.told.parties),
+            left: a.told.left.max(b.told.left),
+            spawned: a.told.spawned.max(b.told.spawned),
+        },
+        steps: a.steps,
+        prints: a.prints || b.prints,
+    }
+}
+
+// No superstep.
+fn nothing() -> Column
+    ensures { result ≡ no_superstep }
+{
+    let told = PhaseRecord {
+        phase: 0,
+        parties: 0,
+        left: 0,
+        spawned: 0,
+    };
+    Column {
+        told,
+        steps: 0,
+        prints: false,
+    }
+}
+
+/// The greatest of each count.
+pub(crate) fn greatest(columns: &[Column]) -> Column
+    ensures { result ≡ greatest_of columns.now }
+{
+    let Some((first, mut rest)) = columns.split_first() else {
+        return nothing();
+    };
+    let mut all = *first;
+    while let Some((column, after)) = rest.split_first() {
+        all = greater(all, *column);
+        rest = after;
+    }
+    all
+}
+
+// The first so many, and the others.
+fn cut(columns: &[Column], group: usize) -> (&[Column], &[Column])
+    ensures front { result.0.now ≡ take group columns.now }
+    ensures back { result.1.now ≡ drop group columns.now }
+{
+    if group <= columns.len() {
+        columns.split_at(group)
+    } else {
+        (columns, &[])
+    }
+}
+
+/// As many columns, each the greatest of so many.
+pub(crate) fn join(
+    alloc: Global,
+    count: usize,
+    group: usize,
+    columns: &[Column],
+) -> Result<Vec<Column>, AllocError>
+    ensures { IfOk result (λ all. all.items ≡ joined count group columns.now) }
+{
+    let mut all = Vec::new(alloc);
+    let mut rest = columns;
+    let mut more = count;
+    while more > 0 {
+        let (front, back) = cut(rest, group);
+        all.push(Column {
+            steps: front.len(),
+            ..greatest(front)
+        })?;
+        rest = back;
+        more -= 1;
+    }
+    Ok(all)
+}
+
+// Puts a rectangle of a class behind what is there.
+fn push_bar(
+    out: &mut Vec<u8>,
+    class: &[u8],
+    column: Column,
+    up: u32,
+    height: u32,
+) -> Result<(), AllocError>
+    ensures { OnOk result (out.new.items ≡ out.old.items ++ bar class.now column.told.phase column.steps up height) }
+{
+    push_text(out, b"<rect class=\"")?;
+    push_text(out, class)?;
+    push_field(out, b"\" x=\"", column.told.phase)?;
+    push_field(out, b"\" width=\"", column.steps.saturating_sub(1))?;
+    push_field(out, b".9\" y=\"", up)?;
+    push_field(out, b"\" height=\"", height)?;
+    push_text(out, b"\"/>\n")
+}
+
+// Puts the bars of a column behind what is there.
+fn push_bars(out: &mut Vec<u8>, column: Column) -> Result<(), AllocError>
+    ensures { OnOk result (out.new.items ≡ out.old.items ++ bars column) }
+{
+    let told = column.told;
+    let up = told.parties.saturating_sub(told.spawned);
+    push_bar(out, b"p", column, 0, told.parties)?;
+    push_bar(out, b"l", column, 0, told.left)?;
+    push_bar(out, b"s", column, up, told.spawned)
+}
+
+/// Puts the bars of columns behind what is there.
+pub(crate) fn push_all_bars(out: &mut Vec<u8>, columns: &[Column]) -> Result<(), AllocError>
+    ensures { OnOk result (out.new.items ≡ out.old.items ++ flat_map bars columns.now) }
+{
+    let mut rest = columns;
+    while let Some((column, after)) = rest.split_first() {
+        push_bars(out, *column)?;
+        rest = after;
+    }
+    Ok(())
+}
+
+// Puts the mark of a column behind what is there, where tasks printed.
+fn push_mark(out: &mut Vec<u8>, column: Column) -> Result<(), AllocError>
+    ensures { OnOk result (out.new.items ≡ out.old.items ++ mark column) }
+{
+    if column.prints {
+        return push_bar(out, b"d", column, 0, 1);
+    }
+    Ok(())
+}
+
+/// Puts the marks of columns behind what is there.
+pub(crate) fn push_all_marks(out: &mut Vec<u8>, columns: &[Column]) -> Result<(), AllocError>
+    ensures { OnOk result (out.new.items ≡ out.old.items ++ flat_map mark columns.now) }
+{
+    let mut rest = columns;
+    while let Some((column, after)) = rest.split_first() {
+        push_mark(out, *column)?;
+        rest = after;
+    }
+    Ok(())
+}

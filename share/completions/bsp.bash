@@ -1,0 +1,22 @@
+# Completion of bsp for bash: source this file.
+_bsp() {
+    local word=${COMP_WORDS[COMP_CWORD]} before=${COMP_WORDS[COMP_CWORD-1]}
+    local commands="trace check upgrade run draw explain help"
+    case $before in
+        --workers) COMPREPLY=($(compgen -W "1 2 4 8 16 32 64" -- "$word")); return ;;
+        --tree) COMPREPLY=($(compgen -W "flat 2x2 2x3 4x4 8x8" -- "$word")); return ;;
+        --limit) COMPREPLY=($(compgen -W "1000 1000000" -- "$word")); return ;;
+        --fault) COMPREPLY=($(compgen -W "1 2 3 4 5 6 7 8" -- "$word")); return ;;
+    esac
+    if [ "$COMP_CWORD" = 1 ]; then
+        COMPREPLY=($(compgen -W "$commands --help --version" -- "$word"))
+        return
+    fi
+    case ${COMP_WORDS[1]} in
+        run | draw) COMPREPLY=($(compgen -W "--workers --tree --limit --help" -- "$word")) ;;
+        explain) COMPREPLY=($(compgen -W "1 2 3 4 5 6 7 8 9 10 11 12 13 14 --fault --help" -- "$word")) ;;
+        trace | check | upgrade) COMPREPLY=($(compgen -W "--help" -- "$word")) ;;
+        help) COMPREPLY=($(compgen -W "$commands" -- "$word")) ;;
+    esac
+}
+complete -F _bsp bsp
