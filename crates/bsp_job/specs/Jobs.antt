@@ -1,5 +1,5 @@
 -- What a caller is told of a job's text (own; the numbers of the statuses are those of the program).
-use Rattle.std.specs.Prelude.{◌≡◌, ◌⊎◌, ℕ, ℤ, pos, List, map, length, Some, Result, Ok, Err}
+use Rattle.std.specs.Prelude.{◌≡◌, ◌⊎◌, ℕ, ℤ, pos, List, [], ◌∷◌, map, length, Some, Result, Ok, Err}
 use Rattle.phase_records.specs.Status.{Status, Ended, Fault, Limit}
 use Rattle.phase_records.specs.ReportValue.{ReportValue}
 use Rattle.phase_records.specs.ReportText.{report_text}
@@ -20,6 +20,12 @@ abbrev pub status_number : Status → ℤ
 status_number (Ended steps) = pos 0
 status_number (Fault code step path) = pos 2
 status_number (Limit steps) = pos 3
+
+-- 0 where it ended, 2 where a task faulted, 3 where the limit was reached, written down
+pub record StatusesAreNumbered : Type 0 where
+  pub ended : status_number (Ended 7) ≡ pos 0
+  pub faulted : status_number (Fault 1 7 (0 ∷ [])) ≡ pos 2
+  pub limited : status_number (Limit 7) ≡ pos 3
 
 -- a body and a job as supersteps read them
 abbrev pub plan_of : BodyTree → Plan

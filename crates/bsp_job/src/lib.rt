@@ -6,7 +6,7 @@ ghost use Rattle.phase_records.specs.StatusSeen.{status_seen};
 ghost use Rattle.job_reader.specs.Trees.{job_tree};
 ghost use Rattle.bsp_job.specs.Given.{IsGiven};
 ghost use Rattle.job_reader.specs.Grammar.{canonical_text};
-ghost use Rattle.bsp_job.specs.Jobs.{Checks, Upgrades, Runs, IsRefusedAs, GivesReport, status_number};
+ghost use Rattle.bsp_job.specs.Jobs.{Checks, Upgrades, Runs, IsRefusedAs, GivesReport, StatusesAreNumbered, status_number};
 
 use job_reader::{ReadJobFault, Refusal, canonical, read_job, upgrade};
 use phase_records::{JobStatus, text_of};
@@ -153,3 +153,8 @@ pub extern "C" fn bsp_run(
         Err(ReadJobFault::Memory) => NO_MEMORY,
     }
 }
+
+/// The status of each end of a job is written down and not said by a rule.
+pub fn statuses_are_numbered()
+    ensures { StatusesAreNumbered }
+{}

@@ -20,6 +20,15 @@ status_of (Refused Full) = pos 4
 status_of (Refused NobodyUnarrived) = pos 5
 status_of (Refused Negative) = pos 6
 
+-- the numbers of the statuses, written down
+pub record StatusesAreNumbered : Type 0 where
+  pub done : (phase : ℤ) → status_of (Number phase) ≡ pos 0
+  pub waiting : status_of Waiting ≡ pos 2
+  pub too_many : status_of (Refused TooMany) ≡ pos 3
+  pub full : status_of (Refused Full) ≡ pos 4
+  pub nobody_unarrived : status_of (Refused NobodyUnarrived) ≡ pos 5
+  pub negative : status_of (Refused Negative) ≡ pos 6
+
 -- the phase of a reply, as it is shown, and 0 where it has none
 abbrev pub answer_of : Reply → ℤ
 answer_of (Number phase) = phase

@@ -8,7 +8,7 @@ ghost use Rattle.std.specs.Prelude.{◌≡◌, ◌≢◌, ◌≤◌, pos};
 ghost use Rattle.advance_rule.specs.declared.CountPlan.{CountPlan};
 ghost use Rattle.flat_phaser.specs.Flat.{shown};
 ghost use Rattle.phaser_one.specs.declared.call.Call.TheVariants as spec;
-ghost use Rattle.bsp_phaser.specs.Steps.{IsStep, IsNew, status_of_new, plan_of};
+ghost use Rattle.bsp_phaser.specs.Steps.{IsStep, IsNew, StatusesAreNumbered, status_of_new, plan_of};
 ghost use Rattle.bsp_phaser.specs.Readings.{IsReading, parties_in, arrived_in, unarrived_in, ended_in};
 ghost use Rattle.bsp_phaser.specs.Runs.{ExchangesAreOneRun, NoPhasePassesEarly};
 
@@ -163,4 +163,9 @@ pub fn exchanges_are_one_run()
 /// No call takes the phase on before all parties then registered have arrived.
 pub fn no_phase_passes_early()
     ensures { NoPhasePassesEarly }
+{}
+
+/// The status of each reply is written down and not said by a rule.
+pub fn statuses_are_numbered()
+    ensures { StatusesAreNumbered }
 {}

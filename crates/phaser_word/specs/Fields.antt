@@ -1,5 +1,5 @@
 -- The state of one tier as plain data, and which of them are legal (own).
-use Rattle.std.specs.Prelude.{ℕ, Bool, ◌≤◌, ◌==◌, if◌then◌else◌}
+use Rattle.std.specs.Prelude.{◌≡◌, ℕ, Bool, ◌≤◌, ◌↔◌, ◌<◌, ◌==◌, if◌then◌else◌}
 
 pub record Fields : Type 0 where
   pub phase : ℕ
@@ -15,3 +15,8 @@ pub record IsLegal (w : Fields) : Type 0 where
   pub phase : w.phase ≤ 2147483647
   pub parties : w.parties ≤ 65535
   pub unarrived : w.unarrived ≤ most_unarrived w.parties
+
+-- Which words there are, in numbers: of a tier with parties at most these are unarrived; of one without exactly the marks 0, 1 and 2 are.
+pub record WordsAreTold : Type 0 where
+  pub with_parties : (w : Fields) → w.phase < 2147483648 → 0 < w.parties → w.parties < 65536 → IsLegal w ↔ (w.unarrived ≤ w.parties)
+  pub empty : (w : Fields) → w.phase < 2147483648 → w.parties ≡ 0 → IsLegal w ↔ (w.unarrived < 3)

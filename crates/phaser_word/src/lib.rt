@@ -2,7 +2,7 @@
 #![tactic(auto)]
 
 ghost use Rattle.std.specs.Prelude.{◌≡◌, ◌≤◌, IfSome};
-ghost use Rattle.phaser_word.specs.Fields.{Fields, IsLegal};
+ghost use Rattle.phaser_word.specs.Fields.{Fields, IsLegal, WordsAreTold};
 ghost use Rattle.phaser_word.specs.Packed.{packed};
 ghost use Rattle.phaser_word.specs.Phase.{next_phase_of, shown_of};
 
@@ -94,3 +94,8 @@ pub fn next_phase(phase: u32) -> u32
 {
     if phase == LAST_PHASE { 0 } else { phase + 1 }
 }
+
+/// Which words there are, in numbers: of a tier without parties exactly the marks 0, 1 and 2. It does nothing: its contract is a law.
+pub fn words_are_told()
+    ensures { WordsAreTold }
+{}
