@@ -6,4 +6,10 @@ mod fixtures;
 #[cfg(test)]
 mod gates;
 #[cfg(test)]
+mod hooks;
+#[cfg(test)]
+mod single;
+#[cfg(test)]
 mod starters;
+#[cfg(test)]
+mod together;

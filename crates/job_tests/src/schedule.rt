@@ -2,7 +2,7 @@
 #[cfg(test)]
 mod fixtures;
 #[cfg(test)]
-mod orders;
+pub(crate) mod orders;
 #[cfg(test)]
 mod random;
 #[cfg(test)]

@@ -24,7 +24,7 @@ const HANDOVER: &str =
     "bsp 1\nbody p\nspawn c 1\nspawn c 2\nspawn c 3\nend\nbody c\nspawn d 0\nspawn d 0\nend\nbody d\nprint 7\nend\nstart p 0\nstart p 1\n";
 
 // Each job, and its limit.
-const JOBS: [(&str, u32); 6] = [
+pub(crate) const JOBS: [(&str, u32); 6] = [
     (SWAP, 10),
     (CONFLICT, 10),
     (SPAWNS, 10),
