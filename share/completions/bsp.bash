@@ -13,7 +13,8 @@ _bsp() {
         return
     fi
     case ${COMP_WORDS[1]} in
-        run | draw) COMPREPLY=($(compgen -W "--workers --tree --limit --help" -- "$word")) ;;
+        run) COMPREPLY=($(compgen -W "--workers --tree --limit --progress --help" -- "$word")) ;;
+        draw) COMPREPLY=($(compgen -W "--workers --tree --limit --help" -- "$word")) ;;
         explain) COMPREPLY=($(compgen -W "1 2 3 4 5 6 7 8 9 10 11 12 13 14 --fault --help" -- "$word")) ;;
         trace | check | upgrade) COMPREPLY=($(compgen -W "--help" -- "$word")) ;;
         help) COMPREPLY=($(compgen -W "$commands" -- "$word")) ;;

@@ -8,7 +8,7 @@ use Rattle.clap.specs.declared.error.kind.ErrorKind.{ErrorKind}
 use Rattle.clap.specs.declared.error.kind.ErrorKind.TheVariants as kinds
 use Rattle.bsp_cli.specs.Did.{Did, RunsOut, is_refusal, are_refused}
 use Rattle.bsp_cli.specs.declared.asked.Asked.{Asked}
-use Rattle.bsp_cli.specs.declared.asked.Asked.TheVariants.{Trace, Check, Upgrade, Run, Draw}
+use Rattle.bsp_cli.specs.declared.asked.Asked.TheVariants.{Trace, Check, Upgrade, Run, Draw, Explain}
 
 keeps : (old : Option (List ℕ)) → Keeps old old
 keeps None = tt
@@ -19,6 +19,7 @@ out Trace input old = inl (keeps old)
 out Check input old = keeps old
 out Upgrade input old = keeps old
 out (Run workers limit) input old = keeps old
+out Explain input old = keeps old
 out (Draw workers limit) input old = keeps old
 
 -- memory ran out before anything was read

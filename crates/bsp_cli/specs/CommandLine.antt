@@ -5,10 +5,10 @@ use Rattle.std.specs.Str.Parse.{digits_value, without_leading_plus}
 use Rattle.std.specs.Option.{unwrap_or}
 use Rattle.clap.specs.Words.{App, Kinds, Row, Rule, fault_of, first_of, new_app, new_rule, one_of, subcommand_of, with_rule, with_subcommand}
 use Rattle.clap.specs.ValueTests.{is_unsigned_in}
-use Rattle.clap.specs.declared.builder.action.ArgAction.TheVariants.{Set}
+use Rattle.clap.specs.declared.builder.action.ArgAction.TheVariants.{Set, SetTrue}
 use Rattle.clap.specs.declared.builder.value_parser.ValueParser.TheVariants as parser
 use Rattle.bsp_cli.specs.declared.asked.Asked.{Asked}
-use Rattle.bsp_cli.specs.declared.asked.Asked.TheVariants.{Trace, Check, Upgrade, Run, Draw}
+use Rattle.bsp_cli.specs.declared.asked.Asked.TheVariants.{Trace, Check, Upgrade, Run, Draw, Explain}
 
 -- an option that is a number, from 1 to the most
 abbrev pub number_rule : List ℕ → ℕ → Rule
@@ -27,10 +27,31 @@ tree_rule = record (new_rule (codes "tree")) {
   action = Some Set;
 }
 
--- `run` or `draw` with its three options
+-- a subcommand that runs a job, with the options of both
 abbrev pub job_app : List ℕ → App
 job_app name =
     with_rule (with_rule (with_rule (new_app name) (number_rule (codes "workers") 64)) tree_rule) (number_rule (codes "limit") 1000000)
+
+-- `--progress`
+abbrev pub progress_rule : Rule
+progress_rule = record (new_rule (codes "progress")) {
+  long = Some (codes "progress");
+  action = Some SetTrue;
+}
+
+abbrev pub run_app : App
+run_app = with_rule (job_app (codes "run")) progress_rule
+
+-- the number of a code, a word without a dash
+abbrev pub code_rule : Rule
+code_rule = record (new_rule (codes "code")) {
+  value_names = 1;
+  action = Some Set;
+  parser = Some (parser.Signed (pos 1) (pos 14));
+}
+
+abbrev pub explain_app : App
+explain_app = with_rule (with_rule (new_app (codes "explain")) code_rule) (number_rule (codes "fault") 8)
 
 abbrev pub bare : App
 bare = new_app (codes "bsp")
@@ -42,11 +63,13 @@ program =
     (with_subcommand
     (with_subcommand
     (with_subcommand
+    (with_subcommand
     (with_subcommand (record bare { top = record bare.top { subcommand_required = true; has_version = true } }) (new_app (codes "trace")).top)
     (new_app (codes "check")).top)
     (new_app (codes "upgrade")).top)
-    (job_app (codes "run")).top)
-    (job_app (codes "draw")).top
+    run_app.top)
+    (job_app (codes "draw")).top)
+    explain_app.top
 
 -- the number of an option, from 1 to the most; the usual one where it isn't given
 abbrev pub number_from : ℕ → ℕ → Option (List ℕ) → ℕ
@@ -76,6 +99,7 @@ asked_by None = Trace
 asked_by (Some p) =
     if bytes_eq p.0 (codes "check") then Check
     else if bytes_eq p.0 (codes "upgrade") then Upgrade
+    else if bytes_eq p.0 (codes "explain") then Explain
     else if bytes_eq p.0 (codes "run") then Run (workers_in p.1) (limit_in p.1)
     else if bytes_eq p.0 (codes "draw") then Draw (workers_in p.1) (limit_in p.1) else Trace
 
@@ -85,6 +109,7 @@ tree_by None = codes "flat"
 tree_by (Some p) =
     if bytes_eq p.0 (codes "check") then codes "flat"
     else if bytes_eq p.0 (codes "upgrade") then codes "flat"
+    else if bytes_eq p.0 (codes "explain") then codes "flat"
     else if bytes_eq p.0 (codes "run") then tree_in p.1
     else if bytes_eq p.0 (codes "draw") then tree_in p.1 else codes "flat"
 

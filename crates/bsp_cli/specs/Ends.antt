@@ -14,7 +14,7 @@ use Rattle.bsp_cli.specs.Jobs.{status_number, WritesCanonical, BeginsCanonical, 
 use Rattle.bsp_cli.specs.Did.{Finishes, Begins, Refuses, RunsOut, IsWorkerOf}
 use Rattle.bsp_cli.specs.Texts.{fault_status}
 use Rattle.bsp_cli.specs.declared.asked.Asked.{Asked}
-use Rattle.bsp_cli.specs.declared.asked.Asked.TheVariants.{Trace, Check, Upgrade, Run, Draw}
+use Rattle.bsp_cli.specs.declared.asked.Asked.TheVariants.{Trace, Check, Upgrade, Run, Draw, Explain}
 use Rattle.bsp_cli.specs.declared.fault.RunFault.{RunFault}
 use Rattle.bsp_cli.specs.declared.fault.RunFault.TheVariants.{Text, Read, Write, Memory, NotStarted, Internal}
 
@@ -75,6 +75,16 @@ Upgrades input old new (Err Memory) = Keeps old new
 Upgrades input old new (Err (NotStarted k)) = ⊥
 Upgrades input old new (Err Internal) = ⊥
 
+-- a text was written, or a beginning of it
+abbrev pub Explains : Result (Unit {0}) RunFault → Type 0
+Explains (Ok x) = Unit {0}
+Explains (Err (Text r)) = ⊥
+Explains (Err Read) = ⊥
+Explains (Err Write) = Unit {0}
+Explains (Err Memory) = ⊥
+Explains (Err (NotStarted k)) = ⊥
+Explains (Err Internal) = ⊥
+
 -- the report was written in this form, or a beginning of it where the writer failed
 abbrev pub Reports : (ReportValue → List ℕ) → ReportValue → Option (List ℕ) → Option (List ℕ) → Result JobStatus RunFault → Type 0
 Reports form report old new (Ok status) = Appends old new (form report) × (status_seen status ≡ report.status)
@@ -121,6 +131,7 @@ IsAsked Trace = Unit {0}
 IsAsked Check = Unit {0}
 IsAsked Upgrade = Unit {0}
 IsAsked (Run workers limit) = ((1 ≤ workers) × (workers ≤ 64)) × ((1 ≤ limit) × (limit ≤ 1000000))
+IsAsked Explain = Unit {0}
 IsAsked (Draw workers limit) = ((1 ≤ workers) × (workers ≤ 64)) × ((1 ≤ limit) × (limit ≤ 1000000))
 
 -- how a run of a job ended, as a status

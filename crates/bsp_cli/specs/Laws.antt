@@ -6,7 +6,7 @@ use Rattle.bsp_cli.specs.CommandLine.{asked_in, refused_by, tree_asked}
 use Rattle.bsp_cli.specs.Did.{are_refused}
 use Rattle.clap.specs.declared.error.kind.ErrorKind.TheVariants.{DisplayHelp, DisplayVersion}
 use Rattle.bsp_cli.specs.declared.asked.Asked.{Asked}
-use Rattle.bsp_cli.specs.declared.asked.Asked.TheVariants.{Trace, Check, Upgrade, Run, Draw}
+use Rattle.bsp_cli.specs.declared.asked.Asked.TheVariants.{Trace, Check, Upgrade, Run, Draw, Explain}
 
 -- words that are taken, and what they ask for
 abbrev pub Asks : List (List ℕ) → Asked → Type 0
@@ -32,6 +32,10 @@ pub record WordsAsk (name : List ℕ) : Type 0 where
   pub many_workers : Asks (name ∷ codes "run" ∷ codes "--workers" ∷ codes "64" ∷ codes "--limit" ∷ codes "7" ∷ []) (Run 64 7)
   pub flat : AsksTree (name ∷ codes "run" ∷ []) (codes "flat")
   pub tree : AsksTree (name ∷ codes "run" ∷ codes "--tree" ∷ codes "2x3" ∷ []) (codes "2x3")
+  pub progress : Asks (name ∷ codes "run" ∷ codes "--progress" ∷ codes "--limit" ∷ codes "7" ∷ []) (Run 1 7)
+  pub explain : Asks (name ∷ codes "explain" ∷ []) Explain
+  pub explain_code : Asks (name ∷ codes "explain" ∷ codes "14" ∷ []) Explain
+  pub explain_fault : Asks (name ∷ codes "explain" ∷ codes "--fault" ∷ codes "8" ∷ []) Explain
   pub draw : Asks (name ∷ codes "draw" ∷ []) (Draw 1 1000000)
   pub drawn_by : Asks (name ∷ codes "draw" ∷ codes "--workers" ∷ codes "64" ∷ codes "--limit" ∷ codes "7" ∷ []) (Draw 64 7)
   pub drawn_at : AsksTree (name ∷ codes "draw" ∷ codes "--tree" ∷ codes "2x3" ∷ []) (codes "2x3")
@@ -42,6 +46,12 @@ pub record WordsAreRefused (name : List ℕ) : Type 0 where
   pub unknown : AreRefused (name ∷ codes "runs" ∷ [])
   pub more : AreRefused (name ∷ codes "check" ∷ codes "job" ∷ [])
   pub more_upgrade : AreRefused (name ∷ codes "upgrade" ∷ codes "job" ∷ [])
+  pub no_code : AreRefused (name ∷ codes "explain" ∷ codes "0" ∷ [])
+  pub other_code : AreRefused (name ∷ codes "explain" ∷ codes "15" ∷ [])
+  pub two_codes : AreRefused (name ∷ codes "explain" ∷ codes "1" ∷ codes "2" ∷ [])
+  pub other_fault : AreRefused (name ∷ codes "explain" ∷ codes "--fault" ∷ codes "9" ∷ [])
+  pub progress_drawn : AreRefused (name ∷ codes "draw" ∷ codes "--progress" ∷ [])
+  pub progress_twice : AreRefused (name ∷ codes "run" ∷ codes "--progress" ∷ codes "--progress" ∷ [])
   pub more_draw : AreRefused (name ∷ codes "draw" ∷ codes "job" ∷ [])
   pub drawn_never : AreRefused (name ∷ codes "draw" ∷ codes "--limit" ∷ codes "0" ∷ [])
   pub drawn_by_none : AreRefused (name ∷ codes "draw" ∷ codes "--workers" ∷ codes "0" ∷ [])
@@ -68,6 +78,8 @@ pub record WordsAskForHelp (name : List ℕ) : Type 0 where
   pub upgrade_long : AskForHelp (name ∷ codes "upgrade" ∷ codes "--help" ∷ [])
   pub run : AskForHelp (name ∷ codes "run" ∷ codes "-h" ∷ [])
   pub run_long : AskForHelp (name ∷ codes "run" ∷ codes "--help" ∷ [])
+  pub explain : AskForHelp (name ∷ codes "explain" ∷ codes "-h" ∷ [])
+  pub explain_long : AskForHelp (name ∷ codes "explain" ∷ codes "--help" ∷ [])
   pub draw : AskForHelp (name ∷ codes "draw" ∷ codes "-h" ∷ [])
   pub draw_long : AskForHelp (name ∷ codes "draw" ∷ codes "--help" ∷ [])
 

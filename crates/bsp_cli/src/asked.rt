@@ -3,9 +3,10 @@ ghost use Rattle.std.specs.Prelude.{◌≡◌, ◌≤◌, false, true, codes, If
 ghost use Rattle.clap.specs.Words.{app_of, found_of, kind_of, new_app, rows_of, rule_of, subcommand_rows_of};
 ghost use Rattle.clap.specs.declared.builder.command.Command.TheViews.{out-Command as fields_of};
 ghost use Rattle.clap.specs.declared.error.kind.ErrorKind.TheVariants as kinds;
-ghost use Rattle.bsp_cli.specs.CommandLine.{asked_by, bare, chosen, job_app, limit_in, number_rule, program, tree_by, tree_in, tree_rule, workers_in};
+ghost use Rattle.bsp_cli.specs.CommandLine.{asked_by, bare, chosen, code_rule, explain_app, job_app, limit_in, number_rule, program, progress_rule, run_app, tree_by, tree_in, tree_rule, workers_in};
 ghost use Rattle.bsp_cli.specs.Ends.{IsAsked};
 
+use crate::help::{CHECK_LINES, EXAMPLES, RUN_LINES, TRACE_LINES, UPGRADE_LINES};
 use clap::{Arg, ArgAction, ArgMatches, Command, Error};
 use std::alloc::Global;
 
@@ -25,6 +26,8 @@ pub enum Asked {
         /// Within so many supersteps.
         limit: u32,
     },
+    /// To tell what codes and faults mean.
+    Explain,
     /// To draw a job.
     Draw {
         /// Run on so many workers.
@@ -34,162 +37,27 @@ pub enum Asked {
     },
 }
 
-/// What a command line asks for, with the text of the tree at which workers meet.
+/// What a command line asks for, with the text of the tree at which workers meet, and what no contract speaks of.
 #[derive(Clone, Copy)]
 pub(crate) struct Request<'a> {
     pub(crate) asked: Asked,
     pub(crate) tree: &'a str,
+    /// Whether to tell how far the job has come.
+    pub(crate) progress: bool,
+    /// The code to be explained.
+    pub(crate) code: Option<u32>,
+    /// The fault to be explained.
+    pub(crate) fault: Option<u32>,
 }
 
-/// The version of the program, which `--version` prints.
-const VERSION: &str = "0.1.0";
+/// The version of the program and the formats that it reads, which `--version` prints.
+const VERSION: &str = "0.1.0, reads jobs of formats 1 and 2";
 
 /// The most supersteps of a job, also where no limit is given.
 const MOST_STEPS: u32 = 1_000_000;
 
 /// The most workers.
 const MOST_WORKERS: u32 = 64;
-
-// What stands in a trace, and how it ends, for its help.
-const TRACE_LINES: &str = "The first line: phaser PARTIES [PHASE] [least L] [at Q]
-Then, one a line:
-  register      one party registers
-  bulk N        N parties register
-  arrive        one party arrives
-  leave         one party arrives and deregisters
-  await P       asks whether phase P is over
-  force         ends the phaser
-  show          shows phase, parties, unarrived, ended
-Or the first line: tree WIDTHS [PHASE] [keep] [at Q]
-Then, one a line, with CALL: join T N, arrive, leave, poll or force:
-  token         a token comes in
-  begin K CALL  token K begins a call
-  go K          token K takes the next step of its call
-  finish K      token K takes the advance that it must take
-  run K         token K goes on to its answer
-  do K CALL     begin and run
-  show T        shows tier T
-Or the first line: barrier PARTIES [fails G]
-Then, one a line:
-  await C       caller C arrives
-  abandon C     caller C, which waits, leaves early
-  break         a party that won't come breaks the barrier
-  reset         the barrier begins anew
-  show          shows parties, waiting, generation, broken
-A line that begins with # is a comment.
-
-Statuses, and the line on standard error:
-  0  the trace ran
-  4  the text is refused: refused line L code C
-  5  command line refused
-  6  out of memory; the answers written so far stay
-  8  read or write failed
-
-Codes of refusals:
-  1   over 1048576 bytes
-  2   a byte that isn't allowed
-  3   no first line that begins a trace
-  4   a line whose first word isn't allowed there
-  6   not a number, or one out of its range
-  7   words too few, too many or misplaced
-  12  over 4096 commands, or over 256 tokens";
-
-// What stands in a job, how the command ends, and why a text is refused, for the help of `check`, `upgrade`
-// and `run`.
-macro_rules! job_help {
-    ($ends:literal) => {
-        concat!(
-            "The first line: bsp 1, or bsp 2
-Then, one a line:
-  array NAME LENGTH [VALUE ..]  an array; values left out are 0
-  body NAME [LOCAL ..]          a body begins, and a line end ends it; bsp 2 lists its locals
-  start NAME N                  a task of that body, with the argument N
-In a body:
-  let NAME = EXPR               sets a local
-  put ARRAY[INDEX] = EXPR       a value for that cell, as the superstep ends
-  add ARRAY[INDEX] = EXPR       a value to add to that cell then; bsp 2 only
-  print EXPR                    prints a value
-  spawn NAME EXPR               a task of that body, from the next superstep on
-  sync, stop                    waits for the superstep's end; ends the task
-  if EXPR, else, end            one branch or the other
-  while EXPR, end               as long as EXPR isn't 0
-EXPR is a value, or two with one of + - * / % < <= == != between; a value is a number,
-a local, arg, step or ARRAY[INDEX]. A line that begins with # is a comment.",
-            $ends,
-            "Codes of refusals:
-  1   over 1048576 bytes
-  2   a byte that isn't allowed
-  3   the first line is neither bsp 1 nor bsp 2
-  4   a line whose first word isn't allowed there
-  5   not a name
-  6   not a number, or one out of its range
-  7   words too few, too many or misplaced
-  8   an array or a body declared twice, or a local listed twice
-  9   no such array above, no such body, or in bsp 2 no such local
-  10  the text ends in a body
-  11  an else that fits no if
-  12  past a limit of the language
-  13  a length outside 1 to 4096, or more values than the length
-  14  a reserved word as a name",
-        )
-    };
-}
-
-// The help of `check`.
-const CHECK_LINES: &str = job_help!(
-    "
-
-Statuses, and the line on standard error:
-  0  the text is a job's
-  4  the text is refused: refused line L code C
-  5  command line refused
-  6  out of memory
-  8  read or write failed
-
-"
-);
-
-// The help of `upgrade`.
-const UPGRADE_LINES: &str = job_help!(
-    "
-
-Statuses, and the line on standard error:
-  0  the job is written with bsp 2
-  4  the text is refused: refused line L code C
-  5  command line refused
-  6  out of memory
-  8  read or write failed
-
-"
-);
-
-// The help of `run`.
-const RUN_LINES: &str = job_help!(
-    "
-
-Statuses, and the line on standard error:
-  0  the job ended
-  2  a task faulted; the report is printed
-  3  the limit was reached with live tasks; the report is printed
-  4  the text is refused: refused line L code C
-  5  command line refused
-  6  out of memory
-  7  worker K not started
-  8  read or write failed
-  9  internal: workers met a refusal that they never meet
-
-Faults, as the report's last line tells them:
-  1  a result doesn't fit 64 bits
-  2  a division by 0
-  3  an index outside its array
-  4  statement number 100001 of a task in one superstep
-  5  a spawn by a task whose path has 8 numbers
-  6  the ninth spawn of a task in one superstep, or its 65536th in all
-  7  over 4096 tasks would live on
-  8  a cell's sum doesn't fit 64 bits as its values are added
-
-"
-);
 
 // The option `--workers`.
 fn workers_option<'a>(alloc: Global) -> Arg<'a>
@@ -231,12 +99,51 @@ fn tree_option<'a>(alloc: Global) -> Arg<'a>
         .action(ArgAction::Set)
 }
 
+// The option `--progress`.
+fn progress_option<'a>(alloc: Global) -> Arg<'a>
+    ensures rule { rule_of result ≡ progress_rule }
+    ensures local { result.global ≡ false }
+{
+    Arg::new(alloc, "progress")
+        .long("progress")
+        .help("Tells on standard error, about each second, how far the job has come")
+        .action(ArgAction::SetTrue)
+}
+
+// The code of a refusal.
+fn code_argument<'a>(alloc: Global) -> Arg<'a>
+    ensures rule { rule_of result ≡ code_rule }
+    ensures local { result.global ≡ false }
+{
+    Arg::new(alloc, "code")
+        .value_name("CODE")
+        .help("The code of a job's refusal, 1 to 14; all are listed where it isn't given")
+        .action(ArgAction::Set)
+        .value_parser(clap::value_parser!(u32).range(1..=14))
+}
+
+// The option `--fault`.
+fn fault_option<'a>(alloc: Global) -> Arg<'a>
+    ensures rule { rule_of result ≡ number_rule (codes "fault") 8 }
+    ensures local { result.global ≡ false }
+{
+    Arg::new(alloc, "fault")
+        .long("fault")
+        .value_name("CODE")
+        .help("The number of a task's fault, 1 to 8")
+        .action(ArgAction::Set)
+        .value_parser(clap::value_parser!(u32).range(1..=8))
+}
+
 // A subcommand that runs a job, without its options.
 fn bare_job<'a>(alloc: Global, name: &'a str, about: &'a str, lines: &'a str) -> Command<'a>
     ensures app { app_of result ≡ new_app name.entry.now }
     ensures local { (fields_of result).has_globals ≡ false }
 {
-    Command::new(alloc, name).about(about).after_help(lines)
+    Command::new(alloc, name)
+        .about(about)
+        .before_long_help(EXAMPLES)
+        .after_long_help(lines)
 }
 
 // A subcommand that runs a job, with its options.
@@ -258,13 +165,15 @@ fn job_command<'a>(
 
 // The subcommand `run`.
 fn run_command<'a>(alloc: Global) -> Result<Command<'a>, Error>
-    ensures app { IfOk result (λ c. app_of c ≡ job_app (codes "run")) }
+    ensures app { IfOk result (λ c. app_of c ≡ run_app) }
     ensures local { IfOk result (λ c. (fields_of c).has_globals ≡ false) }
     ensures memory { IfErr result (λ e. kind_of e ≡ kinds.OutOfMemory) }
 {
     let about =
         "Runs a job, and prints its supersteps with what they print, its arrays, and how it ended";
-    job_command(alloc, "run", about, RUN_LINES)
+    let bare = job_command(alloc, "run", about, RUN_LINES)?;
+    let with_progress = bare.arg(progress_option(alloc))?;
+    Ok(with_progress)
 }
 
 // The subcommand `draw`.
@@ -286,7 +195,7 @@ fn trace_command<'a>(alloc: Global) -> Command<'a>
         .about(
             "Runs the calls of a trace, one a line, on a phaser, a tree of phasers or a barrier, and prints what they answer",
         )
-        .after_help(TRACE_LINES)
+        .after_long_help(TRACE_LINES)
 }
 
 // The subcommand `check`.
@@ -296,7 +205,7 @@ fn check_command<'a>(alloc: Global) -> Command<'a>
 {
     Command::new(alloc, "check")
         .about("Checks the text of a job, and prints it in its one canonical form")
-        .after_help(CHECK_LINES)
+        .after_long_help(CHECK_LINES)
 }
 
 // The subcommand `upgrade`.
@@ -306,7 +215,28 @@ fn upgrade_command<'a>(alloc: Global) -> Command<'a>
 {
     Command::new(alloc, "upgrade")
         .about("Reads the text of a job of either format, and prints the job in format 2")
-        .after_help(UPGRADE_LINES)
+        .after_long_help(UPGRADE_LINES)
+}
+
+// The subcommand `explain` without what it takes.
+fn bare_explain<'a>(alloc: Global) -> Command<'a>
+    ensures app { app_of result ≡ new_app (codes "explain") }
+    ensures local { (fields_of result).has_globals ≡ false }
+{
+    Command::new(alloc, "explain").about(
+        "Tells what a code of a job's refusal or a fault means, with a text that gets it; reads nothing",
+    )
+}
+
+// The subcommand `explain`.
+fn explain_command<'a>(alloc: Global) -> Result<Command<'a>, Error>
+    ensures app { IfOk result (λ c. app_of c ≡ explain_app) }
+    ensures local { IfOk result (λ c. (fields_of c).has_globals ≡ false) }
+    ensures memory { IfErr result (λ e. kind_of e ≡ kinds.OutOfMemory) }
+{
+    let with_code = bare_explain(alloc).arg(code_argument(alloc))?;
+    let with_fault = with_code.arg(fault_option(alloc))?;
+    Ok(with_fault)
 }
 
 // The program, which wants a subcommand, without any.
@@ -315,6 +245,7 @@ fn bare_program<'a>(alloc: Global) -> Command<'a>
 {
     Command::new(alloc, "bsp")
         .about("Phasers and bulk-synchronous jobs, from standard input to standard output")
+        .before_long_help(EXAMPLES)
         .version(VERSION)
         .subcommand_required(true)
 }
@@ -329,7 +260,8 @@ pub(crate) fn parser<'a>(alloc: Global) -> Result<Command<'a>, Error>
     let with_upgrade = with_check.subcommand(upgrade_command(alloc))?;
     let with_run = with_upgrade.subcommand(run_command(alloc)?)?;
     let with_draw = with_run.subcommand(draw_command(alloc)?)?;
-    Ok(with_draw)
+    let with_explain = with_draw.subcommand(explain_command(alloc)?)?;
+    Ok(with_explain)
 }
 
 // The number that was read, where it is one of 1 to `most`; else the usual one.
@@ -373,7 +305,7 @@ fn tree_of<'a>(matches: &ArgMatches<'a>) -> &'a str
     }
 }
 
-// What a subcommand that has no options asks for.
+// What a subcommand that runs no job asks for.
 fn without_tree<'a>(asked: Asked) -> Request<'a>
     ensures asked { result.asked ≡ asked }
     ensures tree { result.tree.now ≡ codes "flat" }
@@ -381,6 +313,37 @@ fn without_tree<'a>(asked: Asked) -> Request<'a>
     Request {
         asked,
         tree: "flat",
+        progress: false,
+        code: None,
+        fault: None,
+    }
+}
+
+// What `explain` asks for.
+fn explanation<'a>(options: &ArgMatches<'a>) -> Request<'a>
+    ensures asked { result.asked ≡ Asked.Explain }
+    ensures tree { result.tree.now ≡ codes "flat" }
+{
+    Request {
+        asked: Asked::Explain,
+        tree: "flat",
+        progress: false,
+        code: options.get_one::<u32>("code"),
+        fault: options.get_one::<u32>("fault"),
+    }
+}
+
+// What a subcommand that runs a job asks for.
+fn with_tree<'a>(asked: Asked, options: &ArgMatches<'a>, progress: bool) -> Request<'a>
+    ensures asked { result.asked ≡ asked }
+    ensures tree { result.tree.now ≡ tree_in (rows_of (found_of options.now)) }
+{
+    Request {
+        asked,
+        tree: tree_of(options),
+        progress,
+        code: None,
+        fault: None,
     }
 }
 
@@ -398,15 +361,16 @@ pub(crate) fn asked_for<'a>(matches: &ArgMatches<'a>) -> Request<'a>
             if name == "upgrade" {
                 return without_tree(Asked::Upgrade);
             }
+            if name == "explain" {
+                return explanation(options);
+            }
             let (workers, limit) = (workers_of(options), limit_of(options));
-            let tree = tree_of(options);
             if name == "run" {
                 let asked = Asked::Run { workers, limit };
-                return Request { asked, tree };
+                return with_tree(asked, options, options.get_flag("progress"));
             }
             if name == "draw" {
-                let asked = Asked::Draw { workers, limit };
-                return Request { asked, tree };
+                return with_tree(Asked::Draw { workers, limit }, options, false);
             }
             without_tree(Asked::Trace)
         }

@@ -9,8 +9,10 @@ ghost use Rattle.bsp_cli.specs.Ends.{Does, IsAsked, ReadCause, WriteCause};
 ghost use Rattle.bsp_cli.specs.Texts.{Tells};
 
 use crate::asked::{Asked, Request, asked_for, parser};
+use crate::explain::explain;
 use crate::fault::{RunFault, tell};
 use crate::job::{check, draw_bytes, run_bytes, run_status, upgrade};
+use crate::progress::{NoProgress, Progress};
 use crate::status::{COMMAND_LINE_REFUSED, DEVICE_FAILED, INTERNAL, OUT_OF_MEMORY};
 use crate::trace::trace;
 use clap::Error;
@@ -82,20 +84,21 @@ fn answer_error<W: CountedWrite, E: CountedWrite>(
 }
 
 // Does what is asked for, and answers the status.
-fn do_asked<T: Threads + Wait + Sync, R: CountedRead, W: CountedWrite>(
+fn do_asked<T: Threads + Wait + Sync, R: CountedRead, W: CountedWrite, P: Progress + Sync>(
     rt: &T,
     alloc: Global,
-    asked: Asked,
+    request: Request<'_>,
     shape: Shape,
     reader: &mut R,
     writer: &mut W,
+    progress: &P,
 ) -> Result<u8, RunFault>
-    requires { IsAsked asked }
-    ensures does { Does asked (R.remaining reader.old) (W.contents writer.old) (W.contents writer.new) result }
+    requires { IsAsked request.asked }
+    ensures does { Does request.entry.asked (R.remaining reader.old) (W.contents writer.old) (W.contents writer.new) result }
     ensures read_failures { ReadCause (R.failures reader.old) (R.failures reader.new) result }
     ensures write_failures { WriteCause (W.failures writer.old) (W.failures writer.new) result }
 {
-    match asked {
+    match request.asked {
         Asked::Trace => match trace(alloc, reader, writer) {
             Ok(()) => Ok(0),
             Err(fault) => Err(fault),
@@ -108,9 +111,18 @@ fn do_asked<T: Threads + Wait + Sync, R: CountedRead, W: CountedWrite>(
             Ok(()) => Ok(0),
             Err(fault) => Err(fault),
         },
-        Asked::Run { workers, limit } => run_status(run_bytes(
-            rt, alloc, reader, writer, shape, workers, limit,
-        )),
+        Asked::Explain => match explain(writer, request.code, request.fault) {
+            Ok(()) => Ok(0),
+            Err(fault) => Err(fault),
+        },
+        Asked::Run { workers, limit } => {
+            let progress = if request.progress {
+                Some(progress)
+            } else {
+                None
+            };
+            run_status(run_bytes(rt, alloc, reader, writer, shape, workers, limit, progress))
+        }
         Asked::Draw { workers, limit } => run_status(draw_bytes(
             rt, alloc, reader, writer, shape, workers, limit,
         )),
@@ -119,17 +131,24 @@ fn do_asked<T: Threads + Wait + Sync, R: CountedRead, W: CountedWrite>(
 
 // Does what is asked for, answers the status, and tells what went wrong.
 #[tactic(auto, using(crate::proofs::Faulted::faulted))]
-fn run_asked<T: Threads + Wait + Sync, R: CountedRead, W: CountedWrite, E: CountedWrite>(
+fn run_asked<
+    T: Threads + Wait + Sync,
+    R: CountedRead,
+    W: CountedWrite,
+    E: CountedWrite,
+    P: Progress + Sync,
+>(
     rt: &T,
     alloc: Global,
-    asked: Asked,
+    request: Request<'_>,
     shape: Shape,
     reader: &mut R,
     writer: &mut W,
     errors: &mut E,
+    progress: &P,
 ) -> u8
-    requires { IsAsked asked }
-    ensures did { Did asked (R.remaining reader.old) (W.contents writer.old) (W.contents writer.new)
+    requires { IsAsked request.asked }
+    ensures did { Did request.entry.asked (R.remaining reader.old) (W.contents writer.old) (W.contents writer.new)
         (Tells (E.contents errors.old) (E.contents errors.new) (E.failures errors.old) (E.failures errors.new)) result }
     ensures status { (result ≤ 9) × (result ≢ COMMAND_LINE_REFUSED) }
     ensures silent { result ≤ 3 → errors.new ≡ errors.old }
@@ -144,7 +163,7 @@ fn run_asked<T: Threads + Wait + Sync, R: CountedRead, W: CountedWrite, E: Count
     ensures worked { result ≢ DEVICE_FAILED
         → (R.failures reader.new ≡ R.failures reader.old) × (W.failures writer.new ≡ W.failures writer.old) }
 {
-    match do_asked(rt, alloc, asked, shape, reader, writer) {
+    match do_asked(rt, alloc, request, shape, reader, writer, progress) {
         Ok(status) => status,
         Err(fault) => tell(errors, fault),
     }
@@ -166,13 +185,20 @@ fn shape_of(alloc: Global, text: &str) -> Result<Option<Shape>, AllocError>
 }
 
 // Does what is asked for at the tree that is asked for, if its text says one.
-fn run_request<T: Threads + Wait + Sync, R: CountedRead, W: CountedWrite, E: CountedWrite>(
+fn run_request<
+    T: Threads + Wait + Sync,
+    R: CountedRead,
+    W: CountedWrite,
+    E: CountedWrite,
+    P: Progress + Sync,
+>(
     rt: &T,
     alloc: Global,
     request: Request<'_>,
     reader: &mut R,
     writer: &mut W,
     errors: &mut E,
+    progress: &P,
 ) -> u8
     requires { IsAsked request.asked }
     ensures did { Did request.entry.asked (R.remaining reader.old) (W.contents writer.old) (W.contents writer.new)
@@ -197,7 +223,7 @@ fn run_request<T: Threads + Wait + Sync, R: CountedRead, W: CountedWrite, E: Cou
         → (R.failures reader.new ≡ R.failures reader.old) × (W.failures writer.new ≡ W.failures writer.old) }
 {
     match shape_of(alloc, request.tree) {
-        Ok(Some(shape)) => run_asked(rt, alloc, request.asked, shape, reader, writer, errors),
+        Ok(Some(shape)) => run_asked(rt, alloc, request, shape, reader, writer, errors, progress),
         Ok(None) => refuse(errors),
         Err(_) => tell(errors, RunFault::Memory),
     }
@@ -205,7 +231,65 @@ fn run_request<T: Threads + Wait + Sync, R: CountedRead, W: CountedWrite, E: Cou
 
 /// Does what a command line asks for, its first word being the program's name, and answers the status
 /// that the program ends with. What is asked for is read from `reader`, and what it prints goes to
-/// `writer`; where the status isn't 0, 2 or 3, `errors` gets one line.
+/// `writer`; where the status isn't 0, 2 or 3, `errors` gets one line. Where progress is asked for, `progress` is told of
+/// each segment, and that changes nothing else.
+pub fn run_telling<
+    'a,
+    T: Threads + Wait + Sync,
+    S: AsStr,
+    R: CountedRead,
+    W: CountedWrite,
+    E: CountedWrite,
+    P: Progress + Sync,
+>(
+    rt: &T,
+    alloc: Global,
+    words: &'a [S],
+    reader: &mut R,
+    writer: &mut W,
+    errors: &mut E,
+    progress: &P,
+) -> u8
+    ensures did { refused_by (map S.text words.entry.now) ≡ []
+        → Did (asked_in (map S.text words.entry.now)) (R.remaining reader.old) (W.contents writer.old) (W.contents writer.new)
+        (Tells (E.contents errors.old) (E.contents errors.new) (E.failures errors.old) (E.failures errors.new)) result }
+    ensures taken { refused_by (map S.text words.entry.now) ≡ [] → IsOk (shape_told (tree_asked (map S.text words.entry.now)))
+        → result ≢ COMMAND_LINE_REFUSED }
+    ensures no_tree { refused_by (map S.text words.entry.now) ≡ [] → IsErr (shape_told (tree_asked (map S.text words.entry.now)))
+        → (reader.new ≡ reader.old) × (writer.new ≡ writer.old) × ((result ≡ COMMAND_LINE_REFUSED) ⊎ (result ≡ OUT_OF_MEMORY)) }
+    ensures helps { refused_by (map S.text words.entry.now) ≡ kinds.DisplayHelp ∷ []
+        → (reader.new ≡ reader.old) × ((result ≡ 0) ⊎ (result ≡ OUT_OF_MEMORY) ⊎ (result ≡ DEVICE_FAILED)) }
+    ensures tells_version { refused_by (map S.text words.entry.now) ≡ kinds.DisplayVersion ∷ []
+        → (reader.new ≡ reader.old) × ((result ≡ 0) ⊎ (result ≡ OUT_OF_MEMORY) ⊎ (result ≡ DEVICE_FAILED)) }
+    ensures refuses { are_refused (refused_by (map S.text words.entry.now)) ≡ true
+        → (result ≡ COMMAND_LINE_REFUSED) ⊎ (result ≡ OUT_OF_MEMORY) }
+    ensures untouched { refused_by (map S.text words.entry.now) ≢ [] → reader.new ≡ reader.old }
+    ensures nothing_written { refused_by (map S.text words.entry.now) ≢ [] → result ≡ OUT_OF_MEMORY → writer.new ≡ writer.old }
+    ensures status { result ≤ 9 }
+    ensures silent { result ≤ 3 → errors.new ≡ errors.old }
+    ensures command_line_refused { result ≡ COMMAND_LINE_REFUSED → (reader.new ≡ reader.old) × (writer.new ≡ writer.old) }
+    ensures tells_refused_command_line { result ≡ COMMAND_LINE_REFUSED
+        → Tells (E.contents errors.old) (E.contents errors.new) (E.failures errors.old) (E.failures errors.new) (codes "command line refused\n") }
+    ensures tells_memory { result ≡ OUT_OF_MEMORY
+        → Tells (E.contents errors.old) (E.contents errors.new) (E.failures errors.old) (E.failures errors.new) (codes "out of memory\n") }
+    ensures tells_failure { result ≡ DEVICE_FAILED
+        → Tells (E.contents errors.old) (E.contents errors.new) (E.failures errors.old) (E.failures errors.new) (codes "read or write failed\n") }
+    ensures tells_internal { result ≡ INTERNAL
+        → Tells (E.contents errors.old) (E.contents errors.new) (E.failures errors.old) (E.failures errors.new) (codes "internal\n") }
+    ensures failed { result ≡ DEVICE_FAILED
+        → R.failures reader.new + W.failures writer.new ≡ R.failures reader.old + W.failures writer.old + 1 }
+    ensures worked { result ≢ DEVICE_FAILED
+        → (R.failures reader.new ≡ R.failures reader.old) × (W.failures writer.new ≡ W.failures writer.old) }
+{
+    match parse(alloc, words) {
+        Ok(request) => run_request(rt, alloc, request, reader, writer, errors, progress),
+        Err(error) => answer_error(alloc, writer, errors, &error),
+    }
+}
+
+/// Does what a command line asks for, its first word being the program's name, and answers the status
+/// that the program ends with. What is asked for is read from `reader`, and what it prints goes to
+/// `writer`; where the status isn't 0, 2 or 3, `errors` gets one line. No progress is told.
 pub fn run<
     'a,
     T: Threads + Wait + Sync,
@@ -245,8 +329,5 @@ pub fn run<
     ensures worked { result ≢ DEVICE_FAILED
         → (R.failures reader.new ≡ R.failures reader.old) × (W.failures writer.new ≡ W.failures writer.old) }
 {
-    match parse(alloc, words) {
-        Ok(request) => run_request(rt, alloc, request, reader, writer, errors),
-        Err(error) => answer_error(alloc, writer, errors, &error),
-    }
+    run_telling(rt, alloc, words, reader, writer, errors, &NoProgress)
 }

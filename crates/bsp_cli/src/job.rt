@@ -10,6 +10,7 @@ ghost use Rattle.worker_pool.specs.Refusals.{IsOfWorkers};
 ghost use Rattle.bsp_cli.specs.Ends.{TakesJob, Checks, Upgrades, IsOfPool, Reports, Runs, ReadCause, WriteCause, end_result};
 
 use crate::fault::RunFault;
+use crate::progress::{NoProgress, Progress};
 use crate::status::{LIMIT_REACHED, TASK_FAULT};
 use advance_rule::{EndPlan, StoredAdvance};
 use job_picture::picture_of;
@@ -24,7 +25,7 @@ use std::thread::Threads;
 use step_core::run_alone;
 use task_lang::job::Job;
 use tier_shape::Shape;
-use worker_pool::{AllStart, OpenGate, Refused, run_job};
+use worker_pool::{AllStart, Gate, OpenGate, Refused, run_job};
 
 // Reads a job to the reader's end.
 fn take_job<R: CountedRead>(alloc: Global, reader: &mut R) -> Result<Job, RunFault>
@@ -110,35 +111,58 @@ pub(crate) fn run_status(ended: Result<JobStatus, RunFault>) -> Result<u8, RunFa
     }
 }
 
-// What a job leaves within this limit of supersteps. One worker alone has nobody to share with.
-fn leave<T: Threads + Wait + Sync>(
+// What a job leaves within this limit of supersteps that workers share, with this gate round each segment.
+fn share<T: Threads + Wait + Sync, G: Gate + Sync>(
     rt: &T,
     alloc: Global,
     job: &Job,
     shape: Shape,
     workers: u32,
     limit: u32,
+    gate: &G,
 ) -> Result<Report, Refused>
     requires workers { (1 ≤ workers) × (workers ≤ 64) }
     requires limit { (1 ≤ limit) × (limit ≤ 2147483648) }
     ensures report { IfOk result (λ report. report_of (program_of job.now) limit ≡ Some report) }
     ensures started { IfErr result (IsOfWorkers workers) }
 {
-    if workers == 1 {
-        return match run_alone(alloc, job, limit) {
-            Ok(report) => Ok(report),
-            Err(_) => Err(Refused::Memory),
-        };
-    }
     let last = limit - 1;
     let plan = EndPlan {
         when_empty: true,
         at: Some(last),
     };
     let advance = StoredAdvance::new(|phase: u32, count: u32| count == 0 || phase == last, plan);
-    run_job(
-        rt, alloc, job, shape, workers, advance, &OpenGate, &AllStart,
-    )
+    run_job(rt, alloc, job, shape, workers, advance, gate, &AllStart)
+}
+
+// What a job leaves within this limit of supersteps. One worker alone has nobody to share with, but where progress is
+// asked for.
+fn leave<T: Threads + Wait + Sync, P: Progress + Sync>(
+    rt: &T,
+    alloc: Global,
+    job: &Job,
+    shape: Shape,
+    workers: u32,
+    limit: u32,
+    progress: Option<&P>,
+) -> Result<Report, Refused>
+    requires workers { (1 ≤ workers) × (workers ≤ 64) }
+    requires limit { (1 ≤ limit) × (limit ≤ 2147483648) }
+    ensures report { IfOk result (λ report. report_of (program_of job.now) limit ≡ Some report) }
+    ensures started { IfErr result (IsOfWorkers workers) }
+{
+    if let Some(progress) = progress {
+        let left = share(rt, alloc, job, shape, workers, limit, progress);
+        progress.end(rt);
+        return left;
+    }
+    if workers == 1 {
+        return match run_alone(alloc, job, limit) {
+            Ok(report) => Ok(report),
+            Err(_) => Err(Refused::Memory),
+        };
+    }
+    share(rt, alloc, job, shape, workers, limit, &OpenGate)
 }
 
 // Why a run of a job on so many workers didn't end.
@@ -196,8 +220,9 @@ fn draw_end<W: CountedWrite>(
 }
 
 /// Reads a job to the reader's end, runs it within this limit of supersteps on so many workers, which meet at a tree of
-/// this shape, and writes its report (own). What is written depends on what was read and on the limit alone.
-pub fn run_bytes<T: Threads + Wait + Sync, R: CountedRead, W: CountedWrite>(
+/// this shape, and writes its report (own). What is written depends on what was read and on the limit alone, and not on
+/// whether `progress` is told of each segment.
+pub fn run_bytes<T: Threads + Wait + Sync, R: CountedRead, W: CountedWrite, P: Progress + Sync>(
     rt: &T,
     alloc: Global,
     reader: &mut R,
@@ -205,6 +230,7 @@ pub fn run_bytes<T: Threads + Wait + Sync, R: CountedRead, W: CountedWrite>(
     shape: Shape,
     workers: u32,
     limit: u32,
+    progress: Option<&P>,
 ) -> Result<JobStatus, RunFault>
     requires workers { (1 ≤ workers) × (workers ≤ 64) }
     requires limit { (1 ≤ limit) × (limit ≤ 2147483648) }
@@ -216,7 +242,7 @@ pub fn run_bytes<T: Threads + Wait + Sync, R: CountedRead, W: CountedWrite>(
         Ok(job) => job,
         Err(fault) => return Err(fault),
     };
-    match leave(rt, alloc, &job, shape, workers, limit) {
+    match leave(rt, alloc, &job, shape, workers, limit, progress) {
         Ok(report) => write_end(alloc, report, writer),
         Err(refused) => Err(fault_of(refused)),
     }
@@ -242,7 +268,7 @@ pub fn draw_bytes<T: Threads + Wait + Sync, R: CountedRead, W: CountedWrite>(
         Ok(job) => job,
         Err(fault) => return Err(fault),
     };
-    match leave(rt, alloc, &job, shape, workers, limit) {
+    match leave(rt, alloc, &job, shape, workers, limit, None::<&NoProgress>) {
         Ok(report) => draw_end(alloc, report, writer),
         Err(refused) => Err(fault_of(refused)),
     }

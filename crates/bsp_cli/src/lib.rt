@@ -3,18 +3,22 @@
 
 mod asked;
 mod command_line;
+mod explain;
 mod fault;
+mod help;
 mod job;
 mod laws;
 mod program;
+mod progress;
 mod trace;
 
 pub use asked::Asked;
-pub use command_line::run;
+pub use command_line::{run, run_telling};
 pub use fault::RunFault;
 pub use job::{draw_bytes, run_bytes};
 pub use laws::{words_are_refused, words_ask, words_help, words_tell_the_version};
 pub use program::run_program;
+pub use progress::{NoProgress, Progress};
 
 /// Statuses that the program ends with (own); 0 is for what was done.
 pub mod status {

@@ -2,10 +2,12 @@
 ghost use Rattle.std.specs.Prelude.{◌≡◌, ◌≢◌, ◌≤◌, ◌⊎◌, codes};
 ghost use Rattle.bsp_cli.specs.Texts.{Tells};
 
-use crate::command_line::run;
+use crate::command_line::run_telling;
+use crate::progress::Teller;
 use crate::status::{COMMAND_LINE_REFUSED, DEVICE_FAILED, INTERNAL, OUT_OF_MEMORY};
 use phase_records::{CountedWrite, Reader, write_all};
 use std::io::Input;
+use std::rt::Clock;
 use std::sync::Wait;
 use std::thread::Threads;
 use std::{env, io};
@@ -26,10 +28,10 @@ fn stopped<E: CountedWrite>(errors: &mut E, kind: io::ErrorKind) -> u8
     COMMAND_LINE_REFUSED
 }
 
-/// Does what the command line of this process asks for, as [`run`] says: reads standard input, prints to `writer`, tells
+/// Does what the command line of this process asks for, as [`run_telling`] says: reads standard input, prints to `writer`, tells
 /// what went wrong to `errors`, and answers the status that the process ends with. Words that aren't text are refused.
 pub fn run_program<
-    T: env::Env + AllocGlobal + Input + Threads + Wait + Sync,
+    T: env::Env + AllocGlobal + Input + Clock + Eprint + Threads + Wait + Sync,
     W: CountedWrite,
     E: CountedWrite,
 >(rt: &T, writer: &mut W, errors: &mut E) -> u8
@@ -53,12 +55,14 @@ pub fn run_program<
         return stopped(errors, io::ErrorKind::OutOfMemory);
     };
     let mut reader = Reader::new(rt.reader());
-    run(
+    let teller = Teller::new(rt);
+    run_telling(
         rt,
         rt.alloc(),
         words.as_slice(),
         &mut reader,
         writer,
         errors,
+        &teller,
     )
 }

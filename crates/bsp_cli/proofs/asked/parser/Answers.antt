@@ -13,4 +13,6 @@ returns-clause-app c =
     ∙ ap₂ with_subcommand second (ap top c.upgrade_command.ensures.app) in
     let fourth = c.in_ok-with_run.ensures.shape c.in_ok-run_command.ensures.local
     ∙ ap₂ with_subcommand third (ap top c.in_ok-run_command.ensures.app) in
-    c.in_ok-with_draw.ensures.shape c.in_ok-draw_command.ensures.local ∙ ap₂ with_subcommand fourth (ap top c.in_ok-draw_command.ensures.app)
+    let fifth = c.in_ok-with_draw.ensures.shape c.in_ok-draw_command.ensures.local
+    ∙ ap₂ with_subcommand fourth (ap top c.in_ok-draw_command.ensures.app) in
+    c.in_ok-with_explain.ensures.shape c.in_ok-explain_command.ensures.local ∙ ap₂ with_subcommand fifth (ap top c.in_ok-explain_command.ensures.app)

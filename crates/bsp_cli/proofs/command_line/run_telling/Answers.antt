@@ -1,7 +1,7 @@
 use Rattle.std.proofs.Common.{◌≡◌, inl, inr, ap, []}
 use Rattle.clap.specs.Words.{HasKind}
 use Rattle.bsp_cli.proofs.Refusals.{no-memory, refused-kind}
-use Rattle.bsp_cli.proofs.command_line.run.Goals as goal
+use Rattle.bsp_cli.proofs.command_line.run_telling.Goals as goal
 
 pub returns-in-Err-clause-did : goal.returns-in-Err-clause-did
 returns-in-Err-clause-did g c = λ taken.
