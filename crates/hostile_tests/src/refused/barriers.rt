@@ -4,9 +4,12 @@ ghost use Rattle.advance_rule.specs.Action.{AnswersAction};
 
 use advance_rule::StoredAction;
 use cyclic_gate::{Awaited, BarrierCore, BarrierFault, CyclicGate, GateFault};
+use std::alloc::AllocError;
 use std::process::Abort;
 use std::sync::Wait;
 use std::test::Fail;
+use std::thread;
+use std::thread::Threads;
 
 // Looks at a barrier: so many wait, in this generation, and it isn't broken.
 fn is_as_it_was<F: Fn(u64) -> bool>(
@@ -78,6 +81,60 @@ fn a_caller_comes_to_a_gate(rt: HostRuntime) -> Result<(), Fail> {
     let gate = CyclicGate::new(rt.alloc(), 1, action)?;
     for _ in 0..9 {
         turns(&rt, &gate);
+    }
+    Ok(())
+}
+
+// A caller comes to a gate, and again where there was no memory.
+fn comes_again<R: Wait, F: Fn(u64) -> bool>(
+    rt: &R,
+    gate: &CyclicGate<F>,
+    caller: u32,
+) -> Result<u32, GateFault>
+    requires { AnswersAction (F.pre gate.now.action.closure) (F.post gate.now.action.closure) gate.now.action.plan }
+{
+    let turn = gate.await_turn(rt, caller);
+    if turn == Err(GateFault::Memory) {
+        return gate.await_turn(rt, caller);
+    }
+    turn
+}
+
+// A thread of its own comes and waits, then another caller comes here: what both are answered, unless no thread was started.
+fn both_come<R: Threads + Wait + Sync, F: Fn(u64) -> bool + Sync>(
+    rt: &R,
+    gate: &CyclicGate<F>,
+) -> Result<(Result<u32, GateFault>, Result<u32, GateFault>), AllocError>
+    requires { AnswersAction (F.pre gate.now.action.closure) (F.post gate.now.action.closure) gate.now.action.plan }
+{
+    thread::scope(
+        thread::scope_env(),
+        rt,
+        move |scope| -> Result<(Result<u32, GateFault>, Result<u32, GateFault>), AllocError>
+            requires { AnswersAction (F.pre gate.now.action.closure) (F.post gate.now.action.closure) gate.now.action.plan }
+        {
+            match scope.spawn(move || comes_again(rt, gate, 0)) {
+                Ok(other) => {
+                    for _ in 0..1000u32 {
+                        thread::yield_now();
+                    }
+                    let own = comes_again(rt, gate, 1);
+                    Ok((other.join(rt), own))
+                }
+                Err(_) => Err(AllocError),
+            }
+        },
+    )
+}
+
+// Who waits isn't lost where the one that comes last finds no memory: both go on, each with an index of its own.
+#[test]
+fn one_waits_at_a_gate(rt: HostRuntime) -> Result<(), Fail> {
+    let action = StoredAction::new(|_generation: u64| false, None);
+    let gate = CyclicGate::new(rt.alloc(), 2, action)?;
+    for _ in 0..5 {
+        let (other, own) = both_come(&rt, &gate)?;
+        assert!(rt; matches!((other, own), (Ok(0), Ok(1)) | (Ok(1), Ok(0))));
     }
     Ok(())
 }
