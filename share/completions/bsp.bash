@@ -4,7 +4,7 @@ _bsp() {
     local commands="trace check upgrade run draw explain help"
     case $before in
         --workers) COMPREPLY=($(compgen -W "1 2 4 8 16 32 64" -- "$word")); return ;;
-        --tree) COMPREPLY=($(compgen -W "flat 2x2 2x3 4x4 8x8" -- "$word")); return ;;
+        --tree) COMPREPLY=($(compgen -W "flat 2x2 2x3 4x4" -- "$word")); return ;;
         --limit) COMPREPLY=($(compgen -W "1000 1000000" -- "$word")); return ;;
         --fault) COMPREPLY=($(compgen -W "1 2 3 4 5 6 7 8" -- "$word")); return ;;
     esac
