@@ -339,8 +339,10 @@ fn is_picture<R: AllocGlobal + Files + Threads + Wait + Sync>(
     let alloc = rt.alloc();
     let text = stored(rt, name, "job")?;
     let want = stored(rt, name, "svg")?;
-    Ok(prints(rt, alloc, &DRAW, text.as_str(), want.as_str())
-        && prints(rt, alloc, &DRAW_BY_FOUR, text.as_str(), want.as_str()))
+    Ok(
+        prints(rt, alloc, &DRAW, text.as_str(), want.as_str())
+            && prints(rt, alloc, &DRAW_BY_FOUR, text.as_str(), want.as_str()),
+    )
 }
 
 // Whether three supersteps share a column in the picture of a long job.
