@@ -1,5 +1,5 @@
 -- Strips of arrays, one after another.
-use Rattle.std.proofs.Common.{◌≡◌, ℕ, zero, suc, ◌+◌, List, [], ◌∷◌, ◌++◌, drop, Option, Some, None, refl, sym, ap, ◌∙◌, append_assoc, add-one}
+use Rattle.std.proofs.Common.{◌≡◌, ℕ, zero, suc, ◌+◌, List, [], ◌∷◌, ◌++◌, drop, Some, None, refl, sym, ap, ◌∙◌, append_assoc, add-one}
 use Rattle.std.specs.Prelude.{slice_get, ℤ}
 use Rattle.job_picture.specs.Cells.{strip, strips_from}
 

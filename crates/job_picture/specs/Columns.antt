@@ -1,7 +1,7 @@
 -- The columns of a picture (own): a superstep is one unit wide and a party one unit high, and the file says how units are
 -- scaled. Over 4000 supersteps share columns.
-use Rattle.std.specs.Prelude.{ℕ, zero, suc, ◌-◌, max, Bool, true, false, ◌||◌, ◌==◌, if◌then◌else◌, List, [], ◌∷◌, ◌++◌, take, drop, length, codes, decimal}
-use Rattle.std.specs.List.{fold, flat_map}
+use Rattle.std.specs.Prelude.{ℕ, zero, suc, ◌-◌, max, Bool, false, ◌||◌, ◌==◌, if◌then◌else◌, List, [], ◌∷◌, ◌++◌, take, drop, length, codes, decimal}
+use Rattle.std.specs.List.{fold}
 use Rattle.phase_records.specs.declared.record.PhaseRecord.{PhaseRecord}
 use Rattle.phase_records.specs.PrintValue.{PrintValue}
 use Rattle.phase_records.specs.ReportText.{rest_of}

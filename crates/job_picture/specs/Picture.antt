@@ -1,5 +1,5 @@
 -- The picture of a report, as the text of an SVG file (own): a title, a column a superstep, and the arrays below.
-use Rattle.std.specs.Prelude.{ℕ, ◌+◌, ◌-◌, ◌*◌, ◌/◌, max, nat_lt, if◌then◌else◌, ℤ, List, [], ◌++◌, length, codes, decimal}
+use Rattle.std.specs.Prelude.{ℕ, ◌+◌, ◌-◌, ◌*◌, max, nat_lt, if◌then◌else◌, ℤ, List, [], ◌++◌, length, codes, decimal}
 use Rattle.std.specs.List.{flat_map}
 use Rattle.std.specs.Int.{div_ceil}
 use Rattle.phase_records.specs.ReportValue.{ReportValue}

@@ -1,4 +1,4 @@
-use Rattle.std.proofs.Common.{◌≡◌, ◌++◌, length}
+use Rattle.std.proofs.Common.{◌≡◌, length}
 use Rattle.std.specs.List.{fold}
 use Rattle.job_picture.specs.Columns.{greater, greatest}
 use Rattle.job_picture.proofs.columns.greatest.Given as goal

@@ -1,4 +1,4 @@
-use Rattle.std.proofs.Common.{◌≡◌, ◌++◌, length}
+use Rattle.std.proofs.Common.{◌≡◌, length}
 use Rattle.phase_records.specs.ReportText.{rest_of}
 use Rattle.job_picture.proofs.columns.skip_prints.Given as goal
 
