@@ -6,3 +6,4 @@ mod Refusals
 mod RunJobs
 mod TooLong
 pub mod Upgrading
+pub mod Saying

@@ -31,6 +31,7 @@ words-ask name = record {
   explain = (refl, refl);
   explain_code = (refl, refl);
   explain_fault = (refl, refl);
+  explain_both = (refl, refl);
   draw = (refl, refl);
   drawn_by = (refl, refl);
   drawn_at = (refl, refl);

@@ -19,7 +19,7 @@ out Trace input old = inl (keeps old)
 out Check input old = keeps old
 out Upgrade input old = keeps old
 out (Run workers limit) input old = keeps old
-out Explain input old = keeps old
+out (Explain topic) input old = keeps old
 out (Draw workers limit) input old = keeps old
 
 -- memory ran out before anything was read

@@ -7,6 +7,8 @@ use Rattle.clap.specs.Words.{App, Kinds, Row, Rule, fault_of, first_of, new_app,
 use Rattle.clap.specs.ValueTests.{is_unsigned_in}
 use Rattle.clap.specs.declared.builder.action.ArgAction.TheVariants.{Set, SetTrue}
 use Rattle.clap.specs.declared.builder.value_parser.ValueParser.TheVariants as parser
+use Rattle.bsp_cli.specs.Topics.{topic_by}
+use Rattle.bsp_cli.specs.declared.asked.Topic.{Topic}
 use Rattle.bsp_cli.specs.declared.asked.Asked.{Asked}
 use Rattle.bsp_cli.specs.declared.asked.Asked.TheVariants.{Trace, Check, Upgrade, Run, Draw, Explain}
 
@@ -84,6 +86,10 @@ workers_in rows = number_from 64 1 (one_of (codes "workers") rows)
 abbrev pub limit_in : List Row → ℕ
 limit_in rows = number_from 1000000 1000000 (one_of (codes "limit") rows)
 
+-- what is to be explained
+abbrev pub topic_in : List Row → Topic
+topic_in rows = topic_by (number_from 14 0 (one_of (codes "code") rows)) (number_from 8 0 (one_of (codes "fault") rows))
+
 -- a tree that isn't given is the root alone
 abbrev pub tree_in : List Row → List ℕ
 tree_in rows = unwrap_or (first_of (codes "tree") rows) (codes "flat")
@@ -99,7 +105,7 @@ asked_by None = Trace
 asked_by (Some p) =
     if bytes_eq p.0 (codes "check") then Check
     else if bytes_eq p.0 (codes "upgrade") then Upgrade
-    else if bytes_eq p.0 (codes "explain") then Explain
+    else if bytes_eq p.0 (codes "explain") then Explain (topic_in p.1)
     else if bytes_eq p.0 (codes "run") then Run (workers_in p.1) (limit_in p.1)
     else if bytes_eq p.0 (codes "draw") then Draw (workers_in p.1) (limit_in p.1) else Trace
 

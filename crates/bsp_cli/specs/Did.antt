@@ -13,6 +13,7 @@ use Rattle.clap.specs.declared.error.kind.ErrorKind.TheVariants as kinds
 use Rattle.clap.specs.Words.{Kinds}
 use Rattle.bsp_cli.specs.Jobs.{WritesCanonical, BeginsCanonical, WritesUpgraded, BeginsUpgraded, WritesReport, BeginsReport}
 use Rattle.bsp_cli.specs.Texts.{refusal_line, worker_line}
+use Rattle.bsp_cli.specs.Topics.{WritesTopic, BeginsTopic}
 use Rattle.bsp_cli.specs.declared.asked.Asked.{Asked}
 use Rattle.bsp_cli.specs.declared.asked.Asked.TheVariants.{Trace, Check, Upgrade, Run, Draw, Explain}
 
@@ -22,7 +23,7 @@ Finishes Trace input old new status = (status ≡ 0) × WritesAnswers input old 
 Finishes Check input old new status = (status ≡ 0) × WritesCanonical input old new
 Finishes Upgrade input old new status = (status ≡ 0) × WritesUpgraded input old new
 Finishes (Run workers limit) input old new status = WritesReport report_text limit input old new status
-Finishes Explain input old new status = status ≡ 0
+Finishes (Explain topic) input old new status = (status ≡ 0) × WritesTopic topic old new
 Finishes (Draw workers limit) input old new status = WritesReport picture limit input old new status
 
 -- or a beginning of it
@@ -31,7 +32,7 @@ Begins Trace input old new = WritesBeginning input old new
 Begins Check input old new = BeginsCanonical input old new
 Begins Upgrade input old new = BeginsUpgraded input old new
 Begins (Run workers limit) input old new = BeginsReport report_text limit input old new
-Begins Explain input old new = Unit {0}
+Begins (Explain topic) input old new = BeginsTopic topic old new
 Begins (Draw workers limit) input old new = BeginsReport picture limit input old new
 
 -- the input is refused, first here
@@ -40,7 +41,7 @@ Refuses Trace input r = asked_of input ≡ Err r
 Refuses Check input r = job_in input ≡ Err r
 Refuses Upgrade input r = job_in input ≡ Err r
 Refuses (Run workers limit) input r = job_in input ≡ Err r
-Refuses Explain input r = ⊥
+Refuses (Explain topic) input r = ⊥
 Refuses (Draw workers limit) input r = job_in input ≡ Err r
 
 -- where memory ran out, only a trace may have written some of its answers
@@ -49,7 +50,7 @@ RunsOut Trace input old new = Keeps old new ⊎ IfSome input (λ bytes. WritesBe
 RunsOut Check input old new = Keeps old new
 RunsOut Upgrade input old new = Keeps old new
 RunsOut (Run workers limit) input old new = Keeps old new
-RunsOut Explain input old new = Keeps old new
+RunsOut (Explain topic) input old new = Keeps old new
 RunsOut (Draw workers limit) input old new = Keeps old new
 
 -- a worker of those that are asked for, numbered from 0
@@ -58,7 +59,7 @@ IsWorkerOf Trace k = ⊥
 IsWorkerOf Check k = ⊥
 IsWorkerOf Upgrade k = ⊥
 IsWorkerOf (Run workers limit) k = k < workers
-IsWorkerOf Explain k = ⊥
+IsWorkerOf (Explain topic) k = ⊥
 IsWorkerOf (Draw workers limit) k = k < workers
 
 -- what is asked for is done where the status is 0, 2 or 3; else the output and the line on standard error say what went

@@ -13,6 +13,9 @@ use Rattle.job_reader.specs.Reading.{job_in}
 use Rattle.bsp_cli.specs.Jobs.{status_number, WritesCanonical, BeginsCanonical, WritesUpgraded, BeginsUpgraded, WritesReportOf, BeginsReport}
 use Rattle.bsp_cli.specs.Did.{Finishes, Begins, Refuses, RunsOut, IsWorkerOf}
 use Rattle.bsp_cli.specs.Texts.{fault_status}
+use Rattle.bsp_cli.specs.Topics.{WritesTopic, BeginsTopic}
+use Rattle.bsp_cli.specs.declared.asked.Topic.{Topic}
+use Rattle.bsp_cli.specs.declared.asked.Topic.TheVariants.{All, Code, Fault}
 use Rattle.bsp_cli.specs.declared.asked.Asked.{Asked}
 use Rattle.bsp_cli.specs.declared.asked.Asked.TheVariants.{Trace, Check, Upgrade, Run, Draw, Explain}
 use Rattle.bsp_cli.specs.declared.fault.RunFault.{RunFault}
@@ -75,15 +78,15 @@ Upgrades input old new (Err Memory) = Keeps old new
 Upgrades input old new (Err (NotStarted k)) = ⊥
 Upgrades input old new (Err Internal) = ⊥
 
--- a text was written, or a beginning of it
-abbrev pub Explains : Result (Unit {0}) RunFault → Type 0
-Explains (Ok x) = Unit {0}
-Explains (Err (Text r)) = ⊥
-Explains (Err Read) = ⊥
-Explains (Err Write) = Unit {0}
-Explains (Err Memory) = ⊥
-Explains (Err (NotStarted k)) = ⊥
-Explains (Err Internal) = ⊥
+-- a text on the topic was written, or a beginning of it
+abbrev pub Explains : Topic → Option (List ℕ) → Option (List ℕ) → Result (Unit {0}) RunFault → Type 0
+Explains topic old new (Ok x) = WritesTopic topic old new
+Explains topic old new (Err (Text r)) = ⊥
+Explains topic old new (Err Read) = ⊥
+Explains topic old new (Err Write) = BeginsTopic topic old new
+Explains topic old new (Err Memory) = ⊥
+Explains topic old new (Err (NotStarted k)) = ⊥
+Explains topic old new (Err Internal) = ⊥
 
 -- the report was written in this form, or a beginning of it where the writer failed
 abbrev pub Reports : (ReportValue → List ℕ) → ReportValue → Option (List ℕ) → Option (List ℕ) → Result JobStatus RunFault → Type 0
@@ -125,13 +128,19 @@ Does a input old new (Err Memory) = RunsOut a input old new
 Does a input old new (Err (NotStarted k)) = Keeps old new × IsWorkerOf a k
 Does a input old new (Err Internal) = Keeps old new
 
--- workers and limit are in range
+-- there is such a code or fault
+abbrev pub IsTopic : Topic → Type 0
+IsTopic All = Unit {0}
+IsTopic (Code n) = (1 ≤ n) × (n ≤ 14)
+IsTopic (Fault n) = (1 ≤ n) × (n ≤ 8)
+
+-- workers and limit are in range, and there is what is to be explained
 abbrev pub IsAsked : Asked → Type 0
 IsAsked Trace = Unit {0}
 IsAsked Check = Unit {0}
 IsAsked Upgrade = Unit {0}
 IsAsked (Run workers limit) = ((1 ≤ workers) × (workers ≤ 64)) × ((1 ≤ limit) × (limit ≤ 1000000))
-IsAsked Explain = Unit {0}
+IsAsked (Explain topic) = IsTopic topic
 IsAsked (Draw workers limit) = ((1 ≤ workers) × (workers ≤ 64)) × ((1 ≤ limit) × (limit ≤ 1000000))
 
 -- how a run of a job ended, as a status

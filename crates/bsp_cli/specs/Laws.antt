@@ -5,6 +5,7 @@ use Rattle.clap.specs.ValueTests.{is_unsigned_in}
 use Rattle.bsp_cli.specs.CommandLine.{asked_in, refused_by, tree_asked}
 use Rattle.bsp_cli.specs.Did.{are_refused}
 use Rattle.clap.specs.declared.error.kind.ErrorKind.TheVariants.{DisplayHelp, DisplayVersion}
+use Rattle.bsp_cli.specs.declared.asked.Topic.TheVariants.{All, Code, Fault}
 use Rattle.bsp_cli.specs.declared.asked.Asked.{Asked}
 use Rattle.bsp_cli.specs.declared.asked.Asked.TheVariants.{Trace, Check, Upgrade, Run, Draw, Explain}
 
@@ -33,9 +34,10 @@ pub record WordsAsk (name : List ℕ) : Type 0 where
   pub flat : AsksTree (name ∷ codes "run" ∷ []) (codes "flat")
   pub tree : AsksTree (name ∷ codes "run" ∷ codes "--tree" ∷ codes "2x3" ∷ []) (codes "2x3")
   pub progress : Asks (name ∷ codes "run" ∷ codes "--progress" ∷ codes "--limit" ∷ codes "7" ∷ []) (Run 1 7)
-  pub explain : Asks (name ∷ codes "explain" ∷ []) Explain
-  pub explain_code : Asks (name ∷ codes "explain" ∷ codes "14" ∷ []) Explain
-  pub explain_fault : Asks (name ∷ codes "explain" ∷ codes "--fault" ∷ codes "8" ∷ []) Explain
+  pub explain : Asks (name ∷ codes "explain" ∷ []) (Explain All)
+  pub explain_code : Asks (name ∷ codes "explain" ∷ codes "14" ∷ []) (Explain (Code 14))
+  pub explain_fault : Asks (name ∷ codes "explain" ∷ codes "--fault" ∷ codes "8" ∷ []) (Explain (Fault 8))
+  pub explain_both : Asks (name ∷ codes "explain" ∷ codes "--fault" ∷ codes "8" ∷ codes "3" ∷ []) (Explain (Code 3))
   pub draw : Asks (name ∷ codes "draw" ∷ []) (Draw 1 1000000)
   pub drawn_by : Asks (name ∷ codes "draw" ∷ codes "--workers" ∷ codes "64" ∷ codes "--limit" ∷ codes "7" ∷ []) (Draw 64 7)
   pub drawn_at : AsksTree (name ∷ codes "draw" ∷ codes "--tree" ∷ codes "2x3" ∷ []) (codes "2x3")

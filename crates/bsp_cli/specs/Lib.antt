@@ -4,3 +4,4 @@ pub mod Ends
 pub mod Jobs
 pub mod Laws
 pub mod Texts
+pub mod Topics

@@ -1,5 +1,5 @@
 -- The lines on standard error (own).
-use Rattle.std.specs.Prelude.{◌≡◌, ℕ, List, ◌++◌, Option, codes, decimal}
+use Rattle.std.specs.Prelude.{◌≡◌, ◌≢◌, ℕ, ◌+◌, List, [], ◌++◌, Option, codes, decimal}
 use Rattle.std.specs.Io.KnownBytes.{Appends}
 use Rattle.text_lines.specs.declared.refusal.Refusal.{Refusal}
 use Rattle.text_lines.specs.Refusals.{code_number}
@@ -15,6 +15,26 @@ worker_line k = (codes "worker " ++ decimal k) ++ codes " not started\n"
 -- a writer gets this text, unless it fails
 abbrev pub Tells : Option (List ℕ) → Option (List ℕ) → ℕ → ℕ → List ℕ → Type 0
 Tells old new failures failures_after text = failures_after ≡ failures → Appends old new text
+
+-- what standard error got where the status alone says which line
+pub record Says (status : ℕ) (old new : Option (List ℕ)) (failures failures_after : ℕ) : Type 0 where
+  pub command_line : status ≡ 5 → Tells old new failures failures_after (codes "command line refused\n")
+  pub memory : status ≡ 6 → Tells old new failures failures_after (codes "out of memory\n")
+  pub failure : status ≡ 8 → Tells old new failures failures_after (codes "read or write failed\n")
+  pub internal : status ≡ 9 → Tells old new failures failures_after (codes "internal\n")
+
+-- status 8 is one failure of the reader or of the writer, and any other none
+pub record CountsFailures (status read read_after written written_after : ℕ) : Type 0 where
+  pub failed : status ≡ 8 → read_after + written_after ≡ read + written + 1
+  pub worked : status ≢ 8 → (read_after ≡ read) × (written_after ≡ written)
+
+-- what `--version` prints
+abbrev pub version_line : List ℕ
+version_line = codes "bsp 0.1.0, reads jobs of formats 1 and 2\n"
+
+-- a text that isn't empty was written
+abbrev pub WritesSome : Option (List ℕ) → Option (List ℕ) → Type 0
+WritesSome old new = (text : List ℕ) × (text ≢ []) × Appends old new text
 
 -- the line and the status of a command that did not end
 abbrev pub fault_text : RunFault → List ℕ

@@ -1,14 +1,26 @@
 //! What a command line asks for.
 ghost use Rattle.std.specs.Prelude.{◌≡◌, ◌≤◌, false, true, codes, IfOk, IfErr};
-ghost use Rattle.clap.specs.Words.{app_of, found_of, kind_of, new_app, rows_of, rule_of, subcommand_rows_of};
+ghost use Rattle.clap.specs.Words.{app_of, found_of, kind_of, new_app, one_of, rows_of, rule_of, subcommand_rows_of};
 ghost use Rattle.clap.specs.declared.builder.command.Command.TheViews.{out-Command as fields_of};
 ghost use Rattle.clap.specs.declared.error.kind.ErrorKind.TheVariants as kinds;
-ghost use Rattle.bsp_cli.specs.CommandLine.{asked_by, bare, chosen, code_rule, explain_app, job_app, limit_in, number_rule, program, progress_rule, run_app, tree_by, tree_in, tree_rule, workers_in};
-ghost use Rattle.bsp_cli.specs.Ends.{IsAsked};
+ghost use Rattle.bsp_cli.specs.CommandLine.{asked_by, bare, chosen, code_rule, explain_app, job_app, limit_in, number_from, number_rule, program, progress_rule, run_app, topic_in, tree_by, tree_in, tree_rule, workers_in};
+ghost use Rattle.bsp_cli.specs.Ends.{IsAsked, IsTopic};
+ghost use Rattle.bsp_cli.specs.Topics.{topic_by};
 
 use crate::help::{CHECK_LINES, EXAMPLES, RUN_LINES, TRACE_LINES, UPGRADE_LINES};
 use clap::{Arg, ArgAction, ArgMatches, Command, Error};
 use std::alloc::Global;
+
+/// What is to be explained (own).
+#[derive(Clone, Copy)]
+pub enum Topic {
+    /// Which codes and faults there are.
+    All,
+    /// The code of a refusal, 1 to 14.
+    Code(u32),
+    /// The number of a fault, 1 to 8.
+    Fault(u32),
+}
 
 /// What a command line asks for.
 #[derive(Clone, Copy)]
@@ -27,7 +39,7 @@ pub enum Asked {
         limit: u32,
     },
     /// To tell what codes and faults mean.
-    Explain,
+    Explain(Topic),
     /// To draw a job.
     Draw {
         /// Run on so many workers.
@@ -44,14 +56,25 @@ pub(crate) struct Request<'a> {
     pub(crate) tree: &'a str,
     /// Whether to tell how far the job has come.
     pub(crate) progress: bool,
-    /// The code to be explained.
-    pub(crate) code: Option<u32>,
-    /// The fault to be explained.
-    pub(crate) fault: Option<u32>,
 }
 
-/// The version of the program and the formats that it reads, which `--version` prints.
-const VERSION: &str = "0.1.0, reads jobs of formats 1 and 2";
+macro_rules! version {
+    ($before:literal, $behind:literal) => {
+        concat!($before, "0.1.0, reads jobs of formats 1 and 2", $behind)
+    };
+}
+
+/// The version of the program and the formats that it reads.
+const VERSION: &str = version!("", "");
+
+/// What `--version` prints.
+pub(crate) const VERSION_LINE: &str = version!("bsp ", "\n");
+
+/// How many codes of refusals there are.
+const MOST_CODES: u32 = 14;
+
+/// How many faults there are.
+const MOST_FAULTS: u32 = 8;
 
 /// The most supersteps of a job, also where no limit is given.
 const MOST_STEPS: u32 = 1_000_000;
@@ -266,9 +289,9 @@ pub(crate) fn parser<'a>(alloc: Global) -> Result<Command<'a>, Error>
 
 // The number that was read, where it is one of 1 to `most`; else the usual one.
 fn within(given: Option<u32>, most: u32, usual: u32) -> u32
-    requires usual { (1 ≤ usual) × (usual ≤ most) }
+    requires usual { usual ≤ most }
     ensures number { result ≡ chosen most usual given }
-    ensures least { 1 ≤ result }
+    ensures least { 1 ≤ usual → 1 ≤ result }
     ensures most { result ≤ most }
 {
     match given {
@@ -305,6 +328,46 @@ fn tree_of<'a>(matches: &ArgMatches<'a>) -> &'a str
     }
 }
 
+// The number of the code to be explained; 0 where none is given.
+fn code_of(matches: &ArgMatches<'_>) -> u32
+    ensures code { result ≡ number_from 14 0 (one_of (codes "code") (rows_of (found_of matches.now))) }
+    ensures most { result ≤ 14 }
+{
+    within(matches.get_one::<u32>("code"), MOST_CODES, 0)
+}
+
+// The number of the fault to be explained; 0 where none is given.
+fn fault_of(matches: &ArgMatches<'_>) -> u32
+    ensures fault { result ≡ number_from 8 0 (one_of (codes "fault") (rows_of (found_of matches.now))) }
+    ensures most { result ≤ 8 }
+{
+    within(matches.get_one::<u32>("fault"), MOST_FAULTS, 0)
+}
+
+// What is to be explained, by the numbers of a code and of a fault, 0 where none is given.
+fn topic_by(code: u32, fault: u32) -> Topic
+    requires code { code ≤ 14 }
+    requires fault { fault ≤ 8 }
+    ensures topic { result ≡ topic_by code fault }
+    ensures known { IsTopic result }
+{
+    if code > 0 {
+        return Topic::Code(code);
+    }
+    if fault > 0 {
+        return Topic::Fault(fault);
+    }
+    Topic::All
+}
+
+// What `explain` asks for.
+fn topic_of(matches: &ArgMatches<'_>) -> Topic
+    ensures topic { result ≡ topic_in (rows_of (found_of matches.now)) }
+    ensures known { IsTopic result }
+{
+    topic_by(code_of(matches), fault_of(matches))
+}
+
 // What a subcommand that runs no job asks for.
 fn without_tree<'a>(asked: Asked) -> Request<'a>
     ensures asked { result.asked ≡ asked }
@@ -314,22 +377,6 @@ fn without_tree<'a>(asked: Asked) -> Request<'a>
         asked,
         tree: "flat",
         progress: false,
-        code: None,
-        fault: None,
-    }
-}
-
-// What `explain` asks for.
-fn explanation<'a>(options: &ArgMatches<'a>) -> Request<'a>
-    ensures asked { result.asked ≡ Asked.Explain }
-    ensures tree { result.tree.now ≡ codes "flat" }
-{
-    Request {
-        asked: Asked::Explain,
-        tree: "flat",
-        progress: false,
-        code: options.get_one::<u32>("code"),
-        fault: options.get_one::<u32>("fault"),
     }
 }
 
@@ -342,8 +389,6 @@ fn with_tree<'a>(asked: Asked, options: &ArgMatches<'a>, progress: bool) -> Requ
         asked,
         tree: tree_of(options),
         progress,
-        code: None,
-        fault: None,
     }
 }
 
@@ -362,7 +407,7 @@ pub(crate) fn asked_for<'a>(matches: &ArgMatches<'a>) -> Request<'a>
                 return without_tree(Asked::Upgrade);
             }
             if name == "explain" {
-                return explanation(options);
+                return without_tree(Asked::Explain(topic_of(options)));
             }
             let (workers, limit) = (workers_of(options), limit_of(options));
             if name == "run" {

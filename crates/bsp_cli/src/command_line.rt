@@ -1,19 +1,20 @@
 //! The command line.
-ghost use Rattle.std.specs.Prelude.{◌≡◌, ◌≢◌, ◌≤◌, ◌⊎◌, ◌+◌, [], ◌∷◌, true, Ok, IfOk, IfErr, IsOk, IsErr, MatchOption, map, codes};
+ghost use Rattle.std.specs.Prelude.{◌≡◌, ◌≢◌, ◌≤◌, ◌⊎◌, ◌+◌, [], ◌∷◌, true, Ok, IfOk, IfErr, IsOk, IsErr, MatchOption, map, string_bytes};
+ghost use Rattle.std.specs.Io.KnownBytes.{Appends};
 ghost use Rattle.clap.specs.Words.{HasKind, kind_of};
 ghost use Rattle.clap.specs.declared.error.kind.ErrorKind.TheVariants as kinds;
 ghost use Rattle.tier_shape.specs.Told.{shape_told};
 ghost use Rattle.bsp_cli.specs.CommandLine.{asked_in, refused_by, tree_asked};
 ghost use Rattle.bsp_cli.specs.Did.{Did, are_refused};
 ghost use Rattle.bsp_cli.specs.Ends.{Does, IsAsked, ReadCause, WriteCause};
-ghost use Rattle.bsp_cli.specs.Texts.{Tells};
+ghost use Rattle.bsp_cli.specs.Texts.{CountsFailures, Says, Tells, WritesSome, version_line};
 
-use crate::asked::{Asked, Request, asked_for, parser};
+use crate::asked::{Asked, Request, VERSION_LINE, asked_for, parser};
 use crate::explain::explain;
-use crate::fault::{RunFault, tell};
+use crate::fault::{RunFault, refuse, tell};
 use crate::job::{check, draw_bytes, run_bytes, run_status, upgrade};
 use crate::progress::{NoProgress, Progress};
-use crate::status::{COMMAND_LINE_REFUSED, DEVICE_FAILED, INTERNAL, OUT_OF_MEMORY};
+use crate::status::{COMMAND_LINE_REFUSED, DEVICE_FAILED, OUT_OF_MEMORY};
 use crate::trace::trace;
 use clap::Error;
 use clap::error::ErrorKind;
@@ -37,13 +38,53 @@ fn parse<'a, S: AsStr>(alloc: Global, words: &'a [S]) -> Result<Request<'a>, Err
     Ok(asked_for(&matches))
 }
 
-// Tells that the command line is refused.
-fn refuse<E: CountedWrite>(errors: &mut E) -> u8
-    ensures status { result ≡ COMMAND_LINE_REFUSED }
-    ensures tells { Tells (E.contents errors.old) (E.contents errors.new) (E.failures errors.old) (E.failures errors.new) (codes "command line refused\n") }
+// Writes a text that was asked for in place of a subcommand, and answers the status.
+#[tactic(auto, using(crate::proofs::Saying::nothing_says))]
+fn show<W: CountedWrite, E: CountedWrite>(writer: &mut W, errors: &mut E, text: &[u8]) -> u8
+    ensures status { (result ≡ 0) ⊎ (result ≡ DEVICE_FAILED) }
+    ensures shown { result ≡ 0 → Appends (W.contents writer.old) (W.contents writer.new) text.now }
+    ensures silent { result ≡ 0 → errors.new ≡ errors.old }
+    ensures says { Says result (E.contents errors.old) (E.contents errors.new) (E.failures errors.old) (E.failures errors.new) }
+    ensures failed { result ≡ DEVICE_FAILED → W.failures writer.new ≡ W.failures writer.old + 1 }
+    ensures worked { result ≢ DEVICE_FAILED → W.failures writer.new ≡ W.failures writer.old }
 {
-    let _ = write_all(errors, b"command line refused\n");
-    COMMAND_LINE_REFUSED
+    match write_all(writer, text) {
+        Ok(()) => 0,
+        Err(_) => tell(errors, RunFault::Write),
+    }
+}
+
+// The text of help. The parser's text is empty nowhere; where there was no memory for it there is none.
+fn help_of(alloc: Global, error: &Error) -> Result<String, AllocError>
+    ensures { IfOk result (λ text. string_bytes text ≢ []) }
+{
+    let text = error.to_string(alloc)?;
+    if text.is_empty() {
+        return Err(AllocError);
+    }
+    Ok(text)
+}
+
+// Writes help, and answers the status.
+#[tactic(auto, using(crate::proofs::Saying::some_written))]
+fn show_help<W: CountedWrite, E: CountedWrite>(
+    alloc: Global,
+    writer: &mut W,
+    errors: &mut E,
+    error: &Error,
+) -> u8
+    ensures status { (result ≡ 0) ⊎ (result ≡ OUT_OF_MEMORY) ⊎ (result ≡ DEVICE_FAILED) }
+    ensures shown { result ≡ 0 → WritesSome (W.contents writer.old) (W.contents writer.new) }
+    ensures silent { result ≡ 0 → errors.new ≡ errors.old }
+    ensures out { result ≡ OUT_OF_MEMORY → writer.new ≡ writer.old }
+    ensures says { Says result (E.contents errors.old) (E.contents errors.new) (E.failures errors.old) (E.failures errors.new) }
+    ensures failed { result ≡ DEVICE_FAILED → W.failures writer.new ≡ W.failures writer.old + 1 }
+    ensures worked { result ≢ DEVICE_FAILED → W.failures writer.new ≡ W.failures writer.old }
+{
+    match help_of(alloc, error) {
+        Ok(text) => show(writer, errors, text.as_bytes()),
+        Err(_) => tell(errors, RunFault::Memory),
+    }
 }
 
 // What a command line that isn't taken gets: help, the version, or a refusal.
@@ -56,28 +97,21 @@ fn answer_error<W: CountedWrite, E: CountedWrite>(
     ensures status { (result ≡ 0) ⊎ (result ≡ COMMAND_LINE_REFUSED) ⊎ (result ≡ OUT_OF_MEMORY) ⊎ (result ≡ DEVICE_FAILED) }
     ensures memory { kind_of error.now ≡ kinds.OutOfMemory → result ≡ OUT_OF_MEMORY }
     ensures help { kind_of error.now ≡ kinds.DisplayHelp → result ≢ COMMAND_LINE_REFUSED }
+    ensures helped { kind_of error.now ≡ kinds.DisplayHelp → result ≡ 0 → WritesSome (W.contents writer.old) (W.contents writer.new) }
     ensures version { kind_of error.now ≡ kinds.DisplayVersion → result ≢ COMMAND_LINE_REFUSED }
+    ensures versioned { kind_of error.now ≡ kinds.DisplayVersion → result ≡ 0
+        → Appends (W.contents writer.old) (W.contents writer.new) version_line }
     ensures refuses { kind_of error.now ≢ kinds.DisplayHelp → kind_of error.now ≢ kinds.DisplayVersion → (result ≡ COMMAND_LINE_REFUSED) ⊎ (result ≡ OUT_OF_MEMORY) }
     ensures silent { result ≡ 0 → errors.new ≡ errors.old }
     ensures refused { result ≡ COMMAND_LINE_REFUSED → writer.new ≡ writer.old }
     ensures out { result ≡ OUT_OF_MEMORY → writer.new ≡ writer.old }
-    ensures tells_refusal { result ≡ COMMAND_LINE_REFUSED
-        → Tells (E.contents errors.old) (E.contents errors.new) (E.failures errors.old) (E.failures errors.new) (codes "command line refused\n") }
-    ensures tells_memory { result ≡ OUT_OF_MEMORY
-        → Tells (E.contents errors.old) (E.contents errors.new) (E.failures errors.old) (E.failures errors.new) (codes "out of memory\n") }
-    ensures tells_failure { result ≡ DEVICE_FAILED
-        → Tells (E.contents errors.old) (E.contents errors.new) (E.failures errors.old) (E.failures errors.new) (codes "read or write failed\n") }
+    ensures says { Says result (E.contents errors.old) (E.contents errors.new) (E.failures errors.old) (E.failures errors.new) }
     ensures failed { result ≡ DEVICE_FAILED → W.failures writer.new ≡ W.failures writer.old + 1 }
     ensures worked { result ≢ DEVICE_FAILED → W.failures writer.new ≡ W.failures writer.old }
 {
     match error.kind() {
-        ErrorKind::DisplayHelp | ErrorKind::DisplayVersion => match error.to_string(alloc) {
-            Ok(text) => match write_all(writer, text.as_bytes()) {
-                Ok(()) => 0,
-                Err(_) => tell(errors, RunFault::Write),
-            },
-            Err(_) => tell(errors, RunFault::Memory),
-        },
+        ErrorKind::DisplayHelp => show_help(alloc, writer, errors, error),
+        ErrorKind::DisplayVersion => show(writer, errors, VERSION_LINE.as_bytes()),
         ErrorKind::OutOfMemory => tell(errors, RunFault::Memory),
         _ => refuse(errors),
     }
@@ -111,7 +145,7 @@ fn do_asked<T: Threads + Wait + Sync, R: CountedRead, W: CountedWrite, P: Progre
             Ok(()) => Ok(0),
             Err(fault) => Err(fault),
         },
-        Asked::Explain => match explain(writer, request.code, request.fault) {
+        Asked::Explain(topic) => match explain(writer, topic) {
             Ok(()) => Ok(0),
             Err(fault) => Err(fault),
         },
@@ -152,16 +186,8 @@ fn run_asked<
         (Tells (E.contents errors.old) (E.contents errors.new) (E.failures errors.old) (E.failures errors.new)) result }
     ensures status { (result ≤ 9) × (result ≢ COMMAND_LINE_REFUSED) }
     ensures silent { result ≤ 3 → errors.new ≡ errors.old }
-    ensures tells_memory { result ≡ OUT_OF_MEMORY
-        → Tells (E.contents errors.old) (E.contents errors.new) (E.failures errors.old) (E.failures errors.new) (codes "out of memory\n") }
-    ensures tells_failure { result ≡ DEVICE_FAILED
-        → Tells (E.contents errors.old) (E.contents errors.new) (E.failures errors.old) (E.failures errors.new) (codes "read or write failed\n") }
-    ensures tells_internal { result ≡ INTERNAL
-        → Tells (E.contents errors.old) (E.contents errors.new) (E.failures errors.old) (E.failures errors.new) (codes "internal\n") }
-    ensures failed { result ≡ DEVICE_FAILED
-        → R.failures reader.new + W.failures writer.new ≡ R.failures reader.old + W.failures writer.old + 1 }
-    ensures worked { result ≢ DEVICE_FAILED
-        → (R.failures reader.new ≡ R.failures reader.old) × (W.failures writer.new ≡ W.failures writer.old) }
+    ensures says { Says result (E.contents errors.old) (E.contents errors.new) (E.failures errors.old) (E.failures errors.new) }
+    ensures failures { CountsFailures result (R.failures reader.old) (R.failures reader.new) (W.failures writer.old) (W.failures writer.new) }
 {
     match do_asked(rt, alloc, request, shape, reader, writer, progress) {
         Ok(status) => status,
@@ -209,18 +235,8 @@ fn run_request<
     ensures status { result ≤ 9 }
     ensures silent { result ≤ 3 → errors.new ≡ errors.old }
     ensures command_line_refused { result ≡ COMMAND_LINE_REFUSED → (reader.new ≡ reader.old) × (writer.new ≡ writer.old) }
-    ensures tells_refused_command_line { result ≡ COMMAND_LINE_REFUSED
-        → Tells (E.contents errors.old) (E.contents errors.new) (E.failures errors.old) (E.failures errors.new) (codes "command line refused\n") }
-    ensures tells_memory { result ≡ OUT_OF_MEMORY
-        → Tells (E.contents errors.old) (E.contents errors.new) (E.failures errors.old) (E.failures errors.new) (codes "out of memory\n") }
-    ensures tells_failure { result ≡ DEVICE_FAILED
-        → Tells (E.contents errors.old) (E.contents errors.new) (E.failures errors.old) (E.failures errors.new) (codes "read or write failed\n") }
-    ensures tells_internal { result ≡ INTERNAL
-        → Tells (E.contents errors.old) (E.contents errors.new) (E.failures errors.old) (E.failures errors.new) (codes "internal\n") }
-    ensures failed { result ≡ DEVICE_FAILED
-        → R.failures reader.new + W.failures writer.new ≡ R.failures reader.old + W.failures writer.old + 1 }
-    ensures worked { result ≢ DEVICE_FAILED
-        → (R.failures reader.new ≡ R.failures reader.old) × (W.failures writer.new ≡ W.failures writer.old) }
+    ensures says { Says result (E.contents errors.old) (E.contents errors.new) (E.failures errors.old) (E.failures errors.new) }
+    ensures failures { CountsFailures result (R.failures reader.old) (R.failures reader.new) (W.failures writer.old) (W.failures writer.new) }
 {
     match shape_of(alloc, request.tree) {
         Ok(Some(shape)) => run_asked(rt, alloc, request, shape, reader, writer, errors, progress),
@@ -261,6 +277,10 @@ pub fn run_telling<
         → (reader.new ≡ reader.old) × ((result ≡ 0) ⊎ (result ≡ OUT_OF_MEMORY) ⊎ (result ≡ DEVICE_FAILED)) }
     ensures tells_version { refused_by (map S.text words.entry.now) ≡ kinds.DisplayVersion ∷ []
         → (reader.new ≡ reader.old) × ((result ≡ 0) ⊎ (result ≡ OUT_OF_MEMORY) ⊎ (result ≡ DEVICE_FAILED)) }
+    ensures helped { refused_by (map S.text words.entry.now) ≡ kinds.DisplayHelp ∷ [] → result ≡ 0
+        → WritesSome (W.contents writer.old) (W.contents writer.new) }
+    ensures versioned { refused_by (map S.text words.entry.now) ≡ kinds.DisplayVersion ∷ [] → result ≡ 0
+        → Appends (W.contents writer.old) (W.contents writer.new) version_line }
     ensures refuses { are_refused (refused_by (map S.text words.entry.now)) ≡ true
         → (result ≡ COMMAND_LINE_REFUSED) ⊎ (result ≡ OUT_OF_MEMORY) }
     ensures untouched { refused_by (map S.text words.entry.now) ≢ [] → reader.new ≡ reader.old }
@@ -268,18 +288,8 @@ pub fn run_telling<
     ensures status { result ≤ 9 }
     ensures silent { result ≤ 3 → errors.new ≡ errors.old }
     ensures command_line_refused { result ≡ COMMAND_LINE_REFUSED → (reader.new ≡ reader.old) × (writer.new ≡ writer.old) }
-    ensures tells_refused_command_line { result ≡ COMMAND_LINE_REFUSED
-        → Tells (E.contents errors.old) (E.contents errors.new) (E.failures errors.old) (E.failures errors.new) (codes "command line refused\n") }
-    ensures tells_memory { result ≡ OUT_OF_MEMORY
-        → Tells (E.contents errors.old) (E.contents errors.new) (E.failures errors.old) (E.failures errors.new) (codes "out of memory\n") }
-    ensures tells_failure { result ≡ DEVICE_FAILED
-        → Tells (E.contents errors.old) (E.contents errors.new) (E.failures errors.old) (E.failures errors.new) (codes "read or write failed\n") }
-    ensures tells_internal { result ≡ INTERNAL
-        → Tells (E.contents errors.old) (E.contents errors.new) (E.failures errors.old) (E.failures errors.new) (codes "internal\n") }
-    ensures failed { result ≡ DEVICE_FAILED
-        → R.failures reader.new + W.failures writer.new ≡ R.failures reader.old + W.failures writer.old + 1 }
-    ensures worked { result ≢ DEVICE_FAILED
-        → (R.failures reader.new ≡ R.failures reader.old) × (W.failures writer.new ≡ W.failures writer.old) }
+    ensures says { Says result (E.contents errors.old) (E.contents errors.new) (E.failures errors.old) (E.failures errors.new) }
+    ensures failures { CountsFailures result (R.failures reader.old) (R.failures reader.new) (W.failures writer.old) (W.failures writer.new) }
 {
     match parse(alloc, words) {
         Ok(request) => run_request(rt, alloc, request, reader, writer, errors, progress),
@@ -309,6 +319,10 @@ pub fn run<
         → (reader.new ≡ reader.old) × ((result ≡ 0) ⊎ (result ≡ OUT_OF_MEMORY) ⊎ (result ≡ DEVICE_FAILED)) }
     ensures tells_version { refused_by (map S.text words.entry.now) ≡ kinds.DisplayVersion ∷ []
         → (reader.new ≡ reader.old) × ((result ≡ 0) ⊎ (result ≡ OUT_OF_MEMORY) ⊎ (result ≡ DEVICE_FAILED)) }
+    ensures helped { refused_by (map S.text words.entry.now) ≡ kinds.DisplayHelp ∷ [] → result ≡ 0
+        → WritesSome (W.contents writer.old) (W.contents writer.new) }
+    ensures versioned { refused_by (map S.text words.entry.now) ≡ kinds.DisplayVersion ∷ [] → result ≡ 0
+        → Appends (W.contents writer.old) (W.contents writer.new) version_line }
     ensures refuses { are_refused (refused_by (map S.text words.entry.now)) ≡ true
         → (result ≡ COMMAND_LINE_REFUSED) ⊎ (result ≡ OUT_OF_MEMORY) }
     ensures untouched { refused_by (map S.text words.entry.now) ≢ [] → reader.new ≡ reader.old }
@@ -316,18 +330,8 @@ pub fn run<
     ensures status { result ≤ 9 }
     ensures silent { result ≤ 3 → errors.new ≡ errors.old }
     ensures command_line_refused { result ≡ COMMAND_LINE_REFUSED → (reader.new ≡ reader.old) × (writer.new ≡ writer.old) }
-    ensures tells_refused_command_line { result ≡ COMMAND_LINE_REFUSED
-        → Tells (E.contents errors.old) (E.contents errors.new) (E.failures errors.old) (E.failures errors.new) (codes "command line refused\n") }
-    ensures tells_memory { result ≡ OUT_OF_MEMORY
-        → Tells (E.contents errors.old) (E.contents errors.new) (E.failures errors.old) (E.failures errors.new) (codes "out of memory\n") }
-    ensures tells_failure { result ≡ DEVICE_FAILED
-        → Tells (E.contents errors.old) (E.contents errors.new) (E.failures errors.old) (E.failures errors.new) (codes "read or write failed\n") }
-    ensures tells_internal { result ≡ INTERNAL
-        → Tells (E.contents errors.old) (E.contents errors.new) (E.failures errors.old) (E.failures errors.new) (codes "internal\n") }
-    ensures failed { result ≡ DEVICE_FAILED
-        → R.failures reader.new + W.failures writer.new ≡ R.failures reader.old + W.failures writer.old + 1 }
-    ensures worked { result ≢ DEVICE_FAILED
-        → (R.failures reader.new ≡ R.failures reader.old) × (W.failures writer.new ≡ W.failures writer.old) }
+    ensures says { Says result (E.contents errors.old) (E.contents errors.new) (E.failures errors.old) (E.failures errors.new) }
+    ensures failures { CountsFailures result (R.failures reader.old) (R.failures reader.new) (W.failures writer.old) (W.failures writer.new) }
 {
     run_telling(rt, alloc, words, reader, writer, errors, &NoProgress)
 }

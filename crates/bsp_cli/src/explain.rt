@@ -1,6 +1,10 @@
 //! What codes of refusals and numbers of faults mean, as `bsp explain` tells it.
-ghost use Rattle.bsp_cli.specs.Ends.{Explains, WriteCause};
+ghost use Rattle.std.specs.Prelude.{◌≡◌, ◌≤◌, true};
+ghost use Rattle.bsp_cli.specs.Ends.{Explains, IsTopic, WriteCause};
+ghost use Rattle.bsp_cli.specs.Topics.{goes_on, heading};
+ghost use Rattle.bsp_cli.specs.declared.asked.Topic.TheVariants.{Code, Fault};
 
+use crate::asked::Topic;
 use crate::fault::RunFault;
 use phase_records::{CountedWrite, write_all};
 
@@ -32,17 +36,16 @@ Faults of a task, by bsp explain --fault CODE:
   8   a cell's sum doesn't fit 64 bits as its values are added
 ";
 
-// What a code of a refusal means, a text that gets it, and how to mend it.
-const CODES: [&str; 14] = [
-    "code 1 TooLong: over 1048576 bytes
+const TOO_LONG: &str = "code 1 TooLong: over 1048576 bytes
 
 The text is longer than the 1048576 bytes that a text may have. The line is
 always 1, and nothing else is looked at.
 
 Start fewer tasks with larger parts of the work, or leave out array values
 that are 0.
-",
-    "code 2 BadByte: a byte that isn't allowed
+";
+
+const BAD_BYTE: &str = "code 2 BadByte: a byte that isn't allowed
 
 The line has a byte that is neither a line end nor one from space to ~: a tab,
 a carriage return or a letter with an accent, also in a comment.
@@ -55,8 +58,9 @@ A text that gets it:
     end
 
 Write spaces in place of tabs, and line ends as a line feed alone.
-",
-    "code 3 BadHeader: the first line is neither bsp 1 nor bsp 2
+";
+
+const BAD_HEADER: &str = "code 3 BadHeader: the first line is neither bsp 1 nor bsp 2
 
 The first line that is neither empty nor a comment has to be the format.
 
@@ -65,8 +69,9 @@ A text that gets it:
     array a 4
 
 Put the line bsp 1 or bsp 2 on top.
-",
-    "code 4 UnknownLine: a line whose first word isn't allowed there
+";
+
+const UNKNOWN_LINE: &str = "code 4 UnknownLine: a line whose first word isn't allowed there
 
 Outside of bodies stand array, body and start, inside of them the statements.
 The line add is known in format 2 only.
@@ -78,8 +83,9 @@ A text that gets it:
 
 Move the line into a body, or behind its end; for add begin the text with bsp
 2.
-",
-    "code 5 BadName: not a name
+";
+
+const BAD_NAME: &str = "code 5 BadName: not a name
 
 A name is a lower-case letter and up to 15 lower-case letters, digits or _.
 The word that stands where one is meant is none.
@@ -91,8 +97,9 @@ A text that gets it:
 
 Write the name in lower case and in 16 signs at most, and begin it with a
 letter.
-",
-    "code 6 BadNumber: not a number, or one out of its range
+";
+
+const BAD_NUMBER: &str = "code 6 BadNumber: not a number, or one out of its range
 
 A number is whole, of 64 signed bits, without a plus in front and without a 0
 before other digits.
@@ -105,8 +112,9 @@ A text that gets it:
     end
 
 Write 5 for 05 and for +5, and numbers below 9223372036854775808.
-",
-    "code 7 BadLine: words too few, too many or misplaced
+";
+
+const BAD_LINE: &str = "code 7 BadLine: words too few, too many or misplaced
 
 The line begins well, but its other words don't fit: an expression with two
 operators, a comment behind a statement, a cell without its brackets.
@@ -120,8 +128,9 @@ A text that gets it:
 
 Use another let for a part of the expression, and a line of its own for a
 comment.
-",
-    "code 8 Twice: an array or a body declared twice, or a local listed twice
+";
+
+const TWICE: &str = "code 8 Twice: an array or a body declared twice, or a local listed twice
 
 Two arrays, or two bodies, have one name, or the first line of a body lists a
 local twice.
@@ -133,7 +142,9 @@ A text that gets it:
     array a 2
 
 Give one of them another name. An array and a body may share one.
-",
+";
+
+const UNKNOWN_NAME: &str =
     "code 9 UnknownName: no such array above, no such body, or in bsp 2 no such local
 
 The line names an array that isn't declared above it, a body that stands
@@ -146,8 +157,9 @@ A text that gets it:
 
 Mend the spelling, move the array line up, or list the local behind the body's
 name.
-",
-    "code 10 Unclosed: the text ends in a body
+";
+
+const UNCLOSED: &str = "code 10 Unclosed: the text ends in a body
 
 The last body has no end of its own: each if, while and body wants one.
 
@@ -160,8 +172,9 @@ A text that gets it:
     end
 
 Count the lines end from the body's line on, and add the one that is missing.
-",
-    "code 11 BadNesting: an else that fits no if
+";
+
+const BAD_NESTING: &str = "code 11 BadNesting: an else that fits no if
 
 An else stands where the innermost open line isn't an if, or where that if has
 one already.
@@ -174,8 +187,9 @@ A text that gets it:
     end
 
 Take the else away, or put an if before it.
-",
-    "code 12 TooMany: past a limit of the language
+";
+
+const TOO_MANY: &str = "code 12 TooMany: past a limit of the language
 
 At most 16 arrays, 64 bodies, 4096 starts, 1024 statements and 32 locals a
 body, and 16 lines if and while open at once. The line is the first that goes
@@ -189,7 +203,9 @@ A text that gets it:
 
 Split the body, keep values in an array, or start fewer tasks with more work
 each.
-",
+";
+
+const BAD_LENGTH: &str =
     "code 13 BadLength: a length outside 1 to 4096, or more values than the length
 
 An array has 1 to 4096 cells, and its line at most as many values.
@@ -200,8 +216,9 @@ A text that gets it:
     array a 2 1 2 3
 
 Make the array longer, or split it in two.
-",
-    "code 14 Reserved: a reserved word as a name
+";
+
+const RESERVED: &str = "code 14 Reserved: a reserved word as a name
 
 The words of the language can't name an array, a body or a local.
 
@@ -214,12 +231,33 @@ A text that gets it:
 
 Take another name. In expressions arg and step stand for the task's argument
 and the superstep.
-",
-];
+";
 
-// What a fault means, a text that gets it, and how to mend it.
-const FAULTS: [&str; 8] = [
-    "fault 1: a result doesn't fit 64 bits
+// What a code of a refusal means, a text that gets it, and how to mend it.
+fn code_text(number: u32) -> &'static str
+    requires { (1 ≤ number) × (number ≤ 14) }
+    ensures { goes_on (heading (Code number)) result.now ≡ true }
+{
+    match number {
+        1 => TOO_LONG,
+        2 => BAD_BYTE,
+        3 => BAD_HEADER,
+        4 => UNKNOWN_LINE,
+        5 => BAD_NAME,
+        6 => BAD_NUMBER,
+        7 => BAD_LINE,
+        8 => TWICE,
+        9 => UNKNOWN_NAME,
+        10 => UNCLOSED,
+        11 => BAD_NESTING,
+        12 => TOO_MANY,
+        13 => BAD_LENGTH,
+        14 => RESERVED,
+        _ => unreachable!(),
+    }
+}
+
+const OVERFLOW: &str = "fault 1: a result doesn't fit 64 bits
 
 A sum, a difference, a product or a quotient is below -9223372036854775808 or
 above 9223372036854775807.
@@ -233,8 +271,9 @@ A text that gets it:
     start b 0
 
 Take remainders on the way, or keep a large number as two.
-",
-    "fault 2: a division by 0
+";
+
+const DIVIDE_BY_ZERO: &str = "fault 2: a division by 0
 
 The right side of / or % is 0.
 
@@ -247,8 +286,9 @@ A text that gets it:
     start b 0
 
 Test the right side with if before the division.
-",
-    "fault 3: an index outside its array
+";
+
+const INDEX: &str = "fault 3: an index outside its array
 
 A cell is read, put or added to whose index is negative, or not below the
 array's length.
@@ -263,8 +303,9 @@ A text that gets it:
     start b 4
 
 Cells are numbered from 0: the last of 4 is a[3]. Test the index with if.
-",
-    "fault 4: statement number 100001 of a task in one superstep
+";
+
+const BUDGET: &str = "fault 4: statement number 100001 of a task in one superstep
 
 A task does at most 100000 statements between two syncs. Mostly a while never
 ends.
@@ -279,8 +320,9 @@ A text that gets it:
     start b 0
 
 Put a sync into the loop, or share the work among more tasks or supersteps.
-",
-    "fault 5: a spawn by a task whose path has 8 numbers
+";
+
+const DEPTH: &str = "fault 5: a spawn by a task whose path has 8 numbers
 
 A task that was spawned by one that was spawned, and so on, eight deep, can't
 spawn.
@@ -295,8 +337,9 @@ A text that gets it:
 
 Start the tasks by lines of their own, and let them wait until they have
 something to do.
-",
-    "fault 6: the ninth spawn of a task in one superstep, or its 65536th in all
+";
+
+const SPAWNS: &str = "fault 6: the ninth spawn of a task in one superstep, or its 65536th in all
 
 A task spawns at most 8 tasks between two syncs, and 65535 in its life.
 
@@ -315,15 +358,17 @@ A text that gets it:
     start b 0
 
 Put a sync between the spawns, or let the spawned tasks spawn.
-",
-    "fault 7: over 4096 tasks would live on
+";
+
+const MANY_TASKS: &str = "fault 7: over 4096 tasks would live on
 
 At the end of a superstep more than 4096 tasks would go on. No task is to
 blame, and the report shows none.
 
 Let tasks stop before others are spawned, or give each more of the work.
-",
-    "fault 8: a cell's sum doesn't fit 64 bits as its values are added
+";
+
+const SUM: &str = "fault 8: a cell's sum doesn't fit 64 bits as its values are added
 
 What tasks add to one cell in a superstep, in the order of their paths, leaves
 the numbers of 64 bits.
@@ -338,39 +383,45 @@ A text that gets it:
     start b 0
 
 Add to several cells, or add less: the sum is looked at after each value.
-",
-];
+";
 
-// The text of a number, from 1.
-fn numbered(texts: &[&'static str], number: u32) -> &'static str {
-    let Ok(place) = usize::try_from(number.saturating_sub(1)) else {
-        return TOPICS;
-    };
-    match texts.get(place) {
-        Some(text) => *text,
-        None => TOPICS,
+// What a fault means, a text that gets it, and how to mend it.
+fn fault_text(number: u32) -> &'static str
+    requires { (1 ≤ number) × (number ≤ 8) }
+    ensures { goes_on (heading (Fault number)) result.now ≡ true }
+{
+    match number {
+        1 => OVERFLOW,
+        2 => DIVIDE_BY_ZERO,
+        3 => INDEX,
+        4 => BUDGET,
+        5 => DEPTH,
+        6 => SPAWNS,
+        7 => MANY_TASKS,
+        8 => SUM,
+        _ => unreachable!(),
     }
 }
 
-// The text that is asked for; a code goes before a fault.
-fn topic(code: Option<u32>, fault: Option<u32>) -> &'static str {
-    match (code, fault) {
-        (Some(code), _) => numbered(&CODES, code),
-        (None, Some(fault)) => numbered(&FAULTS, fault),
-        (None, None) => TOPICS,
+// The text on a topic.
+fn text_on(topic: Topic) -> &'static str
+    requires { IsTopic topic }
+    ensures { goes_on (heading topic) result.now ≡ true }
+{
+    match topic {
+        Topic::All => TOPICS,
+        Topic::Code(number) => code_text(number),
+        Topic::Fault(number) => fault_text(number),
     }
 }
 
 /// Tells what a code or a fault means, or which there are. Nothing is read.
-pub(crate) fn explain<W: CountedWrite>(
-    writer: &mut W,
-    code: Option<u32>,
-    fault: Option<u32>,
-) -> Result<(), RunFault>
-    ensures explains { Explains result }
+pub(crate) fn explain<W: CountedWrite>(writer: &mut W, topic: Topic) -> Result<(), RunFault>
+    requires topic { IsTopic topic }
+    ensures explains { Explains topic (W.contents writer.old) (W.contents writer.new) result }
     ensures write_failures { WriteCause (W.failures writer.old) (W.failures writer.new) result }
 {
-    match write_all(writer, topic(code, fault).as_bytes()) {
+    match write_all(writer, text_on(topic).as_bytes()) {
         Ok(()) => Ok(()),
         Err(_) => Err(RunFault::Write),
     }

@@ -2,9 +2,11 @@
 ghost use Rattle.std.specs.Prelude.{◌≡◌, ◌++◌, OnOk};
 ghost use Rattle.std.specs.Io.KnownBytes.{Appends};
 ghost use Rattle.phase_records.specs.Device.{CountsFailure};
-ghost use Rattle.bsp_cli.specs.Texts.{refusal_line, worker_line, fault_text, fault_status, Tells};
+ghost use Rattle.bsp_cli.specs.Texts.{refusal_line, worker_line, fault_text, fault_status, Tells, Says};
 
-use crate::status::{DEVICE_FAILED, INTERNAL, NOT_STARTED, OUT_OF_MEMORY, TEXT_REFUSED};
+use crate::status::{
+    COMMAND_LINE_REFUSED, DEVICE_FAILED, INTERNAL, NOT_STARTED, OUT_OF_MEMORY, TEXT_REFUSED,
+};
 use itoa::{Buffer, Integer};
 use phase_records::{CountedWrite, DeviceFailed, write_all};
 use text_lines::Refusal;
@@ -65,8 +67,18 @@ fn write_worker<E: CountedWrite>(errors: &mut E, k: u32) -> Result<(), DeviceFai
     write_all(errors, b" not started\n")
 }
 
-/// Tells why a command did not end, and answers the status. A writer of errors that fails changes nothing else.
-pub(crate) fn tell<E: CountedWrite>(errors: &mut E, fault: RunFault) -> u8
+/// Tells that the command line is refused, and answers the status.
+#[tactic(auto, using(crate::proofs::Saying::refused_says))]
+pub(crate) fn refuse<E: CountedWrite>(errors: &mut E) -> u8
+    ensures status { result ≡ COMMAND_LINE_REFUSED }
+    ensures says { Says result (E.contents errors.old) (E.contents errors.new) (E.failures errors.old) (E.failures errors.new) }
+{
+    let _ = write_all(errors, b"command line refused\n");
+    COMMAND_LINE_REFUSED
+}
+
+// Writes the line of a fault, and answers its status.
+fn write_line<E: CountedWrite>(errors: &mut E, fault: RunFault) -> u8
     ensures status { result ≡ fault_status fault }
     ensures tells { Tells (E.contents errors.old) (E.contents errors.new) (E.failures errors.old) (E.failures errors.new) (fault_text fault) }
 {
@@ -92,4 +104,14 @@ pub(crate) fn tell<E: CountedWrite>(errors: &mut E, fault: RunFault) -> u8
             INTERNAL
         }
     }
+}
+
+/// Tells why a command did not end, and answers the status. A writer of errors that fails changes nothing else.
+#[tactic(auto, using(crate::proofs::Saying::fault_says))]
+pub(crate) fn tell<E: CountedWrite>(errors: &mut E, fault: RunFault) -> u8
+    ensures status { result ≡ fault_status fault }
+    ensures tells { Tells (E.contents errors.old) (E.contents errors.new) (E.failures errors.old) (E.failures errors.new) (fault_text fault) }
+    ensures says { Says result (E.contents errors.old) (E.contents errors.new) (E.failures errors.old) (E.failures errors.new) }
+{
+    write_line(errors, fault)
 }

@@ -10,7 +10,7 @@ ghost use Rattle.worker_pool.specs.Refusals.{IsOfWorkers};
 ghost use Rattle.bsp_cli.specs.Ends.{TakesJob, Checks, Upgrades, IsOfPool, Reports, Runs, ReadCause, WriteCause, end_result};
 
 use crate::fault::RunFault;
-use crate::progress::{NoProgress, Progress};
+use crate::progress::{NoProgress, Progress, WatchEnd};
 use crate::status::{LIMIT_REACHED, TASK_FAULT};
 use advance_rule::{EndPlan, StoredAdvance};
 use job_picture::picture_of;
@@ -22,7 +22,7 @@ use phase_records::{
 use std::alloc::{AllocError, Global};
 use std::sync::Wait;
 use std::thread::Threads;
-use step_core::run_alone;
+use step_core::{run_alone, run_watched};
 use task_lang::job::Job;
 use tier_shape::Shape;
 use worker_pool::{AllStart, Gate, OpenGate, Refused, run_job};
@@ -135,8 +135,26 @@ fn share<T: Threads + Wait + Sync, G: Gate + Sync>(
     run_job(rt, alloc, job, shape, workers, advance, gate, &AllStart)
 }
 
-// What a job leaves within this limit of supersteps. One worker alone has nobody to share with, but where progress is
-// asked for.
+// What a job leaves within this limit on one thread, where progress is asked for or not.
+fn leave_alone<P: Progress>(
+    alloc: Global,
+    job: &Job,
+    limit: u32,
+    progress: Option<&P>,
+) -> Result<Report, AllocError>
+    requires limit { 1 ≤ limit }
+    ensures report { IfOk result (λ report. report_of (program_of job.now) limit ≡ Some report) }
+{
+    let Some(progress) = progress else {
+        return run_alone(alloc, job, limit);
+    };
+    let mut watch = progress.alone();
+    let left = run_watched(alloc, job, limit, &mut watch);
+    watch.end();
+    left
+}
+
+// What a job leaves within this limit of supersteps. One worker has nobody to share with.
 fn leave<T: Threads + Wait + Sync, P: Progress + Sync>(
     rt: &T,
     alloc: Global,
@@ -151,18 +169,18 @@ fn leave<T: Threads + Wait + Sync, P: Progress + Sync>(
     ensures report { IfOk result (λ report. report_of (program_of job.now) limit ≡ Some report) }
     ensures started { IfErr result (IsOfWorkers workers) }
 {
-    if let Some(progress) = progress {
-        let left = share(rt, alloc, job, shape, workers, limit, progress);
-        progress.end(rt);
-        return left;
-    }
     if workers == 1 {
-        return match run_alone(alloc, job, limit) {
+        return match leave_alone(alloc, job, limit, progress) {
             Ok(report) => Ok(report),
             Err(_) => Err(Refused::Memory),
         };
     }
-    share(rt, alloc, job, shape, workers, limit, &OpenGate)
+    let Some(progress) = progress else {
+        return share(rt, alloc, job, shape, workers, limit, &OpenGate);
+    };
+    let left = share(rt, alloc, job, shape, workers, limit, progress);
+    progress.end(rt);
+    left
 }
 
 // Why a run of a job on so many workers didn't end.
@@ -222,6 +240,26 @@ fn draw_end<W: CountedWrite>(
 /// Reads a job to the reader's end, runs it within this limit of supersteps on so many workers, which meet at a tree of
 /// this shape, and writes its report (own). What is written depends on what was read and on the limit alone, and not on
 /// whether `progress` is told of each segment.
+///
+/// ```
+/// let text = b"bsp 1\narray a 1\nbody b\nput a[0] = 7\nend\nstart b 0\n";
+/// let mut printed = Vec::new(rt.alloc());
+/// let shape = Shape::from_widths(rt.alloc(), "2").expect(&rt, "a shape");
+/// // Four workers, at most 1000 supersteps, and no progress is told.
+/// let (mut reader, mut writer) = (Reader::new(text.as_slice()), Writer::new(&mut printed));
+/// let status = run_bytes(
+///     &rt,
+///     rt.alloc(),
+///     &mut reader,
+///     &mut writer,
+///     shape,
+///     4,
+///     1000,
+///     None::<&NoProgress>,
+/// );
+/// assert!(rt; matches!(status, Ok(JobStatus::Ended(1))));
+/// assert!(rt; printed.as_slice() == b"phase 0 parties 1 left 1 spawned 0\narray a 7\nended 1\n");
+/// ```
 pub fn run_bytes<T: Threads + Wait + Sync, R: CountedRead, W: CountedWrite, P: Progress + Sync>(
     rt: &T,
     alloc: Global,

@@ -12,13 +12,13 @@ mod program;
 mod progress;
 mod trace;
 
-pub use asked::Asked;
+pub use asked::{Asked, Topic};
 pub use command_line::{run, run_telling};
 pub use fault::RunFault;
 pub use job::{draw_bytes, run_bytes};
 pub use laws::{words_are_refused, words_ask, words_help, words_tell_the_version};
 pub use program::run_program;
-pub use progress::{NoProgress, Progress};
+pub use progress::{NoProgress, Progress, WatchEnd};
 
 /// Statuses that the program ends with (own); 0 is for what was done.
 pub mod status {

@@ -1,11 +1,12 @@
 //! The program, from the words that the system hands over to its status.
-ghost use Rattle.std.specs.Prelude.{◌≡◌, ◌≢◌, ◌≤◌, ◌⊎◌, codes};
-ghost use Rattle.bsp_cli.specs.Texts.{Tells};
+ghost use Rattle.std.specs.Prelude.{◌≡◌, ◌≤◌, ◌⊎◌};
+ghost use Rattle.bsp_cli.specs.Texts.{Says};
 
 use crate::command_line::run_telling;
+use crate::fault::{RunFault, refuse, tell};
 use crate::progress::Teller;
-use crate::status::{COMMAND_LINE_REFUSED, DEVICE_FAILED, INTERNAL, OUT_OF_MEMORY};
-use phase_records::{CountedWrite, Reader, write_all};
+use crate::status::{COMMAND_LINE_REFUSED, OUT_OF_MEMORY};
+use phase_records::{CountedWrite, Reader};
 use std::io::Input;
 use std::rt::Clock;
 use std::sync::Wait;
@@ -15,17 +16,12 @@ use std::{env, io};
 // Ends before the words of the command line could be looked at.
 fn stopped<E: CountedWrite>(errors: &mut E, kind: io::ErrorKind) -> u8
     ensures status { (result ≡ COMMAND_LINE_REFUSED) ⊎ (result ≡ OUT_OF_MEMORY) }
-    ensures tells_refused_command_line { result ≡ COMMAND_LINE_REFUSED
-        → Tells (E.contents errors.old) (E.contents errors.new) (E.failures errors.old) (E.failures errors.new) (codes "command line refused\n") }
-    ensures tells_memory { result ≡ OUT_OF_MEMORY
-        → Tells (E.contents errors.old) (E.contents errors.new) (E.failures errors.old) (E.failures errors.new) (codes "out of memory\n") }
+    ensures says { Says result (E.contents errors.old) (E.contents errors.new) (E.failures errors.old) (E.failures errors.new) }
 {
     if kind == io::ErrorKind::OutOfMemory {
-        let _ = write_all(errors, b"out of memory\n");
-        return OUT_OF_MEMORY;
+        return tell(errors, RunFault::Memory);
     }
-    let _ = write_all(errors, b"command line refused\n");
-    COMMAND_LINE_REFUSED
+    refuse(errors)
 }
 
 /// Does what the command line of this process asks for, as [`run_telling`] says: reads standard input, prints to `writer`, tells
@@ -38,14 +34,7 @@ pub fn run_program<
     ensures status { result ≤ 9 }
     ensures silent { result ≤ 3 → errors.new ≡ errors.old }
     ensures command_line_refused { result ≡ COMMAND_LINE_REFUSED → writer.new ≡ writer.old }
-    ensures tells_refused_command_line { result ≡ COMMAND_LINE_REFUSED
-        → Tells (E.contents errors.old) (E.contents errors.new) (E.failures errors.old) (E.failures errors.new) (codes "command line refused\n") }
-    ensures tells_memory { result ≡ OUT_OF_MEMORY
-        → Tells (E.contents errors.old) (E.contents errors.new) (E.failures errors.old) (E.failures errors.new) (codes "out of memory\n") }
-    ensures tells_failure { result ≡ DEVICE_FAILED
-        → Tells (E.contents errors.old) (E.contents errors.new) (E.failures errors.old) (E.failures errors.new) (codes "read or write failed\n") }
-    ensures tells_internal { result ≡ INTERNAL
-        → Tells (E.contents errors.old) (E.contents errors.new) (E.failures errors.old) (E.failures errors.new) (codes "internal\n") }
+    ensures says { Says result (E.contents errors.old) (E.contents errors.new) (E.failures errors.old) (E.failures errors.new) }
 {
     let words = match env::args(rt) {
         Ok(words) => words,

@@ -2,11 +2,25 @@
 use std::rt::Clock;
 use std::sync::{Mutex, Wait};
 use std::time::Instant;
+use step_core::{NoWatch, Watch};
 use superstep_memory::path::Path;
 use worker_pool::Gate;
 
-/// Is called round each segment of a job, where progress is asked for, and once when the job has left its report (own).
+/// Is told of each superstep of a job on one thread, and once when the job has left its report (own).
+pub trait WatchEnd: Watch {
+    /// Called when no more supersteps come.
+    fn end(self);
+}
+
+/// Where progress is asked for: is called round each segment of a job that workers share, and once when the job has left its
+/// report (own).
 pub trait Progress: Gate {
+    /// Who is told where a job runs on one thread.
+    type Alone: WatchEnd;
+
+    /// One who is told of the supersteps of a job on one thread.
+    fn alone(&self) -> Self::Alone;
+
     /// Called when no more segments come.
     fn end<R: Wait>(&self, rt: &R);
 }
@@ -21,11 +35,22 @@ impl Gate for NoProgress {
     fn leave<R: Wait>(&self, _rt: &R, _path: &Path, _step: u32) {}
 }
 
+impl WatchEnd for NoWatch {
+    fn end(self) {}
+}
+
 impl Progress for NoProgress {
+    type Alone = NoWatch;
+
+    fn alone(&self) -> NoWatch {
+        NoWatch
+    }
+
     fn end<R: Wait>(&self, _rt: &R) {}
 }
 
-// The superstep that workers are in, how many tasks have done it, and when it began and was last told of.
+// The superstep that the job is in, how many tasks are known to do it, when the job began, and the second that was last
+// told of.
 #[derive(Clone, Copy)]
 struct Seen {
     step: u32,
@@ -34,7 +59,82 @@ struct Seen {
     told: u64,
 }
 
-/// Tells on standard error, at the end of a superstep where a second has passed, `superstep S, T tasks, R s` (own).
+// Nothing yet.
+fn nothing_seen<T: Clock>(rt: &T) -> Seen {
+    Seen {
+        step: 0,
+        tasks: 0,
+        began: Instant::now(rt).ok(),
+        told: 0,
+    }
+}
+
+// How many seconds the job has run.
+fn seconds<T: Clock>(rt: &T, seen: Seen) -> u64 {
+    let Some(began) = seen.began else {
+        return 0;
+    };
+    match began.elapsed(rt) {
+        Ok(passed) => passed.as_secs(),
+        Err(_) => 0,
+    }
+}
+
+// Tells of the superstep that was seen.
+fn tell<T: Eprint>(rt: &T, seen: Seen, seconds: u64) {
+    let Seen { step, tasks, .. } = seen;
+    let _ = eprintln!(rt; "superstep {step}, {tasks} tasks, {seconds} s");
+}
+
+// What is seen where so many tasks more are known to do this superstep; tells of the one before it, where a second has passed.
+fn seen_after<T: Clock + Eprint>(rt: &T, seen: Seen, step: u32, tasks: u32) -> Seen {
+    if step == seen.step {
+        return Seen {
+            tasks: seen.tasks.saturating_add(tasks),
+            ..seen
+        };
+    }
+    let passed = seconds(rt, seen);
+    if passed > seen.told {
+        tell(rt, seen, passed);
+    }
+    Seen {
+        step,
+        tasks,
+        told: seen.told.max(passed),
+        ..seen
+    }
+}
+
+// Tells of the superstep that was seen last, if there was one.
+fn tell_last<T: Clock + Eprint>(rt: &T, seen: Seen) {
+    if seen.tasks > 0 {
+        tell(rt, seen, seconds(rt, seen));
+    }
+}
+
+/// Tells on standard error of a job on one thread, as a superstep begins and a second has passed, `superstep S, T tasks, R s` of
+/// the one before (own).
+#[derive(Drop)]
+pub(crate) struct AloneTeller<'a, T: Clock + Eprint> {
+    rt: &'a T,
+    seen: Seen,
+}
+
+impl<T: Clock + Eprint> Watch for AloneTeller<'_, T> {
+    fn superstep(&mut self, step: u32, tasks: usize) {
+        let tasks = u32::try_from(tasks).unwrap_or(u32::MAX);
+        self.seen = seen_after(self.rt, self.seen, step, tasks);
+    }
+}
+
+impl<T: Clock + Eprint> WatchEnd for AloneTeller<'_, T> {
+    fn end(self) {
+        tell_last(self.rt, self.seen);
+    }
+}
+
+/// Tells on standard error, as a superstep begins and a second has passed, `superstep S, T tasks, R s` of the one before (own).
 #[derive(Drop)]
 pub(crate) struct Teller<'a, T: Clock + Eprint> {
     rt: &'a T,
@@ -44,52 +144,9 @@ pub(crate) struct Teller<'a, T: Clock + Eprint> {
 impl<'a, T: Clock + Eprint> Teller<'a, T> {
     /// Has told nothing.
     pub(crate) fn new(rt: &'a T) -> Self {
-        let began = Instant::now(rt).ok();
         Teller {
             rt,
-            seen: Mutex::new(Seen {
-                step: 0,
-                tasks: 0,
-                began,
-                told: 0,
-            }),
-        }
-    }
-
-    // How many seconds the job has run.
-    fn seconds(&self, seen: Seen) -> u64 {
-        let Some(began) = seen.began else {
-            return 0;
-        };
-        match began.elapsed(self.rt) {
-            Ok(passed) => passed.as_secs(),
-            Err(_) => 0,
-        }
-    }
-
-    // Tells of the superstep that was seen.
-    fn tell(&self, seen: Seen, seconds: u64) {
-        let Seen { step, tasks, .. } = seen;
-        let _ = eprintln!(self.rt; "superstep {step}, {tasks} tasks, {seconds} s");
-    }
-
-    // What is seen behind a segment of this superstep; tells of the one before it, where a second has passed.
-    fn after(&self, seen: Seen, step: u32) -> Seen {
-        if step == seen.step {
-            return Seen {
-                tasks: seen.tasks.saturating_add(1),
-                ..seen
-            };
-        }
-        let seconds = self.seconds(seen);
-        if seconds > seen.told {
-            self.tell(seen, seconds);
-        }
-        Seen {
-            step,
-            tasks: 1,
-            told: seen.told.max(seconds),
-            ..seen
+            seen: Mutex::new(nothing_seen(rt)),
         }
     }
 }
@@ -99,15 +156,22 @@ impl<T: Clock + Eprint> Gate for Teller<'_, T> {
 
     fn leave<R: Wait>(&self, rt: &R, _path: &Path, step: u32) {
         let mut seen = self.seen.lock(rt);
-        *seen = self.after(*seen, step);
+        *seen = seen_after(self.rt, *seen, step, 1);
     }
 }
 
-impl<T: Clock + Eprint> Progress for Teller<'_, T> {
+impl<'a, T: Clock + Eprint> Progress for Teller<'a, T> {
+    type Alone = AloneTeller<'a, T>;
+
+    fn alone(&self) -> AloneTeller<'a, T> {
+        AloneTeller {
+            rt: self.rt,
+            seen: nothing_seen(self.rt),
+        }
+    }
+
     fn end<R: Wait>(&self, rt: &R) {
         let seen = *self.seen.lock(rt);
-        if seen.tasks > 0 {
-            self.tell(seen, self.seconds(seen));
-        }
+        tell_last(self.rt, seen);
     }
 }

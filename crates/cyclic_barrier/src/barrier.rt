@@ -16,6 +16,15 @@ use std::marker::Model;
 ///
 /// An arrival answers at once whether its caller waits; the call that ends a generation names, in one
 /// list, everyone who waited.
+///
+/// ```
+/// // The action never fails. Callers have numbers.
+/// let action = StoredAction::new(|_generation| false, None);
+/// let mut barrier = BarrierCore::new(rt.alloc(), 2, action).expect(&rt, "two parties");
+/// assert!(rt; matches!(barrier.await_step(7), Ok(Awaited::Waits(1))));
+/// assert!(rt; matches!(barrier.await_step(9), Ok(Awaited::Tripped(_))));
+/// assert!(rt; barrier.generation() == 1);
+/// ```
 #[derive(Drop)]
 pub struct BarrierCore<F: Fn(u64) -> bool> {
     action: StoredAction<F>,

@@ -57,6 +57,13 @@ fn turn_after(end: Outcome, index: u32, parties: u32) -> Result<u32, GateFault>
 /// The barrier lies under one lock, beside the history of its calls; the action stands beside the lock,
 /// and runs while the lock is held: it must not call the gate. No contract can say what the barrier was
 /// when a call took the lock; so they say that some list of calls leaves a barrier that answers so.
+///
+/// ```
+/// // Each thread calls `await_turn` with a number of its own; the last to come is given 0.
+/// let action = StoredAction::new(|_generation| false, None);
+/// let gate = CyclicGate::new(rt.alloc(), 1, action).expect(&rt, "one party");
+/// assert!(rt; gate.await_turn(&rt, 7) == Ok(0));
+/// ```
 #[derive(Drop)]
 pub struct CyclicGate<F: Fn(u64) -> bool> {
     alloc: Global,

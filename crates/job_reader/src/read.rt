@@ -217,6 +217,13 @@ fn read_text(alloc: Global, text: &[u8]) -> Result<Job, ReadJobFault>
 /// isn't allowed; then the first line that is refused, from the top, and within a line the fault that counts; then
 /// `Unclosed` where the text ends in a body; then the first line that names a body that isn't there. It is looked at for
 /// its length, its bytes and its header before memory is asked for.
+///
+/// ```
+/// let text = b"bsp 1\narray a 1\nbody b\nput a[0] = 7\nend\nstart b 0\n";
+/// let job = read_job(rt.alloc(), text).expect(&rt, "a job");
+/// assert!(rt; job.bodies().len() == 1);
+/// assert!(rt; read_job(rt.alloc(), b"bsp 3\n").is_err());
+/// ```
 #[tactic(auto, using(crate::proofs::ToldWhole::text_steps))]
 pub fn read_job(alloc: Global, text: &[u8]) -> Result<Job, ReadJobFault>
     ensures read { Gives job_tree result (spec.job_in text.now) }

@@ -7,3 +7,4 @@ pub mod Ending
 pub mod Refused
 pub mod Seated
 pub mod Standing
+mod Kept

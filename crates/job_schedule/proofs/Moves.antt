@@ -9,7 +9,7 @@ use Rattle.job_seats.specs.declared.stage.Move.{Move}
 use Rattle.job_seats.specs.declared.stage.Move.TheVariants.{Takes, Closes, Ends}
 use Rattle.job_seats.specs.declared.stage.Stage.{Stage}
 use Rattle.job_seats.specs.declared.stage.Stage.TheVariants.{Waits, Taken, Polling, Joining, Arriving, Leaving, Over}
-use Rattle.job_seats.specs.SeatValue.{SeatValue, no_seat, seat_at, all_over}
+use Rattle.job_seats.specs.SeatValue.{SeatValue, no_seat, seat_at, all_over, is_delivered}
 use Rattle.job_seats.specs.Moves.{passing, by_stage, kind_for, asked}
 use Rattle.job_schedule.specs.declared.step.JobStep.{JobStep}
 use Rattle.job_schedule.specs.AnswerValue.{NotNow}
@@ -25,52 +25,55 @@ no_seat_beyond [] place h = refl
 no_seat_beyond (g ∷ gs) zero h = absurd (omega arith)
 no_seat_beyond (g ∷ gs) (suc place) h = no_seat_beyond gs place (omega arith)
 
-stage_allowed : (w : World) (g : SeatValue) (place : ℕ) (due : Bool) (stage : Stage) → place < length w.seats → Allowed w (by_stage g place due stage)
-stage_allowed w g place due Waits h = tt
-stage_allowed w g place due Taken h = h
-stage_allowed w g place due Polling h = (h, tt)
-stage_allowed w g place due (Joining joined) h = (h, (omega arith, omega arith))
-stage_allowed w g place due (Arriving arrived) h = (h, tt)
-stage_allowed w g place due Leaving h = by due g.synced
+stage_allowed : (w : World) (g : SeatValue) (place : ℕ) (due : Bool) (stage : Stage) → place < length w.seats → w.mode ≡ mode.Runs
+    → (seat_at w.seats place).stage ≡ stage → Allowed w (by_stage g place due stage)
+stage_allowed w g place due Waits h m at = tt
+stage_allowed w g place due Taken h m at = (h, at, m)
+stage_allowed w g place due Polling h m at = ((h, tt), ap is_delivered at)
+stage_allowed w g place due (Joining joined) h m at = ((h, (omega arith, omega arith)), ap is_delivered at)
+stage_allowed w g place due (Arriving arrived) h m at = ((h, tt), ap is_delivered at)
+stage_allowed w g place due Leaving h m at = by due g.synced
   where
     by : (due synced : Bool) → Allowed w (passing due place g.token synced)
-    by true synced = h
-    by false true = (h, tt)
-    by false false = (h, tt)
-stage_allowed w g place due Over h = tt
+    by true synced = (h, ap is_delivered at)
+    by false true = ((h, tt), ap is_delivered at)
+    by false false = ((h, tt), ap is_delivered at)
+stage_allowed w g place due Over h m at = tt
 
-hand_allowed : (w : World) (hand : Option ℕ) → Allowed w (by_hand w hand)
-hand_allowed w None = by (nat_lt w.taken (length w.seats)) (is_some (status w.limit w.job)) refl
+hand_allowed : (w : World) (hand : Option ℕ) → w.mode ≡ mode.Runs → Allowed w (by_hand w hand)
+hand_allowed w None m = by (nat_lt w.taken (length w.seats)) (is_some (status w.limit w.job)) refl refl
   where
-    by : (b c : Bool) → nat_lt w.taken (length w.seats) ≡ b → Allowed w (if b then Some (Takes w.taken) else (if c then Some (Closes 0) else None))
-    by true c e = ltb-true w.taken (length w.seats) e
-    by false true e = tt
-    by false false e = tt
-hand_allowed w (Some place) = by (nat_lt place (length w.seats)) refl
+    by : (b c : Bool) → nat_lt w.taken (length w.seats) ≡ b → is_some (status w.limit w.job) ≡ c
+        → Allowed w (if b then Some (Takes w.taken) else (if c then Some (Closes 0) else None))
+    by true c e f = (ltb-true w.taken (length w.seats) e, refl)
+    by false true e f = λ on. let bad : false ≡ true = sym (ap is_some on) ∙ f in cc
+    by false false e f = tt
+hand_allowed w (Some place) m = by (nat_lt place (length w.seats)) refl
   where
     by : (b : Bool) → nat_lt place (length w.seats) ≡ b → Allowed w (by_hand w (Some place))
-    by true e = stage_allowed w (seat_at w.seats place) place _ (seat_at w.seats place).stage (ltb-true place (length w.seats) e)
+    by true e = stage_allowed w (seat_at w.seats place) place _ (seat_at w.seats place).stage (ltb-true place (length w.seats) e) m refl
     by false e = subst (λ (g : SeatValue). Allowed w (by_seat w g place)) (sym (no_seat_beyond w.seats place (ltb-false place (length w.seats) e))) tt
 
 pub move_allowed : (w : World) (worker : ℕ) → Allowed w (move_of w worker)
 move_allowed w worker = by (nat_lt worker 64)
   where
-    in_mode : (m : Mode) → Allowed w (by_mode w worker m)
-    in_mode mode.Runs = hand_allowed w (slice_index_or w.hands worker None)
-    in_mode (mode.Advanced closer token) = if_so ((worker == closer) && all_over w.seats)
+    in_mode : (m : Mode) → w.mode ≡ m → Allowed w (by_mode w worker m)
+    in_mode mode.Runs at = hand_allowed w (slice_index_or w.hands worker None) at
+    in_mode (mode.Advanced closer token) at = if_so (worker == closer) (all_over w.seats) refl
       where
-        if_so : (b : Bool) → Allowed w (if b then Some (Closes token) else None)
-        if_so true = tt
-        if_so false = tt
-    in_mode (mode.Forces closer token) = if_so (worker == closer)
+        if_so : (a b : Bool) → all_over w.seats ≡ b → Allowed w (if a && b then Some (Closes token) else None)
+        if_so true true over = λ on. over
+        if_so true false over = tt
+        if_so false b over = tt
+    in_mode (mode.Forces closer token) at = if_so (worker == closer)
       where
         if_so : (b : Bool) → Allowed w (if b then Some (Ends token) else None)
         if_so true = tt
         if_so false = tt
-    in_mode mode.Over = tt
+    in_mode mode.Over at = tt
 
     by : (b : Bool) → Allowed w (if b then by_mode w worker w.mode else None)
-    by true = in_mode w.mode
+    by true = in_mode w.mode refl
     by false = tt
 
 pub asked_allowed : (w : World) (kind : ℕ) (o : Option Move) (m : Move) → Allowed w o → Some m ≡ asked kind o → IsAllowed w m

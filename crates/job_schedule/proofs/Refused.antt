@@ -183,7 +183,7 @@ move_core w worker (Delivers place) is core =
     kids_core (noted w place (has_synced (deed_of w (seat_at w.seats place).path))) place (spawned_paths (deed_of w (seat_at w.seats place).path)) core
 move_core w worker (Calls place token c) is core =
     called_core w worker place (after (after w.tree (Begin token c)) (Go token)) (answer_to (after w.tree (Begin token c)) (Go token))
-    (core_after (after w.tree (Begin token c)) (Go token) (core_after w.tree (Begin token c) core is.1) tt)
+    (core_after (after w.tree (Begin token c)) (Go token) (core_after w.tree (Begin token c) core is.0.1) tt)
 move_core w worker (Advances place) is core =
     advanced_core w worker place (after w.tree (Finish (seat_at w.seats place).token)) (answer_to w.tree (Finish (seat_at w.seats place).token))
     (core_after w.tree (Finish (seat_at w.seats place).token) core tt)

@@ -111,7 +111,7 @@ next_paths gs qs e =
 
 -- and all of them wait
 abbrev Fresh : SeatValue → Type 0
-Fresh g = is_delivered g.stage ≡ false
+Fresh g = g.stage ≡ Waits
 
 put_fresh : (g : SeatValue) (gs : List SeatValue) → Fresh g → AllByRecursion Fresh gs → AllByRecursion Fresh (put_in seat_path g gs)
 put_fresh g [] h a = (h, tt)
@@ -145,10 +145,13 @@ living_fresh [] = tt
 living_fresh (g ∷ gs) = fresh_append (own_seat g ++ map kid_seat g.kids) (living_seats gs)
     (fresh_append (own_seat g) (map kid_seat g.kids) (own_fresh g) (kids_fresh g.kids)) (living_fresh gs)
 
-pub fresh_at : (gs : List SeatValue) (place : ℕ) → AllByRecursion Fresh gs → place < length gs → is_delivered (seat_at gs place).stage ≡ false
+fresh_at : (gs : List SeatValue) (place : ℕ) → AllByRecursion Fresh gs → place < length gs → (seat_at gs place).stage ≡ Waits
 fresh_at [] place a l = absurd (omega arith)
 fresh_at (g ∷ gs) zero a l = a.0
 fresh_at (g ∷ gs) (suc place) a l = fresh_at gs place a.1 (omega arith)
 
+pub next_wait : (gs : List SeatValue) (place : ℕ) → place < length (next_seats gs) → (seat_at (next_seats gs) place).stage ≡ Waits
+next_wait gs place l = fresh_at (next_seats gs) place (all_fresh_put (living_seats gs) (living_fresh gs)) l
+
 pub next_fresh : (gs : List SeatValue) (place : ℕ) → place < length (next_seats gs) → is_delivered (seat_at (next_seats gs) place).stage ≡ false
-next_fresh gs place l = fresh_at (next_seats gs) place (all_fresh_put (living_seats gs) (living_fresh gs)) l
+next_fresh gs place l = ap is_delivered (next_wait gs place l)

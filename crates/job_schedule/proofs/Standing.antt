@@ -378,9 +378,9 @@ run_stands p limit w (x ∷ xs) is h =
     run_stands p limit (world_after w x) xs (step_is_of p limit w (world_after w x) is (step_goes w x)) (step_stands p limit w x is h)
 
 -- the seats of the start tasks
-starts_stand : (w : World) (paths : List (List ℕ)) → ((place : ℕ) → place < length w.seats → is_delivered (seat_at w.seats place).stage ≡ false)
+pub starts_stand : (w : World) (paths : List (List ℕ)) → ((place : ℕ) → place < length w.seats → (seat_at w.seats place).stage ≡ Waits)
     → (map seat_path (with_starts w paths).seats ≡ map seat_path w.seats ++ paths)
-    × ((place : ℕ) → place < length (with_starts w paths).seats → is_delivered (seat_at (with_starts w paths).seats place).stage ≡ false)
+    × ((place : ℕ) → place < length (with_starts w paths).seats → (seat_at (with_starts w paths).seats place).stage ≡ Waits)
 starts_stand w [] h = (sym (nothing_behind (map seat_path w.seats)), h)
   where
     nothing_behind : (xs : List (List ℕ)) → xs ++ [] ≡ xs
@@ -395,9 +395,9 @@ starts_stand w (path ∷ paths) h =
       more.1,
     )
   where
-    last_fresh : (gs : List SeatValue) → ((place : ℕ) → place < length gs → is_delivered (seat_at gs place).stage ≡ false)
+    last_fresh : (gs : List SeatValue) → ((place : ℕ) → place < length gs → (seat_at gs place).stage ≡ Waits)
         → (place : ℕ) → place < length (gs ++ waiting path (length w.tree.views) (leaf_at w.leaves (length w.seats)) ∷ [])
-        → is_delivered (seat_at (gs ++ waiting path (length w.tree.views) (leaf_at w.leaves (length w.seats)) ∷ []) place).stage ≡ false
+        → (seat_at (gs ++ waiting path (length w.tree.views) (leaf_at w.leaves (length w.seats)) ∷ []) place).stage ≡ Waits
     last_fresh [] k zero l = refl
     last_fresh [] k (suc place) l = absurd (omega arith)
     last_fresh (x ∷ gs) k zero l = k 0 (omega arith)
@@ -408,7 +408,7 @@ opening_stands p parents limit = λ run.
     let all = starts_stand (empty_world p parents limit) (live_paths (opening p)) (λ place l. absurd (omega arith)) in
     record {
       paths = all.0 ∙ ap live_paths (sym (opening_job p parents limit));
-      noted = λ place l d. let bad : true ≡ false = sym d ∙ all.1 place l in cc;
+      noted = λ place l d. let bad : true ≡ false = sym d ∙ ap is_delivered (all.1 place l) in cc;
     }
 
 pub seats_are_the_live_tasks : SeatsAreTheLiveTasks

@@ -1,19 +1,23 @@
 -- The world by what the code keeps of it, and parts of it (own).
-use Rattle.std.specs.Prelude.{◌≡◌, ◌<◌, ℕ, List, length, reverse}
+use Rattle.std.specs.Prelude.{◌≡◌, ◌<◌, ◌≤◌, ℕ, true, false, List, length, reverse, None, slice_get}
 use Rattle.tier_core.specs.Run.{IsCall}
 use Rattle.smallvec.specs.SmallVec.{SmallVec}
-use Rattle.step_core.specs.Program.{program_of}
+use Rattle.step_core.specs.Program.{Program, program_of}
 use Rattle.step_core.specs.Superstep.{superstep}
-use Rattle.step_core.specs.JobMeaning.{unless_ended}
-use Rattle.step_core.specs.RoundValue.{RoundValue, state_of, status_in}
+use Rattle.step_core.specs.JobMeaning.{status, unless_ended}
+use Rattle.step_core.specs.RoundValue.{RoundValue, AllFresh, state_of, status_in}
 use Rattle.step_core.specs.OrderValue.{DeliveryValue}
-use Rattle.step_core.specs.Taking.{Takes as IsTakenBy, with_delivery}
+use Rattle.step_core.specs.Taking.{Takes as IsTakenBy, IsFor, is_done, is_live, with_delivery}
 use Rattle.task_lang.specs.Meaning.{Segment}
 use Rattle.step_core.specs.Superstep.{segments}
 use Rattle.job_schedule.specs.declared.schedule.Schedule.{Schedule}
+use Rattle.job_seats.specs.declared.stage.Mode.TheVariants.{Runs}
+use Rattle.job_seats.specs.declared.stage.Stage.TheVariants.{Taken, Waits}
+use Rattle.job_seats.specs.SeatValue.{all_over, is_delivered, seat_at}
 use Rattle.job_seats.specs.declared.stage.Move.{Move}
 use Rattle.job_seats.specs.declared.stage.Move.TheVariants.{Takes, Delivers, Calls, Advances, Closes, Ends}
-use Rattle.job_schedule.specs.World.{World, deed_in}
+use Rattle.job_schedule.specs.declared.step.JobStep.{JobStep}
+use Rattle.job_schedule.specs.World.{World, deed_in, opening_world, reached}
 
 -- free tokens stand with the next one last
 abbrev pub world_of : Schedule → World
@@ -50,17 +54,37 @@ pub record IsTaken (old : RoundValue) (path : List ℕ) (new : RoundValue) : Typ
   pub takes : IsTakenBy old delivery
   pub added : new ≡ with_delivery old delivery
 
--- one superstep more, unless the job had ended
+-- one superstep more, of which nothing is delivered, unless the job had ended
 pub record IsNext (old new : RoundValue) : Type 0 where
   pub job : new.job ≡ old.job
   pub limit : new.limit ≡ old.limit
   pub state : state_of new ≡ unless_ended (status_in old) (state_of old) (superstep (program_of old.job) (state_of old))
+  pub fresh : status_in new ≡ None → AllFresh new.slots
 
--- a move of a seat that is there, and of a call that may be begun
+-- What a schedule keeps beside its world: while the job runs, a segment was handed in exactly where the seat's stage says so; from
+-- the next task to be taken on each seat waits; and a job with live tasks whose tasks are worked at has not ended.
+pub record IsKept (r : RoundValue) (w : World) : Type 0 where
+  pub handed : status_in r ≡ None → (place : ℕ) → place < length w.seats
+      → is_done (slice_get r.slots place) ≡ is_delivered (seat_at w.seats place).stage
+  pub waiting : (place : ℕ) → w.taken ≤ place → place < length w.seats → (seat_at w.seats place).stage ≡ Waits
+  pub runs : w.mode ≡ Runs → 0 < length w.seats → status_in r ≡ None
+
+-- nothing was handed in yet for the task of this path, which is live
+pub record IsWanted (r : RoundValue) (path : List ℕ) : Type 0 where
+  pub runs : status_in r ≡ None
+  pub live : is_live r.slots path ≡ true
+  pub first : (place : ℕ) → IsFor path (slice_get r.slots place) → is_done (slice_get r.slots place) ≡ false
+
+-- a move of a seat that is there, at a stage that it belongs to, and of a call that may be begun; a job that goes on is closed
+-- only where all tasks have come to their end
 abbrev pub IsAllowed : World → Move → Type 0
-IsAllowed w (Takes place) = place < length w.seats
-IsAllowed w (Delivers place) = place < length w.seats
-IsAllowed w (Calls place token c) = (place < length w.seats) × IsCall c
-IsAllowed w (Advances place) = place < length w.seats
-IsAllowed w (Closes token) = Unit {0}
+IsAllowed w (Takes place) = (place < length w.seats) × (place ≡ w.taken)
+IsAllowed w (Delivers place) = (place < length w.seats) × ((seat_at w.seats place).stage ≡ Taken) × (w.mode ≡ Runs)
+IsAllowed w (Calls place token c) = ((place < length w.seats) × IsCall c) × (is_delivered (seat_at w.seats place).stage ≡ true)
+IsAllowed w (Advances place) = (place < length w.seats) × (is_delivered (seat_at w.seats place).stage ≡ true)
+IsAllowed w (Closes token) = status w.limit w.job ≡ None → all_over w.seats ≡ true
 IsAllowed w (Ends token) = Unit {0}
+
+-- steps of workers lead here from the beginning of a job, within some limit and on some tree
+abbrev pub IsReached : World → Type 0
+IsReached w = (program : Program) × (limit : ℕ) × (parents : List ℕ) × (xs : List JobStep) × (w ≡ reached (opening_world program parents limit) xs)

@@ -5,7 +5,7 @@ ghost use Rattle.phase_records.specs.ReportValue.{ReportValue};
 ghost use Rattle.step_core.specs.Program.{program_of};
 ghost use Rattle.step_core.specs.JobMeaning.{report_of};
 ghost use Rattle.job_schedule.specs.AnswerValue.{answer_seen, Finished};
-ghost use Rattle.job_schedule.specs.Parts.{world_of};
+ghost use Rattle.job_schedule.specs.Parts.{IsKept, IsReached, world_of};
 ghost use Rattle.job_schedule.specs.World.{opening_world, answers, answer_of, world_after};
 
 use crate::schedule::Schedule;
@@ -21,8 +21,12 @@ fn take_step(
     step: JobStep,
     told: &mut Vec<Answer>,
 ) -> Result<(), AllocError>
+    requires reached { IsReached (world_of schedule.old) }
+    requires kept { IsKept schedule.old.round (world_of schedule.old) }
     ensures told { OnOk result (map answer_seen told.new.items ≡ map answer_seen told.old.items ++ answer_of (world_of schedule.old) step ∷ []) }
     ensures after { OnOk result (world_of schedule.new ≡ world_after (world_of schedule.old) step) }
+    ensures reached { OnOk result (IsReached (world_of schedule.new)) }
+    ensures kept { OnOk result (IsKept schedule.new.round (world_of schedule.new)) }
 {
     let answer = schedule.step(alloc, step)?;
     told.push(answer)?;
@@ -35,6 +39,8 @@ fn take_each(
     schedule: &mut Schedule<'_>,
     steps: &[JobStep],
 ) -> Result<Vec<Answer>, AllocError>
+    requires reached { IsReached (world_of schedule.old) }
+    requires kept { IsKept schedule.old.round (world_of schedule.old) }
     ensures { IfOk result (λ told. map answer_seen told.items ≡ answers (world_of schedule.old) steps.now) }
 {
     let mut told = Vec::new(alloc);

@@ -1,23 +1,24 @@
 //! What a round takes for the schedule.
 ghost use Rattle.std.specs.Prelude.{◌≡◌, None, OnOk, IfOk, map};
 ghost use Rattle.step_core.specs.OrderValue.{delivered_segment, has_synced, spawned_paths};
-ghost use Rattle.step_core.specs.RoundValue.{status_in};
-ghost use Rattle.job_schedule.specs.Parts.{IsAsBefore, IsTaken, IsNext, deed_by, path_items};
+ghost use Rattle.step_core.specs.RoundValue.{slots_in, status_in};
+ghost use Rattle.step_core.specs.Slots.{first_missing};
+ghost use Rattle.job_schedule.specs.Parts.{IsAsBefore, IsTaken, IsNext, IsWanted, deed_by, path_items};
 
 use std::alloc::{AllocError, Global};
-use step_core::{Delivery, Order, Round};
+use step_core::{CloseFault, Delivery, Order, Round};
 use superstep_memory::path::Path;
 
 // The order of the live task of this path.
 fn order_for<'j>(alloc: Global, round: &Round<'j>, path: &[u16]) -> Result<Order<'j>, AllocError>
-    ensures running { OnOk result (status_in round.now ≡ None) }
+    requires wanted { IsWanted round.now path.now }
     ensures job { IfOk result (λ o. o.job ≡ round.now.job) }
     ensures step { IfOk result (λ o. o.step ≡ round.now.step) }
     ensures path { IfOk result (λ o. o.task.path ≡ path.now) }
 {
     match round.order(alloc, path)? {
         Some(order) => Ok(order),
-        None => Err(AllocError),
+        None => unreachable!(),
     }
 }
 
@@ -27,7 +28,7 @@ fn segment_for<'j>(
     round: &Round<'j>,
     path: &[u16],
 ) -> Result<Delivery<'j>, AllocError>
-    ensures running { OnOk result (status_in round.now ≡ None) }
+    requires wanted { IsWanted round.now path.now }
     ensures job { IfOk result (λ d. d.job ≡ round.now.job) }
     ensures step { IfOk result (λ d. d.step ≡ round.now.step) }
     ensures path { IfOk result (λ d. d.path ≡ path.now) }
@@ -40,13 +41,14 @@ fn segment_for<'j>(
     Ok(delivery)
 }
 
-/// Hands in the segment of the live task of this path, which the round takes, and tells whether it synced, and the paths that
-/// it spawned.
+/// Hands in the segment of the live task of this path, for which nothing was handed in yet, and tells whether it synced, and the
+/// paths that it spawned.
 pub(crate) fn hand_in<'j>(
     alloc: Global,
     round: &mut Round<'j>,
     path: &[u16],
 ) -> Result<(bool, Vec<Path>), AllocError>
+    requires wanted { IsWanted round.old path.now }
     ensures taken { OnOk result (IsTaken round.old path.now round.new) }
     ensures round { OnOk result (IsAsBefore round.old round.new) }
     ensures synced { IfOk result (λ told. told.0 ≡ has_synced (deed_by round.old path.now)) }
@@ -57,12 +59,13 @@ pub(crate) fn hand_in<'j>(
     let spawns = delivery.spawns(alloc)?;
     match round.accept_known(delivery) {
         Ok(()) => Ok((synced, spawns)),
-        Err(_) => Err(AllocError),
+        Err(_) => unreachable!(),
     }
 }
 
-/// Closes the round, unless the job has ended.
+/// Closes the round, for all of whose tasks something was handed in, unless the job has ended.
 pub(crate) fn close_round(alloc: Global, round: &mut Round<'_>) -> Result<(), AllocError>
+    requires whole { status_in round.old ≡ None → first_missing (slots_in round.old) ≡ None }
     ensures { OnOk result (IsNext round.old round.new) }
 {
     if round.has_ended() {
@@ -70,6 +73,7 @@ pub(crate) fn close_round(alloc: Global, round: &mut Round<'_>) -> Result<(), Al
     }
     match round.close_round(alloc) {
         Ok(_) => Ok(()),
-        Err(_) => Err(AllocError),
+        Err(CloseFault::Memory(fault)) => Err(fault),
+        Err(CloseFault::Missing(_)) => unreachable!(),
     }
 }

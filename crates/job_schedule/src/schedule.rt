@@ -89,7 +89,7 @@ impl<'j> Schedule<'j> {
     ghost use Rattle.task_lang.specs.JobValue.{JobValue};
     ghost use Rattle.step_core.specs.Program.{program_of};
     ghost use Rattle.step_core.specs.JobMeaning.{opening};
-    ghost use Rattle.step_core.specs.RoundValue.{Opens};
+    ghost use Rattle.step_core.specs.RoundValue.{Opens, slots_in, status_in};
     ghost use Rattle.step_core.specs.Superstep.{live_paths};
     ghost use Rattle.job_schedule.specs.AnswerValue.{answer_seen};
     ghost use Rattle.job_schedule.specs.Parts.{path_items, world_of};
@@ -111,7 +111,9 @@ impl<'j> Schedule<'j> {
       renewed,
     };
     ghost use Rattle.job_seats.specs.SeatValue.{answered};
-    ghost use Rattle.job_schedule.specs.Parts.{IsAllowed};
+    ghost use Rattle.job_schedule.specs.Parts.{IsAllowed, IsKept, IsNext, IsReached, IsTaken, IsWanted};
+    ghost use Rattle.job_schedule.specs.Laws.{IsStanding};
+    ghost use Rattle.step_core.specs.Slots.{first_missing};
     ghost use Rattle.tier_core.specs.Run.{IsCall};
 
     /// A job with this limit, on a tree of this shape, before the first step of a worker.
@@ -122,7 +124,8 @@ impl<'j> Schedule<'j> {
         limit: u32,
     ) -> Result<Self, AllocError>
         requires some { 1 ≤ limit }
-        ensures { IfOk result (λ s. world_of s ≡ opening_world (program_of job.now) shape limit) }
+        ensures world { IfOk result (λ s. world_of s ≡ opening_world (program_of job.now) shape limit) }
+        ensures kept { IfOk result (λ s. IsKept s.round (world_of s)) }
     {
         let round = Round::new(alloc, job, limit)?;
         let mut schedule = Self::around(alloc, round, shape, limit)?;
@@ -133,7 +136,8 @@ impl<'j> Schedule<'j> {
     // A round on a tree of this shape, before its start tasks come in.
     fn around(alloc: Global, round: Round<'j>, shape: Shape, limit: u32) -> Result<Self, AllocError>
         requires some { 1 ≤ limit }
-        ensures { IfOk result (λ s. (job : JobValue) → Opens round.entry job limit (opening (program_of job)) → world_of s ≡ spec.empty_world (program_of job) shape limit) }
+        ensures round { IfOk result (λ s. s.round ≡ round.entry) }
+        ensures world { IfOk result (λ s. (job : JobValue) → Opens round.entry job limit (opening (program_of job)) → world_of s ≡ spec.empty_world (program_of job) shape limit) }
     {
         let (core, leaves) = tree_of(alloc, shape, limit)?;
         let hands = empty_hands(alloc, 64)?;
@@ -151,7 +155,8 @@ impl<'j> Schedule<'j> {
 
     // The tokens of the live tasks come in and join their leaves.
     fn start_live(&mut self, alloc: Global) -> Result<(), AllocError>
-        ensures { OnOk result (world_of self.new ≡ with_starts (world_of self.old) (live_paths (world_of self.old).job)) }
+        ensures world { OnOk result (world_of self.new ≡ with_starts (world_of self.old) (live_paths (world_of self.old).job)) }
+        ensures round { OnOk result (self.new.round ≡ self.old.round) }
     {
         let paths = self.round.live(alloc)?;
         self.start_all(alloc, &paths)
@@ -159,7 +164,8 @@ impl<'j> Schedule<'j> {
 
     // The token of a start task comes in and joins its leaf.
     fn start(&mut self, alloc: Global, path: Path) -> Result<(), AllocError>
-        ensures { OnOk result (world_of self.new ≡ with_start (world_of self.old) path.items) }
+        ensures world { OnOk result (world_of self.new ≡ with_start (world_of self.old) path.items) }
+        ensures round { OnOk result (self.new.round ≡ self.old.round) }
     {
         let home = leaf_at(&self.leaves, self.seats.len());
         let token = self.core.add_token()?;
@@ -172,7 +178,8 @@ impl<'j> Schedule<'j> {
 
     // So does that of a start task of this path.
     fn start_copy(&mut self, alloc: Global, path: &Path) -> Result<(), AllocError>
-        ensures { OnOk result (world_of self.new ≡ with_start (world_of self.old) path.now.items) }
+        ensures world { OnOk result (world_of self.new ≡ with_start (world_of self.old) path.now.items) }
+        ensures round { OnOk result (self.new.round ≡ self.old.round) }
     {
         let path = copy_path(path)?;
         self.start(alloc, path)
@@ -180,7 +187,8 @@ impl<'j> Schedule<'j> {
 
     // So do those of all start tasks.
     fn start_all(&mut self, alloc: Global, paths: &[Path]) -> Result<(), AllocError>
-        ensures { OnOk result (world_of self.new ≡ with_starts (world_of self.old) (map path_items paths.now)) }
+        ensures world { OnOk result (world_of self.new ≡ with_starts (world_of self.old) (map path_items paths.now)) }
+        ensures round { OnOk result (self.new.round ≡ self.old.round) }
     {
         let mut rest = paths;
         while let Some((path, after)) = rest.split_first() {
@@ -233,6 +241,7 @@ impl<'j> Schedule<'j> {
         requires place { place < length self.old.seats.items }
         ensures answer { IfOk result (λ a. answer_seen a ≡ (done_by (world_of self.old) worker (spec.Takes place)).0) }
         ensures after { OnOk result (world_of self.new ≡ (done_by (world_of self.old) worker (spec.Takes place)).1) }
+        ensures round { OnOk result (self.new.round ≡ self.old.round) }
     {
         let path = copy_path(&self.seats[place].path)?;
         self.seats[place].set_stage(Stage::Taken);
@@ -244,7 +253,8 @@ impl<'j> Schedule<'j> {
     // A spawned task has a token.
     fn add_kid(&mut self, place: usize, path: Path) -> Result<(), AllocError>
         requires place { place < length self.old.seats.items }
-        ensures { OnOk result (world_of self.new ≡ kid_from (world_of self.old) place path.items (world_of self.old).free) }
+        ensures world { OnOk result (world_of self.new ≡ kid_from (world_of self.old) place path.items (world_of self.old).free) }
+        ensures round { OnOk result (self.new.round ≡ self.old.round) }
     {
         let home = preferred(&self.leaves, self.seats[place].home, path.as_slice());
         let token = match self.free.pop() {
@@ -257,7 +267,8 @@ impl<'j> Schedule<'j> {
     // So have all of these.
     fn add_kids(&mut self, place: usize, paths: &[Path]) -> Result<(), AllocError>
         requires place { place < length self.old.seats.items }
-        ensures { OnOk result (world_of self.new ≡ with_kids (world_of self.old) place (map path_items paths.now)) }
+        ensures world { OnOk result (world_of self.new ≡ with_kids (world_of self.old) place (map path_items paths.now)) }
+        ensures round { OnOk result (self.new.round ≡ self.old.round) }
     {
         let mut rest = paths;
         while let Some((path, after)) = rest.split_first() {
@@ -270,8 +281,10 @@ impl<'j> Schedule<'j> {
     // The segment of the task at this place is handed in.
     fn deliver(&mut self, alloc: Global, worker: usize, place: usize) -> Result<Answer, AllocError>
         requires place { place < length self.old.seats.items }
+        requires wanted { IsWanted self.old.round (seat_at self.old.seats.items place).path }
         ensures answer { IfOk result (λ a. answer_seen a ≡ (done_by (world_of self.old) worker (spec.Delivers place)).0) }
         ensures after { OnOk result (world_of self.new ≡ (done_by (world_of self.old) worker (spec.Delivers place)).1) }
+        ensures taken { OnOk result (IsTaken self.old.round (seat_at self.old.seats.items place).path self.new.round) }
     {
         let path = copy_path(&self.seats[place].path)?;
         let (synced, spawns) = hand_in(alloc, &mut self.round, path.as_slice())?;
@@ -283,7 +296,8 @@ impl<'j> Schedule<'j> {
     // Its call answers so.
     fn note_answer(&mut self, worker: usize, place: usize, played: Played)
         requires place { place < length self.old.seats.items }
-        ensures { world_of self.new ≡ stepped (world_of self.old) worker place self.old.core (answered (seat_at self.old.seats.items place) played) }
+        ensures world { world_of self.new ≡ stepped (world_of self.old) worker place self.old.core (answered (seat_at self.old.seats.items place) played) }
+        ensures round { self.new.round ≡ self.old.round }
     {
         self.seats[place].answer(played);
         if is_over(self.seats[place].stage) {
@@ -297,6 +311,7 @@ impl<'j> Schedule<'j> {
         requires size { IsCall call }
         ensures answer { answer_seen result ≡ (done_by (world_of self.old) worker (spec.Calls place token call)).0 }
         ensures after { world_of self.new ≡ (done_by (world_of self.old) worker (spec.Calls place token call)).1 }
+        ensures round { self.new.round ≡ self.old.round }
     {
         self.core.step(Step::Begin(token, call));
         match self.core.step(Step::Go(token)) {
@@ -313,6 +328,7 @@ impl<'j> Schedule<'j> {
         requires place { place < length self.old.seats.items }
         ensures answer { answer_seen result ≡ (done_by (world_of self.old) worker (spec.Advances place)).0 }
         ensures after { world_of self.new ≡ (done_by (world_of self.old) worker (spec.Advances place)).1 }
+        ensures round { self.new.round ≡ self.old.round }
     {
         let token = self.seats[place].token;
         match self.core.step(Step::Finish(token)) {
@@ -331,7 +347,8 @@ impl<'j> Schedule<'j> {
 
     // The next tasks are ready.
     fn renew(&mut self, alloc: Global) -> Result<(), AllocError>
-        ensures { OnOk result (world_of self.new ≡ renewed (world_of self.old)) }
+        ensures world { OnOk result (world_of self.new ≡ renewed (world_of self.old)) }
+        ensures round { OnOk result (self.new.round ≡ self.old.round) }
     {
         free_tokens(&self.seats, &mut self.free)?;
         let seats = std::mem::replace(&mut self.seats, Vec::new(alloc));
@@ -343,8 +360,10 @@ impl<'j> Schedule<'j> {
 
     // The round is closed.
     fn close(&mut self, alloc: Global, worker: usize, token: usize) -> Result<Answer, AllocError>
+        requires whole { status_in self.old.round ≡ None → first_missing (slots_in self.old.round) ≡ None }
         ensures answer { IfOk result (λ a. answer_seen a ≡ (done_by (world_of self.old) worker (spec.Closes token)).0) }
         ensures after { OnOk result (world_of self.new ≡ (done_by (world_of self.old) worker (spec.Closes token)).1) }
+        ensures next { OnOk result (IsNext self.old.round self.new.round) }
     {
         close_round(alloc, &mut self.round)?;
         match self.round.report(alloc)? {
@@ -363,6 +382,7 @@ impl<'j> Schedule<'j> {
     fn end(&mut self, worker: usize, token: usize) -> Answer
         ensures answer { answer_seen result ≡ (done_by (world_of self.old) worker (spec.Ends token)).0 }
         ensures after { world_of self.new ≡ (done_by (world_of self.old) worker (spec.Ends token)).1 }
+        ensures round { self.new.round ≡ self.old.round }
     {
         self.core.step(Step::Begin(token, Call::Force));
         match self.core.step(Step::Go(token)) {
@@ -376,10 +396,14 @@ impl<'j> Schedule<'j> {
 
     // A worker does this.
     fn make(&mut self, alloc: Global, worker: usize, next: Move) -> Result<Answer, AllocError>
-        requires { IsAllowed (world_of self.old) next }
+        requires allowed { IsAllowed (world_of self.old) next }
+        requires kept { IsKept self.old.round (world_of self.old) }
+        requires stands { status_in self.old.round ≡ None → IsStanding (world_of self.old) }
         ensures answer { IfOk result (λ a. answer_seen a ≡ (done_by (world_of self.old) worker next).0) }
         ensures after { OnOk result (world_of self.new ≡ (done_by (world_of self.old) worker next).1) }
+        ensures kept { OnOk result (IsKept self.new.round (world_of self.new)) }
     {
+        let _known = self.round.has_ended();
         match next {
             Move::Takes(place) => self.take(worker, place),
             Move::Delivers(place) => self.deliver(alloc, worker, place),
@@ -392,8 +416,12 @@ impl<'j> Schedule<'j> {
 
     /// A worker takes a step.
     pub(crate) fn step(&mut self, alloc: Global, step: JobStep) -> Result<Answer, AllocError>
+        requires reached { IsReached (world_of self.old) }
+        requires kept { IsKept self.old.round (world_of self.old) }
         ensures answer { IfOk result (λ a. answer_seen a ≡ answer_of (world_of self.old) step) }
         ensures after { OnOk result (world_of self.new ≡ world_after (world_of self.old) step) }
+        ensures reached { OnOk result (IsReached (world_of self.new)) }
+        ensures kept { OnOk result (IsKept self.new.round (world_of self.new)) }
     {
         let worker = step.worker();
         let Some(next) = asked(step.kind(), self.next_move(worker)) else {

@@ -24,6 +24,17 @@ use std::marker::Model;
 /// Its parties are anonymous: any of those that have not arrived may arrive or leave. An advance comes
 /// within the call that makes it due. Once it has ended, calls answer the phase shown, a negative number,
 /// and change nothing (own: the end is looked at before the limit of parties).
+///
+/// ```
+/// // It ends where fewer than one party is left.
+/// let plan = CountPlan { least: 1, at: None };
+/// let rule = StoredCount::new(|_phase, parties| parties < 1, plan);
+/// let mut phaser = PhaserOne::new(2, 0, rule).expect(&rt, "two parties");
+/// assert!(rt; phaser.arrive().is_ok());
+/// assert!(rt; phaser.phase() == 0);
+/// assert!(rt; phaser.arrive().is_ok());
+/// assert!(rt; phaser.phase() == 1);
+/// ```
 #[derive(Drop)]
 pub struct PhaserOne<F: Fn(u32, u32) -> bool> {
     word: Word,

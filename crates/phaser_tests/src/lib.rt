@@ -7,6 +7,8 @@ pub mod calls;
 #[cfg(test)]
 mod closures;
 #[cfg(test)]
+mod examples;
+#[cfg(test)]
 mod lists;
 #[cfg(test)]
 mod machine;

@@ -217,7 +217,7 @@ all_missing (t ∷ ts) = let l = all_missing ts in omega (arith, l)
 pub task_there : (ss : List SlotValue) (p : ℕ) (s : SlotValue) (t : TaskValue) → slice_get ss p ≡ Some s → t ≡ s.task → option_map task_at (slice_get ss p) ≡ Some t
 task_there ss p s t at e = ap (option_map task_at) at ∙ ap Some (sym e)
 
-none_first : (ps : List Plan) (ss : List SlotValue) → missing_in ss ≡ 0 → first_missing (slots_of ps ss) ≡ None
+pub none_first : (ps : List Plan) (ss : List SlotValue) → missing_in ss ≡ 0 → first_missing (slots_of ps ss) ≡ None
 none_first ps [] h = refl
 none_first ps (s ∷ ss) h = by s.done (omega arith) (none_first ps ss (omega arith))
   where

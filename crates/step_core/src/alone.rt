@@ -11,6 +11,7 @@ ghost use Rattle.step_deeds.specs.InPlace.{living_with, left_in, spawned_in};
 ghost use Rattle.step_parts.specs.JobMeaning.{start_tasks, opening, report_of};
 ghost use Rattle.step_core.specs.Course.{course_state, HasTakenOne, left_by};
 
+use crate::watch::{NoWatch, Watch};
 use phase_records::{JobStatus, PhaseRecord, Print, Report};
 use smallvec::SmallVec;
 use std::alloc::{AllocError, Global};
@@ -185,12 +186,13 @@ fn take_superstep(
 }
 
 // Takes supersteps until the job ends, and tells how it did. The room is lent.
-fn run_within(
+fn run_within<W: Watch>(
     alloc: Global,
     job: &Job,
     limit: u32,
     course: &mut Course,
     room: &mut Room,
+    watch: &mut W,
 ) -> Result<JobStatus, AllocError>
     requires start { course_state (program_of job.now) course.old ≡ opening (program_of job.now) }
     requires few { length course.old.tasks.items ≤ 4096 }
@@ -201,6 +203,7 @@ fn run_within(
         if course.tasks.is_empty() {
             return Ok(JobStatus::Ended(course.step));
         }
+        watch.superstep(course.step, course.tasks.len());
         let fault = take_superstep(alloc, job, course, room)?;
         match fault {
             Some(blame) => return Ok(blame.status(course.step)),
@@ -215,11 +218,12 @@ fn run_within(
 }
 
 // Takes supersteps until the job ends, and tells how it did.
-fn run_on(
+fn run_on<W: Watch>(
     alloc: Global,
     job: &Job,
     limit: u32,
     course: &mut Course,
+    watch: &mut W,
 ) -> Result<JobStatus, AllocError>
     requires start { course_state (program_of job.now) course.old ≡ opening (program_of job.now) }
     requires few { length course.old.tasks.items ≤ 4096 }
@@ -227,7 +231,7 @@ fn run_on(
     ensures short { IfOk result (λ s. IsShort (status_seen s)) }
 {
     let mut room = no_room(alloc);
-    run_within(alloc, job, limit, course, &mut room)
+    run_within(alloc, job, limit, course, &mut room, watch)
 }
 
 // A job before its first superstep.
@@ -267,11 +271,33 @@ fn leave(course: Course, status: JobStatus) -> Report
 }
 
 /// What a job leaves, within this limit of supersteps: each superstep's tasks one after another, by path.
+///
+/// ```
+/// let text = b"bsp 1\narray a 1\nbody b\nput a[0] = 7\nend\nstart b 0\n";
+/// let job = read_job(rt.alloc(), text).expect(&rt, "a job");
+/// // At most 1000 supersteps; this job ends after one.
+/// let report = run_alone(rt.alloc(), &job, 1000).expect(&rt, "memory");
+/// assert!(rt; matches!(report.status, JobStatus::Ended(1)));
+/// assert!(rt; report.arrays.cell(0, 0) == Some(7));
+/// ```
 pub fn run_alone(alloc: Global, job: &Job, limit: u32) -> Result<Report, AllocError>
     requires { 1 ≤ limit }
     ensures { IfOk result (λ report. report_of (program_of job.now) limit ≡ Some report) }
 {
+    run_watched(alloc, job, limit, &mut NoWatch)
+}
+
+/// What [`run_alone`] leaves. `watch` is told of each superstep before it is taken, and that changes nothing.
+pub fn run_watched<W: Watch>(
+    alloc: Global,
+    job: &Job,
+    limit: u32,
+    watch: &mut W,
+) -> Result<Report, AllocError>
+    requires { 1 ≤ limit }
+    ensures { IfOk result (λ report. report_of (program_of job.now) limit ≡ Some report) }
+{
     let mut course = begin(alloc, job)?;
-    let status = run_on(alloc, job, limit, &mut course)?;
+    let status = run_on(alloc, job, limit, &mut course, watch)?;
     Ok(leave(course, status))
 }

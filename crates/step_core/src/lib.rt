@@ -4,8 +4,10 @@
 mod alone;
 pub mod laws;
 mod round;
+mod watch;
 
-pub use alone::run_alone;
+pub use alone::{run_alone, run_watched};
 pub use round::Round;
 pub use step_parts::fault::{AcceptFault, CloseFault, Outcome};
 pub use step_parts::order::{Delivery, Order};
+pub use watch::{NoWatch, Watch};

@@ -1,4 +1,10 @@
 //! The supersteps of a job, taken one by one.
+ghost use Rattle.std.specs.Prelude.{◌≡◌, List};
+ghost use Rattle.std.specs.Option.{option_map};
+ghost use Rattle.task_lang.specs.Meaning.{Plan};
+ghost use Rattle.step_parts.specs.Slots.{first_missing, missing_in, slots_of};
+ghost use Rattle.step_parts.specs.SlotParts.{path_of};
+
 use crate::alone::start_all;
 use phase_records::{JobStatus, Report};
 use std::alloc::{AllocError, Global};
@@ -10,13 +16,28 @@ use step_parts::live::Live;
 use step_parts::next::count_living;
 use step_parts::order::{Delivery, Order, paths_of};
 use step_parts::reading::{find_near, join_report, prints_of, records_of};
-use step_parts::slot::{Blame, Finished};
+use step_parts::slot::{Blame, Finished, Slots};
 use superstep_memory::arrays::Arrays;
 use superstep_memory::path::Path;
 use task_lang::job::Job;
 
 /// The supersteps of a job so far, and what was delivered of the next. Its type keeps that its arrays, prints, records,
 /// live tasks and status are those of the job's supersteps so far, and that each delivery is the segment of its order.
+///
+/// ```
+/// let text = b"bsp 1\narray a 1\nbody b\nput a[0] = 7\nend\nstart b 0\n";
+/// let job = read_job(rt.alloc(), text).expect(&rt, "a job");
+/// let mut round = Round::new(rt.alloc(), &job, 1000).expect(&rt, "memory");
+/// // Orders may be done in any order, by any threads; each delivery is handed in once.
+/// let order = round.order(rt.alloc(), &[0]).expect(&rt, "memory");
+/// if let Some(order) = order {
+///     let delivery = Delivery::of(rt.alloc(), order).expect(&rt, "memory");
+///     if !round.has_ended() && round.accept(delivery).is_ok() && !round.has_ended() {
+///         assert!(rt; round.close_round(rt.alloc()).is_ok());
+///     }
+/// }
+/// assert!(rt; matches!(round.status(), Some(JobStatus::Ended(1))));
+/// ```
 #[derive(Drop)]
 pub struct Round<'j> {
     job: &'j Job,
@@ -28,6 +49,17 @@ pub struct Round<'j> {
     missing: usize,
     finished: Vec<Finished>,
     fault: Option<Blame>,
+}
+
+// The first path for whose task nothing was delivered. They are looked through only where one is missing.
+fn missing_path(missing: usize, slots: &Slots<'_>) -> Option<Path>
+    requires { missing ≡ missing_in slots.now }
+    ensures { (ps : List Plan) → option_map path_of result ≡ first_missing (slots_of ps slots.now) }
+{
+    if missing == 0 {
+        return None;
+    }
+    find_missing(slots)
 }
 
 impl<'j> Model for Round<'j> {
@@ -316,7 +348,7 @@ impl<'j> Round<'j> {
         ensures unchanged { OnErr result (self.new ≡ self.old) }
     {
         let slots = self.live.slots();
-        if let Some(path) = find_missing(&slots) {
+        if let Some(path) = missing_path(self.missing, &slots) {
             return Err(CloseFault::Missing(path));
         }
         if let Some(blame) = find_fault(&slots) {

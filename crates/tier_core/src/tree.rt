@@ -17,6 +17,25 @@ use tier_steps::view::View;
 ///
 /// Each call of a token is taken in steps, one at a time, and steps of different tokens may come in any
 /// order. A step takes no time that grows with the number of tokens.
+///
+/// ```
+/// // A root and two leaves; the tree ends where nobody is left.
+/// let shape = Shape::from_widths(rt.alloc(), "2").expect(&rt, "a shape");
+/// let plan = EndPlan {
+///     when_empty: true,
+///     at: None,
+/// };
+/// let mut core = Core::new(rt.alloc(), shape, 0, plan).expect(&rt, "memory");
+/// let token = core.add_token().expect(&rt, "memory");
+/// assert!(rt; core.begin(token, Call::Join { tier: 1, n: 1 }).is_ok());
+/// // Each step is one load or one exchange of a tier's word.
+/// for _ in 0..16 {
+///     if let Ok(Played::Done(phase)) = core.go(token) {
+///         assert!(rt; phase == 0);
+///     }
+/// }
+/// assert!(rt; core.root().parties == 1);
+/// ```
 #[derive(Drop)]
 pub struct Core {
     shape: Shape,

@@ -33,6 +33,22 @@ use tier_steps::view::Trip;
 
 /// A tree of phasers: one atomic word for each tier, and the rule that says when it ends. Its calls take it
 /// by shared reference, take no lock, and never wait.
+///
+/// ```
+/// // Any threads may share the tree; each has tokens of its own.
+/// let shape = Shape::from_widths(rt.alloc(), "2").expect(&rt, "a shape");
+/// let plan = EndPlan {
+///     when_empty: true,
+///     at: None,
+/// };
+/// let rule = StoredAdvance::new(|_phase, parties| parties == 0, plan);
+/// let (tree, door) = Tree::new(rt.alloc(), shape, 0, rule).expect(&rt, "memory");
+/// assert!(rt; tree.shape().count() == 3);
+/// // A member at tier 1; it is the only one, so its arrival takes the advance.
+/// if let Admitted::Joined(crew, _) = tree.register_wait(&rt, door, 1, 1) {
+///     assert!(rt; matches!(tree.arrive_wait(&rt, crew), Counted::Done(_, 0, true)));
+/// }
+/// ```
 #[derive(Drop)]
 pub struct Tree<F: Fn(u32, u32) -> bool> {
     pub(crate) tiers: Tiers,

@@ -211,6 +211,22 @@ fn run_shared<
 /// segment, and `starter` before each worker is started.
 ///
 /// It returns once all workers have been joined. That it ends is no part of its contract.
+///
+/// ```
+/// let text = b"bsp 1\narray a 1\nbody b\nput a[0] = 7\nend\nstart b 0\n";
+/// let job = read_job(rt.alloc(), text).expect(&rt, "a job");
+/// // Four workers at a root and two leaves; at most 1000 supersteps, so the last phase is 999.
+/// let shape = Shape::from_widths(rt.alloc(), "2").expect(&rt, "a shape");
+/// let plan = EndPlan {
+///     when_empty: true,
+///     at: Some(999),
+/// };
+/// let rule = StoredAdvance::new(|phase, parties| parties == 0 || phase == 999, plan);
+/// match run_job(&rt, rt.alloc(), &job, shape, 4, rule, &OpenGate, &AllStart) {
+///     Ok(report) => assert!(rt; report.arrays.cell(0, 0) == Some(7)),
+///     Err(_) => panic!(rt; "a refused run"),
+/// }
+/// ```
 pub fn run_job<
     R: Threads + Wait + Sync,
     F: Fn(u32, u32) -> bool + Sync + Drop,

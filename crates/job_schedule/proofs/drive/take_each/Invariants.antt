@@ -1,12 +1,15 @@
 use Rattle.std.proofs.Common.{◌≡◌, ◌++◌, length, map}
 use Rattle.job_schedule.specs.AnswerValue.{answer_seen}
-use Rattle.job_schedule.specs.Parts.{world_of}
+use Rattle.job_schedule.specs.Parts.{IsKept, IsReached, world_of}
 use Rattle.job_schedule.specs.World.{answers}
 use Rattle.job_schedule.proofs.drive.take_each.Given as goal
 
 abbrev pub invariant-loop-step : goal.invariant-loop-step
-invariant-loop-step l =
-    map answer_seen l.told.items ++ answers (world_of l.schedule) l.rest ≡ answers (world_of l.fn.schedule) l.fn.steps
+invariant-loop-step l = record {
+  told : map answer_seen l.told.items ++ answers (world_of l.schedule) l.rest ≡ answers (world_of l.fn.schedule) l.fn.steps;
+  reached : IsReached (world_of l.schedule);
+  kept : IsKept l.schedule.round (world_of l.schedule);
+}
 
 abbrev pub decreases-loop-step : goal.decreases-loop-step
 decreases-loop-step l = length l.rest

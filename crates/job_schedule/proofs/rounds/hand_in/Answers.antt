@@ -1,13 +1,13 @@
 use Rattle.job_schedule.proofs.Deeds.{as_before}
 use Rattle.job_schedule.proofs.rounds.hand_in.Goals as goal
 
-pub returns-in-Ok-clause-taken : goal.returns-in-Ok-clause-taken
-returns-in-Ok-clause-taken c = record {
+pub returns-clause-taken : goal.returns-clause-taken
+returns-clause-taken c = record {
   delivery = c.in_ok-delivery.delivery;
   own = c.in_ok-delivery.ensures.path;
   takes = c.in-Ok.ensures.taken;
   added = c.in-Ok.ensures.added;
 }
 
-pub returns-in-Ok-clause-round : goal.returns-in-Ok-clause-round
-returns-in-Ok-clause-round c = as_before c.args.round.now c.accept_known.new.self c.in_ok-delivery.delivery c.in-Ok.ensures.added
+pub returns-clause-round : goal.returns-clause-round
+returns-clause-round c = as_before c.args.round.now c.accept_known.new.self c.in_ok-delivery.delivery c.in-Ok.ensures.added

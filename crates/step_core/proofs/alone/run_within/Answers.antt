@@ -6,17 +6,17 @@ use Rattle.step_core.proofs.Course.{at_end, is_running, is_over, is_late, reache
 use Rattle.step_core.proofs.alone.run_within.Goals as goal
 
 pub returns-then-is_empty-clause-report : goal.returns-then-is_empty-clause-report
-returns-then-is_empty-clause-report c =
+returns-then-is_empty-clause-report g c =
     let p = program_of c.args.job.now in
     let none = none_there _ c.is_empty.result c.is_empty.ensures c.if-is_empty.true in
     at_end p c.args.limit c.loop-course.invariant.reached.0 c.loop-course.course _ c.loop-course.invariant.reached.1
     (is_over p c.args.limit c.loop-course.course (omega (arith, none, c.loop-course.course.tasks.ok.0)))
 
 pub take_superstep-requires-clause-rising : goal.take_superstep-requires-clause-rising
-take_superstep-requires-clause-rising c = rises (program_of c.args.job.now) c.args.limit c.loop-course.course c.loop-course.invariant.reached
+take_superstep-requires-clause-rising g c = rises (program_of c.args.job.now) c.args.limit c.loop-course.course c.loop-course.invariant.reached
 
 pub returns-in-Some-clause-report : goal.returns-in-Some-clause-report
-returns-in-Some-clause-report c =
+returns-in-Some-clause-report g c =
     let p = program_of c.args.job.now in
     let some = some_there _ c.is_empty.result c.is_empty.ensures c.if-is_empty.false in
     let run = is_running p c.args.limit c.loop-course.course (omega (arith, some, c.loop-course.course.tasks.ok.0)) c.loop-course-test.true in
@@ -25,7 +25,7 @@ returns-in-Some-clause-report c =
     ∙ ap (λ (s : Status). Some (left_by c.take_superstep.new.course s)) (sym c.status.ensures.status)
 
 pub loop-course-preserved : goal.loop-course-preserved
-loop-course-preserved c =
+loop-course-preserved g c =
     let p = program_of c.args.job.now in
     let some = some_there _ c.is_empty.result c.is_empty.ensures c.if-is_empty.false in
     let run = is_running p c.args.limit c.loop-course.course (omega (arith, some, c.loop-course.course.tasks.ok.0)) c.loop-course-test.true in
@@ -37,14 +37,14 @@ loop-course-preserved c =
     }
 
 pub returns-then-is_empty-2-clause-report : goal.returns-then-is_empty-2-clause-report
-returns-then-is_empty-2-clause-report c =
+returns-then-is_empty-2-clause-report g c =
     let p = program_of c.args.job.now in
     let none = none_there _ c.is_empty-2.result c.is_empty-2.ensures c.if-is_empty-2.true in
     at_end p c.args.limit c.loop-course.invariant.reached.0 c.loop-course.course _ c.loop-course.invariant.reached.1
     (is_over p c.args.limit c.loop-course.course (omega (arith, none, c.loop-course.course.tasks.ok.0)))
 
 pub returns-else-is_empty-2-clause-report : goal.returns-else-is_empty-2-clause-report
-returns-else-is_empty-2-clause-report c =
+returns-else-is_empty-2-clause-report g c =
     let p = program_of c.args.job.now in
     let some = some_there _ c.is_empty-2.result c.is_empty-2.ensures c.if-is_empty-2.false in
     at_end p c.args.limit c.loop-course.invariant.reached.0 c.loop-course.course _ c.loop-course.invariant.reached.1

@@ -5,8 +5,8 @@ use Rattle.job_schedule.specs.Parts.{world_of}
 use Rattle.job_schedule.proofs.Opening.{started}
 use Rattle.job_schedule.proofs.schedule.Schedule.start.Goals as goal
 
-pub returns : goal.returns
-returns c =
+pub returns-clause-world : goal.returns-clause-world
+returns-clause-world c =
     started (world_of c.args.self.now) c.in_ok-token.token c.leaf_at-home.result c.add_token.new.self c.step.new.self c.go_on.new.core c.args.path.items c.push.new.self.items
     c.in_ok-token.ensures.added c.in_ok-token.ensures.token
     (c.leaf_at-home.ensures
