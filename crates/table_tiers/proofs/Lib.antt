@@ -7,6 +7,7 @@ pub mod Passing
 pub mod Making
 pub mod Breaking
 pub mod Settling
+pub mod Staying
 pub mod Seeks
 pub mod Entering
 pub mod Coming

@@ -69,6 +69,10 @@ first h h' crew took = record {
         let u : View = record v { led = false; note = cond (is_going_back v.errand) v.note None } in
         ap (λ b. (cond b (record u { end_seen = Some w.phase; errand = dropped v.errand }) (moved w u)).end_seen) e
 
+-- an arrival or a departure that has looked
+abbrev pub began_at : Trip → Holding → Going
+began_at own h = record { token = h; progress = Passing own; answer = GoesOn }
+
 -- where a call goes on from its first look
 pub began : {n : Named} {h h' : Holding} {own : Trip} → h.tree ≡ n → IsCrew h → Looked Look 0 h h' → h'.view.arrived ≢ h'.view.size → IsAt n (record { token = h'; progress = Passing own; answer = GoesOn })
 began {n} {h} {h'} {own} is crew took some =
@@ -251,7 +255,7 @@ module _ (n : Named) (own : Trip) (tries : ℕ) (h h' : Holding) (g : Going) (is
   more : h'.view.arrived < h'.view.size
   more = (began {n = n} {h = h} {h' = h'} {own = own} is crew took some).fits.1
 
-  shown : PassAt own (IsSame h'.view) (HasCounted own h'.view) g.token.view g.answer g.progress
+  pub shown : PassAt own (IsSame h'.view) (HasCounted own h'.view) g.token.view g.answer g.progress
   shown = passes_count_once n.key own h'.view (position at0) (position g) refl refl more (first_fresh took going) (ran.went.goes (position at0) starts)
 
   pub may_settle : MaySettle g

@@ -3,8 +3,13 @@ use Rattle.std.specs.Prelude.{◌≡◌, true, false}
 use Rattle.table_tiers.specs.Next.{is_owing}
 use Rattle.tier_core.specs.Machine.{CallFits}
 use Rattle.table_rule.specs.Tell.{Beside}
-use Rattle.table_tiers.specs.Holding.{Named}
+use Rattle.table_tiers.specs.Holding.{Named, Holding}
 use Rattle.table_tiers.specs.declared.going.Going.{Going}
+use Rattle.table_tiers.specs.declared.going.Course.{Course}
+
+-- a token in a call that has come so far
+abbrev pub under : Holding → Course → Going
+under h c = record { token = h; progress = c.progress; answer = c.answer }
 
 -- a call under way fits what its token knows, and some state of its tree has its token's view and word
 pub record IsAt (n : Named) (g : Going) : Type 0 where

@@ -12,3 +12,4 @@ pub mod Polls
 pub mod Forces
 pub mod Closes
 pub mod JoinsHere
+pub mod InPlace

@@ -3,9 +3,11 @@
 ghost use Rattle.std.specs.Prelude.{◌≡◌, ℕ, Some};
 ghost use Rattle.advance_rule.specs.Stored.{Answers};
 ghost use Rattle.advance_rule.specs.Plan.{end_ends_at};
+ghost use Rattle.table_tiers.specs.Calls.{under};
 ghost use Rattle.table_tiers.specs.Arrives.{Arrives, Resumes, HasEnded, MaySettle, MayEnd, Settles, Ends};
 
-use crate::going::Going;
+use crate::going::{Course, Going};
+use crate::seated::Seated;
 use crate::tiers::Tiers;
 use crate::tokens::{Crew, Door, Errand};
 use advance_rule::StoredAdvance;
@@ -37,6 +39,19 @@ pub enum Resumed {
     Left(Door, u32, bool),
     /// All tries were made, and the tiers above have to be told.
     Owing(Errand),
+}
+
+/// A token in a call that has come so far.
+#[inline(always)]
+fn going(token: Seated, course: Course) -> Going
+    ensures { result ≡ under token course }
+{
+    let Course { progress, answer } = course;
+    Going {
+        token,
+        progress,
+        answer,
+    }
 }
 
 /// What a call that has made its tries answers.
@@ -117,12 +132,12 @@ impl Tiers {
         if view.arrived == view.size {
             return Arrived::AlreadyArrived(Crew { token }, view.phase);
         }
-        let at = Going {
-            token,
+        let mut course = Course {
             progress: Progress::Passing(own),
             answer: Played::GoesOn,
         };
-        answer_settled(self.go_straight(at, own, rule, tries))
+        self.go_straight(&mut token, &mut course, own, rule, tries);
+        answer_settled(going(token, course))
     }
 
     /// Goes on with what is owed.
@@ -137,7 +152,14 @@ impl Tiers {
         requires plan { rule.now.plan ≡ self.now.key.plan }
         ensures { Resumes errand tries result }
     {
-        let Errand { going } = errand;
-        answer_resumed(self.go_owing(going, rule, tries))
+        let Errand { going: at } = errand;
+        let Going {
+            mut token,
+            progress,
+            answer,
+        } = at;
+        let mut course = Course { progress, answer };
+        self.go_owing(&mut token, &mut course, rule, tries);
+        answer_resumed(going(token, course))
     }
 }

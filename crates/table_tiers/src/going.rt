@@ -6,7 +6,7 @@ ghost use Rattle.tier_core.specs.Machine.{CallFits, is_going};
 ghost use Rattle.tier_core.specs.Turn.{place};
 ghost use Rattle.tier_core.specs.declared.call.Progress.TheVariants.{Passing};
 ghost use Rattle.table_tiers.specs.Holding.{Looked};
-ghost use Rattle.table_tiers.specs.Calls.{IsAt};
+ghost use Rattle.table_tiers.specs.Calls.{IsAt, under};
 ghost use Rattle.table_tiers.specs.Next.{meant, is_owing, is_passing};
 ghost use Rattle.table_tiers.specs.Joins.{is_joining};
 ghost use Rattle.table_tiers.specs.Goes.{Stands, LooksOn, WentOn, EndsAsPlanned, Stood, Ran, After};
@@ -20,6 +20,15 @@ use advance_rule::StoredAdvance;
 use tier_core::call::{Played, Progress};
 use tier_core::turn::{tier_of, turn_here};
 use tier_steps::view::{Trip, View};
+
+/// How far a call has come, beside its token.
+#[derive(Clone, Copy)]
+pub struct Course {
+    /// How far.
+    pub progress: Progress,
+    /// What its last step answered.
+    pub answer: Played,
+}
 
 /// A token in a call.
 pub struct Going {
@@ -126,75 +135,73 @@ impl Tiers {
     #[inline(always)]
     pub(crate) fn planned<F: Fn(u32, u32) -> bool>(
         &self,
-        at: &Going,
+        token: &Seated,
+        course: &Course,
         rule: &StoredAdvance<F>,
     ) -> bool
         requires rule { Answers (F.pre rule.now.closure) (F.post rule.now.closure) (end_ends_at rule.now.plan) }
         requires plan { rule.now.plan ≡ self.now.key.plan }
-        ensures { EndsAsPlanned self.now.key result at.now }
+        ensures { EndsAsPlanned self.now.key result (under token.now course.now) }
     {
-        let Progress::Due(_) = at.progress else {
+        let Progress::Due(_) = course.progress else {
             return false;
         };
-        let word = at.token.word();
+        let word = token.word();
         rule.call(word.phase, word.parties)
     }
 
-    /// Takes the steps of an arrival or a departure until it is over, or so many tries were made. All that
-    /// it calls is inlined, so that the token stays in registers.
+    /// Takes the steps of an arrival or a departure until it is over, or so many tries were made.
     #[inline]
     pub(crate) fn go_on<F: Fn(u32, u32) -> bool>(
         &self,
-        at: Going,
+        token: &mut Seated,
+        course: &mut Course,
         rule: &StoredAdvance<F>,
         tries: u32,
-    ) -> Going
-        requires at { IsAt self.now at }
-        requires passing { is_passing at.progress ≡ true }
+    )
+        requires at { IsAt self.now (under token.old course.old) }
+        requires passing { is_passing course.old.progress ≡ true }
         requires rule { Answers (F.pre rule.now.closure) (F.post rule.now.closure) (end_ends_at rule.now.plan) }
         requires plan { rule.now.plan ≡ self.now.key.plan }
-        ensures { Ran self.now tries at result }
+        ensures { Ran self.now tries (under token.old course.old) (under token.new course.new) }
     {
-        let mut at = at;
         for _ in 0..tries {
-            match at.progress {
-                Progress::Passing(own) => self.pass_own(&mut at, own),
-                Progress::Owing(own) => self.climb(&mut at, own),
-                Progress::Due(_) => self.advance(&mut at, rule),
+            match course.progress {
+                Progress::Passing(own) => self.pass_own(token, course, own),
+                Progress::Owing(own) => self.climb(token, course, own),
+                Progress::Due(_) => self.advance(token, course, rule),
                 _ => unreachable!(),
             }
-            if !goes_on(at.progress) {
-                return at;
+            if !goes_on(course.progress) {
+                return;
             }
         }
-        at
     }
 
     /// The same of one that has passed its own tier.
     pub(crate) fn go_owing<F: Fn(u32, u32) -> bool>(
         &self,
-        at: Going,
+        token: &mut Seated,
+        course: &mut Course,
         rule: &StoredAdvance<F>,
         tries: u32,
-    ) -> Going
-        requires at { IsAt self.now at }
-        requires owing { is_owing at.progress ≡ true }
+    )
+        requires at { IsAt self.now (under token.old course.old) }
+        requires owing { is_owing course.old.progress ≡ true }
         requires rule { Answers (F.pre rule.now.closure) (F.post rule.now.closure) (end_ends_at rule.now.plan) }
         requires plan { rule.now.plan ≡ self.now.key.plan }
-        ensures { Ran self.now tries at result }
+        ensures { Ran self.now tries (under token.old course.old) (under token.new course.new) }
     {
-        let mut at = at;
         for _ in 0..tries {
-            match at.progress {
-                Progress::Owing(own) => self.climb(&mut at, own),
-                Progress::Due(_) => self.advance(&mut at, rule),
+            match course.progress {
+                Progress::Owing(own) => self.climb(token, course, own),
+                Progress::Due(_) => self.advance(token, course, rule),
                 _ => unreachable!(),
             }
-            if !goes_on(at.progress) {
-                return at;
+            if !goes_on(course.progress) {
+                return;
             }
         }
-        at
     }
 
     /// The own step of an arrival or a departure, and the advance where that is owed then; how many tries
@@ -202,26 +209,27 @@ impl Tiers {
     #[inline(always)]
     fn start<F: Fn(u32, u32) -> bool>(
         &self,
-        at: &mut Going,
+        token: &mut Seated,
+        course: &mut Course,
         own: Trip,
         rule: &StoredAdvance<F>,
         tries: u32,
     ) -> u32
-        requires at { IsAt self.now at.old }
-        requires passing { at.old.progress ≡ Passing own }
+        requires at { IsAt self.now (under token.old course.old) }
+        requires passing { course.old.progress ≡ Passing own }
         requires rule { Answers (F.pre rule.now.closure) (F.post rule.now.closure) (end_ends_at rule.now.plan) }
         requires plan { rule.now.plan ≡ self.now.key.plan }
-        ensures ran { Ran self.now result at.old at.new }
+        ensures ran { Ran self.now result (under token.old course.old) (under token.new course.new) }
         ensures few { result ≤ tries }
     {
         if tries < 2 {
             return 0;
         }
-        self.pass_own(at, own);
-        let Progress::Due(_) = at.progress else {
+        self.pass_own(token, course, own);
+        let Progress::Due(_) = course.progress else {
             return 1;
         };
-        self.advance(at, rule);
+        self.advance(token, course, rule);
         2
     }
 
@@ -230,23 +238,23 @@ impl Tiers {
     #[inline(always)]
     pub(crate) fn go_straight<F: Fn(u32, u32) -> bool>(
         &self,
-        at: Going,
+        token: &mut Seated,
+        course: &mut Course,
         own: Trip,
         rule: &StoredAdvance<F>,
         tries: u32,
-    ) -> Going
-        requires at { IsAt self.now at }
-        requires passing { at.progress ≡ Passing own }
+    )
+        requires at { IsAt self.now (under token.old course.old) }
+        requires passing { course.old.progress ≡ Passing own }
         requires rule { Answers (F.pre rule.now.closure) (F.post rule.now.closure) (end_ends_at rule.now.plan) }
         requires plan { rule.now.plan ≡ self.now.key.plan }
-        ensures { Ran self.now tries at result }
+        ensures { Ran self.now tries (under token.old course.old) (under token.new course.new) }
     {
-        let mut at = at;
-        let used = self.start(&mut at, own, rule, tries);
-        if !goes_on(at.progress) {
-            return at;
+        let used = self.start(token, course, own, rule, tries);
+        if !goes_on(course.progress) {
+            return;
         }
-        self.go_on(at, rule, tries - used)
+        self.go_on(token, course, rule, tries - used);
     }
 
     /// Takes the steps of a call that never advances the root, until it is over, or so many tries were made.

@@ -9,14 +9,17 @@ ghost use Rattle.tier_core.specs.Turn.{place, turn_by, pass_turn};
 ghost use Rattle.tier_core.specs.declared.call.Played.{Played};
 ghost use Rattle.tier_core.specs.declared.call.Played.TheVariants as played;
 ghost use Rattle.tier_core.specs.declared.call.Progress.TheVariants as progress;
-ghost use Rattle.table_tiers.specs.Calls.{IsAt};
+ghost use Rattle.tier_steps.specs.declared.view.Trip.TheVariants.{Arrival};
+ghost use Rattle.table_tiers.specs.Calls.{IsAt, under};
 ghost use Rattle.table_tiers.specs.Next.{is_passing};
 ghost use Rattle.table_tiers.specs.Goes.{Stands, WentOn, EndsAsPlanned, Stood, Ran, over_at};
 
-use crate::going::Going;
+use crate::going::Course;
 use crate::next::goes_on;
+use crate::seated::Seated;
 use crate::tiers::Tiers;
 use advance_rule::StoredAdvance;
+use phaser_word::Word;
 use tier_core::call::{Played, Progress, Turn};
 use tier_core::turn::{above, is_behind};
 use tier_steps::kind::Kind;
@@ -47,84 +50,82 @@ fn passed_answer(phase: u32, parties: u32, errand: Errand) -> Played
     }
 }
 
-/// How it stands after a look in place of its step, before which its token was in this phase.
+/// How it stands after a look in place of its step, which found this word, and before which its token was in this phase.
 #[inline(always)]
-fn missed(at: &mut Going, phase: u32)
-    ensures token { at.new.token ≡ at.old.token }
-    ensures progress { at.new.progress ≡ (if at.old.token.word.ended then progress.Idle else at.old.progress) }
-    ensures answer { at.new.answer ≡ (if at.old.token.word.ended then over_at at.old.progress phase at.old.token.word else played.GoesOn) }
+fn missed(course: &mut Course, phase: u32, word: Word)
+    ensures progress { course.new.progress ≡ (if word.ended then progress.Idle else course.old.progress) }
+    ensures answer { course.new.answer ≡ (if word.ended then over_at course.old.progress phase word else played.GoesOn) }
 {
-    let word = at.token.word();
     if !word.ended {
-        at.answer = Played::GoesOn;
+        course.answer = Played::GoesOn;
         return;
     }
-    at.answer = match at.progress {
+    course.answer = match course.progress {
         Progress::Passing(_) => Played::Ended(word.shown()),
         _ => Played::Done(phase),
     };
-    at.progress = Progress::Idle;
+    course.progress = Progress::Idle;
 }
 
 impl Tiers {
     /// Looks at the tier of its next step, where its token doesn't stand there.
     #[inline(always)]
-    fn stand_to(&self, at: &mut Going, tier: u16)
-        requires at { IsAt self.now at.old }
-        requires passing { is_passing at.old.progress ≡ true }
-        requires tier { tier ≡ place self.now.key.shape at.old.progress at.old.token.view }
-        ensures stood { Stood self.now at.old at.new }
-        ensures going { is_going at.new.progress ≡ true → (at.new.progress ≡ at.old.progress) × (at.new.token.word.ended ≡ false) }
+    fn stand_to(&self, token: &mut Seated, course: &mut Course, tier: u16)
+        requires at { IsAt self.now (under token.old course.old) }
+        requires passing { is_passing course.old.progress ≡ true }
+        requires tier { tier ≡ place self.now.key.shape course.old.progress token.old.view }
+        ensures stood { Stood self.now (under token.old course.old) (under token.new course.new) }
+        ensures going { is_going course.new.progress ≡ true → (course.new.progress ≡ course.old.progress) × (token.new.word.ended ≡ false) }
     {
-        if at.token.tier() == tier && !at.token.word().ended {
+        if token.tier() == tier && !token.word().ended {
             return;
         }
-        let phase = at.token.view().phase;
-        self.look(&mut at.token, tier, Kind::Look);
-        missed(at, phase);
+        let phase = token.view().phase;
+        self.look(token, tier, Kind::Look);
+        missed(course, phase, token.word());
     }
 
     /// One try of its next step.
     #[inline(always)]
-    fn try_turn(&self, at: &mut Going, turn: Turn, ends: bool)
-        requires at { IsAt self.now at.old }
-        requires stands { Stands self.now.key at.old }
-        requires passing { is_passing at.old.progress ≡ true }
-        requires turn { turn ≡ turn_by self.now.key.shape ends at.old.token.word at.old.progress at.old.token.view }
-        requires ends { EndsAsPlanned self.now.key ends at.old }
-        ensures { WentOn self.now 1 at.old at.new }
+    fn try_turn(&self, token: &mut Seated, course: &mut Course, turn: Turn, ends: bool)
+        requires at { IsAt self.now (under token.old course.old) }
+        requires stands { Stands self.now.key (under token.old course.old) }
+        requires passing { is_passing course.old.progress ≡ true }
+        requires turn { turn ≡ turn_by self.now.key.shape ends token.old.word course.old.progress token.old.view }
+        requires ends { EndsAsPlanned self.now.key ends (under token.old course.old) }
+        ensures { WentOn self.now 1 (under token.old course.old) (under token.new course.new) }
     {
-        let phase = at.token.view().phase;
-        if self.attempt(&mut at.token, turn.kind) {
-            at.progress = turn.next;
-            at.answer = turn.answer;
+        let phase = token.view().phase;
+        if self.attempt(token, turn.kind) {
+            course.progress = turn.next;
+            course.answer = turn.answer;
         } else {
-            missed(at, phase);
+            missed(course, phase, token.word());
         }
     }
 
     /// One try of the step by which a party passes the tier where its token stands, or of the refresh before it.
     #[inline(always)]
-    fn pass_tier(&self, at: &mut Going, own: Trip, trip: Trip, kind: Kind)
-        requires at { IsAt self.now at.old }
-        requires stands { Stands self.now.key at.old }
-        requires passing { is_passing at.old.progress ≡ true }
-        requires open { at.old.token.word.ended ≡ false }
-        requires turn { (over : Played) × (turn_by self.now.key.shape false at.old.token.word at.old.progress at.old.token.view ≡ pass_turn self.now.key.shape own at.old.token.tier trip kind at.old.progress over at.old.token.word at.old.token.view) }
-        requires ends { EndsAsPlanned self.now.key false at.old }
-        ensures { WentOn self.now 1 at.old at.new }
+    fn pass_tier(&self, token: &mut Seated, course: &mut Course, own: Trip, trip: Trip, kind: Kind)
+        requires at { IsAt self.now (under token.old course.old) }
+        requires stands { Stands self.now.key (under token.old course.old) }
+        requires passing { is_passing course.old.progress ≡ true }
+        requires open { token.old.word.ended ≡ false }
+        requires turn { (over : Played) × (turn_by self.now.key.shape false token.old.word course.old.progress token.old.view ≡ pass_turn self.now.key.shape own token.old.tier trip kind course.old.progress over token.old.word token.old.view) }
+        requires ends { EndsAsPlanned self.now.key false (under token.old course.old) }
+        ensures { WentOn self.now 1 (under token.old course.old) (under token.new course.new) }
     {
-        let tier = at.token.tier();
-        let word = at.token.word();
-        let view = at.token.view();
+        let tier = token.tier();
+        let word = token.word();
+        let view = token.view();
         if is_behind(word, &view) {
             let turn = Turn {
                 kind: Kind::Refresh,
                 tier,
-                next: at.progress,
+                next: course.progress,
                 answer: Played::GoesOn,
             };
-            return self.try_turn(at, turn, false);
+            return self.try_turn(token, course, turn, false);
         }
         let errand = errand_after(above(self.shape(), tier), tier, trip, word);
         let parties = word_passed(tier, trip, word).parties;
@@ -134,67 +135,114 @@ impl Tiers {
             next: then_climb(own, errand),
             answer: passed_answer(view.phase, parties, errand),
         };
-        self.try_turn(at, turn, false);
+        self.try_turn(token, course, turn, false);
+    }
+
+    /// One try of an arrival at the tier where its token stands, or of the refresh before it. Where others are still to
+    /// arrive there, nothing is owed afterwards.
+    #[inline(always)]
+    fn arrive_at(&self, token: &mut Seated, course: &mut Course)
+        requires at { IsAt self.now (under token.old course.old) }
+        requires stands { Stands self.now.key (under token.old course.old) }
+        requires passing { course.old.progress ≡ progress.Passing Arrival }
+        requires open { token.old.word.ended ≡ false }
+        ensures { WentOn self.now 1 (under token.old course.old) (under token.new course.new) }
+    {
+        let word = token.word();
+        if word.unarrived < 2 {
+            return self.pass_tier(token, course, Trip::Arrival, Trip::Arrival, Kind::Arrive);
+        }
+        let turn = Turn {
+            kind: Kind::Arrive,
+            tier: token.tier(),
+            next: Progress::Idle,
+            answer: Played::Done(token.view().phase),
+        };
+        self.try_turn(token, course, turn, false);
     }
 
     /// The own step of an arrival or a departure, by one try at most.
     #[inline(always)]
-    pub(crate) fn pass_own(&self, at: &mut Going, own: Trip)
-        requires at { IsAt self.now at.old }
-        requires passing { at.old.progress ≡ progress.Passing own }
-        ensures { Ran self.now 1 at.old at.new }
+    pub(crate) fn pass_own(&self, token: &mut Seated, course: &mut Course, own: Trip)
+        requires at { IsAt self.now (under token.old course.old) }
+        requires passing { course.old.progress ≡ progress.Passing own }
+        ensures { Ran self.now 1 (under token.old course.old) (under token.new course.new) }
     {
-        let tier = at.token.view().tier;
-        self.stand_to(at, tier);
-        if !goes_on(at.progress) {
+        let tier = token.view().tier;
+        self.stand_to(token, course, tier);
+        if !goes_on(course.progress) {
             return;
         }
         match own {
-            Trip::Arrival => self.pass_tier(at, Trip::Arrival, Trip::Arrival, Kind::Arrive),
-            Trip::Departure => self.pass_tier(at, Trip::Departure, Trip::Departure, Kind::Leave),
+            Trip::Arrival => {
+                self.pass_tier(token, course, Trip::Arrival, Trip::Arrival, Kind::Arrive)
+            }
+            Trip::Departure => {
+                self.pass_tier(token, course, Trip::Departure, Trip::Departure, Kind::Leave)
+            }
         }
+    }
+
+    /// The own step of an arrival, with a straight way where others are still to arrive at its tier.
+    #[inline(always)]
+    pub(crate) fn arrive_own(&self, token: &mut Seated, course: &mut Course)
+        requires at { IsAt self.now (under token.old course.old) }
+        requires passing { course.old.progress ≡ progress.Passing Arrival }
+        ensures { Ran self.now 1 (under token.old course.old) (under token.new course.new) }
+    {
+        let tier = token.view().tier;
+        self.stand_to(token, course, tier);
+        if !goes_on(course.progress) {
+            return;
+        }
+        self.arrive_at(token, course);
     }
 
     /// The next step of its climb, by one try at most.
     #[inline(always)]
-    pub(crate) fn climb(&self, at: &mut Going, own: Trip)
-        requires at { IsAt self.now at.old }
-        requires owing { at.old.progress ≡ progress.Owing own }
-        ensures { Ran self.now 1 at.old at.new }
+    pub(crate) fn climb(&self, token: &mut Seated, course: &mut Course, own: Trip)
+        requires at { IsAt self.now (under token.old course.old) }
+        requires owing { course.old.progress ≡ progress.Owing own }
+        ensures { Ran self.now 1 (under token.old course.old) (under token.new course.new) }
     {
-        let Errand::Climbing { tier, .. } = at.token.view().errand else {
+        let Errand::Climbing { tier, .. } = token.view().errand else {
             unreachable!()
         };
-        self.stand_to(at, tier);
-        if !goes_on(at.progress) {
+        self.stand_to(token, course, tier);
+        if !goes_on(course.progress) {
             return;
         }
-        let Errand::Climbing { trip, .. } = at.token.view().errand else {
+        let Errand::Climbing { trip, .. } = token.view().errand else {
             unreachable!()
         };
-        self.pass_tier(at, own, trip, Kind::Climb(trip));
+        self.pass_tier(token, course, own, trip, Kind::Climb(trip));
     }
 
     /// The advance that it has to take, by one try at most.
     #[inline(always)]
-    pub(crate) fn advance<F: Fn(u32, u32) -> bool>(&self, at: &mut Going, rule: &StoredAdvance<F>)
-        requires at { IsAt self.now at.old }
-        requires due { (own : Trip) × (at.old.progress ≡ progress.Due own) }
+    pub(crate) fn advance<F: Fn(u32, u32) -> bool>(
+        &self,
+        token: &mut Seated,
+        course: &mut Course,
+        rule: &StoredAdvance<F>,
+    )
+        requires at { IsAt self.now (under token.old course.old) }
+        requires due { (own : Trip) × (course.old.progress ≡ progress.Due own) }
         requires rule { Answers (F.pre rule.now.closure) (F.post rule.now.closure) (end_ends_at rule.now.plan) }
         requires plan { rule.now.plan ≡ self.now.key.plan }
-        ensures { Ran self.now 1 at.old at.new }
+        ensures { Ran self.now 1 (under token.old course.old) (under token.new course.new) }
     {
-        self.stand_to(at, 0);
-        if !goes_on(at.progress) {
+        self.stand_to(token, course, 0);
+        if !goes_on(course.progress) {
             return;
         }
-        let ends = self.planned(at, rule);
+        let ends = self.planned(token, course, rule);
         let turn = Turn {
             kind: Kind::Advance(ends),
             tier: 0,
             next: Progress::Idle,
-            answer: Played::Done(at.token.view().phase),
+            answer: Played::Done(token.view().phase),
         };
-        self.try_turn(at, turn, ends);
+        self.try_turn(token, course, turn, ends);
     }
 }

@@ -12,6 +12,7 @@ ghost use Rattle.table_rule.specs.Reach.{PlanSays};
 
 use crate::seated::Seated;
 use crate::tokens::Door;
+use crate::writing::step_in;
 use advance_rule::EndPlan;
 use atomic_table::Table;
 use phaser_word::Word;
@@ -23,7 +24,7 @@ use table_rule::sight::{Key, Sights};
 use tier_core::turn::above;
 use tier_shape::Shape;
 use tier_steps::kind::Kind;
-use tier_steps::step::{step_view, step_word};
+use tier_steps::step::step_word;
 use tier_steps::view::View;
 
 /// The tiers of a tree, one atomic word each.
@@ -124,7 +125,8 @@ impl Tiers {
             .load::<Looks<J>>(&mut token.seat, usize::from(tier));
         let word = Word::unpack(found).unwrap();
         let look = look_for(kind, tier, word);
-        token.view = step_view(look, tier, above(&self.key.shape, tier), word, token.view);
+        let above = above(&self.key.shape, tier);
+        step_in(look, tier, above, word, &mut token.view);
         token.tier = tier;
         token.word = word;
     }
@@ -161,7 +163,6 @@ impl Tiers {
         let tier = token.tier;
         let word = token.word;
         let above = above(&self.key.shape, tier);
-        let view = step_view(kind, tier, above, word, token.view);
         let next = step_word(kind, tier, word, &token.view);
         let old = word.pack();
         let new = next.pack();
@@ -170,13 +171,13 @@ impl Tiers {
             .shared
             .compare_exchange_with::<Tries>(&mut token.seat, usize::from(tier), old, new, &kind);
         if found == old {
-            token.view = view;
+            step_in(kind, tier, above, word, &mut token.view);
             token.word = next;
             true
         } else {
             let word = Word::unpack(found).unwrap();
             let look = look_for(kind, tier, word);
-            token.view = step_view(look, tier, above, word, token.view);
+            step_in(look, tier, above, word, &mut token.view);
             token.word = word;
             false
         }

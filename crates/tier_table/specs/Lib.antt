@@ -12,5 +12,6 @@ pub use Rattle.table_tiers.specs.Polls
 pub use Rattle.table_tiers.specs.Forces
 pub use Rattle.table_tiers.specs.Closes
 pub use Rattle.table_tiers.specs.JoinsHere
+pub use Rattle.table_tiers.specs.InPlace
 pub mod AtLast
 pub mod Ruled

@@ -8,12 +8,15 @@ ghost use Rattle.tier_steps.specs.declared.view.Trip.TheVariants.{Arrival, Depar
 ghost use Rattle.table_tiers.specs.Openings.{asked_tier, asked_size};
 ghost use Rattle.table_tiers.specs.Holding.{Holding};
 ghost use Rattle.table_tiers.specs.Arrives.{IsLooked, HasPassed};
+ghost use Rattle.table_tiers.specs.InPlace.{ArrivesInPlace};
+ghost use Rattle.table_tiers.specs.InPlace as in_place;
 ghost use Rattle.tier_table.specs.AtLast.{RegistersAtLast, OpensAtLast, ArrivesAtLast, ResumesAtLast, AwaitsAdvance, HasEndedJoin, HasEndedArrival, HasEndedWait};
 
 use crate::tree::Tree;
 use std::sync::Wait;
 use std::thread;
 use table_tiers::arriving::{Arrived, Resumed};
+use table_tiers::in_place::Came;
 use table_tiers::joining::{Opened, Registered};
 use table_tiers::polling::Polled;
 use table_tiers::tiers::Tiers;
@@ -201,6 +204,17 @@ impl<F: Fn(u32, u32) -> bool> Tree<F> {
         ensures ended { (phase : ℕ) → crew.view.end_seen ≡ Some phase → HasEndedArrival result }
     {
         self.pass_wait(rt, crew, Trip::Arrival)
+    }
+
+    /// Lets a member of a crew arrive that stays where it is. It waits as `arrive_wait` does, and moves nothing.
+    #[inline]
+    pub fn arrive_in_place<R: Wait>(&self, rt: &R, crew: &mut Crew) -> Came
+        requires own { crew.old.tree ≡ self.now.tree }
+        requires rule { Answers (F.pre self.now.rule.closure) (F.post self.now.rule.closure) (end_ends_at self.now.rule.plan) }
+        ensures answer { ArrivesInPlace crew.old crew.new result }
+        ensures ended { (phase : ℕ) → crew.old.view.end_seen ≡ Some phase → in_place.HasEnded result }
+    {
+        self.tiers.arrive_in_place(rt, crew, &self.rule)
     }
 
     /// Lets a member leave, which counts as its arrival.

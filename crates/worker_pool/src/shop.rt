@@ -52,14 +52,9 @@ impl<'j, J: Running, F: Fn(u32, u32) -> bool> Shop<'j, J, F> {
     ) -> Result<bool, Note>
         requires rule { Answers (F.pre self.now.meeting.tree.rule.closure) (F.post self.now.meeting.tree.rule.closure) (end_ends_at self.now.meeting.tree.rule.plan) }
     {
-        let Seat {
-            path,
-            place,
-            crew,
-            of: _,
-        } = seat;
-        let (crew, led) = self.meeting.arrive(rt, crew)?;
-        match passed.push_back(Seat::new(path, place, crew)) {
+        let mut seat = seat;
+        let led = self.meeting.arrive(rt, &mut seat.crew)?;
+        match passed.push_back(seat) {
             Ok(()) => Ok(led),
             Err(_) => Err(Note::Memory),
         }

@@ -8,6 +8,7 @@ use crate::seat::{Key, Seat};
 use std::sync::Wait;
 use superstep_memory::path::Path;
 use tier_table::forcing::Forced;
+use tier_table::in_place::Came;
 use tier_table::joining::{Opened, Registered};
 use tier_table::tokens::{Crew, Door, Opening};
 use tier_table::tree::Tree;
@@ -166,16 +167,15 @@ impl<J: Running, F: Fn(u32, u32) -> bool> Meeting<J, F> {
     }
 
     /// Lets the member of a crew arrive. Whether it took the advance.
-    pub(crate) fn arrive<R: Wait>(&self, rt: &R, crew: Crew) -> Result<(Crew, bool), Note>
-        requires own { crew.tree ≡ J.tree }
+    pub(crate) fn arrive<R: Wait>(&self, rt: &R, crew: &mut Crew) -> Result<bool, Note>
+        requires own { crew.old.tree ≡ J.tree }
         requires rule { Answers (F.pre self.now.tree.rule.closure) (F.post self.now.tree.rule.closure) (end_ends_at self.now.tree.rule.plan) }
-        ensures { IfOk result (λ done. done.0.tree ≡ J.tree) }
+        ensures same { crew.new.tree ≡ J.tree }
     {
-        match self.tree.arrive_wait(rt, crew) {
-            Counted::Done(crew, _phase, led) => Ok((crew, led)),
-            Counted::Left(_door, _phase, _led) => Err(Note::Internal),
-            Counted::AlreadyArrived(_crew, _phase) => Err(Note::Internal),
-            Counted::Ended(_crew, _shown) => Err(Note::Internal),
+        match self.tree.arrive_in_place(rt, crew) {
+            Came::Done(_phase, led) => Ok(led),
+            Came::AlreadyArrived(_phase) => Err(Note::Internal),
+            Came::Ended(_shown) => Err(Note::Internal),
         }
     }
 

@@ -10,6 +10,7 @@ use std::process::Abort;
 use std::sync::Wait;
 use std::thread;
 use std::thread::Threads;
+use tier_table::in_place::Came;
 use tier_table::tokens::{Crew, Door, Token};
 use tier_table::tree::Tree;
 use tier_table::waiting::{Admitted, Awaited, Counted};
@@ -94,6 +95,18 @@ fn comes_and_goes<R: Wait + Abort>(
     door
 }
 
+// A member of a crew arrives that stays where it is.
+fn arrives_in_place<R: Wait + Abort>(rt: &R, tree: &Tree<Rule>, crew: &mut Crew)
+    requires own { crew.old.tree ≡ tree.now.tree }
+    requires rule { Answers (pre tree.now.rule.closure) (post tree.now.rule.closure) (end_ends_at tree.now.rule.plan) }
+    ensures { crew.new.tree ≡ tree.now.tree }
+{
+    match tree.arrive_in_place(rt, crew) {
+        Came::Done(_, _) => {}
+        _ => panic!(rt; "not arrived"),
+    }
+}
+
 // A member arrives and waits for the next phase, from phase 0 on so many times.
 fn meets<R: Wait + Abort>(rt: &R, tree: &Tree<Rule>, crew: Crew, times: u32) -> Crew
     requires own { crew.tree ≡ tree.now.tree }
@@ -102,7 +115,7 @@ fn meets<R: Wait + Abort>(rt: &R, tree: &Tree<Rule>, crew: Crew, times: u32) -> 
 {
     let mut crew = crew;
     for phase in 0..times {
-        crew = arrives(rt, tree, crew);
+        arrives_in_place(rt, tree, &mut crew);
         assert!(rt; tree.await_advance(rt, &mut crew) == Awaited::Passed(phase + 1));
     }
     crew

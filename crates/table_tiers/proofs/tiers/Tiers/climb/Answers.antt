@@ -1,14 +1,15 @@
 use Rattle.std.proofs.Common.{ap, sym, ◌∙◌}
 use Rattle.tier_steps.specs.declared.view.View.{View}
 use Rattle.tier_core.specs.declared.call.Played.TheVariants.{Done}
+use Rattle.table_tiers.specs.Calls.{under}
 use Rattle.table_tiers.proofs.Tries.{climb_by, stands_by, ran_once}
 use Rattle.table_tiers.proofs.tiers.Tiers.climb.Goals as goal
 
 pub pass_tier-requires-clause-turn : goal.pass_tier-requires-clause-turn
 pass_tier-requires-clause-turn c =
     let on = sym c.goes_on.ensures ∙ c.if-not-goes_on.false in (
-      Done c.stand_to.new.at.token.view.phase,
-      climb_by c.args.self.now.key c.stand_to.new.at c.args.own c.in-Climbing-errand.tier c.in-Climbing-errand.trip ((c.stand_to.ensures.going on).0 ∙ c.requires.owing)
+      Done c.stand_to.new.token.view.phase,
+      climb_by c.args.self.now.key (under c.stand_to.new.token c.stand_to.new.course) c.args.own c.in-Climbing-errand.tier c.in-Climbing-errand.trip ((c.stand_to.ensures.going on).0 ∙ c.requires.owing)
           (ap (λ (v : View). v.errand) (sym c.view-2.ensures) ∙ c.in-Climbing-errand.is) (stands_by c.stand_to.ensures.stood on),
     )
 

@@ -1,5 +1,6 @@
 use Rattle.std.proofs.Common.{sym, subst, ◌∙◌, arith}
 use Rattle.table_tiers.specs.declared.going.Going.{Going}
+use Rattle.table_tiers.specs.Calls.{under}
 use Rattle.table_tiers.specs.Goes.{Ran}
 use Rattle.table_tiers.proofs.Running.{went_then, ran_over}
 use Rattle.table_tiers.proofs.Tries.{passing_on}
@@ -8,19 +9,19 @@ use Rattle.table_tiers.proofs.tiers.Tiers.go_on.Goals.{in-Passing, in-Owing, in-
 
 pub returns-then-not-goes_on : goal.returns-then-not-goes_on
 returns-then-not-goes_on g c =
-    let r : Ran c.args.self.now 1 c.loop.at c.match-at.at = elim c.match-at.branch [
-      | in-Passing w ↦ subst (λ (z : Going). Ran c.args.self.now 1 c.loop.at z) (sym w.at-is) w.pass_own.ensures
-      | in-Owing w ↦ subst (λ (z : Going). Ran c.args.self.now 1 c.loop.at z) (sym w.at-is) w.climb.ensures
-      | in-Due w ↦ subst (λ (z : Going). Ran c.args.self.now 1 c.loop.at z) (sym w.at-is) w.advance.ensures
+    let r : Ran c.args.self.now 1 (under c.loop.token c.loop.course) (under c.match-course.token c.match-course.course) = elim c.match-course.branch [
+      | in-Passing w ↦ subst (λ (z : Going). Ran c.args.self.now 1 (under c.loop.token c.loop.course) z) (λ i. under (sym w.token-is i) (sym w.course-is i)) w.pass_own.ensures
+      | in-Owing w ↦ subst (λ (z : Going). Ran c.args.self.now 1 (under c.loop.token c.loop.course) z) (λ i. under (sym w.token-is i) (sym w.course-is i)) w.climb.ensures
+      | in-Due w ↦ subst (λ (z : Going). Ran c.args.self.now 1 (under c.loop.token c.loop.course) z) (λ i. under (sym w.token-is i) (sym w.course-is i)) w.advance.ensures
     ] in
     ran_over (went_then _ _ r.used _ _ _ c.loop.invariant.0 r.went) (let a = c.loop-test.true in let b = r.few in omega arith) c.goes_on.ensures c.if-not-goes_on.true
 
 pub loop-preserved : goal.loop-preserved
 loop-preserved g c =
-    let r : Ran c.args.self.now 1 c.loop.at c.match-at.at = elim c.match-at.branch [
-      | in-Passing w ↦ subst (λ (z : Going). Ran c.args.self.now 1 c.loop.at z) (sym w.at-is) w.pass_own.ensures
-      | in-Owing w ↦ subst (λ (z : Going). Ran c.args.self.now 1 c.loop.at z) (sym w.at-is) w.climb.ensures
-      | in-Due w ↦ subst (λ (z : Going). Ran c.args.self.now 1 c.loop.at z) (sym w.at-is) w.advance.ensures
+    let r : Ran c.args.self.now 1 (under c.loop.token c.loop.course) (under c.match-course.token c.match-course.course) = elim c.match-course.branch [
+      | in-Passing w ↦ subst (λ (z : Going). Ran c.args.self.now 1 (under c.loop.token c.loop.course) z) (λ i. under (sym w.token-is i) (sym w.course-is i)) w.pass_own.ensures
+      | in-Owing w ↦ subst (λ (z : Going). Ran c.args.self.now 1 (under c.loop.token c.loop.course) z) (λ i. under (sym w.token-is i) (sym w.course-is i)) w.climb.ensures
+      | in-Due w ↦ subst (λ (z : Going). Ran c.args.self.now 1 (under c.loop.token c.loop.course) z) (λ i. under (sym w.token-is i) (sym w.course-is i)) w.advance.ensures
     ] in
     let on = sym c.goes_on.ensures ∙ c.if-not-goes_on.false in
     let w = went_then _ _ r.used _ _ _ c.loop.invariant.0 r.went in

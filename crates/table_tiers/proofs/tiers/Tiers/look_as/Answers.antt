@@ -13,8 +13,8 @@ pub unwrap-word-requires : goal.unwrap-word-requires
 unwrap-word-requires g c =
     let r = loaded c.requires.kind.0 c.from.ensures c.token.invariant c.load-found.ensures.2 c.unpack.ensures.again in is_some _ _ r.some
 
-pub step_view-token-inside-requires : goal.step_view-token-inside-requires
-step_view-token-inside-requires g c =
+pub step_in-requires : goal.step_in-requires
+step_in-requires g c =
     let f = load_facts {me = c.token.inside.seat.me} c.token.view_is c.self.view_is c.requires.own c.self.invariant c.requires.tier c.requires.kind c.from.ensures in
     let r = loaded c.requires.kind.0 c.from.ensures c.token.invariant c.load-found.ensures.2 c.unpack.ensures.again in
     look_runs _ _ _ _ _ _ _ _ r.saw f.own _ (unpacked _ _ _ c.unwrap-word.ensures r.some) _ c.look_for-look.ensures f.means
@@ -24,7 +24,7 @@ invariant_of-token g c =
     let f = load_facts {me = c.token.inside.seat.me} c.token.view_is c.self.view_is c.requires.own c.self.invariant c.requires.tier c.requires.kind c.from.ensures in
     let r = loaded c.requires.kind.0 c.from.ensures c.token.invariant c.load-found.ensures.2 c.unpack.ensures.again in
     look_seated _ _ _ _ _ _ _ _ r.saw f.own _ (unpacked _ _ _ c.unwrap-word.ensures r.some) _ c.look_for-look.ensures _ _
-    (c.above.ensures ∙ ap (λ (z : Key). parent_of z.shape c.args.tier) c.self.invariant.same) c.step_view-token-inside.ensures f.means
+    (c.above-above.ensures ∙ ap (λ (z : Key). parent_of z.shape c.args.tier) c.self.invariant.same) c.step_in.ensures f.means
 
 pub returns : goal.returns
 returns g c =
@@ -32,5 +32,5 @@ returns g c =
     let r = loaded c.requires.kind.0 c.from.ensures c.token.invariant c.load-found.ensures.2 c.unpack.ensures.again in
     took_by c.token.view_is
     (look_took _ _ _ _ _ _ _ _ r.saw f.own _ (unpacked _ _ _ c.unwrap-word.ensures r.some) _ c.look_for-look.ensures _ _
-    (c.above.ensures ∙ ap (λ (z : Key). parent_of z.shape c.args.tier) c.self.invariant.same) c.step_view-token-inside.ensures f.means
+    (c.above-above.ensures ∙ ap (λ (z : Key). parent_of z.shape c.args.tier) c.self.invariant.same) c.step_in.ensures f.means
     _ _ _ _ c.load-found.ensures.0)

@@ -1,8 +1,10 @@
 use Rattle.std.proofs.Common.{sym, ap, subst, ◌∙◌}
 use Rattle.tier_steps.specs.declared.view.View.{View}
 use Rattle.table_tiers.specs.Holding.{IsCrew}
+use Rattle.table_tiers.specs.declared.going.Going.{Going}
+use Rattle.table_tiers.specs.Goes.{Ran}
 use Rattle.table_tiers.proofs.Seating.{took_by}
-use Rattle.table_tiers.proofs.Settling.{unseen, not_ended, first_arrived, may_settle, arrives}
+use Rattle.table_tiers.proofs.Settling.{unseen, not_ended, first_arrived, began_at, may_settle, arrives}
 use Rattle.table_tiers.proofs.tiers.Tiers.pass.Goals as goal
 
 pub returns-then-view-clause-ended : goal.returns-then-view-clause-ended
@@ -10,13 +12,13 @@ returns-then-view-clause-ended g c = λ p e. unseen (took_by c.crew.view_is c.lo
 
 pub answer_settled-requires : goal.answer_settled-requires
 answer_settled-requires g c =
-    may_settle c.args.self.now c.args.own c.args.tries c.args.crew c.look.new.token c.go_straight.result c.requires.own (subst IsCrew c.crew.view_is c.crew.invariant) (took_by c.crew.view_is c.look.ensures)
-    (not_ended c.word.view_is c.word-word.ensures.word c.if-word.false) (λ e. c.if-view.false (ap (λ (v : View). v.arrived) c.view-view.ensures ∙ (e ∙ sym (ap (λ (v : View). v.size) c.view-view.ensures)))) c.go_straight.ensures
+    may_settle c.args.self.now c.args.own c.args.tries c.args.crew c.look.new.token c.going.result c.requires.own (subst IsCrew c.crew.view_is c.crew.invariant) (took_by c.crew.view_is c.look.ensures)
+    (not_ended c.word.view_is c.word-word.ensures.word c.if-word.false) (λ e. c.if-view.false (ap (λ (v : View). v.arrived) c.view-view.ensures ∙ (e ∙ sym (ap (λ (v : View). v.size) c.view-view.ensures)))) (subst (λ (g : Going). Ran c.args.self.now c.args.tries (began_at c.args.own c.look.new.token) g) (sym c.going.ensures) c.go_straight.ensures)
 
 pub returns-clause-answer : goal.returns-clause-answer
 returns-clause-answer g c =
-    arrives c.args.self.now c.args.own c.args.tries c.args.crew c.look.new.token c.go_straight.result c.requires.own (subst IsCrew c.crew.view_is c.crew.invariant) (took_by c.crew.view_is c.look.ensures)
-    (not_ended c.word.view_is c.word-word.ensures.word c.if-word.false) (λ e. c.if-view.false (ap (λ (v : View). v.arrived) c.view-view.ensures ∙ (e ∙ sym (ap (λ (v : View). v.size) c.view-view.ensures)))) c.go_straight.ensures c.answer_settled.result c.answer_settled.ensures
+    arrives c.args.self.now c.args.own c.args.tries c.args.crew c.look.new.token c.going.result c.requires.own (subst IsCrew c.crew.view_is c.crew.invariant) (took_by c.crew.view_is c.look.ensures)
+    (not_ended c.word.view_is c.word-word.ensures.word c.if-word.false) (λ e. c.if-view.false (ap (λ (v : View). v.arrived) c.view-view.ensures ∙ (e ∙ sym (ap (λ (v : View). v.size) c.view-view.ensures)))) (subst (λ (g : Going). Ran c.args.self.now c.args.tries (began_at c.args.own c.look.new.token) g) (sym c.going.ensures) c.go_straight.ensures) c.answer_settled.result c.answer_settled.ensures
 
 pub returns-clause-ended : goal.returns-clause-ended
 returns-clause-ended g c = λ p e. unseen (took_by c.crew.view_is c.look.ensures) (not_ended c.word.view_is c.word-word.ensures.word c.if-word.false) p e

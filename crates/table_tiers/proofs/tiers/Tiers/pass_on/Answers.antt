@@ -1,4 +1,4 @@
-use Rattle.std.proofs.Common.{subst}
+use Rattle.std.proofs.Common.{subst, sym}
 use Rattle.tier_steps.specs.declared.view.Trip.TheVariants.{Arrival}
 use Rattle.table_tiers.specs.declared.going.Going.{Going}
 use Rattle.table_tiers.specs.Calls.{IsErrand}
@@ -11,10 +11,10 @@ go_owing-requires-clause-owing g c = c.errand.invariant.owes
 
 pub answer_resumed-requires : goal.answer_resumed-requires
 answer_resumed-requires g c =
-    may_end c.args.self.now Arrival c.args.tries c.args.errand c.go_owing.result c.requires.own (subst IsErrand c.errand.view_is c.errand.invariant)
-    (subst (λ (e : Going). Ran c.args.self.now c.args.tries e c.go_owing.result) c.errand.view_is c.go_owing.ensures)
+    may_end c.args.self.now Arrival c.args.tries c.args.errand c.going.result c.requires.own (subst IsErrand c.errand.view_is c.errand.invariant)
+    (subst (λ (e : Going). Ran c.args.self.now c.args.tries e c.going.result) c.errand.view_is (subst (λ (g : Going). Ran c.args.self.now c.args.tries c.errand.inside.going g) (sym c.going.ensures) c.go_owing.ensures))
 
 pub returns : goal.returns
 returns g c =
-    resumes c.args.self.now Arrival c.args.tries c.args.errand c.go_owing.result c.requires.own (subst IsErrand c.errand.view_is c.errand.invariant)
-    (subst (λ (e : Going). Ran c.args.self.now c.args.tries e c.go_owing.result) c.errand.view_is c.go_owing.ensures) c.answer_resumed.result c.answer_resumed.ensures
+    resumes c.args.self.now Arrival c.args.tries c.args.errand c.going.result c.requires.own (subst IsErrand c.errand.view_is c.errand.invariant)
+    (subst (λ (e : Going). Ran c.args.self.now c.args.tries e c.going.result) c.errand.view_is (subst (λ (g : Going). Ran c.args.self.now c.args.tries c.errand.inside.going g) (sym c.going.ensures) c.go_owing.ensures)) c.answer_resumed.result c.answer_resumed.ensures
