@@ -71,7 +71,6 @@ pub(crate) fn start_all(
 fn no_room(alloc: Global) -> Room {
     Room {
         work: Work {
-            locals: Vec::new(alloc),
             puts: Vec::new(alloc),
             prints: Vec::new(alloc),
             spawns: Vec::new(alloc),

@@ -4,23 +4,12 @@ use Rattle.superstep_memory.specs.declared.arrays.Put.{Put}
 use Rattle.superstep_memory.specs.Landing.{joined}
 use Rattle.phase_records.specs.PrintValue.{PrintValue}
 use Rattle.phase_records.specs.declared.record.PhaseRecord.{PhaseRecord}
-use Rattle.task_lang.specs.declared.scene.Work.{Work}
-use Rattle.task_lang.specs.declared.scene.Ending.{Ending}
-use Rattle.task_lang.specs.declared.scene.Ending.TheVariants as ending
 use Rattle.task_lang.specs.TaskValue.{TaskValue}
-use Rattle.task_lang.specs.Meaning.{Plan, Segment, After, Synced, Stopped, faulted}
-use Rattle.task_lang.specs.Lent.{HasAdded}
+use Rattle.task_lang.specs.Meaning.{Plan, Segment, After, Synced, Stopped}
 use Rattle.task_lang.specs.Views.{task_of}
 use Rattle.step_deeds.specs.DeedValue.{DeedValue}
 use Rattle.step_parts.specs.Program.{Program}
 use Rattle.step_parts.specs.Superstep.{segments, first_fault, log_of, print_of, prints_of}
-
--- A task's segment ended so: its puts came behind the log, its prints and spawns stand in the buffers, and where it
--- synced the task goes on as the segment says.
-abbrev pub IsDone : List Plan → Ending → TaskValue → TaskValue → Work → Work → Segment → Type 0
-IsDone ps (ending.Fault f) t u old new g = (g ≡ faulted f) × (u.path ≡ t.path)
-IsDone ps ending.Stopped t u old new g = HasAdded ps old new g × (g.after ≡ Stopped) × (u.path ≡ t.path)
-IsDone ps (ending.Synced place) t u old new g = HasAdded ps old new g × (g.after ≡ Synced (task_of ps u)) × (u.path ≡ t.path)
 
 -- how the segment of this task ended, as it stands now
 abbrev pub end_of : List Plan → Bool → TaskValue → After

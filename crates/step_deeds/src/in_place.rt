@@ -5,7 +5,8 @@ ghost use Rattle.task_lang.specs.Meaning.{segment_of};
 ghost use Rattle.task_lang.specs.Views.{plans, task_of};
 ghost use Rattle.step_parts.specs.Program.{program_of};
 ghost use Rattle.step_parts.specs.Superstep.{print_of};
-ghost use Rattle.step_deeds.specs.InPlace.{IsDone, ToldOne, Told, deeds_of, at_path};
+ghost use Rattle.step_deeds.specs.InPlace.{ToldOne, Told, deeds_of, at_path};
+ghost use Rattle.task_lang.specs.Lent.{IsLeft};
 
 use crate::deeds::Deeds;
 use phase_records::Print;
@@ -39,18 +40,11 @@ fn do_task(
     work: &mut Work,
 ) -> Result<Ending, AllocError>
     ensures { IfOk result (λ e. let ps = plans scene.now.job.now.bodies in
-        IsDone ps e task.old task.new work.old work.new (segment_of ps (task_of ps task.old) scene.now.arrays.now scene.now.step)) }
+        IsLeft ps e task.old task.new work.old work.new (segment_of ps (task_of ps task.old) scene.now.arrays.now scene.now.step)) }
 {
     work.prints.clear();
     work.spawns.clear();
-    std::mem::swap(&mut work.locals, &mut task.locals);
-    let ending = segment_into(alloc, scene.job, task, scene.arrays, scene.step, work)?;
-    std::mem::swap(&mut work.locals, &mut task.locals);
-    if let Ending::Synced(place) = ending {
-        task.place = place;
-        task.spawned += work.spawns.len() as u16;
-    }
-    Ok(ending)
+    segment_into(alloc, scene.job, task, scene.arrays, scene.step, work)
 }
 
 // Keeps what a task did: its prints behind those of others, and its deed.
@@ -74,9 +68,11 @@ fn keep(
     deeds.push(synced, puts, &mut work.spawns)
 }
 
-// Does a task's segment, and keeps what it did behind what others did, or tells its fault.
+/// Does the segment of a task, which goes on in its place, and keeps what it did behind what others did: its puts in
+/// `work`, its prints and its deed. Or tells the code of its fault; then nothing was printed, and what else stands in `work`,
+/// the deeds and the task means nothing but the task's path. `work` is lent.
 #[inline(always)]
-fn do_one(
+pub fn do_one(
     alloc: Global,
     scene: &StepScene<'_>,
     task: &mut Task,

@@ -2,7 +2,6 @@ use Rattle.std.proofs.Common.{◌≡◌, ◌∙◌, ℕ, ◌+◌, ◌≤◌, ◌
 use Rattle.std.specs.Prelude.{◌||◌, if◌then◌else◌}
 use Rattle.std.proofs.lemmas.Int.{to_z-of_z}
 use Rattle.std.proofs.lemmas.List.{length-map, map-append}
-use Rattle.task_lang.specs.TaskValue.{TaskValue}
 use Rattle.task_lang.specs.Meaning.{Setting, Doing, Goes, Fails, spawn, started}
 use Rattle.task_lang.specs.declared.fault.Fault.TheVariants.{Depth, Spawns}
 use Rattle.task_lang.specs.Views.{setting, doing, plans, task_of}
@@ -44,38 +43,32 @@ second_true x y h = let a : nat_le 65535 y ≡ true = grind arith in (λ i. nat_
     by false = refl
 
 pub returns-then-len-ge8 : goal.returns-then-len-ge8
-returns-then-len-ge8 c =
-    let path = ap (λ (t : TaskValue). length t.path) c.task.view_is in
-    too_deep (setting c.args.scene.now) (doing (plans c.args.scene.now.bodies.now) c.args.work.now) c.args.body c.args.arg
-    (omega (arith, path, c.len.ensures.value, c.if-len-ge8.true))
+returns-then-len-ge8 c = λ locals.
+    too_deep (setting c.args.scene.now) (doing (plans c.args.scene.now.bodies.now) locals c.args.work.now) c.args.body c.args.arg
+    (omega (arith, c.len.ensures.value, c.if-len-ge8.true))
 
 pub returns-then-count-ge8 : goal.returns-then-count-ge8
-returns-then-count-ge8 c =
+returns-then-count-ge8 c = λ locals.
     let ps = plans c.args.scene.now.bodies.now in
-    let path = ap (λ (t : TaskValue). length t.path) c.task.view_is in
-    let begun = ap (λ (t : TaskValue). t.spawned) c.task.view_is in
     let mapped = length-map c.args.work.now.spawns.items (task_of ps) in
-    fails_many (setting c.args.scene.now) (doing ps c.args.work.now) c.args.body c.args.arg
-    (omega (arith, path, c.len.ensures.value, c.if-len-ge8.false))
+    fails_many (setting c.args.scene.now) (doing ps locals c.args.work.now) c.args.body c.args.arg
+    (omega (arith, c.len.ensures.value, c.if-len-ge8.false))
     (elim c.then-count-ge8.branch [
-      | then-count-ge8-via-then-count-ge8 w ↦ first_true (length (map (task_of ps) c.args.work.now.spawns.items)) (c.args.scene.now.task.now.spawned + length (map (task_of ps) c.args.work.now.spawns.items)) (omega (arith, mapped, c.len-count.ensures, c.args.work.now.spawns.ok.0, w.if-count-ge8.true))
-      | then-count-ge8-via-else-count-ge8+then-from-count-ge65535 w ↦ second_true (length (map (task_of ps) c.args.work.now.spawns.items)) (c.args.scene.now.task.now.spawned + length (map (task_of ps) c.args.work.now.spawns.items)) (omega (arith, begun, mapped, c.len-count.ensures, c.args.work.now.spawns.ok.0, w.from.ensures, w.if-from-count-ge65535.true))
+      | then-count-ge8-via-then-count-ge8 w ↦ first_true (length (map (task_of ps) c.args.work.now.spawns.items)) (c.args.scene.now.spawned + length (map (task_of ps) c.args.work.now.spawns.items)) (omega (arith, mapped, c.len-count.ensures, c.args.work.now.spawns.ok.0, w.if-count-ge8.true))
+      | then-count-ge8-via-else-count-ge8+then-from-count-ge65535 w ↦ second_true (length (map (task_of ps) c.args.work.now.spawns.items)) (c.args.scene.now.spawned + length (map (task_of ps) c.args.work.now.spawns.items)) (omega (arith, mapped, c.len-count.ensures, c.args.work.now.spawns.ok.0, w.from.ensures, w.if-from-count-ge65535.true))
     ])
 
 pub returns : goal.returns
-returns c =
+returns c = λ locals.
     let ps = plans c.args.scene.now.bodies.now in
-    let path = ap (λ (t : TaskValue). length t.path) c.task.view_is in
-    let begun = ap (λ (t : TaskValue). t.spawned) c.task.view_is in
     let old = c.args.work.now.spawns.items in
     let mapped = length-map old (task_of ps) in
     let count : c.len-count.result ≡ length (map (task_of ps) old) = omega (arith, mapped, c.len-count.ensures, c.args.work.now.spawns.ok.0) in
-    let number : c.task.inside.spawned + c.len-count.result ≡ c.args.scene.now.task.now.spawned + length (map (task_of ps) old) = λ i. begun i + count i in
     let fits : FitsSigned w64 c.args.arg = search rules in
     let back = to_z-of_z w64 c.args.arg fits in
-    let first = c.in_ok-begun.ensures ∙ (λ i. started ps (c.args.scene.now.task.now.path ++ number i ∷ []) c.args.body (back i)) in
+    let first = c.in_ok-begun.ensures ∙ (λ i. started ps (c.args.scene.now.path.now.items ++ (c.args.scene.now.spawned + count i) ∷ []) c.args.body (back i)) in
     let more = ap (map (task_of ps)) c.in_ok-push.ensures.items ∙ map-append (task_of ps) old (c.in_ok-begun.begun ∷ []) ∙ (λ i. map (task_of ps) old ++ first i ∷ []) in
-    goes (setting c.args.scene.now) (doing ps c.args.work.now) _ c.args.body c.args.arg
-    (omega (arith, path, c.len.ensures.value, c.if-len-ge8.false)) (omega (arith, count, c.if-count-ge8.false))
-    (omega (arith, begun, count, c.from.ensures, c.if-from-count-ge65535.false))
-    (λ i. record (doing ps c.args.work.now) { spawns = more i })
+    goes (setting c.args.scene.now) (doing ps locals c.args.work.now) _ c.args.body c.args.arg
+    (omega (arith, c.len.ensures.value, c.if-len-ge8.false)) (omega (arith, count, c.if-count-ge8.false))
+    (omega (arith, count, c.from.ensures, c.if-from-count-ge65535.false))
+    (λ i. record (doing ps locals c.args.work.now) { spawns = more i })

@@ -1,14 +1,13 @@
 use Rattle.std.proofs.Common.{◌∙◌, ap, List, ℕ, ◌++◌, ◌∷◌, [], w64, FitsSigned, rules}
 use Rattle.std.proofs.lemmas.Int.{to_z-of_z}
 use Rattle.std.proofs.lemmas.Result.{IfOk-weaker}
-use Rattle.task_lang.specs.TaskValue.{TaskValue}
 use Rattle.task_lang.specs.Meaning.{started}
 use Rattle.task_lang.specs.Views.{plans}
 use Rattle.task_lang.proofs.act.spawned.Goals as goal
 
 pub returns : goal.returns
 returns c =
-    let path = c.in_ok-path.ensures.ok ∙ c.as_slice.ensures ∙ ap (λ (t : TaskValue). t.path) c.task.view_is in
+    let path = c.in_ok-path.ensures.ok ∙ c.as_slice.ensures in
     let longer = c.in_ok-push.ensures.ok ∙ ap (λ (p : List ℕ). p ++ c.args.number ∷ []) path in
     let fits : FitsSigned w64 c.args.arg = search rules in
     let back = to_z-of_z w64 c.args.arg fits in
