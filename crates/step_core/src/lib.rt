@@ -5,7 +5,7 @@ mod alone;
 pub mod laws;
 mod round;
 
-pub use alone::run_alone;
+pub use alone::{run_alone, start_all};
 pub use round::Round;
 pub use step_parts::fault::{AcceptFault, CloseFault, Outcome};
 pub use step_parts::order::{Delivery, Order};

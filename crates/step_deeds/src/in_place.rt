@@ -74,9 +74,9 @@ fn keep(
     deeds.push(synced, puts, &mut work.spawns)
 }
 
-// Does a task's segment, and keeps what it did behind what others did, or tells its fault.
+/// Does a task's segment, and keeps what it did behind what others did, or tells its fault.
 #[inline(always)]
-fn do_one(
+pub fn do_one(
     alloc: Global,
     scene: &StepScene<'_>,
     task: &mut Task,
