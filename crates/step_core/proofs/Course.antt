@@ -31,56 +31,20 @@ use Rattle.step_deeds.proofs.InPlace.{no_fault, maker_told, living_told, counted
 use Rattle.step_parts.proofs.Runs.{goes, ended_is_last}
 use Rattle.step_parts.proofs.Deeds.{paths_mapped}
 use Rattle.step_core.proofs.Apart.{live-paths-rise}
+use Rattle.step_core.proofs.ByDeeds.{by_fault as ends_by_fault, by_many as ends_by_many, by_over as ends_by_over, by_landing as goes_by_landing, Fits, fits as all_fits, tallied as all_tallied}
 
 -- what these tasks do
 abbrev pub deeds_in : Program → Course → List (List ℕ × Segment)
 deeds_in p c = deeds_of p c.arrays c.step c.tasks.items
 
-none_faults : (p : Program) (us : List TaskValue) (ds : List DeedValue) (ss : List (List ℕ × Segment)) → AllDone p.plans us ds ss → first_fault ss ≡ None
-none_faults p us ds ss h = ap first_fault (sym (append-nil ss)) ∙ no_fault p.plans us ds ss [] h
-
--- the next live tasks as they stand in memory
-next_told : (p : Program) (us : List TaskValue) (ds : List DeedValue) (ss : List (List ℕ × Segment)) → AllDone p.plans us ds ss
-    → map (task_of p.plans) (in_path_order path_in (living_with us ds)) ≡ next_live ss
-next_told p us ds ss h =
-    put_all_mapped path_in (λ (t : Task). t.path) (task_of p.plans) (λ t. refl) (living_with us ds) []
-    ∙ ap (in_path_order (λ (t : Task). t.path)) (living_told p.plans us ds ss h)
-
-next_count : (p : Program) (us : List TaskValue) (ds : List DeedValue) (ss : List (List ℕ × Segment)) → AllDone p.plans us ds ss
-    → length (next_live ss) ≡ length (living_with us ds)
-next_count p us ds ss h =
-    ap length (sym (next_told p us ds ss h))
-    ∙ length-map (in_path_order path_in (living_with us ds)) (task_of p.plans)
-    ∙ count_in_order path_in (living_with us ds)
-
 -- a fault ends the job
 pub by_fault : (p : Program) (c : Course) (f : ℕ × List ℕ) → first_fault (deeds_in p c) ≡ Some f → superstep p (course_state p c) ≡ ended_by (course_state p c) f
-by_fault p c f h =
-    ap (λ o. closed (course_state p c) (deeds_in p c) (or_next o (or_next (too_many (next_live (deeds_in p c))) (overflow c.arrays (deeds_in p c))))) h
-
-not_many : (ts : List Task) → nat_lt 4096 (length ts) ≡ false → too_many ts ≡ None
-not_many ts b = ap (λ (t : Bool). if t then Some (7, []) else None) b
-
-are_many : (ts : List Task) → nat_lt 4096 (length ts) ≡ true → too_many ts ≡ Some (7, [])
-are_many ts b = ap (λ (t : Bool). if t then Some (7, []) else None) b
+by_fault p c f h = ends_by_fault p (course_state p c) f h
 
 -- too many tasks end it
 pub by_many : (p : Program) (c : Course) (us : List TaskValue) (ds : List DeedValue) → AllDone p.plans us ds (deeds_in p c) → 4096 < length (living_with us ds)
     → superstep p (course_state p c) ≡ ended_by (course_state p c) (7, [])
-by_many p c us ds h lt =
-    let l = next_count p us ds (deeds_in p c) h in
-    let b : nat_lt 4096 (length (next_live (deeds_in p c))) ≡ true = grind arith in
-    λ i. closed (course_state p c) (deeds_in p c)
-    (or_next (none_faults p us ds (deeds_in p c) h i) (or_next (are_many (next_live (deeds_in p c)) b i) (overflow c.arrays (deeds_in p c))))
-
--- what the log tells is what the segments tell
-over_told : (p : Program) (c : Course) (puts : List Put) (us : List TaskValue) (ds : List DeedValue) → AllDone p.plans us ds (deeds_in p c)
-    → puts ≡ joined (map log_of (deeds_in p c)) → (o : Option ℕ) → o ≡ over_in c.arrays [] 0 puts
-    → overflow c.arrays (deeds_in p c) ≡ option_map fault_eight (at_log (map log_of (deeds_in p c)) o)
-over_told p c puts us ds h log o e =
-    let logs = map log_of (deeds_in p c) in
-    ap (option_map fault_eight)
-    (first_located c.arrays logs ∙ ap (λ (qs : List Put). at_log logs (over_in c.arrays [] 0 qs)) (sym log) ∙ ap (at_log logs) (sym e))
+by_many p c us ds h lt = ends_by_many p (course_state p c) us ds h lt
 
 -- the first put that overflows ends it
 pub by_over : (p : Program) (old new : Course) (puts : List Put) (us : List TaskValue) (ds : List DeedValue) (after : List PrintValue) (place : ℕ) (fault : Option (ℕ × List ℕ))
@@ -88,41 +52,10 @@ pub by_over : (p : Program) (old new : Course) (puts : List Put) (us : List Task
     → Some place ≡ over_in old.arrays [] 0 puts → fault ≡ option_map told_at (maker us ds place)
     → new.step ≡ old.step → new.arrays ≡ old.arrays → new.prints.items ≡ old.prints.items → new.records.items ≡ old.records.items
     → HasTakenOne p fault old new
-by_over p old new puts us ds after place fault h le over made es ea ep er = by fault (made ∙ sym (maker_told p.plans us ds ss h.done place)) (sym told)
-  where
-    ss : List (List ℕ × Segment)
-    ss = deeds_in p old
-
-    told : overflow old.arrays ss ≡ option_map fault_eight (located (map log_of ss) place)
-    told = over_told p old puts us ds h.done h.log (Some place) over
-
-    inside : place < length (joined (map log_of ss))
-    inside = let m = over_inside old.arrays [] 0 place puts (sym over) in let l = ap length h.log in omega (arith, m.1, l)
-
-    not_none : (o : Option (List ℕ × ℕ)) → None ≡ option_map fault_eight o → o ≡ None
-    not_none None e = refl
-    not_none (Some x) e = cc
-
-    by : (o : Option (ℕ × List ℕ)) → o ≡ option_map fault_eight (located (map log_of ss) place) → option_map fault_eight (located (map log_of ss) place) ≡ overflow old.arrays ss
-        → HasTakenOne p o old new
-    by None e t = absurd (found_there (map log_of ss) place inside (not_none (located (map log_of ss) place) e))
-    by (Some f) e t =
-        let l = next_count p us ds ss h.done in
-        let b : nat_lt 4096 (length (next_live ss)) ≡ false = grind arith in
-        record {
-          fault = λ i. closed (course_state p old) ss (or_next (none_faults p us ds ss h.done i) (or_next (not_many (next_live ss) b i) (sym (e ∙ t) i)));
-          step = es;
-          arrays = ea;
-          prints = ep;
-          records = er;
-        }
-
--- the record that was made is that of the segments
-pub record_told : (p : Program) (c : Course) (us : List TaskValue) (ds : List DeedValue) → AllDone p.plans us ds (deeds_in p c)
-    → told_in c.step ds ≡ record_of c.step (deeds_in p c)
-record_told p c us ds h =
-    let k = counted p.plans us ds (deeds_in p c) h in
-    λ i. record { phase = c.step; parties = k.deeds i + k.born i; left = k.stopped i; spawned = k.born i }
+by_over p old new puts us ds after place fault h le over made es ea ep er =
+    let o = ends_by_over p (course_state p old) puts us ds place fault h.done h.log le over made in
+    subst (λ (x : Option (ℕ × List ℕ)). HasTakenOne p x old new) (sym o.is)
+    (record { fault = o.ends; step = es; arrays = ea; prints = ep; records = er })
 
 -- or it goes on
 pub by_landing : (p : Program) (old new : Course) (puts : List Put) (us : List TaskValue) (ds : List DeedValue) (after : List PrintValue) (told : PhaseRecord)
@@ -132,20 +65,17 @@ pub by_landing : (p : Program) (old new : Course) (puts : List Put) (us : List T
     → new.step ≡ old.step + 1 → new.arrays ≡ landed puts old.arrays → new.tasks.items ≡ in_path_order path_in (living_with us ds)
     → new.prints.items ≡ after → new.records.items ≡ old.records.items ++ told ∷ [] → HasGone p old new
 by_landing p old new puts us ds after told h le et over es ea ek ep er =
-    let ss = deeds_in p old in
-    let l = next_count p us ds ss h.done in
-    let b : nat_lt 4096 (length (next_live ss)) ≡ false = grind arith in
-    let lands : new.arrays ≡ landed (joined (map log_of ss)) old.arrays =
-    ea ∙ ap (λ (xs : List Put). landed xs old.arrays) h.log in
-    let fits : overflow old.arrays ss ≡ None = over_told p old puts us ds h.done h.log None over in
-    let live : map (task_of p.plans) new.tasks.items ≡ next_live ss = ap (map (task_of p.plans)) ek ∙ next_told p us ds ss h.done in
-    let records : new.records.items ≡ old.records.items ++ record_of old.step ss ∷ [] =
-    er ∙ ap (λ (r : PhaseRecord). old.records.items ++ r ∷ []) (et ∙ record_told p old us ds h.done) in
-    let prints : new.prints.items ≡ old.prints.items ++ prints_of old.step ss = ep ∙ h.shown in
     record {
       state =
-          (λ i. record { step = es i; arrays = lands i; live = live i; prints = prints i; records = records i; fault = None })
-          ∙ sym (λ i. closed (course_state p old) ss (or_next (none_faults p us ds ss h.done i) (or_next (not_many (next_live ss) b i) (fits i))));
+          (λ i. record {
+            step = es i;
+            arrays = ea i;
+            live = map (task_of p.plans) (ek i);
+            prints = (ep ∙ h.shown) i;
+            records = er i;
+            fault = None;
+          })
+          ∙ sym (goes_by_landing p (course_state p old) puts us ds told h.done h.log le et over);
       step = es;
       few = let c = ap length ek ∙ count_in_order path_in (living_with us ds) in omega (arith, c, le);
     }
@@ -170,34 +100,16 @@ pub faulted : (p : Program) (old : Course) (o : Option (ℕ × List ℕ)) (f : �
     → (first_fault (deeds_in p old) ≡ Some f) × ((more : List PrintValue) × (after ≡ old.prints.items ++ more))
 faulted p old o f puts us ds after h e = subst (λ x. Told p.plans (deeds_in p old) old.step x puts us ds old.prints.items after) e h
 
--- and the numbers fit
-pub record Fits (old : Course) (us : List TaskValue) (ds : List DeedValue) : Type 0 where
-  pub few : length ds ≤ 4096
-  pub small : AllFew ds
-  pub same : length us ≡ length ds
-  pub living : length (living_with us ds) + left_in ds ≡ length ds + spawned_in ds
-  pub rising : is_rising (map path_in us) ≡ true
-
 pub fits : (p : Program) (old : Course) (us : List TaskValue) (ds : List DeedValue) → AllDone p.plans us ds (deeds_in p old)
-    → length old.tasks.items ≤ 4096 → is_rising (map path_in old.tasks.items) ≡ true → Fits old us ds
+    → length old.tasks.items ≤ 4096 → is_rising (map path_in old.tasks.items) ≡ true → Fits us ds
 fits p old us ds h le r =
-    let k = counted p.plans us ds (deeds_in p old) h in
-    let e = paths_kept p old.arrays old.step old.tasks.items us ds h in
-    let l : length us ≡ length old.tasks.items = sym (length-map us path_in) ∙ ap length e ∙ length-map old.tasks.items path_in in
-    let s = k.tasks in
-    record {
-      few = omega (arith, l, s, le);
-      small = all_few p old.arrays old.step old.tasks.items us ds h;
-      same = k.tasks;
-      living = k.living;
-      rising = ap is_rising e ∙ r;
-    }
+    let l = length-map old.tasks.items (task_of p.plans) in
+    all_fits p (course_state p old) us ds h (omega (arith, l, le)) (ap is_rising (sym (paths_mapped p.plans old.tasks.items)) ∙ r)
 
 -- who lives on and who left are those that the record counts
-pub tallied : (old : Course) (us : List TaskValue) (ds : List DeedValue) (told : PhaseRecord) → Fits old us ds → told ≡ told_in old.step ds
+pub tallied : (old : Course) (us : List TaskValue) (ds : List DeedValue) (told : PhaseRecord) → Fits us ds → told ≡ told_in old.step ds
     → length (living_with us ds) + told.left ≡ told.parties
-tallied old us ds told f e =
-    ap (λ (n : ℕ). length (living_with us ds) + n) (ap (λ (r : PhaseRecord). r.left) e) ∙ f.living ∙ sym (ap (λ (r : PhaseRecord). r.parties) e)
+tallied old us ds told f e = all_tallied old.step us ds told f e
 
 -- ---- supersteps one after another
 

@@ -3,4 +3,5 @@ pub mod Closed
 pub mod LawProofs
 pub mod Apart
 pub mod Landings
+pub mod ByDeeds
 pub mod Course

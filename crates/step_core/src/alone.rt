@@ -46,7 +46,7 @@ struct Room {
 }
 
 /// The tasks of the start lines.
-pub(crate) fn start_all(
+pub fn start_all(
     alloc: Global,
     bodies: &[Body],
     starts: &[Start],

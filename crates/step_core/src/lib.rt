@@ -6,7 +6,7 @@ pub mod laws;
 mod round;
 mod watch;
 
-pub use alone::{run_alone, run_watched};
+pub use alone::{run_alone, run_watched, start_all};
 pub use round::Round;
 pub use step_parts::fault::{AcceptFault, CloseFault, Outcome};
 pub use step_parts::order::{Delivery, Order};

@@ -17,19 +17,7 @@ use Rattle.task_lang.specs.declared.scene.Work.{Work}
 use Rattle.step_deeds.specs.DeedValue.{DeedValue}
 use Rattle.step_parts.specs.Program.{Program}
 use Rattle.step_parts.specs.Superstep.{first_fault, fault_eight, or_later, log_of, print_of, prints_of, living_on, synced, stopped, left, spawned}
-use Rattle.step_deeds.specs.InPlace.{end_of, IsDeed, ToldOne, AllDone, deeds_of, IsAllDone, maker, kept, living_with, one_left, left_in, spawned_in, AllFew}
-
--- the first tasks are done, and the others stand as they were
-pub record IsUnderWay (p : Program) (arrays : List (List ℕ × List ℤ)) (step : ℕ) (olds : List TaskValue) (place : ℕ) (puts : List Put) (tasks : List TaskValue) (ds : List DeedValue) (before after : List PrintValue) : Type 0 where
-  pub us : List TaskValue
-  pub rest : List TaskValue
-  pub front : List (List ℕ × Segment)
-  pub cut : tasks ≡ us ++ rest
-  pub count : length us ≡ place
-  pub all : deeds_of p arrays step olds ≡ front ++ deeds_of p arrays step rest
-  pub log : puts ≡ joined (map log_of front)
-  pub shown : after ≡ before ++ prints_of step front
-  pub done : AllDone p.plans us ds front
+use Rattle.step_deeds.specs.InPlace.{IsUnderWay, end_of, IsDeed, ToldOne, AllDone, deeds_of, IsAllDone, maker, kept, living_with, one_left, left_in, spawned_in, AllFew}
 
 pub none_done : (p : Program) (arrays : List (List ℕ × List ℤ)) (step : ℕ) (olds : List TaskValue) (puts : List Put) (ds : List DeedValue) (before : List PrintValue)
     → puts ≡ [] → ds ≡ [] → IsUnderWay p arrays step olds 0 puts olds ds before before

@@ -64,6 +64,21 @@ pub spawned_more : (ds : List Deed) (d : Deed) → spawned_by (ds ++ d ∷ []) �
 spawned_more [] d = omega arith
 spawned_more (x ∷ ds) d = let l = spawned_more ds d in omega (arith, l)
 
+-- other deeds behind these, with their tasks
+pub deeds_append : (ds es : List Deed) (ts us : List TaskValue) → spawned_by ds ≡ length ts → deeds_with (ds ++ es) (ts ++ us) ≡ deeds_with ds ts ++ deeds_with es us
+deeds_append [] es [] us h = refl
+deeds_append [] es (t ∷ ts) us h = absurd (omega arith)
+deeds_append (d ∷ ds) es ts us h =
+    let few : d.spawned ≤ length ts = omega arith in
+    let l = behind_length d.spawned ts few in
+    (λ i. record { synced = d.synced; puts = d.puts; spawns = take_front d.spawned ts us few i } ∷ deeds_with (ds ++ es) (behind_front d.spawned ts us few i))
+    ∙ ap (λ (xs : List DeedValue). record { synced = d.synced; puts = d.puts; spawns = take d.spawned ts } ∷ xs)
+    (deeds_append ds es (behind d.spawned ts) us (omega (arith, l)))
+
+pub spawned_append : (ds es : List Deed) → spawned_by (ds ++ es) ≡ spawned_by ds + spawned_by es
+spawned_append [] es = omega arith
+spawned_append (d ∷ ds) es = let l = spawned_append ds es in omega (arith, l)
+
 pub count_told : (ds : List Deed) (ts : List TaskValue) → length (deeds_with ds ts) ≡ length ds
 count_told [] ts = refl
 count_told (d ∷ ds) ts = ap suc (count_told ds (behind d.spawned ts))

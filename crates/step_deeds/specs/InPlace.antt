@@ -42,6 +42,18 @@ AllDone ps us ds ss = ⊥
 abbrev pub deeds_of : Program → List (List ℕ × List ℤ) → ℕ → List TaskValue → List (List ℕ × Segment)
 deeds_of p arrays step ts = segments p arrays step (map (task_of p.plans) ts)
 
+-- the first tasks are done, and the others stand as they were
+pub record IsUnderWay (p : Program) (arrays : List (List ℕ × List ℤ)) (step : ℕ) (olds : List TaskValue) (place : ℕ) (puts : List Put) (tasks : List TaskValue) (ds : List DeedValue) (before after : List PrintValue) : Type 0 where
+  pub us : List TaskValue
+  pub rest : List TaskValue
+  pub front : List (List ℕ × Segment)
+  pub cut : tasks ≡ us ++ rest
+  pub count : length us ≡ place
+  pub all : deeds_of p arrays step olds ≡ front ++ deeds_of p arrays step rest
+  pub log : puts ≡ joined (map log_of front)
+  pub shown : after ≡ before ++ prints_of step front
+  pub done : AllDone p.plans us ds front
+
 -- nobody faulted: the log, the prints, the deeds and the tasks are what the segments say
 pub record IsAllDone (ps : List Plan) (ss : List (List ℕ × Segment)) (step : ℕ) (puts : List Put) (us : List TaskValue) (ds : List DeedValue) (before after : List PrintValue) : Type 0 where
   pub log : puts ≡ joined (map log_of ss)

@@ -1,3 +1,4 @@
 pub mod DeedValue
 pub mod InPlace
 pub mod DeedsView
+pub mod Turns

@@ -1,18 +1,21 @@
 //! What live tasks did in their places, beside all that they spawned in one list.
-ghost use Rattle.std.specs.Prelude.{◌≡◌, ◌≤◌, ◌+◌, ◌-◌, ◌++◌, ◌∷◌, [], OnOk, OnErr, length, reverse, take};
+ghost use Rattle.std.specs.Prelude.{◌≡◌, ◌≤◌, ◌<◌, ◌+◌, ◌-◌, ◌++◌, ◌∷◌, ◌↔◌, [], IsTrue, IfOk, OnOk, OnErr, length, map, reverse, take};
 ghost use Rattle.std.specs.Option.{option_map};
 ghost use Rattle.std.specs.Vec.{vec_len, vec_capacity};
 ghost use Rattle.superstep_memory.specs.PathOrder.{put_all, in_path_order};
 ghost use Rattle.step_parts.specs.SlotParts.{path_in, told_at};
 ghost use Rattle.step_deeds.specs.DeedsView.{deeds_with, spawned_by, stopped_by, behind};
-ghost use Rattle.step_deeds.specs.InPlace.{told_in, maker, kept, living_with, AllFew};
+ghost use Rattle.step_deeds.specs.InPlace.{told_in, maker, kept, living_with, left_in, spawned_in, AllFew};
+ghost use Rattle.step_deeds.specs.Turns.{turn_of, turn_in};
 
 use phase_records::PhaseRecord;
 use std::alloc::{AllocError, Global};
 use std::marker::Model;
 use step_parts::closing::overflowed;
 use step_parts::next::put_task;
+use step_parts::order::paths_of;
 use step_parts::slot::Blame;
+use superstep_memory::path::Path;
 use task_lang::task::Task;
 
 // What a task did: whether it goes on, how many puts it made, which are its part of the log, and how many tasks it
@@ -124,7 +127,8 @@ fn count_stopped(each: &[Deed]) -> u32
 #[inline(always)]
 fn take_all(all: &mut Vec<Task>, spawns: &mut Vec<Task>) -> Result<(), AllocError>
     ensures items { OnOk result (all.new.items ≡ all.old.items ++ spawns.old.items) }
-    ensures memory { OnErr result (all.new.items ≡ all.old.items) }
+    ensures none_left { OnOk result (spawns.new.items ≡ []) }
+    ensures memory { OnErr result ((all.new.items ≡ all.old.items) × (spawns.new.items ≡ spawns.old.items)) }
 {
     if spawns.is_empty() {
         return Ok(());
@@ -220,7 +224,8 @@ impl Deeds {
     ) -> Result<(), AllocError>
         requires same { length tasks.old.items ≡ length self.old }
         requires count { length (living_with tasks.old.items self.old) ≤ count }
-        ensures { OnOk result (tasks.new.items ≡ in_path_order path_in (living_with tasks.old.items self.old)) }
+        ensures tasks { OnOk result (tasks.new.items ≡ in_path_order path_in (living_with tasks.old.items self.old)) }
+        ensures full { OnErr result (vec_capacity room.old < count) }
     {
         room.clear();
         room.reserve(count)?;
@@ -228,5 +233,79 @@ impl Deeds {
         room.reverse();
         std::mem::swap(room, tasks);
         Ok(())
+    }
+}
+
+/// What a task did to the list of tasks: whether it goes on, and the paths of the tasks that it spawned, in program order.
+#[derive(Drop)]
+pub struct Turn {
+    /// Whether it synced.
+    pub synced: bool,
+    /// The paths of the tasks that it spawned.
+    pub spawned: Vec<Path>,
+}
+
+// Whether no task stopped.
+fn none_stopped(each: &[Deed]) -> bool
+    ensures { IsTrue result ↔ (stopped_by each.now ≡ 0) }
+{
+    let mut rest = each;
+    while let Some((deed, after)) = rest.split_first() {
+        if !deed.synced {
+            return false;
+        }
+        rest = after;
+    }
+    true
+}
+
+// What each task did to the list of tasks.
+fn turns_of(alloc: Global, each: &[Deed], spawns: &[Task]) -> Result<Vec<Turn>, AllocError>
+    requires { spawned_by each.now ≡ length spawns.now }
+    ensures { IfOk result (λ turns. map turn_of turns.items ≡ map turn_in (deeds_with each.now spawns.now)) }
+{
+    let mut turns = Vec::new(alloc);
+    let mut rest = each;
+    let mut others = spawns;
+    while let Some((deed, after)) = rest.split_first() {
+        let (own, behind) = others.split_at(deed.spawned);
+        let spawned = paths_of(alloc, own)?;
+        turns.push(Turn {
+            synced: deed.synced,
+            spawned,
+        })?;
+        rest = after;
+        others = behind;
+    }
+    Ok(turns)
+}
+
+impl Deeds {
+    /// Whether the same tasks live on: nobody stopped, and nobody was spawned.
+    pub fn all_stay(&self) -> bool
+        ensures { IsTrue result ↔ ((left_in self.now ≡ 0) × (spawned_in self.now ≡ 0)) }
+    {
+        self.spawns.is_empty() && none_stopped(&self.each)
+    }
+
+    /// Moves what other tasks did behind these. Without memory both are as they were.
+    pub fn append(&mut self, others: &mut Deeds) -> Result<(), AllocError>
+        ensures joined { OnOk result (self.new ≡ self.old ++ others.old) }
+        ensures none_left { OnOk result (others.new ≡ []) }
+        ensures memory { OnErr result ((self.new ≡ self.old) × (others.new ≡ others.old)) }
+    {
+        self.each.reserve(others.each.len())?;
+        take_all(&mut self.spawns, &mut others.spawns)?;
+        match self.each.append(&mut others.each) {
+            Ok(()) => Ok(()),
+            Err(_) => unreachable!(),
+        }
+    }
+
+    /// What each task did to the list of tasks.
+    pub fn turns(&self, alloc: Global) -> Result<Vec<Turn>, AllocError>
+        ensures { IfOk result (λ turns. map turn_of turns.items ≡ map turn_in self.now) }
+    {
+        turns_of(alloc, &self.each, &self.spawns)
     }
 }

@@ -1,6 +1,6 @@
 use Rattle.std.proofs.Common.{◌-◌, length}
 use Rattle.step_parts.specs.Program.{program_of}
-use Rattle.step_deeds.proofs.InPlace.{IsUnderWay}
+use Rattle.step_deeds.specs.InPlace.{IsUnderWay}
 use Rattle.step_deeds.proofs.in_place.do_all.Given as goal
 
 abbrev pub invariant-loop-place : goal.invariant-loop-place

@@ -1,0 +1,6 @@
+pub mod PartValue
+pub mod Parts
+pub mod PartView
+pub mod Doing
+pub mod StretchesValue
+pub mod Closing
