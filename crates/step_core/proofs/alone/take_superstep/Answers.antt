@@ -1,15 +1,14 @@
-use Rattle.std.proofs.Common.{◌∙◌, sym, ap, subst, arith, refl, ℕ, List, length, ◌≤◌}
+use Rattle.std.proofs.Common.{◌∙◌, sym, ap, arith, refl, ℕ, List}
 use Rattle.std.specs.Prelude.{ℤ, []}
 use Rattle.std.specs.Option.{option_map}
 use Rattle.superstep_memory.specs.declared.arrays.Put.{Put}
 use Rattle.superstep_memory.specs.Landing.{landed, over_in}
 use Rattle.step_parts.specs.SlotParts.{told_at}
 use Rattle.phase_records.specs.declared.record.PhaseRecord.{PhaseRecord}
-use Rattle.step_deeds.specs.DeedValue.{DeedValue}
 use Rattle.step_parts.specs.Program.{program_of}
 use Rattle.step_parts.specs.Superstep.{ended_by}
 use Rattle.step_core.specs.Course.{course_state}
-use Rattle.step_deeds.specs.InPlace.{AllFew, told_in, maker}
+use Rattle.step_deeds.specs.InPlace.{maker}
 use Rattle.step_core.proofs.Course.{by_fault, by_many, by_over, by_landing, is_there, cut_off, did, faulted, fits, tallied}
 use Rattle.step_core.proofs.alone.take_superstep.Goals as goal
 
