@@ -1,5 +1,5 @@
 -- One superstep, by what its live tasks did in their places.
-use Rattle.std.proofs.Common.{◌≡◌, ℕ, suc, ◌+◌, ◌≤◌, ◌<◌, Bool, true, false, nat_lt, List, [], ◌∷◌, ◌++◌, map, length, Option, Some, None, refl, sym, ap, ◌∙◌, subst, arith, append-nil}
+use Rattle.std.proofs.Common.{◌≡◌, ℕ, ◌+◌, ◌≤◌, ◌<◌, Bool, true, false, nat_lt, List, [], ◌∷◌, ◌++◌, map, length, Option, Some, None, refl, sym, ap, ◌∙◌, arith, append-nil}
 use Rattle.std.specs.Prelude.{ℤ, if◌then◌else◌}
 use Rattle.std.specs.Option.{option_map}
 use Rattle.std.proofs.lemmas.List.{length-map}
@@ -9,17 +9,16 @@ use Rattle.superstep_memory.specs.Logs.{located}
 use Rattle.superstep_memory.specs.Paths.{is_rising}
 use Rattle.superstep_memory.specs.PathOrder.{in_path_order}
 use Rattle.superstep_memory.proofs.Over.{at_log, first_located, over_inside, found_there}
-use Rattle.phase_records.specs.PrintValue.{PrintValue}
 use Rattle.phase_records.specs.declared.record.PhaseRecord.{PhaseRecord}
 use Rattle.task_lang.specs.TaskValue.{TaskValue}
-use Rattle.task_lang.specs.Meaning.{Plan, Task, Segment, segment_of}
+use Rattle.task_lang.specs.Meaning.{Task, Segment, segment_of}
 use Rattle.task_lang.specs.Views.{task_of}
 use Rattle.task_lang.proofs.AllSegments.{numbers-its-spawns}
 use Rattle.step_parts.specs.Program.{Program}
 use Rattle.step_parts.specs.SlotParts.{path_in, told_at}
 use Rattle.step_parts.specs.Superstep.{State, superstep, closed, ended_by, segments, first_fault, too_many, overflow, fault_eight, or_next, next_live, log_of, prints_of, record_of, live_paths}
 use Rattle.step_deeds.specs.DeedValue.{DeedValue}
-use Rattle.step_deeds.specs.InPlace.{AllDone, IsAllDone, maker, living_with, left_in, spawned_in, AllFew, told_in}
+use Rattle.step_deeds.specs.InPlace.{AllDone, maker, living_with, left_in, spawned_in, AllFew, told_in}
 use Rattle.step_parts.proofs.InOrder.{put_all_mapped, count_in_order}
 use Rattle.step_deeds.proofs.InPlace.{no_fault, maker_told, living_told, counted}
 

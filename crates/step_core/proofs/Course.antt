@@ -1,18 +1,16 @@
 -- One superstep of a job on one thread.
-use Rattle.std.proofs.Common.{◌≡◌, ◌==◌, ℕ, suc, ◌+◌, ◌≤◌, ◌<◌, Bool, true, false, nat_lt, nat_le, List, [], ◌∷◌, ◌++◌, map, length, take, Option, Some, None, refl, sym, ap, ◌∙◌, subst, arith, append-nil}
+use Rattle.std.proofs.Common.{◌≡◌, ◌==◌, ℕ, suc, ◌+◌, ◌≤◌, ◌<◌, Bool, true, false, nat_le, List, [], ◌∷◌, ◌++◌, map, length, take, Option, Some, None, refl, sym, ap, ◌∙◌, subst, arith}
 use Rattle.std.specs.Prelude.{ℤ, IsSome, if◌then◌else◌}
 use Rattle.std.proofs.lemmas.List.{length-map}
 use Rattle.superstep_memory.specs.declared.arrays.Put.{Put}
 use Rattle.std.specs.Option.{option_map}
-use Rattle.superstep_memory.specs.Landing.{landed, joined, over_in}
-use Rattle.superstep_memory.specs.Logs.{located}
+use Rattle.superstep_memory.specs.Landing.{landed, over_in}
 use Rattle.superstep_memory.specs.Paths.{is_rising}
-use Rattle.superstep_memory.proofs.Over.{at_log, first_located, over_inside, found_there}
 use Rattle.phase_records.specs.PrintValue.{PrintValue}
 use Rattle.phase_records.specs.declared.record.PhaseRecord.{PhaseRecord}
 use Rattle.phase_records.specs.Status.{Status, Fault, Ended, Limit}
 use Rattle.task_lang.specs.TaskValue.{TaskValue}
-use Rattle.task_lang.specs.Meaning.{Plan, Task, Segment}
+use Rattle.task_lang.specs.Meaning.{Plan, Segment}
 use Rattle.task_lang.specs.declared.job.Start.{Start}
 use Rattle.task_lang.specs.Views.{plans, task_of}
 use Rattle.task_lang.specs.JobValue.{JobValue}
@@ -21,13 +19,12 @@ use Rattle.step_deeds.specs.DeedValue.{DeedValue}
 use Rattle.step_parts.specs.Program.{Program, program_of}
 use Rattle.superstep_memory.specs.PathOrder.{in_path_order}
 use Rattle.step_parts.specs.SlotParts.{path_in, told_at}
-use Rattle.step_parts.specs.Superstep.{State, superstep, closed, ended_by, first_fault, too_many, overflow, fault_eight, or_next, next_live, log_of, prints_of, record_of, live_paths}
+use Rattle.step_parts.specs.Superstep.{State, superstep, ended_by, first_fault, live_paths}
 use Rattle.step_parts.specs.JobMeaning.{opening, so_far, status, status_of, start_tasks, told, report_of}
-use Rattle.step_deeds.specs.InPlace.{AllDone, deeds_of, IsAllDone, Told, maker, living_with, left_in, spawned_in, AllFew, told_in}
+use Rattle.step_deeds.specs.InPlace.{AllDone, deeds_of, IsAllDone, Told, maker, living_with, told_in}
 use Rattle.step_core.specs.Course.{course_state, HasFaulted, HasGone, HasTakenOne, left_by}
 use Rattle.step_core.specs.declared.alone.Course.{Course}
-use Rattle.step_parts.proofs.InOrder.{put_all_mapped, count_in_order}
-use Rattle.step_deeds.proofs.InPlace.{no_fault, maker_told, living_told, counted, all_few, paths_kept}
+use Rattle.step_parts.proofs.InOrder.{count_in_order}
 use Rattle.step_parts.proofs.Runs.{goes, ended_is_last}
 use Rattle.step_parts.proofs.Deeds.{paths_mapped}
 use Rattle.step_core.proofs.Apart.{live-paths-rise}

@@ -46,11 +46,7 @@ struct Room {
 }
 
 /// The tasks of the start lines.
-pub fn start_all(
-    alloc: Global,
-    bodies: &[Body],
-    starts: &[Start],
-) -> Result<Vec<Task>, AllocError>
+pub fn start_all(alloc: Global, bodies: &[Body], starts: &[Start]) -> Result<Vec<Task>, AllocError>
     requires { length starts.now ≤ 4096 }
     ensures { IfOk result (λ tasks. map (task_of (plans bodies.now)) tasks.items ≡ start_tasks (plans bodies.now) 0 starts.now) }
 {

@@ -1,5 +1,5 @@
 -- What the segment of one task among others leaves (own).
-use Rattle.std.specs.Prelude.{◌≡◌, ℕ, ℤ, List, Option, Some, slice_set, get_or}
+use Rattle.std.specs.Prelude.{◌≡◌, ℕ, ℤ, List, Option, slice_set, get_or}
 use Rattle.superstep_memory.specs.declared.arrays.Put.{Put}
 use Rattle.phase_records.specs.PrintValue.{PrintValue}
 use Rattle.task_lang.specs.TaskValue.{TaskValue}

@@ -1,8 +1,4 @@
 -- A stretch as its code keeps it (own).
-use Rattle.std.specs.Prelude.{◌≡◌}
-use Rattle.std.specs.Arc.{arc_value}
-use Rattle.step_parts.specs.Program.{program_of}
-use Rattle.step_parts.specs.JobMeaning.{state_at}
 use Rattle.step_stretches.specs.declared.part.Part.TheInside.{Inside}
 use Rattle.step_stretches.specs.PartValue.{PartValue}
 use Rattle.step_stretches.specs.Parts.{IsPart}

@@ -1,5 +1,5 @@
 -- What a stretch has done of its superstep, and what stretches are together (own).
-use Rattle.std.specs.Prelude.{◌≡◌, ◌==◌, ◌&&◌, ◌≤◌, ℕ, ◌+◌, ℤ, nat_le, Bool, true, false, List, [], ◌∷◌, ◌++◌, map, length, drop, Option, Some, None}
+use Rattle.std.specs.Prelude.{◌≡◌, ◌==◌, ◌&&◌, ◌<◌, ◌^◌, ℕ, ◌+◌, nat_le, Bool, false, List, [], ◌∷◌, ◌++◌, map, length, drop, Option, Some, None}
 use Rattle.superstep_memory.specs.declared.arrays.Put.{Put}
 use Rattle.phase_records.specs.PrintValue.{PrintValue}
 use Rattle.task_lang.specs.JobValue.{JobValue}
@@ -18,18 +18,21 @@ abbrev pub AreLive : JobValue → ℕ → ℕ → List TaskValue → Type 0
 AreLive job step first tasks =
     (back : List Task) × (drop first (state_at (program_of job) step).live ≡ map (task_of (plans job.bodies)) tasks ++ back)
 
--- so many of the tasks, which were these, did their segments; or the first fault of all of them is told
-abbrev pub HasDone : Program → State → List TaskValue → Option (ℕ × List ℕ) → PartValue → Type 0
-HasDone p st olds None part =
-    IsUnderWay p st.arrays part.step olds part.done part.puts part.tasks part.deeds [] part.prints
-HasDone p st olds (Some f) part = first_fault (deeds_of p st.arrays part.step olds) ≡ Some f
+-- so many of the tasks, which were these, did their segments at this step; or the first fault of all of them is told
+abbrev pub HasDone : Program → State → ℕ → List TaskValue → Option (ℕ × List ℕ) → PartValue → Type 0
+HasDone p st step olds None part =
+    IsUnderWay p st.arrays step olds part.done part.puts part.tasks part.deeds [] part.prints
+HasDone p st step olds (Some f) part = first_fault (deeds_of p st.arrays step olds) ≡ Some f
 
--- what was done is what the tasks of its superstep do
-pub record IsPart (part : PartValue) : Type 0 where
+-- what was done is what tasks of this job do at this step
+pub record IsPartOf (job : JobValue) (step : ℕ) (part : PartValue) : Type 0 where
   pub olds : List TaskValue
-  pub live : AreLive part.job part.step part.first olds
+  pub live : AreLive job step part.first olds
   pub count : length part.tasks ≡ length olds
-  pub told : HasDone (program_of part.job) (state_at (program_of part.job) part.step) olds part.fault part
+  pub told : HasDone (program_of job) (state_at (program_of job) step) step olds part.fault part
+
+abbrev pub IsPart : PartValue → Type 0
+IsPart part = IsPartOf part.job part.step part
 
 -- one of which nothing is done
 abbrev pub fresh_part : JobValue → ℕ → ℕ → List TaskValue → PartValue
@@ -96,8 +99,44 @@ covers end at (Some part ∷ ss) = (part.first == at) && is_finished part && cov
 -- one that is there is of this job and step
 abbrev pub IsOwn : JobValue → ℕ → Option PartValue → Type 0
 IsOwn job step None = Unit {0}
-IsOwn job step (Some part) = (part.job ≡ job) × (part.step ≡ step) × IsPart part
+IsOwn job step (Some part) = (part.job ≡ job) × (part.step ≡ step) × IsPartOf job step part
 
 abbrev pub AreOwn : JobValue → ℕ → List (Option PartValue) → Type 0
 AreOwn job step [] = Unit {0}
 AreOwn job step (s ∷ ss) = IsOwn job step s × AreOwn job step ss
+
+-- how many puts were made
+abbrev pub made_in : List DeedValue → ℕ
+made_in [] = 0
+made_in (d ∷ ds) = d.puts + made_in ds
+
+-- each task has a deed, and the deeds tell of all puts
+abbrev pub IsEven : Option PartValue → Type 0
+IsEven s = (length (of_slot (λ part. part.tasks) s) ≡ length (of_slot (λ part. part.deeds) s)) × (made_in (of_slot (λ part. part.deeds) s) ≡ length (of_slot (λ part. part.puts) s))
+
+abbrev pub AreEven : List (Option PartValue) → Type 0
+AreEven [] = Unit {0}
+AreEven (s ∷ ss) = IsEven s × AreEven ss
+
+-- the tasks of one that is there live on at the next step, at the same places
+abbrev pub IsAhead : Option PartValue → Type 0
+IsAhead None = Unit {0}
+IsAhead (Some part) = AreLive part.job (part.step + 1) part.first part.tasks
+
+abbrev pub AreAhead : List (Option PartValue) → Type 0
+AreAhead [] = Unit {0}
+AreAhead (s ∷ ss) = IsAhead s × AreAhead ss
+
+-- the same tasks before their segments of the next step
+abbrev pub renewed : Option PartValue → Option PartValue
+renewed None = None
+renewed (Some part) = Some (fresh_part part.job (part.step + 1) part.first part.tasks)
+
+-- the step of one that is there can be counted on
+abbrev pub IsBelow : Option PartValue → Type 0
+IsBelow None = Unit {0}
+IsBelow (Some part) = part.step + 1 < 2 ^ 32
+
+abbrev pub AreBelow : List (Option PartValue) → Type 0
+AreBelow [] = Unit {0}
+AreBelow (s ∷ ss) = IsBelow s × AreBelow ss

@@ -1,5 +1,5 @@
 -- A job whose supersteps are taken by stretches (own).
-use Rattle.std.specs.Prelude.{◌≡◌, ◌≤◌, ℕ, Bool, List, Option, None, length}
+use Rattle.std.specs.Prelude.{◌≡◌, ◌≤◌, ℕ, Bool, List, Option, Some, None, length}
 use Rattle.phase_records.specs.Status.{Status}
 use Rattle.task_lang.specs.JobValue.{JobValue}
 use Rattle.step_parts.specs.Program.{program_of}
@@ -28,6 +28,10 @@ state_of v = record (before v) { fault = v.fault }
 -- how the job has ended, if it has
 abbrev pub status_in : StretchesValue → Option Status
 status_in v = status v.limit (state_of v)
+
+-- a job that this fault has ended
+abbrev pub with_fault : StretchesValue → ℕ × List ℕ → StretchesValue
+with_fault v f = record v { fault = Some f }
 
 -- each live task has done its segment, in a stretch that is back
 abbrev pub is_whole : StretchesValue → Bool

@@ -1,5 +1,5 @@
 -- A job whose supersteps are taken by stretches, as its code keeps it (own).
-use Rattle.std.specs.Prelude.{◌≡◌, ◌≤◌, length}
+use Rattle.std.specs.Prelude.{◌≡◌, ◌≤◌, ◌<◌, ◌^◌, length}
 use Rattle.std.specs.Arc.{arc_value}
 use Rattle.step_stretches.specs.declared.stretches.Stretches.TheInside.{Inside}
 use Rattle.step_stretches.specs.StretchesValue.{StretchesValue, IsCourse, before}
@@ -14,3 +14,4 @@ pub record IsStretchesInside (i : Inside) : Type 0 where
   pub records : i.records.items ≡ (before (stretches_of i)).records
   pub count : i.count ≡ length (before (stretches_of i)).live
   pub pieces : 1 ≤ i.pieces
+  pub small : i.limit < 2 ^ 32

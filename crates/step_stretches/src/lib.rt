@@ -2,7 +2,19 @@
 //! whoever has them, and taken back as a whole.
 #![tactic(auto)]
 
+mod cut;
 mod fault;
+mod gather;
+mod landing;
 mod part;
+mod parts;
+mod regroup;
+mod renewal;
+mod stretch;
+mod stretches;
 
 pub use fault::{Unclosed, Unwanted};
+pub use step_deeds::deeds::Turn;
+pub use step_parts::fault::Outcome;
+pub use stretch::Stretch;
+pub use stretches::Stretches;

@@ -94,8 +94,9 @@ fn blame_again(blame: &Blame) -> Blame
 }
 
 impl<'j> Part<'j> {
-    ghost use Rattle.std.specs.Prelude.{◌≡◌, ◌≤◌, ◌<◌, ◌+◌, ◌↔◌, IsTrue, IfOk, OnOk, OnErr, MatchOption, length, map, slice_get};
-    ghost use Rattle.std.specs.Option.{option_map, option_copied};
+    ghost use Rattle.std.specs.Prelude.{◌≡◌, ◌≤◌, ◌<◌, ◌+◌, ◌^◌, ◌++◌, ◌↔◌, IsTrue, IfOk, OnOk, OnErr, length, map, slice_get};
+    ghost use Rattle.std.specs.Option.{option_map};
+    ghost use Rattle.std.specs.Vec.{vec_len, vec_capacity};
     ghost use Rattle.step_parts.specs.Program.{program_of};
     ghost use Rattle.step_parts.specs.JobMeaning.{state_at};
     ghost use Rattle.step_parts.specs.SlotParts.{path_of, path_in, told_at};
@@ -155,7 +156,8 @@ impl<'j> Part<'j> {
 
     /// Whether all its tasks have done their segments.
     pub(crate) fn is_finished(&self) -> bool
-        ensures { result ≡ is_finished self.now }
+        ensures finished { result ≡ is_finished self.now }
+        ensures known { IsPart self.now }
     {
         self.tasks.len() <= self.done
     }
@@ -209,12 +211,6 @@ impl<'j> Part<'j> {
                 Err(fault)
             }
         }
-    }
-
-    /// What is known of each.
-    pub(crate) fn known(&self)
-        ensures { IsPart self.now }
-    {
     }
 
     /// Its puts, one after another.
@@ -271,6 +267,27 @@ impl<'j> Part<'j> {
         self.deeds.turns(alloc)
     }
 
+    /// Goes on to the next step, at which the same tasks live, at the same places. Its prints come behind those that are
+    /// there, for which there is room.
+    pub(crate) fn renew(&mut self, prints: &mut Vec<Print>)
+        requires ahead { AreLive self.old.job (self.old.step + 1) self.old.first self.old.tasks }
+        requires below { self.old.step + 1 < 2 ^ 32 }
+        requires room { vec_len prints.old + length self.old.prints ≤ vec_capacity prints.old }
+        ensures fresh { self.new ≡ fresh_part self.old.job (self.old.step + 1) self.old.first self.old.tasks }
+        ensures prints { prints.new.items ≡ prints.old.items ++ self.old.prints }
+        ensures room { vec_capacity prints.old ≤ vec_capacity prints.new }
+    {
+        match prints.append(&mut self.prints) {
+            Ok(()) => {}
+            Err(_) => unreachable!(),
+        }
+        self.step += 1;
+        self.done = 0;
+        self.work.puts.clear();
+        self.deeds.clear();
+        self.fault = None;
+    }
+
     /// What it hands on.
     pub(crate) fn into_handed(self) -> Handed
         ensures tasks { result.tasks.items ≡ self.entry.tasks }
@@ -278,11 +295,18 @@ impl<'j> Part<'j> {
         ensures deeds { result.deeds ≡ self.entry.deeds }
         ensures prints { result.prints.items ≡ self.entry.prints }
     {
+        let Part {
+            tasks,
+            work,
+            deeds,
+            prints,
+            ..
+        } = self;
         Handed {
-            tasks: self.tasks,
-            puts: self.work.puts,
-            deeds: self.deeds,
-            prints: self.prints,
+            tasks,
+            puts: work.puts,
+            deeds,
+            prints,
         }
     }
 }

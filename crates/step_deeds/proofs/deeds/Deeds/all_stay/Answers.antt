@@ -1,7 +1,6 @@
 use Rattle.std.proofs.Common.{◌≡◌, ◌<◌, ◌==◌, ℕ, Bool, true, false, arith, ◌∙◌, sym, ap}
 use Rattle.std.specs.Vec.{vec_len}
 use Rattle.step_deeds.specs.DeedsView.{stopped_by}
-use Rattle.step_deeds.specs.InPlace.{left_in}
 use Rattle.step_deeds.proofs.Listed.{counts}
 use Rattle.step_deeds.proofs.deeds.Deeds.all_stay.Goals as goal
 

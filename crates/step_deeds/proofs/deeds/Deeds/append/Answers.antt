@@ -1,6 +1,4 @@
-use Rattle.std.proofs.Common.{◌≡◌, ◌++◌, arith, ◌∙◌, sym, ap, List, length, length-append}
-use Rattle.task_lang.specs.TaskValue.{TaskValue}
-use Rattle.step_deeds.specs.DeedValue.{DeedValue}
+use Rattle.std.proofs.Common.{◌≡◌, ◌++◌, arith, ◌∙◌, ap, List, length, length-append}
 use Rattle.step_deeds.specs.DeedsView.{spawned_by, deeds_with}
 use Rattle.step_deeds.specs.declared.deeds.Deed.{Deed}
 use Rattle.step_deeds.proofs.Listed.{deeds_append, spawned_append}

@@ -1,0 +1,36 @@
+//! The same stretches at the next step.
+ghost use Rattle.std.specs.Prelude.{◌≡◌, ◌≤◌, ◌<◌, ◌+◌, ◌^◌, ◌++◌, length, map};
+ghost use Rattle.std.specs.Vec.{vec_len, vec_capacity};
+ghost use Rattle.step_stretches.specs.Parts.{of_slot, prints_in, renewed, IsAhead, AreAhead, IsBelow, AreBelow};
+
+use crate::part::Part;
+use phase_records::Print;
+
+// The same stretch at the next step, and its prints behind those that are there.
+fn renew_one(slot: &mut Option<Part<'_>>, prints: &mut Vec<Print>)
+    requires ahead { IsAhead slot.old }
+    requires below { IsBelow slot.old }
+    requires room { vec_len prints.old + length (of_slot (λ part. part.prints) slot.old) ≤ vec_capacity prints.old }
+    ensures slot { slot.new ≡ renewed slot.old }
+    ensures prints { prints.new.items ≡ prints.old.items ++ of_slot (λ part. part.prints) slot.old }
+    ensures room { vec_capacity prints.old ≤ vec_capacity prints.new }
+{
+    if let Some(part) = slot {
+        part.renew(prints);
+    }
+}
+
+/// The same stretches at the next step, and their prints behind those that are there, for which there is room.
+pub(crate) fn renew_all(parts: &mut Vec<Option<Part<'_>>>, prints: &mut Vec<Print>)
+    requires ahead { AreAhead parts.old.items }
+    requires below { AreBelow parts.old.items }
+    requires room { vec_len prints.old + length (prints_in parts.old.items) ≤ vec_capacity prints.old }
+    ensures parts { parts.new.items ≡ map renewed parts.old.items }
+    ensures prints { prints.new.items ≡ prints.old.items ++ prints_in parts.old.items }
+{
+    let mut place = 0;
+    while place < parts.len() {
+        renew_one(&mut parts[place], prints);
+        place += 1;
+    }
+}
