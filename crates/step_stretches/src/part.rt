@@ -122,7 +122,6 @@ impl<'j> Part<'j> {
             tasks,
             done: 0,
             work: Work {
-                locals: Vec::new(alloc),
                 puts: Vec::new(alloc),
                 prints: Vec::new(alloc),
                 spawns: Vec::new(alloc),
