@@ -1,5 +1,5 @@
 -- The flat phaser that the table stands for, and where its end comes from.
-use Rattle.std.proofs.Common.{◌≡◌, ℕ, zero, suc, ◌<◌, ◌==◌, Bool, true, false, List, [], ◌∷◌, ◌++◌, length, set, refl, sym, ◌∙◌, ap, subst, arith, ne_eqb, get_or-set_same}
+use Rattle.std.proofs.Common.{◌≡◌, ℕ, zero, suc, ◌<◌, ◌==◌, ◌⊎◌, inl, inr, ⊎_elim, Bool, true, false, List, [], ◌∷◌, ◌++◌, length, set, refl, sym, ◌∙◌, ap, subst, arith, ne_eqb, get_or-set_same}
 use Rattle.advance_rule.specs.Plan.{end_ends}
 use Rattle.flat_phaser.specs.Flat.{registered}
 use Rattle.phaser_word.specs.Fields.{Fields}
@@ -18,8 +18,12 @@ use Rattle.tier_steps.proofs.Ready.{advances_are_due}
 use Rattle.tier_steps.specs.declared.view.Trip.TheVariants.{Arrival, Departure}
 use Rattle.table_rule.specs.declared.sight.Key.{Key}
 use Rattle.table_rule.specs.declared.sight.Sight.{Sight}
-use Rattle.table_rule.specs.Reach.{views_of, opens, steps, splits, joins}
-use Rattle.table_rule.specs.Laws.{MayStep, number_of, StepsAreFlat, EndsAreForcedOrPlanned, IsEnd, EndsHaveAStep}
+use Rattle.table_rule.specs.Reach.{views_of, cut_once, sat_sight, Reached, opens, steps, cuts, sits, joins, looks, parts}
+use Rattle.table_rule.specs.Laws.{MayStep, number_of, StepsAreFlat, EndsAreForcedOrPlanned, IsEnd, EndsHaveAStep, NewTreesAreEmpty}
+use Rattle.std.specs.List.{AllByRecursion}
+use mathlib.Core.Option.{some, some-injective, some-ne-none}
+use lib.ListN.{get_elem?}
+use Rattle.atomic_table.proofs.Lists.{set_else}
 use Rattle.table_rule.proofs.Seats.{around}
 use Rattle.table_rule.proofs.Reaching.{shaped, reached_states_tally}
 
@@ -118,5 +122,105 @@ ends_have_a_step k ws vs (steps us ts id t tries x y kind r at within needs says
         ends = sym (ends_are_forced_or_planned k us ts id t x kind m) ∙ ended;
       }
     ] refl
-ends_have_a_step k ws vs (splits us ts x r is) ended = ends_have_a_step k us ts r ended
+ends_have_a_step k ws vs (cuts us ts id x r at) ended = ends_have_a_step k us ts r ended
+ends_have_a_step k ws vs (sits us ts id x r at is) ended = ends_have_a_step k us ts r ended
 ends_have_a_step k ws vs (joins us ts id other l m r at apart there) ended = ends_have_a_step k us ts r ended
+ends_have_a_step k ws vs (looks us ts id x y x' y' r at own own' is is') ended = ends_have_a_step k us ts r ended
+ends_have_a_step k ws vs (parts us ts id x y r at) ended = ends_have_a_step k us ts r ended
+
+-- a sight that is not that of a new tree's first token
+abbrev IsUsed : Sight → Type 0
+IsUsed x = x.steps ≡ [] → x.opened ≡ 0 → ⊥
+
+abbrev AreUsed : List Sight → Type 0
+AreUsed l = AllByRecursion IsUsed l
+
+-- nothing has been done yet, or each sight is used
+record IsFirst (k : Key) (ws : List Fields) (vs : List (List Sight)) : Type 0 where
+  sight : Sight
+  words : ws ≡ empty_words k.shape k.phase
+  alone : vs ≡ (sight ∷ []) ∷ []
+
+abbrev FirstOrUsed : Key → List Fields → List (List Sight) → Type 0
+FirstOrUsed k ws vs = IsFirst k ws vs ⊎ AllByRecursion AreUsed vs
+
+module _ {A : Type 0} (P : A → Type 0) where
+  all_at : (ls : List A) (i : ℕ) (l : A) → get_elem? ls i ≡ some l → AllByRecursion P ls → P l
+  all_at [] i l at all = absurd (some-ne-none l (sym at))
+  all_at (m ∷ ls) zero l at all = subst P (some-injective m l at) all.0
+  all_at (m ∷ ls) (suc i) l at all = all_at ls i l at all.1
+
+  all_put : (ls : List A) (i : ℕ) (l : A) → P l → AllByRecursion P ls → AllByRecursion P (set ls i l)
+  all_put [] i l p all = tt
+  all_put (m ∷ ls) zero l p all = (p, all.1)
+  all_put (m ∷ ls) (suc i) l p all = (all.0, all_put ls i l p all.1)
+
+  all_both : (ls ms : List A) → AllByRecursion P ls → AllByRecursion P ms → AllByRecursion P (ls ++ ms)
+  all_both [] ms a b = b
+  all_both (l ∷ ls) ms a b = (a.0, all_both ls ms a.1 b)
+
+-- the seats of a new tree are one
+only_one : (x : Sight) (id : ℕ) (l : List Sight) → get_elem? ((x ∷ []) ∷ []) id ≡ some l → (id ≡ 0) × (l ≡ x ∷ [])
+only_one x zero l at = (refl, sym (some-injective (x ∷ []) l at))
+only_one x (suc id) l at = absurd (some-ne-none l (sym at))
+
+at_first : {k : Key} {ws : List Fields} {vs : List (List Sight)} → (f : IsFirst k ws vs) → (id : ℕ) (l : List Sight) → get_elem? vs id ≡ some l → (id ≡ 0) × (l ≡ f.sight ∷ [])
+at_first {k} {ws} {vs} f id l at = only_one f.sight id l (sym (ap (λ (us : List (List Sight)). get_elem? us id) f.alone) ∙ at)
+
+-- where a seat of a new tree becomes used, all are
+used_first : {k : Key} {ws : List Fields} {vs : List (List Sight)} → (f : IsFirst k ws vs) → (id : ℕ) (l m : List Sight) → get_elem? vs id ≡ some l → AreUsed m → AllByRecursion AreUsed (set vs id m)
+used_first {k} {ws} {vs} f id l m at used =
+    subst (λ (us : List (List Sight)). AllByRecursion AreUsed (set us id m)) (sym f.alone)
+    (subst (λ (i : ℕ). AllByRecursion AreUsed (set ((f.sight ∷ []) ∷ []) i m)) (sym (at_first f id l at).0) (used, tt))
+
+used_now : {k : Key} {ws : List Fields} {vs : List (List Sight)} (id : ℕ) (l m : List Sight) → get_elem? vs id ≡ some l → AreUsed m → FirstOrUsed k ws vs → AllByRecursion AreUsed (set vs id m)
+used_now {k} {ws} {vs} id l m at used before =
+    ⊎_elim (λ (f : IsFirst k ws vs). used_first f id l m at used) (λ (all : AllByRecursion AreUsed vs). all_put AreUsed vs id m used all) before
+
+stepped_used : (kind : Kind) (x y : Sight) → y.steps ≡ kind ∷ x.steps → IsUsed y
+stepped_used kind x y e n z = let a : 0 ≡ suc (length x.steps) = ap length (sym n ∙ e) in omega arith
+
+cut_used : (x : Sight) → IsUsed (cut_once x)
+cut_used x n z = absurd (omega arith)
+
+sat_used : (us : List Fields) (x : Sight) (k : Key) → x ≡ sat_sight k (word_at us 0) → IsUsed x
+sat_used us x k is n z = let a : 0 ≡ suc 0 = ap length (sym n ∙ ap (λ (s : Sight). s.steps) is) in omega arith
+
+longer : (x z : Sight) (y : Sight) → x ∷ y ∷ [] ≡ z ∷ [] → ⊥
+longer x z y e = let a = ap length e in omega arith
+
+first_or_used : (k : Key) (ws : List Fields) (vs : List (List Sight)) → Reached k ws vs → FirstOrUsed k ws vs
+first_or_used k ws vs (opens x shape small is) = inl (record { sight = x; words = refl; alone = refl })
+first_or_used k ws vs (steps us ts id t tries x y kind r at within needs says own is few) =
+    inr (used_now id (x ∷ []) (y ∷ []) at (stepped_used kind x y is.steps, tt) (first_or_used k us ts r))
+first_or_used k ws vs (cuts us ts id x r at) =
+    inr (all_both AreUsed (set ts id (cut_once x ∷ [])) ([] ∷ []) (used_now id (x ∷ []) (cut_once x ∷ []) at (cut_used x, tt) (first_or_used k us ts r)) (tt, tt))
+first_or_used k ws vs (sits us ts id x r at is) =
+    inr (used_now id [] (x ∷ []) at (sat_used us x k is, tt) (first_or_used k us ts r))
+first_or_used k ws vs (joins us ts id other l m r at apart there) =
+    ⊎_elim
+    (λ (f : IsFirst k us ts).
+    let z = (at_first f id l at).0 in
+    let o = (at_first f other m (sym (set_else ts id other (l ++ m) apart) ∙ there)).0 in
+    absurd (apart (o ∙ sym z)))
+    (λ (all : AllByRecursion AreUsed ts).
+    let mine = all_at AreUsed ts id l at all in
+    let others = all_at AreUsed ts other m (sym (set_else ts id other (l ++ m) apart) ∙ there) all in
+    inr (all_put AreUsed (set ts id (l ++ m)) other [] tt (all_put AreUsed ts id (l ++ m) (all_both IsUsed l m mine others) all)))
+    (first_or_used k us ts r)
+first_or_used k ws vs (looks us ts id x y x' y' r at own own' is is') =
+    inr (used_now id (x ∷ y ∷ []) (x' ∷ y' ∷ []) at (stepped_used Look x x' is.steps, (stepped_used Look y y' is'.steps, tt)) (first_or_used k us ts r))
+first_or_used k ws vs (parts us ts id x y r at) =
+    ⊎_elim
+    (λ (f : IsFirst k us ts). absurd (longer x f.sight y (at_first f id (x ∷ y ∷ []) at).1))
+    (λ (all : AllByRecursion AreUsed ts).
+    let both = all_at AreUsed ts id (x ∷ y ∷ []) at all in
+    inr (all_both AreUsed (set ts id (x ∷ [])) ((y ∷ []) ∷ []) (all_put AreUsed ts id (x ∷ []) (both.0, tt) all) ((both.1.0, tt), tt)))
+    (first_or_used k us ts r)
+
+pub new_trees_are_empty : NewTreesAreEmpty
+new_trees_are_empty k ws vs id x r at no_step none =
+    ⊎_elim
+    (λ (f : IsFirst k ws vs). (f.words, f.alone ∙ ap (λ (l : List Sight). l ∷ []) (sym (at_first f id (x ∷ []) at).1)))
+    (λ (all : AllByRecursion AreUsed vs). absurd ((all_at AreUsed vs id (x ∷ []) at all).0 no_step none))
+    (first_or_used k ws vs r)

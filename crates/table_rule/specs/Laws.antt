@@ -11,6 +11,7 @@ use Rattle.tier_steps.specs.Tally.{word_at}
 use Rattle.tier_steps.specs.Step.{Needs}
 use Rattle.tier_steps.specs.Laws.{words_after, stepped_view}
 use Rattle.tier_steps.specs.Image.{image, label, labelled, IsAllowedLabel, LooksAlike}
+use Rattle.tier_steps.specs.Start.{empty_words}
 use Rattle.flat_phaser.specs.Flat.{Flat, registered}
 use Rattle.advance_rule.specs.Plan.{end_ends}
 use Rattle.table_rule.specs.declared.sight.Key.{Key}
@@ -89,3 +90,10 @@ pub record IsEnd (k : Key) : Type 0 where
 -- Wherever the steps have led: a tree that has ended was ended by a step, which was a force, or an advance of which the plan said so.
 abbrev pub EndsHaveAStep : Type 0
 EndsHaveAStep = (k : Key) (words : List Fields) (seats : List (List Sight)) → Reached k words seats → (word_at words 0).ended ≡ true → IsEnd k
+
+-- A new tree is empty: as long as its first token has made no step, and no seat was cut off its own, all words are as at first, and there is no other seat.
+abbrev pub NewTreesAreEmpty : Type 0
+NewTreesAreEmpty =
+    (k : Key) (words : List Fields) (seats : List (List Sight)) (id : ℕ) (x : Sight)
+    → Reached k words seats → get_elem? seats id ≡ some (x ∷ []) → x.steps ≡ [] → x.opened ≡ 0
+    → (words ≡ empty_words k.shape k.phase) × (seats ≡ (x ∷ []) ∷ [])

@@ -129,12 +129,13 @@ module _ (n : Named) (tier size tries : ℕ) (h h' : Holding) (g : Going) (is : 
   join_may_answer = may_answer n 0 h.view.tier tier size tries (seeking h' tier size) g begins ran many
 
   soon : IsSoon tries h g.token
-  soon = record { tree = ran.went.at.own ∙ sym is; tried = (let a = ran.went.tried in let b = took.tried in let c = ran.few in omega arith) }
+  soon = record { tree = ran.went.at.own ∙ sym is; tried = (let a = ran.went.tried in let b = took.tried in let c = ran.few in omega arith); opened = ran.went.opened ∙ took.opened }
 
   spent : g.progress ≢ Idle → IsSpent tries h g.token
   spent more = record {
     tree = ran.went.at.own ∙ sym is;
     tried = (let a = ran.went.tried in let b = took.tried in let c = ran.all (goes_now n 0 h.view.tier tier size tries (seeking h' tier size) g begins ran more) in omega arith);
+    opened = ran.went.opened ∙ took.opened;
   }
 
   ends_so : (a : Played) → g.progress ≡ Idle → g.answer ≡ a → JoinAnswer h.tree.key.shape tier size g.token.view a
@@ -192,7 +193,7 @@ module _ (n : Named) (tries : ℕ) (o g : Going) (is : o.token.tree ≡ n) (open
   never_busy (registered.Owing opening'') s = tt
 
   early : IsSoon tries o.token g.token
-  early = record { tree = ran.went.at.own ∙ sym is; tried = (let a = ran.went.tried in let c = ran.few in omega arith) }
+  early = record { tree = ran.went.at.own ∙ sym is; tried = (let a = ran.went.tried in let c = ran.few in omega arith); opened = ran.went.opened }
 
   pub ends_as : (a : Played) → g.progress ≡ Idle → g.answer ≡ a → JoinAnswer o.token.tree.key.shape tier size g.token.view a
   ends_as a e f = subst (λ (z : Named). JoinAnswer z.key.shape tier size g.token.view a) (sym is) (over n 1 o.token.view.tier tier size tries o g stood ran a e f)
@@ -217,6 +218,7 @@ module _ (n : Named) (tries : ℕ) (o g : Going) (is : o.token.tree ≡ n) (open
         record {
           tree = ran.went.at.own ∙ sym is;
           tried = (let a' = ran.went.tried in let c = ran.all (goes_now n 1 o.token.view.tier tier size tries o g stood ran t.1) in omega arith);
+          opened = ran.went.opened;
         },
         is_for n 1 o.token.view.tier tier size tries o g stood ran t.1 t.2,
       )

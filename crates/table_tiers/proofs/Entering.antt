@@ -28,7 +28,7 @@ use Rattle.table_tiers.specs.Goes.{Position, position, Goes, starts, steps, look
 use Rattle.table_tiers.specs.Joins.{JoinAt, is_joining}
 use Rattle.tier_core.specs.declared.call.Played.{Played}
 use Rattle.table_tiers.specs.Openings.{asked_tier, asked_size, IsOpening}
-use Rattle.table_tiers.specs.Made.{MadeOnly, is_entering}
+use Rattle.table_tiers.specs.Made.{HasEntered, MadeOnly, is_entering}
 use Rattle.table_tiers.specs.Registers.{AnswersJoin, SameAnswer, token_of, opened_of}
 use Rattle.table_tiers.proofs.Turning.{by_cond}
 use Rattle.table_tiers.proofs.Making.{made_more, made_none}
@@ -83,6 +83,9 @@ enters_along k from at j (looks at' w go fits g beside) =
 
 pub looked_enters : {h h' : Holding} → Looked Look 0 h h' → MadeOnly is_entering h.steps h'.steps
 looked_enters {h} {h'} took = subst (MadeOnly is_entering h.steps) (sym took.steps) (made_more is_entering Look h.steps h.steps refl (made_none is_entering h.steps))
+
+pub looked_first_enters : {h h' : Holding} → Looked Look 0 h h' → HasEntered h.steps h'.steps
+looked_first_enters {h} {h'} took = subst (HasEntered h.steps) (sym took.steps) (made_none is_entering (Look ∷ h.steps))
 
 pub ran_enters : {n : Named} {tries : ℕ} {o g : Going} → is_joining o.progress ≡ true → Ran n tries o g → MadeOnly is_entering o.token.steps g.token.steps
 ran_enters {n} {tries} {o} {g} j ran = enters_along n.key (position o) (position g) j (ran.went.goes (position o) starts)

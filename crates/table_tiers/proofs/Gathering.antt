@@ -18,10 +18,10 @@ use Rattle.tier_steps.specs.Tally.{word_at, root_phase, ViewFits, Tallies}
 use Rattle.tier_steps.proofs.Seats.{regrouping_keeps_tally}
 use Rattle.table_rule.specs.Reach.{those, views_of, Kept}
 use Rattle.table_rule.proofs.Reaching.{reached_states_tally}
-use Rattle.table_rule.proofs.Seats.{those-append, all_front, all_back, all_append}
+use Rattle.table_rule.proofs.Seats.{all_front, all_back, all_append}
 use Rattle.table_tiers.specs.declared.tokens.Token.{Token}
-use Rattle.table_tiers.specs.Holding.{Named, Holding, IsSeated}
-use Rattle.table_tiers.specs.Closes.{held, views_in}
+use Rattle.table_tiers.specs.Holding.{Named, Holding, sight_held}
+use Rattle.table_tiers.specs.Closes.{held, views_in, sights_in, IsAmong, IsLeftBy, IsShut}
 
 -- the last of some tokens
 pub kept_front : {n : Named} (all front : List Token) (t : Token) → all ≡ front ++ t ∷ [] → All (λ (t : Token). (held t).tree ≡ n) all → All (λ (t : Token). (held t).tree ≡ n) front
@@ -44,15 +44,24 @@ pub table_id : {id id' : TableId} {k : Key} {n : Named} → record { id = id; ke
 table_id {id} {id'} {k} {n} tree own = own ∙ ap (λ (z : Named). z.id) (sym tree)
 
 -- one more token's seat takes in what was gathered
-pub gathered : (all front : List Token) (t : Token) (me : Me Kind (List Sight)) {h : Holding} {one me' : Me Kind (List Sight)} → h ≡ held t → IsSeated one h.view h.tier h.word → all ≡ front ++ t ∷ []
-    → me' ≡ (one.0 ++ me.0, one.1) → views_in front ++ those me'.0 ≡ views_in all ++ those me.0
+pub gathered : (all front : List Token) (t : Token) (me : Me Kind (List Sight)) {h : Holding} {one me' : Me Kind (List Sight)} → h ≡ held t → one ≡ (sight_held h ∷ [], []) → all ≡ front ++ t ∷ []
+    → me' ≡ (one.0 ++ me.0, one.1) → sights_in front ++ me'.0 ≡ sights_in all ++ me.0
 gathered all front t me {h} {one} {me'} same seat is joined =
-    let v : View = (held t).view in
-    let a : those me'.0 ≡ those one.0 ++ those me.0 = ap (λ (m : Me Kind (List Sight)). those m.0) joined ∙ those-append one.0 me.0 in
-    let b : those one.0 ≡ v ∷ [] = ap (λ (m : Me Kind (List Sight)). those m.0) seat.one ∙ (ap (λ (u : View). u ∷ []) seat.view ∙ ap (λ (z : Holding). z.view ∷ []) same) in
-    let c : those me'.0 ≡ v ∷ those me.0 = a ∙ ap (λ (vs : List View). vs ++ those me.0) b in
-    let d : views_in all ≡ views_in front ++ v ∷ [] = ap (map (λ (t : Token). (held t).view)) is ∙ map-append (λ (t : Token). (held t).view) front (t ∷ []) in
-    ap (λ (vs : List View). views_in front ++ vs) c ∙ (sym (append_assoc (views_in front) (v ∷ []) (those me.0)) ∙ ap (λ (vs : List View). vs ++ those me.0) (sym d))
+    let x : Sight = sight_held (held t) in
+    let a : me'.0 ≡ x ∷ me.0 = ap (λ (m : Me Kind (List Sight)). m.0) joined ∙ (ap (λ (m : Me Kind (List Sight)). m.0 ++ me.0) seat ∙ ap (λ (z : Holding). sight_held z ∷ me.0) same) in
+    let d : sights_in all ≡ sights_in front ++ x ∷ [] = ap (map (λ (t : Token). sight_held (held t))) is ∙ map-append (λ (t : Token). sight_held (held t)) front (t ∷ []) in
+    ap (λ (l : List Sight). sights_in front ++ l) a ∙ (sym (append_assoc (sights_in front) (x ∷ []) me.0) ∙ ap (λ (l : List Sight). l ++ me.0) (sym d))
+
+-- all of them, the last one first
+pub gathered_all : (all front : List Token) (t : Token) (me : Me Kind (List Sight)) {h : Holding} {one : Me Kind (List Sight)} → h ≡ held t → one ≡ (sight_held h ∷ [], []) → all ≡ front ++ t ∷ []
+    → me.0 ≡ sights_in front ++ one.0 → me.0 ≡ sights_in all
+gathered_all all front t me {h} {one} same seat is told =
+    let d : sights_in all ≡ sights_in front ++ sight_held (held t) ∷ [] = ap (map (λ (t : Token). sight_held (held t))) is ∙ map-append (λ (t : Token). sight_held (held t)) front (t ∷ []) in
+    told ∙ (ap (λ (m : Me Kind (List Sight)). sights_in front ++ m.0) seat ∙ (ap (λ (z : Holding). sights_in front ++ sight_held z ∷ []) same ∙ sym d))
+
+views_told : (tokens : List Token) → those (sights_in tokens) ≡ views_in tokens
+views_told [] = refl
+views_told (t ∷ ts) = ap (λ (vs : List View). (held t).view ∷ vs) (views_told ts)
 
 -- the views of one seat among those of all
 pub record Among (vs : List (List Sight)) (l : List Sight) : Type 0 where
@@ -97,20 +106,47 @@ pub record Last (k : Key) (numbers : List ℕ) (l : List Sight) : Type 0 where
   pub rest : List View
   pub tally : Tallies k.shape words (those l ++ rest)
 
-pub last_state : {k : Key} {id : ℕ} {l : List Sight} {numbers : List ℕ} (xs : List Kind) → Final (Seen (Kept k) id l) numbers xs → Last k numbers l
-last_state {k} {id} {l} {numbers} xs final =
-    let s : State Kind (List Sight) = final.0 in
-    let kept = final.1.0 in
-    let a = among s.views id l final.1.1 in
-    let tally = reached_states_tally k kept.words s.views kept.reached in
+pub last_of : {k : Key} {numbers : List ℕ} {l : List Sight} → IsShut k numbers l → Last k numbers l
+last_of {k} {numbers} {l} shut =
+    let left = shut.left in
+    let tally = reached_states_tally k shut.words left.seats left.reached in
+    let a = some_among l left.seats left.known in
     record {
-      words = kept.words;
-      packed_so = sym final.2 ∙ kept.packed;
+      words = shut.words;
+      packed_so = shut.packed_so;
       legal = tally.legal;
       long = tally.long;
       rest = a.front ++ a.back;
-      tally = regrouped k.shape kept.words a.front (those l) a.back (subst (λ (vs : List View). Tallies k.shape kept.words vs) a.is tally);
+      tally = regrouped k.shape shut.words a.front (those l) a.back (subst (λ (vs : List View). Tallies k.shape shut.words vs) a.is tally);
     }
+  where
+    some_among : (l : List Sight) (seats : List (List Sight)) → IsAmong l seats → Among seats l
+    some_among [] seats known = record { front = []; back = views_of seats; is = refl }
+    some_among (x ∷ xs) seats known = among seats known.0 (x ∷ xs) known.1
+
+known_at : (l : List Sight) (seats : List (List Sight)) (id : ℕ) → get_elem? seats id ≡ some l → IsAmong l seats
+known_at [] seats id at = tt
+known_at (x ∷ xs) seats id at = (id, at)
+
+-- a table that is closed with a seat, and without one
+pub shut_with : {k : Key} {n : Named} {t : TableId} {id : ℕ} {l m : List Sight} {numbers : List ℕ} (xs : List Kind) → record { id = t; key = k } ≡ n → Final (Seen (Kept k) id l) numbers xs → l ≡ m
+    → IsShut n.key numbers m
+shut_with {k} {n} {t} {id} {l} {m} {numbers} xs own final same =
+    let s : State Kind (List Sight) = final.0 in
+    let kept = final.1.0 in
+    subst (λ (z : Named). IsShut z.key numbers m) own (record {
+      words = kept.words;
+      packed_so = sym final.2 ∙ kept.packed;
+      left = record { seats = s.views; reached = kept.reached; known = known_at m s.views id (final.1.1 ∙ ap some same) };
+    })
+
+pub shut_alone : {k : Key} {n : Named} {t : TableId} {numbers : List ℕ} (xs : List Kind) (tokens : List Token) → record { id = t; key = k } ≡ n → Final (Kept k) numbers xs → tokens ≡ []
+    → IsShut n.key numbers (sights_in tokens)
+shut_alone {k} {n} {t} {numbers} xs tokens own final none =
+    let s : State Kind (List Sight) = final.0 in
+    let kept = final.1 in
+    subst (λ (ts : List Token). IsShut n.key numbers (sights_in ts)) (sym none)
+    (subst (λ (z : Named). IsShut z.key numbers []) own (record { words = kept.words; packed_so = sym final.2 ∙ kept.packed; left = record { seats = s.views; reached = kept.reached; known = tt } }))
 
 number_at : (ws : List Fields) (i n : ℕ) → get_elem? (map packed ws) i ≡ some n → i < length ws → packed (word_at ws i) ≡ n
 number_at [] i n at lt = absurd (omega arith)
@@ -131,9 +167,8 @@ take_next (w ∷ ws) (suc i) lt = ap (λ (z : List Fields). w ∷ z) (take_next 
 pub take_more : (ws : List Fields) (i : ℕ) → i < length ws → take (i + 1) ws ≡ take i ws ++ word_at ws i ∷ []
 take_more ws i lt = let e : i + 1 ≡ suc i = omega arith in ap (λ (n : ℕ). take n ws) e ∙ take_next ws i lt
 
-pub count_long : {k : Key} {n : Named} {id : TableId} {numbers shape : List ℕ} {l : List Sight} {count : ℕ} → record { id = id; key = k } ≡ n → (z : Last k numbers l)
-    → shape ≡ n.key.shape → count ≡ length shape → length z.words ≡ count
-count_long {k} {n} {id} {numbers} {shape} {l} {count} is z same long = z.long ∙ (ap (λ (m : Named). length m.key.shape) is ∙ (ap length (sym same) ∙ sym long))
+pub count_long : {k : Key} {numbers shape : List ℕ} {l : List Sight} {count : ℕ} → (z : Last k numbers l) → shape ≡ k.shape → count ≡ length shape → length z.words ≡ count
+count_long {k} {numbers} {shape} {l} {count} z same long = z.long ∙ (ap length (sym same) ∙ sym long)
 
 pub take_whole : (ws : List Fields) (i : ℕ) → length ws ≤ i → take i ws ≡ ws
 take_whole [] zero h = refl
@@ -141,11 +176,19 @@ take_whole [] (suc i) h = refl
 take_whole (w ∷ ws) zero h = absurd (omega arith)
 take_whole (w ∷ ws) (suc i) h = ap (λ (z : List Fields). w ∷ z) (take_whole ws i (omega arith))
 
-pub closed_tally : {k : Key} {n : Named} {id : TableId} {numbers : List ℕ} {l : List Sight} {items : List Fields} (u : List Sight) (mine : List View) → record { id = id; key = k } ≡ n → (z : Last k numbers l)
-    → items ≡ z.words → those l ≡ mine ++ those u → (others : List View) × Tallies n.key.shape items (mine ++ others)
-closed_tally {k} {n} {id} {numbers} {l} {items} u mine is z same views = (
-  those u ++ z.rest,
-  subst (λ (m : Named). Tallies m.key.shape items (mine ++ (those u ++ z.rest))) is
-      (subst (λ (ws : List Fields). Tallies k.shape ws (mine ++ (those u ++ z.rest))) (sym same)
-      (subst (λ (vs : List View). Tallies k.shape z.words vs) (ap (λ (vs : List View). vs ++ z.rest) views ∙ append_assoc mine (those u) z.rest) z.tally)),
+pub closed_tally : {k : Key} {numbers : List ℕ} {items : List Fields} (tokens : List Token) → (z : Last k numbers (sights_in tokens)) → items ≡ z.words
+    → (others : List View) × Tallies k.shape items (views_in tokens ++ others)
+closed_tally {k} {numbers} {items} tokens z same = (
+  z.rest,
+  subst (λ (ws : List Fields). Tallies k.shape ws (views_in tokens ++ z.rest)) (sym same)
+      (subst (λ (vs : List View). Tallies k.shape z.words (vs ++ z.rest)) (views_told tokens) z.tally),
 )
+
+pub closed_left : {k : Key} {numbers shape : List ℕ} {items : List Fields} {count tier : ℕ} (tokens : List Token) → (shut : IsShut k numbers (sights_in tokens)) → shape ≡ k.shape → count ≡ length shape → count ≤ tier
+    → ((ws : List Fields) → numbers ≡ map packed ws → ((t : ℕ) → t < length ws → IsLegal (word_at ws t)) → length ws ≡ count → items ≡ take tier ws)
+    → IsLeftBy k items (sights_in tokens)
+unfolding last_of
+closed_left {k} {numbers} {shape} {items} {count} {tier} tokens shut same is past told =
+    let z = last_of shut in
+    let long : length shut.words ≡ count = count_long z same is in
+    subst (λ (ws : List Fields). IsLeftBy k ws (sights_in tokens)) (sym (told shut.words shut.packed_so z.legal long ∙ take_whole shut.words tier (omega arith))) shut.left

@@ -1,5 +1,5 @@
 -- A door that joins at a tier where a crew has an unarrived member.
-use Rattle.std.proofs.Common.{◌≡◌, ◌≢◌, ℕ, zero, suc, ◌+◌, ◌-◌, ◌≤◌, ◌<◌, ⊎_elim, Bool, true, false, cond, eqb, not, ◌&&◌, ◌||◌, ltb, List, ◌∷◌, length, refl, sym, ◌∙◌, ap, subst, arith, Some, None}
+use Rattle.std.proofs.Common.{◌≡◌, ◌≢◌, ℕ, zero, suc, ◌+◌, ◌-◌, ◌≤◌, ◌<◌, inr, ⊎_elim, Bool, true, false, cond, eqb, not, ◌&&◌, ◌||◌, ltb, List, ◌∷◌, length, refl, sym, ◌∙◌, ap, subst, arith, Some, None}
 use Rattle.std.proofs.lemmas.Bool.{eq-eqb, ne_eqb, lt-ltb, ltb-false}
 use Rattle.flat_phaser.proofs.Everyone.{either}
 use Rattle.phaser_word.specs.Fields.{Fields}
@@ -26,14 +26,14 @@ use Rattle.table_tiers.specs.Passes.{IsSame}
 use Rattle.table_tiers.specs.Joins.{IsJoined}
 use Rattle.table_tiers.specs.Passes.{EndSeen, IsFresh}
 use Rattle.table_tiers.specs.Arrives.{IsSoon, IsSpent}
-use Rattle.table_tiers.specs.Registers.{IsLookedAround}
+use Rattle.table_tiers.specs.Registers.{IsLookedAround, token_of}
 use Rattle.table_tiers.specs.JoinsHere.{Waits, IsStill, IsFullHere, AreSoon, AreSpent, KeepsCrew, AnswersMeeting, JoinsOnce, JoinsHere}
 use Rattle.table_tiers.specs.declared.joining.Registered.{Registered}
 use Rattle.table_tiers.specs.declared.joining.Registered.TheVariants as registered
 use Rattle.table_tiers.proofs.Turning.{refuse_at, ended_at, glanced}
-use Rattle.table_tiers.proofs.Passing.{root_of, glance_unled, looked_unled}
+use Rattle.table_tiers.proofs.Passing.{still_glance, root_of, glance_unled, looked_unled}
 use Rattle.table_tiers.proofs.Settling.{first_fresh}
-use Rattle.table_tiers.specs.Made.{MadeOnly, is_quiet, is_entering}
+use Rattle.table_tiers.specs.Made.{HasEntered, HasLooked, MadeOnly, is_quiet, is_entering}
 use Rattle.table_tiers.proofs.Making.{made_more, made_none, made_then}
 use Rattle.table_tiers.proofs.Entering.{join_enters, looked_enters}
 use Rattle.table_tiers.proofs.Seeks.{look_unended, look_end, refused_note, refused_size, refused_end, refused_unled, glance_unended}
@@ -195,7 +195,7 @@ peek_made {h} {h'} t size tries took = one_enters (looking (Join t 0 size) t h'.
 
 pub met_late : {h h' : Holding} (t size : ℕ) → IsDoor h → Looked (Join t 0 size) t h h' → h'.word.ended ≡ false → IsFresh h.view → IsStill 0 h h'
 met_late {h} {h'} t size door took going fresh = record {
-  spent = record { tree = took.tree; tried = took.tried };
+  spent = record { tree = took.tree; tried = took.tried; opened = took.opened };
   looked = around_by size 0 door took;
   fresh = (let p = peeks size 0 door took in record { unseen = p.unseen going ∙ fresh.unseen; unled = p.unled fresh.unled });
   made = peek_made t size 0 took;
@@ -212,7 +212,7 @@ met_busy {h} {h'} {h''} t size door took lost going on fresh =
     let second = lost_took t size took.tier lost in
     let door' = peeked_door {h = h} {h' = h'} door p in
     record {
-      spent = record { tree = second.tree ∙ took.tree; tried = (let a = second.tried in let b = took.tried in omega arith) };
+      spent = record { tree = second.tree ∙ took.tree; tried = (let a = second.tried in let b = took.tried in omega arith); opened = second.opened ∙ took.opened };
       looked = around_then (around_by size 0 door took) (around_by size 1 door' second);
       fresh = (let q = peeks size 1 door' second in record { unseen = q.unseen on ∙ (p.unseen going ∙ fresh.unseen); unled = q.unled (p.unled fresh.unled) });
       made = made_then is_entering (peek_made t size 0 took) (peek_made t size 1 second);
@@ -221,7 +221,7 @@ met_busy {h} {h'} {h''} t size door took lost going on fresh =
 pub met_joined : {h h' h'' : Holding} {phase : ℕ} (t size : ℕ) → IsDoor h → IsFresh h.view → Looked (Join t 0 size) t h h' → Won (Join t 0 size) h' h'' → phase ≡ h'.word.phase
     → IsSpent 1 h h'' × IsJoined t size h''.view × (h''.view.errand ≡ Rest) × (phase ≡ h''.view.phase) × MadeOnly is_entering h.steps h''.steps
 met_joined {h} {h'} {h''} {phase} t size door fresh took won is = (
-  record { tree = won.tree ∙ took.tree; tried = (let a = won.tried in let b = took.tried in omega arith) },
+  record { tree = won.tree ∙ took.tree; tried = (let a = won.tried in let b = took.tried in omega arith); opened = won.opened ∙ took.opened },
   record { seat = ap (λ (v : View). v.tier) won.view; members = ap (λ (v : View). v.size) won.view; none_arrived = ap (λ (v : View). v.arrived) won.view; unled = ap (λ (v : View). v.led) won.view ∙ (peeks size 0 door took).unled fresh.unled },
   ap (λ (v : View). v.errand) won.view,
   is ∙ ap (λ (v : View). v.phase) (sym won.view),
@@ -231,13 +231,13 @@ met_joined {h} {h'} {h''} {phase} t size door fresh took won is = (
 pub met_ended : {h h' : Holding} {shown : ℤ} (t size : ℕ) → Looked (Join t 0 size) t h h' → h'.word.ended ≡ true → shown ≡ shown_of h'.word.phase h'.word.ended
     → IsSoon 1 h h' × EndSeen h'.view shown
 met_ended {h} {h'} {shown} t size took e is =
-    (record { tree = took.tree; tried = (let a = took.tried in omega arith) }, (h'.word.phase, peeks_end size 0 took e, is ∙ ap (shown_of h'.word.phase) e))
+    (record { tree = took.tree; tried = (let a = took.tried in omega arith); opened = took.opened }, (h'.word.phase, peeks_end size 0 took e, is ∙ ap (shown_of h'.word.phase) e))
 
 pub met_ended_late : {h h' h'' : Holding} {shown : ℤ} (t size : ℕ) → Looked (Join t 0 size) t h h' → Lost (Join t 0 size) h' h'' → h''.word.ended ≡ true → shown ≡ shown_of h''.word.phase h''.word.ended
     → IsSoon 1 h h'' × EndSeen h''.view shown
 met_ended_late {h} {h'} {h''} {shown} t size took lost e is =
     let second = lost_took t size took.tier lost in
-    (record { tree = second.tree ∙ took.tree; tried = (let a = second.tried in let b = took.tried in omega arith) }, (h''.word.phase, peeks_end size 1 second e, is ∙ ap (shown_of h''.word.phase) e))
+    (record { tree = second.tree ∙ took.tree; tried = (let a = second.tried in let b = took.tried in omega arith); opened = second.opened ∙ took.opened }, (h''.word.phase, peeks_end size 1 second e, is ∙ ap (shown_of h''.word.phase) e))
 
 -- the tokens' types
 pub first_door : {h h' : Holding} (t size : ℕ) → IsDoor h → Looked (Join t 0 size) t h h' → IsDoor h'
@@ -258,21 +258,21 @@ new_crew {h'} {h''} {t} {size} some won = record {
 -- a round, from what the door's part answers
 pub met_round : {old new : Holding} {tier : ℕ} (door : Holding) (size : ℕ) (a : Registered) → KeepsCrew 0 old new → tier ≡ old.view.tier → AnswersMeeting door tier size a → JoinsOnce old new door size a
 met_round {old} {new} {tier} door size (registered.Joined crew phase) k at m = (
-  record { crew_tree = k.tree; door_tree = m.0.tree; crew = k.crew; tried = (let a = k.tried in let b = m.0.tried in omega arith); crew_made = k.made; door_made = m.4 },
+  record { crew_tree = k.tree; door_tree = m.0.tree; crew = k.crew; tried = (let a = k.tried in let b = m.0.tried in omega arith); crew_opened = k.opened; door_opened = m.0.opened; crew_made = k.made; door_made = m.4 },
   subst (λ (t : ℕ). IsJoined t size crew.view) at m.1,
   m.2,
   m.3,
 )
 met_round {old} {new} {tier} door size (registered.Full after count) k at m = (
-  record { crew_tree = k.tree; door_tree = m.0.tree; crew = k.crew; tried = (let a = k.tried in let b = m.0.tried in omega arith); crew_made = k.made; door_made = m.2 },
+  record { crew_tree = k.tree; door_tree = m.0.tree; crew = k.crew; tried = (let a = k.tried in let b = m.0.tried in omega arith); crew_opened = k.opened; door_opened = m.0.opened; crew_made = k.made; door_made = m.2 },
   subst (λ (t : ℕ). IsFullHere door.tree.key.shape t size after.view count) at m.1,
 )
 met_round {old} {new} {tier} door size (registered.Ended after shown) k at m = (
-  record { crew_tree = k.tree; door_tree = m.0.tree; crew = k.crew; tried = (let a = k.tried in let b = m.0.tried in omega arith); crew_made = k.made; door_made = m.2 },
+  record { crew_tree = k.tree; door_tree = m.0.tree; crew = k.crew; tried = (let a = k.tried in let b = m.0.tried in omega arith); crew_opened = k.opened; door_opened = m.0.opened; crew_made = k.made; door_made = m.2 },
   m.1,
 )
 met_round {old} {new} {tier} door size (registered.Busy after) k at m = (
-  record { crew_tree = k.tree; door_tree = m.spent.tree; crew = k.crew; tried = (let a = k.tried in let b = m.spent.tried in omega arith); crew_made = k.made; door_made = m.made },
+  record { crew_tree = k.tree; door_tree = m.spent.tree; crew = k.crew; tried = (let a = k.tried in let b = m.spent.tried in omega arith); crew_opened = k.opened; door_opened = m.spent.opened; crew_made = k.made; door_made = m.made },
   m.looked,
   m.fresh,
 )
@@ -285,7 +285,7 @@ same_then {a} {b} {c} x y = record { tier = y.tier ∙ x.tier; size = y.size ∙
 -- a round in which another step came between
 pub late_round : {old mid new door after : Holding} → KeepsCrew 0 old mid → KeepsCrew 1 mid new → IsStill 0 door after → AreSpent 1 old new door after × IsLookedAround door.view after.view × IsFresh after.view
 late_round {old} {mid} {new} {door} {after} a b s = (
-  record { crew_tree = b.tree ∙ a.tree; door_tree = s.spent.tree; crew = same_then a.crew b.crew; tried = (let x = a.tried in let y = b.tried in let z = s.spent.tried in omega arith); crew_made = made_then is_quiet a.made b.made; door_made = s.made },
+  record { crew_tree = b.tree ∙ a.tree; door_tree = s.spent.tree; crew = same_then a.crew b.crew; tried = (let x = a.tried in let y = b.tried in let z = s.spent.tried in omega arith); crew_opened = b.opened ∙ a.opened; door_opened = s.spent.opened; crew_made = made_then is_quiet a.made b.made; door_made = s.made },
   s.looked,
   s.fresh,
 )
@@ -295,7 +295,7 @@ around_none v = record { tier = refl; size = refl; arrived = refl }
 
 pub lagging_round : {old mid new door : Holding} → KeepsCrew 0 old mid → KeepsCrew 1 mid new → IsFresh door.view → AreSpent 1 old new door door × IsLookedAround door.view door.view × IsFresh door.view
 lagging_round {old} {mid} {new} {door} a b fresh = (
-  record { crew_tree = b.tree ∙ a.tree; door_tree = refl; crew = same_then a.crew b.crew; tried = (let x = a.tried in let y = b.tried in omega arith); crew_made = made_then is_quiet a.made b.made; door_made = made_none is_entering door.steps },
+  record { crew_tree = b.tree ∙ a.tree; door_tree = refl; crew = same_then a.crew b.crew; tried = (let x = a.tried in let y = b.tried in omega arith); crew_opened = b.opened ∙ a.opened; door_opened = refl; crew_made = made_then is_quiet a.made b.made; door_made = made_none is_entering door.steps },
   around_none door.view,
   fresh,
 )
@@ -307,6 +307,8 @@ soon_then {old} {mid} {new} {door} {d} {after} {a} {b} {tries} x y few = record 
   door_tree = y.door_tree ∙ x.door_tree;
   crew = same_then x.crew y.crew;
   tried = (let p = x.tried in let q = y.tried in omega arith);
+  crew_opened = y.crew_opened ∙ x.crew_opened;
+  door_opened = y.door_opened ∙ x.door_opened;
   crew_made = made_then is_quiet x.crew_made y.crew_made;
   door_made = made_then is_entering x.door_made y.door_made;
 }
@@ -328,6 +330,8 @@ spent_then {old} {mid} {new} {door} {d} {after} {a} x y = record {
   door_tree = y.door_tree ∙ x.door_tree;
   crew = same_then x.crew y.crew;
   tried = (let p = x.tried in let q = y.tried in omega arith);
+  crew_opened = y.crew_opened ∙ x.crew_opened;
+  door_opened = y.door_opened ∙ x.door_opened;
   crew_made = made_then is_quiet x.crew_made y.crew_made;
   door_made = made_then is_entering x.door_made y.door_made;
 }
@@ -336,7 +340,7 @@ pub waits_by : {w w' seen : Fields} → w ≡ w' → w ≡ seen → Waits seen �
 waits_by {w} {w'} {seen} is same waits = subst Waits (sym same ∙ is) waits
 
 pub none_spent : {h h' : Holding} (t size : ℕ) → Looked (Join t 0 size) t h h' → IsSpent 0 h h'
-none_spent {h} {h'} t size took = record { tree = took.tree; tried = took.tried }
+none_spent {h} {h'} t size took = record { tree = took.tree; tried = took.tried; opened = took.opened }
 
 pub refusal_of : {b c : Bool} {w w' : Fields} (size : ℕ) → w ≡ w' → b ≡ is_refusing size w → b ≡ c → is_refusing size w' ≡ c
 refusal_of {b} {c} {w} {w'} size is e f = ap (is_refusing size) (sym is) ∙ (sym e ∙ f)
@@ -347,16 +351,28 @@ ended_word {u} {w} {w'} is same e = ap (λ (z : Fields). z.ended) (sym (is ∙ s
 pub still_fresh : {h h' : Holding} → Looked Look 0 h h' → h'.word.ended ≡ false → IsFresh h'.view
 still_fresh {h} {h'} took e = first_fresh took e
 
--- the look at the root before all rounds
-pub beside_ended : {h h' : Holding} {shown : ℤ} (crew : Holding) (tries : ℕ) → Looked Look 0 h h' → h'.word.ended ≡ true → shown ≡ shown_of h'.word.phase h'.word.ended
-    → AreSoon tries crew crew h h' × EndSeen h'.view shown
-beside_ended {h} {h'} {shown} crew tries took e is = (
+-- a crew with an unarrived member stays as it is where it looks at the root
+pub stays_same : {c c' : Holding} → c.view.arrived < c.view.size → Looked Look 0 c c' → IsSame c.view c'.view
+stays_same {c} {c'} some took = subst (IsSame c.view) (sym took.view) (still_glance 0 0 c'.word c.view (λ z. inr some))
+
+pub stays_some : {c c' : Holding} → c.view.arrived < c.view.size → Looked Look 0 c c' → c'.view.arrived < c'.view.size
+stays_some {c} {c'} some took = let s = stays_same {c = c} {c' = c'} some took in let a = s.arrived in let b = s.size in omega arith
+
+pub looked_quiet : {c c' : Holding} → Looked Look 0 c c' → MadeOnly is_quiet c.steps c'.steps
+looked_quiet {c} {c'} took = subst (MadeOnly is_quiet c.steps) (sym took.steps) (made_more is_quiet Look c.steps c.steps refl (made_none is_quiet c.steps))
+
+-- the look at the root of both before all rounds
+pub beside_ended : {c c' h h' : Holding} {shown : ℤ} (tries : ℕ) → c.view.arrived < c.view.size → Looked Look 0 c c' → Looked Look 0 h h' → h'.word.ended ≡ true → shown ≡ shown_of h'.word.phase h'.word.ended
+    → AreSoon tries c c' h h' × EndSeen h'.view shown
+beside_ended {c} {c'} {h} {h'} {shown} tries some looks took e is = (
   record {
-    crew_tree = refl;
+    crew_tree = looks.tree;
     door_tree = took.tree;
-    crew = record { tier = refl; size = refl; phase = refl; arrived = refl };
-    tried = (let a = took.tried in omega arith);
-    crew_made = made_none is_quiet crew.steps;
+    crew = stays_same some looks;
+    tried = (let a = took.tried in let b = looks.tried in omega arith);
+    crew_opened = looks.opened;
+    door_opened = took.opened;
+    crew_made = looked_quiet looks;
     door_made = looked_enters took;
   },
   (h'.word.phase, ap (λ (v : View). v.end_seen) took.view ∙ look_end h'.word h.view e, is ∙ ap (shown_of h'.word.phase) e),
@@ -373,33 +389,56 @@ looked_around {h} {h'} door took =
     }) in
     peeked_around h h' door p (within_of took.before) (within_of took.after)
 
-module _ {h h' : Holding} (old new : Holding) (size tries : ℕ) where
-  soon_first : {after : Holding} → Looked Look 0 h h' → AreSoon tries old new h' after → AreSoon tries old new h after
-  soon_first {after} took x = record {
-    crew_tree = x.crew_tree;
+module _ {c c' h h' : Holding} (new : Holding) (size tries : ℕ) (some : c.view.arrived < c.view.size) (seen : Looked Look 0 c c') (took : Looked Look 0 h h') where
+  soon_first : {after : Holding} → AreSoon tries c' new h' after → AreSoon tries c new h after
+  soon_first {after} x = record {
+    crew_tree = x.crew_tree ∙ seen.tree;
     door_tree = x.door_tree ∙ took.tree;
-    crew = x.crew;
-    tried = (let a = took.tried in let b = x.tried in omega arith);
-    crew_made = x.crew_made;
+    crew = same_then (stays_same some seen) x.crew;
+    tried = (let a = took.tried in let d = seen.tried in let b = x.tried in omega arith);
+    crew_opened = x.crew_opened ∙ seen.opened;
+    door_opened = x.door_opened ∙ took.opened;
+    crew_made = made_then is_quiet (looked_quiet seen) x.crew_made;
     door_made = made_then is_entering (looked_enters took) x.door_made;
   }
 
-  pub beside_then : (r : Registered) → IsDoor h → Looked Look 0 h h' → JoinsHere old new h' size tries r → JoinsHere old new h size tries r
-  beside_then (registered.Joined crew phase) door took m = (soon_first took m.0, m.1, m.2, m.3)
-  beside_then (registered.Full after count) door took m =
-      (soon_first took m.0, subst (λ (n : Named). IsFullHere n.key.shape old.view.tier size after.view count) took.tree m.1)
-  beside_then (registered.Ended after shown) door took m = (soon_first took m.0, m.1)
-  beside_then (registered.Busy after) door took m = (
+  tier : c'.view.tier ≡ c.view.tier
+  tier = (stays_same some seen).tier
+
+  pub beside_then : (r : Registered) → IsDoor h → JoinsHere c' new h' size tries r → JoinsHere c new h size tries r
+  beside_then (registered.Joined crew phase) door m = (soon_first m.0, subst (λ (t : ℕ). IsJoined t size crew.view) tier m.1, m.2, m.3)
+  beside_then (registered.Full after count) door m =
+      (soon_first m.0, subst (λ (z : Named × ℕ). IsFullHere z.0.key.shape z.1 size after.view count) (λ i. (took.tree i, tier i)) m.1)
+  beside_then (registered.Ended after shown) door m = (soon_first m.0, m.1)
+  beside_then (registered.Busy after) door m = (
     record {
-      crew_tree = m.0.crew_tree;
+      crew_tree = m.0.crew_tree ∙ seen.tree;
       door_tree = m.0.door_tree ∙ took.tree;
-      crew = m.0.crew;
-      tried = (let a = took.tried in let b = m.0.tried in omega arith);
-      crew_made = m.0.crew_made;
+      crew = same_then (stays_same some seen) m.0.crew;
+      tried = (let a = took.tried in let d = seen.tried in let b = m.0.tried in omega arith);
+      crew_opened = m.0.crew_opened ∙ seen.opened;
+      door_opened = m.0.door_opened ∙ took.opened;
+      crew_made = made_then is_quiet (looked_quiet seen) m.0.crew_made;
       door_made = made_then is_entering (looked_enters took) m.0.door_made;
     },
     around_then (looked_around door took) m.1,
     m.2,
   )
-  beside_then (registered.Held after phase cause) door took m = absurd m
-  beside_then (registered.Owing opening) door took m = absurd m
+  beside_then (registered.Held after phase cause) door m = absurd m
+  beside_then (registered.Owing opening) door m = absurd m
+
+  made_here : (r : Registered) → JoinsHere c' new h' size tries r → MadeOnly is_entering h'.steps (token_of r).steps × MadeOnly is_quiet c'.steps new.steps
+  made_here (registered.Joined crew phase) m = (m.0.door_made, m.0.crew_made)
+  made_here (registered.Full after count) m = (m.0.door_made, m.0.crew_made)
+  made_here (registered.Ended after shown) m = (m.0.door_made, m.0.crew_made)
+  made_here (registered.Busy after) m = (m.0.door_made, m.0.crew_made)
+  made_here (registered.Held after phase cause) m = absurd m
+  made_here (registered.Owing opening) m = absurd m
+
+  -- both have looked at the root first
+  pub looked_then : (r : Registered) → JoinsHere c' new h' size tries r → HasEntered h.steps (token_of r).steps × HasLooked c.steps new.steps
+  looked_then r m =
+      let both = made_here r m in (
+        subst (λ (ks : List Kind). MadeOnly is_entering ks (token_of r).steps) took.steps both.0,
+        subst (λ (ks : List Kind). MadeOnly is_quiet ks new.steps) seen.steps both.1,
+      )

@@ -1,5 +1,6 @@
 pub mod Seating
 pub mod Sitting
+pub mod Pairing
 pub mod Turning
 pub mod Running
 pub mod Tries

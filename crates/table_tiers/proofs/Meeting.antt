@@ -30,8 +30,8 @@ one_quiet : (k : Kind) (old new : List Kind) → is_quiet k ≡ true → new ≡
 one_quiet k old new such is = subst (MadeOnly is_quiet old) (sym is) (made_more is_quiet k old old such (made_none is_quiet old))
 
 crew_kept : (h h' : Holding) (t tries above : ℕ) (w : Fields) → IsCrew h → h.view.arrived < h.view.size → h'.tree ≡ h.tree → h'.tier ≡ t → t ≡ h.view.tier → h'.tried ≡ h.tried + tries
-    → h'.view ≡ view_after above (glance t) t w h.view → Beside h.tree.key.shape h'.tier h'.word h'.view → h'.steps ≡ glance t ∷ h.steps → KeepsCrew tries h h'
-crew_kept h h' t tries above w crew some tree at is tried view beside made =
+    → h'.opened ≡ h.opened → h'.view ≡ view_after above (glance t) t w h.view → Beside h.tree.key.shape h'.tier h'.word h'.view → h'.steps ≡ glance t ∷ h.steps → KeepsCrew tries h h'
+crew_kept h h' t tries above w crew some tree at is tried opened view beside made =
     let s : IsSame h.view h'.view = subst (IsSame h.view) (sym view) (still_glance above t w h.view (λ z. inr some)) in
     record {
       tree = tree;
@@ -40,11 +40,12 @@ crew_kept h h' t tries above w crew some tree at is tried view beside made =
           (ap (λ (v : View). v.errand) view ∙ glance_rests above t w h.view crew.rests);
       tier = at ∙ is;
       tried = tried;
+      opened = opened;
       made = one_quiet (glance t) h.steps h'.steps (glance_quiet t) made;
     }
 
 pub crew_looked : {h h' : Holding} {t : ℕ} → IsCrew h → h.view.arrived < h.view.size → t ≡ h.view.tier → Looked Look t h h' → KeepsCrew 0 h h'
-crew_looked {h} {h'} {t} crew some is took = crew_kept h h' t 0 (parent_of h.tree.key.shape t) h'.word crew some took.tree took.tier is took.tried took.view took.after took.steps
+crew_looked {h} {h'} {t} crew some is took = crew_kept h h' t 0 (parent_of h.tree.key.shape t) h'.word crew some took.tree took.tier is took.tried took.opened took.view took.after took.steps
 
 -- a try of a crew at its own tier
 pub refresh_needs : (ps : List ℕ) {h : Holding} → IsCrew h → h.view.arrived < h.view.size → h.tier ≡ h.view.tier → lags h.word h.view ≡ true → Needs ps Refresh h.tier h.word h.view
@@ -92,11 +93,12 @@ tried_on true kind h h' such crew some is still look won =
           (ap (λ (v : View). v.errand) won.view ∙ still.1);
       tier = won.tier ∙ is;
       tried = won.tried;
+      opened = won.opened;
       made = one_quiet kind h.steps h'.steps such won.steps;
     }
 tried_on false kind h h' such crew some is still look lost =
     let t = lost.took in
-    crew_kept h h' h.tier 1 (parent_of h.tree.key.shape h.tier) h'.word crew some t.tree t.tier is t.tried
+    crew_kept h h' h.tier 1 (parent_of h.tree.key.shape h.tier) h'.word crew some t.tree t.tier is t.tried t.opened
     (t.view ∙ ap (λ (k : Kind). view_after (parent_of h.tree.key.shape h.tier) k h.tier h'.word h.view) (look h.tier h'.word)) t.after
     (t.steps ∙ ap (λ (k : Kind). k ∷ h.steps) (look h.tier h'.word))
 

@@ -180,6 +180,7 @@ module _ (n : Named) (tries : ℕ) (g g' : Going) (h : Holding) (at : IsAt n g) 
         known = subst (λ (z : Holding). Beside ps z.tier z.word z.view) (sym is) (subst (λ (z : Named). Beside z.key.shape h.tier h.word h.view) at.own took.after);
       };
       tried = ap (λ (z : Holding). z.tried) is ∙ took.tried;
+      opened = ap (λ (z : Holding). z.opened) is ∙ took.opened;
       goes = λ from before_. subst (Goes n.key from) (sym (went (is_look r.kind) refl)) (looks (position g) h.word before_ at.fits going before);
     };
     next = (here (is_look r.kind) refl).3;
@@ -284,6 +285,7 @@ module _ (n : Named) (b : Bool) (g : Going) (at : IsAt n g) (st : Stands n.key g
           known = subst (λ (z : Holding). Beside n.key.shape z.tier z.word z.view) (sym is) (subst (λ (z : Named). Beside z.key.shape h.tier h.word h.view) at.own took.after);
         };
         tried = ap (λ (z : Holding). z.tried) is ∙ took.tried;
+        opened = ap (λ (z : Holding). z.opened) is ∙ took.opened;
         goes = λ from before_. subst (Goes n.key from) (sym (λ i. record { progress = p i; view = view i; answer = a i; steps = (ap (λ (z : Holding). z.steps) is ∙ took.steps) i }))
             (steps (position g) g.token.word b before_ at.fits st.going here_known try_says);
       }
@@ -300,11 +302,12 @@ pub went_then : (n : Named) (a b : ℕ) (g g' g'' : Going) → WentOn n a g g' �
 went_then n a b g g' g'' x y = record {
   at = y.at;
   tried = (let e = x.tried in let f = y.tried in omega arith);
+  opened = y.opened ∙ x.opened;
   goes = λ from s. y.goes from (x.goes from s);
 }
 
 pub went_none : (n : Named) (g : Going) → IsAt n g → WentOn n 0 g g
-went_none n g at = record { at = at; tried = omega arith; goes = λ from s. s }
+went_none n g at = record { at = at; tried = omega arith; opened = refl; goes = λ from s. s }
 
 -- the code's turn is the call's
 pub same_turn : (b : Bool) (q : Progress) {p p' : List ℕ} {w w' : Fields} {v v' : View} {x : Turn} → p ≡ p' → w ≡ w' → v ≡ v' → x ≡ turn_by p b w q v → x ≡ turn_by p' b w' q v'

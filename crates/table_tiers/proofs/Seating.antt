@@ -32,7 +32,7 @@ legal_word ps t w v b = subst IsLegal b.word (b.tally.legal t b.within)
 
 -- what a seat stands for
 abbrev pub holding : TableId → Me Kind (List Sight) → View → ℕ → Fields → Holding
-holding id me v t w = record { tree = record { id = id; key = (sight_of me).key }; view = v; tier = t; word = w; tried = (sight_of me).tried; steps = (sight_of me).steps }
+holding id me v t w = record { tree = record { id = id; key = (sight_of me).key }; view = v; tier = t; word = w; tried = (sight_of me).tried; steps = (sight_of me).steps; opened = (sight_of me).opened }
 
 module _ (k : Key) (slots id : ℕ) (me : Me Kind (List Sight)) (v : View) (t0 : ℕ) (w0 : Fields) (seat : IsSeated me v t0 w0) (own : (sight_of me).key ≡ k) where
   pub load_allow : (t : ℕ) (kind : Kind) → t < length k.shape → MayLook k.shape kind t v → Allows (Kept k) slots id me t (λ n. n) (Saw kind (step slots t 0 0 none) me)
@@ -59,9 +59,10 @@ pub record Moved (kind : Kind) (t : ℕ) (w : Fields) (tries : ℕ) (me me' : Me
   pub key : (sight_of me').key ≡ (sight_of me).key
   pub tried : (sight_of me').tried ≡ (sight_of me).tried + tries
   pub steps : (sight_of me').steps ≡ kind ∷ (sight_of me).steps
+  pub opened : (sight_of me').opened ≡ (sight_of me).opened
   pub before : Beside (sight_of me).key.shape t w v
 
-moved_by : (kind : Kind) (t : ℕ) (w : Fields) (tries : ℕ) (me me' : Me Kind (List Sight)) (v : View) (t0 : ℕ) (w0 : Fields) → IsSeated me v t0 w0
+pub moved_by : (kind : Kind) (t : ℕ) (w : Fields) (tries : ℕ) (me me' : Me Kind (List Sight)) (v : View) (t0 : ℕ) (w0 : Fields) → IsSeated me v t0 w0
     → (y : Sight) → me' ≡ (y ∷ [], []) → Stepped kind t w tries (sight_of me) y → Moved kind t w tries me me' v
 moved_by kind t w tries me me' v t0 w0 seat y is s =
     let here : sight_of me' ≡ y = ap sight_of is in
@@ -81,6 +82,7 @@ moved_by kind t w tries me me' v t0 w0 seat y is s =
       key = ap (λ (z : Sight). z.key) here ∙ s.key;
       tried = ap (λ (z : Sight). z.tried) here ∙ s.tried;
       steps = ap (λ (z : Sight). z.steps) here ∙ s.steps;
+      opened = ap (λ (z : Sight). z.opened) here ∙ s.opened;
       before = subst (Beside k.shape t w) seat.view s.before;
     }
 
@@ -167,6 +169,7 @@ module _ (k : Key) (kind : Kind) (t n tries : ℕ) (me me' : Me Kind (List Sight
         tree = λ i. record { id = same i; key = s.moved.key i };
         tried = s.moved.tried;
         steps = s.moved.steps ∙ ap (λ (z : Fields). looking kind t z ∷ (sight_of me).steps) (sym is);
+        opened = s.moved.opened;
         tier = refl;
         word = subst (λ (z : Fields). z ≡ word_after (looking kind t z) t z v) (sym is) (sym l.stays);
         view = b ∙ (ap (λ (z : Kind). view_after above z t w v) lk
@@ -286,6 +289,7 @@ won_took {id} {id'} {one} {k} {me} {me'} {v} {u} {t} {above} {w} {next} {kind} m
       tree = λ i. record { id = e i; key = m.key i };
       tried = m.tried;
       steps = m.steps;
+      opened = m.opened;
       tier = refl;
       word = c;
       view = b ∙ ap (λ (z : ℕ). view_after z kind t w v) (a ∙ ap (λ (z : Key). parent_of z.shape t) (sym f.own));

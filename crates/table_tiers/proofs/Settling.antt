@@ -144,7 +144,7 @@ pub first_made : {h h' : Holding} → Looked Look 0 h h' → HasLooked h.steps h
 first_made {h} {h'} took = subst (λ (ks : List Kind). HasLooked h.steps ks) (sym took.steps) (made_none is_quiet (Look ∷ h.steps))
 
 pub soon_looked : {h h' : Holding} {tries : ℕ} → Looked Look 0 h h' → IsSoon tries h h'
-soon_looked {h} {h'} {tries} took = record { tree = took.tree; tried = (let a = took.tried in omega arith) }
+soon_looked {h} {h'} {tries} took = record { tree = took.tree; tried = (let a = took.tried in omega arith); opened = took.opened }
 
 pub first_ended : {h h' : Holding} {shown : ℤ} (own : Trip) (tries : ℕ) → IsCrew h → Looked Look 0 h h' → h'.word.ended ≡ true → shown ≡ shown_of h'.word.phase h'.word.ended
     → Arrives own h tries (arrived.Ended h' shown)
@@ -263,10 +263,10 @@ module _ (n : Named) (own : Trip) (tries : ℕ) (h h' : Holding) (g : Going) (is
       (λ u s. let a = s.size in let b = more in omega arith)
 
   soon : IsSoon tries h g.token
-  soon = record { tree = ran.went.at.own ∙ sym is; tried = (let a = ran.went.tried in let b = took.tried in let c = ran.few in omega arith) }
+  soon = record { tree = ran.went.at.own ∙ sym is; tried = (let a = ran.went.tried in let b = took.tried in let c = ran.few in omega arith); opened = ran.went.opened ∙ took.opened }
 
   spent : is_going g.progress ≡ true → IsSpent tries h g.token
-  spent e = record { tree = ran.went.at.own ∙ sym is; tried = (let a = ran.went.tried in let b = took.tried in let c = ran.all e in omega arith) }
+  spent e = record { tree = ran.went.at.own ∙ sym is; tried = (let a = ran.went.tried in let b = took.tried in let c = ran.all e in omega arith); opened = ran.went.opened ∙ took.opened }
 
   passed_on : HasCounted own h'.view g.token.view → HasPassed own h.view g.token.view
   passed_on c = record { from = h'.view; looked = (first h h' crew took).looked; unled = (first_fresh took going).unled; counted = c }
@@ -345,7 +345,7 @@ module _ (n : Named) (own : Trip) (tries : ℕ) (e g : Going) (is : e.token.tree
   may_end = ends_at (IsSame e.token.view) own g (subst (λ (z : Named). IsAt z g) (sym ran.went.at.own) ran.went.at) noted
 
   early : IsSoon tries e.token g.token
-  early = record { tree = ran.went.at.own ∙ sym is; tried = (let a = ran.went.tried in let c = ran.few in omega arith) }
+  early = record { tree = ran.went.at.own ∙ sym is; tried = (let a = ran.went.tried in let c = ran.few in omega arith); opened = ran.went.opened }
 
   same_at : (p : Progress) (a : Played) → PassAt own (λ u. ⊥) (IsSame e.token.view) g.token.view a p → IsSame e.token.view g.token.view
   same_at Idle GoesOn s = absurd s
@@ -450,7 +450,7 @@ module _ (n : Named) (own : Trip) (tries : ℕ) (e g : Going) (is : e.token.tree
       (early, same_at g.progress g.answer noted, rests_then s.1, s.2, s.3, made_last g.progress g.answer led s.1 noted made_then s.3)
   resumes (resumed.Owing going) s =
       subst (λ (z : Going). IsSpent tries e.token z.token × IsSame e.token.view z.token.view × (is_owing z.progress ≡ true) × (z.token.view.led ≡ false) × MadeOnly is_upward e.token.steps z.token.steps) (sym s.0) (
-        record { tree = ran.went.at.own ∙ sym is; tried = (let a = ran.went.tried in let c = ran.all (owing_goes g.progress s.1) in omega arith) },
+        record { tree = ran.went.at.own ∙ sym is; tried = (let a = ran.went.tried in let c = ran.all (owing_goes g.progress s.1) in omega arith); opened = ran.went.opened },
         same_at g.progress g.answer noted,
         s.1,
         unled_at g.progress g.answer s.1 noted,

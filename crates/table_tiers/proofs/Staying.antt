@@ -55,10 +55,10 @@ size_at v u a (Due trip) s e = (s.0.arrival refl).0
 size_at v u a (Refreshing moved_on) s e = absurd s
 
 pub first_stays : {h h' : Holding} {phase : ℕ} → IsCrew h → Looked Look 0 h h' → h'.word.ended ≡ false → h'.view.arrived ≡ h'.view.size → phase ≡ h'.view.phase → ArrivesInPlace h h' (came.AlreadyArrived phase)
-first_stays {h} {h'} {phase} crew took going all is = let a = first_arrived {h = h} {h' = h'} {phase = phase} Arrival 0 crew took going all is in (a.0.tree, a.1, a.2, a.3, a.4, a.5)
+first_stays {h} {h'} {phase} crew took going all is = let a = first_arrived {h = h} {h' = h'} {phase = phase} Arrival 0 crew took going all is in (a.0.tree, a.0.opened, a.1, a.2, a.3, a.4, a.5)
 
 pub first_is_over : {h h' : Holding} {shown : ℤ} → IsCrew h → Looked Look 0 h h' → h'.word.ended ≡ true → shown ≡ shown_of h'.word.phase h'.word.ended → ArrivesInPlace h h' (came.Ended shown)
-first_is_over {h} {h'} {shown} crew took e is = let a = first_ended {h = h} {h' = h'} {shown = shown} Arrival 0 crew took e is in (a.0.tree, a.1, a.2, a.3)
+first_is_over {h} {h'} {shown} crew took e is = let a = first_ended {h = h} {h' = h'} {shown = shown} Arrival 0 crew took e is in (a.0.tree, a.0.opened, a.1, a.2, a.3)
 
 module _ (n : Named) (h h' : Holding) (g : Going) (is : h.tree ≡ n) (crew : IsCrew h) (took : Looked Look 0 h h') (going : h'.word.ended ≡ false) (some : h'.view.arrived ≢ h'.view.size)
     (ran : RanOver n (began_at Arrival h') g) where
@@ -82,8 +82,8 @@ module _ (n : Named) (h h' : Holding) (g : Going) (is : h.tree ≡ n) (crew : Is
   pub stays : (r : Came) → Comes g r → ArrivesInPlace h g.token r
   stays (came.Done phase led) s =
       let a = arrives n Arrival ran.used h h' g is crew took going some whole (arrived.Done g.token phase led) (refl, s.0, s.1, s.2) in
-      (a.0.tree, a.1, a.2, a.3, a.4, a.5)
+      (a.0.tree, a.0.opened, a.1, a.2, a.3, a.4, a.5)
   stays (came.AlreadyArrived phase) s = absurd s
   stays (came.Ended shown) s =
       let a = arrives n Arrival ran.used h h' g is crew took going some whole (arrived.Ended g.token shown) (refl, s.0, s.1) in
-      (a.0.tree, a.1, a.2, a.3)
+      (a.0.tree, a.0.opened, a.1, a.2, a.3)

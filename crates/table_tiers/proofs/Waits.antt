@@ -31,9 +31,9 @@ seat_within {n} {h} is crew b =
     subst (λ (z : Named). h.view.tier < length z.key.shape) is ((mine h.tree.key.shape b.words b.front b.back h.view b.tally).seated crew.some)
 
 module _ (h h' new : Holding) (crew : IsCrew h) (took : Looked Look 0 h h') (going : h'.word.ended ≡ false) (some : h'.view.arrived ≢ h'.view.size)
-    (tree : new.tree ≡ h'.tree) (same : new.view ≡ h'.view) (few : new.tried ≤ h'.tried + 1) (more : MadeOnly is_quiet h'.steps new.steps) where
+    (tree : new.tree ≡ h'.tree) (same : new.view ≡ h'.view) (few : new.tried ≤ h'.tried + 1) (kept : new.opened ≡ h'.opened) (more : MadeOnly is_quiet h'.steps new.steps) where
   soon : IsSoon 1 h new
-  soon = record { tree = tree ∙ took.tree; tried = (let a = took.tried in omega arith) }
+  soon = record { tree = tree ∙ took.tree; tried = (let a = took.tried in omega arith); opened = kept ∙ took.opened }
 
   looked_so : IsLooked h.view new.view
   looked_so = subst (λ (v : View). IsLooked h.view v) (sym same) (first h h' crew took).looked
@@ -106,7 +106,7 @@ left_some {h} {h'} took some =
     omega arith
 
 pub polls_waiting : (h h' : Holding) → IsCrew h → Looked Look 0 h h' → h'.word.ended ≡ false → h'.view.arrived ≡ h'.view.size → Polls h h' Waiting
-polls_waiting h h' crew took going all = (record { tree = took.tree; tried = (let a = took.tried in omega arith) }, (first h h' crew took).looked, first_fresh took going, all, first_made took)
+polls_waiting h h' crew took going all = (record { tree = took.tree; tried = (let a = took.tried in omega arith); opened = took.opened }, (first h h' crew took).looked, first_fresh took going, all, first_made took)
 
 -- what is made of a look, or a refresh, at the members' own tier
 glance_made : (t : ℕ) (old new : List Kind) → new ≡ glance t ∷ old → MadeOnly is_quiet old new
@@ -114,6 +114,10 @@ glance_made t old new is = subst (MadeOnly is_quiet old) (sym is) (made_more is_
 
 pub look_made_one : {h h' : Holding} {t : ℕ} → Looked Look t h h' → MadeOnly is_quiet h.steps h'.steps
 look_made_one {h} {h'} {t} took = glance_made t h.steps h'.steps took.steps
+
+pub refresh_opened : (b : Bool) {t : ℕ} {old h' : Holding} (new : Holding) → Looked Look t old h' → MatchBool b (Won Refresh h' new) (Lost Refresh h' new) → new.opened ≡ old.opened
+refresh_opened true new took won = won.opened ∙ took.opened
+refresh_opened false new took lost = lost.took.opened ∙ took.opened
 
 pub refresh_made : (b : Bool) {h h' : Holding} (h'' : Holding) {t : ℕ} → Looked Look t h h' → MatchBool b (Won Refresh h' h'') (Lost Refresh h' h'') → MadeOnly is_quiet h.steps h''.steps
 refresh_made true {h} {h'} h'' {t} took won =

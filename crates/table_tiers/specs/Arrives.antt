@@ -31,15 +31,17 @@ pub record HasPassed (own : Trip) (old new : View) : Type 0 where
   pub unled : from.led ≡ false
   pub counted : HasCounted own from new
 
--- the same token, with at most so many tries more
+-- the same token, with at most so many tries more, off which no other was split
 pub record IsSoon (tries : ℕ) (old new : Holding) : Type 0 where
   pub tree : new.tree ≡ old.tree
   pub tried : new.tried ≤ old.tried + tries
+  pub opened : new.opened ≡ old.opened
 
--- the same token, with just so many tries more
+-- the same token, with just so many tries more, off which no other was split
 pub record IsSpent (tries : ℕ) (old new : Holding) : Type 0 where
   pub tree : new.tree ≡ old.tree
   pub tried : new.tried ≡ old.tried + tries
+  pub opened : new.opened ≡ old.opened
 
 -- `led` is the view's mark that its token took the advance: since the call's first look, which finds it cleared. What is over owes nothing; what isn't owes a
 -- climb or the advance, and has led none. Busy and AlreadyArrived have seen no end.

@@ -79,6 +79,7 @@ is_back (Refreshing moved) = false
 pub record WentOn (n : Named) (tries : ℕ) (old new : Going) : Type 0 where
   pub at : IsAt n new
   pub tried : new.token.tried ≡ old.token.tried + tries
+  pub opened : new.token.opened ≡ old.token.opened
   pub goes : (from : Position) → Goes n.key from (position old) → Goes n.key from (position new)
 
 -- one look of it

@@ -6,6 +6,7 @@ use Rattle.phaser_word.specs.Fields.{Fields}
 use Rattle.tier_shape.specs.Parents.{parent_of}
 use Rattle.tier_shape.specs.Paths.{IsTiers}
 use Rattle.tier_steps.specs.declared.kind.Kind.{Kind}
+use Rattle.tier_steps.specs.declared.kind.Kind.TheVariants.{Look}
 use Rattle.tier_steps.specs.declared.view.View.{View}
 use Rattle.tier_steps.specs.View.{new_view}
 use Rattle.tier_steps.specs.Step.{word_after, view_after}
@@ -21,7 +22,8 @@ pub record Named : Type 0 where
   pub id : TableId
   pub key : Key
 
--- a token: its tree, its view, the tier and word of its last step as that step left it, its tries so far, and the kinds of its steps so far, the last first
+-- a token: its tree, its view, the tier and word of its last step as that step left it, its tries so far, the kinds of its steps so far, the last first, and
+-- how many tokens were split off it so far
 pub record Holding : Type 0 where
   pub tree : Named
   pub view : View
@@ -29,6 +31,11 @@ pub record Holding : Type 0 where
   pub word : Fields
   pub tried : ℕ
   pub steps : List Kind
+  pub opened : ℕ
+
+-- a token off which one more was split
+abbrev pub split_once : Holding → Holding
+split_once h = record h { opened = h.opened + 1 }
 
 -- the shape of a token's tree
 abbrev pub shape_of : Holding → List ℕ
@@ -47,10 +54,15 @@ no_sight = record {
   word = empty_word 0;
   tried = 0;
   steps = [];
+  opened = 0;
 }
 
 abbrev pub sight_of : Me Kind (List Sight) → Sight
 sight_of me = first_of no_sight me.0
+
+-- what a token's seat knows
+abbrev pub sight_held : Holding → Sight
+sight_held h = record { key = h.tree.key; view = h.view; tier = h.tier; word = h.word; tried = h.tried; steps = h.steps; opened = h.opened }
 
 -- A token's seat has one sight, whose parts that are kept for use are the token's.
 pub record IsSeated (me : Me Kind (List Sight)) (v : View) (t : ℕ) (w : Fields) : Type 0 where
@@ -65,6 +77,7 @@ pub record Took (kind : Kind) (t : ℕ) (w : Fields) (tries : ℕ) (old new : Ho
   pub tree : new.tree ≡ old.tree
   pub tried : new.tried ≡ old.tried + tries
   pub steps : new.steps ≡ kind ∷ old.steps
+  pub opened : new.opened ≡ old.opened
   pub tier : new.tier ≡ t
   pub word : new.word ≡ word_after kind t w old.view
   pub view : new.view ≡ view_after (parent_of (shape_of old) t) kind t w old.view
@@ -100,3 +113,18 @@ pub record IsCrew (h : Holding) : Type 0 where
   pub some : 0 < h.view.size
   pub within : h.view.arrived ≤ h.view.size
   pub rests : h.view.errand ≡ Rest
+
+-- A new token, which has read the root's word, and made no other step: it has no members, and is in that word's phase.
+pub record IsSat (n : Named) (h : Holding) : Type 0 where
+  pub own : h.tree ≡ n
+  pub view : h.view ≡ new_view h.word.phase
+  pub root : h.tier ≡ 0
+  pub untried : h.tried ≡ 0
+  pub looked : h.steps ≡ Look ∷ []
+  pub unsplit : h.opened ≡ 0
+
+-- two tokens have looked at the root at once
+pub record HaveLooked (one new other after : Holding) : Type 0 where
+  pub first : Looked Look 0 one new
+  pub second : Looked Look 0 other after
+  pub same : new.word ≡ after.word

@@ -16,11 +16,11 @@ use Rattle.table_tiers.specs.declared.in_place.Came.TheVariants.{Done, AlreadyAr
 
 -- as an arrival that hands its crew on
 abbrev pub ArrivesInPlace : Holding → Holding → Came → Type 0
-ArrivesInPlace old new (Done phase led) = (new.tree ≡ old.tree) × HasPassed Arrival old.view new.view × (new.view.errand ≡ Rest) × (phase ≡ new.view.phase) × (led ≡ new.view.led)
+ArrivesInPlace old new (Done phase led) = (new.tree ≡ old.tree) × (new.opened ≡ old.opened) × HasPassed Arrival old.view new.view × (new.view.errand ≡ Rest) × (phase ≡ new.view.phase) × (led ≡ new.view.led)
     × LedBy (HasStepped Arrival old.steps) led new.steps
-ArrivesInPlace old new (AlreadyArrived phase) = (new.tree ≡ old.tree) × IsLooked old.view new.view × IsFresh new.view × (new.view.arrived ≡ new.view.size) × (phase ≡ new.view.phase)
+ArrivesInPlace old new (AlreadyArrived phase) = (new.tree ≡ old.tree) × (new.opened ≡ old.opened) × IsLooked old.view new.view × IsFresh new.view × (new.view.arrived ≡ new.view.size) × (phase ≡ new.view.phase)
     × HasLooked old.steps new.steps
-ArrivesInPlace old new (Ended shown) = (new.tree ≡ old.tree) × IsLooked old.view new.view × EndSeen new.view shown × HasLooked old.steps new.steps
+ArrivesInPlace old new (Ended shown) = (new.tree ≡ old.tree) × (new.opened ≡ old.opened) × IsLooked old.view new.view × EndSeen new.view shown × HasLooked old.steps new.steps
 
 -- it tells that the tree has ended
 abbrev pub HasEnded : Came → Type 0

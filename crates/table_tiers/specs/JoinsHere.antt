@@ -16,13 +16,15 @@ use Rattle.table_tiers.specs.declared.beside.Met.TheVariants.{Answer, Late}
 use Rattle.table_tiers.specs.declared.joining.Registered.{Registered}
 use Rattle.table_tiers.specs.declared.joining.Registered.TheVariants.{Joined, Held, Full, Ended, Busy, Owing}
 
--- The same two tokens, with at most so many tries more between them; the crew's members are as they were. The crew has looked and refreshed, the door has
+-- The same two tokens, off which no other was split, with at most so many tries more between them; the crew's members are as they were. The crew has looked and refreshed, the door has
 -- made steps of a registration.
 pub record AreSoon (tries : ℕ) (old new door after : Holding) : Type 0 where
   pub crew_tree : new.tree ≡ old.tree
   pub door_tree : after.tree ≡ door.tree
   pub crew : IsSame old.view new.view
   pub tried : new.tried + after.tried ≤ old.tried + door.tried + tries
+  pub crew_opened : new.opened ≡ old.opened
+  pub door_opened : after.opened ≡ door.opened
   pub crew_made : MadeOnly is_quiet old.steps new.steps
   pub door_made : MadeOnly is_entering door.steps after.steps
 
@@ -32,6 +34,8 @@ pub record AreSpent (tries : ℕ) (old new door after : Holding) : Type 0 where
   pub door_tree : after.tree ≡ door.tree
   pub crew : IsSame old.view new.view
   pub tried : new.tried + after.tried ≡ old.tried + door.tried + tries
+  pub crew_opened : new.opened ≡ old.opened
+  pub door_opened : after.opened ≡ door.opened
   pub crew_made : MadeOnly is_quiet old.steps new.steps
   pub door_made : MadeOnly is_entering door.steps after.steps
 
@@ -65,6 +69,7 @@ pub record KeepsCrew (tries : ℕ) (old new : Holding) : Type 0 where
   pub rests : IsCrew new
   pub tier : new.tier ≡ old.view.tier
   pub tried : new.tried ≡ old.tried + tries
+  pub opened : new.opened ≡ old.opened
   pub made : MadeOnly is_quiet old.steps new.steps
 
 -- a tier at which a party is unarrived, unless it is a root that has ended

@@ -82,6 +82,10 @@ MadeOnly is old new = (more : List Kind) × (new ≡ more ++ old) × AllByRecurs
 abbrev pub HasLooked : List Kind → List Kind → Type 0
 HasLooked old new = MadeOnly is_quiet (Look ∷ old) new
 
+-- a look at the root, and then looks and steps of a registration
+abbrev pub HasEntered : List Kind → List Kind → Type 0
+HasEntered old new = MadeOnly is_entering (Look ∷ old) new
+
 -- after these the own step, once, and then looks, refreshes and climbs
 abbrev pub HasStepped : Trip → List Kind → List Kind → Type 0
 HasStepped own old new = (looked : List Kind) × HasLooked old looked × MadeOnly is_upward (own_kind own ∷ looked) new

@@ -6,7 +6,8 @@ ghost use Rattle.tier_core.specs.Turn.{lags};
 ghost use Rattle.table_tiers.specs.Holding.{IsCrew, shape_of};
 ghost use Rattle.table_tiers.specs.Passes.{IsFresh};
 ghost use Rattle.table_tiers.specs.JoinsHere.{JoinsHere, JoinsOnce, KeepsCrew, Meets, Waits};
-ghost use Rattle.table_tiers.specs.Registers.{HasEnded};
+ghost use Rattle.table_tiers.specs.Made.{HasEntered, HasLooked};
+ghost use Rattle.table_tiers.specs.Registers.{HasEnded, token_of};
 
 use crate::joining::Registered;
 use crate::seated::Seated;
@@ -160,10 +161,12 @@ impl Tiers {
         requires some { crew.old.view.arrived < crew.old.view.size }
         requires size { (0 < size) × (size ≤ 65535) }
         ensures answer { JoinsHere crew.old crew.new door size tries result }
+        ensures made { HasEntered door.steps (token_of result).steps × HasLooked crew.old.steps crew.new.steps }
         ensures ended { (phase : ℕ) → door.view.end_seen ≡ Some phase → HasEnded result }
+        ensures crew_ended { (phase : ℕ) → crew.old.view.end_seen ≡ Some phase → HasEnded result }
     {
-        let Door { mut token } = door;
-        self.look_at_root(&mut token);
+        let Door { token: first } = door;
+        let token = self.look_together(&mut crew.token, first);
         let word = token.word();
         if word.ended {
             return Registered::Ended(Door { token }, word.shown());

@@ -1,14 +1,15 @@
 //! Closing the tiers of a tree.
 
 ghost use Rattle.std.specs.Prelude.{◌≡◌, ◌≤◌, ◌-◌, [], ◌++◌, All, length, vec_capacity};
-ghost use Rattle.table_rule.specs.Reach.{those};
-ghost use Rattle.table_tiers.specs.Closes.{held, plain_of, plain_tokens, views_in, TallyWithOthers};
+ghost use Rattle.std.specs.Slots.{slots_items, slots_len, IsFull};
+ghost use Rattle.table_tiers.specs.Closes.{held, plain_of, plain_tokens, views_in, sights_in, TallyWithOthers, IsLeftBy, IsShut};
 
 use crate::tiers::Tiers;
 use crate::tokens::Token;
-use atomic_table::Seat;
+use atomic_table::{Closed as ClosedTable, Seat};
 use phaser_word::Word;
-use table_rule::rule::{Joins, Sits};
+use std::alloc::Global;
+use table_rule::rule::Joins;
 use table_rule::sight::Sights;
 use tier_steps::kind::Kind;
 
@@ -59,12 +60,12 @@ pub fn plain_all(tokens: &[Token], plains: &mut Vec<ClosedToken>)
 }
 
 impl Tiers {
-    /// A seat that has the views of all these tokens, and one view without members.
+    /// A seat that knows what the seats of all these tokens know, and then what another knows.
     fn gather(&self, seat: Seat<Kind, Sights>, mut tokens: Vec<Token>) -> Seat<Kind, Sights>
         requires own { (seat.table_id ≡ self.now.id) × (seat.me.1 ≡ []) }
         requires tokens { All (λ t. (held t).tree ≡ self.now) tokens.items }
         ensures table { (result.table_id ≡ seat.table_id) × (result.me.1 ≡ []) }
-        ensures views { those result.me.0 ≡ views_in tokens.items ++ those seat.me.0 }
+        ensures sights { result.me.0 ≡ sights_in tokens.items ++ seat.me.0 }
     {
         let mut seat = seat;
         while let Some(token) = tokens.pop() {
@@ -75,17 +76,33 @@ impl Tiers {
         seat
     }
 
+    /// The table at the end, when all these tokens are one.
+    fn shut(self, tokens: Vec<Token>) -> ClosedTable<Kind, Global>
+        requires tokens { All (λ t. (held t).tree ≡ self) tokens.items }
+        ensures empty { (slots_len result.slots ≡ 0) × IsFull result.words }
+        ensures words { IsShut self.key (slots_items result.words) (sights_in tokens.items) }
+        ensures count { slots_len result.words ≡ length self.key.shape }
+    {
+        let mut tokens = tokens;
+        match tokens.pop() {
+            None => self.table.close(),
+            Some(token) => {
+                let seat = self.gather(token.into_seated().into_seat(), tokens);
+                self.table.close_with(seat)
+            }
+        }
+    }
+
     /// The words at the end.
     pub fn close(self, tokens: Vec<Token>, words: Vec<Word>) -> Vec<Word>
         requires tokens { All (λ t. (held t).tree ≡ self) tokens.items }
         requires empty { words.items ≡ [] }
         requires room { length self.key.shape ≤ vec_capacity words }
-        ensures { TallyWithOthers self.key.shape result.items (views_in tokens.items) }
+        ensures tally { TallyWithOthers self.key.shape result.items (views_in tokens.items) }
+        ensures left { IsLeftBy self.key result.items (sights_in tokens.items) }
     {
         let count = self.shape().count();
-        let (_, seat) = self.table.shared.load_new_seat::<Sits>(0);
-        let seat = self.gather(seat, tokens);
-        let closed = self.table.close_with(seat);
+        let closed = self.shut(tokens);
         let mut words = words;
         for tier in 0..count {
             words.push_reserved(Word::unpack(closed.word(tier)).unwrap());

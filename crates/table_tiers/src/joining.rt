@@ -1,7 +1,7 @@
 //! Registrations.
 
 ghost use Rattle.std.specs.Prelude.{◌≡◌, ◌<◌, ◌≤◌, ℕ, Some, length};
-ghost use Rattle.table_tiers.specs.Made.{MadeOnly, is_entering};
+ghost use Rattle.table_tiers.specs.Made.{MadeOnly, HasEntered, is_entering};
 ghost use Rattle.table_tiers.specs.Registers.{token_of, opened_of, Registers, Opens, HasEnded, IsEndedOrOwed, NoBusy, MayAnswer, AnswersJoin, SameAnswer};
 
 use crate::going::Going;
@@ -93,7 +93,7 @@ impl Tiers {
         requires tier { tier < length self.now.key.shape }
         requires size { (0 < size) × (size ≤ 65535) }
         ensures answer { Registers door tier size tries result }
-        ensures made { MadeOnly is_entering door.steps (token_of result).steps }
+        ensures made { HasEntered door.steps (token_of result).steps }
         ensures ended { (phase : ℕ) → door.view.end_seen ≡ Some phase → HasEnded result }
     {
         let Door { mut token } = door;

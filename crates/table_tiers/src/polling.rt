@@ -35,6 +35,7 @@ impl Tiers {
         ensures tree { token.new.tree ≡ token.old.tree }
         ensures view { token.new.view ≡ token.old.view }
         ensures tried { token.new.tried ≤ token.old.tried + 1 }
+        ensures opened { token.new.opened ≡ token.old.opened }
         ensures made { MadeOnly is_quiet token.old.steps token.new.steps }
     {
         let view = token.view();

@@ -22,7 +22,7 @@ impl Model for Seated {
 
     ghost Value = { Holding };
 
-    ghost view = { λ t. record { tree = record { id = t.seat.table_id; key = (sight_of t.seat.me).key }; view = t.view; tier = t.tier; word = t.word; tried = (sight_of t.seat.me).tried; steps = (sight_of t.seat.me).steps } };
+    ghost view = { λ t. record { tree = record { id = t.seat.table_id; key = (sight_of t.seat.me).key }; view = t.view; tier = t.tier; word = t.word; tried = (sight_of t.seat.me).tried; steps = (sight_of t.seat.me).steps; opened = (sight_of t.seat.me).opened } };
 
     ghost invariant = { λ t. IsSeated t.seat.me t.view t.tier t.word };
 }
@@ -56,13 +56,13 @@ impl Seated {
 }
 
 impl Seated {
-    ghost use Rattle.std.specs.Prelude.{◌≡◌};
-    ghost use Rattle.table_tiers.specs.Holding.{IsSeated};
+    ghost use Rattle.std.specs.Prelude.{◌≡◌, [], ◌∷◌};
+    ghost use Rattle.table_tiers.specs.Holding.{sight_held};
 
     /// Its seat.
     pub(crate) fn into_seat(self) -> Seat<Kind, Sights>
         ensures table { result.table_id ≡ self.tree.id }
-        ensures seat { IsSeated result.me self.view self.tier self.word }
+        ensures seat { result.me ≡ (sight_held self ∷ [], []) }
     {
         let Self {
             seat,

@@ -1,25 +1,25 @@
 //! The tiers of a tree as atomic words, and its single steps.
 
-ghost use Rattle.std.specs.Prelude.{◌≡◌, ◌≤◌, ◌<◌, IfOk, MatchBool, length, replicate};
+ghost use Rattle.std.specs.Prelude.{◌≡◌, ◌≤◌, ◌<◌, IfOk, MatchBool, [], length, replicate};
 ghost use Rattle.tier_shape.specs.Paths.{IsTiers};
 ghost use Rattle.tier_steps.specs.View.{new_view};
 ghost use Rattle.tier_steps.specs.Start.{empty_word};
 ghost use Rattle.tier_steps.specs.Step.{Needs};
 ghost use Rattle.tier_steps.specs.declared.kind.Kind.TheVariants.{Look};
-ghost use Rattle.table_tiers.specs.Holding.{Looked, Lost, Won};
+ghost use Rattle.table_tiers.specs.Holding.{Looked, Lost, Won, HaveLooked, IsSat, split_once};
 ghost use Rattle.table_rule.specs.Look.{MayLook};
 ghost use Rattle.table_rule.specs.Reach.{PlanSays};
 
 use crate::seated::Seated;
-use crate::tokens::Door;
+use crate::tokens::{Crew, Door};
 use crate::writing::step_in;
 use advance_rule::EndPlan;
-use atomic_table::Table;
+use atomic_table::{Seat, Table};
 use phaser_word::Word;
 use std::alloc::{AllocError, Global};
 use std::marker::{Brand, Model};
 use table_rule::look::look_for;
-use table_rule::rule::{Looks, Meant, Rule, Sits, Tries};
+use table_rule::rule::{Cuts, Joins, Keyed, Looks, LooksTogether, Meant, Parts, Rule, Sits, Tries};
 use table_rule::sight::{Key, Sights};
 use tier_core::turn::above;
 use tier_shape::Shape;
@@ -65,7 +65,7 @@ impl Tiers {
     ) -> Result<(Tiers, Seated), AllocError>
         requires { phase ≤ 2147483647 }
         ensures tree { IfOk result (λ r. r.0.key ≡ record { shape = shape; phase = phase; plan = plan }) }
-        ensures token { IfOk result (λ r. (r.1.tree ≡ r.0) × (r.1.view ≡ new_view phase) × (r.1.tier ≡ 0) × (r.1.word ≡ empty_word phase) × (r.1.tried ≡ 0)) }
+        ensures token { IfOk result (λ r. (r.1.tree ≡ r.0) × (r.1.view ≡ new_view phase) × (r.1.tier ≡ 0) × (r.1.word ≡ empty_word phase) × (r.1.tried ≡ 0) × (r.1.steps ≡ []) × (r.1.opened ≡ 0)) }
     {
         let word = Word {
             phase,
@@ -97,7 +97,7 @@ impl Tiers {
     ) -> Result<(Tiers, Door), AllocError>
         requires { phase ≤ 2147483647 }
         ensures tree { IfOk result (λ r. r.0.key ≡ record { shape = shape; phase = phase; plan = plan }) }
-        ensures token { IfOk result (λ r. (r.1.tree ≡ r.0) × (r.1.view ≡ new_view phase) × (r.1.tier ≡ 0) × (r.1.word ≡ empty_word phase) × (r.1.tried ≡ 0)) }
+        ensures token { IfOk result (λ r. (r.1.tree ≡ r.0) × (r.1.view ≡ new_view phase) × (r.1.tier ≡ 0) × (r.1.word ≡ empty_word phase) × (r.1.tried ≡ 0) × (r.1.steps ≡ []) × (r.1.opened ≡ 0)) }
     {
         let (tiers, token) = Tiers::seated(alloc, shape, phase, plan)?;
         Ok((tiers, Door { token }))
@@ -151,6 +151,31 @@ impl Tiers {
         self.look(token, 0, Kind::Look);
     }
 
+    /// A look at the root by two tokens at once.
+    pub(crate) fn look_together(&self, one: &mut Seated, other: Seated) -> Seated
+        requires own { (one.old.tree ≡ self.now) × (other.tree ≡ self.now) }
+        ensures { HaveLooked one.old one.new other result }
+    {
+        let _ = other.word();
+        let mut view = other.view();
+        self.table
+            .shared
+            .join_seat::<Joins>(&mut one.seat, other.into_seat());
+        let found = self.table.shared.load::<LooksTogether>(&mut one.seat, 0);
+        let seat = self.table.shared.split_seat::<Parts>(&mut one.seat);
+        let word = Word::unpack(found).unwrap();
+        step_in(Kind::Look, 0, 0, word, &mut one.view);
+        step_in(Kind::Look, 0, 0, word, &mut view);
+        one.tier = 0;
+        one.word = word;
+        Seated {
+            seat,
+            view,
+            tier: 0,
+            word,
+        }
+    }
+
     /// One try of a step at the tier where the token looked last, from the word that it saw there. A lost
     /// try is a look.
     #[inline(always)]
@@ -183,11 +208,15 @@ impl Tiers {
         }
     }
 
-    /// A new token without members, in the root's phase.
-    fn sit(&self) -> Seated
-        ensures { (result.tree ≡ self.now) × (result.view ≡ new_view result.word.phase) × (result.tier ≡ 0) × (result.tried ≡ 0) }
+    /// The first look of a seat that knows nothing, by which a token comes in.
+    fn sit_as<J: Keyed>(&self, seat: Seat<Kind, Sights>) -> Seated
+        requires own { seat.table_id ≡ self.now.id }
+        requires blank { seat.me ≡ ([], []) }
+        requires key { J.key ≡ self.now.key }
+        ensures { IsSat self.now result }
     {
-        let (found, seat) = self.table.shared.load_new_seat::<Sits>(0);
+        let mut seat = seat;
+        let found = self.table.shared.load::<Sits<J>>(&mut seat, 0);
         let word = Word::unpack(found).unwrap();
         let view = View::new(word.phase);
         Seated {
@@ -198,10 +227,44 @@ impl Tiers {
         }
     }
 
-    /// A new token without members, in the root's phase.
-    pub fn open_door(&self) -> Door
-        ensures { (result.tree ≡ self.now) × (result.view ≡ new_view result.word.phase) × (result.tier ≡ 0) × (result.tried ≡ 0) }
+    /// The same, of this tree.
+    fn sit(&self, seat: Seat<Kind, Sights>) -> Seated
+        requires own { seat.table_id ≡ self.now.id }
+        requires blank { seat.me ≡ ([], []) }
+        ensures { IsSat self.now result }
     {
-        Door { token: self.sit() }
+        self.sit_as::<Brand>(seat)
+    }
+
+    /// A new token without members, in the root's phase, split off another.
+    fn split_off(&self, token: &mut Seated) -> Seated
+        requires own { token.old.tree ≡ self.now }
+        ensures counted { token.new ≡ split_once token.old }
+        ensures new { IsSat self.now result }
+    {
+        let seat = self.table.shared.split_seat::<Cuts>(&mut token.seat);
+        self.sit(seat)
+    }
+
+    /// A new token without members, split off one that has none.
+    pub fn open_door(&self, door: &mut Door) -> Door
+        requires own { door.old.tree ≡ self.now }
+        ensures counted { door.new ≡ split_once door.old }
+        ensures new { IsSat self.now result }
+    {
+        Door {
+            token: self.split_off(&mut door.token),
+        }
+    }
+
+    /// A new token without members, split off a crew.
+    pub fn open_beside(&self, crew: &mut Crew) -> Door
+        requires own { crew.old.tree ≡ self.now }
+        ensures counted { crew.new ≡ split_once crew.old }
+        ensures new { IsSat self.now result }
+    {
+        Door {
+            token: self.split_off(&mut crew.token),
+        }
     }
 }

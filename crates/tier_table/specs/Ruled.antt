@@ -1,5 +1,5 @@
--- A tree with its rule, and new tokens (own).
-use Rattle.std.specs.Prelude.{◌≡◌, ℕ, List}
+-- A tree with its rule, and its first token (own).
+use Rattle.std.specs.Prelude.{◌≡◌, ℕ, List, []}
 use Rattle.advance_rule.specs.Stored.{Stored}
 use Rattle.advance_rule.specs.declared.EndPlan.{EndPlan}
 use Rattle.tier_steps.specs.View.{new_view}
@@ -11,7 +11,8 @@ pub record Ruled (F : Type 0) : Type 0 where
   pub tree : Named
   pub rule : Stored F EndPlan
 
--- A new tree keeps what it was told, and its first token has no members, is in its phase, and knows the root to be empty.
+-- A new tree keeps what it was told. Its first token has no members, is in its phase, and knows the root to be empty; it has made no step, and no other was
+-- split off it, which says that all tiers are empty (`NewTreesAreEmpty`).
 pub record IsNew {F : Type 0} (shape : List ℕ) (phase : ℕ) (rule : Stored F EndPlan) (tree : Ruled F) (door : Holding) : Type 0 where
   pub same_shape : tree.tree.key.shape ≡ shape
   pub same_phase : tree.tree.key.phase ≡ phase
@@ -22,10 +23,5 @@ pub record IsNew {F : Type 0} (shape : List ℕ) (phase : ℕ) (rule : Stored F 
   pub root : door.tier ≡ 0
   pub empty : door.word ≡ empty_word phase
   pub untried : door.tried ≡ 0
-
--- a new token of the same tree, in the phase of the root, whose word it has read
-pub record IsSplit (from new : Holding) : Type 0 where
-  pub own : new.tree ≡ from.tree
-  pub view : new.view ≡ new_view new.word.phase
-  pub root : new.tier ≡ 0
-  pub untried : new.tried ≡ 0
+  pub unstepped : door.steps ≡ []
+  pub unsplit : door.opened ≡ 0

@@ -1,14 +1,15 @@
 //! The tree of phasers, shared by reference and called from any threads without a lock.
 
 ghost use Rattle.std.specs.Prelude.{◌≡◌, ◌<◌, ◌≤◌, ℕ, Some, IfOk, IfErr, All, length};
-ghost use Rattle.table_tiers.specs.Closes.{held, plain_tokens, views_in, TallyWithOthers};
+ghost use Rattle.table_tiers.specs.Closes.{held, plain_tokens, views_in, sights_in, TallyWithOthers, IsLeftBy};
 ghost use Rattle.advance_rule.specs.Stored.{Answers};
 ghost use Rattle.advance_rule.specs.Plan.{end_ends_at};
 ghost use Rattle.tier_steps.specs.declared.view.Trip.TheVariants.{Arrival, Departure};
-ghost use Rattle.tier_table.specs.Ruled.{IsNew, IsSplit};
+ghost use Rattle.table_tiers.specs.Holding.{IsSat, split_once};
+ghost use Rattle.tier_table.specs.Ruled.{IsNew};
 ghost use Rattle.table_tiers.specs.Arrives.{Arrives, Resumes};
 ghost use Rattle.table_tiers.specs.Arrives as arrives;
-ghost use Rattle.table_tiers.specs.Made.{MadeOnly, is_entering};
+ghost use Rattle.table_tiers.specs.Made.{MadeOnly, HasEntered, HasLooked, is_entering};
 ghost use Rattle.table_tiers.specs.Registers.{token_of, opened_of, Registers, Opens};
 ghost use Rattle.table_tiers.specs.Registers as registers;
 ghost use Rattle.table_tiers.specs.JoinsHere.{JoinsHere};
@@ -94,24 +95,22 @@ impl<F: Fn(u32, u32) -> bool> Tree<F> {
         self.tiers.shape()
     }
 
-    /// A new token without members, in the root's phase.
+    /// A new token without members, in the root's phase. The door stays as it is, and has split off one token more.
     pub fn split(&self, door: &mut Door) -> Door
         requires own { door.old.tree ≡ self.now.tree }
-        ensures same { door.new ≡ door.old }
-        ensures new { IsSplit door.old result }
+        ensures same { door.new ≡ split_once door.old }
+        ensures new { IsSat self.now.tree result }
     {
-        let _ = &door;
-        self.tiers.open_door()
+        self.tiers.open_door(door)
     }
 
-    /// A new token without members, in the root's phase.
+    /// The same, split off a crew.
     pub fn split_crew(&self, crew: &mut Crew) -> Door
         requires own { crew.old.tree ≡ self.now.tree }
-        ensures same { crew.new ≡ crew.old }
-        ensures new { IsSplit crew.old result }
+        ensures same { crew.new ≡ split_once crew.old }
+        ensures new { IsSat self.now.tree result }
     {
-        let _ = &crew;
-        self.tiers.open_door()
+        self.tiers.open_beside(crew)
     }
 
     /// Registers so many members at a tier, opening the path to it where it is empty.
@@ -120,7 +119,7 @@ impl<F: Fn(u32, u32) -> bool> Tree<F> {
         requires tier { tier < length self.now.tree.key.shape }
         requires members { (0 < n) × (n ≤ 65535) }
         ensures answer { Registers door tier n tries result }
-        ensures made { MadeOnly is_entering door.steps (token_of result).steps }
+        ensures made { HasEntered door.steps (token_of result).steps }
         ensures ended { (phase : ℕ) → door.view.end_seen ≡ Some phase → registers.HasEnded result }
     {
         self.tiers.join(door, tier, n, tries)
@@ -144,7 +143,9 @@ impl<F: Fn(u32, u32) -> bool> Tree<F> {
         requires unarrived { crew.old.view.arrived < crew.old.view.size }
         requires members { (0 < n) × (n ≤ 65535) }
         ensures answer { JoinsHere crew.old crew.new door n tries result }
+        ensures made { HasEntered door.steps (token_of result).steps × HasLooked crew.old.steps crew.new.steps }
         ensures ended { (phase : ℕ) → door.view.end_seen ≡ Some phase → registers.HasEnded result }
+        ensures crew_ended { (phase : ℕ) → crew.old.view.end_seen ≡ Some phase → registers.HasEnded result }
     {
         self.tiers.join_beside(crew, door, n, tries)
     }
@@ -207,6 +208,7 @@ impl<F: Fn(u32, u32) -> bool> Tree<F> {
         requires own { All (λ t. (held t).tree ≡ self.tree) tokens.items }
         ensures tokens { IfOk result (λ c. c.tokens.items ≡ plain_tokens tokens.items) }
         ensures words { IfOk result (λ c. TallyWithOthers self.tree.key.shape c.words.items (views_in tokens.items)) }
+        ensures left { IfOk result (λ c. IsLeftBy self.tree.key c.words.items (sights_in tokens.items)) }
         ensures refused { IfErr result (λ u. (u.tree ≡ self) × (u.tokens ≡ tokens)) }
     {
         let Ok(words) = Vec::with_capacity(alloc, self.tiers.shape().count()) else {

@@ -1,6 +1,6 @@
 use Rattle.std.proofs.Common.{◌<◌, ℕ, ap, sym, ◌∙◌, subst, length}
 use Rattle.tier_steps.specs.declared.view.View.{View}
-use Rattle.table_tiers.proofs.Waits.{seat_within, glanced_view, refreshed_view, may_refresh, look_made_one, refresh_made}
+use Rattle.table_tiers.proofs.Waits.{seat_within, glanced_view, refreshed_view, may_refresh, look_made_one, refresh_made, refresh_opened}
 use Rattle.table_tiers.proofs.tiers.Tiers.catch_up.Goals as goal
 
 pub look-requires-clause-tier : goal.look-requires-clause-tier
@@ -24,3 +24,6 @@ returns-then-is_behind-clause-made c = refresh_made c.attempt.result c.attempt.n
 
 pub returns-else-is_behind-clause-made : goal.returns-else-is_behind-clause-made
 returns-else-is_behind-clause-made c = look_made_one c.look.ensures
+
+pub returns-then-is_behind-clause-opened : goal.returns-then-is_behind-clause-opened
+returns-then-is_behind-clause-opened c = refresh_opened c.attempt.result c.attempt.new.token c.look.ensures c.attempt.ensures

@@ -1,19 +1,12 @@
 use Rattle.std.proofs.Common.{rules, ◌++◌, ◌∷◌, [], ap, sym, ◌∙◌, arith, length, length-append}
-use Rattle.table_rule.proofs.Allowed.{enters_allow}
 use Rattle.table_tiers.proofs.Seating.{is_some, unpacked}
-use Rattle.table_tiers.proofs.Gathering.{last_state, word_read, take_more, take_whole, count_long, closed_tally}
-use Rattle.table_tiers.specs.Closes.{views_in}
+use Rattle.table_tiers.proofs.Gathering.{last_of, word_read, take_more, take_whole, count_long, closed_tally, closed_left}
 use Rattle.table_tiers.proofs.tiers.Tiers.close.Goals as goal
-
-pub load_new_seat-seat-requires : goal.load_new_seat-seat-requires
-load_new_seat-seat-requires c =
-    let some = c.self.invariant.shape.shape.some in
-    ((let a = c.self.invariant.words_are in omega arith), enters_allow _ _ some)
 
 pub unwrap-requires : goal.unwrap-requires
 unwrap-requires c =
-    let z = last_state _ c.close_with-closed.ensures.values.2 in
-    let long = count_long c.self.view_is z c.shape.ensures.value c.count-count.ensures.value in
+    let z = last_of c.shut-closed.ensures.words in
+    let long = count_long z c.shape.ensures.value c.count-count.ensures.value in
     let t = c.loop-tier-test.true in
     is_some _ _ (word_read z.words z.packed_so z.legal (omega arith) c.word.ensures c.unpack.ensures.again)
 
@@ -30,10 +23,14 @@ loop-tier-preserved c = (
   (let a = ap length c.push_reserved.ensures.items in let b = length-append c.loop-tier.words.items (c.unwrap.result ∷ []) in let d = c.loop-tier.invariant.2 in omega arith),
 )
 
-pub returns : goal.returns
-returns c =
-    let z = last_state _ c.close_with-closed.ensures.values.2 in
-    let long = count_long c.self.view_is z c.shape.ensures.value c.count-count.ensures.value in
+pub returns-clause-tally : goal.returns-clause-tally
+returns-clause-tally c =
+    let z = last_of c.shut-closed.ensures.words in
+    let long = count_long z c.shape.ensures.value c.count-count.ensures.value in
     let past = c.loop-tier-test.false in
-    closed_tally c.load_new_seat-seat.result.1.me.0 (views_in c.args.tokens.items) c.self.view_is z (c.loop-tier.invariant.0 z.words z.packed_so z.legal long ∙ take_whole z.words c.loop-tier.tier (omega arith))
-    c.gather-seat.ensures.views
+    closed_tally c.args.tokens.items z (c.loop-tier.invariant.0 z.words z.packed_so z.legal long ∙ take_whole z.words c.loop-tier.tier (omega arith))
+
+pub returns-clause-left : goal.returns-clause-left
+returns-clause-left c =
+    let past = c.loop-tier-test.false in
+    closed_left c.args.tokens.items c.shut-closed.ensures.words c.shape.ensures.value c.count-count.ensures.value (omega arith) (λ ws is legal long. c.loop-tier.invariant.0 ws is legal long)

@@ -15,7 +15,7 @@ returns-then-not-goes_on-2 c =
 pub loop-preserved : goal.loop-preserved
 loop-preserved c =
     let w = went_then _ _ 1 _ _ _ (went_then _ _ 0 _ _ _ c.loop.invariant.0 c.stand.ensures.went) c.try_on.ensures in (
-      record { at = w.at; tried = (let a = w.tried in omega arith); goes = w.goes },
+      record { at = w.at; tried = (let a = w.tried in omega arith); opened = w.opened; goes = w.goes },
       sym c.goes_on-in-loop.ensures ∙ c.if-not-goes_on-2.false,
     )
 

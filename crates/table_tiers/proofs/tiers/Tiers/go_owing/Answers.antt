@@ -23,4 +23,4 @@ loop-preserved g c =
     ] in
     let on = sym c.goes_on.ensures ∙ c.if-not-goes_on.false in
     let w = went_then _ _ r.used _ _ _ c.loop.invariant.0 r.went in
-    (record { at = w.at; tried = (let a = w.tried in let b = r.all on in omega arith); goes = w.goes }, owing_on w c.requires.owing on)
+    (record { at = w.at; tried = (let a = w.tried in let b = r.all on in omega arith); opened = w.opened; goes = w.goes }, owing_on w c.requires.owing on)

@@ -3,10 +3,11 @@ use Rattle.table_tiers.specs.Holding.{IsDoor}
 use Rattle.table_tiers.proofs.Seating.{took_by}
 use Rattle.table_tiers.proofs.Settling.{unseen, not_ended}
 use Rattle.table_tiers.proofs.Coming.{join_may_answer, registers}
-use Rattle.std.proofs.Common.{refl}
+use Rattle.std.proofs.Common.{refl, ◌∷◌}
+use Rattle.tier_steps.specs.declared.kind.Kind.TheVariants.{Look}
 use Rattle.table_tiers.specs.Made.{is_entering}
 use Rattle.table_tiers.proofs.Making.{made_then}
-use Rattle.table_tiers.proofs.Entering.{looked_enters, ran_enters, answer_enters}
+use Rattle.table_tiers.proofs.Entering.{looked_first_enters, ran_enters, answer_enters}
 use Rattle.table_tiers.proofs.tiers.Tiers.join.Goals as goal
 
 pub answer_join-requires : goal.answer_join-requires
@@ -23,9 +24,9 @@ pub returns-clause-ended : goal.returns-clause-ended
 returns-clause-ended c = λ p e. unseen (took_by c.door.view_is c.look.ensures) (not_ended c.word.view_is c.word-word.ensures.word c.if-word.false) p e
 
 pub returns-then-word-clause-made : goal.returns-then-word-clause-made
-returns-then-word-clause-made c = looked_enters (took_by c.door.view_is c.look.ensures)
+returns-then-word-clause-made c = looked_first_enters (took_by c.door.view_is c.look.ensures)
 
 pub returns-clause-made : goal.returns-clause-made
 returns-clause-made c =
-    answer_enters c.args.door.steps c.go_joining.result c.answer_join.result c.answer_join.ensures
-    (made_then is_entering (looked_enters (took_by c.door.view_is c.look.ensures)) (ran_enters refl c.go_joining.ensures))
+    answer_enters (Look ∷ c.args.door.steps) c.go_joining.result c.answer_join.result c.answer_join.ensures
+    (made_then is_entering (looked_first_enters (took_by c.door.view_is c.look.ensures)) (ran_enters refl c.go_joining.ensures))

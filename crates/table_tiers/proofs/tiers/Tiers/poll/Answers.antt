@@ -17,7 +17,7 @@ returns-clause-answer c =
     polls_passed c.args.crew.now c.look_at_root.new.token c.catch_up.new.token (subst IsCrew c.crew.view_is c.crew.invariant) (took_by c.crew.view_is c.look_at_root.ensures)
     (not_ended c.word.view_is c.word-word.ensures.word c.if-word.false)
     (λ e. c.if-view.false (ap (λ (v : View). v.arrived) c.view-view.ensures ∙ (e ∙ sym (ap (λ (v : View). v.size) c.view-view.ensures))))
-    c.catch_up.ensures.tree c.catch_up.ensures.view c.catch_up.ensures.tried c.catch_up.ensures.made c.view-view.result.phase (ap (λ (v : View). v.phase) c.view-view.ensures)
+    c.catch_up.ensures.tree c.catch_up.ensures.view c.catch_up.ensures.tried c.catch_up.ensures.opened c.catch_up.ensures.made c.view-view.result.phase (ap (λ (v : View). v.phase) c.view-view.ensures)
     (λ e. c.if-view-before.false (ap (λ (v : View). v.phase) c.view-view.ensures ∙ (e ∙ (ap (λ (h : Holding). h.view.phase) (sym c.crew.view_is) ∙ sym (ap (λ (v : View). v.phase) c.view-before.ensures)))))
 
 pub returns-clause-ended : goal.returns-clause-ended
@@ -42,4 +42,4 @@ returns-then-view-before-clause-answer c =
     polls_here c.args.crew.now c.look_at_root.new.token c.catch_up.new.token (subst IsCrew c.crew.view_is c.crew.invariant) (took_by c.crew.view_is c.look_at_root.ensures)
     (not_ended c.word.view_is c.word-word.ensures.word c.if-word.false)
     (λ e. c.if-view.false (ap (λ (v : View). v.arrived) c.view-view.ensures ∙ (e ∙ sym (ap (λ (v : View). v.size) c.view-view.ensures))))
-    c.catch_up.ensures.tree c.catch_up.ensures.view c.catch_up.ensures.tried c.catch_up.ensures.made c.view-view.result.phase (ap (λ (v : View). v.phase) c.view-view.ensures)
+    c.catch_up.ensures.tree c.catch_up.ensures.view c.catch_up.ensures.tried c.catch_up.ensures.opened c.catch_up.ensures.made c.view-view.result.phase (ap (λ (v : View). v.phase) c.view-view.ensures)
