@@ -148,9 +148,9 @@ impl Arrays {
         ensures { result ≡ place_at self.now array index }
     {
         let (_, cells) = self.get(usize::from(array))?;
-        let place = u32::try_from(index).ok()?;
-        if (place as usize) < cells.len() {
-            Some(place)
+        let place = usize::try_from(index).ok()?;
+        if place < cells.len() {
+            Some(place as u32)
         } else {
             None
         }
