@@ -1,4 +1,4 @@
-use Rattle.std.proofs.Common.{◌≡◌, ◌≤◌, ◌-◌, ◌++◌, List, arith, ◌∙◌, sym, ap, length, length-append}
+use Rattle.std.proofs.Common.{◌≡◌, ◌-◌, ◌++◌, List, arith, ◌∙◌, sym, ap, length, length-append}
 use Rattle.std.specs.Prelude.{take}
 use Rattle.task_lang.specs.TaskValue.{TaskValue}
 use Rattle.step_parts.specs.SlotParts.{path_in}

@@ -1,4 +1,4 @@
-use Rattle.std.proofs.Common.{◌≡◌, ◌∷◌, ◌++◌, [], List, arith, ◌∙◌, sym, ap, length, length-append}
+use Rattle.std.proofs.Common.{◌≡◌, ◌∷◌, ◌++◌, [], List, arith, ◌∙◌, ap, length, length-append}
 use Rattle.step_deeds.specs.DeedValue.{DeedValue}
 use Rattle.step_deeds.specs.DeedsView.{spawned_by, deeds_with}
 use Rattle.step_deeds.specs.declared.deeds.Deed.{Deed}
