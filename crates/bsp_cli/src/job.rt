@@ -258,7 +258,8 @@ fn draw_end<W: CountedWrite>(
 ///     None::<&NoProgress>,
 /// );
 /// assert!(rt; matches!(status, Ok(JobStatus::Ended(1))));
-/// assert!(rt; printed.as_slice() == b"phase 0 parties 1 left 1 spawned 0\narray a 7\nended 1\n");
+/// let want = b"phase 0 parties 1 left 1 spawned 0\narray a 7\nended 1\n";
+/// assert!(rt; printed.as_slice() == want.as_slice());
 /// ```
 pub fn run_bytes<T: Threads + Wait + Sync, R: CountedRead, W: CountedWrite, P: Progress + Sync>(
     rt: &T,
