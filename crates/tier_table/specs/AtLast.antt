@@ -47,6 +47,23 @@ AwaitsAdvance old new (awaited.Passed phase) = IsLooked old.view new.view × IsF
 AwaitsAdvance old new (awaited.Here phase) = IsLooked old.view new.view × IsFresh new.view × (new.view.arrived < new.view.size) × (phase ≡ new.view.phase)
 AwaitsAdvance old new (awaited.Ended shown) = IsLooked old.view new.view × EndSeen new.view shown
 
+-- the token that is handed back
+abbrev pub token_admitted : Admitted → Holding
+token_admitted (admitted.Joined crew phase) = crew
+token_admitted (admitted.Full door count) = door
+token_admitted (admitted.Ended door shown) = door
+
+abbrev pub token_counted : Counted → Holding
+token_counted (counted.Done crew phase led) = crew
+token_counted (counted.Left door phase led) = door
+token_counted (counted.AlreadyArrived crew phase) = crew
+token_counted (counted.Ended crew shown) = crew
+
+-- so many tokens were split off it
+abbrev pub HasSplit : ℕ → Result Admitted Holding → Type 0
+HasSplit n (Ok answer) = (token_admitted answer).opened ≡ n
+HasSplit n (Err door) = door.opened ≡ n
+
 -- they tell that the tree has ended
 abbrev pub HasEndedJoin : Admitted → Type 0
 HasEndedJoin (admitted.Ended door shown) = Unit {0}

@@ -10,7 +10,7 @@ ghost use Rattle.table_tiers.specs.Holding.{Holding};
 ghost use Rattle.table_tiers.specs.Arrives.{IsLooked, HasPassed};
 ghost use Rattle.table_tiers.specs.InPlace.{ArrivesInPlace};
 ghost use Rattle.table_tiers.specs.InPlace as in_place;
-ghost use Rattle.tier_table.specs.AtLast.{RegistersAtLast, OpensAtLast, ArrivesAtLast, ResumesAtLast, AwaitsAdvance, HasEndedJoin, HasEndedArrival, HasEndedWait};
+ghost use Rattle.tier_table.specs.AtLast.{token_admitted, token_counted, HasSplit, RegistersAtLast, OpensAtLast, ArrivesAtLast, ResumesAtLast, AwaitsAdvance, HasEndedJoin, HasEndedArrival, HasEndedWait};
 
 use crate::tree::Tree;
 use std::sync::Wait;
@@ -65,7 +65,8 @@ pub enum Awaited {
 // an error.
 fn open_wait<R: Wait>(tiers: &Tiers, rt: &R, opening: Opening) -> Result<Admitted, Door>
     requires own { opening.token.tree ≡ tiers.now }
-    ensures { OpensAtLast tiers.now (asked_tier opening.token.view.errand) (asked_size opening.token.view.errand) result }
+    ensures answer { OpensAtLast tiers.now (asked_tier opening.token.view.errand) (asked_size opening.token.view.errand) result }
+    ensures unsplit { HasSplit opening.token.opened result }
 {
     let mut opening = opening;
     for _ in rt.forever() {
@@ -94,6 +95,7 @@ fn join_once<R: Wait>(
     requires tier { tier < length tiers.now.key.shape }
     requires members { (0 < n) × (n ≤ 65535) }
     ensures answer { OpensAtLast tiers.now tier n result }
+    ensures unsplit { HasSplit door.opened result }
     ensures ended { (phase : ℕ) → door.view.end_seen ≡ Some phase → MatchResult result HasEndedJoin (λ next. ⊥) }
 {
     match tiers.join(door, tier, n, TRIES) {
@@ -113,6 +115,7 @@ impl<F: Fn(u32, u32) -> bool> Tree<F> {
         requires tier { tier < length self.now.tree.key.shape }
         requires members { (0 < n) × (n ≤ 65535) }
         ensures answer { RegistersAtLast self.now.tree tier n result }
+        ensures unsplit { (token_admitted result).opened ≡ door.opened }
         ensures ended { (phase : ℕ) → door.view.end_seen ≡ Some phase → HasEndedJoin result }
     {
         let mut door = door;
@@ -130,7 +133,8 @@ impl<F: Fn(u32, u32) -> bool> Tree<F> {
     fn resume_wait<R: Wait>(&self, rt: &R, errand: Errand) -> Counted
         requires own { errand.token.tree ≡ self.now.tree }
         requires rule { Answers (F.pre self.now.rule.closure) (F.post self.now.rule.closure) (end_ends_at self.now.rule.plan) }
-        ensures { ResumesAtLast errand.token result }
+        ensures answer { ResumesAtLast errand.token result }
+        ensures unsplit { (token_counted result).opened ≡ errand.token.opened }
     {
         let mut errand = errand;
         for _ in rt.forever() {
@@ -148,7 +152,8 @@ impl<F: Fn(u32, u32) -> bool> Tree<F> {
     fn settle_wait<R: Wait>(&self, rt: &R, errand: Errand, own: Trip) -> Counted
         requires own { errand.token.tree ≡ self.now.tree }
         requires rule { Answers (F.pre self.now.rule.closure) (F.post self.now.rule.closure) (end_ends_at self.now.rule.plan) }
-        ensures { (h : Holding) → 0 < h.view.size → errand.token.tree ≡ h.tree → HasPassed own h.view errand.token.view → ArrivesAtLast own h result }
+        ensures answer { (h : Holding) → 0 < h.view.size → errand.token.tree ≡ h.tree → HasPassed own h.view errand.token.view → ArrivesAtLast own h result }
+        ensures unsplit { (token_counted result).opened ≡ errand.token.opened }
     {
         match self.resume_wait(rt, errand) {
             Counted::Left(door, phase, led) => {
@@ -165,6 +170,7 @@ impl<F: Fn(u32, u32) -> bool> Tree<F> {
         requires rule { Answers (F.pre self.now.rule.closure) (F.post self.now.rule.closure) (end_ends_at self.now.rule.plan) }
         ensures some { 0 < crew.view.size }
         ensures answer { MatchResult result (λ a. ArrivesAtLast own crew a) (λ next. (next.tree ≡ crew.tree) × IsLooked crew.view next.view) }
+        ensures unsplit { MatchResult result (λ a. (token_counted a).opened ≡ crew.opened) (λ next. next.opened ≡ crew.opened) }
         ensures ended { (phase : ℕ) → crew.view.end_seen ≡ Some phase → MatchResult result HasEndedArrival (λ next. ⊥) }
     {
         let _ = crew.size();
@@ -183,6 +189,7 @@ impl<F: Fn(u32, u32) -> bool> Tree<F> {
         requires own { crew.tree ≡ self.now.tree }
         requires rule { Answers (F.pre self.now.rule.closure) (F.post self.now.rule.closure) (end_ends_at self.now.rule.plan) }
         ensures answer { ArrivesAtLast own crew result }
+        ensures unsplit { (token_counted result).opened ≡ crew.opened }
         ensures ended { (phase : ℕ) → crew.view.end_seen ≡ Some phase → HasEndedArrival result }
     {
         let mut crew = crew;
@@ -201,6 +208,7 @@ impl<F: Fn(u32, u32) -> bool> Tree<F> {
         requires own { crew.tree ≡ self.now.tree }
         requires rule { Answers (F.pre self.now.rule.closure) (F.post self.now.rule.closure) (end_ends_at self.now.rule.plan) }
         ensures answer { ArrivesAtLast Arrival crew result }
+        ensures unsplit { (token_counted result).opened ≡ crew.opened }
         ensures ended { (phase : ℕ) → crew.view.end_seen ≡ Some phase → HasEndedArrival result }
     {
         self.pass_wait(rt, crew, Trip::Arrival)
@@ -222,6 +230,7 @@ impl<F: Fn(u32, u32) -> bool> Tree<F> {
         requires own { crew.tree ≡ self.now.tree }
         requires rule { Answers (F.pre self.now.rule.closure) (F.post self.now.rule.closure) (end_ends_at self.now.rule.plan) }
         ensures answer { ArrivesAtLast Departure crew result }
+        ensures unsplit { (token_counted result).opened ≡ crew.opened }
         ensures ended { (phase : ℕ) → crew.view.end_seen ≡ Some phase → HasEndedArrival result }
     {
         self.pass_wait(rt, crew, Trip::Departure)
@@ -233,6 +242,7 @@ impl<F: Fn(u32, u32) -> bool> Tree<F> {
         requires own { crew.old.tree ≡ self.now.tree }
         ensures tree { crew.new.tree ≡ crew.old.tree }
         ensures answer { AwaitsAdvance crew.old crew.new result }
+        ensures unsplit { crew.new.opened ≡ crew.old.opened }
         ensures ended { (phase : ℕ) → crew.old.view.end_seen ≡ Some phase → HasEndedWait result }
     {
         let _ = crew.size();

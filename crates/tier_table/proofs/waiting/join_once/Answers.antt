@@ -1,6 +1,7 @@
-use Rattle.std.proofs.Common.{refl, ◌∙◌, rules}
+use Rattle.std.proofs.Common.{ℕ, refl, subst, ◌∙◌, rules}
 use Rattle.tier_core.specs.declared.call.Played.TheVariants as played
 use Rattle.table_tiers.specs.Openings.{asked_tier, asked_size}
+use Rattle.tier_table.specs.AtLast.{HasSplit}
 use Rattle.tier_table.proofs.Lasting.{opens_for, refused_for}
 use Rattle.tier_table.proofs.waiting.join_once.Goals as goal
 
@@ -16,7 +17,7 @@ join-requires-clause-size g c = c.requires.members
 pub returns-in-Joined : goal.returns-in-Joined
 returns-in-Joined g c =
     let told = c.in-Joined.ensures.answer in
-    record { answer = (told.0.tree ∙ c.requires.own, told.1, told.2, told.3); ended = λ p e. absurd (c.in-Joined.ensures.ended p e) }
+    record { answer = (told.0.tree ∙ c.requires.own, told.1, told.2, told.3); unsplit = told.0.opened; ended = λ p e. absurd (c.in-Joined.ensures.ended p e) }
 
 pub returns-in-Full : goal.returns-in-Full
 returns-in-Full g c =
@@ -27,12 +28,13 @@ returns-in-Full g c =
         refused_for c.args.tiers.now c.args.door c.args.tier c.args.tier c.args.n c.args.n c.in-Full.next.view (played.Full c.in-Full.count) c.requires.own refl refl
             told.1,
       );
+      unsplit = told.0.opened;
       ended = λ p e. absurd (c.in-Full.ensures.ended p e);
     }
 
 pub returns-in-Ended : goal.returns-in-Ended
 returns-in-Ended g c =
-    let told = c.in-Ended.ensures.answer in record { answer = (told.0.tree ∙ c.requires.own, (told.1.0, told.1.1, search rules)); ended = λ p e. tt }
+    let told = c.in-Ended.ensures.answer in record { answer = (told.0.tree ∙ c.requires.own, (told.1.0, told.1.1, search rules)); unsplit = told.0.opened; ended = λ p e. tt }
 
 pub open_wait-requires : goal.open_wait-requires
 open_wait-requires g c = record { own = c.in-Owing.ensures.answer.0.tree ∙ c.requires.own }
@@ -42,6 +44,7 @@ returns-in-Owing g c =
     let asked = c.in-Owing.ensures.answer.1 in
     let errand = c.in-Owing.opening.token.view.errand in
     record {
-      answer = opens_for c.args.tiers.now (asked_tier errand) c.args.tier (asked_size errand) c.args.n c.open_wait.result asked.seat asked.members c.open_wait.ensures;
+      answer = opens_for c.args.tiers.now (asked_tier errand) c.args.tier (asked_size errand) c.args.n c.open_wait.result asked.seat asked.members c.open_wait.ensures.answer;
+      unsplit = subst (λ (n : ℕ). HasSplit n c.open_wait.result) c.in-Owing.ensures.answer.0.opened c.open_wait.ensures.unsplit;
       ended = λ p e. absurd (c.in-Owing.ensures.ended p e);
     }

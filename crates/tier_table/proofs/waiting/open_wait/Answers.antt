@@ -10,29 +10,38 @@ returns-in-Joined g c =
     let told = c.in-Joined.ensures.answer in
     let kept = c.loop.invariant in
     let now = c.loop.opening.token.view.errand in
-    let first = c.args.opening.token.view.errand in (
-      told.0.tree ∙ kept.2,
-      joined_for (asked_tier now) (asked_tier first) (asked_size now) (asked_size first) c.in-Joined.crew.view kept.3 kept.4 told.1,
-      told.2,
-      told.3,
-    )
+    let first = c.args.opening.token.view.errand in
+    record {
+      answer = (
+        told.0.tree ∙ kept.2,
+        joined_for (asked_tier now) (asked_tier first) (asked_size now) (asked_size first) c.in-Joined.crew.view kept.3 kept.4 told.1,
+        told.2,
+        told.3,
+      );
+      unsplit = told.0.opened ∙ kept.5;
+    }
 
 pub returns-in-Full : goal.returns-in-Full
 returns-in-Full g c =
     let told = c.in-Full.ensures.answer in
     let kept = c.loop.invariant in
     let now = c.loop.opening.token.view.errand in
-    let first = c.args.opening.token.view.errand in (
-      told.0.tree ∙ kept.2,
-      refused_for c.args.tiers.now c.loop.opening.token (asked_tier now) (asked_tier first) (asked_size now) (asked_size first) c.in-Full.door.view
-          (played.Full c.in-Full.count) kept.2 kept.3 kept.4 told.1,
-    )
+    let first = c.args.opening.token.view.errand in
+    record {
+      answer = (
+        told.0.tree ∙ kept.2,
+        refused_for c.args.tiers.now c.loop.opening.token (asked_tier now) (asked_tier first) (asked_size now) (asked_size first) c.in-Full.door.view
+            (played.Full c.in-Full.count) kept.2 kept.3 kept.4 told.1,
+      );
+      unsplit = told.0.opened ∙ kept.5;
+    }
 
 pub returns-in-Ended : goal.returns-in-Ended
-returns-in-Ended g c = let told = c.in-Ended.ensures.answer in (told.0.tree ∙ c.loop.invariant.2, (told.1.0, told.1.1, search rules))
+returns-in-Ended g c =
+    let told = c.in-Ended.ensures.answer in record { answer = (told.0.tree ∙ c.loop.invariant.2, (told.1.0, told.1.1, search rules)); unsplit = told.0.opened ∙ c.loop.invariant.5 }
 
 pub returns-in-Held : goal.returns-in-Held
-returns-in-Held g c = c.in-Held.ensures.answer.0.tree ∙ c.loop.invariant.2
+returns-in-Held g c = let told = c.in-Held.ensures.answer in record { answer = told.0.tree ∙ c.loop.invariant.2; unsplit = told.0.opened ∙ c.loop.invariant.5 }
 
 pub open_on-requires : goal.open_on-requires
 open_on-requires g c = record { own = c.loop.invariant.2 }
@@ -40,7 +49,7 @@ open_on-requires g c = record { own = c.loop.invariant.2 }
 pub loop-preserved : goal.loop-preserved
 loop-preserved g c =
     let told = c.in-Owing.ensures.answer in
-    let kept = c.loop.invariant in (tt, tt, told.0.tree ∙ kept.2, told.1.seat ∙ kept.3, told.1.members ∙ kept.4)
+    let kept = c.loop.invariant in (tt, tt, told.0.tree ∙ kept.2, told.1.seat ∙ kept.3, told.1.members ∙ kept.4, told.0.opened ∙ kept.5)
 
 pub loop-preserved-derived : goal.loop-preserved-derived
 loop-preserved-derived g c = (tt, tt)

@@ -13,6 +13,7 @@ loop-preserved g c =
       c.in-Waiting.ensures.tree ∙ kept.2,
       same_then kept.3 (waits_same (let x = kept.3.size in let y = told.1.size in omega arith) told.3 told.1),
       λ p e. absurd (c.in-Waiting.ensures.ended p (kept.4 p e)),
+      told.0.opened ∙ kept.5,
     )
 
 pub returns-in-Passed-clause-answer : goal.returns-in-Passed-clause-answer
@@ -48,3 +49,12 @@ loop-preserved-derived g c = (tt, tt)
 
 pub unreachable-requires : goal.unreachable-requires
 unreachable-requires g c = false≢true c.in-None.ensures.steps
+
+pub returns-in-Passed-clause-unsplit : goal.returns-in-Passed-clause-unsplit
+returns-in-Passed-clause-unsplit g c = c.in-Passed.ensures.answer.0.opened ∙ c.loop.invariant.5
+
+pub returns-in-Here-clause-unsplit : goal.returns-in-Here-clause-unsplit
+returns-in-Here-clause-unsplit g c = c.in-Here.ensures.answer.0.opened ∙ c.loop.invariant.5
+
+pub returns-in-Ended-clause-unsplit : goal.returns-in-Ended-clause-unsplit
+returns-in-Ended-clause-unsplit g c = c.in-Ended.ensures.answer.0.opened ∙ c.loop.invariant.5

@@ -4,13 +4,13 @@ use Rattle.tier_table.proofs.Lasting.{arrives_then, looked_first, looked_then}
 use Rattle.tier_table.proofs.tree.Tree.pass_wait.Goals as goal
 
 pub loop-init : goal.loop-init
-loop-init g c = (tt, tt, refl, looked_first c.args.crew.view, λ p e. e)
+loop-init g c = (tt, tt, refl, looked_first c.args.crew.view, λ p e. e, refl)
 
 pub loop-preserved : goal.loop-preserved
 loop-preserved g c =
     let kept = c.loop.invariant in
     let told = c.in-Err.ensures.answer in
-    (tt, tt, told.0 ∙ kept.2, looked_then c.pass_once.ensures.some kept.3 told.1, λ p e. absurd (c.in-Err.ensures.ended p (kept.4 p e)))
+    (tt, tt, told.0 ∙ kept.2, looked_then c.pass_once.ensures.some kept.3 told.1, λ p e. absurd (c.in-Err.ensures.ended p (kept.4 p e)), c.in-Err.ensures.unsplit ∙ kept.5)
 
 pub returns-in-Ok-clause-answer : goal.returns-in-Ok-clause-answer
 returns-in-Ok-clause-answer g c =
@@ -32,3 +32,6 @@ loop-preserved-derived g c = (tt, tt)
 
 pub unreachable-requires : goal.unreachable-requires
 unreachable-requires g c = false≢true c.in-None.ensures.steps
+
+pub returns-in-Ok-clause-unsplit : goal.returns-in-Ok-clause-unsplit
+returns-in-Ok-clause-unsplit g c = c.in-Ok.ensures.unsplit ∙ c.loop.invariant.5

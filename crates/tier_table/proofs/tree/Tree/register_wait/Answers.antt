@@ -16,12 +16,18 @@ join_once-requires-clause-members g c = c.requires.members
 pub returns-in-Ok : goal.returns-in-Ok
 returns-in-Ok g c = record {
   answer = subst (λ (t : Ruled g.row.F.Denot). RegistersAtLast t.tree c.args.tier c.args.n c.in-Ok.answer) c.self.view_is c.in-Ok.ensures.answer;
+  unsplit = c.in-Ok.ensures.unsplit ∙ c.loop.invariant.4;
   ended = λ p e. c.in-Ok.ensures.ended p (c.loop.invariant.3 p e);
 }
 
 pub loop-preserved : goal.loop-preserved
-loop-preserved g c =
-    (tt, tt, c.in-Err.ensures.answer ∙ ap (λ (t : Ruled g.row.F.Denot). t.tree) c.self.view_is, λ p e. absurd (c.in-Err.ensures.ended p (c.loop.invariant.3 p e)))
+loop-preserved g c = (
+  tt,
+  tt,
+  c.in-Err.ensures.answer ∙ ap (λ (t : Ruled g.row.F.Denot). t.tree) c.self.view_is,
+  λ p e. absurd (c.in-Err.ensures.ended p (c.loop.invariant.3 p e)),
+  c.in-Err.ensures.unsplit ∙ c.loop.invariant.4,
+)
 
 pub loop-preserved-derived : goal.loop-preserved-derived
 loop-preserved-derived g c = (tt, tt)

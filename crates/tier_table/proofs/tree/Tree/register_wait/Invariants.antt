@@ -5,3 +5,4 @@ abbrev pub invariant-loop : goal.invariant-loop
 invariant-loop g l =
     (goal.iterator-loop g).can_next l.iterator' × (goal.iterator-loop g).is_finite l.iterator' × (l.door.tree ≡ l.self.tree)
     × ((phase : ℕ) → l.fn.door.view.end_seen ≡ Some phase → l.door.view.end_seen ≡ Some phase)
+    × (l.door.opened ≡ l.fn.door.opened)

@@ -11,14 +11,14 @@ resume-requires-clause-rule g c = c.requires.rule
 
 pub returns-in-Done : goal.returns-in-Done
 returns-in-Done g c =
-    let told = c.in-Done.ensures in let kept = c.loop.invariant in (told.0.tree ∙ kept.2, same_then kept.3 told.1, told.2, told.3, told.4)
+    let told = c.in-Done.ensures in let kept = c.loop.invariant in record { answer = (told.0.tree ∙ kept.2, same_then kept.3 told.1, told.2, told.3, told.4); unsplit = told.0.opened ∙ kept.4 }
 
 pub returns-in-Left : goal.returns-in-Left
 returns-in-Left g c =
-    let told = c.in-Left.ensures in let kept = c.loop.invariant in (told.0.tree ∙ kept.2, same_then kept.3 told.1, told.2, told.3, told.4)
+    let told = c.in-Left.ensures in let kept = c.loop.invariant in record { answer = (told.0.tree ∙ kept.2, same_then kept.3 told.1, told.2, told.3, told.4); unsplit = told.0.opened ∙ kept.4 }
 
 pub loop-preserved : goal.loop-preserved
-loop-preserved g c = let told = c.in-Owing.ensures in let kept = c.loop.invariant in (tt, tt, told.0.tree ∙ kept.2, same_then kept.3 told.1)
+loop-preserved g c = let told = c.in-Owing.ensures in let kept = c.loop.invariant in (tt, tt, told.0.tree ∙ kept.2, same_then kept.3 told.1, told.0.opened ∙ kept.4)
 
 pub loop-preserved-derived : goal.loop-preserved-derived
 loop-preserved-derived g c = (tt, tt)

@@ -5,4 +5,4 @@ use Rattle.tier_table.proofs.tree.Tree.resume_wait.Given as goal
 abbrev pub invariant-loop : goal.invariant-loop
 invariant-loop g l =
     (goal.iterator-loop g).can_next l.iterator' × (goal.iterator-loop g).is_finite l.iterator' × (l.errand.token.tree ≡ l.fn.errand.token.tree)
-    × IsSame l.fn.errand.token.view l.errand.token.view
+    × IsSame l.fn.errand.token.view l.errand.token.view × (l.errand.token.opened ≡ l.fn.errand.token.opened)
