@@ -122,7 +122,7 @@ impl<J: Running, F: Fn(u32, u32) -> bool> Meeting<J, F> {
     {
         let fresh = self.tree.split(&mut key.door);
         match self.register(rt, fresh, self.leaves.tier(number)) {
-            Entry::In(crew) => Ok(Seat::new(path, number, crew)),
+            Entry::In(crew) => Ok(Seat::new(path, crew)),
             Entry::Off(_) | Entry::Over => Err(Note::Internal),
         }
     }
@@ -132,7 +132,6 @@ impl<J: Running, F: Fn(u32, u32) -> bool> Meeting<J, F> {
         &self,
         rt: &R,
         crew: &mut Crew,
-        place: usize,
         path: Path,
     ) -> Result<Seat<J>, Note>
         requires own { crew.old.tree ≡ J.tree }
@@ -143,10 +142,10 @@ impl<J: Running, F: Fn(u32, u32) -> bool> Meeting<J, F> {
         let fresh = self.tree.split_crew(crew);
         let tier = self.leaves.preferred(crew.tier(), path.as_slice());
         match self.register(rt, fresh, tier) {
-            Entry::In(kid) => Ok(Seat::new(path, place, kid)),
+            Entry::In(kid) => Ok(Seat::new(path, kid)),
             Entry::Off(door) => {
                 let kid = self.join_here(rt, crew, door)?;
-                Ok(Seat::new(path, place, kid))
+                Ok(Seat::new(path, kid))
             }
             Entry::Over => Err(Note::Internal),
         }
