@@ -1,5 +1,5 @@
 -- How a stretch is taken back, and how a superstep of stretches is closed (own).
-use Rattle.std.specs.Prelude.{◌≡◌, ℕ, List, Bool, true, false, not, Option, Some, None, slice_get, slice_set}
+use Rattle.std.specs.Prelude.{◌≡◌, ℕ, List, [], Bool, true, false, not, Option, Some, None, slice_get, slice_set}
 use Rattle.step_stretches.specs.declared.fault.Unwanted.{Unwanted}
 use Rattle.step_stretches.specs.declared.fault.Unwanted.TheVariants as unwanted
 use Rattle.step_stretches.specs.declared.fault.Unclosed.{Unclosed}
@@ -50,6 +50,12 @@ abbrev pub ready_at : Option (Option PartValue) → Bool
 ready_at None = false
 ready_at (Some None) = false
 ready_at (Some (Some part)) = not (is_finished part)
+
+-- the tasks of one that is there
+abbrev pub tasks_at : Option (Option PartValue) → List TaskValue
+tasks_at None = []
+tasks_at (Some None) = []
+tasks_at (Some (Some part)) = part.tasks
 
 -- the stretch of this number was there, is lent, and is of this job and step
 pub record IsLent (old new : StretchesValue) (k : ℕ) (s : StretchValue) : Type 0 where

@@ -94,7 +94,7 @@ fn blame_again(blame: &Blame) -> Blame
 }
 
 impl<'j> Part<'j> {
-    ghost use Rattle.std.specs.Prelude.{◌≡◌, ◌≤◌, ◌<◌, ◌+◌, ◌^◌, ◌++◌, ◌↔◌, IsTrue, IfOk, OnOk, OnErr, length, map, slice_get};
+    ghost use Rattle.std.specs.Prelude.{◌≡◌, ◌≤◌, ◌<◌, ◌+◌, ◌^◌, ◌++◌, ◌↔◌, IsTrue, IfOk, OnOk, OnErr, is_some, length, map, slice_get};
     ghost use Rattle.std.specs.Option.{option_map};
     ghost use Rattle.std.specs.Vec.{vec_len, vec_capacity};
     ghost use Rattle.step_parts.specs.Program.{program_of};
@@ -227,6 +227,13 @@ impl<'j> Part<'j> {
             Some(blame) => Some(blame_again(blame)),
             None => None,
         }
+    }
+
+    /// Whether one of its tasks has faulted.
+    pub(crate) fn has_faulted(&self) -> bool
+        ensures { result ≡ is_some self.now.fault }
+    {
+        self.fault.is_some()
     }
 
     /// How many values it printed.

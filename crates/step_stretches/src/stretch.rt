@@ -31,7 +31,7 @@ impl<'j> Model for Stretch<'j> {
 }
 
 impl<'j> Stretch<'j> {
-    ghost use Rattle.std.specs.Prelude.{◌≡◌, ◌<◌, ◌↔◌, IsTrue, IfOk, OnOk, OnErr, length, map, slice_get};
+    ghost use Rattle.std.specs.Prelude.{◌≡◌, ◌<◌, ◌↔◌, IsTrue, IfOk, OnOk, OnErr, is_some, length, map, slice_get};
     ghost use Rattle.std.specs.Arc.{arc_value};
     ghost use Rattle.std.specs.Option.{option_map};
     ghost use Rattle.step_parts.specs.Program.{program_of};
@@ -97,6 +97,13 @@ impl<'j> Stretch<'j> {
         ensures number { self.new.number ≡ self.old.number }
     {
         self.part.do_next(alloc, &self.arrays)
+    }
+
+    /// Whether one of its tasks has faulted.
+    pub fn has_faulted(&self) -> bool
+        ensures { result ≡ is_some self.now.part.fault }
+    {
+        self.part.has_faulted()
     }
 
     /// Whether the same tasks live on, as far as segments were run.

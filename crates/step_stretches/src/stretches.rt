@@ -67,7 +67,7 @@ impl<'j> Stretches<'j> {
     ghost use Rattle.step_deeds.specs.InPlace.{told_in};
     ghost use Rattle.step_stretches.specs.Parts.{IsPart, fault_in, deeds_in};
     ghost use Rattle.step_stretches.specs.StretchesValue.{before, state_of, status_in, is_whole, with_fault, IsCourse};
-    ghost use Rattle.step_stretches.specs.Closing.{with_slot, ready_at, IsLent, Refuses, Takes, NotClosed, IsAt, IsLeft, IsClosed};
+    ghost use Rattle.step_stretches.specs.Closing.{with_slot, ready_at, tasks_at, IsLent, Refuses, Takes, NotClosed, IsAt, IsLeft, IsClosed};
 
     /// The stretches of this job, with this limit of supersteps, before the first of them. Whenever tasks come or leave, the
     /// live ones are cut into about so many.
@@ -138,6 +138,23 @@ impl<'j> Stretches<'j> {
         ensures { result ≡ length self.now.parts }
     {
         self.parts.len()
+    }
+
+    /// How many tasks live. It takes no memory.
+    pub fn count(&self) -> usize
+        ensures { result ≡ length (before self.now).live }
+    {
+        self.count
+    }
+
+    /// How many tasks the stretch of this number has; none where it is lent. It takes no memory.
+    pub fn length(&self, number: usize) -> usize
+        ensures { result ≡ length (tasks_at (slice_get self.now.parts number)) }
+    {
+        match self.parts.get(number) {
+            Some(Some(part)) => part.len(),
+            Some(None) | None => 0,
+        }
     }
 
     /// Whether the stretch of this number isn't lent, and its tasks have not done their segments. It takes no memory.

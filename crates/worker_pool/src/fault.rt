@@ -3,7 +3,7 @@ ghost use Rattle.std.specs.Prelude.{◌≡◌, ℕ};
 ghost use Rattle.worker_pool.specs.Refusals.{IsOfWorkers, refusal_number, refusal_of};
 
 use std::alloc::AllocError;
-use step_core::{AcceptFault, CloseFault};
+use step_stretches::{Unclosed, Unwanted};
 use thiserror::Error;
 
 /// Why a run gives no report (own). All workers that were started have been joined.
@@ -67,17 +67,19 @@ impl From<AllocError> for Note {
     }
 }
 
-/// What a worker notes whose delivery the round refuses: each order is given to one worker, who delivers it once.
-pub(crate) fn note_of_delivery(fault: AcceptFault) -> Note {
+/// What a worker notes whose stretch isn't taken back: each is lent to one worker, who delivers it once, done.
+pub(crate) fn note_of_delivery(fault: Unwanted) -> Note {
     match fault {
-        AcceptFault::WrongStep | AcceptFault::Stranger | AcceptFault::Double => Note::Internal,
+        Unwanted::WrongStep | Unwanted::Unfinished | Unwanted::Stranger | Unwanted::Double => {
+            Note::Internal
+        }
     }
 }
 
-/// What a worker notes that can't close the round: where all have arrived each task has its delivery.
-pub(crate) fn note_of_closing(fault: CloseFault) -> Note {
+/// What a worker notes that can't close a superstep: where all have arrived each stretch is back.
+pub(crate) fn note_of_closing(fault: Unclosed) -> Note {
     match fault {
-        CloseFault::Missing(_) => Note::Internal,
-        CloseFault::Memory(_) => Note::Memory,
+        Unclosed::Missing => Note::Internal,
+        Unclosed::Memory(_) => Note::Memory,
     }
 }

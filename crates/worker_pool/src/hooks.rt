@@ -3,8 +3,13 @@ use std::sync::Wait;
 use superstep_memory::path::Path;
 
 /// What is called round the segment of each task, by the worker that runs it and with no lock held. A worker calls
-/// `leave` of one task before it calls `enter` of another (own).
+/// `leave` of one task before it calls `enter` of another, and has no other task meanwhile (own).
 pub trait Gate {
+    /// Whether it lets each segment pass at once. Then it isn't called, and a worker has several tasks at a time.
+    fn is_open(&self) -> bool {
+        false
+    }
+
     /// Called before the segment of the task of this path in this superstep, counted from 0.
     fn enter<R: Wait>(&self, rt: &R, path: &Path, step: u32);
 
@@ -17,6 +22,10 @@ pub trait Gate {
 pub struct OpenGate;
 
 impl Gate for OpenGate {
+    fn is_open(&self) -> bool {
+        true
+    }
+
     fn enter<R: Wait>(&self, _rt: &R, _path: &Path, _step: u32) {}
 
     fn leave<R: Wait>(&self, _rt: &R, _path: &Path, _step: u32) {}

@@ -6,6 +6,7 @@ mod fault;
 mod hand;
 mod hooks;
 mod leaves;
+mod rows;
 mod run;
 mod seat;
 mod shop;

@@ -15,7 +15,8 @@ use crate::board::{Board, Running};
 use crate::fault::{Note, Refused};
 use crate::hooks::{Gate, Starter};
 use crate::leaves::{Leaves, leaves_in};
-use crate::seat::{Key, Seat};
+use crate::rows::rows_of;
+use crate::seat::{Key, Row, Seat};
 use crate::shop::Shop;
 use crate::start::start_all;
 use crate::tree::Meeting;
@@ -26,13 +27,22 @@ use std::alloc::{AllocError, Global};
 use std::collections::VecDeque;
 use std::marker::Brand;
 use std::sync::{Condvar, Mutex, Wait};
+use std::thread;
 use std::thread::Threads;
-use step_core::Round;
+use std::sync::atomic::AtomicU64;
+use smallvec::SmallVec;
+use step_stretches::Stretches;
 use superstep_memory::path::Path;
 use task_lang::job::Job;
 use tier_shape::Shape;
 use tier_table::tokens::Door;
 use tier_table::tree::Tree;
+
+// About how many stretches there are for each worker.
+const PIECES_EACH: usize = 8;
+
+// How often a worker looks for a ready stretch before it sleeps: for some 100 microseconds.
+const MOST_LOOKS: u32 = 2000;
 
 // The action of the meeting: none, and it never fails.
 fn meet(_generation: u64) -> bool
@@ -59,42 +69,61 @@ fn seat_one<J: Running, R: Wait, F: Fn(u32, u32) -> bool>(
     }
 }
 
-// Registers the start tasks, one leaf after another, before any worker is started. `seats` has been empty.
+// Registers the start tasks, one leaf after another, before any worker is started. `seats` has been empty. The path of a
+// start task is the number of its start line.
 fn seat_all<J: Running, R: Wait, F: Fn(u32, u32) -> bool>(
     rt: &R,
     alloc: Global,
     meeting: &Meeting<J, F>,
     key: &mut Key<J>,
-    round: &Round<'_>,
+    stretches: &Stretches<'_>,
     seats: &mut Vec<Seat<J>>,
 ) -> Result<(), Note> {
-    let paths = round.live(alloc)?;
-    seats.reserve(paths.len())?;
-    for path in paths {
+    for number in 0..stretches.count() {
+        let Ok(own) = u16::try_from(number) else {
+            return Err(Note::Internal);
+        };
+        let path = SmallVec::from_slice(alloc, &[own])?;
         seat_one(rt, meeting, key, path, seats)?;
     }
     Ok(())
 }
 
-// What the workers of this round share, with its tasks seated so at this tree.
+// Registers the start tasks, and puts their seats in the rows of their stretches.
+fn seated<J: Running, R: Wait, F: Fn(u32, u32) -> bool>(
+    rt: &R,
+    alloc: Global,
+    meeting: &Meeting<J, F>,
+    key: &mut Key<J>,
+    stretches: &Stretches<'_>,
+) -> Result<VecDeque<Row<J>>, Note> {
+    let mut seats = Vec::new(alloc);
+    seat_all(rt, alloc, meeting, key, stretches, &mut seats)?;
+    rows_of(stretches, &mut seats)
+}
+
+// What the workers of these stretches share, whose tasks are seated so at this tree.
 fn shop_of<'j, J: Running, F: Fn(u32, u32) -> bool>(
     alloc: Global,
-    round: Round<'j>,
+    stretches: Stretches<'j>,
     meeting: Meeting<J, F>,
-    seats: Vec<Seat<J>>,
+    rows: VecDeque<Row<J>>,
+    looks: u32,
 ) -> Shop<'j, J, F>
-    requires job { round.job ≡ J.job }
-    requires limit { round.limit ≡ J.limit }
+    requires job { stretches.job ≡ J.job }
+    requires limit { stretches.limit ≡ J.limit }
     ensures { result.meeting ≡ meeting }
 {
     Shop {
-        board: Mutex::new(Board::new(alloc, round, VecDeque::from_vec(seats))),
+        board: Mutex::new(Board::new(alloc, stretches, rows)),
         changed: Condvar::new(),
+        rings: AtomicU64::new(0),
+        looks,
         meeting,
     }
 }
 
-// Seats the tasks of this round, lets the workers work, who meet at the gate of the start first, and concludes when all
+// Seats the tasks of these stretches, lets the workers work, who meet at the gate of the start first, and concludes when all
 // have gone.
 fn run_at<
     'j,
@@ -107,7 +136,7 @@ fn run_at<
 >(
     rt: &R,
     alloc: Global,
-    round: Round<'j>,
+    stretches: Stretches<'j>,
     meeting: Meeting<J, F>,
     door: Door,
     start: &Result<CyclicGate<A>, BarrierFault>,
@@ -115,8 +144,8 @@ fn run_at<
     gate: &G,
     starter: &S,
 ) -> Result<Report, Refused>
-    requires job { round.job ≡ J.job }
-    requires limit { round.limit ≡ J.limit }
+    requires job { stretches.job ≡ J.job }
+    requires limit { stretches.limit ≡ J.limit }
     requires workers { workers ≡ J.workers }
     requires tree { door.tree ≡ J.tree }
     requires rule { Answers (F.pre meeting.tree.rule.closure) (F.post meeting.tree.rule.closure) (end_ends_at meeting.tree.rule.plan) }
@@ -125,11 +154,13 @@ fn run_at<
     ensures started { IfErr result (IsOfWorkers workers) }
 {
     let mut key = Key::new(door);
-    let mut seats = Vec::new(alloc);
-    let seated = seat_all(rt, alloc, &meeting, &mut key, &round, &mut seats);
-    let shop = shop_of(alloc, round, meeting, seats);
+    let (rows, fault) = match seated(rt, alloc, &meeting, &mut key, &stretches) {
+        Ok(rows) => (rows, None),
+        Err(note) => (VecDeque::new(alloc), Some(note)),
+    };
+    let shop = shop_of(alloc, stretches, meeting, rows, looks_of(rt, workers));
     start_seated(
-        rt, alloc, &shop, &mut key, gate, start, starter, workers, seated,
+        rt, alloc, &shop, &mut key, gate, start, starter, workers, fault,
     );
     shop.conclude(alloc)
 }
@@ -152,13 +183,13 @@ fn start_seated<
     start: &Result<CyclicGate<A>, BarrierFault>,
     starter: &S,
     workers: u32,
-    seated: Result<(), Note>,
+    fault: Option<Note>,
 )
     requires workers { workers ≡ J.workers }
     requires rule { Answers (F.pre shop.now.meeting.tree.rule.closure) (F.post shop.now.meeting.tree.rule.closure) (end_ends_at shop.now.meeting.tree.rule.plan) }
     requires action { IfOk start.now (λ start. AnswersAction (A.pre start.action.closure) (A.post start.action.closure) start.action.plan) }
 {
-    if let Err(note) = seated {
+    if let Some(note) = fault {
         shop.board.lock(rt).note(note);
         return;
     }
@@ -169,7 +200,7 @@ fn start_seated<
     }
 }
 
-// Runs the job of this round at this tree.
+// Runs the job of these stretches at this tree.
 fn run_shared<
     'j,
     J: Running + Send + Sync,
@@ -180,7 +211,7 @@ fn run_shared<
 >(
     rt: &R,
     alloc: Global,
-    round: Round<'j>,
+    stretches: Stretches<'j>,
     tree: Tree<F>,
     door: Door,
     leaves: Vec<u16>,
@@ -188,8 +219,8 @@ fn run_shared<
     gate: &G,
     starter: &S,
 ) -> Result<Report, Refused>
-    requires job { round.job ≡ J.job }
-    requires limit { round.limit ≡ J.limit }
+    requires job { stretches.job ≡ J.job }
+    requires limit { stretches.limit ≡ J.limit }
     requires workers { workers ≡ J.workers }
     requires tree { (tree.tree ≡ J.tree) × (door.tree ≡ J.tree) }
     requires leaves { (leaves.items ≡ leaves_of J.tree.key.shape) × (0 < length leaves.items) }
@@ -201,7 +232,7 @@ fn run_shared<
     let action = StoredAction::new(meet, None);
     let start = CyclicGate::new(alloc, i64::from(workers), action);
     run_at(
-        rt, alloc, round, meeting, door, &start, workers, gate, starter,
+        rt, alloc, stretches, meeting, door, &start, workers, gate, starter,
     )
 }
 
@@ -248,29 +279,31 @@ pub fn run_job<
     ensures report { IfOk result (λ report. report_of (program_of job.now) (limit_of advance.plan) ≡ Some report) }
     ensures started { IfErr result (IsOfWorkers workers) }
 {
-    match opened(alloc, job, shape, advance) {
-        Ok((round, tree, door, leaves)) => run_shared::<Brand, R, F, G, S>(
-            rt, alloc, round, tree, door, leaves, workers, gate, starter,
+    match opened(alloc, job, shape, advance, pieces_of(gate, workers)) {
+        Ok((stretches, tree, door, leaves)) => run_shared::<Brand, R, F, G, S>(
+            rt, alloc, stretches, tree, door, leaves, workers, gate, starter,
         ),
         Err(_) => Err(Refused::Memory),
     }
 }
 
-// The round of a job, with the tree at which workers meet, its first token, and its leaves.
+// The stretches of a job, with the tree at which workers meet, its first token, and its leaves.
 fn opened<'j, F: Fn(u32, u32) -> bool + Drop>(
     alloc: Global,
     job: &'j Job,
     shape: Shape,
     advance: StoredAdvance<F>,
-) -> Result<(Round<'j>, Tree<F>, Door, Vec<u16>), AllocError>
-    requires { IsJobPlan advance.plan }
-    ensures round { IfOk result (λ all. (all.0.job ≡ job.now) × (all.0.limit ≡ limit_of advance.plan)) }
+    pieces: usize,
+) -> Result<(Stretches<'j>, Tree<F>, Door, Vec<u16>), AllocError>
+    requires plan { IsJobPlan advance.plan }
+    requires pieces { 1 ≤ pieces }
+    ensures stretches { IfOk result (λ all. (all.0.job ≡ job.now) × (all.0.limit ≡ limit_of advance.plan)) }
     ensures tree { IfOk result (λ all. IsNew shape 0 advance all.1 all.2) }
     ensures leaves { IfOk result (λ all. (all.3.items ≡ leaves_of shape) × (0 < length all.3.items)) }
 {
-    let round = Round::new(alloc, job, limit_in(advance.plan()))?;
+    let stretches = Stretches::new(alloc, job, limit_in(advance.plan()), pieces)?;
     let (tree, door, leaves) = tree_of(alloc, shape, advance)?;
-    Ok((round, tree, door, leaves))
+    Ok((stretches, tree, door, leaves))
 }
 
 // A tree of this shape, its first token, and its leaves.
@@ -285,6 +318,26 @@ fn tree_of<F: Fn(u32, u32) -> bool + Drop>(
     let leaves = leaves_in(alloc, &shape)?;
     let (tree, door) = Tree::new(alloc, shape, 0, advance)?;
     Ok((tree, door, leaves))
+}
+
+// About how many stretches the live tasks are cut into: a task each, where a gate wants to be told of it.
+fn pieces_of<G: Gate>(gate: &G, workers: u32) -> usize
+    requires { 1 ≤ workers }
+    ensures { 1 ≤ result }
+{
+    if gate.is_open() {
+        workers as usize * PIECES_EACH
+    } else {
+        usize::MAX
+    }
+}
+
+// How often a worker looks for a ready stretch before it sleeps: not at all where there are more workers than processors.
+fn looks_of<R: Threads>(rt: &R, workers: u32) -> u32 {
+    match thread::available_parallelism(rt) {
+        Ok(count) if workers as usize <= count.get() => MOST_LOOKS,
+        Ok(_) | Err(_) => 0,
+    }
 }
 
 // The limit of supersteps that a plan stands for.

@@ -2,34 +2,40 @@
 ghost use Rattle.std.specs.Prelude.{◌≡◌};
 
 use crate::board::Running;
+use std::collections::VecDeque;
 use std::marker::PhantomData;
 use superstep_memory::path::Path;
 use tier_table::tokens::{Crew, Door};
 
-/// A task between two segments, as workers hand it on: its path, its place among the live tasks when it was last taken, and
-/// the crew whose one member arrives for it at its tier. Its type keeps that the crew is of the tree of the run.
+/// A live task on the tree, as workers hand it on: its path, and the crew whose one member arrives for it at its tier. Its
+/// type keeps that the crew is of the tree of the run.
 #[derive(Drop)]
 pub(crate) struct Seat<J: Running> {
     pub(crate) path: Path,
-    pub(crate) place: usize,
     pub(crate) crew: Crew,
     pub(crate) of: PhantomData<J>,
     ghost own: { crew.tree ≡ J.tree },
 }
 
 impl<J: Running> Seat<J> {
-    /// A task with this crew, expected at this place of the live tasks.
-    pub(crate) fn new(path: Path, place: usize, crew: Crew) -> Self
+    /// A task with this crew.
+    pub(crate) fn new(path: Path, crew: Crew) -> Self
         requires { crew.tree ≡ J.tree }
         ensures { result.crew ≡ crew }
     {
         Seat {
             path,
-            place,
             crew,
             of: PhantomData,
         }
     }
+}
+
+/// The seats of the tasks of a stretch, in their order, and the number of the stretch.
+#[derive(Drop)]
+pub(crate) struct Row<J: Running> {
+    pub(crate) number: usize,
+    pub(crate) seats: VecDeque<Seat<J>>,
 }
 
 /// A worker's own token, by which it ends the tree where it must. Its type keeps that it is of the tree of the run.

@@ -1,21 +1,28 @@
 //! What the workers of a run share.
 use crate::board::{Board, Next, Running, Turned};
 use crate::fault::{Note, Refused};
-use crate::hand::{Hand, Passing};
-use crate::seat::{Key, Seat};
+use crate::hand::{Lent, Turnout};
+use crate::seat::{Key, Row, Seat};
 use crate::tree::Meeting;
 use phase_records::Report;
 use std::alloc::Global;
 use std::collections::VecDeque;
-use std::sync::{Condvar, Mutex, Wait};
+use std::hint::spin_loop;
+use std::sync::atomic::{AtomicU64, Ordering};
+use std::sync::{Condvar, Mutex, MutexGuard, Wait};
+use step_stretches::Turn;
 use superstep_memory::path::Path;
 
 /// The board under a lock, and the tree without one: no call of the tree is made while the lock is held. Who waits for a
-/// ready task sleeps until the board has changed.
+/// ready stretch looks for a while whether the board has changed, and then sleeps until it has.
 #[derive(Drop)]
 pub(crate) struct Shop<'j, J: Running, F: Fn(u32, u32) -> bool> {
     pub(crate) board: Mutex<Board<'j, J>>,
     pub(crate) changed: Condvar,
+    // How often stretches became ready or workers were sent home, wrapping.
+    pub(crate) rings: AtomicU64,
+    // How often a worker looks at that before it sleeps.
+    pub(crate) looks: u32,
     pub(crate) meeting: Meeting<J, F>,
 }
 
@@ -27,20 +34,50 @@ impl<'j, J: Running, F: Fn(u32, u32) -> bool> Shop<'j, J, F> {
     ghost use Rattle.step_core.specs.JobMeaning.{report_of};
     ghost use Rattle.worker_pool.specs.Refusals.{IsOfWorkers};
 
-    /// Delivers what the last segment did, and takes the next task. A worker with an empty hand waits for one; with a full
-    /// hand, or where none is ready, it passes its hand on.
-    pub(crate) fn next<R: Wait>(
+    /// What a worker does next. It waits for a ready stretch.
+    pub(crate) fn next<R: Wait>(&self, rt: &R) -> Result<Next<'j, J>, Note> {
+        let board = self.board.lock(rt);
+        let board = if board.is_idle() {
+            self.look_out(rt, board)
+        } else {
+            board
+        };
+        let mut board = self.changed.wait_while(rt, board, |board| board.is_idle());
+        board.next()
+    }
+
+    // Looks for a while whether the board has changed, without the lock.
+    fn look_out<'a, R: Wait>(
+        &'a self,
+        rt: &R,
+        board: MutexGuard<'a, Board<'j, J>>,
+    ) -> MutexGuard<'a, Board<'j, J>> {
+        let seen = self.rings.load(Ordering::SeqCst);
+        drop(board);
+        for _ in 0..self.looks {
+            if self.rings.load(Ordering::SeqCst) != seen {
+                break;
+            }
+            spin_loop();
+        }
+        self.board.lock(rt)
+    }
+
+    // Wakes all who wait for the board to change.
+    fn ring(&self) {
+        self.rings.fetch_add(1, Ordering::SeqCst);
+        self.changed.notify_all();
+    }
+
+    /// Delivers a stretch whose segments were run.
+    pub(crate) fn deliver<R: Wait>(
         &self,
         rt: &R,
-        hand: &mut Hand<'j, J>,
-    ) -> Result<Next<'j, J>, Note> {
-        let mut board = self.board.lock(rt);
-        let taken = board.take_in(&mut hand.made);
-        let waits = taken.is_ok() && hand.passing.is_empty();
-        let mut board = self
-            .changed
-            .wait_while(rt, board, |board| waits && board.is_idle());
-        board.next(taken, hand.is_full())
+        lent: Lent<'j, J>,
+        turnout: &Turnout,
+    ) -> Result<(), Note> {
+        let stay = matches!(turnout, Turnout::Same);
+        self.board.lock(rt).deliver(lent, stay)
     }
 
     // Lets a task arrive that lives on. Whether it took the advance.
@@ -74,7 +111,7 @@ impl<'j, J: Running, F: Fn(u32, u32) -> bool> Shop<'j, J, F> {
     {
         let kid = self
             .meeting
-            .register_spawned(rt, &mut seat.crew, seat.place, path)?;
+            .register_spawned(rt, &mut seat.crew, path)?;
         self.arrive(rt, kid, passed)?;
         Ok(())
     }
@@ -100,63 +137,113 @@ impl<'j, J: Running, F: Fn(u32, u32) -> bool> Shop<'j, J, F> {
         Ok(())
     }
 
+    // Lets a task leave. Whether it took the advance.
+    fn leave<R: Wait>(&self, rt: &R, seat: Seat<J>) -> Result<bool, Note>
+        requires rule { Answers (F.pre self.now.meeting.tree.rule.closure) (F.post self.now.meeting.tree.rule.closure) (end_ends_at self.now.meeting.tree.rule.plan) }
+    {
+        let Seat {
+            path: _,
+            crew,
+            of: _,
+        } = seat;
+        self.meeting.leave(rt, crew)
+    }
+
     // Passes a task through the tree. Whether it took the advance.
     fn pass<R: Wait>(
         &self,
         rt: &R,
-        task: Passing<J>,
+        seat: Seat<J>,
+        turn: Turn,
         passed: &mut VecDeque<Seat<J>>,
     ) -> Result<bool, Note>
         requires rule { Answers (F.pre self.now.meeting.tree.rule.closure) (F.post self.now.meeting.tree.rule.closure) (end_ends_at self.now.meeting.tree.rule.plan) }
     {
-        let Passing {
-            mut seat,
-            spawned,
-            synced,
-        } = task;
+        let Turn { synced, spawned } = turn;
+        let mut seat = seat;
         self.bring_in(rt, &mut seat, spawned, passed)?;
         if !synced {
-            return self.meeting.leave(rt, seat.crew);
+            return self.leave(rt, seat);
         }
         passed.reserve(1)?;
         self.arrive(rt, seat, passed)
     }
 
-    // Passes the tasks of a hand through the tree. Whether one of them took the advance.
-    fn pass_each<R: Wait>(&self, rt: &R, hand: &mut Hand<'j, J>) -> Result<bool, Note>
+    // Lets each task of a row arrive, which all live on. Whether one of them took the advance.
+    fn arrive_each<R: Wait>(&self, rt: &R, seats: &mut VecDeque<Seat<J>>) -> Result<bool, Note>
         requires rule { Answers (F.pre self.now.meeting.tree.rule.closure) (F.post self.now.meeting.tree.rule.closure) (end_ends_at self.now.meeting.tree.rule.plan) }
     {
         let mut led = false;
-        while let Some(task) = hand.passing.pop_front() {
-            if self.pass(rt, task, &mut hand.passed)? {
-                led = true;
+        for _ in 0..seats.len() {
+            if let Some(seat) = seats.pop_front() {
+                led = self.arrive(rt, seat, seats)? || led;
             }
         }
         Ok(led)
     }
 
-    /// Passes the tasks of a hand through the tree: those that they have spawned join and arrive, then they arrive or
-    /// leave. Then the seats of those that live on are handed back, and where the last of them took the advance the round is
-    /// closed.
+    // Passes each task of a row through the tree, by what it did to the list of tasks; behind a fault it leaves. Whether one of
+    // them took the advance.
+    fn pass_each<R: Wait>(
+        &self,
+        rt: &R,
+        seats: &mut VecDeque<Seat<J>>,
+        turns: Vec<Turn>,
+    ) -> Result<bool, Note>
+        requires rule { Answers (F.pre self.now.meeting.tree.rule.closure) (F.post self.now.meeting.tree.rule.closure) (end_ends_at self.now.meeting.tree.rule.plan) }
+    {
+        let mut led = false;
+        let mut turns = VecDeque::from_vec(turns);
+        for _ in 0..seats.len() {
+            let Some(seat) = seats.pop_front() else {
+                return Err(Note::Internal);
+            };
+            let one_led = match turns.pop_front() {
+                Some(turn) => self.pass(rt, seat, turn, seats)?,
+                None => self.leave(rt, seat)?,
+            };
+            led = one_led || led;
+        }
+        Ok(led)
+    }
+
+    // Passes the tasks of a row through the tree. Whether one of them took the advance.
+    fn pass_row<R: Wait>(
+        &self,
+        rt: &R,
+        seats: &mut VecDeque<Seat<J>>,
+        turnout: Turnout,
+    ) -> Result<bool, Note>
+        requires rule { Answers (F.pre self.now.meeting.tree.rule.closure) (F.post self.now.meeting.tree.rule.closure) (end_ends_at self.now.meeting.tree.rule.plan) }
+    {
+        match turnout {
+            Turnout::Same => self.arrive_each(rt, seats),
+            Turnout::Each(turns) => self.pass_each(rt, seats, turns),
+        }
+    }
+
+    /// Passes the tasks of a stretch that was delivered through the tree: those that they have spawned join and arrive, then
+    /// they arrive or leave. Then the seats of those that live on are handed back, and where the last of them took the advance
+    /// the superstep is closed.
     pub(crate) fn pass_all<R: Wait>(
         &self,
         rt: &R,
         alloc: Global,
         key: &mut Key<J>,
-        hand: &mut Hand<'j, J>,
+        step: u32,
+        row: Row<J>,
+        turnout: Turnout,
     ) -> Result<(), Note>
         requires rule { Answers (F.pre self.now.meeting.tree.rule.closure) (F.post self.now.meeting.tree.rule.closure) (end_ends_at self.now.meeting.tree.rule.plan) }
     {
-        let led = self.pass_each(rt, hand)?;
-        let turned = self
-            .board
-            .lock(rt)
-            .turn(alloc, hand.step, &mut hand.passed, led)?;
+        let mut row = row;
+        let led = self.pass_row(rt, &mut row.seats, turnout)?;
+        let turned = self.board.lock(rt).turn(alloc, step, row, led)?;
         match turned {
             Turned::Goes => {}
-            Turned::Opened => self.changed.notify_all(),
+            Turned::Opened => self.ring(),
             Turned::Ended => {
-                self.changed.notify_all();
+                self.ring();
                 self.meeting.force(rt, key);
             }
         }
@@ -166,7 +253,7 @@ impl<'j, J: Running, F: Fn(u32, u32) -> bool> Shop<'j, J, F> {
     /// Notes why a worker can't go on, and sends all home.
     pub(crate) fn give_up<R: Wait>(&self, rt: &R, key: &mut Key<J>, note: Note) {
         self.board.lock(rt).note(note);
-        self.changed.notify_all();
+        self.ring();
         self.meeting.force(rt, key);
     }
 
@@ -178,6 +265,8 @@ impl<'j, J: Running, F: Fn(u32, u32) -> bool> Shop<'j, J, F> {
         let Shop {
             board,
             changed: _,
+            rings: _,
+            looks: _,
             meeting: _,
         } = self;
         board.into_inner().conclude(alloc)

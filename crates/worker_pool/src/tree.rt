@@ -123,7 +123,7 @@ impl<J: Running, F: Fn(u32, u32) -> bool> Meeting<J, F> {
     {
         let fresh = self.tree.split(&mut key.door);
         match self.register(rt, fresh, self.leaves.tier(number)) {
-            Entry::In(crew) => Ok(Seat::new(path, number, crew)),
+            Entry::In(crew) => Ok(Seat::new(path, crew)),
             Entry::Off(_) | Entry::Over => Err(Note::Internal),
         }
     }
@@ -133,7 +133,6 @@ impl<J: Running, F: Fn(u32, u32) -> bool> Meeting<J, F> {
         &self,
         rt: &R,
         crew: &mut Crew,
-        place: usize,
         path: Path,
     ) -> Result<Seat<J>, Note>
         requires own { crew.old.tree ≡ J.tree }
@@ -144,10 +143,10 @@ impl<J: Running, F: Fn(u32, u32) -> bool> Meeting<J, F> {
         let fresh = self.tree.split_crew(crew);
         let tier = self.leaves.preferred(crew.tier(), path.as_slice());
         match self.register(rt, fresh, tier) {
-            Entry::In(kid) => Ok(Seat::new(path, place, kid)),
+            Entry::In(kid) => Ok(Seat::new(path, kid)),
             Entry::Off(door) => {
                 let kid = self.join_here(rt, crew, door)?;
-                Ok(Seat::new(path, place, kid))
+                Ok(Seat::new(path, kid))
             }
             Entry::Over => Err(Note::Internal),
         }

@@ -4,4 +4,4 @@ use Rattle.worker_pool.proofs.board.report_by.Goals as goal
 
 pub returns-in-Ok-Some-clause-report : goal.returns-in-Ok-Some-clause-report
 returns-in-Ok-Some-clause-report c =
-    reported c.args.round c.in-Ok-Some.report c.has_ended.ensures.round (sym c.in-Ok-Some.field-0-is ∙ c.in-Ok-Some.ensures)
+    reported c.args.stretches c.in-Ok-Some.report c.has_ended.ensures.course (sym c.in-Ok-Some.field-0-is ∙ c.in-Ok-Some.ensures)
