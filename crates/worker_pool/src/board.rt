@@ -268,7 +268,9 @@ impl<'j, J: Running> Board<'j, J> {
         ensures started { IfErr result (IsOfWorkers J.workers) }
     {
         let Board {
-            stretches, first, ..
+            stretches,
+            first,
+            ..
         } = self;
         match first {
             Some(refused) => Err(refused),

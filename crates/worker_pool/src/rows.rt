@@ -18,10 +18,7 @@ fn by_path<J: Running>(one: &Seat<J>, other: &Seat<J>) -> Ordering {
 }
 
 // Puts a seat behind others.
-fn push_seat<J: Running>(
-    seats: &mut Vec<Seat<J>>,
-    seat: Seat<J>,
-) -> Result<(), AllocError> {
+fn push_seat<J: Running>(seats: &mut Vec<Seat<J>>, seat: Seat<J>) -> Result<(), AllocError> {
     match seats.push(seat) {
         Ok(()) => Ok(()),
         Err(_) => Err(AllocError),

@@ -109,9 +109,7 @@ impl<'j, J: Running, F: Fn(u32, u32) -> bool> Shop<'j, J, F> {
         requires unarrived { seat.old.crew.view.arrived < seat.old.crew.view.size }
         ensures same { seat.new.crew.view.arrived < seat.new.crew.view.size }
     {
-        let kid = self
-            .meeting
-            .register_spawned(rt, &mut seat.crew, path)?;
+        let kid = self.meeting.register_spawned(rt, &mut seat.crew, path)?;
         self.arrive(rt, kid, passed)?;
         Ok(())
     }
