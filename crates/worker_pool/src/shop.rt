@@ -172,10 +172,8 @@ impl<'j, J: Running, F: Fn(u32, u32) -> bool> Shop<'j, J, F> {
         requires rule { Answers (F.pre self.now.meeting.tree.rule.closure) (F.post self.now.meeting.tree.rule.closure) (end_ends_at self.now.meeting.tree.rule.plan) }
     {
         let mut led = false;
-        for _ in 0..seats.len() {
-            if let Some(seat) = seats.pop_front() {
-                led = self.arrive(rt, seat, seats)? || led;
-            }
+        for seat in seats.iter_mut() {
+            led = self.meeting.arrive(rt, &mut seat.crew)? || led;
         }
         Ok(led)
     }
