@@ -199,11 +199,14 @@ impl<'j, J: Running> Board<'j, J> {
         Ok(true)
     }
 
-    // Takes back a row whose tasks have passed through the tree in a superstep that was closed meanwhile. Whether a stretch is
-    // ready that was not.
+    // Takes back a row whose tasks have passed through the tree in a superstep that was closed meanwhile. One whose tasks have
+    // all left may come later still, and nobody waits for it. Whether a stretch is ready that was not.
     fn take_late(&mut self, row: Row<J>) -> Result<bool, Note>
         ensures { self.new ≡ self.old }
     {
+        if row.seats.is_empty() {
+            return Ok(false);
+        }
         if !self.is_cut {
             push_row(&mut self.ready, row)?;
             return Ok(true);
