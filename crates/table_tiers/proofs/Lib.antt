@@ -1,3 +1,4 @@
+pub mod Telling
 pub mod Seating
 pub mod Sitting
 pub mod Pairing

@@ -178,6 +178,12 @@ module _ (k : Key) (kind : Kind) (t n tries : ℕ) (me me' : Me Kind (List Sight
         after = subst (λ (z : Key). Beside z.shape t w u) s.moved.key seat.beside;
       }
 
+  -- the same of a token that keeps the number of the word that the code has unpacked
+  pub look_took_as : (above : ℕ) (u : View) → above ≡ parent_of k.shape t → u ≡ view_after above look t w v → MayLook k.shape kind t v
+      → (id id' : TableId) (t0 : ℕ) (w0 : Fields) → id' ≡ id → (w' : Fields) → w ≡ w' → Took (looking kind t w') t w' tries (holding id me v t0 w0) (holding id' me' u t w')
+  look_took_as above u a b may id id' t0 w0 same w' e =
+      subst (λ (z : Fields). Took (looking kind t z) t z tries (holding id me v t0 w0) (holding id' me' u t z)) e (look_took above u a b may id id' t0 w0 same)
+
 -- what the code of a load knows of the token, the tree and the kind
 pub record Load (id id' : TableId) (k : Key) (me : Me Kind (List Sight)) (v : View) (kind J : Kind) (tier t : ℕ) : Type 0 where
   pub same : id ≡ id'
@@ -305,3 +311,17 @@ pub lost_by : {kind : Kind} {h h' new : Holding} {n old : ℕ} {w : Fields} → 
     → Took (looking kind h.tier new.word) h.tier new.word 1 h new → Lost kind h' new
 lost_by {kind} {h} {h'} {new} {n} {old} {w} e miss is here was r = subst (λ (z : Holding). Lost kind z new) e
     (record { other = λ d. miss (is ∙ (ap packed (sym here ∙ d) ∙ sym was)); took = r })
+
+-- the word that the code has unpacked stands for the number that it keeps
+pub seated_as : {me : Me Kind (List Sight)} {v : View} {t : ℕ} {w w' : Fields} → w ≡ w' → IsSeated me v t w → IsSeated me v t w'
+seated_as {me} {v} {t} e seat = subst (λ (z : Fields). IsSeated me v t z) e seat
+
+-- what the token stands for, by the word that the code has unpacked
+pub held_as : (id : TableId) (me : Me Kind (List Sight)) (v : View) (t : ℕ) {w w' : Fields} {h : Holding} → w ≡ w' → holding id me v t w' ≡ h → holding id me v t w ≡ h
+held_as id me v t e is = ap (holding id me v t) e ∙ is
+
+-- a lost try found the number of some word
+pub lost_number : (new : ℕ) {me me' : Me Kind (List Sight)} {v : View} {t t' n old : ℕ} {w : Fields} {kind : Kind} → IsSeated me v t w
+    → Tried (step 0 t' old new (some kind)) me n me' → n ≢ old → (u : Fields) × IsLegal u × (packed u ≡ n)
+lost_number new {me} {me'} {v} {t} {t'} {n} {old} {w} {kind} seat told miss =
+    let s = lost_at kind t' 0 n old new me me' v t w seat told miss in (s.word, s.legal, sym s.number)

@@ -1,21 +1,20 @@
 -- The steps of arrivals and departures, each with the kind that it has.
-use Rattle.std.proofs.Common.{◌≡◌, ℕ, zero, suc, ◌+◌, ◌≤◌, ◌<◌, ◌==◌, not, ◌&&◌, nat_lt, ne_eqb, inl, inr, ⊎_elim, Bool, true, false, cond, ◌∷◌, List, refl, sym, ◌∙◌, ap, subst, arith}
+use Rattle.std.proofs.Common.{◌≡◌, ℕ, ◌+◌, ◌≤◌, inl, inr, ⊎_elim, Bool, true, false, cond, ◌∷◌, List, refl, sym, ◌∙◌, ap, subst, arith}
 use Rattle.phaser_word.specs.Fields.{Fields}
 use Rattle.tier_shape.specs.Parents.{parent_of}
 use Rattle.tier_steps.specs.Step.{owed, passed, view_after}
 use Rattle.tier_steps.specs.declared.kind.Kind.{Kind}
-use Rattle.tier_steps.specs.declared.kind.Kind.TheVariants.{Look, Arrive, Advance, Climb, Refresh}
+use Rattle.tier_steps.specs.declared.kind.Kind.TheVariants.{Look, Advance, Climb, Refresh}
 use Rattle.tier_steps.specs.declared.view.View.{View}
 use Rattle.tier_steps.specs.declared.view.Errand.{Errand}
 use Rattle.tier_steps.specs.declared.view.Errand.TheVariants.{Rest, Opening, Climbing, Advancing}
 use Rattle.tier_steps.specs.declared.view.Trip.{Trip}
-use Rattle.tier_steps.specs.declared.view.Trip.TheVariants.{Arrival}
 use Rattle.tier_core.specs.declared.call.Played.{Played}
 use Rattle.tier_core.specs.declared.call.Played.TheVariants.{GoesOn, Done}
 use Rattle.tier_core.specs.declared.call.Progress.{Progress}
 use Rattle.tier_core.specs.declared.call.Progress.TheVariants.{Idle, Begun, Seeking as ToSeek, Settling, GivingBack as ToGiveBack, Passing, Owing, Due, Refreshing}
 use Rattle.tier_core.specs.declared.call.Turn.{Turn}
-use Rattle.tier_core.specs.Turn.{last_look, pass_turn, climb_turn, own_kind, end_shown, goes_on, told, lags, errand_place, place, turn_by}
+use Rattle.tier_core.specs.Turn.{pass_turn, climb_turn, own_kind, end_shown, goes_on, told, lags, errand_place, place, turn_by}
 use Rattle.tier_core.specs.Machine.{CallFits, is_going}
 use Rattle.tier_core.proofs.Turns.{by_test, not_both}
 use Rattle.table_rule.specs.declared.sight.Key.{Key}
@@ -121,35 +120,6 @@ own_turn k g own p st =
     let here : g.token.view.tier ≡ g.token.tier = sym (st.tier ∙ ap (λ (z : Progress). place k.shape z g.token.view) p) in
     ap (λ (z : Progress). turn_by k.shape false g.token.word z g.token.view) p
     ∙ (λ i. pass_turn k.shape own (here i) own (own_kind own) (sym p i) (end_shown g.token.word) g.token.word g.token.view)
-
--- an arrival at a tier where others are still to arrive owes nothing afterwards
-more_unarrived : (n : ℕ) → 1 < n → (n == 0 ≡ false) × (n == 1 ≡ false)
-more_unarrived n h = (ne_eqb n 0 (λ e. absurd (omega arith)), ne_eqb n 1 (λ e. absurd (omega arith)))
-
-not_lagging : (w : Fields) (v : View) → w.unarrived == 0 ≡ false → lags w v ≡ false
-not_lagging w v e = ap (λ (b : Bool). nat_lt 0 w.parties && (b && not (w.phase == v.phase))) e ∙ none (nat_lt 0 w.parties)
-  where
-    none : (b : Bool) → (b && false) ≡ false
-    none true = refl
-    none false = refl
-
-owes_nothing : (above t : ℕ) (w : Fields) → w.unarrived == 1 ≡ false → owed above t Arrival w ≡ Rest
-owes_nothing above zero w e = ap (λ (b : Bool). cond b Advancing Rest) e
-owes_nothing above (suc t) w e = ap (λ (b : Bool). cond b (Climbing above Arrival) Rest) e
-
-pub plain_turn : (k : Key) (g : Going) → g.progress ≡ Passing Arrival → Stands k g → g.token.word.ended ≡ false → 1 < g.token.word.unarrived
-    → turn_by k.shape false g.token.word g.progress g.token.view ≡ record { kind = Arrive; tier = g.token.tier; next = Idle; answer = Done g.token.view.phase }
-plain_turn k g p st going more =
-    let w : Fields = g.token.word in
-    let v : View = g.token.view in
-    let t : ℕ = g.token.tier in
-    let n = more_unarrived w.unarrived more in
-    let e : Errand = owed (parent_of k.shape t) t Arrival w in
-    let r : Turn = record { kind = Arrive; tier = t; next = goes_on Arrival e; answer = told v.phase (passed t Arrival w).parties e } in
-    own_turn k g Arrival p st
-    ∙ (ap (λ (b : Bool). cond b (last_look (end_shown w)) (cond (lags w v) (record { kind = Refresh; tier = t; next = g.progress; answer = GoesOn }) r)) going
-    ∙ (ap (λ (b : Bool). cond b (record { kind = Refresh; tier = t; next = g.progress; answer = GoesOn }) r) (not_lagging w v n.0)
-    ∙ ap (λ (z : Errand). record { kind = Arrive; tier = t; next = goes_on Arrival z; answer = told v.phase (passed t Arrival w).parties z }) (owes_nothing (parent_of k.shape t) t w n.1)))
 
 pub climb_by : (k : Key) (g : Going) (own : Trip) (t : ℕ) (trip : Trip) → g.progress ≡ Owing own → g.token.view.errand ≡ Climbing t trip → Stands k g
     → turn_by k.shape false g.token.word g.progress g.token.view

@@ -1,3 +1,4 @@
+pub mod Told
 pub mod Holding
 pub mod Calls
 pub mod Next

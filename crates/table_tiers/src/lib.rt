@@ -11,6 +11,7 @@ pub mod joining;
 mod next;
 pub mod polling;
 mod seated;
+mod seen;
 mod stepping;
 pub mod tiers;
 pub mod tokens;

@@ -2,6 +2,7 @@
 
 ghost use Rattle.std.specs.Prelude.{◌≡◌};
 
+use crate::seen::Seen;
 use atomic_table::Seat;
 use phaser_word::Word;
 use std::marker::Model;
@@ -14,7 +15,7 @@ pub struct Seated {
     pub(crate) seat: Seat<Kind, Sights>,
     pub(crate) view: View,
     pub(crate) tier: u16,
-    pub(crate) word: Word,
+    pub(crate) word: Seen,
 }
 
 impl Model for Seated {
@@ -51,7 +52,7 @@ impl Seated {
         ensures word { result ≡ self.now.word }
         ensures beside { Beside (shape_of self.now) self.now.tier self.now.word self.now.view }
     {
-        self.word
+        self.word.word()
     }
 }
 

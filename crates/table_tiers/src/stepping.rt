@@ -139,7 +139,7 @@ impl Tiers {
     }
 
     /// One try of an arrival at the tier where its token stands, or of the refresh before it. Where others are still to
-    /// arrive there, nothing is owed afterwards.
+    /// arrive there, nothing is owed afterwards; where it is the last at the root, the advance is.
     #[inline(always)]
     fn arrive_at(&self, token: &mut Seated, course: &mut Course)
         requires at { IsAt self.now (under token.old course.old) }
@@ -149,16 +149,26 @@ impl Tiers {
         ensures { WentOn self.now 1 (under token.old course.old) (under token.new course.new) }
     {
         let word = token.word();
-        if word.unarrived < 2 {
-            return self.pass_tier(token, course, Trip::Arrival, Trip::Arrival, Kind::Arrive);
+        let phase = token.view().phase;
+        if word.unarrived >= 2 {
+            let turn = Turn {
+                kind: Kind::Arrive,
+                tier: token.tier(),
+                next: Progress::Idle,
+                answer: Played::Done(phase),
+            };
+            return self.try_turn(token, course, turn, false);
         }
-        let turn = Turn {
-            kind: Kind::Arrive,
-            tier: token.tier(),
-            next: Progress::Idle,
-            answer: Played::Done(token.view().phase),
-        };
-        self.try_turn(token, course, turn, false);
+        if word.unarrived == 1 && token.tier() == 0 {
+            let turn = Turn {
+                kind: Kind::Arrive,
+                tier: 0,
+                next: Progress::Due(Trip::Arrival),
+                answer: Played::MustAdvance(phase, word.parties),
+            };
+            return self.try_turn(token, course, turn, false);
+        }
+        self.pass_tier(token, course, Trip::Arrival, Trip::Arrival, Kind::Arrive);
     }
 
     /// The own step of an arrival or a departure, by one try at most.
@@ -215,7 +225,22 @@ impl Tiers {
         let Errand::Climbing { trip, .. } = token.view().errand else {
             unreachable!()
         };
-        self.pass_tier(token, course, own, trip, Kind::Climb(trip));
+        match trip {
+            Trip::Arrival => self.pass_tier(
+                token,
+                course,
+                own,
+                Trip::Arrival,
+                Kind::Climb(Trip::Arrival),
+            ),
+            Trip::Departure => self.pass_tier(
+                token,
+                course,
+                own,
+                Trip::Departure,
+                Kind::Climb(Trip::Departure),
+            ),
+        }
     }
 
     /// The advance that it has to take, by one try at most.

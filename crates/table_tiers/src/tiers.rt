@@ -11,6 +11,7 @@ ghost use Rattle.table_rule.specs.Look.{MayLook};
 ghost use Rattle.table_rule.specs.Reach.{PlanSays};
 
 use crate::seated::Seated;
+use crate::seen::Seen;
 use crate::tokens::{Crew, Door};
 use crate::writing::step_in;
 use advance_rule::EndPlan;
@@ -67,13 +68,13 @@ impl Tiers {
         ensures tree { IfOk result (λ r. r.0.key ≡ record { shape = shape; phase = phase; plan = plan }) }
         ensures token { IfOk result (λ r. (r.1.tree ≡ r.0) × (r.1.view ≡ new_view phase) × (r.1.tier ≡ 0) × (r.1.word ≡ empty_word phase) × (r.1.tried ≡ 0) × (r.1.steps ≡ []) × (r.1.opened ≡ 0)) }
     {
-        let word = Word {
+        let word = Seen::of(Word {
             phase,
             parties: 0,
             unarrived: 1,
             ended: false,
-        };
-        let numbers = numbers_of(alloc, shape.count(), word.pack())?;
+        });
+        let numbers = numbers_of(alloc, shape.count(), word.number())?;
         let key = Key { shape, phase, plan };
         let (table, seat) = Table::of_words(alloc, &numbers, &key)?;
         let view = View::new(phase);
@@ -123,12 +124,13 @@ impl Tiers {
             .table
             .shared
             .load::<Looks<J>>(&mut token.seat, usize::from(tier));
-        let word = Word::unpack(found).unwrap();
+        let seen = Seen::at(found);
+        let word = seen.word();
         let look = look_for(kind, tier, word);
         let above = above(&self.key.shape, tier);
         step_in(look, tier, above, word, &mut token.view);
         token.tier = tier;
-        token.word = word;
+        token.word = seen;
     }
 
     /// A load of the word of a tier, by a token that means to take a step of this kind there.
@@ -163,16 +165,17 @@ impl Tiers {
             .join_seat::<Joins>(&mut one.seat, other.into_seat());
         let found = self.table.shared.load::<LooksTogether>(&mut one.seat, 0);
         let seat = self.table.shared.split_seat::<Parts>(&mut one.seat);
-        let word = Word::unpack(found).unwrap();
+        let seen = Seen::at(found);
+        let word = seen.word();
         step_in(Kind::Look, 0, 0, word, &mut one.view);
         step_in(Kind::Look, 0, 0, word, &mut view);
         one.tier = 0;
-        one.word = word;
+        one.word = seen;
         Seated {
             seat,
             view,
             tier: 0,
-            word,
+            word: seen,
         }
     }
 
@@ -186,11 +189,13 @@ impl Tiers {
         ensures { MatchBool result (Won kind token.old token.new) (Lost kind token.old token.new) }
     {
         let tier = token.tier;
-        let word = token.word;
+        let seen = token.word;
+        let word = seen.word();
         let above = above(&self.key.shape, tier);
-        let next = step_word(kind, tier, word, &token.view);
-        let old = word.pack();
-        let new = next.pack();
+        let after = step_word(kind, tier, word, &token.view);
+        let next = Seen::of(after);
+        let old = seen.number();
+        let new = next.number();
         let found = self
             .table
             .shared
@@ -200,10 +205,11 @@ impl Tiers {
             token.word = next;
             true
         } else {
-            let word = Word::unpack(found).unwrap();
-            let look = look_for(kind, tier, word);
-            step_in(look, tier, above, word, &mut token.view);
-            token.word = word;
+            let other = Seen::at(found);
+            let now = other.word();
+            let look = look_for(kind, tier, now);
+            step_in(look, tier, above, now, &mut token.view);
+            token.word = other;
             false
         }
     }
@@ -217,13 +223,14 @@ impl Tiers {
     {
         let mut seat = seat;
         let found = self.table.shared.load::<Sits<J>>(&mut seat, 0);
-        let word = Word::unpack(found).unwrap();
+        let seen = Seen::at(found);
+        let word = seen.word();
         let view = View::new(word.phase);
         Seated {
             seat,
             view,
             tier: 0,
-            word,
+            word: seen,
         }
     }
 

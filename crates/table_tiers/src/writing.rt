@@ -13,15 +13,13 @@ use tier_steps::view::{Errand, Trip, View};
 fn look_in(root: Word, view: &mut View)
     ensures { view.new ≡ looked root view.old }
 {
-    let Errand::Rest = view.errand else {
+    if root.ended || matches!(view.errand, Errand::Opening { .. }) {
         *view = look(root, *view);
         return;
-    };
+    }
     view.led = false;
     view.note = None;
-    if root.ended {
-        view.end_seen = Some(root.phase);
-    } else if view.arrived == view.size && view.phase != root.phase {
+    if view.arrived == view.size && view.phase != root.phase {
         view.phase = root.phase;
         view.arrived = 0;
     }
