@@ -8,6 +8,8 @@ mod gates;
 #[cfg(test)]
 mod hooks;
 #[cfg(test)]
+mod late;
+#[cfg(test)]
 mod single;
 #[cfg(test)]
 mod starters;

@@ -1,5 +1,5 @@
 -- What live tasks did in their places.
-use Rattle.std.proofs.Common.{◌≡◌, ℕ, suc, ◌+◌, ◌≤◌, ◌<◌, Bool, true, false, List, [], ◌∷◌, ◌++◌, map, length, Some, None, slice_set, get_or, refl, sym, ap, ◌∙◌, subst, arith, append_assoc, append-nil}
+use Rattle.std.proofs.Common.{◌≡◌, ℕ, suc, ◌+◌, ◌≤◌, ◌<◌, Bool, true, false, List, [], ◌∷◌, ◌++◌, map, length, Option, Some, None, slice_set, get_or, refl, sym, ap, ◌∙◌, subst, arith, append_assoc, append-nil}
 use Rattle.std.specs.Prelude.{ℤ, ◌-◌, nat_lt, if◌then◌else◌}
 use Rattle.std.specs.Option.{option_map}
 use Rattle.std.proofs.lemmas.List.{length-map, length-append}
@@ -17,7 +17,7 @@ use Rattle.task_lang.specs.declared.scene.Work.{Work}
 use Rattle.step_deeds.specs.DeedValue.{DeedValue}
 use Rattle.step_parts.specs.Program.{Program}
 use Rattle.step_parts.specs.Superstep.{first_fault, fault_eight, or_later, log_of, print_of, prints_of, living_on, synced, stopped, left, spawned}
-use Rattle.step_deeds.specs.InPlace.{IsUnderWay, end_of, IsDeed, ToldOne, AllDone, deeds_of, IsAllDone, maker, kept, living_with, one_left, left_in, spawned_in, AllFew}
+use Rattle.step_deeds.specs.InPlace.{IsUnderWay, HasCome, IsFurther, Told, end_of, IsDeed, ToldOne, AllDone, deeds_of, IsAllDone, maker, kept, living_with, one_left, left_in, spawned_in, AllFew}
 
 pub none_done : (p : Program) (arrays : List (List ℕ × List ℤ)) (step : ℕ) (olds : List TaskValue) (puts : List Put) (ds : List DeedValue) (before : List PrintValue)
     → puts ≡ [] → ds ≡ [] → IsUnderWay p arrays step olds 0 puts olds ds before before
@@ -198,6 +198,28 @@ one_faults p arrays step olds place puts qs tasks ds es before after shown t u f
           ∙ later_fault t.path (segment_of p.plans (task_of p.plans t) arrays step) (deeds_of p arrays step n.behind) f told.1,
       (prints_of step h.front, told.0 ∙ h.shown),
     )
+
+-- one task further
+pub one_further : (p : Program) (arrays : List (List ℕ × List ℤ)) (step first place : ℕ) (puts qs rs : List Put) (ts tasks : List TaskValue) (ds es fs : List DeedValue) (shown after last : List PrintValue) (t u : TaskValue)
+    → IsFurther p arrays step None first place puts qs ts tasks ds es shown after → place < length tasks → t ≡ get_or tasks place t
+    → ToldOne p.plans (segment_of p.plans (task_of p.plans t) arrays step) step None t u qs rs es fs after last
+    → IsFurther p arrays step None first (place + 1) puts rs ts (slice_set tasks place u) ds fs shown last
+one_further p arrays step first place puts qs rs ts tasks ds es fs shown after last t u h lt g told olds before way =
+    one_more p arrays step olds place qs rs tasks es fs before after last t u (h olds before way) lt g told
+
+-- the next one faults
+pub faults_further : (p : Program) (arrays : List (List ℕ × List ℤ)) (step first place end : ℕ) (puts qs rs : List Put) (ts tasks us : List TaskValue) (ds es fs : List DeedValue) (shown after last : List PrintValue) (t u : TaskValue) (f : ℕ × List ℕ)
+    → IsFurther p arrays step None first place puts qs ts tasks ds es shown after → place < length tasks → t ≡ get_or tasks place t
+    → ToldOne p.plans (segment_of p.plans (task_of p.plans t) arrays step) step (Some f) t u qs rs es fs after last
+    → IsFurther p arrays step (Some f) first end puts rs ts us ds fs shown last
+faults_further p arrays step first place end puts qs rs ts tasks us ds es fs shown after last t u f h lt g told olds before way =
+    one_faults p arrays step olds place qs rs tasks es fs before after last t u f (h olds before way) lt g told
+
+-- all tasks of a list
+pub come_all : (p : Program) (arrays : List (List ℕ × List ℤ)) (step : ℕ) (olds : List TaskValue) (fault : Option (ℕ × List ℕ)) (end : ℕ) (puts : List Put) (us : List TaskValue) (ds : List DeedValue) (before after : List PrintValue)
+    → HasCome p arrays step olds fault end puts us ds before after → length us ≤ end → Told p.plans (deeds_of p arrays step olds) step fault puts us ds before after
+come_all p arrays step olds (Some f) end puts us ds before after h le = h
+come_all p arrays step olds None end puts us ds before after h le = all_done p arrays step olds end puts us ds before after h le
 
 living_append : (ts us : List TaskValue) (ds es : List DeedValue) → length ts ≡ length ds → living_with (ts ++ us) (ds ++ es) ≡ living_with ts ds ++ living_with us es
 living_append [] us [] es h = refl

@@ -54,6 +54,16 @@ pub record IsUnderWay (p : Program) (arrays : List (List ℕ × List ℤ)) (step
   pub shown : after ≡ before ++ prints_of step front
   pub done : AllDone p.plans us ds front
 
+-- the tasks below this place are done; or the first fault of all is told, and what was printed before stays in front
+abbrev pub HasCome : Program → List (List ℕ × List ℤ) → ℕ → List TaskValue → Option (ℕ × List ℕ) → ℕ → List Put → List TaskValue → List DeedValue → List PrintValue → List PrintValue → Type 0
+HasCome p arrays step olds (Some f) place puts us ds before after = (first_fault (deeds_of p arrays step olds) ≡ Some f) × ((more : List PrintValue) × (after ≡ before ++ more))
+HasCome p arrays step olds None place puts us ds before after = IsUnderWay p arrays step olds place puts us ds before after
+
+-- of whichever tasks those below one place were done, of these those below the other are, or the first fault is told
+abbrev pub IsFurther : Program → List (List ℕ × List ℤ) → ℕ → Option (ℕ × List ℕ) → ℕ → ℕ → List Put → List Put → List TaskValue → List TaskValue → List DeedValue → List DeedValue → List PrintValue → List PrintValue → Type 0
+IsFurther p arrays step fault place end puts qs ts us ds es shown after =
+    (olds : List TaskValue) (before : List PrintValue) → IsUnderWay p arrays step olds place puts ts ds before shown → HasCome p arrays step olds fault end qs us es before after
+
 -- nobody faulted: the log, the prints, the deeds and the tasks are what the segments say
 pub record IsAllDone (ps : List Plan) (ss : List (List ℕ × Segment)) (step : ℕ) (puts : List Put) (us : List TaskValue) (ds : List DeedValue) (before after : List PrintValue) : Type 0 where
   pub log : puts ≡ joined (map log_of ss)

@@ -164,6 +164,7 @@ impl Deeds {
         spawns: &mut Vec<Task>,
     ) -> Result<(), AllocError>
         ensures deeds { OnOk result (self.new ≡ self.old ++ record { synced = synced; puts = puts; spawns = spawns.old.items } ∷ []) }
+        ensures moved { OnOk result (spawns.new.items ≡ []) }
     {
         let spawned = spawns.len();
         self.each.reserve(1)?;
@@ -226,6 +227,7 @@ impl Deeds {
         requires count { length (living_with tasks.old.items self.old) ≤ count }
         ensures tasks { OnOk result (tasks.new.items ≡ in_path_order path_in (living_with tasks.old.items self.old)) }
         ensures full { OnErr result (vec_capacity room.old < count) }
+        ensures memory { OnErr result ((self.new ≡ self.old) × (tasks.new.items ≡ tasks.old.items)) }
     {
         room.clear();
         room.reserve(count)?;

@@ -1,11 +1,11 @@
 //! What live tasks do in a superstep, each in its place.
-ghost use Rattle.std.specs.Prelude.{◌≡◌, ◌≤◌, ◌++◌, ◌∷◌, [], IfOk, OnOk, length, map};
+ghost use Rattle.std.specs.Prelude.{◌≡◌, ◌≤◌, ◌++◌, ◌∷◌, [], None, IfOk, OnOk, length, map};
 ghost use Rattle.std.specs.Option.{option_map};
 ghost use Rattle.task_lang.specs.Meaning.{segment_of};
 ghost use Rattle.task_lang.specs.Views.{plans, task_of};
 ghost use Rattle.step_parts.specs.Program.{program_of};
 ghost use Rattle.step_parts.specs.Superstep.{print_of};
-ghost use Rattle.step_deeds.specs.InPlace.{ToldOne, Told, deeds_of, at_path};
+ghost use Rattle.step_deeds.specs.InPlace.{ToldOne, IsFurther, Told, deeds_of, at_path};
 ghost use Rattle.task_lang.specs.Lent.{IsLeft};
 
 use crate::deeds::Deeds;
@@ -30,8 +30,8 @@ pub struct StepScene<'a> {
     pub step: u32,
 }
 
-// Does the task's segment: its puts come behind those in the log, its prints and spawns replace what stood in their
-// buffers, and the task itself goes on where it synced. After a fault the task means nothing but its path.
+// Does the task's segment: its puts come behind those in the log, its prints and spawns stand in their buffers, and the
+// task itself goes on where it synced. After a fault the task means nothing but its path.
 #[inline(always)]
 fn do_task(
     alloc: Global,
@@ -39,15 +39,15 @@ fn do_task(
     task: &mut Task,
     work: &mut Work,
 ) -> Result<Ending, AllocError>
+    requires none_printed { work.old.prints.items ≡ [] }
+    requires none_spawned { work.old.spawns.items ≡ [] }
     ensures { IfOk result (λ e. let ps = plans scene.now.job.now.bodies in
         IsLeft ps e task.old task.new work.old work.new (segment_of ps (task_of ps task.old) scene.now.arrays.now scene.now.step)) }
 {
-    work.prints.clear();
-    work.spawns.clear();
     segment_into(alloc, scene.job, task, scene.arrays, scene.step, work)
 }
 
-// Keeps what a task did: its prints behind those of others, and its deed.
+// Keeps what a task did: its prints behind those of others, and its deed. The buffers are empty then.
 #[inline(always)]
 fn keep(
     step: u32,
@@ -61,18 +61,20 @@ fn keep(
     ensures prints { OnOk result (prints.new.items ≡ prints.old.items ++ map (print_of step task.now.path) work.old.prints.items) }
     ensures deeds { OnOk result (deeds.new ≡ deeds.old ++ record { synced = synced; puts = puts; spawns = work.old.spawns.items } ∷ []) }
     ensures log { OnOk result (work.new.puts.items ≡ work.old.puts.items) }
+    ensures emptied { OnOk result ((work.new.prints.items ≡ []) × (work.new.spawns.items ≡ [])) }
 {
     if !work.prints.is_empty() {
         push_prints(prints, step, task, &work.prints)?;
+        work.prints.clear();
     }
     deeds.push(synced, puts, &mut work.spawns)
 }
 
-/// Does the segment of a task, which goes on in its place, and keeps what it did behind what others did: its puts in
-/// `work`, its prints and its deed. Or tells the code of its fault; then nothing was printed, and what else stands in `work`,
-/// the deeds and the task means nothing but the task's path. `work` is lent.
+// Does the segment of a task, which goes on in its place, and keeps what it did behind what others did: its puts in `work`,
+// its prints and its deed; the buffers are empty again. Or tells the code of its fault; then nothing was printed, and what
+// else stands in `work`, the deeds and the task means nothing but the task's path.
 #[inline(always)]
-pub fn do_one(
+fn do_one(
     alloc: Global,
     scene: &StepScene<'_>,
     task: &mut Task,
@@ -80,9 +82,12 @@ pub fn do_one(
     deeds: &mut Deeds,
     prints: &mut Vec<Print>,
 ) -> Result<Option<u8>, AllocError>
-    ensures { IfOk result (λ fault. let ps = plans scene.now.job.now.bodies in
+    requires none_printed { work.old.prints.items ≡ [] }
+    requires none_spawned { work.old.spawns.items ≡ [] }
+    ensures told { IfOk result (λ fault. let ps = plans scene.now.job.now.bodies in
         ToldOne ps (segment_of ps (task_of ps task.old) scene.now.arrays.now scene.now.step) scene.now.step (option_map (at_path task.new.path) fault) task.old task.new
         work.old.puts.items work.new.puts.items deeds.old deeds.new prints.old.items prints.new.items) }
+    ensures emptied { IfOk result (λ fault. fault ≡ None → (work.new.prints.items ≡ []) × (work.new.spawns.items ≡ [])) }
 {
     let before = work.puts.len();
     match do_task(alloc, scene, task, work)? {
@@ -100,6 +105,43 @@ pub fn do_one(
     }
 }
 
+/// Does the segments of the tasks from one place to another, one after another, each in its place; what they did comes behind
+/// what others did. Or tells the first fault; then what stands in `work`, the deeds and the tasks means nothing, and what
+/// was printed before stays in front. It stands once in a program, so that no task is a call.
+#[inline(never)]
+pub fn do_range(
+    alloc: Global,
+    scene: &StepScene<'_>,
+    tasks: &mut Vec<Task>,
+    first: usize,
+    end: usize,
+    work: &mut Work,
+    deeds: &mut Deeds,
+    prints: &mut Vec<Print>,
+) -> Result<Option<Blame>, AllocError>
+    requires rises { first ≤ end }
+    requires within { end ≤ length tasks.old.items }
+    ensures done { IfOk result (λ fault. IsFurther (program_of scene.now.job.now) scene.now.arrays.now scene.now.step fault first end
+        work.old.puts.items work.new.puts.items tasks.old.items tasks.new.items deeds.old deeds.new prints.old.items prints.new.items) }
+    ensures count { IfOk result (λ _. length tasks.new.items ≡ length tasks.old.items) }
+{
+    work.prints.clear();
+    work.spawns.clear();
+    let mut place = first;
+    while place < end {
+        let task = &mut tasks[place];
+        let told = do_one(alloc, scene, task, work, deeds, prints)?;
+        match told {
+            Some(code) => {
+                let path = task_path(task);
+                return Ok(Some(Blame { code, path }));
+            }
+            None => place += 1,
+        }
+    }
+    Ok(None)
+}
+
 /// Does the segments of tasks, one after another: all their puts stand in one log then. Or tells the first fault.
 pub fn do_all(
     alloc: Global,
@@ -114,17 +156,7 @@ pub fn do_all(
     ensures { IfOk result (λ fault. Told (plans scene.now.job.now.bodies) (deeds_of (program_of scene.now.job.now) scene.now.arrays.now scene.now.step tasks.old.items) scene.now.step
         fault work.new.puts.items tasks.new.items deeds.new prints.old.items prints.new.items) }
 {
-    let mut place = 0;
-    while place < tasks.len() {
-        let task = &mut tasks[place];
-        let told = do_one(alloc, scene, task, work, deeds, prints)?;
-        match told {
-            Some(code) => {
-                let path = task_path(task);
-                return Ok(Some(Blame { code, path }));
-            }
-            None => place += 1,
-        }
-    }
-    Ok(None)
+    let end = tasks.len();
+    let told = do_range(alloc, scene, tasks, 0, end, work, deeds, prints)?;
+    Ok(told)
 }

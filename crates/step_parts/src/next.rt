@@ -46,6 +46,7 @@ fn place_for(living: &[Task], path: &[u16]) -> usize
 }
 
 /// Puts a task in its place among those that live on, the last by path first. It takes no memory.
+#[inline(always)]
 pub fn put_task(living: &mut Vec<Task>, task: Task)
     requires room { vec_len living.old < vec_capacity living.old }
     ensures items { living.new.items ≡ reverse (put_in path_in task (reverse living.old.items)) }

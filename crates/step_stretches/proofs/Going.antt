@@ -1,12 +1,13 @@
 -- A superstep of stretches is closed.
 use Rattle.std.proofs.Common.{◌≡◌, ◌==◌, ◌≤◌, ◌<◌, ◌+◌, ◌++◌, ◌∷◌, ℕ, suc, Bool, true, List, [], Option, Some, None, length, map, drop, refl, sym, ap, ◌∙◌, subst, arith}
-use Rattle.std.specs.Prelude.{ℤ, ◌^◌}
+use Rattle.std.specs.Prelude.{ℤ, ◌^◌, Result, Ok, Err, OnErr}
 use Rattle.std.proofs.lemmas.List.{length-map, map-append}
 use Rattle.superstep_memory.specs.Landing.{landed, over_in}
 use Rattle.superstep_memory.specs.PathOrder.{in_path_order}
 use Rattle.superstep_memory.proofs.Merged.{rising_stays}
 use Rattle.phase_records.specs.declared.record.PhaseRecord.{PhaseRecord}
 use Rattle.task_lang.specs.JobValue.{JobValue}
+use Rattle.task_lang.specs.TaskValue.{TaskValue}
 use Rattle.task_lang.specs.Meaning.{Task}
 use Rattle.task_lang.specs.Views.{plans, task_of}
 use Rattle.step_parts.specs.Program.{Program, program_of}
@@ -23,10 +24,12 @@ use Rattle.step_deeds.proofs.InPlace.{all_stay, counted}
 use Rattle.step_core.proofs.Course.{reached_more}
 use Rattle.step_core.proofs.ByDeeds.{none_faults, by_fault, by_many, by_over, by_landing, many_told, few_told, none_over, tallied}
 use Rattle.step_stretches.specs.PartValue.{PartValue}
-use Rattle.step_stretches.specs.Parts.{AreLive, IsPartOf, AreOwn, AreAhead, AreBelow, covers, is_finished, tasks_in, puts_in, deeds_in, prints_in, fault_in, renewed, fresh_part}
-use Rattle.step_stretches.specs.StretchesValue.{StretchesValue, IsCourse, before, state_of, status_in, is_whole, with_fault}
-use Rattle.step_stretches.specs.Closing.{deeds_next, blamed, IsClosed}
+use Rattle.step_stretches.specs.Parts.{AreLive, IsPartOf, AreOwn, AreFresh, AreAhead, AreBelow, covers, is_finished, tasks_in, puts_in, deeds_in, prints_in, fault_in, renewed, fresh_part}
+use Rattle.step_stretches.specs.StretchesValue.{StretchesValue, IsCourse, AllReady, before, state_of, status_in, is_whole, with_fault}
+use Rattle.step_stretches.specs.Joining.{AreWhole, IsWhole, AreJoined}
+use Rattle.step_stretches.specs.Closing.{deeds_next, blamed, AreLeft, IsClosed}
 use Rattle.step_stretches.proofs.Cutting.{fresh_is_part}
+use Rattle.step_stretches.proofs.Joining.{none_joined}
 use Rattle.step_stretches.proofs.Whole.{IsAllTold, all_told, all_faulted, parts_of, same_number, drop_more}
 use Rattle.std.proofs.Math.Seq.{drop-append_seam}
 
@@ -59,17 +62,18 @@ ended v f h run ends = record {
 }
 
 pub closed_so : (v new : StretchesValue) (next : State) (outcome : outcomes.Outcome) → IsCourse v → status_in v ≡ None → superstep (program_of v.job) (before v) ≡ next
-    → new.job ≡ v.job → new.limit ≡ v.limit → state_of new ≡ next → outcome ≡ outcome_of (before v).arrays (deeds_next v) → IsClosed v new outcome
-closed_so v new next outcome h run goes ej el es eo = record {
+    → new.job ≡ v.job → new.limit ≡ v.limit → state_of new ≡ next → outcome ≡ outcome_of (before v).arrays (deeds_next v) → (outcome ≡ Landed → AllReady new) → IsClosed v new outcome
+closed_so v new next outcome h run goes ej el es eo ready = record {
   state = (ej, el, es ∙ sym goes ∙ ap (superstep (program_of v.job)) (sym (running v h run).same));
   told = eo;
+  ready = ready;
 }
 
 -- it ended so
 pub ended_closed : (v new : StretchesValue) (f : ℕ × List ℕ) (outcome : outcomes.Outcome) → IsCourse v → status_in v ≡ None → superstep (program_of v.job) (before v) ≡ ended_by (before v) f
-    → outcome ≡ outcome_of (before v).arrays (deeds_next v) → new ≡ with_fault v f → IsClosed v new outcome
-ended_closed v new f outcome h run ends told e =
-    closed_so v new (ended_by (before v) f) outcome h run ends (ap (λ (x : StretchesValue). x.job) e) (ap (λ (x : StretchesValue). x.limit) e) (ap state_of e) told
+    → outcome ≡ outcome_of (before v).arrays (deeds_next v) → new ≡ with_fault v f → (outcome ≡ Landed → ⊥) → IsClosed v new outcome
+ended_closed v new f outcome h run ends told e never =
+    closed_so v new (ended_by (before v) f) outcome h run ends (ap (λ (x : StretchesValue). x.job) e) (ap (λ (x : StretchesValue). x.limit) e) (ap state_of e) told (λ l. absurd (never l))
 
 -- how the next superstep ends the job
 pub record Ends (v : StretchesValue) (f : ℕ × List ℕ) (outcome : outcomes.Outcome) : Type 0 where
@@ -181,11 +185,12 @@ next_course v parts told h run goes le own =
     }
 
 pub gone_closed : (v new : StretchesValue) (told : PhaseRecord) (parts : List (Option PartValue)) → IsCourse v → status_in v ≡ None → superstep (program_of v.job) (before v) ≡ gone v told
-    → Landed ≡ outcome_of (before v).arrays (deeds_next v) → new ≡ further v parts → IsClosed v new Landed
-gone_closed v new told parts h run goes landed e =
+    → Landed ≡ outcome_of (before v).arrays (deeds_next v) → new ≡ further v parts → AllReady (further v parts) → IsClosed v new Landed
+gone_closed v new told parts h run goes landed e ready =
     let r = running v h run in
     closed_so v new (gone v told) Landed h run goes (ap (λ (x : StretchesValue). x.job) e) (ap (λ (x : StretchesValue). x.limit) e)
     (ap state_of e ∙ (λ i. record (before_further v parts told goes i) { fault = r.faultless i })) landed
+    (λ l. subst AllReady (sym e) ready)
 
 -- ---- where the same tasks live on
 
@@ -243,6 +248,38 @@ renewed_from job step (Some part ∷ ss) own a =
 
 pub are_renewed : (v : StretchesValue) (parts : List (Option PartValue)) → IsCourse v → AreAhead v.parts → parts ≡ map renewed v.parts → AreOwn v.job (v.step + 1) parts
 are_renewed v parts h a e = subst (AreOwn v.job (v.step + 1)) (sym e) (renewed_from v.job v.step v.parts h.own a)
+
+fresh_from : (job : JobValue) (step end at : ℕ) (ss : List (Option PartValue)) → AreOwn job step ss → covers end at ss ≡ true → AreFresh job (step + 1) at (map renewed ss)
+fresh_from job step end at [] own c = tt
+fresh_from job step end at (None ∷ ss) own c = cc
+fresh_from job step end at (Some part ∷ ss) own c =
+    let t = parts_of (part.first == at) (is_finished part) (covers end (at + length part.tasks) ss) c in
+    let first = same_number part.first at t.0 in (
+      λ i. fresh_part (own.0.0 i) (own.0.1 i + 1) (first i) part.tasks,
+      fresh_from job step end (at + length part.tasks) ss own.1 t.2,
+    )
+
+same_tasks : (ss : List (Option PartValue)) → tasks_in (map renewed ss) ≡ tasks_in ss
+same_tasks [] = refl
+same_tasks (None ∷ ss) = same_tasks ss
+same_tasks (Some part ∷ ss) = ap (λ (ts : List TaskValue). part.tasks ++ ts) (same_tasks ss)
+
+-- the same stretches are ready for the next superstep
+pub ready_again : (v : StretchesValue) (parts : List (Option PartValue)) (told : PhaseRecord) → IsCourse v → is_whole v ≡ true → superstep (program_of v.job) (before v) ≡ gone v told
+    → in_path_order path_in (living_with (tasks_in v.parts) (deeds_in v.parts)) ≡ tasks_in v.parts → parts ≡ map renewed v.parts → AllReady (further v parts)
+ready_again v parts told h whole goes same e = record {
+  fresh = subst (AreFresh v.job (v.step + 1) 0) (sym e) (fresh_from v.job v.step (length (before v).live) 0 v.parts h.own whole);
+  tasks = ap (λ (x : State). x.live) (before_further v parts told goes)
+      ∙ ap (map (task_of (plans v.job.bodies))) (same ∙ sym (ap tasks_in e ∙ same_tasks v.parts));
+}
+
+-- and those that were cut anew
+pub ready_anew : (v : StretchesValue) (parts : List (Option PartValue)) (told : PhaseRecord) (next : List TaskValue) → superstep (program_of v.job) (before v) ≡ gone v told
+    → next ≡ in_path_order path_in (living_with (tasks_in v.parts) (deeds_in v.parts)) → AreFresh v.job (v.step + 1) 0 parts → tasks_in parts ≡ next → AllReady (further v parts)
+ready_anew v parts told next goes en fresh e = record {
+  fresh = fresh;
+  tasks = ap (λ (x : State). x.live) (before_further v parts told goes) ∙ ap (map (task_of (plans v.job.bodies))) (sym (e ∙ en));
+}
 
 -- ---- what a superstep that may go on is known by
 
@@ -317,3 +354,23 @@ covered v count parts b ec ep e t = (λ i. covers (sym ec i) 0 (sym ep i)) ∙ s
 
 pub ended_for : (v w : StretchesValue) (f : ℕ × List ℕ) → v ≡ w → superstep (program_of v.job) (before v) ≡ ended_by (before v) f → superstep (program_of w.job) (before w) ≡ ended_by (before w) f
 ended_for v w f e h = subst (λ (x : StretchesValue). superstep (program_of x.job) (before x) ≡ ended_by (before x) f) e h
+
+-- ---- where stretches were joined
+
+pub rejoined : (v : StretchesValue) (parts : List (Option PartValue)) → IsCourse v → is_whole v ≡ true → fault_in v.parts ≡ None → AreJoined v.parts parts
+    → AreWhole v.job v.step (length (before v).live) parts
+rejoined v parts h whole none j = j.whole v.job v.step (length (before v).live) (record { own = h.own; whole = whole; faultless = none })
+
+pub all_whole : (v : StretchesValue) → IsCourse v → is_whole v ≡ true → fault_in v.parts ≡ None → IsWhole v.parts
+all_whole v h whole none = (v.job, (v.step, (length (before v).live, record { own = h.own; whole = whole; faultless = none })))
+
+pub left_joined : (v : StretchesValue) (parts : List (Option PartValue)) → IsCourse v → is_whole v ≡ true → fault_in v.parts ≡ None → AreJoined v.parts parts
+    → AreLeft v (record v { parts = parts })
+left_joined v parts h whole none j = record { state = (refl, refl, refl); rest = refl; joined = j; whole = (rejoined v parts h whole none j).whole }
+
+pub none_left_out : (v : StretchesValue) → is_whole v ≡ true → AreLeft v v
+none_left_out v whole = record { state = (refl, refl, refl); rest = refl; joined = none_joined v.parts v.parts refl; whole = whole }
+
+pub left_if : {A B : Type 0} (r : Result A B) (v new now : StretchesValue) → OnErr r (new ≡ now) → AreLeft v now → OnErr r (AreLeft v new)
+left_if (Ok x) v new now h k = tt
+left_if (Err e) v new now h k = subst (AreLeft v) (sym h) k

@@ -2,6 +2,6 @@ pub mod Doing
 pub mod Along
 pub mod Cutting
 pub mod Whole
+pub mod Joining
 pub mod Going
-pub mod Moving
 pub mod Lending

@@ -27,7 +27,7 @@ use Rattle.step_stretches.proofs.Along.{both}
 
 -- ---- what is done, one behind the other
 
-done_append : (ps : List Plan) (us vs : List TaskValue) (ds es : List DeedValue) (ss rs : List (List ℕ × Segment)) → AllDone ps us ds ss → AllDone ps vs es rs
+pub done_append : (ps : List Plan) (us vs : List TaskValue) (ds es : List DeedValue) (ss rs : List (List ℕ × Segment)) → AllDone ps us ds ss → AllDone ps vs es rs
     → AllDone ps (us ++ vs) (ds ++ es) (ss ++ rs)
 done_append ps [] vs [] es [] rs a b = b
 done_append ps [] vs [] es (s ∷ ss) rs a b = absurd a
@@ -36,15 +36,15 @@ done_append ps (u ∷ us) vs [] es ss rs a b = absurd a
 done_append ps (u ∷ us) vs (d ∷ ds) es [] rs a b = absurd a
 done_append ps (u ∷ us) vs (d ∷ ds) es (s ∷ ss) rs a b = (a.0, a.1, done_append ps us vs ds es ss rs a.2 b)
 
-segments_append : (p : Program) (arrays : List (List ℕ × List ℤ)) (step : ℕ) (xs ys : List Task) → segments p arrays step (xs ++ ys) ≡ segments p arrays step xs ++ segments p arrays step ys
+pub segments_append : (p : Program) (arrays : List (List ℕ × List ℤ)) (step : ℕ) (xs ys : List Task) → segments p arrays step (xs ++ ys) ≡ segments p arrays step xs ++ segments p arrays step ys
 segments_append p arrays step [] ys = refl
 segments_append p arrays step (x ∷ xs) ys = ap (λ ss. (segments p arrays step (x ∷ [])) ++ ss) (segments_append p arrays step xs ys)
 
-joined_append : (ss rs : List (List ℕ × Segment)) → joined (map log_of (ss ++ rs)) ≡ joined (map log_of ss) ++ joined (map log_of rs)
+pub joined_append : (ss rs : List (List ℕ × Segment)) → joined (map log_of (ss ++ rs)) ≡ joined (map log_of ss) ++ joined (map log_of rs)
 joined_append [] rs = refl
 joined_append (s ∷ ss) rs = ap (λ (ps : List Put). s.1.puts ++ ps) (joined_append ss rs) ∙ sym (append_assoc s.1.puts (joined (map log_of ss)) (joined (map log_of rs)))
 
-prints_append : (step : ℕ) (ss rs : List (List ℕ × Segment)) → prints_of step (ss ++ rs) ≡ prints_of step ss ++ prints_of step rs
+pub prints_append : (step : ℕ) (ss rs : List (List ℕ × Segment)) → prints_of step (ss ++ rs) ≡ prints_of step ss ++ prints_of step rs
 prints_append step [] rs = refl
 prints_append step (s ∷ ss) rs =
     ap (λ (ps : List PrintValue). map (print_of step s.0) s.1.prints ++ ps) (prints_append step ss rs)
@@ -79,12 +79,13 @@ drop_more (suc n) m (x ∷ xs) = let e : suc n + m ≡ suc (n + m) = omega arith
 -- ---- one stretch
 
 -- where a stretch that covers from this place stands among the live tasks
-record IsHere (job : JobValue) (step at : ℕ) (part : PartValue) : Type 0 where
+pub record IsHere (job : JobValue) (step at : ℕ) (part : PartValue) : Type 0 where
   pub olds : List TaskValue
+  pub count : length part.tasks ≡ length olds
   pub cut : drop at (state_at (program_of job) step).live ≡ map (task_of (plans job.bodies)) olds ++ drop (at + length part.tasks) (state_at (program_of job) step).live
   pub told : HasDone (program_of job) (state_at (program_of job) step) step olds part.fault part
 
-here : (job : JobValue) (step at : ℕ) (part : PartValue) → IsPartOf job step part → part.first ≡ at → IsHere job step at part
+pub here : (job : JobValue) (step at : ℕ) (part : PartValue) → IsPartOf job step part → part.first ≡ at → IsHere job step at part
 here job step at part h e =
     let st = state_at (program_of job) step in
     let f = task_of (plans job.bodies) in
@@ -92,10 +93,10 @@ here job step at part h e =
     let count : length part.tasks ≡ length (map f h.olds) = h.count ∙ sym (length-map h.olds f) in
     let back : drop (at + length part.tasks) st.live ≡ h.live.0 =
     drop_more at (length part.tasks) st.live ∙ (λ i. drop (count i) (live i)) ∙ drop-append_seam (map f h.olds) h.live.0 in
-    record { olds = h.olds; cut = live ∙ ap (λ (ts : List Task). map f h.olds ++ ts) (sym back); told = h.told }
+    record { olds = h.olds; count = h.count; cut = live ∙ ap (λ (ts : List Task). map f h.olds ++ ts) (sym back); told = h.told }
 
 -- it is finished, and nobody faulted
-finished : (job : JobValue) (step : ℕ) (olds : List TaskValue) (part : PartValue) → HasDone (program_of job) (state_at (program_of job) step) step olds part.fault part → part.fault ≡ None → is_finished part ≡ true
+pub finished : (job : JobValue) (step : ℕ) (olds : List TaskValue) (part : PartValue) → HasDone (program_of job) (state_at (program_of job) step) step olds part.fault part → part.fault ≡ None → is_finished part ≡ true
     → IsAllDone (plans job.bodies) (deeds_of (program_of job) (state_at (program_of job) step).arrays step olds) step part.puts part.tasks part.deeds [] part.prints
 finished job step olds part h none b =
     let p = program_of job in
@@ -112,7 +113,7 @@ parts_of a b c h = let t = both (a && b) c h in let u = both a b t.0 in (u.0, u.
 pub same_number : (m n : ℕ) → (m == n) ≡ true → m ≡ n
 same_number m n h = grind arith
 
-none_of : (o rest : Option (ℕ × List ℕ)) → or_next o rest ≡ None → (o ≡ None) × (rest ≡ None)
+pub none_of : (o rest : Option (ℕ × List ℕ)) → or_next o rest ≡ None → (o ≡ None) × (rest ≡ None)
 none_of None rest h = (refl, h)
 none_of (Some f) rest h = cc
 

@@ -5,7 +5,7 @@ use Rattle.step_stretches.specs.declared.fault.Unwanted.TheVariants as unwanted
 use Rattle.step_stretches.specs.declared.fault.Unclosed.{Unclosed}
 use Rattle.step_stretches.specs.declared.fault.Unclosed.TheVariants as unclosed
 use Rattle.step_stretches.specs.PartValue.{PartValue, StretchValue}
-use Rattle.step_stretches.specs.Parts.{is_finished}
+use Rattle.step_stretches.specs.Parts.{is_finished, deeds_in}
 use Rattle.std.specs.Option.{option_map}
 use Rattle.task_lang.specs.JobValue.{JobValue}
 use Rattle.task_lang.specs.TaskValue.{TaskValue}
@@ -15,9 +15,11 @@ use Rattle.step_parts.specs.Superstep.{State, superstep, segments}
 use Rattle.step_parts.specs.SlotParts.{told_at}
 use Rattle.step_parts.specs.Taking.{outcome_of}
 use Rattle.step_parts.specs.declared.fault.Outcome as outcomes
+use Rattle.step_parts.specs.declared.fault.Outcome.TheVariants.{Landed}
 use Rattle.step_deeds.specs.DeedValue.{DeedValue}
-use Rattle.step_deeds.specs.InPlace.{maker}
-use Rattle.step_stretches.specs.StretchesValue.{StretchesValue, is_whole, before, state_of}
+use Rattle.step_deeds.specs.InPlace.{maker, left_in, spawned_in}
+use Rattle.step_stretches.specs.Joining.{AreJoined}
+use Rattle.step_stretches.specs.StretchesValue.{StretchesValue, AllReady, is_whole, before, state_of}
 
 -- with this at the place of this number, and else as before
 abbrev pub with_slot : StretchesValue → ℕ → Option PartValue → StretchesValue
@@ -75,12 +77,24 @@ blamed us ds (Some place) = option_map told_at (maker us ds place)
 abbrev pub deeds_next : StretchesValue → List (List ℕ × Segment)
 deeds_next v = segments (program_of v.job) (before v).arrays (before v).step (before v).live
 
+-- some of the stretches were joined, and all are there as before: closing may be tried again
+pub record AreLeft (old new : StretchesValue) : Type 0 where
+  pub state : IsAt new old.job old.limit (state_of old)
+  pub rest : new ≡ record old { parts = new.parts }
+  pub joined : AreJoined old.parts new.parts
+  pub whole : is_whole new ≡ true
+
 -- how closing leaves it that isn't done
 abbrev pub IsLeft : Unclosed → StretchesValue → StretchesValue → Type 0
 IsLeft unclosed.Missing old new = new ≡ old
-IsLeft (unclosed.Memory e) old new = IsAt new old.job old.limit (state_of old)
+IsLeft (unclosed.Memory e) old new = AreLeft old new
+
+-- no task came or left, as the stretches that are there tell
+abbrev pub AllStay : StretchesValue → Type 0
+AllStay v = (left_in (deeds_in v.parts) ≡ 0) × (spawned_in (deeds_in v.parts) ≡ 0)
 
 -- how closing leaves it that is done
 pub record IsClosed (old new : StretchesValue) (outcome : outcomes.Outcome) : Type 0 where
   pub state : IsAt new old.job old.limit (superstep (program_of old.job) (state_of old))
   pub told : outcome ≡ outcome_of (before old).arrays (deeds_next old)
+  pub ready : outcome ≡ Landed → AllReady new

@@ -48,13 +48,13 @@ fresh_part job step first tasks = record {
   fault = None;
 }
 
--- one task more is done
-pub record IsOneMore (old new : PartValue) : Type 0 where
+-- the tasks up to this place are done
+pub record IsDoneTo (end : ℕ) (old new : PartValue) : Type 0 where
   pub job : new.job ≡ old.job
   pub step : new.step ≡ old.step
   pub first : new.first ≡ old.first
   pub count : length new.tasks ≡ length old.tasks
-  pub done : new.done ≡ old.done + 1
+  pub done : new.done ≡ end
 
 -- all its tasks have done their segments
 abbrev pub is_finished : PartValue → Bool
@@ -104,6 +104,12 @@ IsOwn job step (Some part) = (part.job ≡ job) × (part.step ≡ step) × IsPar
 abbrev pub AreOwn : JobValue → ℕ → List (Option PartValue) → Type 0
 AreOwn job step [] = Unit {0}
 AreOwn job step (s ∷ ss) = IsOwn job step s × AreOwn job step ss
+
+-- these are all there, one behind another from this place on, and nothing of them is done
+abbrev pub AreFresh : JobValue → ℕ → ℕ → List (Option PartValue) → Type 0
+AreFresh job step at [] = Unit {0}
+AreFresh job step at (None ∷ ss) = ⊥
+AreFresh job step at (Some part ∷ ss) = (part ≡ fresh_part job step at part.tasks) × AreFresh job step (at + length part.tasks) ss
 
 -- how many puts were made
 abbrev pub made_in : List DeedValue → ℕ

@@ -1,12 +1,13 @@
 -- A job whose supersteps are taken by stretches (own).
-use Rattle.std.specs.Prelude.{◌≡◌, ◌≤◌, ℕ, Bool, List, Option, Some, None, length}
+use Rattle.std.specs.Prelude.{◌≡◌, ◌≤◌, ℕ, Bool, List, Option, Some, None, length, map}
 use Rattle.phase_records.specs.Status.{Status}
 use Rattle.task_lang.specs.JobValue.{JobValue}
+use Rattle.task_lang.specs.Views.{plans, task_of}
 use Rattle.step_parts.specs.Program.{program_of}
 use Rattle.step_parts.specs.Superstep.{State}
 use Rattle.step_parts.specs.JobMeaning.{state_at, so_far, status}
 use Rattle.step_stretches.specs.PartValue.{PartValue}
-use Rattle.step_stretches.specs.Parts.{AreOwn, covers}
+use Rattle.step_stretches.specs.Parts.{AreOwn, AreFresh, covers, tasks_in}
 
 -- so many supersteps were taken within this limit; of the next the stretches that aren't lent, by their numbers; and the
 -- fault that has ended the job, if one has
@@ -44,3 +45,8 @@ pub record IsCourse (v : StretchesValue) : Type 0 where
   pub unfaulted : (before v).fault ≡ None
   pub few : length (before v).live ≤ 4096
   pub own : AreOwn v.job v.step v.parts
+
+-- its stretches are all there, nothing of them is done, and their tasks are those that live, one behind another
+pub record AllReady (v : StretchesValue) : Type 0 where
+  pub fresh : AreFresh v.job v.step 0 v.parts
+  pub tasks : (before v).live ≡ map (task_of (plans v.job.bodies)) (tasks_in v.parts)

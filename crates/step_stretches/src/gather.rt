@@ -1,60 +1,68 @@
-//! All tasks of a superstep in one list, with what they did.
-ghost use Rattle.std.specs.Prelude.{◌≡◌, ◌++◌, IfOk, OnOk};
-ghost use Rattle.step_stretches.specs.Parts.{of_slot, tasks_in, puts_in, deeds_in, prints_in};
+//! All stretches of a superstep in one.
+ghost use Rattle.std.specs.Prelude.{◌≡◌, ◌≤◌, ◌+◌, OnOk, OnErr, length, reverse};
+ghost use Rattle.step_stretches.specs.Joining.{SlotsFollow, joined_slot, IsWhole, AreJoined};
 
-use crate::part::{Handed, Part};
-use std::alloc::{AllocError, Global};
-use step_deeds::deeds::Deeds;
+use crate::part::Part;
+use std::alloc::AllocError;
 
-// Moves what a stretch has behind what others had.
-fn add(all: &mut Handed, slot: Option<Part<'_>>) -> Result<(), AllocError>
-    ensures tasks { OnOk result (all.new.tasks.items ≡ all.old.tasks.items ++ of_slot (λ part. part.tasks) slot.entry) }
-    ensures puts { OnOk result (all.new.puts.items ≡ all.old.puts.items ++ of_slot (λ part. part.puts) slot.entry) }
-    ensures deeds { OnOk result (all.new.deeds ≡ all.old.deeds ++ of_slot (λ part. part.deeds) slot.entry) }
-    ensures prints { OnOk result (all.new.prints.items ≡ all.old.prints.items ++ of_slot (λ part. part.prints) slot.entry) }
+// Takes the next stretch into the one in front of it. Without memory both are as they were.
+fn join_slots<'j>(
+    first: &mut Option<Part<'j>>,
+    next: &mut Option<Part<'j>>,
+) -> Result<(), AllocError>
+    requires { SlotsFollow first.old next.old }
+    ensures joined { OnOk result (first.new ≡ joined_slot first.old next.old) }
+    ensures memory { OnErr result ((first.new ≡ first.old) × (next.new ≡ next.old)) }
 {
-    match slot {
-        Some(part) => add_handed(all, part.into_handed()),
-        None => Ok(()),
+    match (first, next) {
+        (Some(first), Some(next)) => first.join(next),
+        _ => Ok(()),
     }
 }
 
-// Moves this behind what is there.
-fn add_handed(all: &mut Handed, handed: Handed) -> Result<(), AllocError>
-    ensures tasks { OnOk result (all.new.tasks.items ≡ all.old.tasks.items ++ handed.tasks.items) }
-    ensures puts { OnOk result (all.new.puts.items ≡ all.old.puts.items ++ handed.puts.items) }
-    ensures deeds { OnOk result (all.new.deeds ≡ all.old.deeds ++ handed.deeds) }
-    ensures prints { OnOk result (all.new.prints.items ≡ all.old.prints.items ++ handed.prints.items) }
+// Takes the last but one into the last, which stands in front of it. Without memory all are as they were.
+fn join_last(parts: &mut Vec<Option<Part<'_>>>) -> Result<(), AllocError>
+    requires two { 2 ≤ length parts.old.items }
+    requires whole { IsWhole (reverse parts.old.items) }
+    ensures joined { AreJoined (reverse parts.old.items) (reverse parts.new.items) }
+    ensures fewer { OnOk result (length parts.new.items + 1 ≡ length parts.old.items) }
 {
-    let Handed {
-        mut tasks,
-        mut puts,
-        mut deeds,
-        mut prints,
-    } = handed;
-    all.tasks.append(&mut tasks)?;
-    all.puts.append(&mut puts)?;
-    all.deeds.append(&mut deeds)?;
-    all.prints.append(&mut prints)
-}
-
-/// What these stretches have, one behind another.
-pub(crate) fn gather(alloc: Global, parts: Vec<Option<Part<'_>>>) -> Result<Handed, AllocError>
-    ensures tasks { IfOk result (λ all. all.tasks.items ≡ tasks_in parts.entry.items) }
-    ensures puts { IfOk result (λ all. all.puts.items ≡ puts_in parts.entry.items) }
-    ensures deeds { IfOk result (λ all. all.deeds ≡ deeds_in parts.entry.items) }
-    ensures prints { IfOk result (λ all. all.prints.items ≡ prints_in parts.entry.items) }
-{
-    let mut rest = parts;
-    rest.reverse();
-    let mut all = Handed {
-        tasks: Vec::new(alloc),
-        puts: Vec::new(alloc),
-        deeds: Deeds::new(alloc),
-        prints: Vec::new(alloc),
+    let (Some(mut first), Some(mut next)) = (parts.pop(), parts.pop()) else {
+        unreachable!();
     };
-    while let Some(slot) = rest.pop() {
-        add(&mut all, slot)?;
+    match join_slots(&mut first, &mut next) {
+        Ok(()) => {
+            parts.push_reserved(first);
+            Ok(())
+        }
+        Err(fault) => {
+            parts.push_reserved(next);
+            parts.push_reserved(first);
+            Err(fault)
+        }
     }
-    Ok(all)
+}
+
+// Takes each into the one in front of it, the first of which stands last.
+fn join_all(parts: &mut Vec<Option<Part<'_>>>) -> Result<(), AllocError>
+    requires whole { IsWhole (reverse parts.old.items) }
+    ensures joined { AreJoined (reverse parts.old.items) (reverse parts.new.items) }
+    ensures one { OnOk result (length parts.new.items ≤ 1) }
+{
+    while parts.len() > 1 {
+        join_last(parts)?;
+    }
+    Ok(())
+}
+
+/// Joins these stretches, which are finished and one behind another, into one. Without memory they may be fewer.
+pub(crate) fn gather(parts: &mut Vec<Option<Part<'_>>>) -> Result<(), AllocError>
+    requires whole { IsWhole parts.old.items }
+    ensures joined { AreJoined parts.old.items parts.new.items }
+    ensures one { OnOk result (length parts.new.items ≤ 1) }
+{
+    parts.reverse();
+    let gathered = join_all(parts);
+    parts.reverse();
+    gathered
 }

@@ -13,7 +13,7 @@ use phase_records::{PhaseRecord, Print};
 use std::alloc::{AllocError, Global};
 use std::sync::Arc;
 use step_parts::slot::Blame;
-use superstep_memory::arrays::{Arrays, Put, PutLog};
+use superstep_memory::arrays::{Arrays, PutLog};
 use superstep_memory::log::{are_sets, land_log, write_sets};
 
 // Whether each put sets its cell.
@@ -95,28 +95,6 @@ pub(crate) fn land_together(
     }
     let mut copy = arrays.copy(alloc)?;
     if let Some(place) = land_parts(alloc, &mut copy, parts, olds)? {
-        return Ok(Some(place));
-    }
-    put_in_place(alloc, arrays, copy)
-}
-
-/// Lands one log, likewise.
-pub(crate) fn land_joined(
-    alloc: Global,
-    arrays: &mut Arc<Arrays>,
-    puts: &[Put],
-    olds: &mut Vec<i64>,
-) -> Result<Option<usize>, AllocError>
-    ensures place { IfOk result (λ place. place ≡ over_in (arc_value arrays.old) [] 0 puts.now) }
-    ensures lands { IfOk result (λ place. place ≡ None → arc_value arrays.new ≡ landed puts.now (arc_value arrays.old)) }
-    ensures unlanded { IfOk result (λ place. IsSome place → arc_value arrays.new ≡ arc_value arrays.old) }
-    ensures memory { OnErr result (arc_value arrays.new ≡ arc_value arrays.old) }
-{
-    if let Some(own) = Arc::get_mut(arrays) {
-        return land_log(own, puts, olds);
-    }
-    let mut copy = arrays.copy(alloc)?;
-    if let Some(place) = land_log(&mut copy, puts, olds)? {
         return Ok(Some(place));
     }
     put_in_place(alloc, arrays, copy)

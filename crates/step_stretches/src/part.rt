@@ -1,16 +1,13 @@
 //! A stretch of live tasks, and what they did.
-ghost use Rattle.std.specs.Prelude.{◌≡◌, ◌≤◌, ◌<◌, ◌+◌, ◌∷◌, [], IfOk, OnOk, OnErr, length, slice_set, get_or};
-ghost use Rattle.task_lang.specs.Meaning.{segment_of};
-ghost use Rattle.task_lang.specs.Views.{plans, task_of};
-ghost use Rattle.step_deeds.specs.InPlace.{ToldOne};
-ghost use Rattle.step_stretches.specs.Doing.{HasToldAt};
+ghost use Rattle.std.specs.Prelude.{◌≡◌, ◌≤◌, ◌+◌, ◌++◌, [], length};
+ghost use Rattle.std.specs.Vec.{vec_len, vec_capacity};
 
 use phase_records::{PhaseRecord, Print};
 use smallvec::SmallVec;
 use std::alloc::{AllocError, Global};
 use std::marker::Model;
 use step_deeds::deeds::{Deeds, Turn};
-use step_deeds::in_place::{StepScene, do_one};
+use step_deeds::in_place::{StepScene, do_range};
 use step_parts::slot::{Blame, task_path};
 use superstep_memory::arrays::{Arrays, Put};
 use superstep_memory::path::Path;
@@ -35,11 +32,10 @@ pub(crate) struct Part<'j> {
     fault: Option<Blame>,
 }
 
-/// What a stretch hands on where its tasks are gathered with others'.
+/// What a stretch hands on where its tasks come or leave.
 #[derive(Drop)]
 pub(crate) struct Handed {
     pub(crate) tasks: Vec<Task>,
-    pub(crate) puts: Vec<Put>,
     pub(crate) deeds: Deeds,
     pub(crate) prints: Vec<Print>,
 }
@@ -56,27 +52,15 @@ impl<'j> Model for Part<'j> {
     ghost invariant = { IsPartInside };
 }
 
-// Does the segment of the task at this place, and keeps what it did behind what others did, or tells its fault.
-fn do_at(
-    alloc: Global,
-    scene: &StepScene<'_>,
-    tasks: &mut Vec<Task>,
-    place: usize,
-    work: &mut Work,
-    deeds: &mut Deeds,
-    prints: &mut Vec<Print>,
-) -> Result<Option<Blame>, AllocError>
-    requires { place < length tasks.old.items }
-    ensures { IfOk result (λ fault. HasToldAt (plans scene.now.job.now.bodies) scene.now.arrays.now scene.now.step place fault
-        tasks.old.items tasks.new.items work.old.puts.items work.new.puts.items deeds.old deeds.new prints.old.items prints.new.items) }
+// Moves these behind others, for which there is room.
+fn move_behind<T: Drop>(all: &mut Vec<T>, more: &mut Vec<T>)
+    requires { vec_len all.old + length more.old.items ≤ vec_capacity all.old }
+    ensures items { all.new.items ≡ all.old.items ++ more.old.items }
+    ensures none_left { more.new.items ≡ [] }
 {
-    let task = &mut tasks[place];
-    match do_one(alloc, scene, task, work, deeds, prints)? {
-        Some(code) => {
-            let path = task_path(task);
-            Ok(Some(Blame { code, path }))
-        }
-        None => Ok(None),
+    match all.append(more) {
+        Ok(()) => {}
+        Err(_) => unreachable!(),
     }
 }
 
@@ -102,7 +86,8 @@ impl<'j> Part<'j> {
     ghost use Rattle.step_parts.specs.SlotParts.{path_of, path_in, told_at};
     ghost use Rattle.step_deeds.specs.InPlace.{told_in, maker, left_in, spawned_in, AllFew};
     ghost use Rattle.step_deeds.specs.Turns.{turn_of, turn_in};
-    ghost use Rattle.step_stretches.specs.Parts.{AreLive, IsPart, IsOneMore, fresh_part, is_finished};
+    ghost use Rattle.step_stretches.specs.Parts.{AreLive, IsPart, IsDoneTo, fresh_part, is_finished};
+    ghost use Rattle.step_stretches.specs.Joining.{Follows, joined_part};
 
     /// These tasks, the first of which has this place among the live ones, before their segments.
     pub(crate) fn new(
@@ -171,15 +156,16 @@ impl<'j> Part<'j> {
         }
     }
 
-    /// Does the segment of the next task over these arrays. Without memory the tasks are lost.
-    pub(crate) fn do_next(&mut self, alloc: Global, arrays: &Arrays) -> Result<(), AllocError>
+    // Does the segments of its tasks up to this place, over these arrays. Without memory the tasks are lost.
+    fn do_to(&mut self, alloc: Global, arrays: &Arrays, end: usize) -> Result<(), AllocError>
         requires arrays { arrays.now ≡ (state_at (program_of self.old.job) self.old.step).arrays }
-        requires more { self.old.done < length self.old.tasks }
-        ensures more { OnOk result (IsOneMore self.old self.new) }
+        requires rises { self.old.done ≤ end }
+        requires within { end ≤ length self.old.tasks }
+        ensures more { OnOk result (IsDoneTo end self.old self.new) }
         ensures same { OnErr result ((self.new.job ≡ self.old.job) × (self.new.step ≡ self.old.step)) }
     {
         if self.fault.is_some() {
-            self.done += 1;
+            self.done = end;
             return Ok(());
         }
         let scene = StepScene {
@@ -187,17 +173,18 @@ impl<'j> Part<'j> {
             arrays,
             step: self.step,
         };
-        match do_at(
+        match do_range(
             alloc,
             &scene,
             &mut self.tasks,
             self.done,
+            end,
             &mut self.work,
             &mut self.deeds,
             &mut self.prints,
         ) {
             Ok(fault) => {
-                self.done += 1;
+                self.done = end;
                 self.fault = fault;
                 Ok(())
             }
@@ -210,6 +197,46 @@ impl<'j> Part<'j> {
                 Err(fault)
             }
         }
+    }
+
+    /// Does the segment of the next task over these arrays. Without memory the tasks are lost.
+    pub(crate) fn do_next(&mut self, alloc: Global, arrays: &Arrays) -> Result<(), AllocError>
+        requires arrays { arrays.now ≡ (state_at (program_of self.old.job) self.old.step).arrays }
+        requires more { self.old.done < length self.old.tasks }
+        ensures more { OnOk result (IsDoneTo (self.old.done + 1) self.old self.new) }
+        ensures same { OnErr result ((self.new.job ≡ self.old.job) × (self.new.step ≡ self.old.step)) }
+    {
+        let end = self.done + 1;
+        self.do_to(alloc, arrays, end)
+    }
+
+    /// Does the segments of all tasks that are left over these arrays. Without memory the tasks are lost.
+    pub(crate) fn do_rest(&mut self, alloc: Global, arrays: &Arrays) -> Result<(), AllocError>
+        requires arrays { arrays.now ≡ (state_at (program_of self.old.job) self.old.step).arrays }
+        requires more { self.old.done < length self.old.tasks }
+        ensures more { OnOk result (IsDoneTo (length self.old.tasks) self.old self.new) }
+        ensures same { OnErr result ((self.new.job ≡ self.old.job) × (self.new.step ≡ self.old.step)) }
+    {
+        let end = self.tasks.len();
+        self.do_to(alloc, arrays, end)
+    }
+
+    /// Takes in what another, whose tasks stand behind its own, has and did. Without memory both are as they were.
+    pub(crate) fn join(&mut self, next: &mut Part<'j>) -> Result<(), AllocError>
+        requires { Follows self.old next.old }
+        ensures joined { OnOk result (self.new ≡ joined_part self.old next.old) }
+        ensures memory { OnErr result ((self.new ≡ self.old) × (next.new ≡ next.old)) }
+    {
+        self.tasks.reserve(next.tasks.len())?;
+        self.work.puts.reserve(next.work.puts.len())?;
+        self.prints.reserve(next.prints.len())?;
+        self.deeds.append(&mut next.deeds)?;
+        move_behind(&mut self.tasks, &mut next.tasks);
+        move_behind(&mut self.work.puts, &mut next.work.puts);
+        move_behind(&mut self.prints, &mut next.prints);
+        self.done = self.tasks.len();
+        next.done = 0;
+        Ok(())
     }
 
     /// Its puts, one after another.
@@ -297,20 +324,17 @@ impl<'j> Part<'j> {
     /// What it hands on.
     pub(crate) fn into_handed(self) -> Handed
         ensures tasks { result.tasks.items ≡ self.entry.tasks }
-        ensures puts { result.puts.items ≡ self.entry.puts }
         ensures deeds { result.deeds ≡ self.entry.deeds }
         ensures prints { result.prints.items ≡ self.entry.prints }
     {
         let Part {
             tasks,
-            work,
             deeds,
             prints,
             ..
         } = self;
         Handed {
             tasks,
-            puts: work.puts,
             deeds,
             prints,
         }

@@ -31,7 +31,7 @@ impl<'j> Model for Stretch<'j> {
 }
 
 impl<'j> Stretch<'j> {
-    ghost use Rattle.std.specs.Prelude.{◌≡◌, ◌<◌, ◌↔◌, IsTrue, IfOk, OnOk, OnErr, is_some, length, map, slice_get};
+    ghost use Rattle.std.specs.Prelude.{◌≡◌, ◌<◌, ◌+◌, ◌↔◌, IsTrue, IfOk, OnOk, OnErr, is_some, length, map, slice_get};
     ghost use Rattle.std.specs.Arc.{arc_value};
     ghost use Rattle.std.specs.Option.{option_map};
     ghost use Rattle.step_parts.specs.Program.{program_of};
@@ -39,7 +39,7 @@ impl<'j> Stretch<'j> {
     ghost use Rattle.step_parts.specs.SlotParts.{path_of, path_in};
     ghost use Rattle.step_deeds.specs.InPlace.{left_in, spawned_in};
     ghost use Rattle.step_deeds.specs.Turns.{turn_of, turn_in};
-    ghost use Rattle.step_stretches.specs.Parts.{IsPart, IsOneMore, is_finished};
+    ghost use Rattle.step_stretches.specs.Parts.{IsPart, IsDoneTo, is_finished};
 
     /// The stretch of this number, over these arrays.
     pub(crate) fn new(number: usize, part: Part<'j>, arrays: Arc<Arrays>) -> Self
@@ -92,11 +92,21 @@ impl<'j> Stretch<'j> {
     /// Does the segment of the next task. Without memory the tasks are lost.
     pub fn do_next(&mut self, alloc: Global) -> Result<(), AllocError>
         requires { self.old.part.done < length self.old.part.tasks }
-        ensures more { OnOk result (IsOneMore self.old.part self.new.part) }
+        ensures more { OnOk result (IsDoneTo (self.old.part.done + 1) self.old.part self.new.part) }
         ensures same { OnErr result ((self.new.part.job ≡ self.old.part.job) × (self.new.part.step ≡ self.old.part.step)) }
         ensures number { self.new.number ≡ self.old.number }
     {
         self.part.do_next(alloc, &self.arrays)
+    }
+
+    /// Does the segments of all tasks that are left. Without memory the tasks are lost.
+    pub fn do_rest(&mut self, alloc: Global) -> Result<(), AllocError>
+        requires { self.old.part.done < length self.old.part.tasks }
+        ensures more { OnOk result (IsDoneTo (length self.old.part.tasks) self.old.part self.new.part) }
+        ensures same { OnErr result ((self.new.part.job ≡ self.old.part.job) × (self.new.part.step ≡ self.old.part.step)) }
+        ensures number { self.new.number ≡ self.old.number }
+    {
+        self.part.do_rest(alloc, &self.arrays)
     }
 
     /// Whether one of its tasks has faulted.

@@ -4,10 +4,11 @@ ghost use Rattle.std.specs.Arc.{arc_value};
 
 use crate::cut::cut;
 use crate::fault::{Unclosed, Unwanted};
+use crate::gather::gather;
 use crate::landing::land_with_room;
 use crate::part::Part;
 use crate::parts::{cover, find_fault, record_of};
-use crate::regroup::{Regrouped, regroup};
+use crate::regroup::regroup;
 use crate::renewal::renew_all;
 use crate::stretch::Stretch;
 use phase_records::{JobStatus, PhaseRecord, Print, Report};
@@ -56,7 +57,7 @@ impl<'j> Model for Stretches<'j> {
 }
 
 impl<'j> Stretches<'j> {
-    ghost use Rattle.std.specs.Prelude.{◌≡◌, ◌≤◌, ◌<◌, ◌+◌, None, Some, true, false, IsTrue, IfOk, IfSome, OnOk, IfErr, OnErr, MatchOption, is_some, length, slice_get};
+    ghost use Rattle.std.specs.Prelude.{◌≡◌, ◌≤◌, ◌<◌, ◌+◌, None, Some, true, false, IsTrue, IfOk, IfSome, OnOk, IfErr, OnErr, MatchOption, is_some, length, map, slice_get};
     ghost use Rattle.std.specs.Option.{option_map};
     ghost use Rattle.std.specs.Arc.{arc_value};
     ghost use Rattle.phase_records.specs.Status.{IsShort};
@@ -64,17 +65,19 @@ impl<'j> Stretches<'j> {
     ghost use Rattle.step_parts.specs.Program.{program_of};
     ghost use Rattle.step_parts.specs.JobMeaning.{opening, report_in};
     ghost use Rattle.step_parts.specs.Superstep.{superstep, ended_by};
+    ghost use Rattle.step_parts.specs.declared.fault.Outcome.TheVariants.{Landed};
     ghost use Rattle.step_deeds.specs.InPlace.{told_in};
-    ghost use Rattle.step_stretches.specs.Parts.{IsPart, fault_in, deeds_in};
-    ghost use Rattle.step_stretches.specs.StretchesValue.{before, state_of, status_in, is_whole, with_fault, IsCourse};
-    ghost use Rattle.step_stretches.specs.Closing.{with_slot, ready_at, tasks_at, IsLent, Refuses, Takes, NotClosed, IsAt, IsLeft, IsClosed};
+    ghost use Rattle.step_stretches.specs.Parts.{IsPart, fault_in, deeds_in, renewed};
+    ghost use Rattle.step_stretches.specs.StretchesValue.{before, state_of, status_in, is_whole, with_fault, IsCourse, AllReady};
+    ghost use Rattle.step_stretches.specs.Closing.{with_slot, ready_at, tasks_at, IsLent, Refuses, Takes, NotClosed, IsAt, AreLeft, IsLeft, IsClosed, AllStay};
 
     /// The stretches of this job, with this limit of supersteps, before the first of them. Whenever tasks come or leave, the
     /// live ones are cut into about so many.
     pub fn new(alloc: Global, job: &'j Job, limit: u32, pieces: usize) -> Result<Self, AllocError>
         requires limit { 1 ≤ limit }
         requires pieces { 1 ≤ pieces }
-        ensures { IfOk result (λ all. IsAt all job.now limit (opening (program_of job.now))) }
+        ensures state { IfOk result (λ all. IsAt all job.now limit (opening (program_of job.now))) }
+        ensures ready { IfOk result (λ all. AllReady all) }
     {
         let tasks = start_all(alloc, job.bodies(), job.starts())?;
         let arrays = job.arrays().copy(alloc)?;
@@ -231,13 +234,16 @@ impl<'j> Stretches<'j> {
 
     /// Takes one superstep, where each live task has done its segment and its stretch is back, or refuses to and changes
     /// nothing. A task's fault, over 4096 tasks that would live on, or a put that overflows, is no refusal: it ends the job, and
-    /// the superstep leaves nothing else. Without memory the job stays as it was before the superstep, whose stretches are lost.
+    /// the superstep leaves nothing else. Without memory all is as it was, but that stretches may have been joined: closing may
+    /// be tried again.
     pub fn close(&mut self, alloc: Global) -> Result<Outcome, Unclosed>
         requires running { status_in self.old ≡ None }
         ensures whole { OnOk result (is_whole self.old ≡ true) }
         ensures closed { IfOk result (λ outcome. IsClosed self.old self.new outcome) }
         ensures refused { IfErr result (λ fault. NotClosed fault self.old) }
         ensures left { IfErr result (λ fault. IsLeft fault self.old self.new) }
+        ensures kept { IfOk result (λ outcome. outcome ≡ Landed → AllStay self.old → self.new.parts ≡ map renewed self.old.parts) }
+        ensures unchanged { OnErr result (AllStay self.old → self.new ≡ self.old) }
     {
         if !cover(&self.parts, self.count) {
             return Err(Unclosed::Missing);
@@ -265,7 +271,9 @@ impl<'j> Stretches<'j> {
         requires told { told ≡ told_in self.old.step (deeds_in self.old.parts) }
         requires few { told.parties ≤ 4096 + told.left }
         ensures closed { IfOk result (λ outcome. IsClosed self.old self.new outcome) }
-        ensures left { OnErr result (IsAt self.new self.old.job self.old.limit (state_of self.old)) }
+        ensures left { OnErr result (AreLeft self.old self.new) }
+        ensures kept { IfOk result (λ outcome. outcome ≡ Landed → AllStay self.old → self.new.parts ≡ map renewed self.old.parts) }
+        ensures unchanged { OnErr result (AllStay self.old → self.new ≡ self.old) }
     {
         if told.left == 0 && told.spawned == 0 {
             self.stay(alloc, told)
@@ -283,7 +291,8 @@ impl<'j> Stretches<'j> {
         requires few { told.parties ≤ 4096 + told.left }
         requires stays { (told.left ≡ 0) × (told.spawned ≡ 0) }
         ensures closed { IfOk result (λ outcome. IsClosed self.old self.new outcome) }
-        ensures left { OnErr result (IsAt self.new self.old.job self.old.limit (state_of self.old)) }
+        ensures kept { IfOk result (λ outcome. outcome ≡ Landed → self.new.parts ≡ map renewed self.old.parts) }
+        ensures unchanged { OnErr result (self.new ≡ self.old) }
     {
         let fault = land_with_room(
             alloc,
@@ -315,26 +324,44 @@ impl<'j> Stretches<'j> {
         requires told { told ≡ told_in self.old.step (deeds_in self.old.parts) }
         requires few { told.parties ≤ 4096 + told.left }
         ensures closed { IfOk result (λ outcome. IsClosed self.old self.new outcome) }
-        ensures left { OnErr result (IsAt self.new self.old.job self.old.limit (state_of self.old)) }
+        ensures left { OnErr result (AreLeft self.old self.new) }
     {
+        match gather(&mut self.parts) {
+            Ok(()) => self.move_gathered(alloc, told),
+            Err(fault) => Err(fault),
+        }
+    }
+
+    // Takes one superstep in which tasks came or left, and all that live are in one stretch.
+    fn move_gathered(&mut self, alloc: Global, told: PhaseRecord) -> Result<Outcome, AllocError>
+        requires running { status_in self.old ≡ None }
+        requires whole { is_whole self.old ≡ true }
+        requires faultless { fault_in self.old.parts ≡ None }
+        requires told { told ≡ told_in self.old.step (deeds_in self.old.parts) }
+        requires few { told.parties ≤ 4096 + told.left }
+        requires one { length self.old.parts ≤ 1 }
+        ensures closed { IfOk result (λ outcome. IsClosed self.old self.new outcome) }
+        ensures unchanged { OnErr result (self.new ≡ self.old) }
+    {
+        let count = (told.parties - told.left) as usize;
+        let room = Vec::with_capacity(alloc, count)?;
         let mut next = Vec::with_capacity(alloc, 1)?;
-        let parts = mem::replace(&mut self.parts, Vec::new(alloc));
-        let moved = regroup(
+        let fault = land_with_room(
             alloc,
-            parts,
             &mut self.arrays,
+            &self.parts,
             &mut self.prints,
             &mut self.records,
             &mut self.olds,
-            told,
-            (told.parties - told.left) as usize,
         )?;
-        match moved {
-            Regrouped::Over(blame) => {
-                self.fault = blame;
+        match fault {
+            Some(blame) => {
+                self.fault = Some(blame);
                 Ok(Outcome::Overflowed)
             }
-            Regrouped::Next(tasks) => {
+            None => {
+                let tasks = regroup(&mut self.parts, room, &mut self.prints, count);
+                self.records.push_reserved(told);
                 self.step += 1;
                 self.count = tasks.len();
                 cut(alloc, self.job, self.step, tasks, self.pieces, &mut next);

@@ -2,3 +2,4 @@ pub mod BoardValue
 pub mod Entries
 pub mod JobPlan
 pub mod Refusals
+pub mod Turnouts

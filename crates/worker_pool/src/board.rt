@@ -99,10 +99,10 @@ impl<'j, J: Running> Model for Board<'j, J> {
 }
 
 impl<'j, J: Running> Board<'j, J> {
-    ghost use Rattle.std.specs.Prelude.{◌≡◌, Some, None, Err, true, IfOk, IfSome, IfErr, OnOk, OnErr};
+    ghost use Rattle.std.specs.Prelude.{◌≡◌, ◌||◌, Some, None, Err, true, false, is_some, IfOk, IfSome, IfErr, OnOk, OnErr};
     ghost use Rattle.step_core.specs.Program.{program_of};
     ghost use Rattle.step_core.specs.JobMeaning.{report_of};
-    ghost use Rattle.step_stretches.specs.StretchesValue.{state_of, is_whole};
+    ghost use Rattle.step_stretches.specs.StretchesValue.{state_of, status_in, is_whole};
     ghost use Rattle.step_stretches.specs.Closing.{Takes, with_slot, IsClosed, IsAt};
     ghost use Rattle.worker_pool.specs.BoardValue.{with_stretches, refused_by};
     ghost use Rattle.worker_pool.specs.Refusals.{IsOfWorkers, refusal_of};
@@ -126,7 +126,9 @@ impl<'j, J: Running> Board<'j, J> {
     }
 
     /// Whether workers go home: the job has ended, or the run is refused.
-    pub(crate) fn is_over(&self) -> bool {
+    pub(crate) fn is_over(&self) -> bool
+        ensures { result ≡ (is_some self.now.first || is_some (status_in self.now.stretches)) }
+    {
         self.first.is_some() || self.stretches.has_ended()
     }
 
@@ -247,7 +249,9 @@ impl<'j, J: Running> Board<'j, J> {
         step: u32,
         row: Row<J>,
         led: bool,
-    ) -> Result<Turned, Note> {
+    ) -> Result<Turned, Note>
+        ensures unled { led ≡ false → self.new ≡ self.old }
+    {
         if self.stretches.step() != step {
             return opened(self.take_late(row));
         }

@@ -68,7 +68,9 @@ impl From<AllocError> for Note {
 }
 
 /// What a worker notes whose stretch isn't taken back: each is lent to one worker, who delivers it once, done.
-pub(crate) fn note_of_delivery(fault: Unwanted) -> Note {
+pub(crate) fn note_of_delivery(fault: Unwanted) -> Note
+    ensures { result ≡ Note.Internal }
+{
     match fault {
         Unwanted::WrongStep | Unwanted::Unfinished | Unwanted::Stranger | Unwanted::Double => {
             Note::Internal

@@ -1,6 +1,7 @@
 //! What a worker has in hand.
-ghost use Rattle.std.specs.Prelude.{◌≡◌, false, OnOk};
-ghost use Rattle.step_stretches.specs.Parts.{IsOneMore, is_finished};
+ghost use Rattle.std.specs.Prelude.{◌≡◌, ◌+◌, true, false, IfOk, OnOk};
+ghost use Rattle.step_stretches.specs.Parts.{IsDoneTo, is_finished};
+ghost use Rattle.worker_pool.specs.Turnouts.{Tells};
 
 use crate::board::Running;
 use crate::fault::Note;
@@ -40,7 +41,7 @@ pub(crate) enum Turnout {
 // Does the next segment of a stretch.
 fn do_one(alloc: Global, stretch: &mut Stretch<'_>) -> Result<(), AllocError>
     requires { is_finished stretch.old.part ≡ false }
-    ensures more { OnOk result (IsOneMore stretch.old.part stretch.new.part) }
+    ensures more { OnOk result (IsDoneTo (stretch.old.part.done + 1) stretch.old.part stretch.new.part) }
     ensures same { stretch.new.part.job ≡ stretch.old.part.job }
 {
     stretch.do_next(alloc)
@@ -54,7 +55,7 @@ fn do_gated<R: Wait, G: Gate>(
     stretch: &mut Stretch<'_>,
 ) -> Result<(), AllocError>
     requires { is_finished stretch.old.part ≡ false }
-    ensures more { OnOk result (IsOneMore stretch.old.part stretch.new.part) }
+    ensures more { OnOk result (IsDoneTo (stretch.old.part.done + 1) stretch.old.part stretch.new.part) }
     ensures same { stretch.new.part.job ≡ stretch.old.part.job }
 {
     let Some(path) = stretch.next_path() else {
@@ -67,28 +68,42 @@ fn do_gated<R: Wait, G: Gate>(
     done
 }
 
-// Does all segments of a stretch, each between the two calls of a gate that isn't open.
+// Does all segments of a stretch that are left, by one call.
+fn do_rest(alloc: Global, stretch: &mut Stretch<'_>) -> Result<(), AllocError>
+    requires { is_finished stretch.old.part ≡ false }
+    ensures done { OnOk result (is_finished stretch.new.part ≡ true) }
+    ensures same { stretch.new.part.job ≡ stretch.old.part.job }
+{
+    stretch.do_rest(alloc)
+}
+
+// Does all segments of a stretch, or the one that it has between the two calls of a gate that isn't open. At such a gate a
+// stretch has more only where there was no memory to cut it, and is given up: one of its tasks could wait for another.
 fn do_all<R: Wait, G: Gate>(
     rt: &R,
     alloc: Global,
     gate: &G,
     stretch: &mut Stretch<'_>,
 ) -> Result<(), AllocError>
+    ensures done { OnOk result (is_finished stretch.new.part ≡ true) }
     ensures same { stretch.new.part.job ≡ stretch.old.part.job }
 {
-    let is_open = gate.is_open();
-    while !stretch.is_finished() {
-        if is_open {
-            do_one(alloc, stretch)?;
-        } else {
-            do_gated(rt, alloc, gate, stretch)?;
-        }
+    if stretch.is_finished() {
+        return Ok(());
     }
-    Ok(())
+    if gate.is_open() {
+        return do_rest(alloc, stretch);
+    }
+    if stretch.len() > 1 {
+        return Err(AllocError);
+    }
+    do_gated(rt, alloc, gate, stretch)
 }
 
 impl<'j, J: Running> Lent<'j, J> {
-    ghost use Rattle.std.specs.Prelude.{◌≡◌};
+    ghost use Rattle.std.specs.Prelude.{◌≡◌, true, IfOk, OnOk};
+    ghost use Rattle.step_stretches.specs.Parts.{is_finished};
+    ghost use Rattle.worker_pool.specs.Turnouts.{Tells};
 
     /// A stretch of the job that runs.
     pub(crate) fn new(stretch: Stretch<'j>) -> Self
@@ -115,7 +130,10 @@ impl<'j, J: Running> Lent<'j, J> {
         rt: &R,
         alloc: Global,
         gate: &G,
-    ) -> Result<Turnout, Note> {
+    ) -> Result<Turnout, Note>
+        ensures done { OnOk result (is_finished self.new.part ≡ true) }
+        ensures told { IfOk result (λ turnout. Tells self.new.part turnout) }
+    {
         match do_all(rt, alloc, gate, &mut self.stretch) {
             Ok(()) => turns_of(alloc, &self.stretch),
             Err(_) => Err(Note::Memory),
@@ -132,7 +150,9 @@ impl<'j, J: Running> Lent<'j, J> {
 }
 
 // What the tasks of a stretch did to the list of tasks.
-fn turns_of(alloc: Global, stretch: &Stretch<'_>) -> Result<Turnout, Note> {
+fn turns_of(alloc: Global, stretch: &Stretch<'_>) -> Result<Turnout, Note>
+    ensures { IfOk result (λ turnout. Tells stretch.now.part turnout) }
+{
     if stretch.all_stay() && !stretch.has_faulted() {
         return Ok(Turnout::Same);
     }

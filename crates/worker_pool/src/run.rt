@@ -44,8 +44,8 @@ const PIECES_EACH: usize = 8;
 // How often a worker looks for a ready stretch before it sleeps: for some 100 microseconds.
 const MOST_LOOKS: u32 = 2000;
 
-// The action of the meeting: none, and it never fails.
-fn meet(_generation: u64) -> bool
+// The action of the barrier: none, and it never fails.
+fn do_nothing(_generation: u64) -> bool
     ensures { result ≡ false }
 {
     false
@@ -123,8 +123,8 @@ fn shop_of<'j, J: Running, F: Fn(u32, u32) -> bool>(
     }
 }
 
-// Seats the tasks of these stretches, lets the workers work, who meet at the gate of the start first, and concludes when all
-// have gone.
+// Seats the tasks of these stretches, lets the workers work, who wait for each other at the barrier first, and concludes when
+// all have gone.
 fn run_at<
     'j,
     J: Running + Send + Sync,
@@ -139,7 +139,7 @@ fn run_at<
     stretches: Stretches<'j>,
     meeting: Meeting<J, F>,
     door: Door,
-    start: &Result<CyclicGate<A>, BarrierFault>,
+    barrier: &Result<CyclicGate<A>, BarrierFault>,
     workers: u32,
     gate: &G,
     starter: &S,
@@ -149,7 +149,7 @@ fn run_at<
     requires workers { workers ≡ J.workers }
     requires tree { door.tree ≡ J.tree }
     requires rule { Answers (F.pre meeting.tree.rule.closure) (F.post meeting.tree.rule.closure) (end_ends_at meeting.tree.rule.plan) }
-    requires action { IfOk start.now (λ start. AnswersAction (A.pre start.action.closure) (A.post start.action.closure) start.action.plan) }
+    requires action { IfOk barrier.now (λ barrier. AnswersAction (A.pre barrier.action.closure) (A.post barrier.action.closure) barrier.action.plan) }
     ensures report { IfOk result (λ report. report_of (program_of J.job) J.limit ≡ Some report) }
     ensures started { IfErr result (IsOfWorkers workers) }
 {
@@ -160,12 +160,12 @@ fn run_at<
     };
     let shop = shop_of(alloc, stretches, meeting, rows, looks_of(rt, workers));
     start_seated(
-        rt, alloc, &shop, &mut key, gate, start, starter, workers, fault,
+        rt, alloc, &shop, &mut key, gate, barrier, starter, workers, fault,
     );
     shop.conclude(alloc)
 }
 
-// Starts the workers where the start tasks were seated and there is a gate of the start; else why not is noted.
+// Starts the workers where the start tasks were seated and there is a barrier; else why not is noted.
 fn start_seated<
     'j,
     J: Running + Send + Sync,
@@ -180,21 +180,21 @@ fn start_seated<
     shop: &Shop<'j, J, F>,
     key: &mut Key<J>,
     gate: &G,
-    start: &Result<CyclicGate<A>, BarrierFault>,
+    barrier: &Result<CyclicGate<A>, BarrierFault>,
     starter: &S,
     workers: u32,
     fault: Option<Note>,
 )
     requires workers { workers ≡ J.workers }
     requires rule { Answers (F.pre shop.now.meeting.tree.rule.closure) (F.post shop.now.meeting.tree.rule.closure) (end_ends_at shop.now.meeting.tree.rule.plan) }
-    requires action { IfOk start.now (λ start. AnswersAction (A.pre start.action.closure) (A.post start.action.closure) start.action.plan) }
+    requires action { IfOk barrier.now (λ barrier. AnswersAction (A.pre barrier.action.closure) (A.post barrier.action.closure) barrier.action.plan) }
 {
     if let Some(note) = fault {
         shop.board.lock(rt).note(note);
         return;
     }
-    match start {
-        Ok(start) => start_all(rt, alloc, shop, key, gate, start, starter, workers),
+    match barrier {
+        Ok(barrier) => start_all(rt, alloc, shop, key, gate, barrier, starter, workers),
         Err(BarrierFault::Memory) => shop.board.lock(rt).note(Note::Memory),
         Err(_) => shop.board.lock(rt).note(Note::Internal),
     }
@@ -229,10 +229,10 @@ fn run_shared<
     ensures started { IfErr result (IsOfWorkers workers) }
 {
     let meeting = Meeting::<J, F>::new(tree, Leaves::new(leaves));
-    let action = StoredAction::new(meet, None);
-    let start = CyclicGate::new(alloc, i64::from(workers), action);
+    let action = StoredAction::new(do_nothing, None);
+    let barrier = CyclicGate::new(alloc, i64::from(workers), action);
     run_at(
-        rt, alloc, stretches, meeting, door, &start, workers, gate, starter,
+        rt, alloc, stretches, meeting, door, &barrier, workers, gate, starter,
     )
 }
 

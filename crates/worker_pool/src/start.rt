@@ -1,4 +1,4 @@
-//! Starting workers, and meeting before the first task is taken.
+//! Starting workers, who wait for each other at a barrier before the first task is taken.
 ghost use Rattle.std.specs.Prelude.{◌≡◌, ◌<◌, ℕ, IfErr, OnOk, length, vec_capacity};
 ghost use Rattle.std.specs.Thread.{IsSync};
 ghost use Rattle.advance_rule.specs.Action.{AnswersAction};
@@ -18,38 +18,38 @@ use std::sync::Wait;
 use std::thread;
 use std::thread::{JoinHandle, Threads};
 
-// Notes why the run is refused before all workers have met, and sends those home who wait for the others.
+// Notes why the run is refused before all workers have come to the barrier, and sends those home who wait there.
 fn call_off<'j, J: Running, R: Wait, F: Fn(u32, u32) -> bool, A: Fn(u64) -> bool>(
     rt: &R,
     shop: &Shop<'j, J, F>,
-    meeting: &CyclicGate<A>,
+    barrier: &CyclicGate<A>,
     refused: Refused,
 )
     requires refused { IsOfWorkers J.workers refused }
-    requires action { AnswersAction (A.pre meeting.now.action.closure) (A.post meeting.now.action.closure) meeting.now.action.plan }
+    requires action { AnswersAction (A.pre barrier.now.action.closure) (A.post barrier.now.action.closure) barrier.now.action.plan }
 {
     shop.board.lock(rt).refuse(refused);
-    meeting.break_off(rt);
+    barrier.break_off(rt);
 }
 
-// What a worker does once it was started: it meets the others, and works. Where it finds no memory at the meeting, it
-// sends the others home.
-fn meet_and_work<'j, J: Running, R: Wait, F: Fn(u32, u32) -> bool, A: Fn(u64) -> bool, G: Gate>(
+// What a worker does once it was started: it waits for the others at the barrier, and works. Where it finds no memory there,
+// it sends the others home.
+fn wait_and_work<'j, J: Running, R: Wait, F: Fn(u32, u32) -> bool, A: Fn(u64) -> bool, G: Gate>(
     rt: &R,
     alloc: Global,
     shop: &Shop<'j, J, F>,
     gate: &G,
-    meeting: &CyclicGate<A>,
+    barrier: &CyclicGate<A>,
     k: u32,
     key: Key<J>,
 )
     requires rule { Answers (F.pre shop.now.meeting.tree.rule.closure) (F.post shop.now.meeting.tree.rule.closure) (end_ends_at shop.now.meeting.tree.rule.plan) }
-    requires action { AnswersAction (A.pre meeting.now.action.closure) (A.post meeting.now.action.closure) meeting.now.action.plan }
+    requires action { AnswersAction (A.pre barrier.now.action.closure) (A.post barrier.now.action.closure) barrier.now.action.plan }
 {
     let mut key = key;
-    match meeting.await_turn(rt, k) {
+    match barrier.await_turn(rt, k) {
         Ok(_) => work(rt, alloc, shop, gate, &mut key),
-        Err(GateFault::Memory) => call_off(rt, shop, meeting, Refused::Memory),
+        Err(GateFault::Memory) => call_off(rt, shop, barrier, Refused::Memory),
         Err(_) => {}
     }
 }
@@ -95,32 +95,32 @@ pub(crate) fn start_all<
     shop: &Shop<'j, J, F>,
     key: &mut Key<J>,
     gate: &G,
-    meeting: &CyclicGate<A>,
+    barrier: &CyclicGate<A>,
     starter: &S,
     workers: u32,
 )
     requires workers { workers ≡ J.workers }
     requires rule { Answers (F.pre shop.now.meeting.tree.rule.closure) (F.post shop.now.meeting.tree.rule.closure) (end_ends_at shop.now.meeting.tree.rule.plan) }
-    requires action { AnswersAction (A.pre meeting.now.action.closure) (A.post meeting.now.action.closure) meeting.now.action.plan }
+    requires action { AnswersAction (A.pre barrier.now.action.closure) (A.post barrier.now.action.closure) barrier.now.action.plan }
 {
     thread::scope(
         thread::scope_env(),
         rt,
         move |scope|
             requires { (workers ≡ J.workers) × Answers (F.pre shop.now.meeting.tree.rule.closure) (F.post shop.now.meeting.tree.rule.closure) (end_ends_at shop.now.meeting.tree.rule.plan)
-                × AnswersAction (A.pre meeting.now.action.closure) (A.post meeting.now.action.closure) meeting.now.action.plan }
+                × AnswersAction (A.pre barrier.now.action.closure) (A.post barrier.now.action.closure) barrier.now.action.plan }
         {
             let mut started = Vec::new(alloc);
             for k in 0..workers {
                 if let Err(refused) = may_start(starter, k, &mut started) {
-                    call_off(rt, shop, meeting, refused);
+                    call_off(rt, shop, barrier, refused);
                     break;
                 }
                 let own = shop.meeting.key(key);
-                match scope.spawn(move || meet_and_work(rt, alloc, shop, gate, meeting, k, own)) {
+                match scope.spawn(move || wait_and_work(rt, alloc, shop, gate, barrier, k, own)) {
                     Ok(thread) => started.push_reserved(thread),
                     Err(_) => {
-                        call_off(rt, shop, meeting, Refused::NotStarted(k));
+                        call_off(rt, shop, barrier, Refused::NotStarted(k));
                         break;
                     }
                 }

@@ -36,13 +36,15 @@ enum Entry {
 }
 
 impl<J: Running, F: Fn(u32, u32) -> bool> Meeting<J, F> {
-    ghost use Rattle.std.specs.Prelude.{◌≡◌, ◌<◌, IfOk, IfSome, OnOk, length};
+    ghost use Rattle.std.specs.Prelude.{◌≡◌, ◌<◌, true, is_some, IfOk, IfSome, OnOk, length};
     ghost use Rattle.advance_rule.specs.Stored.{Answers};
     ghost use Rattle.advance_rule.specs.Plan.{end_ends_at};
     ghost use Rattle.tier_shape.specs.Leaves.{leaves_of};
     ghost use Rattle.tier_table.specs.Openings.{asked_tier};
     ghost use Rattle.job_seats.specs.Moves.{leaf_at};
     ghost use Rattle.worker_pool.specs.Entries.{IsOf, IsAtLeaf};
+    ghost use Rattle.tier_table.specs.Arrives.{HasPassed};
+    ghost use Rattle.tier_steps.specs.declared.view.Trip.TheVariants.{Arrival};
 
     /// A tree, with its leaves.
     pub(crate) fn new(tree: Tree<F>, leaves: Leaves<J>) -> Self
@@ -170,6 +172,7 @@ impl<J: Running, F: Fn(u32, u32) -> bool> Meeting<J, F> {
         requires own { crew.old.tree ≡ J.tree }
         requires rule { Answers (F.pre self.now.tree.rule.closure) (F.post self.now.tree.rule.closure) (end_ends_at self.now.tree.rule.plan) }
         ensures same { crew.new.tree ≡ J.tree }
+        ensures passed { IfOk result (λ led. (led ≡ crew.new.view.led) × HasPassed Arrival crew.old.view crew.new.view) }
     {
         match self.tree.arrive_in_place(rt, crew) {
             Came::Done(_phase, led) => Ok(led),
@@ -192,12 +195,15 @@ impl<J: Running, F: Fn(u32, u32) -> bool> Meeting<J, F> {
     }
 
     /// Ends the tree. Where it has ended nothing changes.
-    pub(crate) fn force<R: Wait>(&self, rt: &R, key: &mut Key<J>) {
+    pub(crate) fn force<R: Wait>(&self, rt: &R, key: &mut Key<J>)
+        ensures ended { is_some key.new.door.view.end_seen ≡ true }
+    {
         for _ in rt.forever() {
             match self.tree.force(&mut key.door, TRIES) {
                 Forced::Ended(_) => return,
                 Forced::Busy => {}
             }
         }
+        unreachable!()
     }
 }

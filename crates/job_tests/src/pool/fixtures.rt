@@ -39,6 +39,53 @@ end
 start p 0
 ";
 
+/// Forty tasks of two supersteps.
+pub(crate) const FORTY: &str = "bsp 1
+body b
+sync
+end
+start b 0
+start b 0
+start b 0
+start b 0
+start b 0
+start b 0
+start b 0
+start b 0
+start b 0
+start b 0
+start b 0
+start b 0
+start b 0
+start b 0
+start b 0
+start b 0
+start b 0
+start b 0
+start b 0
+start b 0
+start b 0
+start b 0
+start b 0
+start b 0
+start b 0
+start b 0
+start b 0
+start b 0
+start b 0
+start b 0
+start b 0
+start b 0
+start b 0
+start b 0
+start b 0
+start b 0
+start b 0
+start b 0
+start b 0
+start b 0
+";
+
 // What workers leave of a job, whose tree ends in this phase at the latest. The closure that ends it adds what it is told:
 // 1000000 each time, 1000 for each phase, and the parties at the root.
 fn run<R: Threads + Wait + Sync, G: Gate + Sync, S: Starter>(

@@ -1,6 +1,6 @@
 //! Segments that overlap: a gate holds one task until another has left.
 use crate::left::job_of;
-use crate::pool::fixtures::{SWAP, left_by};
+use crate::pool::fixtures::{FORTY, SWAP, left_by};
 use phase_records::{JobStatus, Report};
 use std::alloc::Global;
 use std::sync::Wait;
@@ -103,9 +103,9 @@ fn all_overlap<R: Threads + Wait + Sync>(rt: &R, alloc: Global, job: &Job) -> bo
     true
 }
 
-// Whether two workers of a swap do.
-fn swaps_overlap<R: Threads + Wait + Sync>(rt: &R, alloc: Global) -> bool {
-    match job_of(alloc, SWAP) {
+// Whether two workers of the job of this text do.
+fn do_overlap<R: Threads + Wait + Sync>(rt: &R, alloc: Global, text: &str) -> bool {
+    match job_of(alloc, text) {
         Ok(job) => all_overlap(rt, alloc, &job),
         Err(_) => false,
     }
@@ -114,5 +114,11 @@ fn swaps_overlap<R: Threads + Wait + Sync>(rt: &R, alloc: Global) -> bool {
 // Two workers hold one task each: either may wait for the other.
 #[test]
 fn two_workers_overlap(rt: HostRuntime) {
-    assert!(rt; swaps_overlap(&rt, rt.alloc()));
+    assert!(rt; do_overlap(&rt, rt.alloc(), SWAP));
+}
+
+// They do of forty tasks too: at a gate that isn't open no worker has two of them at a time.
+#[test]
+fn two_workers_of_forty_tasks_overlap(rt: HostRuntime) {
+    assert!(rt; do_overlap(&rt, rt.alloc(), FORTY));
 }

@@ -1,25 +1,30 @@
-use Rattle.std.proofs.Common.{◌++◌, ◌∷◌, ◌∙◌, ◌*◌, ◌/◌, ◌-◌, List, [], Option, Some, ap, arith}
+use Rattle.std.proofs.Common.{◌≡◌, ◌++◌, ◌∷◌, ◌∙◌, ◌*◌, ◌/◌, ◌-◌, ◌≤◌, List, [], length, Option, Some, ap, arith}
 use Rattle.std.proofs.Math.Nat.{div-mul-le_self}
 use Rattle.step_stretches.specs.PartValue.{PartValue}
-use Rattle.step_stretches.proofs.Cutting.{cut_behind, cut_front, own_fresh}
+use Rattle.step_stretches.proofs.Cutting.{cut_behind, cut_front, own_fresh, fresh_cut, none_lost}
 use Rattle.step_stretches.proofs.cut.cut_off.Goals as goal
 
 pub new-requires : goal.new-requires
 new-requires c =
-    let n = div-mul-le_self (c.len-in-loop-alloc.result - 1) c.args.length in
+    let n = div-mul-le_self (c.len-in-loop-alloc.result - 1) c.args.size in
     cut_behind c.args.job.now c.args.step _ c.loop-alloc.rest.items c.in-Ok-split_off.behind.items c.loop-alloc.invariant.live.0 c.loop-alloc.invariant.live.1
     (omega (arith, n, c.len-in-loop-alloc.ensures, c.loop-alloc.rest.ok.0)) c.in-Ok-split_off.ensures.tail
 
 pub loop-alloc-preserved : goal.loop-alloc-preserved
 loop-alloc-preserved c =
-    let n = div-mul-le_self (c.len-in-loop-alloc.result - 1) c.args.length in
-    let at = (c.len-in-loop-alloc.result - 1) / c.args.length * c.args.length in
+    let n = div-mul-le_self (c.len-in-loop-alloc.result - 1) c.args.size in
+    let at = (c.len-in-loop-alloc.result - 1) / c.args.size * c.args.size in
+    let made : c.push_reserved.new.self.items ≡ c.loop-alloc.parts.items ++ Some c.new.result ∷ [] = c.push_reserved.ensures.items ∙ ap (λ (ps : List (Option PartValue)). ps ++ Some c.new.result ∷ []) c.reserve.ensures.items in
+    let below : at ≤ length c.loop-alloc.rest.items = omega (arith, n, c.len-in-loop-alloc.ensures, c.loop-alloc.rest.ok.0) in
     let here = cut_behind c.args.job.now c.args.step at c.loop-alloc.rest.items c.in-Ok-split_off.behind.items c.loop-alloc.invariant.live.0 c.loop-alloc.invariant.live.1
     (omega (arith, n, c.len-in-loop-alloc.ensures, c.loop-alloc.rest.ok.0)) c.in-Ok-split_off.ensures.tail in
     record {
       room = omega (arith, c.push_reserved.ensures.len, c.push_reserved.ensures.capacity, c.in-Ok.ensures.len, c.in-Ok.ensures.ok);
       live = cut_front c.args.job.now c.args.step at c.loop-alloc.rest.items c.split_off.new.self.items c.in-Ok-split_off.behind.items c.loop-alloc.invariant.live.0 c.loop-alloc.invariant.live.1
           c.in-Ok-split_off.ensures.items c.in-Ok-split_off.ensures.tail;
-      own = own_fresh c.args.job.now c.args.step at c.in-Ok-split_off.behind.items c.loop-alloc.parts.items c.push_reserved.new.self.items c.new.result c.loop-alloc.invariant.own here c.new.ensures
-          (c.push_reserved.ensures.items ∙ ap (λ (ps : List (Option PartValue)). ps ++ Some c.new.result ∷ []) c.reserve.ensures.items);
+      own = own_fresh c.args.job.now c.args.step at c.in-Ok-split_off.behind.items c.loop-alloc.parts.items c.push_reserved.new.self.items c.new.result c.loop-alloc.invariant.own here c.new.ensures made;
+      fresh = fresh_cut c.args.job.now c.args.step at c.loop-alloc.rest.items c.split_off.new.self.items c.in-Ok-split_off.behind.items c.loop-alloc.parts.items c.push_reserved.new.self.items c.new.result
+          c.loop-alloc.invariant.fresh c.new.ensures made c.in-Ok-split_off.ensures.items c.in-Ok-split_off.ensures.tail below;
+      tasks = none_lost c.args.job.now c.args.step at _ c.loop-alloc.rest.items c.split_off.new.self.items c.in-Ok-split_off.behind.items c.loop-alloc.parts.items c.push_reserved.new.self.items c.new.result
+          c.new.ensures made c.in-Ok-split_off.ensures.items c.in-Ok-split_off.ensures.tail c.loop-alloc.invariant.tasks;
     }

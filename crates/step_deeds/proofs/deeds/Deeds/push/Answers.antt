@@ -25,4 +25,5 @@ returns c =
       deeds = (λ i. deeds_with (each i) (c.in_ok-take_all.ensures.items i))
           ∙ deeds_more c.self.inside.each.items d c.self.inside.spawns.items c.args.spawns.now.items c.self.invariant (omega (arith, c.len-spawned.ensures))
           ∙ ap (λ (ds : List DeedValue). ds ++ new) c.self.view_is;
+      moved = c.in_ok-take_all.ensures.none_left;
     }

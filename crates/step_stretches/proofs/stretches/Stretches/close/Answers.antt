@@ -24,7 +24,7 @@ returns-in-Some-clause-closed c =
     let e = by_faulting v c.in-Some.blame c.self.invariant.course whole (ap fault_in (sym c.deref-2.ensures.value) ∙ sym c.find_fault.ensures ∙ c.in-Some.is) in
     subst (λ (x : StretchesValue). IsClosed x c.end.new.self Faulted) c.self.view_is
     (ended_closed v c.end.new.self c.in-Some.blame Faulted c.self.invariant.course (ap status_in c.self.view_is ∙ c.requires.running) e.ends e.told
-    (c.end.ensures ∙ ap (λ (x : StretchesValue). with_fault x c.in-Some.blame) (sym c.self.view_is)))
+    (c.end.ensures ∙ ap (λ (x : StretchesValue). with_fault x c.in-Some.blame) (sym c.self.view_is)) (λ l. cc))
 
 pub record_of-told-requires-clause-few : goal.record_of-told-requires-clause-few
 record_of-told-requires-clause-few c =
@@ -68,4 +68,4 @@ returns-then-told-gt4096-clause-closed c =
     let e = by_too_many v c.too_many.result all (omega (arith, t, c.if-told-gt4096.true)) c.too_many.ensures in
     subst (λ (x : StretchesValue). IsClosed x c.end-then-told-gt4096.new.self TooMany) c.self.view_is
     (ended_closed v c.end-then-told-gt4096.new.self c.too_many.result TooMany c.self.invariant.course (ap status_in c.self.view_is ∙ c.requires.running) e.ends e.told
-    (c.end-then-told-gt4096.ensures ∙ ap (λ (x : StretchesValue). with_fault x c.too_many.result) (sym c.self.view_is)))
+    (c.end-then-told-gt4096.ensures ∙ ap (λ (x : StretchesValue). with_fault x c.too_many.result) (sym c.self.view_is)) (λ l. cc))

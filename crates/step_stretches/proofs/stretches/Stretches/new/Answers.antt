@@ -20,7 +20,7 @@ invariant_of-result c =
         step = refl;
         unfaulted = refl;
         few = let l = starts_few (plans job.bodies) tasks job.starts (sym live) c.bodies.ensures.kept.few_starts in omega (arith, count, l);
-        own = c.cut.ensures;
+        own = c.cut.ensures.own;
       };
       arrays = c.in-Ok.ensures.ok ∙ c.in_ok-arrays.ensures ∙ c.arrays.ensures;
       prints = c.new-in-Ok.ensures.items;

@@ -11,7 +11,7 @@ use Rattle.step_stretches.specs.Parts.{AreEven, puts_in, prints_in}
 use Rattle.step_stretches.specs.StretchesValue.{StretchesValue, before, with_fault}
 use Rattle.step_stretches.specs.StretchesView.{stretches_of}
 use Rattle.step_stretches.specs.Closing.{IsClosed}
-use Rattle.step_stretches.proofs.Going.{running, can_go, blamed_at, ends_over, none_overflows, goes_on, goes_told, ended, ended_closed, stays, are_ahead, are_below, are_renewed, next_course, before_further, gone_closed, further, gone, tasks_count}
+use Rattle.step_stretches.proofs.Going.{running, can_go, blamed_at, ends_over, none_overflows, goes_on, goes_told, ended, ended_closed, stays, are_ahead, are_below, are_renewed, next_course, before_further, gone_closed, further, gone, tasks_count, ready_again}
 use Rattle.step_stretches.proofs.stretches.Stretches.stay.Goals as goal
 
 pub land_with_room-requires : goal.land_with_room-requires
@@ -45,7 +45,7 @@ returns-in-Some-clause-closed c =
     let t = c.in_ok-fault.ensures in
     let e = ends_over v c.args.told c.in-Some.blame g (sym c.in-Some.is ∙ blamed_at v (arc_value c.self.inside.arrays) c.deref.result.now c.in_ok-fault.fault h.arrays c.deref.ensures.value t.fault) in
     subst (λ (x : StretchesValue). IsClosed x (with_fault v c.in-Some.blame) Overflowed) c.self.view_is
-    (ended_closed v (with_fault v c.in-Some.blame) c.in-Some.blame Overflowed g.course g.run e.ends e.told (refl {A = StretchesValue}))
+    (ended_closed v (with_fault v c.in-Some.blame) c.in-Some.blame Overflowed g.course g.run e.ends e.told (refl {A = StretchesValue}) (λ l. cc))
 
 pub renew_all-requires-clause-ahead : goal.renew_all-requires-clause-ahead
 renew_all-requires-clause-ahead c =
@@ -101,6 +101,8 @@ returns-in-None-clause-closed c =
     let t = c.in_ok-fault.ensures in
     let over = none_overflows v c.args.told g (sym c.in-None.is ∙ blamed_at v (arc_value c.self.inside.arrays) c.deref.result.now c.in_ok-fault.fault h.arrays c.deref.ensures.value t.fault) in
     let goes = goes_on v c.args.told g over in
+    let same = stays v c.args.told g.all g.recorded c.requires.stays.0 c.requires.stays.1 in
     let parts = c.renew_all.new.parts.items in
     subst (λ (x : StretchesValue). IsClosed x (further v parts) Landed) c.self.view_is
-    (gone_closed v (further v parts) c.args.told parts g.course g.run goes (goes_told v g.all g.few over) (refl {A = StretchesValue}))
+    (gone_closed v (further v parts) c.args.told parts g.course g.run goes (goes_told v g.all g.few over) (refl {A = StretchesValue})
+    (ready_again v parts c.args.told g.course g.whole goes same c.renew_all.ensures.parts))
