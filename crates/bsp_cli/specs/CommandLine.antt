@@ -6,20 +6,24 @@ use Rattle.std.specs.Option.{unwrap_or}
 use Rattle.clap.specs.Words.{App, Kinds, Row, Rule, fault_of, first_of, new_app, new_rule, one_of, subcommand_of, with_rule, with_subcommand}
 use Rattle.clap.specs.ValueTests.{is_unsigned_in}
 use Rattle.clap.specs.declared.builder.action.ArgAction.TheVariants.{Set, SetTrue}
+use Rattle.clap.specs.declared.builder.value_parser.ValueParser.{ValueParser}
 use Rattle.clap.specs.declared.builder.value_parser.ValueParser.TheVariants as parser
 use Rattle.bsp_cli.specs.Topics.{topic_by}
 use Rattle.bsp_cli.specs.declared.asked.Topic.{Topic}
 use Rattle.bsp_cli.specs.declared.asked.Asked.{Asked}
 use Rattle.bsp_cli.specs.declared.asked.Asked.TheVariants.{Trace, Check, Upgrade, Run, Draw, Explain}
 
--- an option that is a number, from 1 to the most
-abbrev pub number_rule : List ℕ → ℕ → Rule
-number_rule name most = record (new_rule name) {
-  long = Some name;
+-- an argument that is one of these numbers
+abbrev pub numbers_rule : List ℕ → ValueParser → Rule
+numbers_rule name numbers = record (new_rule name) {
   value_names = 1;
   action = Some Set;
-  parser = Some (parser.Signed (pos 1) (pos most));
+  parser = Some numbers;
 }
+
+-- an option that is a number, from 1 to the most
+abbrev pub number_rule : List ℕ → ℕ → Rule
+number_rule name most = record (numbers_rule name (parser.Signed (pos 1) (pos most))) { long = Some name }
 
 -- `--tree WIDTHS`, any text
 abbrev pub tree_rule : Rule
@@ -46,11 +50,7 @@ run_app = with_rule (job_app (codes "run")) progress_rule
 
 -- the number of a code, a word without a dash
 abbrev pub code_rule : Rule
-code_rule = record (new_rule (codes "code")) {
-  value_names = 1;
-  action = Some Set;
-  parser = Some (parser.Signed (pos 1) (pos 14));
-}
+code_rule = numbers_rule (codes "code") (parser.Signed (pos 1) (pos 14))
 
 abbrev pub explain_app : App
 explain_app = with_rule (with_rule (new_app (codes "explain")) code_rule) (number_rule (codes "fault") 8)

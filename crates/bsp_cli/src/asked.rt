@@ -3,11 +3,12 @@ ghost use Rattle.std.specs.Prelude.{◌≡◌, ◌≤◌, false, true, codes, If
 ghost use Rattle.clap.specs.Words.{app_of, found_of, kind_of, new_app, one_of, rows_of, rule_of, subcommand_rows_of};
 ghost use Rattle.clap.specs.declared.builder.command.Command.TheViews.{out-Command as fields_of};
 ghost use Rattle.clap.specs.declared.error.kind.ErrorKind.TheVariants as kinds;
-ghost use Rattle.bsp_cli.specs.CommandLine.{asked_by, bare, chosen, code_rule, explain_app, job_app, limit_in, number_from, number_rule, program, progress_rule, run_app, topic_in, tree_by, tree_in, tree_rule, workers_in};
+ghost use Rattle.bsp_cli.specs.CommandLine.{asked_by, bare, chosen, code_rule, explain_app, job_app, limit_in, number_from, number_rule, numbers_rule, program, progress_rule, run_app, topic_in, tree_by, tree_in, tree_rule, workers_in};
 ghost use Rattle.bsp_cli.specs.Ends.{IsAsked, IsTopic};
 ghost use Rattle.bsp_cli.specs.Topics.{topic_by};
 
 use crate::help::{CHECK_LINES, EXAMPLES, RUN_LINES, TRACE_LINES, UPGRADE_LINES};
+use clap::builder::ValueParser;
 use clap::{Arg, ArgAction, ArgMatches, Command, Error};
 use std::alloc::Global;
 
@@ -82,17 +83,32 @@ const MOST_STEPS: u32 = 1_000_000;
 /// The most workers.
 const MOST_WORKERS: u32 = 64;
 
+// An argument that is one of these numbers.
+fn number_argument<'a>(
+    alloc: Global,
+    name: &'a str,
+    value: &'a str,
+    help: &'a str,
+    numbers: ValueParser<'a>,
+) -> Arg<'a>
+    ensures rule { rule_of result ≡ numbers_rule name.entry.now numbers.entry }
+    ensures local { result.global ≡ false }
+{
+    Arg::new(alloc, name)
+        .value_name(value)
+        .help(help)
+        .action(ArgAction::Set)
+        .value_parser(numbers)
+}
+
 // The option `--workers`.
 fn workers_option<'a>(alloc: Global) -> Arg<'a>
     ensures rule { rule_of result ≡ number_rule (codes "workers") 64 }
     ensures local { result.global ≡ false }
 {
-    Arg::new(alloc, "workers")
-        .long("workers")
-        .value_name("N")
-        .help("How many threads run the tasks, 1 to 64; 1 where it isn't given")
-        .action(ArgAction::Set)
-        .value_parser(clap::value_parser!(u32).range(1..=64))
+    let help = "How many threads run the tasks, 1 to 64; 1 where it isn't given";
+    let numbers = clap::value_parser!(u32).range(1..=64);
+    number_argument(alloc, "workers", "N", help, numbers).long("workers")
 }
 
 // The option `--limit`.
@@ -100,12 +116,9 @@ fn limit_option<'a>(alloc: Global) -> Arg<'a>
     ensures rule { rule_of result ≡ number_rule (codes "limit") 1000000 }
     ensures local { result.global ≡ false }
 {
-    Arg::new(alloc, "limit")
-        .long("limit")
-        .value_name("N")
-        .help("The most supersteps, 1 to 1000000; 1000000 where it isn't given")
-        .action(ArgAction::Set)
-        .value_parser(clap::value_parser!(u32).range(1..=1_000_000))
+    let help = "The most supersteps, 1 to 1000000; 1000000 where it isn't given";
+    let numbers = clap::value_parser!(u32).range(1..=1_000_000);
+    number_argument(alloc, "limit", "N", help, numbers).long("limit")
 }
 
 // The option `--tree`.
@@ -138,11 +151,9 @@ fn code_argument<'a>(alloc: Global) -> Arg<'a>
     ensures rule { rule_of result ≡ code_rule }
     ensures local { result.global ≡ false }
 {
-    Arg::new(alloc, "code")
-        .value_name("CODE")
-        .help("The code of a job's refusal, 1 to 14; all are listed where it isn't given")
-        .action(ArgAction::Set)
-        .value_parser(clap::value_parser!(u32).range(1..=14))
+    let help = "The code of a job's refusal, 1 to 14; all are listed where it isn't given";
+    let numbers = clap::value_parser!(u32).range(1..=14);
+    number_argument(alloc, "code", "CODE", help, numbers)
 }
 
 // The option `--fault`.
@@ -150,12 +161,9 @@ fn fault_option<'a>(alloc: Global) -> Arg<'a>
     ensures rule { rule_of result ≡ number_rule (codes "fault") 8 }
     ensures local { result.global ≡ false }
 {
-    Arg::new(alloc, "fault")
-        .long("fault")
-        .value_name("CODE")
-        .help("The number of a task's fault, 1 to 8")
-        .action(ArgAction::Set)
-        .value_parser(clap::value_parser!(u32).range(1..=8))
+    let help = "The number of a task's fault, 1 to 8";
+    let numbers = clap::value_parser!(u32).range(1..=8);
+    number_argument(alloc, "fault", "CODE", help, numbers).long("fault")
 }
 
 // A subcommand that runs a job, without its options.
