@@ -1,8 +1,10 @@
 //! The work of the jobs that `tools/bench` times, written by hand: plain loops, or threads that meet at a barrier. It prints what
-//! `bsp run` prints for the job, so that the script can compare them.
+//! `bsp run` prints for the job, so that the script can compare them. By `meet` threads only meet, and it prints how many
+//! nanoseconds that took.
 use std::fmt::Write;
 use std::hint::black_box;
 use std::sync::Barrier;
+use std::time::Instant;
 
 const TASKS: usize = 4096;
 
@@ -149,6 +151,22 @@ fn turns(steps: usize, turns: i64, threads: usize) -> String {
     finish(records(steps), &cells, steps + 1)
 }
 
+/// Threads that meet at a barrier so many times.
+fn meet(threads: usize, phases: usize) -> String {
+    let barrier = Barrier::new(threads);
+    let start = Instant::now();
+    std::thread::scope(|scope| {
+        for _ in 0..threads {
+            scope.spawn(|| {
+                for _ in 0..phases {
+                    barrier.wait();
+                }
+            });
+        }
+    });
+    format!("{}\n", start.elapsed().as_nanos())
+}
+
 fn main() {
     let words: Vec<String> = std::env::args().collect();
     let number = |i: usize| words[i].parse::<usize>().unwrap();
@@ -159,6 +177,7 @@ fn main() {
         "remainder" => remainder(steps),
         "spawns" => spawns(steps),
         "turns" => turns(steps, number(3) as i64, number(4)),
+        "meet" => meet(number(2), number(3)),
         other => panic!("no such job: {other}"),
     };
     print!("{out}");
