@@ -52,7 +52,7 @@ impl Progress for NoProgress {
 // The superstep that the job is in, how many tasks are known to do it, when the job began, and the second that was last
 // told of.
 #[derive(Clone, Copy)]
-struct Seen {
+struct ProgressState {
     step: u32,
     tasks: u32,
     began: Option<Instant>,
@@ -60,8 +60,8 @@ struct Seen {
 }
 
 // Nothing yet.
-fn nothing_seen<T: Clock>(rt: &T) -> Seen {
-    Seen {
+fn nothing_seen<T: Clock>(rt: &T) -> ProgressState {
+    ProgressState {
         step: 0,
         tasks: 0,
         began: Instant::now(rt).ok(),
@@ -70,7 +70,7 @@ fn nothing_seen<T: Clock>(rt: &T) -> Seen {
 }
 
 // How many seconds the job has run.
-fn seconds<T: Clock>(rt: &T, seen: Seen) -> u64 {
+fn seconds<T: Clock>(rt: &T, seen: ProgressState) -> u64 {
     let Some(began) = seen.began else {
         return 0;
     };
@@ -81,15 +81,20 @@ fn seconds<T: Clock>(rt: &T, seen: Seen) -> u64 {
 }
 
 // Tells of the superstep that was seen.
-fn tell<T: Eprint>(rt: &T, seen: Seen, seconds: u64) {
-    let Seen { step, tasks, .. } = seen;
+fn tell<T: Eprint>(rt: &T, seen: ProgressState, seconds: u64) {
+    let ProgressState { step, tasks, .. } = seen;
     let _ = eprintln!(rt; "superstep {step}, {tasks} tasks, {seconds} s");
 }
 
 // What is seen where so many tasks more are known to do this superstep; tells of the one before it, where a second has passed.
-fn seen_after<T: Clock + Eprint>(rt: &T, seen: Seen, step: u32, tasks: u32) -> Seen {
+fn seen_after<T: Clock + Eprint>(
+    rt: &T,
+    seen: ProgressState,
+    step: u32,
+    tasks: u32,
+) -> ProgressState {
     if step == seen.step {
-        return Seen {
+        return ProgressState {
             tasks: seen.tasks.saturating_add(tasks),
             ..seen
         };
@@ -98,7 +103,7 @@ fn seen_after<T: Clock + Eprint>(rt: &T, seen: Seen, step: u32, tasks: u32) -> S
     if passed > seen.told {
         tell(rt, seen, passed);
     }
-    Seen {
+    ProgressState {
         step,
         tasks,
         told: seen.told.max(passed),
@@ -107,7 +112,7 @@ fn seen_after<T: Clock + Eprint>(rt: &T, seen: Seen, step: u32, tasks: u32) -> S
 }
 
 // Tells of the superstep that was seen last, if there was one.
-fn tell_last<T: Clock + Eprint>(rt: &T, seen: Seen) {
+fn tell_last<T: Clock + Eprint>(rt: &T, seen: ProgressState) {
     if seen.tasks > 0 {
         tell(rt, seen, seconds(rt, seen));
     }
@@ -118,7 +123,7 @@ fn tell_last<T: Clock + Eprint>(rt: &T, seen: Seen) {
 #[derive(Drop)]
 pub(crate) struct AloneTeller<'a, T: Clock + Eprint> {
     rt: &'a T,
-    seen: Seen,
+    seen: ProgressState,
 }
 
 impl<T: Clock + Eprint> Watch for AloneTeller<'_, T> {
@@ -138,7 +143,7 @@ impl<T: Clock + Eprint> WatchEnd for AloneTeller<'_, T> {
 #[derive(Drop)]
 pub(crate) struct Teller<'a, T: Clock + Eprint> {
     rt: &'a T,
-    seen: Mutex<Seen>,
+    seen: Mutex<ProgressState>,
 }
 
 impl<'a, T: Clock + Eprint> Teller<'a, T> {

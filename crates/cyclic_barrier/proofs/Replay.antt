@@ -3,19 +3,19 @@ use Rattle.cyclic_barrier.specs.Machine.{Machine, machine, fresh}
 use Rattle.cyclic_barrier.specs.Steps.{Fails, Trips, Waiting, is_change, index_of, indexed, is_in, is_full_by_one, answer, after, broken_off, renewed, joined}
 use Rattle.advance_rule.specs.Action.{fails_at}
 use Rattle.cyclic_barrier.specs.Runs.{after_all, AfterSome}
-use Rattle.cyclic_barrier.specs.History.{outcome_of, note, calls_of, AreRight}
+use Rattle.cyclic_barrier.specs.History.{outcome_of, ledger_entry, calls_of, AreRight}
 use Rattle.cyclic_barrier.specs.Ledger.{Book, book, IsReplay, HasPlace}
 use Rattle.cyclic_barrier.specs.declared.call.Call.{Call}
 use Rattle.cyclic_barrier.specs.declared.call.Call.TheVariants.{Await, Abandon, BreakOff, Reset}
-use Rattle.cyclic_barrier.specs.declared.ledger.Note.{Note}
+use Rattle.cyclic_barrier.specs.declared.ledger.LedgerEntry.{LedgerEntry}
 use Rattle.cyclic_barrier.specs.declared.ledger.Outcome.{Outcome}
 use Rattle.std.proofs.lemmas.Bool.Decides.{nat_tests}
 
-replayed-append : (fails : Option ℕ) (ns : List Note) (n : Note) (m : Machine) → after_all fails (calls_of (ns ++ n ∷ [])) m ≡ after fails n.call (after_all fails (calls_of ns) m)
+replayed-append : (fails : Option ℕ) (ns : List LedgerEntry) (n : LedgerEntry) (m : Machine) → after_all fails (calls_of (ns ++ n ∷ [])) m ≡ after fails n.call (after_all fails (calls_of ns) m)
 replayed-append fails [] n m = refl
 replayed-append fails (x ∷ xs) n m = replayed-append fails xs n (after fails x.call m)
 
-right-append : (fails : Option ℕ) (ns : List Note) (n : Note) (m : Machine) → AreRight fails ns m → n.outcome ≡ outcome_of (answer fails n.call (after_all fails (calls_of ns) m)) → AreRight fails (ns ++ n ∷ []) m
+right-append : (fails : Option ℕ) (ns : List LedgerEntry) (n : LedgerEntry) (m : Machine) → AreRight fails ns m → n.outcome ≡ outcome_of (answer fails n.call (after_all fails (calls_of ns) m)) → AreRight fails (ns ++ n ∷ []) m
 right-append fails [] n m right here = (here, tt)
 right-append fails (x ∷ xs) n m right here = (right.0, right-append fails xs n (after fails x.call m) right.1 here)
 
@@ -35,27 +35,27 @@ after_parties fails BreakOff m = refl
 after_parties fails Reset m = refl
 
 -- a step with its note keeps the replay
-pub replay_more : (fails : Option ℕ) (call : Call) (m : Machine) (ns : List Note) → IsReplay fails m ns → IsReplay fails (after fails call m) (ns ++ note call (answer fails call m) ∷ [])
+pub replay_more : (fails : Option ℕ) (call : Call) (m : Machine) (ns : List LedgerEntry) → IsReplay fails m ns → IsReplay fails (after fails call m) (ns ++ ledger_entry call (answer fails call m) ∷ [])
 replay_more fails call m ns was =
     let same : (after fails call m).parties ≡ m.parties = after_parties fails call m in
-    let all : List Note = ns ++ note call (answer fails call m) ∷ [] in
+    let all : List LedgerEntry = ns ++ ledger_entry call (answer fails call m) ∷ [] in
     let P : ℕ → Type 0 = λ p. (after_all fails (calls_of all) (fresh p) ≡ after fails call m) × AreRight fails all (fresh p) in
     let old : P m.parties = (
-      replayed-append fails ns (note call (answer fails call m)) (fresh m.parties) ∙ ap (after fails call) was.replay,
-      right-append fails ns (note call (answer fails call m)) (fresh m.parties) was.right (ap (λ (x : Machine). outcome_of (answer fails call x)) (sym was.replay)),
+      replayed-append fails ns (ledger_entry call (answer fails call m)) (fresh m.parties) ∙ ap (after fails call) was.replay,
+      right-append fails ns (ledger_entry call (answer fails call m)) (fresh m.parties) was.right (ap (λ (x : Machine). outcome_of (answer fails call x)) (sym was.replay)),
     ) in
     let new : P (after fails call m).parties = subst P (sym same) old in
     record { replay = new.0; right = new.1 }
 
 -- the same, by what a call left
-pub replay_noted : (fails : Option ℕ) (call : Call) (m m' : Machine) (ns ns' : List Note) (e : Outcome) → IsReplay fails m ns → m' ≡ after fails call m → ns' ≡ ns ++ record { call = call; outcome = e } ∷ [] → e ≡ outcome_of (answer fails call m) → IsReplay fails m' ns'
-replay_noted fails call m m' ns ns' e was state items ends =
-    let more : IsReplay fails (after fails call m) (ns ++ note call (answer fails call m) ∷ []) = replay_more fails call m ns was in
-    let list : ns' ≡ ns ++ note call (answer fails call m) ∷ [] = items ∙ ap (λ (x : Outcome). ns ++ record { call = call; outcome = x } ∷ []) ends in
+pub replay_entered : (fails : Option ℕ) (call : Call) (m m' : Machine) (ns ns' : List LedgerEntry) (e : Outcome) → IsReplay fails m ns → m' ≡ after fails call m → ns' ≡ ns ++ record { call = call; outcome = e } ∷ [] → e ≡ outcome_of (answer fails call m) → IsReplay fails m' ns'
+replay_entered fails call m m' ns ns' e was state items ends =
+    let more : IsReplay fails (after fails call m) (ns ++ ledger_entry call (answer fails call m) ∷ []) = replay_more fails call m ns was in
+    let list : ns' ≡ ns ++ ledger_entry call (answer fails call m) ∷ [] = items ∙ ap (λ (x : Outcome). ns ++ record { call = call; outcome = x } ∷ []) ends in
     rw (state, list) more
 
 -- the same, where a call left all as it was
-pub replay_same : (fails : Option ℕ) (m m' : Machine) (ns ns' : List Note) → IsReplay fails m ns → m' ≡ m → ns' ≡ ns → IsReplay fails m' ns'
+pub replay_same : (fails : Option ℕ) (m m' : Machine) (ns ns' : List LedgerEntry) → IsReplay fails m ns → m' ≡ m → ns' ≡ ns → IsReplay fails m' ns'
 replay_same fails m m' ns ns' was state items = rw (state, items) was
 
 -- an arrival of a caller that doesn't wait changes a barrier that isn't broken
@@ -81,5 +81,5 @@ place_left m len room has sound =
     let lt : nat_lt len room ≡ true = rw sound at has in grind (arith, nat_tests)
 
 -- the noted calls are some list of calls that leaves the barrier
-pub reached_by : (fails : Option ℕ) (m : Machine) (ns : List Note) (b : Book) → book fails m ns ≡ b → IsReplay fails m ns → AfterSome b.barrier.parties b.fails (λ x. x ≡ b.barrier)
+pub reached_by : (fails : Option ℕ) (m : Machine) (ns : List LedgerEntry) (b : Book) → book fails m ns ≡ b → IsReplay fails m ns → AfterSome b.barrier.parties b.fails (λ x. x ≡ b.barrier)
 reached_by fails m ns b same was = subst (λ (x : Book). AfterSome x.barrier.parties x.fails (λ y. y ≡ x.barrier)) same (calls_of ns, was.replay)

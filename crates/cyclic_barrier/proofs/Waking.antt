@@ -7,13 +7,13 @@ use Rattle.advance_rule.specs.Action.{fails_at}
 use Rattle.cyclic_barrier.specs.Machine.{Machine, machine, fresh}
 use Rattle.cyclic_barrier.specs.Steps.{Answer, Waiting, Trips, Fails, IsBroken, Breaks, Already, Absent, is_in, others, indexed, index_of, answer, after}
 use Rattle.cyclic_barrier.specs.Runs.{after_all}
-use Rattle.cyclic_barrier.specs.History.{outcome_of, note, calls_of, AreRight, first_end}
+use Rattle.cyclic_barrier.specs.History.{outcome_of, ledger_entry, calls_of, AreRight, first_end}
 use Rattle.cyclic_barrier.specs.Outcomes.{end_or}
 use Rattle.cyclic_barrier.specs.Wakers.{is_end, End, end_among, IsTold, left_of, LateWakersAreTold}
 use Rattle.cyclic_barrier.proofs.Indexed.{indexed-append}
 use Rattle.cyclic_barrier.specs.declared.call.Call.{Call}
 use Rattle.cyclic_barrier.specs.declared.call.Call.TheVariants.{Await, Abandon, BreakOff, Reset}
-use Rattle.cyclic_barrier.specs.declared.ledger.Note.{Note}
+use Rattle.cyclic_barrier.specs.declared.ledger.LedgerEntry.{LedgerEntry}
 use Rattle.cyclic_barrier.specs.declared.ledger.Outcome.{Outcome}
 
 -- who stands in a list stands in it with one more behind
@@ -91,7 +91,7 @@ read_on fails c i q call m (Breaks callers) o end e same now rest = (record { ca
 read_on fails c i q call m Already o end e same now rest = rest now
 read_on fails c i q call m Absent o end e same now rest = rest now
 
-told_later : (fails : Option ℕ) (ns : List Note) (m : Machine) (c i q : ℕ) → Waits c i q m → AreRight fails ns m → IsTold fails c i q (first_end ns) (end_among fails ns m)
+told_later : (fails : Option ℕ) (ns : List LedgerEntry) (m : Machine) (c i q : ℕ) → Waits c i q m → AreRight fails ns m → IsTold fails c i q (first_end ns) (end_among fails ns m)
 told_later fails [] m c i q waits right = refl
 told_later fails (n ∷ ns) m c i q waits right =
     rw right.0 (read_on fails c i q n.call m (answer fails n.call m) (first_end ns) (end_among fails ns (after fails n.call m)) refl waits.same (one_call fails n.call m c i q waits)
@@ -118,15 +118,15 @@ arrival fails c i p g ws false false false b4 e2 e3 e4 e =
     rw (indexed-append p 0 (length ws) ws c (omega arith)) (Contains-push (indexed p 0 ws) (c, index_of p (length ws))) in
     rw (e2, e3) (record { told = rw (sym index) last; here = is_in-push c ws; same = refl })
 
--- notes are right behind those that are
-right-behind : (fails : Option ℕ) (ns later : List Note) (m : Machine) → AreRight fails (ns ++ later) m → AreRight fails later (after_all fails (calls_of ns) m)
+-- entries are right behind those that are
+right-behind : (fails : Option ℕ) (ns later : List LedgerEntry) (m : Machine) → AreRight fails (ns ++ later) m → AreRight fails later (after_all fails (calls_of ns) m)
 right-behind fails [] later m right = right
 right-behind fails (n ∷ ns) later m right = right-behind fails ns later (after fails n.call m) right.1
 
 pub late_wakers_are_told : LateWakersAreTold
 late_wakers_are_told parties fails before later caller index right told =
     let m = left_of parties fails before in
-    let n = note (Await caller) (Waiting index) in
+    let n = ledger_entry (Await caller) (Waiting index) in
     let behind = right-behind fails before (n ∷ later) (fresh parties) right in
     let waits : Waits caller index m.generation (after fails (Await caller) m) = arrival fails caller index m.parties m.generation m.waiting m.broken _ _ _ refl refl refl told in
     rw (drop-append-add before (n ∷ later) 1) (told_later fails later (after fails (Await caller) m) caller index m.generation waits behind.1)

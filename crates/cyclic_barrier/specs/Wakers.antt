@@ -3,10 +3,10 @@ use Rattle.std.specs.Prelude.{◌≡◌, ◌⊎◌, ℕ, ◌+◌, Bool, true, fa
 use Rattle.cyclic_barrier.specs.Machine.{Machine, fresh}
 use Rattle.cyclic_barrier.specs.Steps.{Answer, Waiting, Trips, Fails, IsBroken, Breaks, Already, Absent, answer, after, is_in}
 use Rattle.cyclic_barrier.specs.Runs.{after_all}
-use Rattle.cyclic_barrier.specs.History.{note, calls_of, AreRight, first_end}
+use Rattle.cyclic_barrier.specs.History.{ledger_entry, calls_of, AreRight, first_end}
 use Rattle.cyclic_barrier.specs.declared.call.Call.{Call}
 use Rattle.cyclic_barrier.specs.declared.call.Call.TheVariants.{Await, Abandon}
-use Rattle.cyclic_barrier.specs.declared.ledger.Note.{Note}
+use Rattle.cyclic_barrier.specs.declared.ledger.LedgerEntry.{LedgerEntry}
 use Rattle.cyclic_barrier.specs.declared.ledger.Outcome.{Outcome}
 use Rattle.cyclic_barrier.specs.declared.ledger.Outcome.TheVariants.{GoesOn, Tripped, Broken}
 
@@ -26,7 +26,7 @@ pub record End : Type 0 where
   pub found : Machine
 
 -- the call among these that ends the generation of this barrier
-abbrev pub end_among : Option ℕ → List Note → Machine → Option End
+abbrev pub end_among : Option ℕ → List LedgerEntry → Machine → Option End
 end_among fails [] m = None
 end_among fails (n ∷ ns) m = if is_end (answer fails n.call m) then Some (record { call = n.call; found = m }) else end_among fails ns (after fails n.call m)
 
@@ -50,15 +50,15 @@ IsTold fails caller index generation Broken end =
     (e : End) × (end ≡ Some e) × (e.found.generation ≡ generation) × GivesBroken caller e.call (answer fails e.call e.found)
 
 -- the barrier that these calls leave of a new one
-abbrev pub left_of : ℕ → Option ℕ → List Note → Machine
-left_of parties fails notes = after_all fails (calls_of notes) (fresh parties)
+abbrev pub left_of : ℕ → Option ℕ → List LedgerEntry → Machine
+left_of parties fails entries = after_all fails (calls_of entries) (fresh parties)
 
 -- Whatever was noted before and later: the first end noted behind the arrival of a caller that was told to wait is the end of its own generation, and gives it the index that it was told.
 abbrev pub LateWakersAreTold : Type 0
 LateWakersAreTold =
-    (parties : ℕ) (fails : Option ℕ) (before later : List Note) (caller index : ℕ)
-    → AreRight fails (before ++ note (Await caller) (Waiting index) ∷ later) (fresh parties)
+    (parties : ℕ) (fails : Option ℕ) (before later : List LedgerEntry) (caller index : ℕ)
+    → AreRight fails (before ++ ledger_entry (Await caller) (Waiting index) ∷ later) (fresh parties)
     → answer fails (Await caller) (left_of parties fails before) ≡ Waiting index
     → IsTold fails caller index (left_of parties fails before).generation
-    (first_end (drop (length before + 1) (before ++ note (Await caller) (Waiting index) ∷ later)))
+    (first_end (drop (length before + 1) (before ++ ledger_entry (Await caller) (Waiting index) ∷ later)))
     (end_among fails later (after fails (Await caller) (left_of parties fails before)))

@@ -28,7 +28,7 @@ pub enum Outcome {
 
 /// A call that changed the barrier.
 #[derive(Clone, Copy)]
-pub struct Note {
+pub struct LedgerEntry {
     /// The call.
     pub call: Call,
     /// What it did to the generation.
@@ -43,7 +43,7 @@ pub struct Note {
 pub struct Ledger {
     fails: Option<u64>,
     state: BarrierState,
-    history: Vec<Note>,
+    history: Vec<LedgerEntry>,
 }
 
 impl Model for Ledger {
@@ -121,7 +121,7 @@ impl Ledger {
     }
 
     /// The first end of a generation that is noted from this place on: how the wait of the caller ended
-    /// whose arrival is the note before that place.
+    /// whose arrival is the entry before that place.
     pub fn end_since(&self, place: usize) -> Outcome
         ensures { result ≡ first_end (drop place self.now.history) }
     {
@@ -129,8 +129,8 @@ impl Ledger {
             return Outcome::GoesOn;
         }
         let (_, later) = self.history.split_at(place);
-        for note in later {
-            match note.outcome {
+        for entry in later {
+            match entry.outcome {
                 Outcome::GoesOn => {}
                 end => return end,
             }
@@ -166,7 +166,7 @@ impl Ledger {
         match self.state.await_step(action, caller) {
             Ok(awaited) => {
                 if let Some(outcome) = awaited.outcome() {
-                    self.history.push_reserved(Note {
+                    self.history.push_reserved(LedgerEntry {
                         call: Call::Await(caller),
                         outcome,
                     });
@@ -194,7 +194,7 @@ impl Ledger {
         }
         match self.state.abandon(caller) {
             Ok(others) => {
-                self.history.push_reserved(Note {
+                self.history.push_reserved(LedgerEntry {
                     call: Call::Abandon(caller),
                     outcome: Outcome::Broken,
                 });
@@ -213,7 +213,7 @@ impl Ledger {
         if self.state.is_broken() {
             return Vec::new(*self.history.allocator());
         }
-        self.history.push_reserved(Note {
+        self.history.push_reserved(LedgerEntry {
             call: Call::BreakOff,
             outcome: Outcome::Broken,
         });
@@ -232,7 +232,7 @@ impl Ledger {
             Ok(()) => {}
             Err(_) => return Err(BarrierFault::Memory),
         }
-        self.history.push_reserved(Note {
+        self.history.push_reserved(LedgerEntry {
             call: Call::Reset,
             outcome: Outcome::Broken,
         });

@@ -12,5 +12,5 @@ pub use call::{Awaited, BarrierFault, Call, MOST_PARTIES};
 pub use laws::{
     ends_name_the_told, generations_follow, late_wakers_are_told, trips_give_each_once,
 };
-pub use ledger::{Ledger, Note, Outcome};
+pub use ledger::{Ledger, LedgerEntry, Outcome};
 pub use state::BarrierState;

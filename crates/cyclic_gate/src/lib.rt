@@ -4,7 +4,7 @@
 mod gate;
 
 pub use cyclic_barrier::{
-    Awaited, BarrierCore, BarrierFault, BarrierState, Call, Ledger, MOST_PARTIES, Note, Outcome,
-    ends_name_the_told, late_wakers_are_told, trips_give_each_once,
+    Awaited, BarrierCore, BarrierFault, BarrierState, Call, Ledger, LedgerEntry, MOST_PARTIES,
+    Outcome, ends_name_the_told, late_wakers_are_told, trips_give_each_once,
 };
 pub use gate::{CyclicGate, GateFault};

@@ -15,7 +15,7 @@ use Rattle.phase_records.proofs.ReportLawProofs.{each-step-has-its-prints}
 use Rattle.task_lang.specs.Meaning.{Task, After, Synced, Stopped, Faulted, Segment}
 use Rattle.step_core.specs.Program.{Program}
 use Rattle.step_core.specs.Superstep.{State, superstep, segments, fault_in, closed, ended_by, gone_on, next_live, prints_of, print_of, record_of, spawned, stopped, left}
-use Rattle.step_core.specs.JobMeaning.{opening, so_far, status, told}
+use Rattle.step_core.specs.JobMeaning.{initial, so_far, status, told}
 use Rattle.step_core.specs.Laws.{deed}
 use Rattle.step_parts.proofs.Runs.{goes, stays, going_on}
 use Rattle.job_laws.specs.Reports.{IsBySuperstep, ReportsAreBySuperstep, TextsHaveEveryPrint, PrintsAreOfTheirSuperstep, has_stopped, Tells, TellFrom, RecordsTellSupersteps}
@@ -29,7 +29,7 @@ one_along p limit P n before next (Some s) e =
     subst P (sym (stays (status limit (so_far p limit n)) s (so_far p limit n) (superstep p (so_far p limit n)) e)) before
 
 -- what holds of each state of a job, if a superstep of one that goes on keeps it
-along : (p : Program) (limit : ℕ) (P : State → Type 0) → P (opening p)
+along : (p : Program) (limit : ℕ) (P : State → Type 0) → P (initial p)
     → ((n : ℕ) → status limit (so_far p limit n) ≡ None → P (so_far p limit n) → P (superstep p (so_far p limit n))) → (n : ℕ) → P (so_far p limit n)
 along p limit P first next zero = first
 along p limit P first next (suc n) = one_along p limit P n (along p limit P first next n) (next n) (status limit (so_far p limit n)) refl
@@ -94,7 +94,7 @@ one_more p st h =
     })
     (fault_in st.arrays ss)
 
-opened : (p : Program) → IsBySuperstep (opening p)
+opened : (p : Program) → IsBySuperstep (initial p)
 opened p = record { records = tt; taken = refl; prints = tt }
 
 pub by_superstep : ReportsAreBySuperstep

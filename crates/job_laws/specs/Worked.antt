@@ -7,7 +7,7 @@ use Rattle.phase_records.specs.Status.{Status, Ended, Fault, Limit}
 use Rattle.phase_records.specs.declared.record.PhaseRecord.{PhaseRecord}
 use Rattle.task_lang.specs.declared.job.Start.{Start}
 use Rattle.task_lang.specs.declared.code.Index.TheVariants.{Number, Local, Arg}
-use Rattle.superstep_memory.specs.declared.arrays.Kind.TheVariants.{Set, Add as Plus}
+use Rattle.superstep_memory.specs.declared.arrays.PutKind.TheVariants.{Set, Add as Plus}
 use Rattle.task_lang.specs.declared.code.Index.{Index}
 use Rattle.task_lang.specs.declared.code.Cell.{Cell}
 use Rattle.task_lang.specs.declared.code.Operand.{Operand}

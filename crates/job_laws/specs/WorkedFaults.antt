@@ -1,7 +1,7 @@
 -- Where tasks fault, and where they just don't, worked out (own).
 use Rattle.std.specs.Prelude.{◌≡◌, ℕ, ◌+◌, ◌<◌, ◌≤◌, ℤ, pos, negsuc, [], ◌∷◌, ◌++◌, length}
 use Rattle.phase_records.specs.Status.{Ended, Fault, Limit}
-use Rattle.superstep_memory.specs.declared.arrays.Kind.TheVariants.{Set}
+use Rattle.superstep_memory.specs.declared.arrays.PutKind.TheVariants.{Set}
 use Rattle.task_lang.specs.declared.code.Index.TheVariants.{Number, Local, Step}
 use Rattle.task_lang.specs.declared.code.Operand.{Operand}
 use Rattle.task_lang.specs.declared.code.Operand.TheVariants.{Plain, Cell as At}

@@ -64,15 +64,15 @@ shown_values values = if nat_le (length values) 64 then few_values values else [
 
 -- what stands over the cells of the array that so many others stand before: its name, how many cells it has, the least and
 -- the greatest
-abbrev pub label : ℕ → List ℕ → ℕ → Extent → List ℕ
-label place name count e =
+abbrev pub caption : ℕ → List ℕ → ℕ → Extent → List ℕ
+caption place name count e =
     codes "<g transform=\"translate(0," ++ decimal (310 + 50 * place) ++ codes ")\"><text class=\"k\" x=\"80\" y=\"12\">" ++ flat_map escaped name
     ++ codes ": cells " ++ decimal count ++ codes ", least " ++ signed_decimal e.low ++ codes ", greatest " ++ signed_decimal e.high ++ codes "</text>\n"
 
 -- and the array
 abbrev pub strip : ℕ → List ℕ × List ℤ → List ℕ
 strip place a =
-    label place a.0 (length a.1) (extent_of a.1)
+    caption place a.0 (length a.1) (extent_of a.1)
     ++ codes "<svg x=\"80\" y=\"18\" width=\"800\" height=\"25\" viewBox=\"0 0 " ++ decimal (length a.1)
     ++ codes " 1\" preserveAspectRatio=\"none\" overflow=\"visible\"><g class=\"c\">\n" ++ cells_from (extent_of a.1) (length a.1) a.1 ++ codes "</g>\n"
     ++ shown_values a.1 ++ codes "</svg><path class=\"o\" d=\"M80 18h800v25h-800z\"/></g>\n"

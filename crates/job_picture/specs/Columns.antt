@@ -55,6 +55,6 @@ bars c =
     bar (codes "p") c.told.phase c.steps 0 c.told.parties ++ bar (codes "l") c.told.phase c.steps 0 c.told.left
     ++ bar (codes "s") c.told.phase c.steps (c.told.parties - c.told.spawned) c.told.spawned
 
--- a mark where tasks printed
-abbrev pub mark : Column → List ℕ
-mark c = if c.prints then bar (codes "d") c.told.phase c.steps 0 1 else []
+-- a tick where tasks printed
+abbrev pub tick : Column → List ℕ
+tick c = if c.prints then bar (codes "d") c.told.phase c.steps 0 1 else []

@@ -6,7 +6,7 @@ use Rattle.phase_records.specs.ReportValue.{ReportValue}
 use Rattle.phase_records.specs.Status.{Status, Ended, Fault, Limit}
 use Rattle.job_picture.specs.Axes.{party_tick, step_tick, ticks}
 use Rattle.job_picture.specs.Cells.{strips_from}
-use Rattle.job_picture.specs.Columns.{bars, columns_of, greatest, joined, mark}
+use Rattle.job_picture.specs.Columns.{bars, columns_of, greatest, joined, tick}
 use Rattle.job_picture.specs.declared.columns.Column.{Column}
 
 -- how many supersteps share a column, so that there are 4000 columns at most
@@ -68,10 +68,10 @@ heights steps most columns =
     part_head (codes "y=\"50\" height=\"200\"") steps most ++ codes "<g transform=\"scale(1,-1) translate(0,-" ++ decimal most ++ codes ")\">\n"
     ++ flat_map bars columns ++ codes "</g>\n</svg>\n"
 
--- below them the marks where tasks printed, and the numbers of supersteps
+-- below them the ticks where tasks printed, and the numbers of supersteps
 abbrev pub below : ℕ → List Column → List ℕ
 below steps columns =
-    part_head (codes "y=\"257\" height=\"8\"") steps 1 ++ flat_map mark columns ++ codes "</svg>\n"
+    part_head (codes "y=\"257\" height=\"8\"") steps 1 ++ flat_map tick columns ++ codes "</svg>\n"
     ++ part_head (codes "y=\"267\" height=\"20\"") steps 1 ++ ticks (step_tick steps) (steps - 1) ++ codes "</svg>\n"
 
 -- the columns of a report

@@ -15,7 +15,7 @@ ghost use Rattle.job_picture.specs.Cells.{
   values_from,
   few_values,
   shown_values,
-  label,
+  caption,
   strip,
   strips_from,
 };
@@ -189,14 +189,14 @@ fn push_shown_values(out: &mut Vec<u8>, values: &[i64]) -> Result<(), AllocError
 }
 
 // Puts what stands over the cells of an array behind what is there.
-fn push_label(
+fn push_caption(
     out: &mut Vec<u8>,
     place: usize,
     name: &str,
     count: usize,
     extent: Extent,
 ) -> Result<(), AllocError>
-    ensures { OnOk result (out.new.items ≡ out.old.items ++ label place name.now count extent) }
+    ensures { OnOk result (out.new.items ≡ out.old.items ++ caption place name.now count extent) }
 {
     push_field(
         out,
@@ -218,7 +218,7 @@ fn push_strip(out: &mut Vec<u8>, place: usize, name: &str, values: &[i64]) -> Re
     ensures { OnOk result (out.new.items ≡ out.old.items ++ strip place (name.now, values.now)) }
 {
     let extent = range_of(values);
-    push_label(out, place, name, values.len(), extent)?;
+    push_caption(out, place, name, values.len(), extent)?;
     push_field(
         out,
         b"<svg x=\"80\" y=\"18\" width=\"800\" height=\"25\" viewBox=\"0 0 ",

@@ -11,7 +11,7 @@ ghost use Rattle.job_picture.specs.Columns.{
   joined,
   bar,
   bars,
-  mark,
+  tick,
 };
 
 use crate::pieces::{push_field, push_text};
@@ -202,9 +202,9 @@ pub(crate) fn push_all_bars(out: &mut Vec<u8>, columns: &[Column]) -> Result<(),
     Ok(())
 }
 
-// Puts the mark of a column behind what is there, where tasks printed.
-fn push_mark(out: &mut Vec<u8>, column: Column) -> Result<(), AllocError>
-    ensures { OnOk result (out.new.items ≡ out.old.items ++ mark column) }
+// Puts the tick of a column behind what is there, where tasks printed.
+fn push_tick(out: &mut Vec<u8>, column: Column) -> Result<(), AllocError>
+    ensures { OnOk result (out.new.items ≡ out.old.items ++ tick column) }
 {
     if column.prints {
         return push_bar(out, b"d", column, 0, 1);
@@ -212,13 +212,13 @@ fn push_mark(out: &mut Vec<u8>, column: Column) -> Result<(), AllocError>
     Ok(())
 }
 
-/// Puts the marks of columns behind what is there.
-pub(crate) fn push_all_marks(out: &mut Vec<u8>, columns: &[Column]) -> Result<(), AllocError>
-    ensures { OnOk result (out.new.items ≡ out.old.items ++ flat_map mark columns.now) }
+/// Puts the ticks of columns behind what is there.
+pub(crate) fn push_all_ticks(out: &mut Vec<u8>, columns: &[Column]) -> Result<(), AllocError>
+    ensures { OnOk result (out.new.items ≡ out.old.items ++ flat_map tick columns.now) }
 {
     let mut rest = columns;
     while let Some((column, after)) = rest.split_first() {
-        push_mark(out, *column)?;
+        push_tick(out, *column)?;
         rest = after;
     }
     Ok(())

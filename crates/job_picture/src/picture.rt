@@ -24,7 +24,7 @@ ghost use Rattle.job_picture.specs.Picture.{
 
 use crate::axes::{push_party_ticks, push_step_ticks};
 use crate::cells::push_strips;
-use crate::columns::{Column, columns_of, greatest, join, push_all_bars, push_all_marks};
+use crate::columns::{Column, columns_of, greatest, join, push_all_bars, push_all_ticks};
 use crate::pieces::{push_field, push_text};
 use phase_records::{JobStatus, Report};
 use std::alloc::{AllocError, Global};
@@ -181,13 +181,13 @@ fn push_heights(
     push_text(out, b"</g>\n</svg>\n")
 }
 
-// Puts what stands below the columns behind what is there: marks where tasks printed, and numbers.
+// Puts what stands below the columns behind what is there: ticks where tasks printed, and numbers.
 fn push_below(out: &mut Vec<u8>, steps: usize, columns: &[Column]) -> Result<(), AllocError>
     requires { 0 < steps }
     ensures { OnOk result (out.new.items ≡ out.old.items ++ below steps columns.now) }
 {
     push_part(out, b"y=\"257\" height=\"8\"", steps, 1)?;
-    push_all_marks(out, columns)?;
+    push_all_ticks(out, columns)?;
     push_text(out, b"</svg>\n")?;
     push_part(out, b"y=\"267\" height=\"20\"", steps, 1)?;
     push_step_ticks(out, steps)?;
@@ -242,7 +242,7 @@ fn push_file(
 }
 
 /// The picture of a report, as the text of an SVG file: a title, for each superstep a column whose parts are the parties
-/// that live on, that left and that were spawned, with a mark where tasks printed, and each array as a strip of cells.
+/// that live on, that left and that were spawned, with a tick where tasks printed, and each array as a strip of cells.
 /// Over 4000 supersteps share columns, so that there are 4000 at most (own).
 pub fn picture_of(alloc: Global, report: &Report) -> Result<Vec<u8>, AllocError>
     ensures { IfOk result (λ text. text.items ≡ picture report.now) }

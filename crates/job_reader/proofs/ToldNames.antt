@@ -14,7 +14,7 @@ use Rattle.task_lang.specs.Names.{is_among}
 use Rattle.task_lang.specs.Open.{Frame, step_of}
 use Rattle.task_lang.specs.Tree.{Block}
 use Rattle.job_words.specs.Words.{Word, Words}
-use Rattle.superstep_memory.specs.declared.arrays.Kind.TheVariants.{Set, Add}
+use Rattle.superstep_memory.specs.declared.arrays.PutKind.TheVariants.{Set, Add}
 use Rattle.job_words.specs.declared.lines.Keyword.{Keyword}
 use Rattle.job_words.specs.declared.lines.Keyword.TheVariants.{Let, Put, Print, Spawn, Sync, Stop, If, Else, While, End}
 use Rattle.job_words.specs.Lines.{keyword_of, line_behind}

@@ -8,7 +8,7 @@ ghost use Rattle.job_reader.specs.Writing.{names_of, code_lines};
 
 use itoa::{Buffer, Integer};
 use std::alloc::AllocError;
-use superstep_memory::arrays::{Arrays, Kind};
+use superstep_memory::arrays::{Arrays, PutKind};
 use task_lang::body::Body;
 use task_lang::code::{Action, Cell, Expr, Index, Line, Operand, Operator};
 
@@ -184,19 +184,19 @@ fn push_let(out: &mut Vec<u8>, names: &Writing<'_>, local: u8, expr: Expr) -> Re
 }
 
 // The first word of a put, by what landing does with its value.
-fn kind_text(kind: Kind) -> &'static [u8]
+fn kind_text(kind: PutKind) -> &'static [u8]
     ensures { result.now ≡ kind_word kind }
 {
     match kind {
-        Kind::Set => b"put",
-        Kind::Add => b"add",
+        PutKind::Set => b"put",
+        PutKind::Add => b"add",
     }
 }
 
 fn push_put(
     out: &mut Vec<u8>,
     names: &Writing<'_>,
-    kind: Kind,
+    kind: PutKind,
     cell: Cell,
     expr: Expr,
 ) -> Result<(), AllocError>

@@ -13,18 +13,18 @@ use Rattle.tier_core.specs.Run.{after, answer_to}
 use Rattle.tier_core.proofs.Turns.{not_both}
 use Rattle.step_core.specs.Superstep.{superstep}
 use Rattle.step_core.specs.JobMeaning.{status, unless_ended, told, report_in}
-use Rattle.job_seats.specs.declared.stage.Mode.{Mode}
-use Rattle.job_seats.specs.declared.stage.Mode.TheVariants as mode
-use Rattle.job_seats.specs.declared.stage.Move.{Move}
-use Rattle.job_seats.specs.declared.stage.Move.TheVariants.{Takes, Delivers, Calls, Advances, Closes, Ends}
+use Rattle.job_participants.specs.declared.stage.Mode.{Mode}
+use Rattle.job_participants.specs.declared.stage.Mode.TheVariants as mode
+use Rattle.job_participants.specs.declared.stage.Move.{Move}
+use Rattle.job_participants.specs.declared.stage.Move.TheVariants.{Takes, Delivers, Calls, Advances, Closes, Ends}
 use Rattle.job_schedule.specs.declared.step.JobStep.{JobStep}
 use Rattle.job_schedule.specs.declared.step.JobStep.TheVariants.{Take, Deliver, Tree as TreeStep, Advance, Close}
 use Rattle.job_schedule.specs.AnswerValue.{AnswerValue, Took, Delivered, Stepped, Advanced, Closed, Finished, NotNow}
-use Rattle.job_seats.specs.declared.stage.Stage.{Stage}
-use Rattle.job_seats.specs.declared.stage.Stage.TheVariants.{Waits, Taken, Polling, Joining, Arriving, Leaving, Over}
-use Rattle.job_seats.specs.SeatValue.{SeatValue, seat_at, all_over}
-use Rattle.job_seats.specs.Moves.{by_stage, passing}
-use Rattle.job_schedule.specs.World.{World, called_by, advanced_by, ended_by, next_job, closed_as, done_by, kind_of, kind_for, if_asked, move_of, worker_of, step_of, answer_of, by_mode, by_hand, opening_world, reached}
+use Rattle.job_participants.specs.declared.stage.Stage.{Stage}
+use Rattle.job_participants.specs.declared.stage.Stage.TheVariants.{Waits, Taken, Polling, Joining, Arriving, Leaving, Over}
+use Rattle.job_participants.specs.ParticipantValue.{ParticipantValue, participant_at, all_over}
+use Rattle.job_participants.specs.Moves.{by_stage, passing}
+use Rattle.job_schedule.specs.World.{World, called_by, advanced_by, ended_by, next_job, closed_as, done_by, kind_of, kind_for, if_asked, move_of, worker_of, step_of, answer_of, by_mode, by_hand, initial_world, reached}
 use Rattle.job_schedule.specs.Laws.{IsClosing, IsFinishing, RoundsAreClosedOnce}
 
 not_called : (w : World) (worker place : ℕ) (tree : Tree) (a : TreeAnswer) {A : Type 0} → (called_by w worker place tree a).0 ≡ Closed → A
@@ -56,7 +56,7 @@ closing_move w worker (Delivers place) h = cc
 closing_move w worker (Calls place token c) h =
     not_called w worker place (after (after w.tree (Begin token c)) (Go token)) (answer_to (after w.tree (Begin token c)) (Go token)) h
 closing_move w worker (Advances place) h =
-    not_advanced w worker place (after w.tree (Finish (seat_at w.seats place).token)) (answer_to w.tree (Finish (seat_at w.seats place).token)) h
+    not_advanced w worker place (after w.tree (Finish (participant_at w.participants place).token)) (answer_to w.tree (Finish (participant_at w.participants place).token)) h
 closing_move w worker (Closes token) h = by (report_in w.limit (next_job w)) refl h
   where
     by : (o : Option ReportValue) → report_in w.limit (next_job w) ≡ o → (closed_as w worker token (next_job w) o).0 ≡ Closed
@@ -67,9 +67,9 @@ closing_move w worker (Ends token) h =
     not_forced w (after (after w.tree (Begin token call.Force)) (Go token)) (answer_to (after w.tree (Begin token call.Force)) (Go token)) h
 
 abbrev pub FromMode : World → ℕ → ℕ → Mode → Type 0
-FromMode w worker token m = (is_some (status w.limit w.job) ≡ true) ⊎ ((m ≡ mode.Advanced worker token) × (all_over w.seats ≡ true))
+FromMode w worker token m = (is_some (status w.limit w.job) ≡ true) ⊎ ((m ≡ mode.Advanced worker token) × (all_over w.participants ≡ true))
 
-no_stage : (g : SeatValue) (place : ℕ) (due : Bool) (stage : Stage) (token : ℕ) {A : Type 0} → by_stage g place due stage ≡ Some (Closes token) → A
+no_stage : (g : ParticipantValue) (place : ℕ) (due : Bool) (stage : Stage) (token : ℕ) {A : Type 0} → by_stage g place due stage ≡ Some (Closes token) → A
 no_stage g place due Waits token h = cc
 no_stage g place due Taken token h = cc
 no_stage g place due Polling token h = cc
@@ -91,11 +91,11 @@ in_mode w worker token mode.Runs h = by_the_hand (slice_index_or w.hands worker 
     by false false e = cc
 
     by_the_hand : (hand : Option ℕ) → by_hand w hand ≡ Some (Closes token) → FromMode w worker token mode.Runs
-    by_the_hand None e = inl (by (nat_lt w.taken (length w.seats)) (is_some (status w.limit w.job)) e)
-    by_the_hand (Some place) e = no_stage (seat_at w.seats place) place _ (seat_at w.seats place).stage token e
-in_mode w worker token (mode.Advanced closer owner) h = by (worker == closer) (all_over w.seats) refl refl h
+    by_the_hand None e = inl (by (nat_lt w.taken (length w.participants)) (is_some (status w.limit w.job)) e)
+    by_the_hand (Some place) e = no_stage (participant_at w.participants place) place _ (participant_at w.participants place).stage token e
+in_mode w worker token (mode.Advanced closer owner) h = by (worker == closer) (all_over w.participants) refl refl h
   where
-    by : (b c : Bool) → (worker == closer) ≡ b → all_over w.seats ≡ c → (if b && c then Some (Closes owner) else None) ≡ Some (Closes token)
+    by : (b c : Bool) → (worker == closer) ≡ b → all_over w.participants ≡ c → (if b && c then Some (Closes owner) else None) ≡ Some (Closes token)
         → FromMode w worker token (mode.Advanced closer owner)
     by true true e f k =
         let same : worker ≡ closer = eqb-true worker closer e in
@@ -138,7 +138,7 @@ is_close (Advance worker) token h = cc
 is_close (Close worker) token h = refl
 
 abbrev Is : World → JobStep → World → Type 0
-Is w x v = (x ≡ Close (worker_of x)) × ((token : ℕ) × (w.mode ≡ mode.Advanced (worker_of x) token)) × (all_over w.seats ≡ true)
+Is w x v = (x ≡ Close (worker_of x)) × ((token : ℕ) × (w.mode ≡ mode.Advanced (worker_of x) token)) × (all_over w.participants ≡ true)
     × (v.mode ≡ mode.Runs) × (v.job ≡ superstep w.program w.job)
 
 is_closing : (w : World) (x : JobStep) → answer_of w x ≡ Closed → IsClosing w x
@@ -150,7 +150,7 @@ is_closing w x h =
     at m e k c =
         let one = one_superstep w c.on in
         let from = from_mode w (worker_of x) c.token (e ∙ ap (λ (n : Move). Some n) c.move) in
-        let here : (w.mode ≡ mode.Advanced (worker_of x) c.token) × (all_over w.seats ≡ true) =
+        let here : (w.mode ≡ mode.Advanced (worker_of x) c.token) × (all_over w.participants ≡ true) =
         ⊎_elim (λ (q : is_some (status w.limit w.job) ≡ true). let bad : true ≡ false = sym q ∙ one.1 in cc) (λ q. q) from in (
           is_close x c.token (ap (λ (n : Move). kind_of x == kind_for n) (sym c.move) ∙ k),
           (c.token, here.0),
@@ -201,7 +201,7 @@ closing_token w worker (Calls place token c) h =
     (call_closes_none w worker place (after (after w.tree (Begin token c)) (Go token)) (answer_to (after w.tree (Begin token c)) (Go token)))
 closing_token w worker (Advances place) h =
     not_both (closes_round (done_by w worker (Advances place)).0) h
-    (advance_closes_none w worker place (after w.tree (Finish (seat_at w.seats place).token)) (answer_to w.tree (Finish (seat_at w.seats place).token)))
+    (advance_closes_none w worker place (after w.tree (Finish (participant_at w.participants place).token)) (answer_to w.tree (Finish (participant_at w.participants place).token)))
 closing_token w worker (Closes token) h = (token, refl)
 closing_token w worker (Ends token) h =
     not_both (closes_round (done_by w worker (Ends token)).0) h
@@ -251,6 +251,6 @@ is_finishing w x report h =
 
 pub rounds_are_closed_once : RoundsAreClosedOnce
 rounds_are_closed_once p parents limit xs x = (
-  λ h. is_closing (reached (opening_world p parents limit) xs) x h,
-  λ report h. is_finishing (reached (opening_world p parents limit) xs) x report h,
+  λ h. is_closing (reached (initial_world p parents limit) xs) x h,
+  λ report h. is_finishing (reached (initial_world p parents limit) xs) x report h,
 )

@@ -19,19 +19,19 @@ use Rattle.tier_core.proofs.Turns.{not_both}
 use Rattle.task_lang.specs.Meaning.{Task}
 use Rattle.step_core.specs.Program.{Program}
 use Rattle.step_core.specs.Superstep.{State, superstep, live_paths}
-use Rattle.step_core.specs.JobMeaning.{opening, status, status_of, unless_ended, told, report_in}
+use Rattle.step_core.specs.JobMeaning.{initial, status, status_of, unless_ended, told, report_in}
 use Rattle.step_core.specs.OrderValue.{has_synced, spawned_paths}
-use Rattle.job_seats.specs.declared.stage.Mode.{Mode}
-use Rattle.job_seats.specs.declared.stage.Mode.TheVariants as mode
-use Rattle.job_seats.specs.declared.stage.Move.{Move}
-use Rattle.job_seats.specs.declared.stage.Move.TheVariants.{Takes, Delivers, Calls, Advances, Closes, Ends}
+use Rattle.job_participants.specs.declared.stage.Mode.{Mode}
+use Rattle.job_participants.specs.declared.stage.Mode.TheVariants as mode
+use Rattle.job_participants.specs.declared.stage.Move.{Move}
+use Rattle.job_participants.specs.declared.stage.Move.TheVariants.{Takes, Delivers, Calls, Advances, Closes, Ends}
 use Rattle.job_schedule.specs.declared.step.JobStep.{JobStep}
 use Rattle.job_schedule.specs.declared.step.JobStep.TheVariants.{Take, Deliver, Tree as TreeStep, Advance, Close}
 use Rattle.job_schedule.specs.AnswerValue.{AnswerValue, Stepped, Finished, NotNow}
-use Rattle.job_seats.specs.SeatValue.{seat_at, all_over}
-use Rattle.job_schedule.specs.World.{World, with_start, with_starts, empty_world, opening_world, kid_from, with_kids, noted, deed_of, called_by, advanced_by, ended_by, next_job, mode_after, closed_as, done_by, kind_of, kind_for, if_asked, by_mode, move_of, worker_of, step_of, answer_of, world_after, answers, reached}
+use Rattle.job_participants.specs.ParticipantValue.{participant_at, all_over}
+use Rattle.job_schedule.specs.World.{World, with_start, with_starts, empty_world, initial_world, kid_from, with_kids, noted, deed_of, called_by, advanced_by, ended_by, next_job, mode_after, closed_as, done_by, kind_of, kind_for, if_asked, by_mode, move_of, worker_of, step_of, answer_of, world_after, answers, reached}
 use Rattle.job_schedule.specs.Laws.{is_tree_step, behind_the_end, has_faulted, end_of, FinishedIsTheEnd}
-use Rattle.job_schedule.proofs.Jobs.{kids_keep, opening_job}
+use Rattle.job_schedule.proofs.Jobs.{kids_keep, initial_job}
 use Rattle.job_schedule.proofs.Closing.{closes_by, closes_round, from_mode}
 
 -- this worker may end the tree by this token
@@ -230,7 +230,7 @@ only_in_runs w worker m h work = by (nat_lt worker 64) w.mode refl h
 
     in_mode : (t : Mode) → w.mode ≡ t → by_mode w worker t ≡ Some m → t ≡ mode.Runs
     in_mode mode.Runs e k = refl
-    in_mode (mode.Advanced closer token) e k = if_so ((worker == closer) && all_over w.seats) k
+    in_mode (mode.Advanced closer token) e k = if_so ((worker == closer) && all_over w.participants) k
       where
         if_so : (b : Bool) → (if b then Some (Closes token) else None) ≡ Some m → mode.Advanced closer token ≡ mode.Runs
         if_so true q = idle (Closes token) refl q
@@ -278,7 +278,7 @@ advanced_ready : (w : World) (worker place : ℕ) → worker < 64 → w.mode ≡
 advanced_ready w worker place within runs none = by (may_finish w.tree token) refl
   where
     token : ℕ
-    token = (seat_at w.seats place).token
+    token = (participant_at w.participants place).token
 
     ends : Bool
     ends = plan_ends w.tree
@@ -333,7 +333,7 @@ ended_ready w worker token m e ready h = at m e ready (ap (λ (n : Mode). if nat
 
     at : (m : Mode) → w.mode ≡ m → Ready w m → (if nat_lt worker 64 then by_mode w worker m else None) ≡ Some (Ends token) → IsReady (done_by w worker (Ends token)).1
     at mode.Runs runs r k = in_runs (after (after w.tree (Begin token call.Force)) (Go token)) (answer_to (after w.tree (Begin token call.Force)) (Go token)) runs r
-    at (mode.Advanced closer own) q r k = by (nat_lt worker 64) ((worker == closer) && all_over w.seats) k
+    at (mode.Advanced closer own) q r k = by (nat_lt worker 64) ((worker == closer) && all_over w.participants) k
       where
         by : (a b : Bool) → (if a then (if b then Some (Closes own) else None) else None) ≡ Some (Ends token) → IsReady (done_by w worker (Ends token)).1
         by true true q = cc
@@ -363,9 +363,9 @@ done_ready w worker (Takes place) e ready =
     goes_on (done_by w worker (Takes place)).1 runs (in_runs w runs ready)
 done_ready w worker (Delivers place) e ready =
     let runs = only_in_runs w worker (Delivers place) e refl in
-    let k = kids_keep (noted w place (has_synced (deed_of w (seat_at w.seats place).path))) place (spawned_paths (deed_of w (seat_at w.seats place).path)) in
+    let k = kids_keep (noted w place (has_synced (deed_of w (participant_at w.participants place).path))) place (spawned_paths (deed_of w (participant_at w.participants place).path)) in
     goes_on (done_by w worker (Delivers place)).1
-    (kids_mode (noted w place (has_synced (deed_of w (seat_at w.seats place).path))) place (spawned_paths (deed_of w (seat_at w.seats place).path)) ∙ runs)
+    (kids_mode (noted w place (has_synced (deed_of w (participant_at w.participants place).path))) place (spawned_paths (deed_of w (participant_at w.participants place).path)) ∙ runs)
     (ap (λ (st : State). st.fault) k.job ∙ in_runs w runs ready)
 done_ready w worker (Calls place token c) e ready =
     let runs = only_in_runs w worker (Calls place token c) e refl in
@@ -396,11 +396,11 @@ starts_mode w [] = refl
 starts_mode w (path ∷ paths) = starts_mode (with_start w path) paths
 
 pub reached_ready : (p : Program) (parents : List ℕ) (limit : ℕ) (xs : List JobStep)
-    → Ready (reached (opening_world p parents limit) xs) (reached (opening_world p parents limit) xs).mode
+    → Ready (reached (initial_world p parents limit) xs) (reached (initial_world p parents limit) xs).mode
 reached_ready p parents limit xs =
-    run_ready (opening_world p parents limit) xs
-    (goes_on (opening_world p parents limit) (starts_mode (empty_world p parents limit) (live_paths (opening p)))
-    (ap (λ (st : State). st.fault) (opening_job p parents limit)))
+    run_ready (initial_world p parents limit) xs
+    (goes_on (initial_world p parents limit) (starts_mode (empty_world p parents limit) (live_paths (initial p)))
+    (ap (λ (st : State). st.fault) (initial_job p parents limit)))
 
 -- The law.
 
@@ -430,4 +430,4 @@ is_behind w x report ys ready h =
 
 pub finished_is_the_end : FinishedIsTheEnd
 finished_is_the_end p parents limit xs ys x report h =
-    is_behind (reached (opening_world p parents limit) xs) x report ys (reached_ready p parents limit xs) h
+    is_behind (reached (initial_world p parents limit) xs) x report ys (reached_ready p parents limit xs) h

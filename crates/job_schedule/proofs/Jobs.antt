@@ -13,14 +13,14 @@ use Rattle.tier_core.specs.Run.{after, answer_to}
 use Rattle.step_core.specs.Program.{Program}
 use Rattle.step_core.specs.OrderValue.{has_synced, spawned_paths}
 use Rattle.step_core.specs.Superstep.{State, superstep, live_paths}
-use Rattle.step_core.specs.JobMeaning.{opening, so_far, status, unless_ended, told, report_in, report_of}
+use Rattle.step_core.specs.JobMeaning.{initial, so_far, status, unless_ended, told, report_in, report_of}
 use Rattle.step_parts.proofs.Runs.{ended_is_last}
-use Rattle.job_seats.specs.declared.stage.Move.{Move}
-use Rattle.job_seats.specs.declared.stage.Move.TheVariants.{Takes, Delivers, Calls, Advances, Closes, Ends}
+use Rattle.job_participants.specs.declared.stage.Move.{Move}
+use Rattle.job_participants.specs.declared.stage.Move.TheVariants.{Takes, Delivers, Calls, Advances, Closes, Ends}
 use Rattle.job_schedule.specs.declared.step.JobStep.{JobStep}
 use Rattle.job_schedule.specs.AnswerValue.{AnswerValue, Finished, NotNow}
-use Rattle.job_seats.specs.SeatValue.{seat_at}
-use Rattle.job_schedule.specs.World.{World, with_starts, with_start, empty_world, opening_world, kid_from, with_kids, noted, deed_of, called_by, advanced_by, ended_by, next_job, closed_as, done_by, kind_of, kind_for, if_asked, move_of, worker_of, step_of, world_after, answer_of, answers, reached}
+use Rattle.job_participants.specs.ParticipantValue.{participant_at}
+use Rattle.job_schedule.specs.World.{World, with_starts, with_start, empty_world, initial_world, kid_from, with_kids, noted, deed_of, called_by, advanced_by, ended_by, next_job, closed_as, done_by, kind_of, kind_for, if_asked, move_of, worker_of, step_of, world_after, answer_of, answers, reached}
 use Rattle.job_schedule.specs.Laws.{FinishedTellsTheJob}
 
 pub record SameJob (w v : World) : Type 0 where
@@ -80,12 +80,12 @@ closed_goes w worker token (Some report) = record { program = refl; limit = refl
 done_goes : (w : World) (worker : ℕ) (m : Move) → GoesOn w (done_by w worker m).1
 done_goes w worker (Takes place) = stays w (done_by w worker (Takes place)).1 (record { program = refl; limit = refl; job = refl })
 done_goes w worker (Delivers place) =
-    let k = kids_keep (noted w place (has_synced (deed_of w (seat_at w.seats place).path))) place (spawned_paths (deed_of w (seat_at w.seats place).path)) in
+    let k = kids_keep (noted w place (has_synced (deed_of w (participant_at w.participants place).path))) place (spawned_paths (deed_of w (participant_at w.participants place).path)) in
     stays w (done_by w worker (Delivers place)).1 (record { program = k.program; limit = k.limit; job = k.job })
 done_goes w worker (Calls place token c) = stays w (done_by w worker (Calls place token c)).1
     (called_keeps w worker place (after (after w.tree (Begin token c)) (Go token)) (answer_to (after w.tree (Begin token c)) (Go token)))
 done_goes w worker (Advances place) = stays w (done_by w worker (Advances place)).1
-    (advanced_keeps w worker place (after w.tree (Finish (seat_at w.seats place).token)) (answer_to w.tree (Finish (seat_at w.seats place).token)))
+    (advanced_keeps w worker place (after w.tree (Finish (participant_at w.participants place).token)) (answer_to w.tree (Finish (participant_at w.participants place).token)))
 done_goes w worker (Closes token) = closed_goes w worker token (report_in w.limit (next_job w))
 done_goes w worker (Ends token) = stays w (done_by w worker (Ends token)).1
     (ended_keeps w (after (after w.tree (Begin token call.Force)) (Go token)) (answer_to (after w.tree (Begin token call.Force)) (Go token)))
@@ -124,9 +124,9 @@ pub run_is_of : (p : Program) (limit : ℕ) (w : World) (xs : List JobStep) → 
 run_is_of p limit w [] is = is
 run_is_of p limit w (x ∷ xs) is = run_is_of p limit (world_after w x) xs (step_is_of p limit w (world_after w x) is (step_goes w x))
 
-pub opening_is_of : (p : Program) (parents : List ℕ) (limit : ℕ) → IsOf p limit (opening_world p parents limit)
-opening_is_of p parents limit =
-    let k = starts_keep (empty_world p parents limit) (live_paths (opening p)) in
+pub initial_is_of : (p : Program) (parents : List ℕ) (limit : ℕ) → IsOf p limit (initial_world p parents limit)
+initial_is_of p parents limit =
+    let k = starts_keep (empty_world p parents limit) (live_paths (initial p)) in
     record { program = k.program; limited = k.limit; job = (0, k.job) }
 
 not_called : (w : World) (worker place : ℕ) (tree : Tree) (a : TreeAnswer) (report : ReportValue) {A : Type 0} → (called_by w worker place tree a).0 ≡ Finished report → A
@@ -151,7 +151,7 @@ finishing w worker (Delivers place) report h = cc
 finishing w worker (Calls place token c) report h =
     not_called w worker place (after (after w.tree (Begin token c)) (Go token)) (answer_to (after w.tree (Begin token c)) (Go token)) report h
 finishing w worker (Advances place) report h =
-    not_advanced w worker place (after w.tree (Finish (seat_at w.seats place).token)) (answer_to w.tree (Finish (seat_at w.seats place).token)) report h
+    not_advanced w worker place (after w.tree (Finish (participant_at w.participants place).token)) (answer_to w.tree (Finish (participant_at w.participants place).token)) report h
 finishing w worker (Closes token) report h = by (report_in w.limit (next_job w)) h
   where
     by : (o : Option ReportValue) → (closed_as w worker token (next_job w) o).0 ≡ Finished report → o ≡ Some report
@@ -188,7 +188,7 @@ finishes p limit w x report is h =
 
 pub finished_tells_the_job : FinishedTellsTheJob
 finished_tells_the_job p parents limit xs x report h =
-    finishes p limit (reached (opening_world p parents limit) xs) x report (run_is_of p limit (opening_world p parents limit) xs (opening_is_of p parents limit)) h
+    finishes p limit (reached (initial_world p parents limit) xs) x report (run_is_of p limit (initial_world p parents limit) xs (initial_is_of p parents limit)) h
 
 -- wherever it stands among the answers
 listed : (p : Program) (limit : ℕ) (w : World) (xs : List JobStep) (k : ℕ) (report : ReportValue) → IsOf p limit w → k < length (answers w xs)
@@ -199,10 +199,10 @@ listed p limit w (x ∷ xs) (suc k) report is h e =
     listed p limit (world_after w x) xs k report (step_is_of p limit w (world_after w x) is (step_goes w x)) (omega arith) e
 
 pub answers_report : (p : Program) (parents : List ℕ) (limit : ℕ) (xs : List JobStep) (told : List AnswerValue) (report : ReportValue)
-    → told ≡ answers (opening_world p parents limit) xs → Contains told (Finished report) → report_of p limit ≡ Some report
+    → told ≡ answers (initial_world p parents limit) xs → Contains told (Finished report) → report_of p limit ≡ Some report
 answers_report p parents limit xs told report e h =
-    let here : Contains (answers (opening_world p parents limit) xs) (Finished report) = subst (λ (xs : List AnswerValue). Contains xs (Finished report)) e h in
-    listed p limit (opening_world p parents limit) xs here.0 report (opening_is_of p parents limit) here.1 here.2
+    let here : Contains (answers (initial_world p parents limit) xs) (Finished report) = subst (λ (xs : List AnswerValue). Contains xs (Finished report)) e h in
+    listed p limit (initial_world p parents limit) xs here.0 report (initial_is_of p parents limit) here.1 here.2
 
-pub opening_job : (p : Program) (parents : List ℕ) (limit : ℕ) → (opening_world p parents limit).job ≡ opening p
-opening_job p parents limit = (starts_keep (empty_world p parents limit) (live_paths (opening p))).job
+pub initial_job : (p : Program) (parents : List ℕ) (limit : ℕ) → (initial_world p parents limit).job ≡ initial p
+initial_job p parents limit = (starts_keep (empty_world p parents limit) (live_paths (initial p))).job

@@ -1,4 +1,4 @@
--- What a schedule keeps beside its world: which segments the round has, by the stages of the seats.
+-- What a schedule keeps beside its world: which segments the round has, by the stages of the participants.
 use Rattle.std.proofs.Common.{◌≡◌, ◌≢◌, ◌⊎◌, ⊎_elim, ℕ, zero, suc, ◌<◌, ◌≤◌, Bool, true, false, List, [], ◌∷◌, ◌++◌, length, map, set, refl, sym, ap, subst, arith, ◌∙◌, Some, None, Option}
 use Rattle.std.specs.Prelude.{◌||◌, is_some, nat_le, nat_lt, slice_get, if◌then◌else◌}
 use Rattle.std.specs.List.{AllByRecursion}
@@ -21,55 +21,55 @@ use Rattle.tier_core.specs.declared.call.Answer.TheVariants as answer
 use Rattle.tier_core.specs.Machine.{State as Tree}
 use Rattle.step_core.specs.Program.{program_of}
 use Rattle.step_core.specs.Superstep.{State, live_paths}
-use Rattle.step_core.specs.JobMeaning.{opening, status, status_of, told, report_in}
+use Rattle.step_core.specs.JobMeaning.{initial, status, status_of, told, report_in}
 use Rattle.step_core.specs.SlotValue.{SlotValue}
 use Rattle.step_core.specs.Slots.{slots_of, with_segment, first_missing, or_missing}
 use Rattle.step_core.specs.RoundValue.{RoundValue, AllFresh, IsRound, Opens, state_of, slots_in, status_in}
 use Rattle.step_core.specs.Taking.{IsFor, is_done, is_live}
 use Rattle.step_core.proofs.Apart.{reached_rises}
-use Rattle.job_seats.specs.declared.stage.Mode.TheVariants as mode
-use Rattle.job_seats.specs.declared.stage.Stage.{Stage}
-use Rattle.job_seats.specs.declared.stage.Stage.TheVariants.{Waits, Taken, Polling, Joining, Arriving, Leaving, Over}
-use Rattle.job_seats.specs.SeatValue.{SeatValue, no_seat, seat_at, seat_path, is_delivered, all_over, is_done as is_over_by, is_refused, next_stage, sent_home, answered, arriving, joining}
+use Rattle.job_participants.specs.declared.stage.Mode.TheVariants as mode
+use Rattle.job_participants.specs.declared.stage.Stage.{Stage}
+use Rattle.job_participants.specs.declared.stage.Stage.TheVariants.{Waits, Taken, Polling, Joining, Arriving, Leaving, Over}
+use Rattle.job_participants.specs.ParticipantValue.{ParticipantValue, no_participant, participant_at, participant_path, is_delivered, all_over, is_done as is_over_by, is_refused, next_stage, sent_home, answered, arriving, joining}
 use Rattle.job_schedule.specs.declared.step.JobStep.{JobStep}
 use Rattle.job_schedule.specs.Laws.{IsStanding}
-use Rattle.job_schedule.specs.World.{World, has_advanced, took, with_kid, kid_from, with_kids, noted, called_by, advanced_by, ended_by, closed_as, mode_after, opening_world, empty_world, reached, world_after}
-use Rattle.job_seats.specs.Moves.{at_stage}
+use Rattle.job_schedule.specs.World.{World, has_advanced, took, with_kid, kid_from, with_kids, noted, called_by, advanced_by, ended_by, closed_as, mode_after, initial_world, empty_world, reached, world_after}
+use Rattle.job_participants.specs.Moves.{at_stage}
 use Rattle.job_schedule.specs.Parts.{IsAsBefore, IsKept, IsNext, IsReached, IsTaken, IsWanted}
 use Rattle.job_schedule.proofs.Deeds.{as_before, not_itself}
-use Rattle.job_schedule.proofs.Jobs.{run_is_of, opening_is_of}
-use Rattle.job_schedule.proofs.Seated.{all_delivered, next_wait}
-use Rattle.job_schedule.proofs.Standing.{seats_are_the_live_tasks, starts_stand}
+use Rattle.job_schedule.proofs.Jobs.{run_is_of, initial_is_of}
+use Rattle.job_schedule.proofs.Participants.{all_delivered, next_wait}
+use Rattle.job_schedule.proofs.Standing.{participants_are_the_live_tasks, starts_stand}
 
--- one seat has changed, whose task was taken, and where it was handed in before it is now, and only there
-pub one_kept : (r : RoundValue) (w v : World) (place : ℕ) (g : SeatValue) → place < length w.seats → v.seats ≡ set w.seats place g
-    → w.taken ≤ v.taken → place < v.taken → is_delivered g.stage ≡ is_delivered (seat_at w.seats place).stage
+-- one participant has changed, whose task was taken, and where it was handed in before it is now, and only there
+pub one_kept : (r : RoundValue) (w v : World) (place : ℕ) (g : ParticipantValue) → place < length w.participants → v.participants ≡ set w.participants place g
+    → w.taken ≤ v.taken → place < v.taken → is_delivered g.stage ≡ is_delivered (participant_at w.participants place).stage
     → (v.mode ≡ mode.Runs → w.mode ≡ mode.Runs) → IsKept r w → IsKept r v
-one_kept r w v place g below seats more taken stage runs k =
-    let len : length v.seats ≡ length w.seats = ap (λ (gs : List SeatValue). length gs) seats ∙ length-set w.seats place g in
+one_kept r w v place g below participants more taken stage runs k =
+    let len : length v.participants ≡ length w.participants = ap (λ (gs : List ParticipantValue). length gs) participants ∙ length-set w.participants place g in
     record {
       handed = λ on q l. ⊎_elim
           (λ (s : q ≡ place).
           k.handed on q (omega arith)
-          ∙ ap (λ (n : ℕ). is_delivered (seat_at w.seats n).stage) s
+          ∙ ap (λ (n : ℕ). is_delivered (participant_at w.participants n).stage) s
           ∙ sym stage
-          ∙ ap (λ (x : SeatValue). is_delivered x.stage) (sym (here q s)))
-          (λ (o : q ≢ place). k.handed on q (omega arith) ∙ ap (λ (x : SeatValue). is_delivered x.stage) (sym (there q o)))
+          ∙ ap (λ (x : ParticipantValue). is_delivered x.stage) (sym (here q s)))
+          (λ (o : q ≢ place). k.handed on q (omega arith) ∙ ap (λ (x : ParticipantValue). is_delivered x.stage) (sym (there q o)))
           (cases_eq q place);
       waiting = λ q from l.
           let other : q ≢ place = (λ s. let bad : place < q = omega arith in absurd (omega (arith, s, bad))) in
-          ap (λ (x : SeatValue). x.stage) (there q other) ∙ k.waiting q (omega arith) (omega arith);
+          ap (λ (x : ParticipantValue). x.stage) (there q other) ∙ k.waiting q (omega arith) (omega arith);
       runs = λ m some. k.runs (runs m) (omega arith);
     }
   where
-    here : (q : ℕ) → q ≡ place → seat_at v.seats q ≡ g
-    here q s = ap (λ (gs : List SeatValue). seat_at gs q) seats ∙ ap (seat_at (set w.seats place g)) s ∙ get_or-set_same w.seats place g no_seat below
+    here : (q : ℕ) → q ≡ place → participant_at v.participants q ≡ g
+    here q s = ap (λ (gs : List ParticipantValue). participant_at gs q) participants ∙ ap (participant_at (set w.participants place g)) s ∙ get_or-set_same w.participants place g no_participant below
 
-    there : (q : ℕ) → q ≢ place → seat_at v.seats q ≡ seat_at w.seats q
-    there q o = ap (λ (gs : List SeatValue). seat_at gs q) seats ∙ get_or-set_other w.seats place q g no_seat o
+    there : (q : ℕ) → q ≢ place → participant_at v.participants q ≡ participant_at w.participants q
+    there q o = ap (λ (gs : List ParticipantValue). participant_at gs q) participants ∙ get_or-set_other w.participants place q g no_participant o
 
--- a seat whose task was handed in was taken
-was_taken : (r : RoundValue) (w : World) (place : ℕ) → place < length w.seats → is_delivered (seat_at w.seats place).stage ≡ true → IsKept r w → place < w.taken
+-- a participant whose task was handed in was taken
+was_taken : (r : RoundValue) (w : World) (place : ℕ) → place < length w.participants → is_delivered (participant_at w.participants place).stage ≡ true → IsKept r w → place < w.taken
 was_taken r w place below done k = ⊎_elim (λ h. h) (λ (h : w.taken ≤ place).
     let bad : false ≡ true = sym (ap is_delivered (k.waiting place h below)) ∙ done in cc) (apart place w.taken)
   where
@@ -77,10 +77,10 @@ was_taken r w place below done k = ⊎_elim (λ h. h) (λ (h : w.taken ≤ place
     apart a b = grind arith
 
 -- A task is taken.
-pub taken_kept : (r : RoundValue) (w : World) (worker place : ℕ) → place < length w.seats → place ≡ w.taken → IsKept r w → IsKept r (took w worker place)
+pub taken_kept : (r : RoundValue) (w : World) (worker place : ℕ) → place < length w.participants → place ≡ w.taken → IsKept r w → IsKept r (took w worker place)
 taken_kept r w worker place below at k =
-    let first : (seat_at w.seats place).stage ≡ Waits = k.waiting place (omega (arith, at)) below in
-    one_kept r w (took w worker place) place (at_stage (seat_at w.seats place) Taken) below refl (omega (arith, at)) (omega arith)
+    let first : (participant_at w.participants place).stage ≡ Waits = k.waiting place (omega (arith, at)) below in
+    one_kept r w (took w worker place) place (at_stage (participant_at w.participants place) Taken) below refl (omega (arith, at)) (omega arith)
     (sym (ap is_delivered first)) (λ m. m) k
 
 -- A step of a call.
@@ -107,7 +107,7 @@ next_delivered (Arriving arrived) n = arrived_is (suc arrived) n
 next_delivered Leaving n = refl
 next_delivered Over n = refl
 
-home_delivered : (g : SeatValue) (s : Stage) → (sent_home g s).stage ≡ g.stage
+home_delivered : (g : ParticipantValue) (s : Stage) → (sent_home g s).stage ≡ g.stage
 home_delivered g Waits = refl
 home_delivered g Taken = refl
 home_delivered g Polling = refl
@@ -116,7 +116,7 @@ home_delivered g (Arriving arrived) = refl
 home_delivered g Leaving = refl
 home_delivered g Over = refl
 
-answer_delivered : (g : SeatValue) (a : Played) → is_delivered (answered g a).stage ≡ is_delivered g.stage
+answer_delivered : (g : ParticipantValue) (a : Played) → is_delivered (answered g a).stage ≡ is_delivered g.stage
 answer_delivered g a = by (is_over_by a) (is_refused a)
   where
     by : (b c : Bool) → is_delivered (if b then record g { stage = next_stage g.stage (length g.kids) } else (if c then sent_home g g.stage else g)).stage
@@ -125,33 +125,33 @@ answer_delivered g a = by (is_over_by a) (is_refused a)
     by false true = ap is_delivered (home_delivered g g.stage)
     by false false = refl
 
--- where the seats are the same, and the job doesn't begin to run
-same_kept : (r : RoundValue) (w v : World) → v.seats ≡ w.seats → v.taken ≡ w.taken → (v.mode ≡ mode.Runs → w.mode ≡ mode.Runs) → IsKept r w → IsKept r v
-same_kept r w v seats taken runs k =
-    let len : length v.seats ≡ length w.seats = ap (λ (gs : List SeatValue). length gs) seats in
+-- where the participants are the same, and the job doesn't begin to run
+same_kept : (r : RoundValue) (w v : World) → v.participants ≡ w.participants → v.taken ≡ w.taken → (v.mode ≡ mode.Runs → w.mode ≡ mode.Runs) → IsKept r w → IsKept r v
+same_kept r w v participants taken runs k =
+    let len : length v.participants ≡ length w.participants = ap (λ (gs : List ParticipantValue). length gs) participants in
     record {
-      handed = λ on q l. k.handed on q (omega arith) ∙ ap (λ (gs : List SeatValue). is_delivered (seat_at gs q).stage) (sym seats);
-      waiting = λ q from l. ap (λ (gs : List SeatValue). (seat_at gs q).stage) seats ∙ k.waiting q (omega arith) (omega arith);
+      handed = λ on q l. k.handed on q (omega arith) ∙ ap (λ (gs : List ParticipantValue). is_delivered (participant_at gs q).stage) (sym participants);
+      waiting = λ q from l. ap (λ (gs : List ParticipantValue). (participant_at gs q).stage) participants ∙ k.waiting q (omega arith) (omega arith);
       runs = λ m some. k.runs (runs m) (omega arith);
     }
 
-pub called_kept : (r : RoundValue) (w : World) (worker place : ℕ) (tree : Tree) (a : TreeAnswer) → place < length w.seats
-    → is_delivered (seat_at w.seats place).stage ≡ true → IsKept r w → IsKept r (called_by w worker place tree a).1
+pub called_kept : (r : RoundValue) (w : World) (worker place : ℕ) (tree : Tree) (a : TreeAnswer) → place < length w.participants
+    → is_delivered (participant_at w.participants place).stage ≡ true → IsKept r w → IsKept r (called_by w worker place tree a).1
 called_kept r w worker place tree answer.Begun below done k = same_kept r w (record w { tree = tree }) refl refl (λ m. m) k
 called_kept r w worker place tree (answer.Played a) below done k =
-    one_kept r w (called_by w worker place tree (answer.Played a)).1 place (answered (seat_at w.seats place) a) below refl (omega arith)
-    (was_taken r w place below done k) (answer_delivered (seat_at w.seats place) a) (λ m. m) k
+    one_kept r w (called_by w worker place tree (answer.Played a)).1 place (answered (participant_at w.participants place) a) below refl (omega arith)
+    (was_taken r w place below done k) (answer_delivered (participant_at w.participants place) a) (λ m. m) k
 called_kept r w worker place tree answer.NotNow below done k = same_kept r w (record w { tree = tree }) refl refl (λ m. m) k
 
 -- The root advances.
-pub advanced_kept : (r : RoundValue) (w : World) (worker place : ℕ) (tree : Tree) (a : TreeAnswer) → place < length w.seats
-    → is_delivered (seat_at w.seats place).stage ≡ true → IsKept r w → IsKept r (advanced_by w worker place tree a).1
+pub advanced_kept : (r : RoundValue) (w : World) (worker place : ℕ) (tree : Tree) (a : TreeAnswer) → place < length w.participants
+    → is_delivered (participant_at w.participants place).stage ≡ true → IsKept r w → IsKept r (advanced_by w worker place tree a).1
 advanced_kept r w worker place tree answer.Begun below done k = same_kept r w (record w { tree = tree }) refl refl (λ m. m) k
 advanced_kept r w worker place tree (answer.Played a) below done k =
-    one_kept r w (has_advanced w worker place tree) place (at_stage (seat_at w.seats place) Over) below refl (omega arith)
+    one_kept r w (has_advanced w worker place tree) place (at_stage (participant_at w.participants place) Over) below refl (omega arith)
     (was_taken r w place below done k) (sym done) (λ m. absurd (advanced_runs m)) k
   where
-    advanced_runs : mode.Advanced worker (seat_at w.seats place).token ≡ mode.Runs → ⊥
+    advanced_runs : mode.Advanced worker (participant_at w.participants place).token ≡ mode.Runs → ⊥
     advanced_runs e = cc
 advanced_kept r w worker place tree answer.NotNow below done k = same_kept r w (record w { tree = tree }) refl refl (λ m. m) k
 
@@ -198,12 +198,12 @@ slots_rise r is = ap is_rising (paths_are r.slots) ∙ reached_rises r is
     paths_are [] = refl
     paths_are (s ∷ ss) = ap (λ qs. s.task.path ∷ qs) (paths_are ss)
 
-slot_of_seat : (ss : List SlotValue) (gs : List SeatValue) (place : ℕ) → map seat_path gs ≡ map slot_path ss → place < length gs
-    → IsFor (seat_at gs place).path (slice_get ss place)
-slot_of_seat ss [] place e l = absurd (omega arith)
-slot_of_seat [] (g ∷ gs) place e l = absurd cc
-slot_of_seat (s ∷ ss) (g ∷ gs) zero e l = cc
-slot_of_seat (s ∷ ss) (g ∷ gs) (suc place) e l = let rest : map seat_path gs ≡ map slot_path ss = cc in slot_of_seat ss gs place rest (omega arith)
+slot_of_participant : (ss : List SlotValue) (gs : List ParticipantValue) (place : ℕ) → map participant_path gs ≡ map slot_path ss → place < length gs
+    → IsFor (participant_at gs place).path (slice_get ss place)
+slot_of_participant ss [] place e l = absurd (omega arith)
+slot_of_participant [] (g ∷ gs) place e l = absurd cc
+slot_of_participant (s ∷ ss) (g ∷ gs) zero e l = cc
+slot_of_participant (s ∷ ss) (g ∷ gs) (suc place) e l = let rest : map participant_path gs ≡ map slot_path ss = cc in slot_of_participant ss gs place rest (omega arith)
 
 live_there : (ss : List SlotValue) (path : List ℕ) (place : ℕ) → IsFor path (slice_get ss place) → is_live ss path ≡ true
 live_there [] path place h = absurd h
@@ -214,7 +214,7 @@ live_there (s ∷ ss) path (suc place) h = by (bytes_eq s.task.path path) (live_
     by true e = refl
     by false e = e
 
-standing_slots : (r : RoundValue) (w : World) → w.job ≡ state_of r → IsStanding w → map seat_path w.seats ≡ map slot_path r.slots
+standing_slots : (r : RoundValue) (w : World) → w.job ≡ state_of r → IsStanding w → map participant_path w.participants ≡ map slot_path r.slots
 standing_slots r w job is = is.paths ∙ ap live_paths job ∙ sym (paths_are r.slots)
   where
     paths_are : (ss : List SlotValue) → map slot_path ss ≡ map (λ (t : Task). t.path) (map (λ s. s.task) (slots_of (plans r.job.bodies) ss))
@@ -223,15 +223,15 @@ standing_slots r w job is = is.paths ∙ ap live_paths job ∙ sym (paths_are r.
 
 -- the segment of a taken task is wanted
 pub is_wanted : (r : RoundValue) (w : World) (place : ℕ) → IsRound r → w.job ≡ state_of r → (status_in r ≡ None → IsStanding w) → IsKept r w
-    → place < length w.seats → (seat_at w.seats place).stage ≡ Taken → w.mode ≡ mode.Runs → IsWanted r (seat_at w.seats place).path
+    → place < length w.participants → (participant_at w.participants place).stage ≡ Taken → w.mode ≡ mode.Runs → IsWanted r (participant_at w.participants place).path
 is_wanted r w place is job stands k below stage m =
     let on : status_in r ≡ None = k.runs m (omega arith) in
-    let mine = slot_of_seat r.slots w.seats place (standing_slots r w job (stands on)) below in
+    let mine = slot_of_participant r.slots w.participants place (standing_slots r w job (stands on)) below in
     record {
       runs = on;
-      live = live_there r.slots (seat_at w.seats place).path place mine;
+      live = live_there r.slots (participant_at w.participants place).path place mine;
       first = λ q h.
-          let same = one_place r.slots (seat_at w.seats place).path q place (slots_rise r is) h mine in
+          let same = one_place r.slots (participant_at w.participants place).path q place (slots_rise r is) h mine in
           ap (λ (n : ℕ). is_done (slice_get r.slots n)) same ∙ k.handed on place below ∙ ap is_delivered stage;
     }
 
@@ -249,12 +249,12 @@ handed_other (s ∷ ss) (suc place) (suc q) g o = handed_other ss place q g (λ 
 
 -- the tokens of spawned tasks change no stage
 record SameStages (w v : World) : Type 0 where
-  count : length v.seats ≡ length w.seats
-  stage : (q : ℕ) → (seat_at v.seats q).stage ≡ (seat_at w.seats q).stage
+  count : length v.participants ≡ length w.participants
+  stage : (q : ℕ) → (participant_at v.participants q).stage ≡ (participant_at w.participants q).stage
   taken : v.taken ≡ w.taken
   mode : v.mode ≡ w.mode
 
-set_same : (gs : List SeatValue) (place q : ℕ) (g : SeatValue) → g.stage ≡ (seat_at gs place).stage → (seat_at (set gs place g) q).stage ≡ (seat_at gs q).stage
+set_same : (gs : List ParticipantValue) (place q : ℕ) (g : ParticipantValue) → g.stage ≡ (participant_at gs place).stage → (participant_at (set gs place g) q).stage ≡ (participant_at gs q).stage
 set_same [] place q g e = refl
 set_same (x ∷ gs) zero zero g e = e
 set_same (x ∷ gs) zero (suc q) g e = refl
@@ -263,14 +263,14 @@ set_same (x ∷ gs) (suc place) (suc q) g e = set_same gs place q g e
 
 kid_same : (w : World) (place : ℕ) (path free : List ℕ) → SameStages w (kid_from w place path free)
 kid_same w place path [] = record {
-  count = length-set w.seats place (with_kid (seat_at w.seats place) w.leaves path (length w.tree.views));
-  stage = λ q. set_same w.seats place q (with_kid (seat_at w.seats place) w.leaves path (length w.tree.views)) refl;
+  count = length-set w.participants place (with_kid (participant_at w.participants place) w.leaves path (length w.tree.views));
+  stage = λ q. set_same w.participants place q (with_kid (participant_at w.participants place) w.leaves path (length w.tree.views)) refl;
   taken = refl;
   mode = refl;
 }
 kid_same w place path (token ∷ free) = record {
-  count = length-set w.seats place (with_kid (seat_at w.seats place) w.leaves path token);
-  stage = λ q. set_same w.seats place q (with_kid (seat_at w.seats place) w.leaves path token) refl;
+  count = length-set w.participants place (with_kid (participant_at w.participants place) w.leaves path token);
+  stage = λ q. set_same w.participants place q (with_kid (participant_at w.participants place) w.leaves path token) refl;
   taken = refl;
   mode = refl;
 }
@@ -286,38 +286,38 @@ status_stays : (r new : RoundValue) → IsAsBefore r new → status_in new ≡ s
 status_stays r new same = ap (λ (n : ℕ). status n (state_of new)) same.limit ∙ ap (status r.limit) same.state
 
 pub delivered_kept : (r new : RoundValue) (w : World) (place : ℕ) (synced : Bool) (paths : List (List ℕ)) → IsRound r → w.job ≡ state_of r
-    → (status_in r ≡ None → IsStanding w) → place < length w.seats → (seat_at w.seats place).stage ≡ Taken → w.mode ≡ mode.Runs
-    → IsTaken r (seat_at w.seats place).path new → IsKept r w → IsKept new (with_kids (noted w place synced) place paths)
+    → (status_in r ≡ None → IsStanding w) → place < length w.participants → (participant_at w.participants place).stage ≡ Taken → w.mode ≡ mode.Runs
+    → IsTaken r (participant_at w.participants place).path new → IsKept r w → IsKept new (with_kids (noted w place synced) place paths)
 delivered_kept r new w place synced paths is job stands below stage m h k =
-    let g : SeatValue = record (at_stage (seat_at w.seats place) Polling) { synced = synced; kids = [] } in
+    let g : ParticipantValue = record (at_stage (participant_at w.participants place) Polling) { synced = synced; kids = [] } in
     let on : status_in r ≡ None = k.runs m (omega arith) in
-    let mine = slot_of_seat r.slots w.seats place (standing_slots r w job (stands on)) below in
-    let own : IsFor (seat_at w.seats place).path (slice_get r.slots h.delivery.place) =
+    let mine = slot_of_participant r.slots w.participants place (standing_slots r w job (stands on)) below in
+    let own : IsFor (participant_at w.participants place).path (slice_get r.slots h.delivery.place) =
     subst (λ (q : List ℕ). IsFor q (slice_get r.slots h.delivery.place)) h.own h.takes.ordered.1 in
-    let at : h.delivery.place ≡ place = one_place r.slots (seat_at w.seats place).path h.delivery.place place (slots_rise r is) own mine in
+    let at : h.delivery.place ≡ place = one_place r.slots (participant_at w.participants place).path h.delivery.place place (slots_rise r is) own mine in
     let slots : new.slots ≡ with_segment r.slots place h.delivery.segment =
     ap (λ (x : RoundValue). x.slots) h.added ∙ ap (λ (n : ℕ). with_segment r.slots n h.delivery.segment) at in
     let same = kids_same (noted w place synced) place paths in
-    let len : length (with_kids (noted w place synced) place paths).seats ≡ length w.seats = same.count ∙ length-set w.seats place _ in
+    let len : length (with_kids (noted w place synced) place paths).participants ≡ length w.participants = same.count ∙ length-set w.participants place _ in
     let taken : place < w.taken = ⊎_elim (λ h. h) (λ (f : w.taken ≤ place). let bad : Waits ≡ Taken = sym (k.waiting place f below) ∙ stage in absurd cc) (apart place w.taken) in
     record {
       handed = λ _ q l. ap (λ (ss : List SlotValue). is_done (slice_get ss q)) slots ∙ ⊎_elim
           (λ (s : q ≡ place).
           ap (λ (n : ℕ). is_done (slice_get (with_segment r.slots place h.delivery.segment) n)) s
-          ∙ handed_same r.slots (seat_at w.seats place).path place h.delivery.segment mine
-          ∙ ap (λ (x : SeatValue). is_delivered x.stage) (sym (get_or-set_same w.seats place g no_seat below))
-          ∙ ap (λ (n : ℕ). is_delivered (seat_at (set w.seats place g) n).stage) (sym s)
+          ∙ handed_same r.slots (participant_at w.participants place).path place h.delivery.segment mine
+          ∙ ap (λ (x : ParticipantValue). is_delivered x.stage) (sym (get_or-set_same w.participants place g no_participant below))
+          ∙ ap (λ (n : ℕ). is_delivered (participant_at (set w.participants place g) n).stage) (sym s)
           ∙ ap is_delivered (sym (same.stage q)))
           (λ (o : q ≢ place).
           handed_other r.slots place q h.delivery.segment o
           ∙ k.handed on q (omega arith)
-          ∙ ap (λ (x : SeatValue). is_delivered x.stage) (sym (get_or-set_other w.seats place q g no_seat o))
+          ∙ ap (λ (x : ParticipantValue). is_delivered x.stage) (sym (get_or-set_other w.participants place q g no_participant o))
           ∙ ap is_delivered (sym (same.stage q)))
           (cases_eq q place);
       waiting = λ q from l.
           let behind_it : place < q = omega (arith, taken, same.taken, from) in
           let o : q ≢ place = λ s. absurd (omega (arith, s, behind_it)) in
-          same.stage q ∙ ap (λ (x : SeatValue). x.stage) (get_or-set_other w.seats place q g no_seat o) ∙ k.waiting q (omega (arith, same.taken, from)) (omega arith);
+          same.stage q ∙ ap (λ (x : ParticipantValue). x.stage) (get_or-set_other w.participants place q g no_participant o) ∙ k.waiting q (omega (arith, same.taken, from)) (omega arith);
       runs = λ _ _. status_stays r new (as_before r new h.delivery h.added) ∙ on;
     }
   where
@@ -346,8 +346,8 @@ after_runs worker token (Limit steps) e = cc
 pub closed_kept : (r new : RoundValue) (w : World) (worker token : ℕ) (job : State) (o : Option ReportValue) → IsNext r new → state_of new ≡ job → new.limit ≡ w.limit
     → report_in w.limit job ≡ o → IsKept r w → IsKept new (closed_as w worker token job o).1
 closed_kept r new w worker token job None next at limit on k = record {
-  handed = λ runs q l. fresh_undone new.slots q (next.fresh runs) ∙ sym (ap is_delivered (next_wait w.seats q l));
-  waiting = λ q from l. next_wait w.seats q l;
+  handed = λ runs q l. fresh_undone new.slots q (next.fresh runs) ∙ sym (ap is_delivered (next_wait w.participants q l));
+  waiting = λ q from l. next_wait w.participants q l;
   runs = λ m some. ap (λ (n : ℕ). status n (state_of new)) limit ∙ ap (status w.limit) at ∙ no_report job (status w.limit job) on;
 }
 closed_kept r new w worker token job (Some report) next at limit on k = record {
@@ -369,30 +369,30 @@ len_map : {A B : Type 0} (f : A → B) (xs : List A) → length (map f xs) ≡ l
 len_map f [] = refl
 len_map f (x ∷ xs) = ap suc (len_map f xs)
 
-pub all_handed : (r : RoundValue) (w : World) → w.job ≡ state_of r → (status_in r ≡ None → IsStanding w) → (status w.limit w.job ≡ None → all_over w.seats ≡ true)
+pub all_handed : (r : RoundValue) (w : World) → w.job ≡ state_of r → (status_in r ≡ None → IsStanding w) → (status w.limit w.job ≡ None → all_over w.participants ≡ true)
     → w.limit ≡ r.limit → IsKept r w → status_in r ≡ None → first_missing (slots_in r) ≡ None
 all_handed r w job stands over limit k on =
     let paths = standing_slots r w job (stands on) in
-    let count : length w.seats ≡ length r.slots = sym (len_map seat_path w.seats) ∙ ap (λ (ps : List (List ℕ)). length ps) paths ∙ len_map slot_path r.slots in
+    let count : length w.participants ≡ length r.slots = sym (len_map participant_path w.participants) ∙ ap (λ (ps : List (List ℕ)). length ps) paths ∙ len_map slot_path r.slots in
     let all = over (ap (λ (n : ℕ). status n w.job) limit ∙ ap (status r.limit) job ∙ on) in
     none_missing (plans r.job.bodies) r.slots (λ place l.
-    k.handed on place (omega arith) ∙ all_delivered w.seats place all (omega arith))
+    k.handed on place (omega arith) ∙ all_delivered w.participants place all (omega arith))
 
 -- Before the first step of a worker.
-pub opening_kept : (job : JobValue) (limit : ℕ) (parents : List ℕ) (r : RoundValue) (w : World) → 1 ≤ limit → Opens r job limit (opening (program_of job))
-    → w ≡ opening_world (program_of job) parents limit → IsKept r w
-opening_kept job limit parents r w some is at = subst (IsKept r) (sym at) (record {
+pub initial_kept : (job : JobValue) (limit : ℕ) (parents : List ℕ) (r : RoundValue) (w : World) → 1 ≤ limit → Opens r job limit (initial (program_of job))
+    → w ≡ initial_world (program_of job) parents limit → IsKept r w
+initial_kept job limit parents r w some is at = subst (IsKept r) (sym at) (record {
   handed = λ on q l. fresh_undone r.slots q (is.none_yet (ap (λ (st : State). st.fault) is.state)) ∙ sym (ap is_delivered (all.1 q l));
   waiting = λ q from l. all.1 q l;
   runs = λ m there.
       ap (λ (n : ℕ). status n (state_of r)) is.limit
       ∙ ap (status limit) is.state
-      ∙ by limit (opening (program_of job)).live some (omega (arith, len_map seat_path (opening_world (program_of job) parents limit).seats, ap (λ (ps : List (List ℕ)). length ps) all.0, len_map (λ (t : Task). t.path) (opening (program_of job)).live));
+      ∙ by limit (initial (program_of job)).live some (omega (arith, len_map participant_path (initial_world (program_of job) parents limit).participants, ap (λ (ps : List (List ℕ)). length ps) all.0, len_map (λ (t : Task). t.path) (initial (program_of job)).live));
 })
   where
-    all : (map seat_path (opening_world (program_of job) parents limit).seats ≡ live_paths (opening (program_of job)))
-        × ((place : ℕ) → place < length (opening_world (program_of job) parents limit).seats → (seat_at (opening_world (program_of job) parents limit).seats place).stage ≡ Waits)
-    all = starts_stand (empty_world (program_of job) parents limit) (live_paths (opening (program_of job))) (λ place l. absurd (omega arith))
+    all : (map participant_path (initial_world (program_of job) parents limit).participants ≡ live_paths (initial (program_of job)))
+        × ((place : ℕ) → place < length (initial_world (program_of job) parents limit).participants → (participant_at (initial_world (program_of job) parents limit).participants place).stage ≡ Waits)
+    all = starts_stand (empty_world (program_of job) parents limit) (live_paths (initial (program_of job))) (λ place l. absurd (omega arith))
 
     by : (n : ℕ) (ts : List Task) → 1 ≤ n → 0 < length ts → status_of n 0 None ts ≡ None
     by zero ts low here = absurd (omega arith)
@@ -402,9 +402,9 @@ opening_kept job limit parents r w some is at = subst (IsKept r) (sym at) (recor
 -- Worlds that are reached stand while their job runs, and a step leads on.
 pub reached_stands : (r : RoundValue) (w : World) → IsReached w → w.job ≡ state_of r → w.limit ≡ r.limit → status_in r ≡ None → IsStanding w
 reached_stands r w (p, limit, parents, xs, at) job limited on =
-    let is = run_is_of p limit (opening_world p parents limit) xs (opening_is_of p parents limit) in
+    let is = run_is_of p limit (initial_world p parents limit) xs (initial_is_of p parents limit) in
     let here : w.limit ≡ limit = ap (λ (v : World). v.limit) at ∙ is.limited in
-    subst IsStanding (sym at) (seats_are_the_live_tasks p parents limit xs
+    subst IsStanding (sym at) (participants_are_the_live_tasks p parents limit xs
     (ap (λ (v : World). status limit v.job) (sym at) ∙ ap (λ (n : ℕ). status n w.job) (sym here ∙ limited) ∙ ap (status r.limit) job ∙ on))
 
 one_step_more : (w : World) (xs : List JobStep) (x : JobStep) → reached w (xs ++ x ∷ []) ≡ world_after (reached w xs) x
@@ -413,7 +413,7 @@ one_step_more w (y ∷ xs) x = one_step_more (world_after w y) xs x
 
 pub reached_more : (w v : World) (x : JobStep) → IsReached w → v ≡ world_after w x → IsReached v
 reached_more w v x (p, limit, parents, xs, at) e =
-    (p, limit, parents, xs ++ x ∷ [], e ∙ ap (λ (u : World). world_after u x) at ∙ sym (one_step_more (opening_world p parents limit) xs x))
+    (p, limit, parents, xs ++ x ∷ [], e ∙ ap (λ (u : World). world_after u x) at ∙ sym (one_step_more (initial_world p parents limit) xs x))
 
-pub opening_reached : (job : JobValue) (limit : ℕ) (parents : List ℕ) (w : World) → w ≡ opening_world (program_of job) parents limit → IsReached w
-opening_reached job limit parents w at = (program_of job, limit, parents, [], at)
+pub initial_reached : (job : JobValue) (limit : ℕ) (parents : List ℕ) (w : World) → w ≡ initial_world (program_of job) parents limit → IsReached w
+initial_reached job limit parents w at = (program_of job, limit, parents, [], at)

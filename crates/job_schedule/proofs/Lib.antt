@@ -1,10 +1,10 @@
 pub mod Moves
 pub mod Deeds
-pub mod Opening
+pub mod Initial
 pub mod Jobs
 pub mod Closing
 pub mod Ending
 pub mod Refused
-pub mod Seated
+pub mod Participants
 pub mod Standing
 mod Kept

@@ -1,32 +1,32 @@
--- Each move that a worker may take is of a seat that is there, and of a call that may be begun.
+-- Each move that a worker may take is of a participant that is there, and of a call that may be begun.
 use Rattle.std.proofs.Common.{◌≡◌, ℕ, zero, suc, ◌<◌, ◌≤◌, Bool, true, false, List, [], ◌∷◌, length, refl, sym, ap, ◌∙◌, subst, arith, Some, None, Option}
 use Rattle.std.specs.Prelude.{nat_lt, if◌then◌else◌, ◌==◌, ◌&&◌, slice_index_or, is_some}
 use Rattle.step_core.specs.JobMeaning.{status}
 use Rattle.std.proofs.lemmas.Bool.{ltb-true, ltb-false}
-use Rattle.job_seats.specs.declared.stage.Mode.{Mode}
-use Rattle.job_seats.specs.declared.stage.Mode.TheVariants as mode
-use Rattle.job_seats.specs.declared.stage.Move.{Move}
-use Rattle.job_seats.specs.declared.stage.Move.TheVariants.{Takes, Closes, Ends}
-use Rattle.job_seats.specs.declared.stage.Stage.{Stage}
-use Rattle.job_seats.specs.declared.stage.Stage.TheVariants.{Waits, Taken, Polling, Joining, Arriving, Leaving, Over}
-use Rattle.job_seats.specs.SeatValue.{SeatValue, no_seat, seat_at, all_over, is_delivered}
-use Rattle.job_seats.specs.Moves.{passing, by_stage, kind_for, asked}
+use Rattle.job_participants.specs.declared.stage.Mode.{Mode}
+use Rattle.job_participants.specs.declared.stage.Mode.TheVariants as mode
+use Rattle.job_participants.specs.declared.stage.Move.{Move}
+use Rattle.job_participants.specs.declared.stage.Move.TheVariants.{Takes, Closes, Ends}
+use Rattle.job_participants.specs.declared.stage.Stage.{Stage}
+use Rattle.job_participants.specs.declared.stage.Stage.TheVariants.{Waits, Taken, Polling, Joining, Arriving, Leaving, Over}
+use Rattle.job_participants.specs.ParticipantValue.{ParticipantValue, no_participant, participant_at, all_over, is_delivered}
+use Rattle.job_participants.specs.Moves.{passing, by_stage, kind_for, asked}
 use Rattle.job_schedule.specs.declared.step.JobStep.{JobStep}
 use Rattle.job_schedule.specs.AnswerValue.{NotNow}
-use Rattle.job_schedule.specs.World.{World, by_seat, by_hand, by_mode, move_of, kind_of, worker_of, done_by, if_asked, step_of}
+use Rattle.job_schedule.specs.World.{World, by_participant, by_hand, by_mode, move_of, kind_of, worker_of, done_by, if_asked, step_of}
 use Rattle.job_schedule.specs.Parts.{IsAllowed}
 
 abbrev pub Allowed : World → Option Move → Type 0
 Allowed w None = Unit {0}
 Allowed w (Some m) = IsAllowed w m
 
-no_seat_beyond : (gs : List SeatValue) (place : ℕ) → length gs ≤ place → seat_at gs place ≡ no_seat
-no_seat_beyond [] place h = refl
-no_seat_beyond (g ∷ gs) zero h = absurd (omega arith)
-no_seat_beyond (g ∷ gs) (suc place) h = no_seat_beyond gs place (omega arith)
+no_participant_beyond : (gs : List ParticipantValue) (place : ℕ) → length gs ≤ place → participant_at gs place ≡ no_participant
+no_participant_beyond [] place h = refl
+no_participant_beyond (g ∷ gs) zero h = absurd (omega arith)
+no_participant_beyond (g ∷ gs) (suc place) h = no_participant_beyond gs place (omega arith)
 
-stage_allowed : (w : World) (g : SeatValue) (place : ℕ) (due : Bool) (stage : Stage) → place < length w.seats → w.mode ≡ mode.Runs
-    → (seat_at w.seats place).stage ≡ stage → Allowed w (by_stage g place due stage)
+stage_allowed : (w : World) (g : ParticipantValue) (place : ℕ) (due : Bool) (stage : Stage) → place < length w.participants → w.mode ≡ mode.Runs
+    → (participant_at w.participants place).stage ≡ stage → Allowed w (by_stage g place due stage)
 stage_allowed w g place due Waits h m at = tt
 stage_allowed w g place due Taken h m at = (h, at, m)
 stage_allowed w g place due Polling h m at = ((h, tt), ap is_delivered at)
@@ -41,27 +41,27 @@ stage_allowed w g place due Leaving h m at = by due g.synced
 stage_allowed w g place due Over h m at = tt
 
 hand_allowed : (w : World) (hand : Option ℕ) → w.mode ≡ mode.Runs → Allowed w (by_hand w hand)
-hand_allowed w None m = by (nat_lt w.taken (length w.seats)) (is_some (status w.limit w.job)) refl refl
+hand_allowed w None m = by (nat_lt w.taken (length w.participants)) (is_some (status w.limit w.job)) refl refl
   where
-    by : (b c : Bool) → nat_lt w.taken (length w.seats) ≡ b → is_some (status w.limit w.job) ≡ c
+    by : (b c : Bool) → nat_lt w.taken (length w.participants) ≡ b → is_some (status w.limit w.job) ≡ c
         → Allowed w (if b then Some (Takes w.taken) else (if c then Some (Closes 0) else None))
-    by true c e f = (ltb-true w.taken (length w.seats) e, refl)
+    by true c e f = (ltb-true w.taken (length w.participants) e, refl)
     by false true e f = λ on. let bad : false ≡ true = sym (ap is_some on) ∙ f in cc
     by false false e f = tt
-hand_allowed w (Some place) m = by (nat_lt place (length w.seats)) refl
+hand_allowed w (Some place) m = by (nat_lt place (length w.participants)) refl
   where
-    by : (b : Bool) → nat_lt place (length w.seats) ≡ b → Allowed w (by_hand w (Some place))
-    by true e = stage_allowed w (seat_at w.seats place) place _ (seat_at w.seats place).stage (ltb-true place (length w.seats) e) m refl
-    by false e = subst (λ (g : SeatValue). Allowed w (by_seat w g place)) (sym (no_seat_beyond w.seats place (ltb-false place (length w.seats) e))) tt
+    by : (b : Bool) → nat_lt place (length w.participants) ≡ b → Allowed w (by_hand w (Some place))
+    by true e = stage_allowed w (participant_at w.participants place) place _ (participant_at w.participants place).stage (ltb-true place (length w.participants) e) m refl
+    by false e = subst (λ (g : ParticipantValue). Allowed w (by_participant w g place)) (sym (no_participant_beyond w.participants place (ltb-false place (length w.participants) e))) tt
 
 pub move_allowed : (w : World) (worker : ℕ) → Allowed w (move_of w worker)
 move_allowed w worker = by (nat_lt worker 64)
   where
     in_mode : (m : Mode) → w.mode ≡ m → Allowed w (by_mode w worker m)
     in_mode mode.Runs at = hand_allowed w (slice_index_or w.hands worker None) at
-    in_mode (mode.Advanced closer token) at = if_so (worker == closer) (all_over w.seats) refl
+    in_mode (mode.Advanced closer token) at = if_so (worker == closer) (all_over w.participants) refl
       where
-        if_so : (a b : Bool) → all_over w.seats ≡ b → Allowed w (if a && b then Some (Closes token) else None)
+        if_so : (a b : Bool) → all_over w.participants ≡ b → Allowed w (if a && b then Some (Closes token) else None)
         if_so true true over = λ on. over
         if_so true false over = tt
         if_so false b over = tt

@@ -20,15 +20,15 @@ use Rattle.tier_steps.specs.Image.{image}
 use Rattle.phase_records.specs.ReportValue.{ReportValue}
 use Rattle.step_core.specs.Program.{Program}
 use Rattle.step_core.specs.Superstep.{live_paths}
-use Rattle.step_core.specs.JobMeaning.{opening, report_in}
+use Rattle.step_core.specs.JobMeaning.{initial, report_in}
 use Rattle.step_core.specs.OrderValue.{has_synced, spawned_paths}
-use Rattle.job_seats.specs.declared.stage.Move.{Move}
-use Rattle.job_seats.specs.declared.stage.Move.TheVariants.{Takes, Delivers, Calls, Advances, Closes, Ends}
+use Rattle.job_participants.specs.declared.stage.Move.{Move}
+use Rattle.job_participants.specs.declared.stage.Move.TheVariants.{Takes, Delivers, Calls, Advances, Closes, Ends}
 use Rattle.job_schedule.specs.declared.step.JobStep.{JobStep}
 use Rattle.job_schedule.specs.AnswerValue.{NotNow}
-use Rattle.job_seats.specs.SeatValue.{seat_at}
-use Rattle.job_seats.specs.Moves.{leaf_at}
-use Rattle.job_schedule.specs.World.{World, gone, joined_at, plan_for, empty_world, opening_world, with_start, with_starts, kid_from, with_kids, noted, deed_of, called_by, advanced_by, ended_by, next_job, closed_as, done_by, kind_of, kind_for, if_asked, move_of, worker_of, answer_of, world_after, reached}
+use Rattle.job_participants.specs.ParticipantValue.{participant_at}
+use Rattle.job_participants.specs.Moves.{leaf_at}
+use Rattle.job_schedule.specs.World.{World, gone, joined_at, plan_for, empty_world, initial_world, with_start, with_starts, kid_from, with_kids, noted, deed_of, called_by, advanced_by, ended_by, next_job, closed_as, done_by, kind_of, kind_for, if_asked, move_of, worker_of, answer_of, world_after, reached}
 use Rattle.job_schedule.specs.Parts.{IsAllowed}
 use Rattle.job_schedule.specs.Laws.{RefusedStepsChangeNothing}
 use Rattle.job_schedule.proofs.Moves.{Allowed, move_allowed}
@@ -117,8 +117,8 @@ move_refused w worker (Calls place token c) core h =
     let r = called_refused w worker place (after (after w.tree (Begin token c)) (Go token)) (answer_to (after w.tree (Begin token c)) (Go token)) h in
     r.1 ∙ same_tree w (after (after w.tree (Begin token c)) (Go token)) (call_refused w.tree token c core r.0)
 move_refused w worker (Advances place) core h =
-    let r = advanced_refused w worker place (after w.tree (Finish (seat_at w.seats place).token)) (answer_to w.tree (Finish (seat_at w.seats place).token)) h in
-    r.1 ∙ same_tree w (after w.tree (Finish (seat_at w.seats place).token)) (finish_refused w.tree (seat_at w.seats place).token r.0)
+    let r = advanced_refused w worker place (after w.tree (Finish (participant_at w.participants place).token)) (answer_to w.tree (Finish (participant_at w.participants place).token)) h in
+    r.1 ∙ same_tree w (after w.tree (Finish (participant_at w.participants place).token)) (finish_refused w.tree (participant_at w.participants place).token r.0)
 move_refused w worker (Closes token) core h = by (report_in w.limit (next_job w)) h
   where
     by : (o : Option ReportValue) → (closed_as w worker token (next_job w) o).0 ≡ NotNow → (closed_as w worker token (next_job w) o).1 ≡ w
@@ -152,7 +152,7 @@ joined_core s home core =
 
 starts_core : (w : World) (paths : List (List ℕ)) → IsCore w.tree → IsCore (with_starts w paths).tree
 starts_core w [] core = core
-starts_core w (path ∷ paths) core = starts_core (with_start w path) paths (joined_core w.tree (leaf_at w.leaves (length w.seats)) core)
+starts_core w (path ∷ paths) core = starts_core (with_start w path) paths (joined_core w.tree (leaf_at w.leaves (length w.participants)) core)
 
 kid_core : (w : World) (place : ℕ) (path free : List ℕ) → IsCore w.tree → IsCore (kid_from w place path free).tree
 kid_core w place path [] core = token_core w.tree core
@@ -180,13 +180,13 @@ ended_core w tree answer.NotNow core = core
 move_core : (w : World) (worker : ℕ) (m : Move) → IsAllowed w m → IsCore w.tree → IsCore (done_by w worker m).1.tree
 move_core w worker (Takes place) is core = core
 move_core w worker (Delivers place) is core =
-    kids_core (noted w place (has_synced (deed_of w (seat_at w.seats place).path))) place (spawned_paths (deed_of w (seat_at w.seats place).path)) core
+    kids_core (noted w place (has_synced (deed_of w (participant_at w.participants place).path))) place (spawned_paths (deed_of w (participant_at w.participants place).path)) core
 move_core w worker (Calls place token c) is core =
     called_core w worker place (after (after w.tree (Begin token c)) (Go token)) (answer_to (after w.tree (Begin token c)) (Go token))
     (core_after (after w.tree (Begin token c)) (Go token) (core_after w.tree (Begin token c) core is.0.1) tt)
 move_core w worker (Advances place) is core =
-    advanced_core w worker place (after w.tree (Finish (seat_at w.seats place).token)) (answer_to w.tree (Finish (seat_at w.seats place).token))
-    (core_after w.tree (Finish (seat_at w.seats place).token) core tt)
+    advanced_core w worker place (after w.tree (Finish (participant_at w.participants place).token)) (answer_to w.tree (Finish (participant_at w.participants place).token))
+    (core_after w.tree (Finish (participant_at w.participants place).token) core tt)
 move_core w worker (Closes token) is core = by (report_in w.limit (next_job w))
   where
     by : (o : Option ReportValue) → IsCore (closed_as w worker token (next_job w) o).1.tree
@@ -212,11 +212,11 @@ reached_core w [] core = core
 reached_core w (x ∷ xs) core = reached_core (world_after w x) xs (step_core_of w x core)
 
 pub world_core : (p : Program) (parents : List ℕ) (limit : ℕ) (xs : List JobStep) → IsShape parents → length parents ≤ 65535
-    → IsCore (reached (opening_world p parents limit) xs).tree
+    → IsCore (reached (initial_world p parents limit) xs).tree
 world_core p parents limit xs shape few =
-    reached_core (opening_world p parents limit) xs
-    (starts_core (empty_world p parents limit) (live_paths (opening p)) (opened_core parents 0 (plan_for limit) shape few (omega arith)))
+    reached_core (initial_world p parents limit) xs
+    (starts_core (empty_world p parents limit) (live_paths (initial p)) (opened_core parents 0 (plan_for limit) shape few (omega arith)))
 
 pub refused_steps_change_nothing : RefusedStepsChangeNothing
 refused_steps_change_nothing p parents limit xs x shape few h =
-    step_refused (reached (opening_world p parents limit) xs) x (world_core p parents limit xs shape few) h
+    step_refused (reached (initial_world p parents limit) xs) x (world_core p parents limit xs shape few) h

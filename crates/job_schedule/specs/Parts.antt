@@ -11,13 +11,13 @@ use Rattle.step_core.specs.Taking.{Takes as IsTakenBy, IsFor, is_done, is_live, 
 use Rattle.task_lang.specs.Meaning.{Segment}
 use Rattle.step_core.specs.Superstep.{segments}
 use Rattle.job_schedule.specs.declared.schedule.Schedule.{Schedule}
-use Rattle.job_seats.specs.declared.stage.Mode.TheVariants.{Runs}
-use Rattle.job_seats.specs.declared.stage.Stage.TheVariants.{Taken, Waits}
-use Rattle.job_seats.specs.SeatValue.{all_over, is_delivered, seat_at}
-use Rattle.job_seats.specs.declared.stage.Move.{Move}
-use Rattle.job_seats.specs.declared.stage.Move.TheVariants.{Takes, Delivers, Calls, Advances, Closes, Ends}
+use Rattle.job_participants.specs.declared.stage.Mode.TheVariants.{Runs}
+use Rattle.job_participants.specs.declared.stage.Stage.TheVariants.{Taken, Waits}
+use Rattle.job_participants.specs.ParticipantValue.{all_over, is_delivered, participant_at}
+use Rattle.job_participants.specs.declared.stage.Move.{Move}
+use Rattle.job_participants.specs.declared.stage.Move.TheVariants.{Takes, Delivers, Calls, Advances, Closes, Ends}
 use Rattle.job_schedule.specs.declared.step.JobStep.{JobStep}
-use Rattle.job_schedule.specs.World.{World, deed_in, opening_world, reached}
+use Rattle.job_schedule.specs.World.{World, deed_in, initial_world, reached}
 
 -- free tokens stand with the next one last
 abbrev pub world_of : Schedule → World
@@ -27,7 +27,7 @@ world_of s = record {
   job = state_of s.round;
   tree = s.core;
   leaves = s.leaves.items;
-  seats = s.seats.items;
+  participants = s.participants.items;
   taken = s.taken;
   hands = s.hands.items;
   free = reverse s.free.items;
@@ -61,13 +61,13 @@ pub record IsNext (old new : RoundValue) : Type 0 where
   pub state : state_of new ≡ unless_ended (status_in old) (state_of old) (superstep (program_of old.job) (state_of old))
   pub fresh : status_in new ≡ None → AllFresh new.slots
 
--- What a schedule keeps beside its world: while the job runs, a segment was handed in exactly where the seat's stage says so; from
--- the next task to be taken on each seat waits; and a job with live tasks whose tasks are worked at has not ended.
+-- What a schedule keeps beside its world: while the job runs, a segment was handed in exactly where the participant's stage says so; from
+-- the next task to be taken on each participant waits; and a job with live tasks whose tasks are worked at has not ended.
 pub record IsKept (r : RoundValue) (w : World) : Type 0 where
-  pub handed : status_in r ≡ None → (place : ℕ) → place < length w.seats
-      → is_done (slice_get r.slots place) ≡ is_delivered (seat_at w.seats place).stage
-  pub waiting : (place : ℕ) → w.taken ≤ place → place < length w.seats → (seat_at w.seats place).stage ≡ Waits
-  pub runs : w.mode ≡ Runs → 0 < length w.seats → status_in r ≡ None
+  pub handed : status_in r ≡ None → (place : ℕ) → place < length w.participants
+      → is_done (slice_get r.slots place) ≡ is_delivered (participant_at w.participants place).stage
+  pub waiting : (place : ℕ) → w.taken ≤ place → place < length w.participants → (participant_at w.participants place).stage ≡ Waits
+  pub runs : w.mode ≡ Runs → 0 < length w.participants → status_in r ≡ None
 
 -- nothing was handed in yet for the task of this path, which is live
 pub record IsWanted (r : RoundValue) (path : List ℕ) : Type 0 where
@@ -75,16 +75,16 @@ pub record IsWanted (r : RoundValue) (path : List ℕ) : Type 0 where
   pub live : is_live r.slots path ≡ true
   pub first : (place : ℕ) → IsFor path (slice_get r.slots place) → is_done (slice_get r.slots place) ≡ false
 
--- a move of a seat that is there, at a stage that it belongs to, and of a call that may be begun; a job that goes on is closed
+-- a move of a participant that is there, at a stage that it belongs to, and of a call that may be begun; a job that goes on is closed
 -- only where all tasks have come to their end
 abbrev pub IsAllowed : World → Move → Type 0
-IsAllowed w (Takes place) = (place < length w.seats) × (place ≡ w.taken)
-IsAllowed w (Delivers place) = (place < length w.seats) × ((seat_at w.seats place).stage ≡ Taken) × (w.mode ≡ Runs)
-IsAllowed w (Calls place token c) = ((place < length w.seats) × IsCall c) × (is_delivered (seat_at w.seats place).stage ≡ true)
-IsAllowed w (Advances place) = (place < length w.seats) × (is_delivered (seat_at w.seats place).stage ≡ true)
-IsAllowed w (Closes token) = status w.limit w.job ≡ None → all_over w.seats ≡ true
+IsAllowed w (Takes place) = (place < length w.participants) × (place ≡ w.taken)
+IsAllowed w (Delivers place) = (place < length w.participants) × ((participant_at w.participants place).stage ≡ Taken) × (w.mode ≡ Runs)
+IsAllowed w (Calls place token c) = ((place < length w.participants) × IsCall c) × (is_delivered (participant_at w.participants place).stage ≡ true)
+IsAllowed w (Advances place) = (place < length w.participants) × (is_delivered (participant_at w.participants place).stage ≡ true)
+IsAllowed w (Closes token) = status w.limit w.job ≡ None → all_over w.participants ≡ true
 IsAllowed w (Ends token) = Unit {0}
 
 -- steps of workers lead here from the beginning of a job, within some limit and on some tree
 abbrev pub IsReached : World → Type 0
-IsReached w = (program : Program) × (limit : ℕ) × (parents : List ℕ) × (xs : List JobStep) × (w ≡ reached (opening_world program parents limit) xs)
+IsReached w = (program : Program) × (limit : ℕ) × (parents : List ℕ) × (xs : List JobStep) × (w ≡ reached (initial_world program parents limit) xs)

@@ -14,19 +14,19 @@ use Rattle.tier_core.specs.Run.{after, answer_to, may_finish}
 use Rattle.task_lang.specs.Meaning.{Segment, Stopped}
 use Rattle.step_core.specs.Program.{Program}
 use Rattle.step_core.specs.Superstep.{State, segments, superstep, live_paths}
-use Rattle.step_core.specs.JobMeaning.{opening, status, unless_ended, report_in}
+use Rattle.step_core.specs.JobMeaning.{initial, status, unless_ended, report_in}
 use Rattle.step_core.specs.OrderValue.{has_synced, spawned_paths}
-use Rattle.job_seats.specs.declared.stage.Mode.{Mode}
-use Rattle.job_seats.specs.declared.stage.Mode.TheVariants as mode
-use Rattle.job_seats.specs.declared.stage.Move.{Move}
-pub use Rattle.job_seats.specs.declared.stage.Move.TheVariants.{Takes, Delivers, Calls, Advances, Closes, Ends}
-use Rattle.job_seats.specs.Moves.{leaf_at, preferred, by_stage, at_stage}
-pub use Rattle.job_seats.specs.Moves.{kind_for}
+use Rattle.job_participants.specs.declared.stage.Mode.{Mode}
+use Rattle.job_participants.specs.declared.stage.Mode.TheVariants as mode
+use Rattle.job_participants.specs.declared.stage.Move.{Move}
+pub use Rattle.job_participants.specs.declared.stage.Move.TheVariants.{Takes, Delivers, Calls, Advances, Closes, Ends}
+use Rattle.job_participants.specs.Moves.{leaf_at, preferred, by_stage, at_stage}
+pub use Rattle.job_participants.specs.Moves.{kind_for}
 use Rattle.job_schedule.specs.declared.step.JobStep.{JobStep}
 use Rattle.job_schedule.specs.declared.step.JobStep.TheVariants.{Take, Deliver, Tree as TreeStep, Advance, Close}
-use Rattle.job_seats.specs.declared.stage.Stage.{Stage}
-use Rattle.job_seats.specs.declared.stage.Stage.TheVariants.{Taken, Polling, Over}
-use Rattle.job_seats.specs.SeatValue.{SeatValue, waiting, seat_at, is_over, all_over, answered, next_seats, freed}
+use Rattle.job_participants.specs.declared.stage.Stage.{Stage}
+use Rattle.job_participants.specs.declared.stage.Stage.TheVariants.{Taken, Polling, Over}
+use Rattle.job_participants.specs.ParticipantValue.{ParticipantValue, waiting, participant_at, is_over, all_over, answered, next_participants, freed}
 use Rattle.job_schedule.specs.AnswerValue.{AnswerValue, Took, Delivered, Stepped, Advanced, Closed, Finished, NotNow}
 
 pub record World : Type 0 where
@@ -36,8 +36,8 @@ pub record World : Type 0 where
   pub job : State
   pub tree : Tree
   pub leaves : List ℕ
-  -- a seat for each live task, in path order, and how many of these tasks were taken
-  pub seats : List SeatValue
+  -- a participant for each live task, in path order, and how many of these tasks were taken
+  pub participants : List ParticipantValue
   pub taken : ℕ
   -- the place of the task that each worker has, if it has one
   pub hands : List (Option ℕ)
@@ -55,8 +55,8 @@ joined_at tree home = gone 16 (length tree.views) (after (with_token tree) (Begi
 
 abbrev pub with_start : World → List ℕ → World
 with_start w path = record w {
-  tree = joined_at w.tree (leaf_at w.leaves (length w.seats));
-  seats = w.seats ++ waiting path (length w.tree.views) (leaf_at w.leaves (length w.seats)) ∷ [];
+  tree = joined_at w.tree (leaf_at w.leaves (length w.participants));
+  participants = w.participants ++ waiting path (length w.tree.views) (leaf_at w.leaves (length w.participants)) ∷ [];
 }
 
 abbrev pub with_starts : World → List (List ℕ) → World
@@ -71,10 +71,10 @@ abbrev pub empty_world : Program → List ℕ → ℕ → World
 empty_world program parents limit = record {
   program = program;
   limit = limit;
-  job = opening program;
+  job = initial program;
   tree = opened parents 0 (plan_for limit);
   leaves = leaves_of parents;
-  seats = [];
+  participants = [];
   taken = 0;
   hands = replicate 64 None;
   free = [];
@@ -82,24 +82,24 @@ empty_world program parents limit = record {
 }
 
 -- a job with this limit, on a tree of this shape, before the first step of a worker
-abbrev pub opening_world : Program → List ℕ → ℕ → World
-opening_world program parents limit = with_starts (empty_world program parents limit) (live_paths (opening program))
+abbrev pub initial_world : Program → List ℕ → ℕ → World
+initial_world program parents limit = with_starts (empty_world program parents limit) (live_paths (initial program))
 
 -- What a worker may do next. Without a task it takes the front ready one; a job that is over as it begins is closed by anybody.
 abbrev pub taking : ℕ → ℕ → Bool → Option Move
 taking taken live over = if nat_lt taken live then Some (Takes taken) else (if over then Some (Closes 0) else None)
 
-abbrev pub by_seat : World → SeatValue → ℕ → Option Move
-by_seat w g place = by_stage g place (may_finish w.tree g.token) g.stage
+abbrev pub by_participant : World → ParticipantValue → ℕ → Option Move
+by_participant w g place = by_stage g place (may_finish w.tree g.token) g.stage
 
 abbrev pub by_hand : World → Option ℕ → Option Move
-by_hand w None = taking w.taken (length w.seats) (is_some (status w.limit w.job))
-by_hand w (Some place) = by_seat w (seat_at w.seats place) place
+by_hand w None = taking w.taken (length w.participants) (is_some (status w.limit w.job))
+by_hand w (Some place) = by_participant w (participant_at w.participants place) place
 
 -- who advanced the root closes the round once all tasks are over, and after a fault ends the tree
 abbrev pub by_mode : World → ℕ → Mode → Option Move
 by_mode w worker mode.Runs = by_hand w (slice_index_or w.hands worker None)
-by_mode w worker (mode.Advanced closer token) = if (worker == closer) && all_over w.seats then Some (Closes token) else None
+by_mode w worker (mode.Advanced closer token) = if (worker == closer) && all_over w.participants then Some (Closes token) else None
 by_mode w worker (mode.Forces closer token) = if worker == closer then Some (Ends token) else None
 by_mode w worker mode.Over = None
 
@@ -122,15 +122,15 @@ kind_of (TreeStep worker) = 2
 kind_of (Advance worker) = 3
 kind_of (Close worker) = 4
 
-abbrev pub with_seat : World → ℕ → SeatValue → World
-with_seat w place g = record w { seats = slice_set w.seats place g }
+abbrev pub with_participant : World → ℕ → ParticipantValue → World
+with_participant w place g = record w { participants = slice_set w.participants place g }
 
 abbrev pub with_hand : World → ℕ → Option ℕ → World
 with_hand w worker hand = record w { hands = slice_set w.hands worker hand }
 
 -- A worker takes a task.
 abbrev pub took : World → ℕ → ℕ → World
-took w worker place = with_hand (record (with_seat w place (at_stage (seat_at w.seats place) Taken)) { taken = suc place }) worker (Some place)
+took w worker place = with_hand (record (with_participant w place (at_stage (participant_at w.participants place) Taken)) { taken = suc place }) worker (Some place)
 
 -- What the live task of this path does in this superstep.
 abbrev pub no_deed : Segment
@@ -144,14 +144,14 @@ abbrev pub deed_of : World → List ℕ → Segment
 deed_of w path = deed_in (segments w.program w.job.arrays w.job.step w.job.live) path
 
 -- A spawned task has a token: a free one, else a new one.
-abbrev pub with_kid : SeatValue → List ℕ → List ℕ → ℕ → SeatValue
+abbrev pub with_kid : ParticipantValue → List ℕ → List ℕ → ℕ → ParticipantValue
 with_kid g leaves path token = record g { kids = g.kids ++ record { path = path; token = token; home = preferred leaves g.home path } ∷ [] }
 
 abbrev pub kid_from : World → ℕ → List ℕ → List ℕ → World
 kid_from w place path [] =
-    record (with_seat w place (with_kid (seat_at w.seats place) w.leaves path (length w.tree.views))) { tree = with_token w.tree }
+    record (with_participant w place (with_kid (participant_at w.participants place) w.leaves path (length w.tree.views))) { tree = with_token w.tree }
 kid_from w place path (token ∷ free) =
-    record (with_seat w place (with_kid (seat_at w.seats place) w.leaves path token)) { free = free }
+    record (with_participant w place (with_kid (participant_at w.participants place) w.leaves path token)) { free = free }
 
 abbrev pub with_kids : World → ℕ → List (List ℕ) → World
 with_kids w place [] = w
@@ -159,7 +159,7 @@ with_kids w place (path ∷ paths) = with_kids (kid_from w place path w.free) pl
 
 -- A worker hands in the segment of its task: whether it synced and what it spawned is known from then on.
 abbrev pub noted : World → ℕ → Bool → World
-noted w place synced = with_seat w place record (at_stage (seat_at w.seats place) Polling) { synced = synced; kids = [] }
+noted w place synced = with_participant w place record (at_stage (participant_at w.participants place) Polling) { synced = synced; kids = [] }
 
 abbrev pub handed_in : World → ℕ → Segment → World
 handed_in w place s = with_kids (noted w place (has_synced s)) place (spawned_paths s)
@@ -168,12 +168,12 @@ handed_in w place s = with_kids (noted w place (has_synced s)) place (spawned_pa
 abbrev pub hand_after : Stage → List (Option ℕ) → ℕ → List (Option ℕ)
 hand_after stage hands worker = if is_over stage then slice_set hands worker None else hands
 
-abbrev pub stepped : World → ℕ → ℕ → Tree → SeatValue → World
-stepped w worker place tree g = record (with_seat w place g) { tree = tree; hands = hand_after g.stage w.hands worker }
+abbrev pub stepped : World → ℕ → ℕ → Tree → ParticipantValue → World
+stepped w worker place tree g = record (with_participant w place g) { tree = tree; hands = hand_after g.stage w.hands worker }
 
 abbrev pub called_by : World → ℕ → ℕ → Tree → TreeAnswer → AnswerValue × World
 called_by w worker place tree answer.Begun = (NotNow, record w { tree = tree })
-called_by w worker place tree (answer.Played a) = (Stepped a, stepped w worker place tree (answered (seat_at w.seats place) a))
+called_by w worker place tree (answer.Played a) = (Stepped a, stepped w worker place tree (answered (participant_at w.participants place) a))
 called_by w worker place tree answer.NotNow = (NotNow, record w { tree = tree })
 
 abbrev pub called : World → ℕ → ℕ → ℕ → Tree → AnswerValue × World
@@ -181,9 +181,9 @@ called w worker place token tree = called_by w worker place (after tree (Go toke
 
 -- The root advances: that task is over, and its worker is to close the round.
 abbrev pub has_advanced : World → ℕ → ℕ → Tree → World
-has_advanced w worker place tree = record (with_hand (with_seat w place (at_stage (seat_at w.seats place) Over)) worker None) {
+has_advanced w worker place tree = record (with_hand (with_participant w place (at_stage (participant_at w.participants place) Over)) worker None) {
   tree = tree;
-  mode = mode.Advanced worker (seat_at w.seats place).token;
+  mode = mode.Advanced worker (participant_at w.participants place).token;
 }
 
 abbrev pub advanced_by : World → ℕ → ℕ → Tree → TreeAnswer → AnswerValue × World
@@ -204,7 +204,7 @@ mode_after worker token (HasFaulted code step path) = mode.Forces worker token
 mode_after worker token (IsAtLimit steps) = mode.Over
 
 abbrev pub renewed : World → World
-renewed w = record w { seats = next_seats w.seats; taken = 0; free = freed w.seats w.free; mode = mode.Runs }
+renewed w = record w { participants = next_participants w.participants; taken = 0; free = freed w.participants w.free; mode = mode.Runs }
 
 abbrev pub closed_as : World → ℕ → ℕ → State → Option ReportValue → AnswerValue × World
 closed_as w worker token job (Some report) = (Finished report, record w { job = job; mode = mode_after worker token report.status })
@@ -221,10 +221,10 @@ ended w token tree = ended_by w (after tree (Go token)) (answer_to tree (Go toke
 
 -- what a move answers, and what it leaves
 abbrev pub done_by : World → ℕ → Move → AnswerValue × World
-done_by w worker (Takes place) = (Took (seat_at w.seats place).path, took w worker place)
-done_by w worker (Delivers place) = (Delivered, handed_in w place (deed_of w (seat_at w.seats place).path))
+done_by w worker (Takes place) = (Took (participant_at w.participants place).path, took w worker place)
+done_by w worker (Delivers place) = (Delivered, handed_in w place (deed_of w (participant_at w.participants place).path))
 done_by w worker (Calls place token c) = called w worker place token (after w.tree (Begin token c))
-done_by w worker (Advances place) = advanced w worker place (seat_at w.seats place).token
+done_by w worker (Advances place) = advanced w worker place (participant_at w.participants place).token
 done_by w worker (Closes token) = closed_as w worker token (next_job w) (report_in w.limit (next_job w))
 done_by w worker (Ends token) = ended w token (after w.tree (Begin token call.Force))
 

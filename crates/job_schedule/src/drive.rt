@@ -6,7 +6,7 @@ ghost use Rattle.step_core.specs.Program.{program_of};
 ghost use Rattle.step_core.specs.JobMeaning.{report_of};
 ghost use Rattle.job_schedule.specs.AnswerValue.{answer_seen, Finished};
 ghost use Rattle.job_schedule.specs.Parts.{IsKept, IsReached, world_of};
-ghost use Rattle.job_schedule.specs.World.{opening_world, answers, answer_of, world_after};
+ghost use Rattle.job_schedule.specs.World.{initial_world, answers, answer_of, world_after};
 
 use crate::schedule::Schedule;
 use crate::step::{Answer, JobStep};
@@ -61,7 +61,7 @@ fn take_steps(
     steps: &[JobStep],
 ) -> Result<Vec<Answer>, AllocError>
     requires { 1 ≤ limit }
-    ensures { IfOk result (λ told. map answer_seen told.items ≡ answers (opening_world (program_of job.now) shape limit) steps.now) }
+    ensures { IfOk result (λ told. map answer_seen told.items ≡ answers (initial_world (program_of job.now) shape limit) steps.now) }
 {
     let mut schedule = Schedule::new(alloc, job, shape, limit)?;
     take_each(alloc, &mut schedule, steps)
@@ -79,7 +79,7 @@ pub fn drive_job(
 ) -> Result<Vec<Answer>, AllocError>
     requires some { 1 ≤ limit }
     requires few { limit ≤ 2147483648 }
-    ensures answers { IfOk result (λ told. map answer_seen told.items ≡ answers (opening_world (program_of job.now) shape limit) steps.now) }
+    ensures answers { IfOk result (λ told. map answer_seen told.items ≡ answers (initial_world (program_of job.now) shape limit) steps.now) }
     ensures report { IfOk result (λ told. (report : ReportValue) → Contains (map answer_seen told.items) (Finished report)
         → report_of (program_of job.now) limit ≡ Some report) }
 {

@@ -1,7 +1,7 @@
 //! What holds of every world that schedules of a job reach. Each law is the contract of a function without parameters that
 //! does nothing.
 
-ghost use Rattle.job_schedule.specs.Laws.{FinishedTellsTheJob, FinishedIsTheEnd, RoundsAreClosedOnce, RefusedStepsChangeNothing, SeatsAreTheLiveTasks};
+ghost use Rattle.job_schedule.specs.Laws.{FinishedTellsTheJob, FinishedIsTheEnd, RoundsAreClosedOnce, RefusedStepsChangeNothing, ParticipantsAreTheLiveTasks};
 
 /// Whatever the schedule, the answer that finishes a job carries the report of the job's meaning with its limit.
 pub fn finished_tells_the_job()
@@ -25,7 +25,7 @@ pub fn refused_steps_change_nothing()
     ensures { RefusedStepsChangeNothing }
 {}
 
-/// While a job runs its seats are those of its live tasks, in path order, and note what was handed in.
-pub fn seats_are_the_live_tasks()
-    ensures { SeatsAreTheLiveTasks }
+/// While a job runs its participants are those of its live tasks, in path order, and note what was handed in.
+pub fn participants_are_the_live_tasks()
+    ensures { ParticipantsAreTheLiveTasks }
 {}

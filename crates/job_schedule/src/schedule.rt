@@ -8,11 +8,11 @@ ghost use Rattle.job_schedule.specs.World.{plan_for, taking, mode_after, gone};
 use crate::rounds::{close_round, hand_in};
 use crate::step::{Answer, JobStep};
 use advance_rule::EndPlan;
-use job_seats::hands::{empty_hands, hand_of, set_hand};
-use job_seats::leaves::{leaf_at, preferred};
-use job_seats::next::{free_tokens, next_seats};
-use job_seats::seat::{Kid, Seat, all_over, copy_path, is_over};
-use job_seats::stage::{Mode, Move, Stage, asked};
+use job_participants::hands::{empty_hands, hand_of, set_hand};
+use job_participants::leaves::{leaf_at, preferred};
+use job_participants::next::{free_tokens, next_participants};
+use job_participants::participant::{Kid, Participant, all_over, copy_path, is_over};
+use job_participants::stage::{Mode, Move, Stage, asked};
 use phase_records::JobStatus;
 use std::alloc::{AllocError, Global};
 use step_core::Round;
@@ -28,7 +28,7 @@ pub(crate) struct Schedule<'j> {
     round: Round<'j>,
     core: Core,
     leaves: Vec<u16>,
-    seats: Vec<Seat>,
+    participants: Vec<Participant>,
     taken: usize,
     hands: Vec<Option<usize>>,
     free: Vec<usize>,
@@ -88,20 +88,20 @@ impl<'j> Schedule<'j> {
     ghost use Rattle.std.specs.Prelude.{◌<◌, OnOk, None, length, map, slice_index_or};
     ghost use Rattle.task_lang.specs.JobValue.{JobValue};
     ghost use Rattle.step_core.specs.Program.{program_of};
-    ghost use Rattle.step_core.specs.JobMeaning.{opening};
+    ghost use Rattle.step_core.specs.JobMeaning.{initial};
     ghost use Rattle.step_core.specs.RoundValue.{Opens, slots_in, status_in};
     ghost use Rattle.step_core.specs.Superstep.{live_paths};
     ghost use Rattle.job_schedule.specs.AnswerValue.{answer_seen};
     ghost use Rattle.job_schedule.specs.Parts.{path_items, world_of};
-    ghost use Rattle.job_seats.specs.SeatValue.{seat_at};
+    ghost use Rattle.job_participants.specs.ParticipantValue.{participant_at};
     ghost use Rattle.job_schedule.specs.World as spec;
     ghost use Rattle.job_schedule.specs.World.{
-      opening_world,
+      initial_world,
       with_start,
       with_starts,
       move_of,
       by_hand,
-      by_seat,
+      by_participant,
       answer_of,
       world_after,
       done_by,
@@ -110,7 +110,7 @@ impl<'j> Schedule<'j> {
       stepped,
       renewed,
     };
-    ghost use Rattle.job_seats.specs.SeatValue.{answered};
+    ghost use Rattle.job_participants.specs.ParticipantValue.{answered};
     ghost use Rattle.job_schedule.specs.Parts.{IsAllowed, IsKept, IsNext, IsReached, IsTaken, IsWanted};
     ghost use Rattle.job_schedule.specs.Laws.{IsStanding};
     ghost use Rattle.step_core.specs.Slots.{first_missing};
@@ -124,7 +124,7 @@ impl<'j> Schedule<'j> {
         limit: u32,
     ) -> Result<Self, AllocError>
         requires some { 1 ≤ limit }
-        ensures world { IfOk result (λ s. world_of s ≡ opening_world (program_of job.now) shape limit) }
+        ensures world { IfOk result (λ s. world_of s ≡ initial_world (program_of job.now) shape limit) }
         ensures kept { IfOk result (λ s. IsKept s.round (world_of s)) }
     {
         let round = Round::new(alloc, job, limit)?;
@@ -137,7 +137,7 @@ impl<'j> Schedule<'j> {
     fn around(alloc: Global, round: Round<'j>, shape: Shape, limit: u32) -> Result<Self, AllocError>
         requires some { 1 ≤ limit }
         ensures round { IfOk result (λ s. s.round ≡ round.entry) }
-        ensures world { IfOk result (λ s. (job : JobValue) → Opens round.entry job limit (opening (program_of job)) → world_of s ≡ spec.empty_world (program_of job) shape limit) }
+        ensures world { IfOk result (λ s. (job : JobValue) → Opens round.entry job limit (initial (program_of job)) → world_of s ≡ spec.empty_world (program_of job) shape limit) }
     {
         let (core, leaves) = tree_of(alloc, shape, limit)?;
         let hands = empty_hands(alloc, 64)?;
@@ -145,7 +145,7 @@ impl<'j> Schedule<'j> {
             round,
             core,
             leaves,
-            seats: Vec::new(alloc),
+            participants: Vec::new(alloc),
             taken: 0,
             hands,
             free: Vec::new(alloc),
@@ -167,12 +167,13 @@ impl<'j> Schedule<'j> {
         ensures world { OnOk result (world_of self.new ≡ with_start (world_of self.old) path.items) }
         ensures round { OnOk result (self.new.round ≡ self.old.round) }
     {
-        let home = leaf_at(&self.leaves, self.seats.len());
+        let home = leaf_at(&self.leaves, self.participants.len());
         let token = self.core.add_token()?;
         self.core
             .step(Step::Begin(token, Call::Join { tier: home, n: 1 }));
         go_on(&mut self.core, token, 16);
-        self.seats.push(Seat::new(alloc, path, token, home))?;
+        self.participants
+            .push(Participant::new(alloc, path, token, home))?;
         Ok(())
     }
 
@@ -200,13 +201,13 @@ impl<'j> Schedule<'j> {
 
     // What a worker may do next with the task at this place.
     fn move_at(&self, place: usize) -> Option<Move>
-        ensures { result ≡ by_seat (world_of self.now) (seat_at self.now.seats.items place) place }
+        ensures { result ≡ by_participant (world_of self.now) (participant_at self.now.participants.items place) place }
     {
-        if place >= self.seats.len() {
+        if place >= self.participants.len() {
             return None;
         }
-        let seat = &self.seats[place];
-        seat.next_move(place, self.core.must_advance(seat.token))
+        let participant = &self.participants[place];
+        participant.next_move(place, self.core.must_advance(participant.token))
     }
 
     // What it may do next in a superstep.
@@ -214,7 +215,7 @@ impl<'j> Schedule<'j> {
         ensures { result ≡ by_hand (world_of self.now) (slice_index_or self.now.hands.items worker None) }
     {
         match hand_of(&self.hands, worker) {
-            None => taking(self.taken, self.seats.len(), self.round.has_ended()),
+            None => taking(self.taken, self.participants.len(), self.round.has_ended()),
             Some(place) => self.move_at(place),
         }
     }
@@ -228,9 +229,8 @@ impl<'j> Schedule<'j> {
         }
         match self.mode {
             Mode::Runs => self.move_in(worker),
-            Mode::Advanced { closer, token } if worker == closer && all_over(&self.seats) => {
-                Some(Move::Closes(token))
-            }
+            Mode::Advanced { closer, token } if worker == closer && all_over(&self.participants) =>
+                { Some(Move::Closes(token)) }
             Mode::Forces { closer, token } if worker == closer => Some(Move::Ends(token)),
             Mode::Advanced { .. } | Mode::Forces { .. } | Mode::Over => None,
         }
@@ -238,13 +238,13 @@ impl<'j> Schedule<'j> {
 
     // It takes the task at this place.
     fn take(&mut self, worker: usize, place: usize) -> Result<Answer, AllocError>
-        requires place { place < length self.old.seats.items }
+        requires place { place < length self.old.participants.items }
         ensures answer { IfOk result (λ a. answer_seen a ≡ (done_by (world_of self.old) worker (spec.Takes place)).0) }
         ensures after { OnOk result (world_of self.new ≡ (done_by (world_of self.old) worker (spec.Takes place)).1) }
         ensures round { OnOk result (self.new.round ≡ self.old.round) }
     {
-        let path = copy_path(&self.seats[place].path)?;
-        self.seats[place].set_stage(Stage::Taken);
+        let path = copy_path(&self.participants[place].path)?;
+        self.participants[place].set_stage(Stage::Taken);
         self.taken = place + 1;
         set_hand(&mut self.hands, worker, Some(place));
         Ok(Answer::Took(path))
@@ -252,21 +252,21 @@ impl<'j> Schedule<'j> {
 
     // A spawned task has a token.
     fn add_kid(&mut self, place: usize, path: Path) -> Result<(), AllocError>
-        requires place { place < length self.old.seats.items }
+        requires place { place < length self.old.participants.items }
         ensures world { OnOk result (world_of self.new ≡ kid_from (world_of self.old) place path.items (world_of self.old).free) }
         ensures round { OnOk result (self.new.round ≡ self.old.round) }
     {
-        let home = preferred(&self.leaves, self.seats[place].home, path.as_slice());
+        let home = preferred(&self.leaves, self.participants[place].home, path.as_slice());
         let token = match self.free.pop() {
             Some(token) => token,
             None => self.core.add_token()?,
         };
-        self.seats[place].add_kid(Kid { path, token, home })
+        self.participants[place].add_kid(Kid { path, token, home })
     }
 
     // So have all of these.
     fn add_kids(&mut self, place: usize, paths: &[Path]) -> Result<(), AllocError>
-        requires place { place < length self.old.seats.items }
+        requires place { place < length self.old.participants.items }
         ensures world { OnOk result (world_of self.new ≡ with_kids (world_of self.old) place (map path_items paths.now)) }
         ensures round { OnOk result (self.new.round ≡ self.old.round) }
     {
@@ -280,34 +280,34 @@ impl<'j> Schedule<'j> {
 
     // The segment of the task at this place is handed in.
     fn deliver(&mut self, alloc: Global, worker: usize, place: usize) -> Result<Answer, AllocError>
-        requires place { place < length self.old.seats.items }
-        requires wanted { IsWanted self.old.round (seat_at self.old.seats.items place).path }
+        requires place { place < length self.old.participants.items }
+        requires wanted { IsWanted self.old.round (participant_at self.old.participants.items place).path }
         ensures answer { IfOk result (λ a. answer_seen a ≡ (done_by (world_of self.old) worker (spec.Delivers place)).0) }
         ensures after { OnOk result (world_of self.new ≡ (done_by (world_of self.old) worker (spec.Delivers place)).1) }
-        ensures taken { OnOk result (IsTaken self.old.round (seat_at self.old.seats.items place).path self.new.round) }
+        ensures taken { OnOk result (IsTaken self.old.round (participant_at self.old.participants.items place).path self.new.round) }
     {
-        let path = copy_path(&self.seats[place].path)?;
+        let path = copy_path(&self.participants[place].path)?;
         let (synced, spawns) = hand_in(alloc, &mut self.round, path.as_slice())?;
-        self.seats[place].note(synced);
+        self.participants[place].note(synced);
         self.add_kids(place, &spawns)?;
         Ok(Answer::Delivered)
     }
 
     // Its call answers so.
     fn note_answer(&mut self, worker: usize, place: usize, played: Played)
-        requires place { place < length self.old.seats.items }
-        ensures world { world_of self.new ≡ stepped (world_of self.old) worker place self.old.core (answered (seat_at self.old.seats.items place) played) }
+        requires place { place < length self.old.participants.items }
+        ensures world { world_of self.new ≡ stepped (world_of self.old) worker place self.old.core (answered (participant_at self.old.participants.items place) played) }
         ensures round { self.new.round ≡ self.old.round }
     {
-        self.seats[place].answer(played);
-        if is_over(self.seats[place].stage) {
+        self.participants[place].answer(played);
+        if is_over(self.participants[place].stage) {
             set_hand(&mut self.hands, worker, None);
         }
     }
 
     // A step of a call.
     fn call(&mut self, worker: usize, place: usize, token: usize, call: Call) -> Answer
-        requires place { place < length self.old.seats.items }
+        requires place { place < length self.old.participants.items }
         requires size { IsCall call }
         ensures answer { answer_seen result ≡ (done_by (world_of self.old) worker (spec.Calls place token call)).0 }
         ensures after { world_of self.new ≡ (done_by (world_of self.old) worker (spec.Calls place token call)).1 }
@@ -325,15 +325,15 @@ impl<'j> Schedule<'j> {
 
     // The root advances.
     fn advance(&mut self, worker: usize, place: usize) -> Answer
-        requires place { place < length self.old.seats.items }
+        requires place { place < length self.old.participants.items }
         ensures answer { answer_seen result ≡ (done_by (world_of self.old) worker (spec.Advances place)).0 }
         ensures after { world_of self.new ≡ (done_by (world_of self.old) worker (spec.Advances place)).1 }
         ensures round { self.new.round ≡ self.old.round }
     {
-        let token = self.seats[place].token;
+        let token = self.participants[place].token;
         match self.core.step(Step::Finish(token)) {
             TreeAnswer::Played(played) => {
-                self.seats[place].set_stage(Stage::Over);
+                self.participants[place].set_stage(Stage::Over);
                 set_hand(&mut self.hands, worker, None);
                 self.mode = Mode::Advanced {
                     closer: worker,
@@ -350,9 +350,9 @@ impl<'j> Schedule<'j> {
         ensures world { OnOk result (world_of self.new ≡ renewed (world_of self.old)) }
         ensures round { OnOk result (self.new.round ≡ self.old.round) }
     {
-        free_tokens(&self.seats, &mut self.free)?;
-        let seats = std::mem::replace(&mut self.seats, Vec::new(alloc));
-        self.seats = next_seats(alloc, seats)?;
+        free_tokens(&self.participants, &mut self.free)?;
+        let participants = std::mem::replace(&mut self.participants, Vec::new(alloc));
+        self.participants = next_participants(alloc, participants)?;
         self.taken = 0;
         self.mode = Mode::Runs;
         Ok(())

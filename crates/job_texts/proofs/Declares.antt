@@ -9,7 +9,7 @@ use Rattle.task_lang.specs.declared.code.Action.TheVariants as action
 use Rattle.task_lang.specs.declared.code.Line.{Line}
 use Rattle.task_lang.specs.declared.code.Line.TheVariants as line
 use Rattle.task_lang.specs.Tree.{Block, flat}
-use Rattle.superstep_memory.specs.declared.arrays.Kind.TheVariants.{Set, Add}
+use Rattle.superstep_memory.specs.declared.arrays.PutKind.TheVariants.{Set, Add}
 use Rattle.job_words.specs.Words.{Word, Words}
 use Rattle.job_words.specs.Exprs.{Names}
 use Rattle.job_words.specs.Lines.{line_words, end_words}

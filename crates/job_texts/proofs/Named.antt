@@ -11,7 +11,7 @@ use Rattle.task_lang.specs.Names.{is_free, is_name, is_reserved}
 use Rattle.task_lang.specs.Limits.{opened}
 use Rattle.task_lang.specs.declared.code.Line.{Line}
 use Rattle.task_lang.specs.declared.job.Start.{Start}
-use Rattle.superstep_memory.specs.declared.arrays.Kind.TheVariants.{Set, Add}
+use Rattle.superstep_memory.specs.declared.arrays.PutKind.TheVariants.{Set, Add}
 use Rattle.job_words.specs.Faults.{both}
 use Rattle.job_words.specs.Words.{Word, Words, named, numbered}
 use Rattle.job_words.specs.Exprs.{Names, expr_of}

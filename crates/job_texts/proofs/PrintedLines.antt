@@ -37,7 +37,7 @@ use Rattle.task_lang.specs.declared.code.Action.{Action}
 use Rattle.task_lang.specs.declared.code.Action.TheVariants as action
 use Rattle.task_lang.specs.declared.code.Line.{Line}
 use Rattle.task_lang.specs.declared.code.Line.TheVariants as line
-use Rattle.superstep_memory.specs.declared.arrays.Kind.TheVariants.{Set, Add}
+use Rattle.superstep_memory.specs.declared.arrays.PutKind.TheVariants.{Set, Add}
 use Rattle.job_words.specs.Words.{Word, name_at, index_word}
 use Rattle.job_words.specs.Exprs.{Names, cell_word, operand_word, operator_word, expr_words}
 use Rattle.job_words.specs.Lines.{line_words, line_fits, action_words}

@@ -1,7 +1,7 @@
 -- A line is read with no look at the bodies of the text.
 use Rattle.std.proofs.Common.{◌≡◌, ℕ, ◌+◌, Bool, true, false, List, [], ◌∷◌, ◌++◌, length, Option, Some, None, option_map, Result, Ok, Err, refl, sym, ap, ◌∙◌, length-append}
 use Rattle.std.specs.Prelude.{if◌then◌else◌, nat_le, nat_lt, ◌||◌, not, ℤ, unwrap_or}
-use Rattle.superstep_memory.specs.declared.arrays.Kind as put
+use Rattle.superstep_memory.specs.declared.arrays.PutKind as put
 use Rattle.std.proofs.lemmas.List.{map-append, length-map}
 use Rattle.text_lines.specs.declared.refusal.Code.{Code}
 use Rattle.text_lines.specs.declared.refusal.Code.TheVariants.{Twice, TooMany}
@@ -222,7 +222,7 @@ module _ (v : Seen) (o : SeenBody) (arrays bodies locals : List Word) (fits : Bo
   let-bare (n ∷ []) = refl
   let-bare (n ∷ is ∷ ws) = ap (λ (e : Result Expr Code). made let_line (both (both (is_equals is) (declared_at locals n)) e)) (expr-bare ws)
 
-  put-bare : (kind : put.Kind) (ws : Words) → put_of Here kind ws ≡ put_of Bare kind ws
+  put-bare : (kind : put.PutKind) (ws : Words) → put_of Here kind ws ≡ put_of Bare kind ws
   unfolding cell_of
   put-bare kind [] = refl
   put-bare kind (c ∷ []) = refl

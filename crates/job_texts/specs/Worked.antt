@@ -1,7 +1,7 @@
 -- A text worked out: what it is read as, and how it is written again, is written down, and not said by any rule (own).
 use Rattle.std.specs.Prelude.{◌≡◌, ℕ, pos, negsuc, List, [], ◌∷◌, Ok, Err, codes}
 use Rattle.text_lines.specs.declared.refusal.Code.TheVariants.{Unclosed, UnknownName}
-use Rattle.superstep_memory.specs.declared.arrays.Kind.TheVariants.{Set}
+use Rattle.superstep_memory.specs.declared.arrays.PutKind.TheVariants.{Set}
 use Rattle.task_lang.specs.declared.code.Index.{Index}
 use Rattle.task_lang.specs.declared.code.Index.TheVariants.{Number, Local, Arg, Step}
 use Rattle.task_lang.specs.declared.code.Cell.{Cell}

@@ -1,7 +1,7 @@
 -- Texts of format 2 worked out: what is read and written is written down, and not said by any rule (own).
 use Rattle.std.specs.Prelude.{◌≡◌, ℕ, pos, List, [], ◌∷◌, Ok, Err, codes}
 use Rattle.text_lines.specs.declared.refusal.Code.TheVariants.{BadHeader, UnknownLine, BadLine, Twice, UnknownName}
-use Rattle.superstep_memory.specs.declared.arrays.Kind.TheVariants as kind
+use Rattle.superstep_memory.specs.declared.arrays.PutKind.TheVariants as kind
 use Rattle.task_lang.specs.declared.code.Index.TheVariants.{Number, Local, Arg}
 use Rattle.task_lang.specs.declared.code.Operand.TheVariants.{Plain}
 use Rattle.task_lang.specs.declared.code.Operator.TheVariants.{Add}

@@ -1,7 +1,7 @@
 -- What is refused of the words behind `let` and `put`.
 use Rattle.std.proofs.Common.{◌≡◌, ℕ, ◌∷◌, Result, Err, ap, sym, ◌∙◌}
 use Rattle.text_lines.specs.declared.refusal.Code.{Code}
-use Rattle.superstep_memory.specs.declared.arrays.Kind.{Kind}
+use Rattle.superstep_memory.specs.declared.arrays.PutKind.{PutKind}
 use Rattle.task_lang.specs.declared.code.Cell.{Cell}
 use Rattle.task_lang.specs.declared.code.Expr.{Expr}
 use Rattle.job_words.specs.Faults.{both, made}
@@ -15,7 +15,7 @@ let_refused s all name is ws e front code words parts rest refused =
     ap (made let_line) (refused ∙ (ap (λ (x : Result (Unit {0} × ℕ) Code). both x e) parts ∙ ap (both (both (is_equals is) (declared_at s.locals name))) rest))
     ∙ ap (let_of s) (sym words)
 
-pub put_refused : (s : Names) (kind : Kind) (all : Words) (cell is : Word) (ws : Words) (e : Result Expr Code) (front : Result (Cell × Unit {0}) Code) (code : Code)
+pub put_refused : (s : Names) (kind : PutKind) (all : Words) (cell is : Word) (ws : Words) (e : Result Expr Code) (front : Result (Cell × Unit {0}) Code) (code : Code)
     → all ≡ cell ∷ is ∷ ws → front ≡ both (cell_of s cell) (is_equals is) → e ≡ expr_of s ws → Err code ≡ both front e → Err code ≡ put_of s kind all
 put_refused s kind all cell is ws e front code words parts rest refused =
     ap (made (put_line kind)) (refused ∙ (ap (λ (x : Result (Cell × Unit {0}) Code). both x e) parts ∙ ap (both (both (cell_of s cell) (is_equals is))) rest))

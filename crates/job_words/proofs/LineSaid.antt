@@ -37,8 +37,8 @@ use Rattle.task_lang.specs.declared.code.Action.TheVariants as action
 use Rattle.task_lang.specs.declared.code.Line.{Line}
 use Rattle.task_lang.specs.declared.code.Line.TheVariants as line
 use Rattle.job_words.specs.declared.lines.Keyword.{Keyword}
-use Rattle.superstep_memory.specs.declared.arrays.Kind.{Kind}
-use Rattle.superstep_memory.specs.declared.arrays.Kind.TheVariants.{Set, Add}
+use Rattle.superstep_memory.specs.declared.arrays.PutKind.{PutKind}
+use Rattle.superstep_memory.specs.declared.arrays.PutKind.TheVariants.{Set, Add}
 use Rattle.job_words.specs.declared.lines.Keyword.TheVariants.{Let, Put, Print, Spawn, Sync, Stop, If, Else, While, End}
 use Rattle.job_words.specs.Faults.{both, made, checked}
 use Rattle.job_words.specs.Words.{Word, Words, named, place_from, declared_at, name_at}
@@ -164,7 +164,7 @@ let-said s (w ∷ v ∷ ws) l e =
       and-true _ _ x.1 (all-both _ (m.0.0.1 ∷ []) (mentions.in_expr m.0.1) (and-true _ true (below-true m.0.0.1 (length s.locals) d.1) refl) x.2),
     )
 
-put-said : (s : Names) (kind : Kind) (ws : Words) (l : Line) → put_of s kind ws ≡ Ok l → LineSaid s (kind_word kind ∷ ws) l
+put-said : (s : Names) (kind : PutKind) (ws : Words) (l : Line) → put_of s kind ws ≡ Ok l → LineSaid s (kind_word kind ∷ ws) l
 put-said s kind [] l e = absurd cc
 put-said s kind (w ∷ []) l e = absurd cc
 put-said s kind (w ∷ v ∷ ws) l e =

@@ -49,7 +49,7 @@ use Rattle.task_lang.specs.declared.code.Operator.TheVariants.{
   NotEqual,
 }
 use Rattle.job_words.specs.declared.lines.Keyword.{Keyword}
-use Rattle.superstep_memory.specs.declared.arrays.Kind.TheVariants as kind
+use Rattle.superstep_memory.specs.declared.arrays.PutKind.TheVariants as kind
 use Rattle.job_words.specs.declared.lines.Keyword.TheVariants.{Let, Put, Print, Spawn, Sync, Stop, If, Else, While, End}
 use Rattle.job_words.specs.Faults.{both, made}
 use Rattle.job_words.specs.Words.{Word, begins_number, named, place_from, or_unknown, declared_at, name_at, index_word, index_of}

@@ -3,8 +3,8 @@ use Rattle.std.proofs.Common.{◌≡◌, ℕ, ◌<◌, Bool, true, false, List, 
 use Rattle.std.specs.Prelude.{unwrap_or}
 use Rattle.text_lines.specs.declared.refusal.Code.{Code}
 use Rattle.task_lang.specs.Names.{are_names}
-use Rattle.superstep_memory.specs.declared.arrays.Kind.{Kind}
-use Rattle.superstep_memory.specs.declared.arrays.Kind.TheVariants.{Set, Add}
+use Rattle.superstep_memory.specs.declared.arrays.PutKind.{PutKind}
+use Rattle.superstep_memory.specs.declared.arrays.PutKind.TheVariants.{Set, Add}
 use Rattle.task_lang.specs.declared.code.Cell.{Cell}
 use Rattle.task_lang.specs.declared.code.Expr.{Expr}
 use Rattle.task_lang.specs.declared.code.Action.{Action}
@@ -59,7 +59,7 @@ body-written bodies b e h =
     ap (λ (r : Result (Unit {0}) Code). made (λ _. unwrap_or (place_from 0 bodies (name_at bodies b)) 0) r) (named-free (name_at bodies b) (names-free bodies b e h))
     ∙ ap (λ (o : Option ℕ). Ok (unwrap_or o 0)) (place-name 0 bodies b e h ∙ ap (λ (x : ℕ). Some x) (zero-add b))
 
-put-written : (s : Names) (kind : Kind) (c : Cell) (e : Expr) → AreGood s → CellIs s c × ExprIs s e
+put-written : (s : Names) (kind : PutKind) (c : Cell) (e : Expr) → AreGood s → CellIs s c × ExprIs s e
     → put_of s kind (cell_word s c ∷ codes "=" ∷ expr_words s e) ≡ Ok (line.Do (action.Put kind c e))
 put-written s kind c e g h =
     ap (λ (r : Result Cell Code). made (put_line kind) (both (both r (Ok tt)) (expr_of s (expr_words s e)))) (cell-written s c g h.0)

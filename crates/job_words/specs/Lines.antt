@@ -25,8 +25,8 @@ use Rattle.std.specs.Prelude.{
 }
 use Rattle.std.specs.Str.{bytes_eq}
 use Rattle.std.specs.List.{list_all}
-use Rattle.superstep_memory.specs.declared.arrays.Kind.{Kind}
-use Rattle.superstep_memory.specs.declared.arrays.Kind.TheVariants.{Set, Add}
+use Rattle.superstep_memory.specs.declared.arrays.PutKind.{PutKind}
+use Rattle.superstep_memory.specs.declared.arrays.PutKind.TheVariants.{Set, Add}
 use Rattle.task_lang.specs.Limits.{is_expr, is_action, is_set}
 use Rattle.task_lang.specs.Mentions.{in_line}
 use Rattle.text_lines.specs.declared.refusal.Code.{Code}
@@ -77,7 +77,7 @@ abbrev pub known_in : ℕ → Option Keyword → Option Keyword
 known_in format None = None
 known_in format (Some k) = if is_of_first k || not (format == 1) then Some k else None
 
-abbrev pub kind_word : Kind → Word
+abbrev pub kind_word : PutKind → Word
 kind_word Set = codes "put"
 kind_word Add = codes "add"
 
@@ -111,7 +111,7 @@ body_at bodies w = made (λ _. unwrap_or (place_from 0 bodies w) 0) (named w)
 abbrev pub let_line : (Unit {0} × ℕ) × Expr → Line
 let_line p = line.Do (action.Let p.0.1 p.1)
 
-abbrev pub put_line : Kind → (Cell × Unit {0}) × Expr → Line
+abbrev pub put_line : PutKind → (Cell × Unit {0}) × Expr → Line
 put_line kind p = line.Do (action.Put kind p.0.0 p.1)
 
 abbrev pub spawn_line : ℕ × Expr → Line
@@ -122,7 +122,7 @@ let_of s [] = Err BadLine
 let_of s (name ∷ []) = Err BadLine
 let_of s (name ∷ is ∷ ws) = made let_line (both (both (is_equals is) (declared_at s.locals name)) (expr_of s ws))
 
-abbrev pub put_of : Names → Kind → Words → Result Line Code
+abbrev pub put_of : Names → PutKind → Words → Result Line Code
 put_of s kind [] = Err BadLine
 put_of s kind (cell ∷ []) = Err BadLine
 put_of s kind (cell ∷ is ∷ ws) = made (put_line kind) (both (both (cell_of s cell) (is_equals is)) (expr_of s ws))

@@ -6,7 +6,7 @@ ghost use Rattle.job_words.specs.Views.{lent, names_in};
 use crate::exprs::{Scope, cell_of, expr_of};
 use crate::faults::both;
 use crate::words::{declared_at, is_word, named, place, take_word};
-use superstep_memory::arrays::Kind;
+use superstep_memory::arrays::PutKind;
 use task_lang::code::{Action, Line};
 use text_lines::Code;
 
@@ -16,7 +16,7 @@ pub enum Keyword {
     /// `let`
     Let,
     /// `put`, or `add`, by what landing does with the value
-    Put(Kind),
+    Put(PutKind),
     /// `print`
     Print,
     /// `spawn`
@@ -43,9 +43,9 @@ pub fn keyword_of(word: &[u8]) -> Option<Keyword>
     if is_word(word, b"let") {
         Some(Keyword::Let)
     } else if is_word(word, b"put") {
-        Some(Keyword::Put(Kind::Set))
+        Some(Keyword::Put(PutKind::Set))
     } else if is_word(word, b"add") {
-        Some(Keyword::Put(Kind::Add))
+        Some(Keyword::Put(PutKind::Add))
     } else if is_word(word, b"print") {
         Some(Keyword::Print)
     } else if is_word(word, b"spawn") {
@@ -73,8 +73,8 @@ fn is_of_first(keyword: Keyword) -> bool
 {
     match keyword {
         Keyword::Put(kind) => match kind {
-            Kind::Set => true,
-            Kind::Add => false,
+            PutKind::Set => true,
+            PutKind::Add => false,
         },
         _ => true,
     }
@@ -134,7 +134,7 @@ fn let_of(scope: &Scope<'_>, words: &[&[u8]]) -> Result<Line, Code>
 }
 
 // What the words behind `put` or `add` say.
-fn put_of(scope: &Scope<'_>, kind: Kind, words: &[&[u8]]) -> Result<Line, Code>
+fn put_of(scope: &Scope<'_>, kind: PutKind, words: &[&[u8]]) -> Result<Line, Code>
     requires arrays { length scope.now.arrays.now ≤ 65536 }
     requires locals { length scope.now.locals.now ≤ 256 }
     ensures { result ≡ spec.put_of (names_in scope.now) kind (lent words.now) }

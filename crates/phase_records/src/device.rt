@@ -3,8 +3,8 @@ ghost use Rattle.std.specs.Prelude.{◌≡◌, ℕ, ◌+◌, ◌≤◌, ◌<◌,
 ghost use Rattle.std.specs.Io.KnownBytes.{ReadConsumes, Appends};
 ghost use Rattle.phase_records.specs.Device.{CountsFailure, TakesSome, AppendsBeginning, ReadCause, BlamesReader};
 
-use crate::asked::Asked;
 use crate::count::Count;
+use crate::metered::Metered;
 use std::alloc::Global;
 use std::io::{Read, Write};
 
@@ -53,7 +53,7 @@ pub trait CountedWrite {
 /// Any reader, with counts of its calls and its failures.
 #[derive(Drop)]
 pub struct Reader<R: Read> {
-    inner: Asked<R>,
+    inner: Metered<R>,
     failures: Count,
 }
 
@@ -65,7 +65,7 @@ impl<R: Read> Reader<R> {
         ensures failures { result.failures.count ≡ 0 }
     {
         Reader {
-            inner: Asked::new(inner),
+            inner: Metered::new(inner),
             failures: Count::new(),
         }
     }
@@ -87,7 +87,7 @@ impl<R: Read> CountedRead for Reader<R> {
 /// Any writer, with counts of its calls and its failures.
 #[derive(Drop)]
 pub struct Writer<W: Write> {
-    inner: Asked<W>,
+    inner: Metered<W>,
     failures: Count,
 }
 
@@ -99,7 +99,7 @@ impl<W: Write> Writer<W> {
         ensures failures { result.failures.count ≡ 0 }
     {
         Writer {
-            inner: Asked::new(inner),
+            inner: Metered::new(inner),
             failures: Count::new(),
         }
     }

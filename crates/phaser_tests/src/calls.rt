@@ -3,4 +3,4 @@
 pub(crate) mod ask;
 #[cfg(test)]
 pub(crate) mod call;
-pub mod slots;
+pub mod holders;

@@ -2,7 +2,7 @@
 #[cfg(test)]
 mod counts;
 #[cfg(test)]
-mod deeds;
+mod duties;
 #[cfg(test)]
 mod random;
 #[cfg(test)]

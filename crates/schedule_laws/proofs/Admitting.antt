@@ -3,7 +3,7 @@ use Rattle.std.proofs.Common.{◌≡◌, ℕ, ◌<◌, ◌∙◌, ap, subst}
 use Rattle.tier_steps.specs.Tally.{word_at}
 use Rattle.tier_steps.specs.Step.{opening}
 use Rattle.tier_steps.specs.declared.view.Errand.TheVariants.{Rest}
-use Rattle.tier_steps.specs.declared.view.Stage.TheVariants.{Seeking}
+use Rattle.tier_steps.specs.declared.view.OpeningStage.TheVariants.{Seeking}
 use Rattle.tier_core.specs.declared.call.Progress.TheVariants.{Seeking as ToSeek}
 use Rattle.tier_core.specs.declared.call.Step.TheVariants.{Go}
 use Rattle.tier_core.specs.Machine.{view_at}
@@ -13,7 +13,7 @@ use Rattle.tier_answers.proofs.Opens.{awaited_tiers_wait}
 use Rattle.schedule_laws.specs.Roles.{Role, Here, Seeks, Ready, Plays}
 use Rattle.schedule_laws.specs.Cast.{HomesAdmit}
 use Rattle.schedule_laws.proofs.Quiet.{is_forcing, goes_stay, keeps_the_cast}
-use Rattle.schedule_laws.proofs.Joining.{seated}
+use Rattle.schedule_laws.proofs.Joining.{placed}
 
 pub homes_admit : HomesAdmit
 homes_admit s roles own i home cast k h e f room =
@@ -30,5 +30,5 @@ homes_admit s roles own i home cast k h e f room =
     record {
       answer = step.answer;
       cast = keeps_the_cast s roles (Go i) (Ready home) cast tt root h
-          (seated s i home cast.core h root step.seated.tier step.seated.size step.seated.arrived step.seated.phase step.call);
+          (placed s i home cast.core h root step.placed.tier step.placed.size step.placed.arrived step.placed.phase step.call);
     }

@@ -10,8 +10,8 @@ use Rattle.flat_phaser.specs.Flat.{registered}
 use Rattle.phaser_word.specs.Phase.{next_phase_of}
 use Rattle.phase_records.specs.Status.{Limit as IsAtLimit}
 use Rattle.task_lang.specs.Meaning.{Task}
-use Rattle.tier_steps.specs.declared.view.Trip.{Trip}
-use Rattle.tier_steps.specs.declared.view.Trip.TheVariants.{Arrival, Departure}
+use Rattle.tier_steps.specs.declared.view.Passage.{Passage}
+use Rattle.tier_steps.specs.declared.view.Passage.TheVariants.{Arrival, Departure}
 use Rattle.tier_core.specs.declared.call.Answer.{Answer as TreeAnswer}
 use Rattle.tier_core.specs.declared.call.Answer.TheVariants as answer
 use Rattle.tier_core.specs.declared.call.Step.TheVariants.{Finish}
@@ -27,14 +27,14 @@ use Rattle.schedule_laws.specs.Roles.{Role, Out, Late, Polls, Here, Looks, Passe
 use Rattle.schedule_laws.specs.Cast.{role_at, IsCast, IsTurned, members_in, is_awaited, is_leading, is_settled, turned}
 use Rattle.schedule_laws.proofs.Playing.{nobody_leads, leaders_are_alone, leads_is_due, members_are_in_roles}
 use Rattle.schedule_laws.proofs.Casting.{advances_turn_the_cast}
-use Rattle.job_seats.specs.declared.stage.Stage.{Stage}
-use Rattle.job_seats.specs.declared.stage.Stage.TheVariants.{Waits, Taken, Polling, Joining, Arriving, Leaving, Over}
-use Rattle.job_seats.specs.declared.stage.Move.TheVariants.{Advances}
-use Rattle.job_seats.specs.declared.stage.Mode.TheVariants as mode
-use Rattle.job_seats.specs.SeatValue.{KidValue, SeatValue, no_seat, seat_at, kid_at, is_over, all_over, waiting, own_seat, kid_seat, living_seats}
-use Rattle.job_seats.specs.Moves.{at_stage}
+use Rattle.job_participants.specs.declared.stage.Stage.{Stage}
+use Rattle.job_participants.specs.declared.stage.Stage.TheVariants.{Waits, Taken, Polling, Joining, Arriving, Leaving, Over}
+use Rattle.job_participants.specs.declared.stage.Move.TheVariants.{Advances}
+use Rattle.job_participants.specs.declared.stage.Mode.TheVariants as mode
+use Rattle.job_participants.specs.ParticipantValue.{KidValue, ParticipantValue, no_participant, participant_at, kid_at, is_over, all_over, waiting, own_participant, kid_participant, living_participants}
+use Rattle.job_participants.specs.Moves.{at_stage}
 use Rattle.job_schedule.specs.World.{World, advanced_by, has_advanced, done_by}
-use Rattle.schedule_laws.specs.Working.{trip_if, IsOwnPassing, OwnFits, SitsAt, Sits, of_seat, of_all, AreShared, IsWorking, IsTurning}
+use Rattle.schedule_laws.specs.Working.{passage_if, IsOwnPassing, OwnFits, SitsAt, Sits, of_participant, of_all, AreShared, IsWorking, IsTurning}
 use Rattle.schedule_laws.proofs.Sharing.{own_in, known_in, others_own}
 use Rattle.schedule_laws.proofs.Calling.{one_step}
 use Rattle.schedule_laws.proofs.Turning.{IsNext, next_sits, next_shared, next_free, sum_set_same}
@@ -57,9 +57,9 @@ free_none f roles [] z a = refl
 free_none f roles (t ∷ ts) z a =
     let b = sum_by-cons (λ t. f (role_at roles t)) t ts in let c : f (role_at roles t) ≡ 0 = ap f a.0 ∙ z in let d = free_none f roles ts z a.1 in omega arith
 
-pub total : (f : Role → ℕ) (roles : List Role) (seats : List SeatValue) (free : List ℕ) (n : ℕ) → f Out ≡ 0 → AreShared seats free n → length roles ≡ n
-    → AllByRecursion (λ t. role_at roles t ≡ Out) free → sum_by f roles ≡ sum_by (of_seat (λ t. f (role_at roles t))) seats
-total f roles seats free n z shared long outs =
+pub total : (f : Role → ℕ) (roles : List Role) (participants : List ParticipantValue) (free : List ℕ) (n : ℕ) → f Out ≡ 0 → AreShared participants free n → length roles ≡ n
+    → AllByRecursion (λ t. role_at roles t ≡ Out) free → sum_by f roles ≡ sum_by (of_participant (λ t. f (role_at roles t))) participants
+total f roles participants free n z shared long outs =
     let a = roles_all f roles in let b = shared (λ t. f (role_at roles t)) in let c = free_none f roles free z outs in
     let d : of_all (length roles) (λ t. f (role_at roles t)) ≡ of_all n (λ t. f (role_at roles t)) = ap (λ (m : ℕ). of_all m (λ t. f (role_at roles t))) long in
     omega arith
@@ -83,34 +83,34 @@ kids_one f roles (k ∷ ks) h =
 abbrev pub unsettled : Role → ℕ
 unsettled r = cond (is_settled r) 0 1
 
-abbrev pub AllOver : List Role → ℕ → List SeatValue → Type 0
-AllOver roles tiers gs = (q : ℕ) → q < length gs → SitsAt Over roles tiers (seat_at gs q).token (seat_at gs q).home (seat_at gs q).kids (seat_at gs q).synced
+abbrev pub AllOver : List Role → ℕ → List ParticipantValue → Type 0
+AllOver roles tiers gs = (q : ℕ) → q < length gs → SitsAt Over roles tiers (participant_at gs q).token (participant_at gs q).home (participant_at gs q).kids (participant_at gs q).synced
 
-over_settled : (roles : List Role) (tiers : ℕ) (gs : List SeatValue) → AllOver roles tiers gs → sum_by (of_seat (λ t. unsettled (role_at roles t))) gs ≡ 0
+over_settled : (roles : List Role) (tiers : ℕ) (gs : List ParticipantValue) → AllOver roles tiers gs → sum_by (of_participant (λ t. unsettled (role_at roles t))) gs ≡ 0
 over_settled roles tiers [] h = refl
 over_settled roles tiers (g ∷ gs) h =
-    let a = sum_by-cons (of_seat (λ t. unsettled (role_at roles t))) g gs in
+    let a = sum_by-cons (of_participant (λ t. unsettled (role_at roles t))) g gs in
     let s = h 0 (omega arith) in
     let b : unsettled (role_at roles g.token) ≡ 0 = ap unsettled s.own in
     let c = kids_zero unsettled roles g.kids (λ k l. ap unsettled (s.each k l)) in
     let d = over_settled roles tiers gs (λ q l. h (suc q) (omega arith)) in omega arith
 
-own_members : (home : ℕ) (b : Bool) (g : SeatValue) → members_in (Past home (trip_if b)) ≡ length (if b then g ∷ [] else [])
+own_members : (home : ℕ) (b : Bool) (g : ParticipantValue) → members_in (Past home (passage_if b)) ≡ length (if b then g ∷ [] else [])
 own_members home true g = refl
 own_members home false g = refl
 
-pub over_members : (roles : List Role) (tiers : ℕ) (gs : List SeatValue) → AllOver roles tiers gs
-    → sum_by (of_seat (λ t. members_in (role_at roles t))) gs ≡ length (living_seats gs)
+pub over_members : (roles : List Role) (tiers : ℕ) (gs : List ParticipantValue) → AllOver roles tiers gs
+    → sum_by (of_participant (λ t. members_in (role_at roles t))) gs ≡ length (living_participants gs)
 over_members roles tiers [] h = refl
 over_members roles tiers (g ∷ gs) h =
-    let a = sum_by-cons (of_seat (λ t. members_in (role_at roles t))) g gs in
+    let a = sum_by-cons (of_participant (λ t. members_in (role_at roles t))) g gs in
     let s = h 0 (omega arith) in
-    let b : members_in (role_at roles g.token) ≡ length (own_seat g) = ap members_in s.own ∙ own_members g.home g.synced (waiting g.path g.token g.home) in
+    let b : members_in (role_at roles g.token) ≡ length (own_participant g) = ap members_in s.own ∙ own_members g.home g.synced (waiting g.path g.token g.home) in
     let c = kids_one members_in roles g.kids (λ k l. ap members_in (s.each k l)) in
     let d = over_members roles tiers gs (λ q l. h (suc q) (omega arith)) in
-    let e : length (map kid_seat g.kids) ≡ length g.kids = length-map g.kids kid_seat in
-    let i = length-append (own_seat g) (map kid_seat g.kids) in
-    let j = length-append (own_seat g ++ map kid_seat g.kids) (living_seats gs) in omega arith
+    let e : length (map kid_participant g.kids) ≡ length g.kids = length-map g.kids kid_participant in
+    let i = length-append (own_participant g) (map kid_participant g.kids) in
+    let j = length-append (own_participant g ++ map kid_participant g.kids) (living_participants gs) in omega arith
 
 none_at : (f : Role → ℕ) (rs : List Role) (j : ℕ) → sum_by f rs ≡ 0 → j < length rs → f (role_at rs j) ≡ 0
 none_at f [] j e h = absurd (omega arith)
@@ -121,7 +121,7 @@ settled_is : (b : Bool) → cond {A = ℕ} b 0 1 ≡ 0 → b ≡ true
 settled_is true e = refl
 settled_is false e = absurd (omega arith)
 
-pub all_over_is : (gs : List SeatValue) → ((q : ℕ) → q < length gs → (seat_at gs q).stage ≡ Over) → all_over gs ≡ true
+pub all_over_is : (gs : List ParticipantValue) → ((q : ℕ) → q < length gs → (participant_at gs q).stage ≡ Over) → all_over gs ≡ true
 all_over_is [] h = refl
 all_over_is (g ∷ gs) h =
     ap (λ (b : Bool). b && all_over gs) (ap is_over (h 0 (omega arith))) ∙ all_over_is gs (λ q l. h (suc q) (omega arith))
@@ -158,155 +158,155 @@ next_is phase h =
     let b : phase + 1 ≡ suc phase = omega arith in
     ap (λ (b : Bool). if b then 0 else phase + 1) a ∙ b
 
-same_turn : (home : ℕ) (trip : Trip) → turned (Past home trip) ≡ turned (Leads home trip)
+same_turn : (home : ℕ) (passage : Passage) → turned (Past home passage) ≡ turned (Leads home passage)
 same_turn home Arrival = refl
 same_turn home Departure = refl
 
-same_members : (home : ℕ) (trip : Trip) → members_in (Past home trip) ≡ members_in (Leads home trip)
+same_members : (home : ℕ) (passage : Passage) → members_in (Past home passage) ≡ members_in (Leads home passage)
 same_members home Arrival = refl
 same_members home Departure = refl
 
 -- of all that it may do, it leads
-leads_only : (home : ℕ) (trip : Trip) (own : Role) → IsOwnPassing home trip own → is_leading own ≡ true → own ≡ Leads home trip
-leads_only home trip own f e = ⊎_elim (λ (q : own ≡ Here home). not_both (is_leading own) e (ap is_leading q))
-    (λ q. ⊎_elim (λ (q : own ≡ Looks home trip). not_both (is_leading own) e (ap is_leading q))
-    (λ q. ⊎_elim (λ (q : own ≡ Passes home trip). not_both (is_leading own) e (ap is_leading q))
-    (λ q. ⊎_elim (λ (q : own ≡ Owes home trip). not_both (is_leading own) e (ap is_leading q)) (λ q. q) q) q) q) f
+leads_only : (home : ℕ) (passage : Passage) (own : Role) → IsOwnPassing home passage own → is_leading own ≡ true → own ≡ Leads home passage
+leads_only home passage own f e = ⊎_elim (λ (q : own ≡ Here home). not_both (is_leading own) e (ap is_leading q))
+    (λ q. ⊎_elim (λ (q : own ≡ Looks home passage). not_both (is_leading own) e (ap is_leading q))
+    (λ q. ⊎_elim (λ (q : own ≡ Passes home passage). not_both (is_leading own) e (ap is_leading q))
+    (λ q. ⊎_elim (λ (q : own ≡ Owes home passage). not_both (is_leading own) e (ap is_leading q)) (λ q. q) q) q) q) f
 
-module _ (parents : List ℕ) (w : World) (roles : List Role) (worker place : ℕ) (is : IsWorking parents w roles) (h : place < length w.seats)
-    (at : (seat_at w.seats place).stage ≡ Leaving) (due : may_finish w.tree (seat_at w.seats place).token ≡ true) where
-  own_known : (q : ℕ) → q < length w.seats → (seat_at w.seats q).token < length w.tree.views
-  own_known q l = known_in w.seats w.free (length w.tree.views) is.shared q (seat_at w.seats q).token l (own_in (seat_at w.seats q))
+module _ (parents : List ℕ) (w : World) (roles : List Role) (worker place : ℕ) (is : IsWorking parents w roles) (h : place < length w.participants)
+    (at : (participant_at w.participants place).stage ≡ Leaving) (due : may_finish w.tree (participant_at w.participants place).token ≡ true) where
+  own_known : (q : ℕ) → q < length w.participants → (participant_at w.participants q).token < length w.tree.views
+  own_known q l = known_in w.participants w.free (length w.tree.views) is.shared q (participant_at w.participants q).token l (own_in (participant_at w.participants q))
 
-  leading : is_leading (role_at roles (seat_at w.seats place).token) ≡ true
+  leading : is_leading (role_at roles (participant_at w.participants place).token) ≡ true
   leading =
-      let i : ℕ = (seat_at w.seats place).token in
+      let i : ℕ = (participant_at w.participants place).token in
       sym (leads_is_due w.tree i (role_at roles i) (is.cast.plays i (own_known place h))) ∙ (known_due w.tree i due).1
 
-  leads : role_at roles (seat_at w.seats place).token ≡ Leads (seat_at w.seats place).home (trip_if (seat_at w.seats place).synced)
+  leads : role_at roles (participant_at w.participants place).token ≡ Leads (participant_at w.participants place).home (passage_if (participant_at w.participants place).synced)
   leads =
-      let g : SeatValue = seat_at w.seats place in
-      leads_only g.home (trip_if g.synced) (role_at roles g.token) (sits_at parents w roles worker place is h Leaving at).own leading
+      let g : ParticipantValue = participant_at w.participants place in
+      leads_only g.home (passage_if g.synced) (role_at roles g.token) (sits_at parents w roles worker place is h Leaving at).own leading
 
   -- all others are over
-  others_over : (q : ℕ) → q < length w.seats → q ≢ place → (seat_at w.seats q).stage ≡ Over
-  others_over q l o = go (seat_at w.seats q).stage (is.sits q l).own
+  others_over : (q : ℕ) → q < length w.participants → q ≢ place → (participant_at w.participants q).stage ≡ Over
+  others_over q l o = go (participant_at w.participants q).stage (is.sits q l).own
     where
-      g : SeatValue
-      g = seat_at w.seats q
+      g : ParticipantValue
+      g = participant_at w.participants q
 
-      awaits : {A : Type 0} (r : Role) → role_at roles (seat_at w.seats q).token ≡ r → is_awaited r ≡ true → A
+      awaits : {A : Type 0} (r : Role) → role_at roles (participant_at w.participants q).token ≡ r → is_awaited r ≡ true → A
       awaits r e a =
-          not_both (is_leading (role_at roles (seat_at w.seats place).token)) leading
-          (nobody_leads w.tree roles (seat_at w.seats q).token (seat_at w.seats place).token is.cast (own_known q l) (own_known place h) (ap is_awaited e ∙ a))
+          not_both (is_leading (role_at roles (participant_at w.participants place).token)) leading
+          (nobody_leads w.tree roles (participant_at w.participants q).token (participant_at w.participants place).token is.cast (own_known q l) (own_known place h) (ap is_awaited e ∙ a))
 
-      owes : {A : Type 0} (home : ℕ) (trip : Trip)
-          → (role_at roles (seat_at w.seats q).token ≡ Owes home trip) ⊎ (role_at roles (seat_at w.seats q).token ≡ Leads home trip) → A
-      owes home trip e = absurd (leaders_are_alone w.tree roles (seat_at w.seats place).token (seat_at w.seats q).token home trip is.cast (own_known place h) (own_known q l)
-          (others_own w.seats w.free (length w.tree.views) is.shared place q (seat_at w.seats place).token h l o (own_in (seat_at w.seats place))) leading e)
+      owes : {A : Type 0} (home : ℕ) (passage : Passage)
+          → (role_at roles (participant_at w.participants q).token ≡ Owes home passage) ⊎ (role_at roles (participant_at w.participants q).token ≡ Leads home passage) → A
+      owes home passage e = absurd (leaders_are_alone w.tree roles (participant_at w.participants place).token (participant_at w.participants q).token home passage is.cast (own_known place h) (own_known q l)
+          (others_own w.participants w.free (length w.tree.views) is.shared place q (participant_at w.participants place).token h l o (own_in (participant_at w.participants place))) leading e)
 
-      go : (s : Stage) → OwnFits s (seat_at w.seats q).home (seat_at w.seats q).synced (role_at roles (seat_at w.seats q).token) → s ≡ Over
-      go Waits f = awaits (Late (seat_at w.seats q).home) f refl
-      go Taken f = awaits (Late (seat_at w.seats q).home) f refl
-      go Polling f = ⊎_elim (λ e. awaits (Late (seat_at w.seats q).home) e refl) (λ e. awaits (Polls (seat_at w.seats q).home) e refl) f
-      go (Joining n) f = awaits (Here (seat_at w.seats q).home) f refl
-      go (Arriving n) f = awaits (Here (seat_at w.seats q).home) f refl
-      go Leaving f = ⊎_elim (λ e. awaits (Here (seat_at w.seats q).home) e refl)
-          (λ e. ⊎_elim (λ e. awaits (Looks (seat_at w.seats q).home (trip_if (seat_at w.seats q).synced)) e refl)
-          (λ e. ⊎_elim (λ e. awaits (Passes (seat_at w.seats q).home (trip_if (seat_at w.seats q).synced)) e refl)
-          (λ e. owes (seat_at w.seats q).home (trip_if (seat_at w.seats q).synced) e) e) e) f
+      go : (s : Stage) → OwnFits s (participant_at w.participants q).home (participant_at w.participants q).synced (role_at roles (participant_at w.participants q).token) → s ≡ Over
+      go Waits f = awaits (Late (participant_at w.participants q).home) f refl
+      go Taken f = awaits (Late (participant_at w.participants q).home) f refl
+      go Polling f = ⊎_elim (λ e. awaits (Late (participant_at w.participants q).home) e refl) (λ e. awaits (Polls (participant_at w.participants q).home) e refl) f
+      go (Joining n) f = awaits (Here (participant_at w.participants q).home) f refl
+      go (Arriving n) f = awaits (Here (participant_at w.participants q).home) f refl
+      go Leaving f = ⊎_elim (λ e. awaits (Here (participant_at w.participants q).home) e refl)
+          (λ e. ⊎_elim (λ e. awaits (Looks (participant_at w.participants q).home (passage_if (participant_at w.participants q).synced)) e refl)
+          (λ e. ⊎_elim (λ e. awaits (Passes (participant_at w.participants q).home (passage_if (participant_at w.participants q).synced)) e refl)
+          (λ e. owes (participant_at w.participants q).home (passage_if (participant_at w.participants q).synced) e) e) e) f
       go Over f = refl
 
   -- the roles as they are once its call is done
   abbrev done_roles : List Role
-  done_roles = set roles (seat_at w.seats place).token (Past (seat_at w.seats place).home (trip_if (seat_at w.seats place).synced))
+  done_roles = set roles (participant_at w.participants place).token (Past (participant_at w.participants place).home (passage_if (participant_at w.participants place).synced))
 
-  abbrev done_seats : List SeatValue
-  done_seats = set w.seats place (at_stage (seat_at w.seats place) Over)
+  abbrev done_participants : List ParticipantValue
+  done_participants = set w.participants place (at_stage (participant_at w.participants place) Over)
 
-  is_next : IsNext w roles done_roles (length parents) place (seat_at w.seats place).token (at_stage (seat_at w.seats place) Over)
+  is_next : IsNext w roles done_roles (length parents) place (participant_at w.participants place).token (at_stage (participant_at w.participants place) Over)
   is_next =
-      let r : Role = Past (seat_at w.seats place).home (trip_if (seat_at w.seats place).synced) in
+      let r : Role = Past (participant_at w.participants place).home (passage_if (participant_at w.participants place).synced) in
       let sits = sits_at parents w roles worker place is h Leaving at in
       record {
-        mine = own_in (seat_at w.seats place);
-        same = λ j n. get_or-set_other roles (seat_at w.seats place).token j r Out n;
+        mine = own_in (participant_at w.participants place);
+        same = λ j n. get_or-set_other roles (participant_at w.participants place).token j r Out n;
         count = λ measure. refl;
         sits = record {
-          own = now_plays parents w roles worker place is h (seat_at w.seats place).token r (own_in (seat_at w.seats place));
+          own = now_plays parents w roles worker place is h (participant_at w.participants place).token r (own_in (participant_at w.participants place));
           each = λ k l. kids_stay parents w roles worker place is h r k l ∙ sits.each k l;
           turn = tt;
           homes = sits.homes;
         };
       }
 
-  stages_over : (q : ℕ) → q < length done_seats → (seat_at done_seats q).stage ≡ Over
+  stages_over : (q : ℕ) → q < length done_participants → (participant_at done_participants q).stage ≡ Over
   stages_over q l =
-      let len : length done_seats ≡ length w.seats = length-set w.seats place (at_stage (seat_at w.seats place) Over) in
+      let len : length done_participants ≡ length w.participants = length-set w.participants place (at_stage (participant_at w.participants place) Over) in
       ⊎_elim
-      (λ (e : q ≡ place). ap (λ (n : ℕ). (seat_at done_seats n).stage) e
-      ∙ ap (λ (x : SeatValue). x.stage) (get_or-set_same w.seats place (at_stage (seat_at w.seats place) Over) no_seat h))
-      (λ (o : q ≢ place). ap (λ (x : SeatValue). x.stage) (get_or-set_other w.seats place q (at_stage (seat_at w.seats place) Over) no_seat o)
+      (λ (e : q ≡ place). ap (λ (n : ℕ). (participant_at done_participants n).stage) e
+      ∙ ap (λ (x : ParticipantValue). x.stage) (get_or-set_same w.participants place (at_stage (participant_at w.participants place) Over) no_participant h))
+      (λ (o : q ≢ place). ap (λ (x : ParticipantValue). x.stage) (get_or-set_other w.participants place q (at_stage (participant_at w.participants place) Over) no_participant o)
       ∙ others_over q (omega arith) o)
       (cases_eq q place)
 
-  done_sits : (q : ℕ) → q < length done_seats → Sits done_roles (length parents) (seat_at done_seats q)
-  done_sits = next_sits w roles done_roles (length parents) place (seat_at w.seats place).token (length w.tree.views)
-      (at_stage (seat_at w.seats place) Over) is.shared h is.sits is_next
+  done_sits : (q : ℕ) → q < length done_participants → Sits done_roles (length parents) (participant_at done_participants q)
+  done_sits = next_sits w roles done_roles (length parents) place (participant_at w.participants place).token (length w.tree.views)
+      (at_stage (participant_at w.participants place) Over) is.shared h is.sits is_next
 
-  all_done : AllOver done_roles (length parents) done_seats
+  all_done : AllOver done_roles (length parents) done_participants
   all_done q l =
-      let g : SeatValue = seat_at done_seats q in
+      let g : ParticipantValue = participant_at done_participants q in
       subst (λ (s : Stage). SitsAt s done_roles (length parents) g.token g.home g.kids g.synced) (stages_over q l) (done_sits q l)
 
-  done_shared : AreShared done_seats w.free (length w.tree.views)
-  done_shared = next_shared w roles done_roles (length parents) place (seat_at w.seats place).token (length w.tree.views)
-      (at_stage (seat_at w.seats place) Over) is.shared is_next
+  done_shared : AreShared done_participants w.free (length w.tree.views)
+  done_shared = next_shared w roles done_roles (length parents) place (participant_at w.participants place).token (length w.tree.views)
+      (at_stage (participant_at w.participants place) Over) is.shared is_next
 
   done_free : AllByRecursion (λ t. role_at done_roles t ≡ Out) w.free
-  done_free = next_free w roles done_roles (length parents) place (seat_at w.seats place).token (length w.tree.views)
-      (at_stage (seat_at w.seats place) Over) is.shared h is.free is_next
+  done_free = next_free w roles done_roles (length parents) place (participant_at w.participants place).token (length w.tree.views)
+      (at_stage (participant_at w.participants place) Over) is.shared h is.free is_next
 
   done_long : length done_roles ≡ length w.tree.views
   done_long =
-      length-set roles (seat_at w.seats place).token (Past (seat_at w.seats place).home (trip_if (seat_at w.seats place).synced)) ∙ is.cast.long
+      length-set roles (participant_at w.participants place).token (Past (participant_at w.participants place).home (passage_if (participant_at w.participants place).synced)) ∙ is.cast.long
 
   settled : (j : ℕ) → j < length w.tree.views → is_settled (role_at roles j) ≡ true
   settled j l =
-      let i : ℕ = (seat_at w.seats place).token in
+      let i : ℕ = (participant_at w.participants place).token in
       let nobody : sum_by unsettled done_roles ≡ 0 =
-      total unsettled done_roles done_seats w.free (length w.tree.views) refl done_shared done_long done_free
-      ∙ over_settled done_roles (length parents) done_seats all_done in
+      total unsettled done_roles done_participants w.free (length w.tree.views) refl done_shared done_long done_free
+      ∙ over_settled done_roles (length parents) done_participants all_done in
       ⊎_elim
       (λ (e : j ≡ i). ap (λ (n : ℕ). is_settled (role_at roles n)) e ∙ ap is_settled leads)
       (λ (o : j ≢ i). ap is_settled (sym (is_next.same j o))
       ∙ settled_is (is_settled (role_at done_roles j)) (none_at unsettled done_roles j nobody (let a = done_long in omega arith)))
       (cases_eq j i)
 
-  turns : IsTurned w.tree roles (seat_at w.seats place).token
-  turns = advances_turn_the_cast w.tree roles (seat_at w.seats place).token is.cast (own_known place h) leading settled
+  turns : IsTurned w.tree roles (participant_at w.participants place).token
+  turns = advances_turn_the_cast w.tree roles (participant_at w.participants place).token is.cast (own_known place h) leading settled
 
   -- the members are as many as the tasks that live on
-  pub members_live_on : registered (flat_of w.tree) ≡ length (living_seats done_seats)
+  pub members_live_on : registered (flat_of w.tree) ≡ length (living_participants done_participants)
   members_live_on =
-      let i : ℕ = (seat_at w.seats place).token in
-      let home : ℕ = (seat_at w.seats place).home in
-      let trip : Trip = trip_if (seat_at w.seats place).synced in
+      let i : ℕ = (participant_at w.participants place).token in
+      let home : ℕ = (participant_at w.participants place).home in
+      let passage : Passage = passage_if (participant_at w.participants place).synced in
       members_are_in_roles w.tree roles is.cast
-      ∙ sym (sum_set_same members_in roles i (Past home (trip_if (seat_at w.seats place).synced)) Out
-      (same_members home (trip_if (seat_at w.seats place).synced) ∙ sym (ap members_in leads)))
-      ∙ total members_in done_roles done_seats w.free (length w.tree.views) refl done_shared done_long done_free
-      ∙ over_members done_roles (length parents) done_seats all_done
+      ∙ sym (sum_set_same members_in roles i (Past home (passage_if (participant_at w.participants place).synced)) Out
+      (same_members home (passage_if (participant_at w.participants place).synced) ∙ sym (ap members_in leads)))
+      ∙ total members_in done_roles done_participants w.free (length w.tree.views) refl done_shared done_long done_free
+      ∙ over_members done_roles (length parents) done_participants all_done
 
-  pub all_delivered : (q : ℕ) → q < length w.seats → ((seat_at w.seats q).stage ≡ Over) ⊎ ((seat_at w.seats q).stage ≡ Leaving)
+  pub all_delivered : (q : ℕ) → q < length w.participants → ((participant_at w.participants q).stage ≡ Over) ⊎ ((participant_at w.participants q).stage ≡ Leaving)
   all_delivered q l = ⊎_elim
-      (λ (e : q ≡ place). inr (ap (λ (n : ℕ). (seat_at w.seats n).stage) e ∙ at))
+      (λ (e : q ≡ place). inr (ap (λ (n : ℕ). (participant_at w.participants n).stage) e ∙ at))
       (λ (o : q ≢ place). inl (others_over q l o))
       (cases_eq q place)
 
-  told : answer_to w.tree (Finish (seat_at w.seats place).token)
-      ≡ answer.Played (finish_at w.tree (seat_at w.seats place).token (plan_ends w.tree)).answer
-  told = ap (λ (b : Bool). if b then answer.Played (finish_at w.tree (seat_at w.seats place).token (plan_ends w.tree)).answer else answer.NotNow) due
+  told : answer_to w.tree (Finish (participant_at w.participants place).token)
+      ≡ answer.Played (finish_at w.tree (participant_at w.participants place).token (plan_ends w.tree)).answer
+  told = ap (λ (b : Bool). if b then answer.Played (finish_at w.tree (participant_at w.participants place).token (plan_ends w.tree)).answer else answer.NotNow) due
 
   planned : flat_ends w.tree ≡ ((registered (flat_of w.tree) == 0) && true) || ((flat_of w.tree).phase == w.limit - 1)
   planned = ap (λ p. end_ends p (flat_of w.tree).phase (registered (flat_of w.tree) == 0)) is.built.plan
@@ -314,20 +314,20 @@ module _ (parents : List ℕ) (w : World) (roles : List Role) (worker place : �
   pub advancing_turns : w.limit ≤ 2147483648 → is_some (status w.limit w.job) ≡ false
       → (rs : List Role) × IsTurning parents (done_by w worker (Advances place)).1 rs
   advancing_turns few running =
-      let i : ℕ = (seat_at w.seats place).token in
-      let tree : Tree = after w.tree (Finish (seat_at w.seats place).token) in
-      let same = one_step w.tree (Finish (seat_at w.seats place).token) in
+      let i : ℕ = (participant_at w.participants place).token in
+      let tree : Tree = after w.tree (Finish (participant_at w.participants place).token) in
+      let same = one_step w.tree (Finish (participant_at w.participants place).token) in
       let below = running_step w.limit w.job running in
       let now = is.phase in
-      let base : IsTurning parents (has_advanced w worker place (after w.tree (Finish (seat_at w.seats place).token))) done_roles = record {
+      let base : IsTurning parents (has_advanced w worker place (after w.tree (Finish (participant_at w.participants place).token))) done_roles = record {
         built = record { shape = same.parents ∙ is.built.shape; plan = same.plan ∙ is.built.plan; leaves = is.built.leaves };
-        over = all_over_is done_seats stages_over;
+        over = all_over_is done_participants stages_over;
         sits = done_sits;
-        shared = subst (λ (n : ℕ). AreShared done_seats w.free n) (sym same.tokens) done_shared;
+        shared = subst (λ (n : ℕ). AreShared done_participants w.free n) (sym same.tokens) done_shared;
         free = done_free;
-        cast = λ e. subst (λ (rs : List Role). IsCast (after w.tree (Finish (seat_at w.seats place).token)) rs)
-            (sym (map_turned roles (seat_at w.seats place).token (Past (seat_at w.seats place).home (trip_if (seat_at w.seats place).synced))
-            (same_turn (seat_at w.seats place).home (trip_if (seat_at w.seats place).synced) ∙ sym (ap turned leads))))
+        cast = λ e. subst (λ (rs : List Role). IsCast (after w.tree (Finish (participant_at w.participants place).token)) rs)
+            (sym (map_turned roles (participant_at w.participants place).token (Past (participant_at w.participants place).home (passage_if (participant_at w.participants place).synced))
+            (same_turn (participant_at w.participants place).home (passage_if (participant_at w.participants place).synced) ∙ sym (ap turned leads))))
             (turns.cast (sym turns.ended ∙ e));
         phase = λ e.
             let c : ((flat_of w.tree).phase == w.limit - 1) ≡ false =
@@ -343,7 +343,7 @@ module _ (parents : List ℕ) (w : World) (roles : List Role) (worker place : �
             (λ (c : ((flat_of w.tree).phase == w.limit - 1) ≡ true). let d = eqb-true (flat_of w.tree).phase (w.limit - 1) c in inr (omega arith))
             (ends_by (registered (flat_of w.tree) == 0) ((flat_of w.tree).phase == w.limit - 1) (sym planned ∙ (sym turns.ended ∙ e)));
       } in
-      (done_roles, subst (λ (t : TreeAnswer). IsTurning parents (advanced_by w worker place (after w.tree (Finish (seat_at w.seats place).token)) t).1 done_roles) (sym told) base)
+      (done_roles, subst (λ (t : TreeAnswer). IsTurning parents (advanced_by w worker place (after w.tree (Finish (participant_at w.participants place).token)) t).1 done_roles) (sym told) base)
 
-  pub advancing_mode : (done_by w worker (Advances place)).1.mode ≡ mode.Advanced worker (seat_at w.seats place).token
-  advancing_mode = ap (λ (t : TreeAnswer). (advanced_by w worker place (after w.tree (Finish (seat_at w.seats place).token)) t).1.mode) told
+  pub advancing_mode : (done_by w worker (Advances place)).1.mode ≡ mode.Advanced worker (participant_at w.participants place).token
+  advancing_mode = ap (λ (t : TreeAnswer). (advanced_by w worker place (after w.tree (Finish (participant_at w.participants place).token)) t).1.mode) told

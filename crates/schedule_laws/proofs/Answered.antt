@@ -11,22 +11,22 @@ use Rattle.tier_core.specs.declared.call.Step.TheVariants.{Begin, Go, Finish}
 use Rattle.tier_core.specs.Run.{after, answer_to, may_finish, finish_at, plan_ends}
 use Rattle.step_core.specs.JobMeaning.{status, report_in}
 use Rattle.schedule_laws.specs.Roles.{Role}
-use Rattle.job_seats.specs.declared.stage.Stage.{Stage}
-use Rattle.job_seats.specs.declared.stage.Stage.TheVariants.{Waits, Taken, Polling, Joining, Arriving, Leaving, Over}
-use Rattle.job_seats.specs.declared.stage.Mode.{Mode}
-use Rattle.job_seats.specs.declared.stage.Mode.TheVariants as mode
-use Rattle.job_seats.specs.declared.stage.Move.{Move}
-use Rattle.job_seats.specs.declared.stage.Move.TheVariants.{Takes, Calls, Advances, Closes, Ends}
+use Rattle.job_participants.specs.declared.stage.Stage.{Stage}
+use Rattle.job_participants.specs.declared.stage.Stage.TheVariants.{Waits, Taken, Polling, Joining, Arriving, Leaving, Over}
+use Rattle.job_participants.specs.declared.stage.Mode.{Mode}
+use Rattle.job_participants.specs.declared.stage.Mode.TheVariants as mode
+use Rattle.job_participants.specs.declared.stage.Move.{Move}
+use Rattle.job_participants.specs.declared.stage.Move.TheVariants.{Takes, Calls, Advances, Closes, Ends}
 use Rattle.job_schedule.specs.AnswerValue.{AnswerValue, Stepped, Advanced, NotNow}
-use Rattle.job_seats.specs.SeatValue.{SeatValue, seat_at, kid_at, all_over}
-use Rattle.job_seats.specs.Moves.{by_stage}
-use Rattle.job_schedule.specs.World.{World, called_by, advanced_by, next_job, done_by, kind_of, kind_for, if_asked, by_seat, by_hand, by_mode, move_of, worker_of, reached, opening_world}
+use Rattle.job_participants.specs.ParticipantValue.{ParticipantValue, participant_at, kid_at, all_over}
+use Rattle.job_participants.specs.Moves.{by_stage}
+use Rattle.job_schedule.specs.World.{World, called_by, advanced_by, next_job, done_by, kind_of, kind_for, if_asked, by_participant, by_hand, by_mode, move_of, worker_of, reached, initial_world}
 use Rattle.job_schedule.proofs.Ending.{Ready, force_done, reached_ready}
 use Rattle.schedule_laws.specs.Working.{IsWorking, IsKept}
 use Rattle.schedule_laws.specs.Laws.{NextStepsAreAnswered}
-use Rattle.schedule_laws.proofs.Sharing.{no_seat_beyond}
+use Rattle.schedule_laws.proofs.Sharing.{no_participant_beyond}
 use Rattle.schedule_laws.proofs.Calling.{IsCalled}
-use Rattle.schedule_laws.proofs.Moving.{sits_at, poll_step, kid_step, arrival_step, own_step, trip_call}
+use Rattle.schedule_laws.proofs.Moving.{sits_at, poll_step, kid_step, arrival_step, own_step, passage_call}
 use Rattle.schedule_laws.proofs.Room.{AreFew, has_room}
 use Rattle.schedule_laws.proofs.Claiming.{kept, light}
 use Rattle.schedule_laws.proofs.Following.{closed_answer}
@@ -45,37 +45,37 @@ module _ (parents : List ℕ) (w : World) (worker : ℕ) (tiers : length parents
       stepped_told (done_by w worker (Calls place i c)).0 a
       (ap (λ (t : TreeAnswer). (called_by w worker place (after (after w.tree (Begin i c)) (Go i)) t).0) called.told)
 
-  advance_told : (place : ℕ) → may_finish w.tree (seat_at w.seats place).token ≡ true → (done_by w worker (Advances place)).0 ≢ NotNow
+  advance_told : (place : ℕ) → may_finish w.tree (participant_at w.participants place).token ≡ true → (done_by w worker (Advances place)).0 ≢ NotNow
   advance_told place due h =
-      let token : ℕ = (seat_at w.seats place).token in
-      let a : Played = (finish_at w.tree (seat_at w.seats place).token (plan_ends w.tree)).answer in
-      let is : answer_to w.tree (Finish (seat_at w.seats place).token) ≡ answer.Played (finish_at w.tree (seat_at w.seats place).token (plan_ends w.tree)).answer =
-      ap (λ (b : Bool). if b then answer.Played (finish_at w.tree (seat_at w.seats place).token (plan_ends w.tree)).answer else answer.NotNow) due in
-      let told : (done_by w worker (Advances place)).0 ≡ Advanced (finish_at w.tree (seat_at w.seats place).token (plan_ends w.tree)).answer =
-      ap (λ (t : TreeAnswer). (advanced_by w worker place (after w.tree (Finish (seat_at w.seats place).token)) t).0) is in
-      let bad : Advanced (finish_at w.tree (seat_at w.seats place).token (plan_ends w.tree)).answer ≡ NotNow = sym told ∙ h in cc
+      let token : ℕ = (participant_at w.participants place).token in
+      let a : Played = (finish_at w.tree (participant_at w.participants place).token (plan_ends w.tree)).answer in
+      let is : answer_to w.tree (Finish (participant_at w.participants place).token) ≡ answer.Played (finish_at w.tree (participant_at w.participants place).token (plan_ends w.tree)).answer =
+      ap (λ (b : Bool). if b then answer.Played (finish_at w.tree (participant_at w.participants place).token (plan_ends w.tree)).answer else answer.NotNow) due in
+      let told : (done_by w worker (Advances place)).0 ≡ Advanced (finish_at w.tree (participant_at w.participants place).token (plan_ends w.tree)).answer =
+      ap (λ (t : TreeAnswer). (advanced_by w worker place (after w.tree (Finish (participant_at w.participants place).token)) t).0) is in
+      let bad : Advanced (finish_at w.tree (participant_at w.participants place).token (plan_ends w.tree)).answer ≡ NotNow = sym told ∙ h in cc
 
   stage_told : (roles : List Role) (place : ℕ) (due : Bool) (stage : Stage) → IsWorking parents w roles → is_some (status w.limit w.job) ≡ false
-      → place < length w.seats → (seat_at w.seats place).stage ≡ stage → may_finish w.tree (seat_at w.seats place).token ≡ due
-      → IsTold w worker (by_stage (seat_at w.seats place) place due stage)
+      → place < length w.participants → (participant_at w.participants place).stage ≡ stage → may_finish w.tree (participant_at w.participants place).token ≡ due
+      → IsTold w worker (by_stage (participant_at w.participants place) place due stage)
   stage_told roles place due Waits is below h at e = tt
   stage_told roles place due Taken is below h at e = λ k. cc
   stage_told roles place due Polling is below h at e =
       let step = poll_step parents w roles worker place is h at in
-      call_told roles place (seat_at w.seats place).token call.Poll _ step.0 step.1.0 step.1.1
+      call_told roles place (participant_at w.participants place).token call.Poll _ step.0 step.1.0 step.1.1
   stage_told roles place due (Joining n) is below h at e =
       let room = has_room parents w roles place tiers (few below) is h (sits_at parents w roles worker place is h (Joining n) at).own in
       let step = kid_step parents w roles worker place is h n at room in
-      call_told roles place (kid_at (seat_at w.seats place).kids n).token (call.Join (kid_at (seat_at w.seats place).kids n).home 1) step.role step.next step.a step.called
+      call_told roles place (kid_at (participant_at w.participants place).kids n).token (call.Join (kid_at (participant_at w.participants place).kids n).home 1) step.role step.next step.a step.called
   stage_told roles place due (Arriving n) is below h at e =
       let step = arrival_step parents w roles worker place is h n at in
-      call_told roles place (kid_at (seat_at w.seats place).kids n).token call.Arrive step.0 step.1.1.0 step.1.1.1.0 step.1.1.1.1
+      call_told roles place (kid_at (participant_at w.participants place).kids n).token call.Arrive step.0 step.1.1.0 step.1.1.1.0 step.1.1.1.1
   stage_told roles place true Leaving is below h at e = advance_told place e
   stage_told roles place false Leaving is below h at e =
       let step = own_step parents w roles worker place is h at e in
-      subst (λ (c : Call). (done_by w worker (Calls place (seat_at w.seats place).token c)).0 ≢ NotNow)
-      (sym (trip_call parents w roles worker place is h (seat_at w.seats place).synced))
-      (call_told roles place (seat_at w.seats place).token _ step.0 step.1.1.0 step.1.1.1.0 step.1.1.1.1)
+      subst (λ (c : Call). (done_by w worker (Calls place (participant_at w.participants place).token c)).0 ≢ NotNow)
+      (sym (passage_call parents w roles worker place is h (participant_at w.participants place).synced))
+      (call_told roles place (participant_at w.participants place).token _ step.0 step.1.1.0 step.1.1.1.0 step.1.1.1.1)
   stage_told roles place due Over is below h at e = tt
 
   close_told : (token : ℕ) → IsTold w worker (Some (Closes token))
@@ -87,19 +87,19 @@ module _ (parents : List ℕ) (w : World) (worker : ℕ) (tiers : length parents
   taking_told false false = tt
 
   hand_told : (hand : Option ℕ) → IsKept parents w mode.Runs → IsTold w worker (by_hand w hand)
-  hand_told None k = taking_told (nat_lt w.taken (length w.seats)) (is_some (status w.limit w.job))
-  hand_told (Some place) k = by (nat_lt place (length w.seats)) refl
+  hand_told None k = taking_told (nat_lt w.taken (length w.participants)) (is_some (status w.limit w.job))
+  hand_told (Some place) k = by (nat_lt place (length w.participants)) refl
     where
-      by : (b : Bool) → nat_lt place (length w.seats) ≡ b → IsTold w worker (by_hand w (Some place))
+      by : (b : Bool) → nat_lt place (length w.participants) ≡ b → IsTold w worker (by_hand w (Some place))
       by true e = ⊎_elim
-          (λ q. let l = ltb-true place (length w.seats) e in let z = q.1 in absurd (omega arith))
-          (λ q. stage_told q.1.0 place _ (seat_at w.seats place).stage q.1.1 q.0 (ltb-true place (length w.seats) e) refl refl)
+          (λ q. let l = ltb-true place (length w.participants) e in let z = q.1 in absurd (omega arith))
+          (λ q. stage_told q.1.0 place _ (participant_at w.participants place).stage q.1.1 q.0 (ltb-true place (length w.participants) e) refl refl)
           k
-      by false e = subst (λ (g : SeatValue). IsTold w worker (by_seat w g place)) (sym (no_seat_beyond w.seats place (ltb-false place (length w.seats) e))) tt
+      by false e = subst (λ (g : ParticipantValue). IsTold w worker (by_participant w g place)) (sym (no_participant_beyond w.participants place (ltb-false place (length w.participants) e))) tt
 
   mode_told : (m : Mode) → IsKept parents w m → Ready w m → IsTold w worker (by_mode w worker m)
   mode_told mode.Runs k ready = hand_told (slice_index_or w.hands worker None) k
-  mode_told (mode.Advanced closer token) k ready = by ((worker == closer) && all_over w.seats)
+  mode_told (mode.Advanced closer token) k ready = by ((worker == closer) && all_over w.participants)
     where
       by : (b : Bool) → IsTold w worker (if b then Some (Closes token) else None)
       by true = close_told token
@@ -120,7 +120,7 @@ module _ (parents : List ℕ) (w : World) (worker : ℕ) (tiers : length parents
 
 pub next_steps_are_answered : NextStepsAreAnswered
 next_steps_are_answered p parents limit xs x m driven e same h =
-    let w : World = reached (opening_world p parents limit) xs in
+    let w : World = reached (initial_world p parents limit) xs in
     let told = move_told parents w (worker_of x) driven.tiers.few (light p parents limit driven xs) (kept p parents limit driven xs) (reached_ready p parents limit xs) in
     let mine : IsTold w (worker_of x) (Some m) = subst (λ (o : Option Move). IsTold w (worker_of x) o) e told in
     mine

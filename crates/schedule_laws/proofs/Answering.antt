@@ -1,17 +1,17 @@
 -- What a task is after an answer of a call, by its stage.
 use Rattle.std.proofs.Common.{◌≡◌, ◌≢◌, ℕ, ◌⊎◌, inl, inr, ⊎_elim, Bool, true, false, length, refl, ◌∙◌, ap, subst}
 use Rattle.std.specs.Prelude.{if◌then◌else◌}
-use Rattle.tier_steps.specs.declared.view.Trip.{Trip}
+use Rattle.tier_steps.specs.declared.view.Passage.{Passage}
 use Rattle.tier_core.specs.declared.call.Played.{Played}
 use Rattle.tier_core.specs.declared.call.Played.TheVariants.{GoesOn, Done, Passed, Waiting, Held, Full, AlreadyArrived, Ended, MustAdvance}
 use Rattle.tier_core.proofs.Turns.{not_both}
 use Rattle.schedule_laws.specs.Roles.{Role, Out, Joins, Seeks, Settles, GivesBack, Polls, Ready, Here, Looks, Passes, Owes, Leads, Past, is_refused as turns_away}
 use Rattle.schedule_laws.specs.Cast.{Follows, is_on_its_way}
-use Rattle.job_seats.specs.SeatValue.{SeatValue, is_done, is_refused, next_stage, sent_home, answered}
+use Rattle.job_participants.specs.ParticipantValue.{ParticipantValue, is_done, is_refused, next_stage, sent_home, answered}
 use Rattle.schedule_laws.specs.Working.{ComesTo}
 
 -- an answer that is done; that is refused; that is neither
-pub done_answer : (g : SeatValue) (a : Played) → is_done a ≡ true → answered g a ≡ record g { stage = next_stage g.stage (length g.kids) }
+pub done_answer : (g : ParticipantValue) (a : Played) → is_done a ≡ true → answered g a ≡ record g { stage = next_stage g.stage (length g.kids) }
 done_answer g a e = ap (λ (b : Bool). if b then record g { stage = next_stage g.stage (length g.kids) } else (if is_refused a then sent_home g g.stage else g)) e
 
 refusals : (a : Played) → turns_away a ≡ true → (is_done a ≡ false) × (is_refused a ≡ true)
@@ -37,7 +37,7 @@ done_stays (AlreadyArrived phase) e = refl
 done_stays (Ended number) e = refl
 done_stays (MustAdvance phase parties) e = refl
 
-pub refused_answer : (g : SeatValue) (a : Played) → turns_away a ≡ true → answered g a ≡ sent_home g g.stage
+pub refused_answer : (g : ParticipantValue) (a : Played) → turns_away a ≡ true → answered g a ≡ sent_home g g.stage
 refused_answer g a e =
     let r = refusals a e in
     ap (λ (b : Bool). if b then record g { stage = next_stage g.stage (length g.kids) } else (if is_refused a then sent_home g g.stage else g)) r.0
@@ -81,16 +81,16 @@ claim_next now own home r a next n is f = ⊎_elim
         (λ e. ⊎_elim (λ e. inr (inl (e.0, n, e.1))) (λ e. inr (inr (e.0, inr (inr (inr (n, inr (inr e.1))))))) e) e) e) g
 
 -- an arrival or a departure on its way
-abbrev pub IsPassing : ℕ → Trip → Role → Type 0
-IsPassing home trip r = (r ≡ Looks home trip) ⊎ (r ≡ Passes home trip) ⊎ (r ≡ Owes home trip)
+abbrev pub IsPassing : ℕ → Passage → Role → Type 0
+IsPassing home passage r = (r ≡ Looks home passage) ⊎ (r ≡ Passes home passage) ⊎ (r ≡ Owes home passage)
 
-pub passing_goes : (home : ℕ) (trip : Trip) (r : Role) → IsPassing home trip r → is_on_its_way r ≡ true
-passing_goes home trip r is = ⊎_elim (λ q. ap is_on_its_way q) (λ q. ⊎_elim (λ q. ap is_on_its_way q) (λ q. ap is_on_its_way q) q) is
+pub passing_goes : (home : ℕ) (passage : Passage) (r : Role) → IsPassing home passage r → is_on_its_way r ≡ true
+passing_goes home passage r is = ⊎_elim (λ q. ap is_on_its_way q) (λ q. ⊎_elim (λ q. ap is_on_its_way q) (λ q. ap is_on_its_way q) q) is
 
 abbrev pub goes_same : Played → Type 0
 goes_same a = (is_done a ≡ false) × (is_refused a ≡ false)
 
-pub kept_answer : (g : SeatValue) (a : Played) → goes_same a → answered g a ≡ g
+pub kept_answer : (g : ParticipantValue) (a : Played) → goes_same a → answered g a ≡ g
 kept_answer g a e =
     ap (λ (b : Bool). if b then record g { stage = next_stage g.stage (length g.kids) } else (if is_refused a then sent_home g g.stage else g)) e.0
     ∙ ap (λ (b : Bool). if b then sent_home g g.stage else g) e.1
@@ -101,18 +101,18 @@ goes_on_same a e = (ap is_done e, ap is_refused e)
 must_same : (a : Played) (phase parties : ℕ) → a ≡ MustAdvance phase parties → goes_same a
 must_same a phase parties e = (ap is_done e, ap is_refused e)
 
-abbrev pub PassEnds : ℕ → Trip → Played → Role → Type 0
-PassEnds home trip a next = ((is_done a ≡ true) × (next ≡ Past home trip)) ⊎ (goes_same a × (IsPassing home trip next ⊎ (next ≡ Leads home trip)))
+abbrev pub PassEnds : ℕ → Passage → Played → Role → Type 0
+PassEnds home passage a next = ((is_done a ≡ true) × (next ≡ Past home passage)) ⊎ (goes_same a × (IsPassing home passage next ⊎ (next ≡ Leads home passage)))
 
-pub pass_next : (now home : ℕ) (trip : Trip) (r : Role) (a : Played) (next : Role) → IsPassing home trip r → Follows now r a next → PassEnds home trip a next
-pass_next now home trip r a next is f = ⊎_elim
-    (λ (q : r ≡ Looks home trip). let g : Follows now (Looks home trip) a next = subst (λ (x : Role). Follows now x a next) q f in
+pub pass_next : (now home : ℕ) (passage : Passage) (r : Role) (a : Played) (next : Role) → IsPassing home passage r → Follows now r a next → PassEnds home passage a next
+pass_next now home passage r a next is f = ⊎_elim
+    (λ (q : r ≡ Looks home passage). let g : Follows now (Looks home passage) a next = subst (λ (x : Role). Follows now x a next) q f in
     inr (goes_on_same a g.0, inl (inr (inl g.1))))
     (λ q. ⊎_elim
-    (λ (q : r ≡ Passes home trip). let g : Follows now (Passes home trip) a next = subst (λ (x : Role). Follows now x a next) q f in
+    (λ (q : r ≡ Passes home passage). let g : Follows now (Passes home passage) a next = subst (λ (x : Role). Follows now x a next) q f in
     ⊎_elim (λ e. inr (goes_on_same a e.0, inl (inr (inl e.1)))) (λ e. ⊎_elim (λ e. inl (ap is_done e.0, e.1))
     (λ e. ⊎_elim (λ e. inr (goes_on_same a e.0, inl (inr (inr e.1)))) (λ e. inr (must_same a now e.0.0 e.0.1, inr e.1)) e) e) g)
-    (λ (q : r ≡ Owes home trip). let g : Follows now (Owes home trip) a next = subst (λ (x : Role). Follows now x a next) q f in
+    (λ (q : r ≡ Owes home passage). let g : Follows now (Owes home passage) a next = subst (λ (x : Role). Follows now x a next) q f in
     ⊎_elim (λ e. inl (ap is_done e.0.1, e.1))
     (λ e. ⊎_elim (λ e. inr (goes_on_same a e.0, inl (inr (inr e.1)))) (λ e. inr (must_same a e.0.1 e.0.0 e.0.2, inr e.1)) e) g)
     q) is

@@ -5,8 +5,8 @@ use Rattle.std.proofs.lemmas.Bool.{lt-ltb, eq-eqb, cases_eq, cases_lt}
 use Rattle.std.proofs.lemmas.List.{get_or-set_same, length-append}
 use Rattle.tier_steps.specs.declared.view.View.{View}
 use Rattle.tier_steps.specs.declared.view.Errand.TheVariants.{Advancing}
-use Rattle.tier_steps.specs.declared.view.Trip.{Trip}
-use Rattle.tier_steps.specs.declared.view.Trip.TheVariants.{Arrival, Departure}
+use Rattle.tier_steps.specs.declared.view.Passage.{Passage}
+use Rattle.tier_steps.specs.declared.view.Passage.TheVariants.{Arrival, Departure}
 use Rattle.tier_steps.specs.View.{new_view}
 use Rattle.tier_steps.specs.Tally.{word_at}
 use Rattle.tier_steps.specs.Told.{is_under_way}
@@ -53,13 +53,13 @@ late_begun s i home c is = record {
   one = is.one;
 }
 
-one_may : (s : State) (i : ℕ) (trip : Trip) → (view_at s.views i).size ≡ 1 → may_call (length s.parents) (call_by trip) (view_at s.views i) ≡ true
+one_may : (s : State) (i : ℕ) (passage : Passage) → (view_at s.views i).size ≡ 1 → may_call (length s.parents) (call_by passage) (view_at s.views i) ≡ true
 one_may s i Arrival one = ap (ltb 0) one
 one_may s i Departure one = ap (ltb 0) one
 
-trip_call : (trip : Trip) → IsCall (call_by trip)
-trip_call Arrival = tt
-trip_call Departure = tt
+passage_call : (passage : Passage) → IsCall (call_by passage)
+passage_call Arrival = tt
+passage_call Departure = tt
 
 begins : (s : State) (roles : List Role) (i : ℕ) (c : Call) (next : Role) → IsCast s roles → i < length s.views → IsCall c → Started s i c
     → Plays (begun s i c) i next
@@ -90,7 +90,7 @@ beginnings_keep_the_cast s roles i c next cast h b =
     let st = starts s i (call_by q.1) cast.core h is.1 (one_may s i q.1 is.0.late.one) in
     subst (λ (x : Role). (may_begin s i c ≡ true) × IsCast (after s (Begin i c)) (set roles i x) × ((flat_of (after s (Begin i c))).phase ≡ (flat_of s).phase)) (sym q.4)
     (subst (λ (d : Call). (may_begin s i d ≡ true) × IsCast (after s (Begin i d)) (set roles i (Looks q.0 q.1)) × ((flat_of (after s (Begin i d))).phase ≡ (flat_of s).phase)) (sym q.3)
-    (begins s roles i (call_by q.1) (Looks q.0 q.1) cast h (trip_call q.1) st
+    (begins s roles i (call_by q.1) (Looks q.0 q.1) cast h (passage_call q.1) st
     (record { late = late_begun s i q.0 (call_by q.1) is.0.late; phase = is.0.phase }, st.calls))))
     (λ q.
     let is : Plays s i Out = subst (λ (x : Role). Plays s i x) q.2 p in
@@ -117,14 +117,14 @@ others_turn s i j (Late home) core going h e may k n a b p = not_both true refl 
 others_turn s i j (Polls home) core going h e may k n a b p = not_both true refl a
 others_turn s i j (Ready home) core going h e may k n a b p = not_both true refl a
 others_turn s i j (Here home) core going h e may k n a b p = not_both true refl a
-others_turn s i j (Looks home trip) core going h e may k n a b p = not_both true refl a
-others_turn s i j (Passes home trip) core going h e may k n a b p = not_both true refl a
-others_turn s i j (Owes home trip) core going h e may k n a b p =
-    let fits = fitting s j (Owing trip) core k p.1 in
+others_turn s i j (Looks home passage) core going h e may k n a b p = not_both true refl a
+others_turn s i j (Passes home passage) core going h e may k n a b p = not_both true refl a
+others_turn s i j (Owes home passage) core going h e may k n a b p =
+    let fits = fitting s j (Owing passage) core k p.1 in
     let still = advances_are_alone s i j core going h e k n in
     not_both true refl (sym (ap is_under_way fits.2) ∙ still.errand)
-others_turn s i j (Leads home trip) core going h e may k n a b p =
-    let fits = fitting s j (Due trip) core k p.1 in
+others_turn s i j (Leads home passage) core going h e may k n a b p =
+    let fits = fitting s j (Due passage) core k p.1 in
     let still = advances_are_alone s i j core going h e k n in
     not_both true refl (sym (ap is_under_way fits) ∙ still.errand)
 others_turn s i j (Past home Arrival) core going h e may k n a b p =
@@ -158,10 +158,10 @@ leader_turns s i (Late home) core going h may e p = not_both false e refl
 leader_turns s i (Polls home) core going h may e p = not_both false e refl
 leader_turns s i (Ready home) core going h may e p = not_both false e refl
 leader_turns s i (Here home) core going h may e p = not_both false e refl
-leader_turns s i (Looks home trip) core going h may e p = not_both false e refl
-leader_turns s i (Passes home trip) core going h may e p = not_both false e refl
-leader_turns s i (Owes home trip) core going h may e p = not_both false e refl
-leader_turns s i (Past home trip) core going h may e p = not_both false e refl
+leader_turns s i (Looks home passage) core going h may e p = not_both false e refl
+leader_turns s i (Passes home passage) core going h may e p = not_both false e refl
+leader_turns s i (Owes home passage) core going h may e p = not_both false e refl
+leader_turns s i (Past home passage) core going h may e p = not_both false e refl
 leader_turns s i (Leads home Arrival) core going h may e p =
     let step = advances_keep_members s i Arrival core h p.1 in
     let next = advances_begin_the_phase s i core going may in

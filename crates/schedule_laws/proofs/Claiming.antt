@@ -24,61 +24,61 @@ use Rattle.step_core.specs.OrderValue.{is_synced, spawned_paths}
 use Rattle.step_core.specs.Laws.{paths_on, synced_path}
 use Rattle.step_core.proofs.Apart.{live-paths-rise}
 use Rattle.schedule_laws.specs.Roles.{Role}
-use Rattle.job_seats.specs.declared.stage.Stage.{Stage}
-use Rattle.job_seats.specs.declared.stage.Stage.TheVariants.{Waits, Taken, Polling, Joining, Arriving, Leaving, Over}
-use Rattle.job_seats.specs.declared.stage.Mode.{Mode}
-use Rattle.job_seats.specs.declared.stage.Mode.TheVariants as mode
-use Rattle.job_seats.specs.declared.stage.Move.{Move}
-use Rattle.job_seats.specs.declared.stage.Move.TheVariants.{Takes, Calls, Closes, Ends}
+use Rattle.job_participants.specs.declared.stage.Stage.{Stage}
+use Rattle.job_participants.specs.declared.stage.Stage.TheVariants.{Waits, Taken, Polling, Joining, Arriving, Leaving, Over}
+use Rattle.job_participants.specs.declared.stage.Mode.{Mode}
+use Rattle.job_participants.specs.declared.stage.Mode.TheVariants as mode
+use Rattle.job_participants.specs.declared.stage.Move.{Move}
+use Rattle.job_participants.specs.declared.stage.Move.TheVariants.{Takes, Calls, Closes, Ends}
 use Rattle.job_schedule.specs.declared.step.JobStep.{JobStep}
 use Rattle.job_schedule.specs.AnswerValue.{Advanced, NotNow}
-use Rattle.job_seats.specs.SeatValue.{SeatValue, seat_at, seat_path, all_over, is_delivered, kid_at, own_seat, kid_seat, living_seats}
-use Rattle.job_seats.specs.Moves.{at_stage, by_stage}
-use Rattle.job_schedule.specs.World.{World, called_by, ended_by, next_job, closed_as, done_by, kind_of, kind_for, if_asked, by_seat, by_hand, by_mode, move_of, worker_of, answer_of, reached, opening_world}
+use Rattle.job_participants.specs.ParticipantValue.{ParticipantValue, participant_at, participant_path, all_over, is_delivered, kid_at, own_participant, kid_participant, living_participants}
+use Rattle.job_participants.specs.Moves.{at_stage, by_stage}
+use Rattle.job_schedule.specs.World.{World, called_by, ended_by, next_job, closed_as, done_by, kind_of, kind_for, if_asked, by_participant, by_hand, by_mode, move_of, worker_of, answer_of, reached, initial_world}
 use Rattle.job_schedule.specs.Laws.{IsStanding}
-use Rattle.job_schedule.proofs.Jobs.{IsOf, run_is_of, opening_is_of}
-use Rattle.job_schedule.proofs.Seated.{living_paths}
-use Rattle.job_schedule.proofs.Standing.{seats_are_the_live_tasks}
+use Rattle.job_schedule.proofs.Jobs.{IsOf, run_is_of, initial_is_of}
+use Rattle.job_schedule.proofs.Participants.{living_paths}
+use Rattle.job_schedule.proofs.Standing.{participants_are_the_live_tasks}
 use Rattle.schedule_laws.specs.Working.{IsWorking, IsKept}
 use Rattle.schedule_laws.specs.Laws.{IsDriven, WorldsAreKept, IsWhole, ClosingMissesNothing, deeds, IsCounted, AdvancesAreCounted}
-use Rattle.schedule_laws.proofs.Sharing.{no_seat_beyond}
+use Rattle.schedule_laws.proofs.Sharing.{no_participant_beyond}
 use Rattle.schedule_laws.proofs.Advancing.{members_live_on, all_delivered}
 use Rattle.schedule_laws.proofs.Renewing.{over_at}
 use Rattle.schedule_laws.proofs.Few.{are_few}
 use Rattle.schedule_laws.proofs.Room.{AreFew}
-use Rattle.schedule_laws.proofs.Opening.{opening_kept}
+use Rattle.schedule_laws.proofs.Initial.{initial_kept}
 use Rattle.schedule_laws.proofs.Keeping.{run_kept}
 
 -- what all reached worlds keep
 
 module _ (p : Program) (parents : List ℕ) (limit : ℕ) (driven : IsDriven p parents limit) where
-  limited : (xs : List JobStep) → (reached (opening_world p parents limit) xs).limit ≡ limit
-  limited xs = (run_is_of p limit (opening_world p parents limit) xs (opening_is_of p parents limit)).limited
+  limited : (xs : List JobStep) → (reached (initial_world p parents limit) xs).limit ≡ limit
+  limited xs = (run_is_of p limit (initial_world p parents limit) xs (initial_is_of p parents limit)).limited
 
   not_some : {X : Type 0} (o : Option X) → is_some o ≡ false → o ≡ None
   not_some None e = refl
   not_some (Some x) e = not_both true refl e
 
-  standing : (xs : List JobStep) → is_some (status (reached (opening_world p parents limit) xs).limit (reached (opening_world p parents limit) xs).job) ≡ false
-      → IsStanding (reached (opening_world p parents limit) xs)
+  standing : (xs : List JobStep) → is_some (status (reached (initial_world p parents limit) xs).limit (reached (initial_world p parents limit) xs).job) ≡ false
+      → IsStanding (reached (initial_world p parents limit) xs)
   standing xs e =
-      seats_are_the_live_tasks p parents limit xs
-      (not_some (status limit (reached (opening_world p parents limit) xs).job)
-      (ap (λ (n : ℕ). is_some (status n (reached (opening_world p parents limit) xs).job)) (sym (limited xs)) ∙ e))
+      participants_are_the_live_tasks p parents limit xs
+      (not_some (status limit (reached (initial_world p parents limit) xs).job)
+      (ap (λ (n : ℕ). is_some (status n (reached (initial_world p parents limit) xs).job)) (sym (limited xs)) ∙ e))
 
-  pub light : (xs : List JobStep) → is_some (status (reached (opening_world p parents limit) xs).limit (reached (opening_world p parents limit) xs).job) ≡ false
-      → AreFew (reached (opening_world p parents limit) xs)
+  pub light : (xs : List JobStep) → is_some (status (reached (initial_world p parents limit) xs).limit (reached (initial_world p parents limit) xs).job) ≡ false
+      → AreFew (reached (initial_world p parents limit) xs)
   light xs e =
-      are_few p limit (reached (opening_world p parents limit) xs) driven.starts
-      (run_is_of p limit (opening_world p parents limit) xs (opening_is_of p parents limit)) (standing xs e)
+      are_few p limit (reached (initial_world p parents limit) xs) driven.starts
+      (run_is_of p limit (initial_world p parents limit) xs (initial_is_of p parents limit)) (standing xs e)
 
-  pub kept : (xs : List JobStep) → IsKept parents (reached (opening_world p parents limit) xs) (reached (opening_world p parents limit) xs).mode
+  pub kept : (xs : List JobStep) → IsKept parents (reached (initial_world p parents limit) xs) (reached (initial_world p parents limit) xs).mode
   kept xs =
-      run_kept parents (opening_world p parents limit) xs driven.tiers.few
+      run_kept parents (initial_world p parents limit) xs driven.tiers.few
       (λ ys. subst (λ (n : ℕ). n ≤ 2147483648) (sym (limited ys)) driven.few)
       light
       (λ ys e. (standing ys e).paths)
-      (opening_kept p parents limit driven)
+      (initial_kept p parents limit driven)
 
 pub worlds_are_kept : WorldsAreKept
 worlds_are_kept p parents limit xs driven = kept p parents limit driven xs
@@ -88,19 +88,19 @@ worlds_are_kept p parents limit xs driven = kept p parents limit driven xs
 whole : (parents : List ℕ) (w : World) (worker token : ℕ) → w.mode ≡ mode.Advanced worker token → IsKept parents w w.mode → IsWhole w worker token
 whole parents w worker token e k =
     let t : IsKept parents w (mode.Advanced worker token) = subst (λ (m : Mode). IsKept parents w m) e k in
-    let over : all_over w.seats ≡ true = t.2.1.over in
+    let over : all_over w.participants ≡ true = t.2.1.over in
     record {
-      delivered = λ place l. ap is_delivered (over_at w.seats place over l);
+      delivered = λ place l. ap is_delivered (over_at w.participants place over l);
       closes =
           ap (λ (b : Bool). if b then by_mode w worker w.mode else None) (lt-ltb worker 64 t.1)
           ∙ ap (by_mode w worker) e
-          ∙ ap (λ (b : Bool). if (b && all_over w.seats) then Some (Closes token) else None) (eq-eqb worker worker refl)
+          ∙ ap (λ (b : Bool). if (b && all_over w.participants) then Some (Closes token) else None) (eq-eqb worker worker refl)
           ∙ ap (λ (b : Bool). if b then Some (Closes token) else None) over;
     }
 
 pub closing_misses_nothing : ClosingMissesNothing
 closing_misses_nothing p parents limit xs worker token driven e =
-    whole parents (reached (opening_world p parents limit) xs) worker token e (kept p parents limit driven xs)
+    whole parents (reached (initial_world p parents limit) xs) worker token e (kept p parents limit driven xs)
 
 -- The advance is counted.
 
@@ -127,30 +127,30 @@ parties (s ∷ ss) e =
     spawned_long : (g : Segment) → length (spawned_paths g) ≡ length g.spawns
     spawned_long g = length-map g.spawns (λ (t : Task). t.path)
 
--- the seats of one task at another stage live on alike
-living_same : (gs : List SeatValue) (place : ℕ) (stage : Stage) → living_seats (set gs place (at_stage (seat_at gs place) stage)) ≡ living_seats gs
+-- the participants of one task at another stage live on alike
+living_same : (gs : List ParticipantValue) (place : ℕ) (stage : Stage) → living_participants (set gs place (at_stage (participant_at gs place) stage)) ≡ living_participants gs
 living_same [] place stage = refl
 living_same (g ∷ gs) zero stage = refl
-living_same (g ∷ gs) (suc place) stage = ap (λ (xs : List SeatValue). (own_seat g ++ map kid_seat g.kids) ++ xs) (living_same gs place stage)
+living_same (g ∷ gs) (suc place) stage = ap (λ (xs : List ParticipantValue). (own_participant g ++ map kid_participant g.kids) ++ xs) (living_same gs place stage)
 
 over_delivered : (stage : Stage) → (stage ≡ Over) ⊎ (stage ≡ Leaving) → is_delivered stage ≡ true
 over_delivered stage e = ⊎_elim (λ q. ap is_delivered q) (λ q. ap is_delivered q) e
 
 counted : (parents : List ℕ) (p : Program) (limit : ℕ) (w : World) (roles : List Role) (worker place : ℕ) → IsWorking parents w roles → IsStanding w → IsOf p limit w
-    → place < length w.seats → (seat_at w.seats place).stage ≡ Leaving → may_finish w.tree (seat_at w.seats place).token ≡ true → IsCounted w
+    → place < length w.participants → (participant_at w.participants place).stage ≡ Leaving → may_finish w.tree (participant_at w.participants place).token ≡ true → IsCounted w
 counted parents p limit w roles worker place is stands of h at due = record {
   phase = is.phase;
   members = λ none.
       let ss : List (List ℕ × Segment) = deeds w in
       let rising : is_rising (live_paths w.job) ≡ true = ap (λ (st : State). is_rising (live_paths st)) of.job.1 ∙ live-paths-rise p limit of.job.0 in
-      let paths : map seat_path (living_seats w.seats) ≡ paths_on (deeds w) =
-      living_paths w.program w.job.arrays w.job.step w.seats w.job.live stands.paths rising
-      (λ q l. let n = stands.noted q l (over_delivered (seat_at w.seats q).stage (all_delivered parents w roles worker place is h at due q l)) in
+      let paths : map participant_path (living_participants w.participants) ≡ paths_on (deeds w) =
+      living_paths w.program w.job.arrays w.job.step w.participants w.job.live stands.paths rising
+      (λ q l. let n = stands.noted q l (over_delivered (participant_at w.participants q).stage (all_delivered parents w roles worker place is h at due q l)) in
       record { synced = n.synced; kids = n.kids }) in
-      let a : registered (flat_of w.tree) ≡ length (living_seats w.seats) =
-      members_live_on parents w roles worker place is h at due ∙ ap length (living_same w.seats place Over) in
-      let b : length (map seat_path (living_seats w.seats)) ≡ length (living_seats w.seats) = length-map (living_seats w.seats) seat_path in
-      let c : length (map seat_path (living_seats w.seats)) ≡ length (paths_on (deeds w)) = ap length paths in
+      let a : registered (flat_of w.tree) ≡ length (living_participants w.participants) =
+      members_live_on parents w roles worker place is h at due ∙ ap length (living_same w.participants place Over) in
+      let b : length (map participant_path (living_participants w.participants)) ≡ length (living_participants w.participants) = length-map (living_participants w.participants) participant_path in
+      let c : length (map participant_path (living_participants w.participants)) ≡ length (paths_on (deeds w)) = ap length paths in
       let d = parties (deeds w) none in
       omega arith;
 }
@@ -180,17 +180,17 @@ module _ (parents : List ℕ) (p : Program) (limit : ℕ) (w : World) (worker : 
       not_called w worker place (after (after w.tree (Begin token c)) (Go token)) (answer_to (after w.tree (Begin token c)) (Go token)) played h
 
   stage_tells : (roles : List Role) (place : ℕ) (due : Bool) (stage : Stage) → IsWorking parents w roles → is_some (status w.limit w.job) ≡ false
-      → place < length w.seats → (seat_at w.seats place).stage ≡ stage
-      → may_finish w.tree (seat_at w.seats place).token ≡ due → Tells w worker (by_stage (seat_at w.seats place) place due stage)
+      → place < length w.participants → (participant_at w.participants place).stage ≡ stage
+      → may_finish w.tree (participant_at w.participants place).token ≡ due → Tells w worker (by_stage (participant_at w.participants place) place due stage)
   stage_tells roles place due Waits is below h at e = tt
   stage_tells roles place due Taken is below h at e = λ played k. cc
-  stage_tells roles place due Polling is below h at e = calls_tell place (seat_at w.seats place).token call.Poll
+  stage_tells roles place due Polling is below h at e = calls_tell place (participant_at w.participants place).token call.Poll
   stage_tells roles place due (Joining n) is below h at e =
-      calls_tell place (kid_at (seat_at w.seats place).kids n).token (call.Join (kid_at (seat_at w.seats place).kids n).home 1)
-  stage_tells roles place due (Arriving n) is below h at e = calls_tell place (kid_at (seat_at w.seats place).kids n).token call.Arrive
+      calls_tell place (kid_at (participant_at w.participants place).kids n).token (call.Join (kid_at (participant_at w.participants place).kids n).home 1)
+  stage_tells roles place due (Arriving n) is below h at e = calls_tell place (kid_at (participant_at w.participants place).kids n).token call.Arrive
   stage_tells roles place true Leaving is below h at e = λ played k. counted parents p limit w roles worker place is (stands below) of h at e
   stage_tells roles place false Leaving is below h at e =
-      calls_tell place (seat_at w.seats place).token (if (seat_at w.seats place).synced then call.Arrive else call.Leave)
+      calls_tell place (participant_at w.participants place).token (if (participant_at w.participants place).synced then call.Arrive else call.Leave)
   stage_tells roles place due Over is below h at e = tt
 
   taking_tells : (b c : Bool) → Tells w worker (if b then Some (Takes w.taken) else (if c then Some (Closes 0) else None))
@@ -199,19 +199,19 @@ module _ (parents : List ℕ) (p : Program) (limit : ℕ) (w : World) (worker : 
   taking_tells false false = tt
 
   hand_tells : (hand : Option ℕ) → IsKept parents w mode.Runs → Tells w worker (by_hand w hand)
-  hand_tells None k = taking_tells (nat_lt w.taken (length w.seats)) (is_some (status w.limit w.job))
-  hand_tells (Some place) k = by (nat_lt place (length w.seats)) refl
+  hand_tells None k = taking_tells (nat_lt w.taken (length w.participants)) (is_some (status w.limit w.job))
+  hand_tells (Some place) k = by (nat_lt place (length w.participants)) refl
     where
-      by : (b : Bool) → nat_lt place (length w.seats) ≡ b → Tells w worker (by_hand w (Some place))
+      by : (b : Bool) → nat_lt place (length w.participants) ≡ b → Tells w worker (by_hand w (Some place))
       by true e = ⊎_elim
-          (λ q. let l = ltb-true place (length w.seats) e in let z = q.1 in absurd (omega arith))
-          (λ q. stage_tells q.1.0 place _ (seat_at w.seats place).stage q.1.1 q.0 (ltb-true place (length w.seats) e) refl refl)
+          (λ q. let l = ltb-true place (length w.participants) e in let z = q.1 in absurd (omega arith))
+          (λ q. stage_tells q.1.0 place _ (participant_at w.participants place).stage q.1.1 q.0 (ltb-true place (length w.participants) e) refl refl)
           k
-      by false e = subst (λ (g : SeatValue). Tells w worker (by_seat w g place)) (sym (no_seat_beyond w.seats place (ltb-false place (length w.seats) e))) tt
+      by false e = subst (λ (g : ParticipantValue). Tells w worker (by_participant w g place)) (sym (no_participant_beyond w.participants place (ltb-false place (length w.participants) e))) tt
 
   mode_tells : (m : Mode) → IsKept parents w m → Tells w worker (by_mode w worker m)
   mode_tells mode.Runs k = hand_tells (slice_index_or w.hands worker None) k
-  mode_tells (mode.Advanced closer token) k = by ((worker == closer) && all_over w.seats)
+  mode_tells (mode.Advanced closer token) k = by ((worker == closer) && all_over w.participants)
     where
       by : (b : Bool) → Tells w worker (if b then Some (Closes token) else None)
       by true = λ played h. not_closed w worker token (next_job w) (report_in w.limit (next_job w)) played h
@@ -242,6 +242,6 @@ module _ (parents : List ℕ) (p : Program) (limit : ℕ) (w : World) (worker : 
 
 pub advances_are_counted : AdvancesAreCounted
 advances_are_counted p parents limit xs x played driven h =
-    let w : World = reached (opening_world p parents limit) xs in
-    step_tells parents p limit w (worker_of x) (run_is_of p limit (opening_world p parents limit) xs (opening_is_of p parents limit))
+    let w : World = reached (initial_world p parents limit) xs in
+    step_tells parents p limit w (worker_of x) (run_is_of p limit (initial_world p parents limit) xs (initial_is_of p parents limit))
     (standing p parents limit driven xs) x played refl (kept p parents limit driven xs) h

@@ -12,13 +12,13 @@ use Rattle.step_core.specs.OrderValue.{has_synced, spawned_paths}
 use Rattle.schedule_laws.specs.Roles.{Role, Out}
 use Rattle.schedule_laws.specs.Cast.{role_at}
 use Rattle.schedule_laws.proofs.Casting.{new_tokens_are_out}
-use Rattle.job_seats.specs.declared.stage.Stage.{Stage}
-use Rattle.job_seats.specs.declared.stage.Stage.TheVariants.{Waits, Taken, Polling}
-use Rattle.job_seats.specs.declared.stage.Move.TheVariants.{Takes, Delivers}
-use Rattle.job_seats.specs.SeatValue.{KidValue, SeatValue, no_seat, no_kid, seat_at, kid_at}
-use Rattle.job_seats.specs.Moves.{at_stage, preferred, number_in, last_number}
+use Rattle.job_participants.specs.declared.stage.Stage.{Stage}
+use Rattle.job_participants.specs.declared.stage.Stage.TheVariants.{Waits, Taken, Polling}
+use Rattle.job_participants.specs.declared.stage.Move.TheVariants.{Takes, Delivers}
+use Rattle.job_participants.specs.ParticipantValue.{KidValue, ParticipantValue, no_participant, no_kid, participant_at, kid_at}
+use Rattle.job_participants.specs.Moves.{at_stage, preferred, number_in, last_number}
 use Rattle.job_schedule.specs.World.{World, with_kid, kid_from, with_kids, noted, deed_of, done_by}
-use Rattle.schedule_laws.specs.Working.{SitsAt, Sits, of_seat, of_all, IsWorking}
+use Rattle.schedule_laws.specs.Working.{SitsAt, Sits, of_participant, of_all, IsWorking}
 use Rattle.schedule_laws.proofs.Sharing.{own_in}
 use Rattle.schedule_laws.proofs.Calling.{IsSameTree}
 use Rattle.schedule_laws.proofs.Turning.{turn_works, sits_stay}
@@ -27,18 +27,18 @@ use Rattle.schedule_laws.proofs.Moving.{is_ready, was_taken, Works}
 same_tree : (t : Tree) → IsSameTree t t
 same_tree t = record { parents = refl; plan = refl; tokens = refl }
 
-pub taking_works : (parents : List ℕ) (w : World) (roles : List Role) (worker : ℕ) → IsWorking parents w roles → w.taken < length w.seats
+pub taking_works : (parents : List ℕ) (w : World) (roles : List Role) (worker : ℕ) → IsWorking parents w roles → w.taken < length w.participants
     → IsWorking parents (done_by w worker (Takes w.taken)).1 roles
 taking_works parents w roles worker is h =
     let place : ℕ = w.taken in
-    let g : SeatValue = seat_at w.seats w.taken in
+    let g : ParticipantValue = participant_at w.participants w.taken in
     let at : g.stage ≡ Waits = is.waits w.taken (omega arith) h in
     let sits : SitsAt Waits roles (length parents) g.token g.home g.kids g.synced =
     subst (λ (s : Stage). SitsAt s roles (length parents) g.token g.home g.kids g.synced) at (is.sits w.taken h) in
-    turn_works parents w roles roles w.taken (seat_at w.seats w.taken).token (suc w.taken) (at_stage (seat_at w.seats w.taken) Taken) w.tree
+    turn_works parents w roles roles w.taken (participant_at w.participants w.taken).token (suc w.taken) (at_stage (participant_at w.participants w.taken) Taken) w.tree
     (set w.hands worker (Some w.taken)) is h (λ q l. (λ e. absurd (omega arith), omega arith))
     (record {
-      mine = own_in (seat_at w.seats w.taken);
+      mine = own_in (participant_at w.participants w.taken);
       same = λ j n. refl;
       count = λ measure. refl;
       sits = record { own = sits.own; each = sits.each; turn = tt; homes = sits.homes };
@@ -50,18 +50,18 @@ no_kids [] h = refl
 no_kids (k ∷ ks) h = absurd (h 0 (omega arith))
 
 -- the segment is known: no token yet for what it has spawned
-noted_works : (parents : List ℕ) (w : World) (roles : List Role) (place : ℕ) (synced : Bool) → IsWorking parents w roles → place < length w.seats
-    → (seat_at w.seats place).stage ≡ Taken → IsWorking parents (noted w place synced) roles
+noted_works : (parents : List ℕ) (w : World) (roles : List Role) (place : ℕ) (synced : Bool) → IsWorking parents w roles → place < length w.participants
+    → (participant_at w.participants place).stage ≡ Taken → IsWorking parents (noted w place synced) roles
 noted_works parents w roles place synced is h at =
-    let g : SeatValue = seat_at w.seats place in
+    let g : ParticipantValue = participant_at w.participants place in
     let sits : SitsAt Taken roles (length parents) g.token g.home g.kids g.synced =
     subst (λ (s : Stage). SitsAt s roles (length parents) g.token g.home g.kids g.synced) at (is.sits place h) in
     let none : g.kids ≡ [] = no_kids g.kids sits.each in
     let taken = was_taken parents w roles place is h (ap is_ready at) in
-    turn_works parents w roles roles place (seat_at w.seats place).token w.taken
-    (record (at_stage (seat_at w.seats place) Polling) { synced = synced; kids = [] }) w.tree w.hands is h (λ q l. (λ e. absurd (omega arith), l))
+    turn_works parents w roles roles place (participant_at w.participants place).token w.taken
+    (record (at_stage (participant_at w.participants place) Polling) { synced = synced; kids = [] }) w.tree w.hands is h (λ q l. (λ e. absurd (omega arith), l))
     (record {
-      mine = own_in (seat_at w.seats place);
+      mine = own_in (participant_at w.participants place);
       same = λ j n. refl;
       count = λ measure. sym (ap (λ (ks : List KidValue). measure g.token + sum_by (λ (k : KidValue). measure k.token) ks) none);
       sits = record { own = inl sits.own; each = λ k l. absurd (omega arith); turn = tt; homes = λ k l. absurd (omega arith) };
@@ -92,21 +92,21 @@ sum_set_more f (x ∷ xs) (suc p) m y d h e =
     let a = sum_by-cons f x xs in let b = sum_by-cons f x (set xs p y) in let c = sum_set_more f xs p m y d (omega arith) e in omega arith
 
 -- One spawned task has its token, which is out.
-module _ (parents : List ℕ) (w : World) (roles : List Role) (place : ℕ) (is : IsWorking parents w roles) (h : place < length w.seats)
-    (at : (seat_at w.seats place).stage ≡ Polling) where
+module _ (parents : List ℕ) (w : World) (roles : List Role) (place : ℕ) (is : IsWorking parents w roles) (h : place < length w.participants)
+    (at : (participant_at w.participants place).stage ≡ Polling) where
   some : 0 < length parents
   some = let a = is.cast.core.shape.some in let b : length w.tree.parents ≡ length parents = ap length is.built.shape in omega arith
 
-  mine : SitsAt Polling roles (length parents) (seat_at w.seats place).token (seat_at w.seats place).home (seat_at w.seats place).kids (seat_at w.seats place).synced
+  mine : SitsAt Polling roles (length parents) (participant_at w.participants place).token (participant_at w.participants place).home (participant_at w.participants place).kids (participant_at w.participants place).synced
   mine =
-      let g : SeatValue = seat_at w.seats place in
+      let g : ParticipantValue = participant_at w.participants place in
       subst (λ (s : Stage). SitsAt s roles (length parents) g.token g.home g.kids g.synced) at (is.sits place h)
 
-  -- its seat
+  -- its participant
   kid_sits : (roles' : List Role) (path : List ℕ) (token : ℕ) → ((t : ℕ) → role_at roles' t ≡ role_at roles t) → role_at roles token ≡ Out
-      → Sits roles' (length parents) (with_kid (seat_at w.seats place) w.leaves path token)
+      → Sits roles' (length parents) (with_kid (participant_at w.participants place) w.leaves path token)
   kid_sits roles' path token same out =
-      let g : SeatValue = seat_at w.seats place in
+      let g : ParticipantValue = participant_at w.participants place in
       let kid : KidValue = record { path = path; token = token; home = preferred w.leaves g.home path } in
       let kids' : List KidValue = g.kids ++ kid ∷ [] in
       let len : length kids' ≡ length g.kids + 1 = length-append g.kids (kid ∷ []) in
@@ -129,35 +129,35 @@ module _ (parents : List ℕ) (w : World) (roles : List Role) (place : ℕ) (is 
       })
 
   kid_count : (path : List ℕ) (token : ℕ) (measure : ℕ → ℕ)
-      → of_seat measure (with_kid (seat_at w.seats place) w.leaves path token) ≡ of_seat measure (seat_at w.seats place) + measure token
+      → of_participant measure (with_kid (participant_at w.participants place) w.leaves path token) ≡ of_participant measure (participant_at w.participants place) + measure token
   kid_count path token measure =
-      let g : SeatValue = seat_at w.seats place in
+      let g : ParticipantValue = participant_at w.participants place in
       let a = sum_by_push (λ (k : KidValue). measure k.token) g.kids (record { path = path; token = token; home = preferred w.leaves g.home path }) in omega arith
 
   all_sit : (roles' : List Role) (path : List ℕ) (token : ℕ) → ((t : ℕ) → role_at roles' t ≡ role_at roles t) → role_at roles token ≡ Out
-      → (q : ℕ) → q < length (set w.seats place (with_kid (seat_at w.seats place) w.leaves path token))
-      → Sits roles' (length parents) (seat_at (set w.seats place (with_kid (seat_at w.seats place) w.leaves path token)) q)
+      → (q : ℕ) → q < length (set w.participants place (with_kid (participant_at w.participants place) w.leaves path token))
+      → Sits roles' (length parents) (participant_at (set w.participants place (with_kid (participant_at w.participants place) w.leaves path token)) q)
   all_sit roles' path token same out q l =
-      let g' : SeatValue = with_kid (seat_at w.seats place) w.leaves path token in
-      let len : length (set w.seats place g') ≡ length w.seats = length-set w.seats place (with_kid (seat_at w.seats place) w.leaves path token) in
+      let g' : ParticipantValue = with_kid (participant_at w.participants place) w.leaves path token in
+      let len : length (set w.participants place g') ≡ length w.participants = length-set w.participants place (with_kid (participant_at w.participants place) w.leaves path token) in
       ⊎_elim
       (λ (e : q ≡ place).
-      subst (λ (x : SeatValue). Sits roles' (length parents) x)
-      (sym (ap (seat_at (set w.seats place (with_kid (seat_at w.seats place) w.leaves path token))) e
-      ∙ get_or-set_same w.seats place (with_kid (seat_at w.seats place) w.leaves path token) no_seat h)) (kid_sits roles' path token same out))
+      subst (λ (x : ParticipantValue). Sits roles' (length parents) x)
+      (sym (ap (participant_at (set w.participants place (with_kid (participant_at w.participants place) w.leaves path token))) e
+      ∙ get_or-set_same w.participants place (with_kid (participant_at w.participants place) w.leaves path token) no_participant h)) (kid_sits roles' path token same out))
       (λ (o : q ≢ place).
-      let x : SeatValue = seat_at w.seats q in
-      subst (λ (y : SeatValue). Sits roles' (length parents) y)
-      (sym (get_or-set_other w.seats place q (with_kid (seat_at w.seats place) w.leaves path token) no_seat o))
+      let x : ParticipantValue = participant_at w.participants q in
+      subst (λ (y : ParticipantValue). Sits roles' (length parents) y)
+      (sym (get_or-set_other w.participants place q (with_kid (participant_at w.participants place) w.leaves path token) no_participant o))
       (sits_stay x.stage roles roles' (length parents) x.token x.home x.kids x.synced (same x.token) (λ k d. same (kid_at x.kids k).token) (is.sits q (omega arith))))
       (cases_eq q place)
 
-  waits_still : (path : List ℕ) (token q : ℕ) → w.taken ≤ q → q < length (set w.seats place (with_kid (seat_at w.seats place) w.leaves path token))
-      → (seat_at (set w.seats place (with_kid (seat_at w.seats place) w.leaves path token)) q).stage ≡ Waits
+  waits_still : (path : List ℕ) (token q : ℕ) → w.taken ≤ q → q < length (set w.participants place (with_kid (participant_at w.participants place) w.leaves path token))
+      → (participant_at (set w.participants place (with_kid (participant_at w.participants place) w.leaves path token)) q).stage ≡ Waits
   waits_still path token q a b =
-      let len = length-set w.seats place (with_kid (seat_at w.seats place) w.leaves path token) in
+      let len = length-set w.participants place (with_kid (participant_at w.participants place) w.leaves path token) in
       let taken = was_taken parents w roles place is h (ap is_ready at) in
-      ap (λ (x : SeatValue). x.stage) (get_or-set_other w.seats place q (with_kid (seat_at w.seats place) w.leaves path token) no_seat (λ e. absurd (omega arith)))
+      ap (λ (x : ParticipantValue). x.stage) (get_or-set_other w.participants place q (with_kid (participant_at w.participants place) w.leaves path token) no_participant (λ e. absurd (omega arith)))
       ∙ is.waits q a (omega arith)
 
   -- a new token, or a free one
@@ -174,7 +174,7 @@ module _ (parents : List ℕ) (w : World) (roles : List Role) (place : ℕ) (is 
           sits = all_sit (roles ++ Out ∷ []) path (length w.tree.views) (out_last roles) out;
           shared = λ measure.
               let a = is.shared measure in
-              let b = sum_set_more (of_seat measure) w.seats place (measure n) (with_kid (seat_at w.seats place) w.leaves path (length w.tree.views)) no_seat h
+              let b = sum_set_more (of_participant measure) w.participants place (measure n) (with_kid (participant_at w.participants place) w.leaves path (length w.tree.views)) no_participant h
               (kid_count path (length w.tree.views) measure) in
               let one : length w.tree.views + 1 ≡ suc (length w.tree.views) = omega arith in
               let c : of_all (length (with_token w.tree).views) measure ≡ of_all (length w.tree.views) measure + measure n =
@@ -198,7 +198,7 @@ module _ (parents : List ℕ) (w : World) (roles : List Role) (place : ℕ) (is 
           sits = all_sit roles path token (λ t. refl) outs.0;
           shared = λ measure.
               let a = is.shared measure in
-              let b = sum_set_more (of_seat measure) w.seats place (measure token) (with_kid (seat_at w.seats place) w.leaves path token) no_seat h (kid_count path token measure) in
+              let b = sum_set_more (of_participant measure) w.participants place (measure token) (with_kid (participant_at w.participants place) w.leaves path token) no_participant h (kid_count path token measure) in
               let c : sum_by measure w.free ≡ sum_by measure (token ∷ free) = ap (sum_by measure) e in
               let d = sum_by-cons measure token free in
               omega arith;
@@ -207,22 +207,22 @@ module _ (parents : List ℕ) (w : World) (roles : List Role) (place : ℕ) (is 
         },
       )
 
-  -- the seat stays where it is, at its stage
-  kid_stays : (path free : List ℕ) → (place < length (kid_from w place path free).seats) × ((seat_at (kid_from w place path free).seats place).stage ≡ Polling)
+  -- the participant stays where it is, at its stage
+  kid_stays : (path free : List ℕ) → (place < length (kid_from w place path free).participants) × ((participant_at (kid_from w place path free).participants place).stage ≡ Polling)
   kid_stays path [] = set_stays path (length w.tree.views)
     where
-      set_stays : (path : List ℕ) (token : ℕ) → (place < length (set w.seats place (with_kid (seat_at w.seats place) w.leaves path token)))
-          × ((seat_at (set w.seats place (with_kid (seat_at w.seats place) w.leaves path token)) place).stage ≡ Polling)
+      set_stays : (path : List ℕ) (token : ℕ) → (place < length (set w.participants place (with_kid (participant_at w.participants place) w.leaves path token)))
+          × ((participant_at (set w.participants place (with_kid (participant_at w.participants place) w.leaves path token)) place).stage ≡ Polling)
       set_stays path token = (
-        (let len = length-set w.seats place (with_kid (seat_at w.seats place) w.leaves path token) in omega arith),
-        ap (λ (x : SeatValue). x.stage) (get_or-set_same w.seats place (with_kid (seat_at w.seats place) w.leaves path token) no_seat h) ∙ at,
+        (let len = length-set w.participants place (with_kid (participant_at w.participants place) w.leaves path token) in omega arith),
+        ap (λ (x : ParticipantValue). x.stage) (get_or-set_same w.participants place (with_kid (participant_at w.participants place) w.leaves path token) no_participant h) ∙ at,
       )
   kid_stays path (token ∷ free) = (
-    (let len = length-set w.seats place (with_kid (seat_at w.seats place) w.leaves path token) in omega arith),
-    ap (λ (x : SeatValue). x.stage) (get_or-set_same w.seats place (with_kid (seat_at w.seats place) w.leaves path token) no_seat h) ∙ at,
+    (let len = length-set w.participants place (with_kid (participant_at w.participants place) w.leaves path token) in omega arith),
+    ap (λ (x : ParticipantValue). x.stage) (get_or-set_same w.participants place (with_kid (participant_at w.participants place) w.leaves path token) no_participant h) ∙ at,
   )
 
-kids_work : (parents : List ℕ) (w : World) (place : ℕ) (paths : List (List ℕ)) → Works parents w → place < length w.seats → (seat_at w.seats place).stage ≡ Polling
+kids_work : (parents : List ℕ) (w : World) (place : ℕ) (paths : List (List ℕ)) → Works parents w → place < length w.participants → (participant_at w.participants place).stage ≡ Polling
     → Works parents (with_kids w place paths)
 kids_work parents w place [] is h at = is
 kids_work parents w place (path ∷ paths) is h at =
@@ -230,14 +230,14 @@ kids_work parents w place (path ∷ paths) is h at =
     let stays = kid_stays parents w is.0 place is.1 h at path w.free in
     kids_work parents (kid_from w place path w.free) place paths one stays.0 stays.1
 
-pub delivering_works : (parents : List ℕ) (w : World) (roles : List Role) (worker place : ℕ) → IsWorking parents w roles → place < length w.seats
-    → (seat_at w.seats place).stage ≡ Taken → Works parents (done_by w worker (Delivers place)).1
+pub delivering_works : (parents : List ℕ) (w : World) (roles : List Role) (worker place : ℕ) → IsWorking parents w roles → place < length w.participants
+    → (participant_at w.participants place).stage ≡ Taken → Works parents (done_by w worker (Delivers place)).1
 delivering_works parents w roles worker place is h at =
-    let s : Segment = deed_of w (seat_at w.seats place).path in
-    let synced : Bool = has_synced (deed_of w (seat_at w.seats place).path) in
-    let g' : SeatValue = record (at_stage (seat_at w.seats place) Polling) { synced = has_synced (deed_of w (seat_at w.seats place).path); kids = [] } in
-    kids_work parents (noted w place (has_synced (deed_of w (seat_at w.seats place).path))) place (spawned_paths (deed_of w (seat_at w.seats place).path))
-    (roles, noted_works parents w roles place (has_synced (deed_of w (seat_at w.seats place).path)) is h at)
-    (let len = length-set w.seats place (record (at_stage (seat_at w.seats place) Polling) { synced = has_synced (deed_of w (seat_at w.seats place).path); kids = [] }) in omega arith)
-    (ap (λ (x : SeatValue). x.stage) (get_or-set_same w.seats place
-    (record (at_stage (seat_at w.seats place) Polling) { synced = has_synced (deed_of w (seat_at w.seats place).path); kids = [] }) no_seat h))
+    let s : Segment = deed_of w (participant_at w.participants place).path in
+    let synced : Bool = has_synced (deed_of w (participant_at w.participants place).path) in
+    let g' : ParticipantValue = record (at_stage (participant_at w.participants place) Polling) { synced = has_synced (deed_of w (participant_at w.participants place).path); kids = [] } in
+    kids_work parents (noted w place (has_synced (deed_of w (participant_at w.participants place).path))) place (spawned_paths (deed_of w (participant_at w.participants place).path))
+    (roles, noted_works parents w roles place (has_synced (deed_of w (participant_at w.participants place).path)) is h at)
+    (let len = length-set w.participants place (record (at_stage (participant_at w.participants place) Polling) { synced = has_synced (deed_of w (participant_at w.participants place).path); kids = [] }) in omega arith)
+    (ap (λ (x : ParticipantValue). x.stage) (get_or-set_same w.participants place
+    (record (at_stage (participant_at w.participants place) Polling) { synced = has_synced (deed_of w (participant_at w.participants place).path); kids = [] }) no_participant h))

@@ -11,11 +11,11 @@ use Rattle.step_core.specs.Program.{Program}
 use Rattle.step_core.specs.Superstep.{State, segments, first_fault, too_many, overflow, or_next, fault_in, superstep, closed, next_live, live_paths}
 use Rattle.step_core.specs.JobMeaning.{status, unless_ended, so_far}
 use Rattle.step_core.specs.OrderValue.{spawned_paths}
-use Rattle.job_seats.specs.SeatValue.{SeatValue, seat_at, seat_path, kid_path}
+use Rattle.job_participants.specs.ParticipantValue.{ParticipantValue, participant_at, participant_path, kid_path}
 use Rattle.job_schedule.specs.World.{World, deed_in, deed_of}
 use Rattle.job_schedule.specs.Laws.{IsStanding}
 use Rattle.job_schedule.proofs.Jobs.{IsOf}
-use Rattle.schedule_laws.proofs.Opening.{starts_long}
+use Rattle.schedule_laws.proofs.Initial.{starts_long}
 use Rattle.schedule_laws.proofs.Room.{AreFew}
 
 step_few : (p : Program) (st : State) → length st.live ≤ 4096 → length (superstep p st).live ≤ 4096
@@ -64,20 +64,20 @@ deed_few p arrays step (t ∷ ts) path = by (bytes_eq t.path path) (deed_few p a
 
 pub are_few : (p : Program) (limit : ℕ) (w : World) → length p.starts ≤ 4096 → IsOf p limit w → IsStanding w → AreFew w
 are_few p limit w h of stands = record {
-  seats =
-      let a : length (map seat_path w.seats) ≡ length w.seats = length-map w.seats seat_path in
+  participants =
+      let a : length (map participant_path w.participants) ≡ length w.participants = length-map w.participants participant_path in
       let b : length (live_paths w.job) ≡ length w.job.live = length-map w.job.live (λ (t : Task). t.path) in
-      let c : length (map seat_path w.seats) ≡ length (live_paths w.job) = ap length stands.paths in
+      let c : length (map participant_path w.participants) ≡ length (live_paths w.job) = ap length stands.paths in
       let d = live_few p limit of.job.0 h in
       let e : length w.job.live ≡ length (so_far p limit of.job.0).live = ap (λ (st : State). length st.live) of.job.1 in
       omega arith;
   kids = λ q l d.
       let n = stands.noted q l d in
-      let g : SeatValue = seat_at w.seats q in
-      let s : Segment = deed_of w (seat_at w.seats q).path in
+      let g : ParticipantValue = participant_at w.participants q in
+      let s : Segment = deed_of w (participant_at w.participants q).path in
       let a : length (map kid_path g.kids) ≡ length g.kids = length-map g.kids kid_path in
-      let b : length (spawned_paths s) ≡ length s.spawns = length-map (deed_of w (seat_at w.seats q).path).spawns (λ (t : Task). t.path) in
+      let b : length (spawned_paths s) ≡ length s.spawns = length-map (deed_of w (participant_at w.participants q).path).spawns (λ (t : Task). t.path) in
       let c : length (map kid_path g.kids) ≡ length (spawned_paths s) = ap length n.kids in
-      let e = deed_few w.program w.job.arrays w.job.step w.job.live (seat_at w.seats q).path in
+      let e = deed_few w.program w.job.arrays w.job.step w.job.live (participant_at w.participants q).path in
       omega arith;
 }

@@ -10,14 +10,14 @@ use Rattle.tier_core.specs.declared.call.Step.TheVariants.{Begin, Go, Finish}
 use Rattle.tier_core.specs.Machine.{State as Tree}
 use Rattle.tier_core.specs.Run.{after, answer_to}
 use Rattle.step_core.specs.JobMeaning.{report_in}
-use Rattle.job_seats.specs.declared.stage.Mode.TheVariants as mode
-use Rattle.job_seats.specs.declared.stage.Move.{Move}
-use Rattle.job_seats.specs.declared.stage.Move.TheVariants.{Takes, Delivers, Calls, Advances, Closes, Ends}
+use Rattle.job_participants.specs.declared.stage.Mode.TheVariants as mode
+use Rattle.job_participants.specs.declared.stage.Move.{Move}
+use Rattle.job_participants.specs.declared.stage.Move.TheVariants.{Takes, Delivers, Calls, Advances, Closes, Ends}
 use Rattle.job_schedule.specs.declared.step.JobStep.{JobStep}
 use Rattle.job_schedule.specs.declared.step.JobStep.TheVariants.{Close}
 use Rattle.job_schedule.specs.AnswerValue.{Advanced, NotNow}
-use Rattle.job_seats.specs.SeatValue.{seat_at}
-use Rattle.job_schedule.specs.World.{World, advanced_by, next_job, closed_as, done_by, kind_of, kind_for, if_asked, move_of, worker_of, answer_of, world_after, reached, opening_world}
+use Rattle.job_participants.specs.ParticipantValue.{participant_at}
+use Rattle.job_schedule.specs.World.{World, advanced_by, next_job, closed_as, done_by, kind_of, kind_for, if_asked, move_of, worker_of, answer_of, world_after, reached, initial_world}
 use Rattle.schedule_laws.specs.Laws.{ClosesFollowAdvances}
 use Rattle.schedule_laws.proofs.Claiming.{not_called, not_forced, not_closed, closing_misses_nothing}
 
@@ -27,7 +27,7 @@ IsAdvanced worker v = (token : ℕ) × (v.mode ≡ mode.Advanced worker token)
 advanced_is : (w : World) (worker place : ℕ) (tree : Tree) (a : TreeAnswer) (played : Played) → (advanced_by w worker place tree a).0 ≡ Advanced played
     → IsAdvanced worker (advanced_by w worker place tree a).1
 advanced_is w worker place tree answer.Begun played h = cc
-advanced_is w worker place tree (answer.Played a) played h = ((seat_at w.seats place).token, refl)
+advanced_is w worker place tree (answer.Played a) played h = ((participant_at w.participants place).token, refl)
 advanced_is w worker place tree answer.NotNow played h = cc
 
 move_advances : (w : World) (worker : ℕ) (m : Move) (played : Played) → (done_by w worker m).0 ≡ Advanced played → IsAdvanced worker (done_by w worker m).1
@@ -36,7 +36,7 @@ move_advances w worker (Delivers place) played h = cc
 move_advances w worker (Calls place token c) played h =
     not_called w worker place (after (after w.tree (Begin token c)) (Go token)) (answer_to (after w.tree (Begin token c)) (Go token)) played h
 move_advances w worker (Advances place) played h =
-    advanced_is w worker place (after w.tree (Finish (seat_at w.seats place).token)) (answer_to w.tree (Finish (seat_at w.seats place).token)) played h
+    advanced_is w worker place (after w.tree (Finish (participant_at w.participants place).token)) (answer_to w.tree (Finish (participant_at w.participants place).token)) played h
 move_advances w worker (Closes token) played h = not_closed w worker token (next_job w) (report_in w.limit (next_job w)) played h
 move_advances w worker (Ends token) played h =
     not_forced w (after (after w.tree (Begin token call.Force)) (Go token)) (answer_to (after w.tree (Begin token call.Force)) (Go token)) played h
@@ -68,8 +68,8 @@ reached_last w (y ∷ xs) x = reached_last (world_after w y) xs x
 
 pub closes_follow_advances : ClosesFollowAdvances
 closes_follow_advances p parents limit xs x played driven h =
-    let w : World = reached (opening_world p parents limit) xs in
-    let last = reached_last (opening_world p parents limit) xs x in
-    let is = step_advances (reached (opening_world p parents limit) xs) x played h in
+    let w : World = reached (initial_world p parents limit) xs in
+    let last = reached_last (initial_world p parents limit) xs x in
+    let is = step_advances (reached (initial_world p parents limit) xs) x played h in
     let whole = closing_misses_nothing p parents limit (xs ++ x ∷ []) (worker_of x) is.0 driven (ap (λ (v : World). v.mode) last ∙ is.1) in
     close_answers (world_after w x) (worker_of x) is.0 (subst (λ (v : World). move_of v (worker_of x) ≡ Some (Closes is.0)) last whole.closes)

@@ -4,7 +4,7 @@ use Rattle.phaser_word.specs.Fields.{Fields}
 use Rattle.tier_steps.specs.declared.view.View.{View}
 use Rattle.tier_steps.specs.declared.view.Errand.{Errand}
 use Rattle.tier_steps.specs.declared.view.Errand.TheVariants.{Opening}
-use Rattle.tier_steps.specs.declared.view.Stage.TheVariants.{Joined, GoingBack}
+use Rattle.tier_steps.specs.declared.view.OpeningStage.TheVariants.{Joined, GoingBack}
 use Rattle.tier_steps.specs.declared.kind.Kind.TheVariants.{Look, Refuse, Join, Claim}
 use Rattle.tier_steps.specs.View.{ancestor}
 use Rattle.tier_steps.specs.Tally.{word_at}
@@ -42,9 +42,9 @@ joins_go s i home core going root p =
     )
 
 -- one member at its tier, unarrived, in no call
-pub seated : (s : State) (i home : ℕ) → IsCore s → i < length s.views → RootStays s (after s (Go i)) → (view_then s i).tier ≡ home → (view_then s i).size ≡ 1
+pub placed : (s : State) (i home : ℕ) → IsCore s → i < length s.views → RootStays s (after s (Go i)) → (view_then s i).tier ≡ home → (view_then s i).size ≡ 1
     → (view_then s i).arrived ≡ 0 → (view_then s i).phase ≡ (flat_of s).phase → call_then s i ≡ Idle → Plays (after s (Go i)) i (Ready home)
-seated s i home core h root tier size arrived phase idle =
+placed s i home core h root tier size arrived phase idle =
     let core' = core_after s (Go i) core tt in
     let known = known_after s i h in (
       record {
@@ -59,12 +59,12 @@ seated s i home core h root tier size arrived phase idle =
     )
 
 -- the join was taken: it is done, or settles the tiers that it has claimed
-seats : (s : State) (i home claimed k phase : ℕ) → IsCore s → i < length s.views → RootStays s (after s (Go i)) → (view_then s i).tier ≡ home
+participants : (s : State) (i home claimed k phase : ℕ) → IsCore s → i < length s.views → RootStays s (after s (Go i)) → (view_then s i).tier ≡ home
     → (view_then s i).size ≡ 1 → (view_then s i).arrived ≡ 0 → (view_then s i).phase ≡ (flat_of s).phase → phase ≡ (flat_of s).phase
     → call_then s i ≡ settling k → answer_then s i ≡ unless_claimed k (Done phase) → (next : Role) × Goes s i (Seeks home claimed) next
-seats s i home claimed zero phase core h root tier size arrived now here idle answer =
-    (Ready home, record { follows = inl (answer ∙ ap Done here, refl); plays = seated s i home core h root tier size arrived now idle })
-seats s i home claimed (suc k) phase core h root tier size arrived now here idle answer = (
+participants s i home claimed zero phase core h root tier size arrived now here idle answer =
+    (Ready home, record { follows = inl (answer ∙ ap Done here, refl); plays = placed s i home core h root tier size arrived now idle })
+participants s i home claimed (suc k) phase core h root tier size arrived now here idle answer = (
   Settles home,
   record {
     follows = inr (inl (answer, refl));
@@ -113,7 +113,7 @@ seeks_by s i home claimed k t core going h root within none =
       },
     ))
     (λ _ g. let here = joined_phase s t (added k 1) core within g.may.needs.1 in
-    seats s i home claimed k w.phase core h root (ap (λ (x : View). x.tier) g.view) (ap (λ (x : View). x.size) g.view)
+    participants s i home claimed k w.phase core h root (ap (λ (x : View). x.tier) g.view) (ap (λ (x : View). x.size) g.view)
     (ap (λ (x : View). x.arrived) g.view) (ap (λ (x : View). x.phase) g.view ∙ here) here g.call g.answer)))
 
 pub seeks_go : (s : State) (i home claimed : ℕ) → IsCore s → (flat_of s).ended ≡ false → RootStays s (after s (Go i)) → Plays s i (Seeks home claimed)
@@ -122,7 +122,7 @@ seeks_go s i home claimed core going root p =
     let k : ℕ = claimed_by (view_at s.views i).errand in
     let fits = fitting s i (ToSeek home 1) core p.0.known p.2 in
     seeks_by s i home claimed k (ancestor s.parents home k) core going p.0.known root
-    (subst (λ (n : ℕ). ancestor s.parents home k < n) (sym core.tally.long) (ancestor_within s.parents home k core.shape fits.1.seat))
+    (subst (λ (n : ℕ). ancestor s.parents home k < n) (sym core.tally.long) (ancestor_within s.parents home k core.shape fits.1.place))
     p.0.none (gone s i (ToSeek home 1) core p.0.known p.2 refl)
 
 -- what follows a join
@@ -130,7 +130,7 @@ settled_by : (s : State) (i home k : ℕ) → IsCore s → i < length s.views �
     → (view_then s i).size ≡ 1 → (view_then s i).arrived ≡ 0 → (view_then s i).phase ≡ (flat_of s).phase → (view_at s.views i).phase ≡ (flat_of s).phase
     → call_then s i ≡ settling k → answer_then s i ≡ unless_claimed k (Done (view_at s.views i).phase) → (next : Role) × Goes s i (Settles home) next
 settled_by s i home zero core h root tier size arrived now here idle answer =
-    (Ready home, record { follows = inl (answer ∙ ap Done here, refl); plays = seated s i home core h root tier size arrived now idle })
+    (Ready home, record { follows = inl (answer ∙ ap Done here, refl); plays = placed s i home core h root tier size arrived now idle })
 settled_by s i home (suc k) core h root tier size arrived now here idle answer =
     (Settles home, record { follows = inr (answer, refl); plays = (known_after s i h, tier, size, arrived, now ∙ sym root.phase, idle) })
 

@@ -18,19 +18,19 @@ use Rattle.step_core.specs.JobMeaning.{status, told, report_in, unless_ended}
 use Rattle.step_core.specs.OrderValue.{has_synced, spawned_paths}
 use Rattle.schedule_laws.specs.Roles.{Role}
 use Rattle.schedule_laws.specs.Cast.{turned}
-use Rattle.job_seats.specs.declared.stage.Stage.{Stage}
-use Rattle.job_seats.specs.declared.stage.Stage.TheVariants.{Waits, Taken, Polling, Joining, Arriving, Leaving, Over}
-use Rattle.job_seats.specs.declared.stage.Mode.{Mode}
-use Rattle.job_seats.specs.declared.stage.Mode.TheVariants as mode
-use Rattle.job_seats.specs.declared.stage.Move.{Move}
-use Rattle.job_seats.specs.declared.stage.Move.TheVariants.{Takes, Delivers, Calls, Advances, Closes, Ends}
+use Rattle.job_participants.specs.declared.stage.Stage.{Stage}
+use Rattle.job_participants.specs.declared.stage.Stage.TheVariants.{Waits, Taken, Polling, Joining, Arriving, Leaving, Over}
+use Rattle.job_participants.specs.declared.stage.Mode.{Mode}
+use Rattle.job_participants.specs.declared.stage.Mode.TheVariants as mode
+use Rattle.job_participants.specs.declared.stage.Move.{Move}
+use Rattle.job_participants.specs.declared.stage.Move.TheVariants.{Takes, Delivers, Calls, Advances, Closes, Ends}
 use Rattle.job_schedule.specs.declared.step.JobStep.{JobStep}
 use Rattle.job_schedule.specs.AnswerValue.{NotNow}
-use Rattle.job_seats.specs.SeatValue.{SeatValue, seat_at, seat_path, kid_at, all_over}
-use Rattle.job_seats.specs.Moves.{by_stage}
-use Rattle.job_schedule.specs.World.{World, deed_of, kid_from, with_kids, noted, called_by, advanced_by, ended_by, next_job, mode_after, closed_as, done_by, kind_of, kind_for, if_asked, by_seat, by_hand, by_mode, move_of, worker_of, world_after, reached}
+use Rattle.job_participants.specs.ParticipantValue.{ParticipantValue, participant_at, participant_path, kid_at, all_over}
+use Rattle.job_participants.specs.Moves.{by_stage}
+use Rattle.job_schedule.specs.World.{World, deed_of, kid_from, with_kids, noted, called_by, advanced_by, ended_by, next_job, mode_after, closed_as, done_by, kind_of, kind_for, if_asked, by_participant, by_hand, by_mode, move_of, worker_of, world_after, reached}
 use Rattle.schedule_laws.specs.Working.{IsWorking, IsKept}
-use Rattle.schedule_laws.proofs.Sharing.{no_seat_beyond}
+use Rattle.schedule_laws.proofs.Sharing.{no_participant_beyond}
 use Rattle.schedule_laws.proofs.Moving.{Works, sits_at, polling_works, joining_works, arriving_works, leaving_works}
 use Rattle.schedule_laws.proofs.Room.{AreFew, has_room}
 use Rattle.schedule_laws.proofs.Delivering.{taking_works, delivering_works}
@@ -84,9 +84,9 @@ over_kept parents v worker token (HasEnded steps) = tt
 over_kept parents v worker token (HasFaulted code step path) = tt
 over_kept parents v worker token (IsAtLimit steps) = tt
 
--- once a job goes on, its seats are those of its live tasks
+-- once a job goes on, its participants are those of its live tasks
 abbrev pub Stands : World → Type 0
-Stands v = is_some (status v.limit v.job) ≡ false → map seat_path v.seats ≡ live_paths v.job
+Stands v = is_some (status v.limit v.job) ≡ false → map participant_path v.participants ≡ live_paths v.job
 
 abbrev Keeps : List ℕ → World → ℕ → Option Move → Type 0
 Keeps parents w worker None = Unit {0}
@@ -100,51 +100,51 @@ module _ (parents : List ℕ) (w : World) (worker : ℕ) (few : w.limit ≤ 2147
         works_kept parents w (done_by w worker (Calls place token c)).1 runs below
         (called_same w worker place (after (after w.tree (Begin token c)) (Go token)) (answer_to (after w.tree (Begin token c)) (Go token))) works
 
-    join_room : (place n : ℕ) → place < length w.seats → (seat_at w.seats place).stage ≡ Joining n
-        → (word_at w.tree.words (seat_at w.seats place).home).parties + 1 ≤ 65535
+    join_room : (place n : ℕ) → place < length w.participants → (participant_at w.participants place).stage ≡ Joining n
+        → (word_at w.tree.words (participant_at w.participants place).home).parties + 1 ≤ 65535
     join_room place n h at =
         has_room parents w roles place tiers (light below) is h (sits_at parents w roles worker place is h (Joining n) at).own
 
-    stage_keeps : (place : ℕ) (due : Bool) (stage : Stage) → place < length w.seats → (seat_at w.seats place).stage ≡ stage
-        → may_finish w.tree (seat_at w.seats place).token ≡ due → Keeps parents w worker (by_stage (seat_at w.seats place) place due stage)
+    stage_keeps : (place : ℕ) (due : Bool) (stage : Stage) → place < length w.participants → (participant_at w.participants place).stage ≡ stage
+        → may_finish w.tree (participant_at w.participants place).token ≡ due → Keeps parents w worker (by_stage (participant_at w.participants place) place due stage)
     stage_keeps place due Waits h at e = tt
     stage_keeps place due Taken h at e = λ s.
         works_kept parents w (done_by w worker (Delivers place)).1 runs below
-        (let k = kids_same (noted w place (has_synced (deed_of w (seat_at w.seats place).path))) place (spawned_paths (deed_of w (seat_at w.seats place).path)) in
+        (let k = kids_same (noted w place (has_synced (deed_of w (participant_at w.participants place).path))) place (spawned_paths (deed_of w (participant_at w.participants place).path)) in
         record { mode = k.mode; limit = k.limit; job = k.job })
         (delivering_works parents w roles worker place is h at)
-    stage_keeps place due Polling h at e = λ s. call_kept place (seat_at w.seats place).token call.Poll (polling_works parents w roles worker place is h at)
-    stage_keeps place due (Joining n) h at e = λ s. call_kept place (kid_at (seat_at w.seats place).kids n).token (call.Join (kid_at (seat_at w.seats place).kids n).home 1)
+    stage_keeps place due Polling h at e = λ s. call_kept place (participant_at w.participants place).token call.Poll (polling_works parents w roles worker place is h at)
+    stage_keeps place due (Joining n) h at e = λ s. call_kept place (kid_at (participant_at w.participants place).kids n).token (call.Join (kid_at (participant_at w.participants place).kids n).home 1)
         (joining_works parents w roles worker place is h n at (join_room place n h at))
-    stage_keeps place due (Arriving n) h at e = λ s. call_kept place (kid_at (seat_at w.seats place).kids n).token call.Arrive (arriving_works parents w roles worker place is h n at)
+    stage_keeps place due (Arriving n) h at e = λ s. call_kept place (kid_at (participant_at w.participants place).kids n).token call.Arrive (arriving_works parents w roles worker place is h n at)
     stage_keeps place true Leaving h at e = λ s.
         subst (λ (m : Mode). IsKept parents (done_by w worker (Advances place)).1 m) (sym (advancing_mode parents w roles worker place is h at e)) (
-          advanced_status w worker place (after w.tree (Finish (seat_at w.seats place).token)) (answer_to w.tree (Finish (seat_at w.seats place).token)) below,
+          advanced_status w worker place (after w.tree (Finish (participant_at w.participants place).token)) (answer_to w.tree (Finish (participant_at w.participants place).token)) below,
           within,
           advancing_turns parents w roles worker place is h at e few below,
         )
-    stage_keeps place false Leaving h at e = λ s. call_kept place (seat_at w.seats place).token (if (seat_at w.seats place).synced then call.Arrive else call.Leave)
+    stage_keeps place false Leaving h at e = λ s. call_kept place (participant_at w.participants place).token (if (participant_at w.participants place).synced then call.Arrive else call.Leave)
         (leaving_works parents w roles worker place is h at e)
     stage_keeps place due Over h at e = tt
 
     hand_keeps : (hand : Option ℕ) → Keeps parents w worker (by_hand w hand)
-    hand_keeps None = by (nat_lt w.taken (length w.seats)) (is_some (status w.limit w.job)) refl below
+    hand_keeps None = by (nat_lt w.taken (length w.participants)) (is_some (status w.limit w.job)) refl below
       where
-        by : (b c : Bool) → nat_lt w.taken (length w.seats) ≡ b → c ≡ false
+        by : (b c : Bool) → nat_lt w.taken (length w.participants) ≡ b → c ≡ false
             → Keeps parents w worker (if b then Some (Takes w.taken) else (if c then Some (Closes 0) else None))
         by true c e f = λ s. works_kept parents w (done_by w worker (Takes w.taken)).1 runs below (record { mode = refl; limit = refl; job = refl })
-            (roles, taking_works parents w roles worker is (ltb-true w.taken (length w.seats) e))
+            (roles, taking_works parents w roles worker is (ltb-true w.taken (length w.participants) e))
         by false true e f = not_both true refl f
         by false false e f = tt
-    hand_keeps (Some place) = by (nat_lt place (length w.seats)) refl
+    hand_keeps (Some place) = by (nat_lt place (length w.participants)) refl
       where
-        by : (b : Bool) → nat_lt place (length w.seats) ≡ b → Keeps parents w worker (by_hand w (Some place))
-        by true e = stage_keeps place _ (seat_at w.seats place).stage (ltb-true place (length w.seats) e) refl refl
-        by false e = subst (λ (g : SeatValue). Keeps parents w worker (by_seat w g place)) (sym (no_seat_beyond w.seats place (ltb-false place (length w.seats) e))) tt
+        by : (b : Bool) → nat_lt place (length w.participants) ≡ b → Keeps parents w worker (by_hand w (Some place))
+        by true e = stage_keeps place _ (participant_at w.participants place).stage (ltb-true place (length w.participants) e) refl refl
+        by false e = subst (λ (g : ParticipantValue). Keeps parents w worker (by_participant w g place)) (sym (no_participant_beyond w.participants place (ltb-false place (length w.participants) e))) tt
 
   -- a job that was over as it began
-  idle_keeps : (hand : Option ℕ) → is_some (status w.limit w.job) ≡ true → length w.seats ≡ 0 → Keeps parents w worker (by_hand w hand)
-  idle_keeps None over none = by (nat_lt w.taken (length w.seats)) (is_some (status w.limit w.job)) refl
+  idle_keeps : (hand : Option ℕ) → is_some (status w.limit w.job) ≡ true → length w.participants ≡ 0 → Keeps parents w worker (by_hand w hand)
+  idle_keeps None over none = by (nat_lt w.taken (length w.participants)) (is_some (status w.limit w.job)) refl
     where
       report : (o : Option Status) → status w.limit w.job ≡ o → is_some o ≡ true
           → Kept parents (closed_as w worker 0 (unless_ended o w.job (superstep w.program w.job)) (report_in w.limit (unless_ended o w.job (superstep w.program w.job)))).1
@@ -153,19 +153,19 @@ module _ (parents : List ℕ) (w : World) (worker : ℕ) (few : w.limit ≤ 2147
           subst (λ (q : Option Status). Kept parents (closed_as w worker 0 w.job (told w.job q)).1) (sym e)
           (over_kept parents (closed_as w worker 0 w.job (told w.job (Some s))).1 worker 0 s)
 
-      by : (b c : Bool) → nat_lt w.taken (length w.seats) ≡ b → Keeps parents w worker (if b then Some (Takes w.taken) else (if c then Some (Closes 0) else None))
-      by true c e = let l = ltb-true w.taken (length w.seats) e in absurd (omega arith)
+      by : (b c : Bool) → nat_lt w.taken (length w.participants) ≡ b → Keeps parents w worker (if b then Some (Takes w.taken) else (if c then Some (Closes 0) else None))
+      by true c e = let l = ltb-true w.taken (length w.participants) e in absurd (omega arith)
       by false true e = λ s. report (status w.limit w.job) refl over
       by false false e = tt
   idle_keeps (Some place) over none =
-      subst (λ (g : SeatValue). Keeps parents w worker (by_seat w g place)) (sym (no_seat_beyond w.seats place (omega arith))) tt
+      subst (λ (g : ParticipantValue). Keeps parents w worker (by_participant w g place)) (sym (no_participant_beyond w.participants place (omega arith))) tt
 
   mode_keeps : (m : Mode) → w.mode ≡ m → IsKept parents w m → Keeps parents w worker (by_mode w worker m)
   mode_keeps mode.Runs e k = ⊎_elim
       (λ q. idle_keeps (slice_index_or w.hands worker None) q.0 q.1)
       (λ q. hand_keeps q.1.0 q.1.1 q.0 e (slice_index_or w.hands worker None))
       k
-  mode_keeps (mode.Advanced closer token) e k = by ((worker == closer) && all_over w.seats)
+  mode_keeps (mode.Advanced closer token) e k = by ((worker == closer) && all_over w.participants)
     where
       closes : (o : Option ReportValue) → report_in w.limit (next_job w) ≡ o → Stands (closed_as w worker token (next_job w) o).1
           → Kept parents (closed_as w worker token (next_job w) o).1

@@ -15,7 +15,7 @@ pub mod Advancing
 pub mod Renewing
 pub mod Room
 pub mod Keeping
-pub mod Opening
+pub mod Initial
 pub mod Few
 pub mod Claiming
 pub mod Spawning

@@ -3,8 +3,8 @@ use Rattle.std.proofs.Common.{◌≡◌, ◌≢◌, ℕ, suc, ◌<◌, ⊎_elim,
 use Rattle.std.specs.Prelude.{sum_by}
 use Rattle.std.proofs.lemmas.List.Sums.{sum_by-cons}
 use Rattle.tier_steps.specs.declared.view.View.{View}
-use Rattle.tier_steps.specs.declared.view.Trip.{Trip}
-use Rattle.tier_steps.specs.declared.view.Trip.TheVariants.{Arrival, Departure}
+use Rattle.tier_steps.specs.declared.view.Passage.{Passage}
+use Rattle.tier_steps.specs.declared.view.Passage.TheVariants.{Arrival, Departure}
 use Rattle.tier_steps.specs.View.{new_view, absent}
 use Rattle.tier_steps.specs.declared.view.Errand.TheVariants.{Advancing}
 use Rattle.tier_core.specs.declared.call.Progress.{Progress}
@@ -34,11 +34,11 @@ awaited_of s i (Late home) p e = p.0.awaited
 awaited_of s i (Polls home) p e = p.0.awaited
 awaited_of s i (Ready home) p e = p.0.late.awaited
 awaited_of s i (Here home) p e = p.0.ready.late.awaited
-awaited_of s i (Looks home trip) p e = p.0.late.awaited
-awaited_of s i (Passes home trip) p e = p.0.late.awaited
-awaited_of s i (Owes home trip) p e = not_both false e refl
-awaited_of s i (Leads home trip) p e = not_both false e refl
-awaited_of s i (Past home trip) p e = not_both false e refl
+awaited_of s i (Looks home passage) p e = p.0.late.awaited
+awaited_of s i (Passes home passage) p e = p.0.late.awaited
+awaited_of s i (Owes home passage) p e = not_both false e refl
+awaited_of s i (Leads home passage) p e = not_both false e refl
+awaited_of s i (Past home passage) p e = not_both false e refl
 
 -- a token leads exactly where its call is due
 pub leads_is_due : (s : State) (i : ℕ) (r : Role) → Plays s i r → is_due (call_at s.calls i) ≡ is_leading r
@@ -56,17 +56,17 @@ leads_is_due s i (Polls home) p = polls_not (call_at s.calls i) p.1
     polls_not (ToSeek tier size) e = refl
     polls_not Settling e = refl
     polls_not (ToGiveBack answer) e = refl
-    polls_not (Passing trip) e = refl
+    polls_not (Passing passage) e = refl
     polls_not (Owing own) e = refl
     polls_not (Due own) e = not_both false e refl
     polls_not (Refreshing moved) e = refl
 leads_is_due s i (Ready home) p = ap is_due p.1
 leads_is_due s i (Here home) p = ap is_due p.1
-leads_is_due s i (Looks home trip) p = ap is_due p.1
-leads_is_due s i (Passes home trip) p = ap is_due p.1
-leads_is_due s i (Owes home trip) p = ap is_due p.1
-leads_is_due s i (Leads home trip) p = ap is_due p.1
-leads_is_due s i (Past home trip) p = ap is_due p.1
+leads_is_due s i (Looks home passage) p = ap is_due p.1
+leads_is_due s i (Passes home passage) p = ap is_due p.1
+leads_is_due s i (Owes home passage) p = ap is_due p.1
+leads_is_due s i (Leads home passage) p = ap is_due p.1
+leads_is_due s i (Past home passage) p = ap is_due p.1
 
 -- whoever has to advance the root owes that
 pub due_owes : (ps : List ℕ) (p : Progress) (v : View) → is_due p ≡ true → CallFits ps p v → v.errand ≡ Advancing
@@ -75,7 +75,7 @@ due_owes ps (Begun c) v e fits = not_both false e refl
 due_owes ps (ToSeek tier size) v e fits = not_both false e refl
 due_owes ps Settling v e fits = not_both false e refl
 due_owes ps (ToGiveBack answer) v e fits = not_both false e refl
-due_owes ps (Passing trip) v e fits = not_both false e refl
+due_owes ps (Passing passage) v e fits = not_both false e refl
 due_owes ps (Owing own) v e fits = not_both false e refl
 due_owes ps (Due own) v e fits = fits
 due_owes ps (Refreshing moved) v e fits = not_both false e refl
@@ -87,18 +87,18 @@ nobody_leads s roles i j cast h k e =
 
 -- no other owes anything
 pub leaders_are_alone : LeadersAreAlone
-leaders_are_alone s roles i j home trip cast h k n leads e =
+leaders_are_alone s roles i j home passage cast h k n leads e =
     let due : is_due (call_at s.calls i) ≡ true = leads_is_due s i (role_at roles i) (cast.plays i h) ∙ leads in
     let owes = due_owes s.parents (call_at s.calls i) (view_at s.views i) due (cast.core.calls i h) in
     let still = advances_are_alone s i j cast.core cast.going h owes k n in
     ⊎_elim
-    (λ (q : role_at roles j ≡ Owes home trip).
-    let p : Plays s j (Owes home trip) = subst (λ (r : Role). Plays s j r) q (cast.plays j k) in
-    let fits = fitting s j (Owing trip) cast.core k p.1 in
+    (λ (q : role_at roles j ≡ Owes home passage).
+    let p : Plays s j (Owes home passage) = subst (λ (r : Role). Plays s j r) q (cast.plays j k) in
+    let fits = fitting s j (Owing passage) cast.core k p.1 in
     not_both true refl (sym (ap is_under_way fits.2) ∙ still.errand))
-    (λ (q : role_at roles j ≡ Leads home trip).
-    let p : Plays s j (Leads home trip) = subst (λ (r : Role). Plays s j r) q (cast.plays j k) in
-    let fits = fitting s j (Due trip) cast.core k p.1 in
+    (λ (q : role_at roles j ≡ Leads home passage).
+    let p : Plays s j (Leads home passage) = subst (λ (r : Role). Plays s j r) q (cast.plays j k) in
+    let fits = fitting s j (Due passage) cast.core k p.1 in
     not_both true refl (sym (ap is_under_way fits) ∙ still.errand))
     e
 
@@ -113,8 +113,8 @@ size_of s i (Late home) p = p.0.one
 size_of s i (Polls home) p = p.0.one
 size_of s i (Ready home) p = p.0.late.one
 size_of s i (Here home) p = p.0.ready.late.one
-size_of s i (Looks home trip) p = p.0.late.one
-size_of s i (Passes home trip) p = p.0.late.one
+size_of s i (Looks home passage) p = p.0.late.one
+size_of s i (Passes home passage) p = p.0.late.one
 size_of s i (Owes home Arrival) p = p.0.2
 size_of s i (Owes home Departure) p = p.0.1
 size_of s i (Leads home Arrival) p = p.0.2
@@ -176,10 +176,10 @@ ready_stays s s' i home same root is = record {
 pub home_within : (s : State) (i home : ℕ) → IsCore s → IsLate s i home → home < length s.words
 home_within s i home core is =
     let one = is.one in
-    let seat : (view_at s.views i).tier < length s.parents = (fits_at s i core is.awaited.known).seated (omega arith) in
-    subst (λ (n : ℕ). home < n) (sym core.tally.long) (subst (λ (t : ℕ). t < length s.parents) is.tier seat)
+    let place : (view_at s.views i).tier < length s.parents = (fits_at s i core is.awaited.known).placed (omega arith) in
+    subst (λ (n : ℕ). home < n) (sym core.tally.long) (subst (λ (t : ℕ). t < length s.parents) is.tier place)
 
-counted_stays : (s s' : State) (i home : ℕ) (trip : Trip) → IsKept i s s' → RootStays s s' → HasCounted s i home trip → HasCounted s' i home trip
+counted_stays : (s s' : State) (i home : ℕ) (passage : Passage) → IsKept i s s' → RootStays s s' → HasCounted s i home passage → HasCounted s' i home passage
 counted_stays s s' i home Arrival same root is = (
   same.known,
   ap (λ (v : View). v.tier) same.view ∙ is.1,
@@ -215,8 +215,8 @@ plays_stay s s' i (Here home) core same root p = (
   },
   same.call ∙ p.1,
 )
-plays_stay s s' i (Looks home trip) core same root p = (ready_stays s s' i home same root p.0, same.call ∙ p.1)
-plays_stay s s' i (Passes home trip) core same root p = (ready_stays s s' i home same root p.0, same.call ∙ p.1)
-plays_stay s s' i (Owes home trip) core same root p = (counted_stays s s' i home trip same root p.0, same.call ∙ p.1)
-plays_stay s s' i (Leads home trip) core same root p = (counted_stays s s' i home trip same root p.0, same.call ∙ p.1)
-plays_stay s s' i (Past home trip) core same root p = (counted_stays s s' i home trip same root p.0, same.call ∙ p.1)
+plays_stay s s' i (Looks home passage) core same root p = (ready_stays s s' i home same root p.0, same.call ∙ p.1)
+plays_stay s s' i (Passes home passage) core same root p = (ready_stays s s' i home same root p.0, same.call ∙ p.1)
+plays_stay s s' i (Owes home passage) core same root p = (counted_stays s s' i home passage same root p.0, same.call ∙ p.1)
+plays_stay s s' i (Leads home passage) core same root p = (counted_stays s s' i home passage same root p.0, same.call ∙ p.1)
+plays_stay s s' i (Past home passage) core same root p = (counted_stays s s' i home passage same root p.0, same.call ∙ p.1)

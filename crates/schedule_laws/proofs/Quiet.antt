@@ -8,8 +8,8 @@ use Rattle.flat_phaser.specs.declared.FlatStep.{FlatStep}
 use Rattle.tier_steps.specs.declared.view.View.{View}
 use Rattle.tier_steps.specs.declared.view.Errand.{Errand}
 use Rattle.tier_steps.specs.declared.view.Errand.TheVariants.{Rest, Opening, Climbing, Advancing}
-use Rattle.tier_steps.specs.declared.view.Trip.{Trip}
-use Rattle.tier_steps.specs.declared.view.Trip.TheVariants.{Arrival, Departure}
+use Rattle.tier_steps.specs.declared.view.Passage.{Passage}
+use Rattle.tier_steps.specs.declared.view.Passage.TheVariants.{Arrival, Departure}
 use Rattle.tier_steps.specs.declared.kind.Kind.{Kind}
 use Rattle.tier_steps.specs.declared.kind.Kind.TheVariants.{Look, Glance, Refuse, Join, Claim, Climb, Refresh}
 use Rattle.tier_steps.specs.View.{ancestor}
@@ -48,7 +48,7 @@ is_forcing (Begun call.Force) = true
 is_forcing (ToSeek tier size) = false
 is_forcing Settling = false
 is_forcing (ToGiveBack answer) = false
-is_forcing (Passing trip) = false
+is_forcing (Passing passage) = false
 is_forcing (Owing own) = false
 is_forcing (Due own) = false
 is_forcing (Refreshing moved) = false
@@ -66,35 +66,35 @@ IsQuietTurn i r = IsQuiet i r.kind
 settles_quietly : (i : ℕ) (ps : List ℕ) (v : View) (e : Errand) → IsQuietTurn i (settle_turn ps v e)
 settles_quietly i ps v Rest = refl
 settles_quietly i ps v Advancing = refl
-settles_quietly i ps v (Climbing t trip) = refl
+settles_quietly i ps v (Climbing t passage) = refl
 settles_quietly i ps v (Opening tier zero stage size) = refl
 settles_quietly i ps v (Opening tier (suc n) stage size) = refl
 
 gives_back_quietly : (i : ℕ) (ps : List ℕ) (a : Played) (e : Errand) → IsQuietTurn i (give_back_turn ps a e)
 gives_back_quietly i ps a Rest = refl
 gives_back_quietly i ps a Advancing = refl
-gives_back_quietly i ps a (Climbing t trip) = refl
+gives_back_quietly i ps a (Climbing t passage) = refl
 gives_back_quietly i ps a (Opening tier zero stage size) = refl
 gives_back_quietly i ps a (Opening tier (suc n) stage size) = refl
 
-own_quiet : (i : ℕ) (trip : Trip) → IsQuiet i (own_kind trip)
+own_quiet : (i : ℕ) (passage : Passage) → IsQuiet i (own_kind passage)
 own_quiet i Arrival = refl
 own_quiet i Departure = refl
 
-passes_quietly : (i : ℕ) (ps : List ℕ) (own : Trip) (t : ℕ) (trip : Trip) (k : Kind) (here : Progress) (over : Played) (w : Fields) (v : View)
-    → IsQuiet i k → IsQuietTurn i (pass_turn ps own t trip k here over w v)
-passes_quietly i ps own t trip k here over w v q =
-    let e : Errand = owed (parent_of ps t) t trip w in
+passes_quietly : (i : ℕ) (ps : List ℕ) (own : Passage) (t : ℕ) (passage : Passage) (k : Kind) (here : Progress) (over : Played) (w : Fields) (v : View)
+    → IsQuiet i k → IsQuietTurn i (pass_turn ps own t passage k here over w v)
+passes_quietly i ps own t passage k here over w v q =
+    let e : Errand = owed (parent_of ps t) t passage w in
     let wait : Turn = record { kind = Refresh; tier = t; next = here; answer = GoesOn } in
-    let go : Turn = record { kind = k; tier = t; next = goes_on own (owed (parent_of ps t) t trip w); answer = told v.phase (passed t trip w).parties (owed (parent_of ps t) t trip w) } in
+    let go : Turn = record { kind = k; tier = t; next = goes_on own (owed (parent_of ps t) t passage w); answer = told v.phase (passed t passage w).parties (owed (parent_of ps t) t passage w) } in
     either_way (IsQuietTurn i) w.ended (last_look over) (cond (lags w v) wait go) refl
     (either_way (IsQuietTurn i) (lags w v) wait go refl q)
 
-climbs_quietly : (i : ℕ) (ps : List ℕ) (own : Trip) (w : Fields) (v : View) (e : Errand) → IsQuietTurn i (climb_turn ps own w v e)
+climbs_quietly : (i : ℕ) (ps : List ℕ) (own : Passage) (w : Fields) (v : View) (e : Errand) → IsQuietTurn i (climb_turn ps own w v e)
 climbs_quietly i ps own w v Rest = refl
 climbs_quietly i ps own w v Advancing = refl
 climbs_quietly i ps own w v (Opening tier n stage size) = refl
-climbs_quietly i ps own w v (Climbing t trip) = passes_quietly i ps own t trip (Climb trip) (Owing own) (Done v.phase) w v refl
+climbs_quietly i ps own w v (Climbing t passage) = passes_quietly i ps own t passage (Climb passage) (Owing own) (Done v.phase) w v refl
 
 quiet_turn : (i : ℕ) (ps : List ℕ) (ws : List Fields) (p : Progress) (v : View) → is_forcing p ≡ false → IsQuietTurn i (turn ps ws p v)
 quiet_turn i ps ws Idle v e = refl
@@ -120,10 +120,10 @@ quiet_turn i ps ws (ToSeek tier size) v e =
     (either_way (IsQuietTurn i) (is_claimable t w) claim join refl refl))
 quiet_turn i ps ws Settling v e = settles_quietly i ps v v.errand
 quiet_turn i ps ws (ToGiveBack answer) v e = gives_back_quietly i ps answer v.errand
-quiet_turn i ps ws (Passing trip) v e =
-    passes_quietly i ps trip v.tier trip (own_kind trip) (Passing trip) (end_shown (word_at ws v.tier)) (word_at ws v.tier) v (own_quiet i trip)
+quiet_turn i ps ws (Passing passage) v e =
+    passes_quietly i ps passage v.tier passage (own_kind passage) (Passing passage) (end_shown (word_at ws v.tier)) (word_at ws v.tier) v (own_quiet i passage)
 quiet_turn i ps ws (Owing own) v e = climbs_quietly i ps own (word_at ws (place ps (Owing own) v)) v v.errand
-quiet_turn i ps ws (Due trip) v e = refl
+quiet_turn i ps ws (Due passage) v e = refl
 quiet_turn i ps ws (Refreshing moved) v e = either_way (IsQuiet i) (lags (word_at ws v.tier) v) Refresh Glance refl refl
 
 pub goes_stay : (s : State) (i : ℕ) → IsCore s → is_forcing (call_at s.calls i) ≡ false → RootStays s (after s (Go i))

@@ -6,10 +6,10 @@ use Rattle.std.proofs.lemmas.Bool.{cases_eq, cases_lt}
 use Rattle.std.proofs.lemmas.List.Sums.{sum_by-cons}
 use Rattle.tier_steps.specs.declared.view.View.{View}
 use Rattle.tier_steps.specs.declared.view.Errand.{Errand}
-use Rattle.tier_steps.specs.declared.view.Stage.{Stage as Opened}
-use Rattle.tier_steps.specs.declared.view.Stage.TheVariants.{Seeking}
-use Rattle.tier_steps.specs.declared.view.Trip.{Trip}
-use Rattle.tier_steps.specs.declared.view.Trip.TheVariants.{Arrival, Departure}
+use Rattle.tier_steps.specs.declared.view.OpeningStage.{OpeningStage as Opened}
+use Rattle.tier_steps.specs.declared.view.OpeningStage.TheVariants.{Seeking}
+use Rattle.tier_steps.specs.declared.view.Passage.{Passage}
+use Rattle.tier_steps.specs.declared.view.Passage.TheVariants.{Arrival, Departure}
 use Rattle.tier_steps.specs.Image.{is_climbing}
 use Rattle.tier_steps.specs.Step.{opening}
 use Rattle.tier_steps.specs.Tally.{word_at}
@@ -23,11 +23,11 @@ use Rattle.tier_answers.proofs.Stepping.{fitting}
 use Rattle.schedule_laws.specs.Roles.{Role, Out, Joins, Seeks, Settles, GivesBack, Late, Polls, Ready, Here, Looks, Passes, Owes, Leads, Past, Plays}
 use Rattle.schedule_laws.specs.Cast.{role_at, members_in}
 use Rattle.schedule_laws.proofs.Playing.{size_of, sums_alike, home_within}
-use Rattle.job_seats.specs.declared.stage.Stage.{Stage}
-use Rattle.job_seats.specs.declared.stage.Stage.TheVariants.{Waits, Taken, Polling, Joining, Arriving, Leaving, Over}
-use Rattle.job_seats.specs.SeatValue.{KidValue, SeatValue, seat_at, kid_at, is_delivered}
+use Rattle.job_participants.specs.declared.stage.Stage.{Stage}
+use Rattle.job_participants.specs.declared.stage.Stage.TheVariants.{Waits, Taken, Polling, Joining, Arriving, Leaving, Over}
+use Rattle.job_participants.specs.ParticipantValue.{KidValue, ParticipantValue, participant_at, kid_at, is_delivered}
 use Rattle.job_schedule.specs.World.{World}
-use Rattle.schedule_laws.specs.Working.{trip_if, ComesTo, ArrivesAt, SitsAt, of_seat, IsWorking}
+use Rattle.schedule_laws.specs.Working.{passage_if, ComesTo, ArrivesAt, SitsAt, of_participant, IsWorking}
 use Rattle.schedule_laws.proofs.Sharing.{own_in, known_in}
 use Rattle.schedule_laws.proofs.Advancing.{total}
 
@@ -42,11 +42,11 @@ climbs (Late home) = 0
 climbs (Polls home) = 0
 climbs (Ready home) = 0
 climbs (Here home) = 0
-climbs (Looks home trip) = 0
-climbs (Passes home trip) = 0
-climbs (Owes home trip) = 1
-climbs (Leads home trip) = 1
-climbs (Past home trip) = 0
+climbs (Looks home passage) = 0
+climbs (Passes home passage) = 0
+climbs (Owes home passage) = 1
+climbs (Leads home passage) = 1
+climbs (Past home passage) = 0
 
 abbrev one_if : Errand → ℕ
 one_if e = cond (is_climbing e) 1 0
@@ -66,11 +66,11 @@ climbs_of s i (Late home) core h p = ap one_if p.0.awaited.rests
 climbs_of s i (Polls home) core h p = ap one_if p.0.awaited.rests
 climbs_of s i (Ready home) core h p = ap one_if p.0.late.awaited.rests
 climbs_of s i (Here home) core h p = ap one_if p.0.ready.late.awaited.rests
-climbs_of s i (Looks home trip) core h p = ap one_if p.0.late.awaited.rests
-climbs_of s i (Passes home trip) core h p = ap one_if p.0.late.awaited.rests
-climbs_of s i (Owes home trip) core h p = ap one_if (fitting s i (Owing trip) core h p.1).2
-climbs_of s i (Leads home trip) core h p = ap one_if (fitting s i (Due trip) core h p.1)
-climbs_of s i (Past home trip) core h p = ap one_if (fitting s i Idle core h p.1)
+climbs_of s i (Looks home passage) core h p = ap one_if p.0.late.awaited.rests
+climbs_of s i (Passes home passage) core h p = ap one_if p.0.late.awaited.rests
+climbs_of s i (Owes home passage) core h p = ap one_if (fitting s i (Owing passage) core h p.1).2
+climbs_of s i (Leads home passage) core h p = ap one_if (fitting s i (Due passage) core h p.1)
+climbs_of s i (Past home passage) core h p = ap one_if (fitting s i Idle core h p.1)
 
 abbrev weight : Role → ℕ
 weight r = members_in r + climbs r
@@ -104,9 +104,9 @@ no_kids : (ks : List KidValue) → ((k : ℕ) → k < length ks → ⊥) → len
 no_kids [] h = refl
 no_kids (k ∷ ks) h = absurd (h 0 (omega arith))
 
-trip_weight : (home : ℕ) (trip : Trip) → (weight (Owes home trip) ≤ 2) × (weight (Leads home trip) ≤ 2) × (weight (Past home trip) ≤ 1)
-trip_weight home Arrival = (omega arith, omega arith, omega arith)
-trip_weight home Departure = (omega arith, omega arith, omega arith)
+passage_weight : (home : ℕ) (passage : Passage) → (weight (Owes home passage) ≤ 2) × (weight (Leads home passage) ≤ 2) × (weight (Past home passage) ≤ 1)
+passage_weight home Arrival = (omega arith, omega arith, omega arith)
+passage_weight home Departure = (omega arith, omega arith, omega arith)
 
 is_at : (r q : Role) (n : ℕ) → r ≡ q → weight q ≤ n → weight r ≤ n
 is_at r q n e h = subst (λ (x : Role). weight x ≤ n) (sym e) h
@@ -155,37 +155,37 @@ module _ (roles : List Role) (tiers token home : ℕ) (kids : List KidValue) (sy
       (cases_lt k n))
       (λ k l e. arriving_light (kid_at kids k).home (kid_role k) ((is.each k l).1 e)) in omega arith
   by_stage Leaving is few =
-      let w = trip_weight home (trip_if synced) in
+      let w = passage_weight home (passage_if synced) in
       let a = ⊎_elim (λ q. is_at (role_at roles token) (Here home) 2 q (omega arith))
-      (λ q. ⊎_elim (λ q. is_at (role_at roles token) (Looks home (trip_if synced)) 2 q (omega arith))
-      (λ q. ⊎_elim (λ q. is_at (role_at roles token) (Passes home (trip_if synced)) 2 q (omega arith))
-      (λ q. ⊎_elim (λ q. is_at (role_at roles token) (Owes home (trip_if synced)) 2 q w.0) (λ q. is_at (role_at roles token) (Leads home (trip_if synced)) 2 q w.1) q) q) q) is.own in
+      (λ q. ⊎_elim (λ q. is_at (role_at roles token) (Looks home (passage_if synced)) 2 q (omega arith))
+      (λ q. ⊎_elim (λ q. is_at (role_at roles token) (Passes home (passage_if synced)) 2 q (omega arith))
+      (λ q. ⊎_elim (λ q. is_at (role_at roles token) (Owes home (passage_if synced)) 2 q w.0) (λ q. is_at (role_at roles token) (Leads home (passage_if synced)) 2 q w.1) q) q) q) is.own in
       let b = few refl in
       let c = kids_light roles kids (λ k l. is_at (kid_role k) (Past (kid_at kids k).home Arrival) 1 (is.each k l) (omega arith)) in omega arith
   by_stage Over is few =
-      let w = trip_weight home (trip_if synced) in
-      let a = is_at (role_at roles token) (Past home (trip_if synced)) 1 is.own w.2 in
+      let w = passage_weight home (passage_if synced) in
+      let a = is_at (role_at roles token) (Past home (passage_if synced)) 1 is.own w.2 in
       let b = few refl in
       let c = kids_light roles kids (λ k l. is_at (kid_role k) (Past (kid_at kids k).home Arrival) 1 (is.each k l) (omega arith)) in omega arith
 
-seats_light : (f : SeatValue → ℕ) (gs : List SeatValue) → ((q : ℕ) → q < length gs → f (seat_at gs q) ≤ 10) → sum_by f gs ≤ 10 * length gs
-seats_light f [] h = omega arith
-seats_light f (g ∷ gs) h =
-    let a = sum_by-cons f g gs in let b = h 0 (omega arith) in let c = seats_light f gs (λ q l. h (suc q) (omega arith)) in omega arith
+participants_light : (f : ParticipantValue → ℕ) (gs : List ParticipantValue) → ((q : ℕ) → q < length gs → f (participant_at gs q) ≤ 10) → sum_by f gs ≤ 10 * length gs
+participants_light f [] h = omega arith
+participants_light f (g ∷ gs) h =
+    let a = sum_by-cons f g gs in let b = h 0 (omega arith) in let c = participants_light f gs (λ q l. h (suc q) (omega arith)) in omega arith
 
 -- at most 4096 live tasks, each with at most 8 spawned ones
 pub record AreFew (w : World) : Type 0 where
-  pub seats : length w.seats ≤ 4096
-  pub kids : (place : ℕ) → place < length w.seats → is_delivered (seat_at w.seats place).stage ≡ true → length (seat_at w.seats place).kids ≤ 8
+  pub participants : length w.participants ≤ 4096
+  pub kids : (place : ℕ) → place < length w.participants → is_delivered (participant_at w.participants place).stage ≡ true → length (participant_at w.participants place).kids ≤ 8
 
 pub has_room : (parents : List ℕ) (w : World) (roles : List Role) (place : ℕ) → length parents ≤ 64 → AreFew w → IsWorking parents w roles
-    → place < length w.seats → role_at roles (seat_at w.seats place).token ≡ Here (seat_at w.seats place).home
-    → (word_at w.tree.words (seat_at w.seats place).home).parties + 1 ≤ 65535
+    → place < length w.participants → role_at roles (participant_at w.participants place).token ≡ Here (participant_at w.participants place).home
+    → (word_at w.tree.words (participant_at w.participants place).home).parties + 1 ≤ 65535
 has_room parents w roles place tiers few is h here =
     let s : State = w.tree in
-    let i : ℕ = (seat_at w.seats place).token in
-    let home : ℕ = (seat_at w.seats place).home in
-    let known : i < length w.tree.views = known_in w.seats w.free (length w.tree.views) is.shared place i h (own_in (seat_at w.seats place)) in
+    let i : ℕ = (participant_at w.participants place).token in
+    let home : ℕ = (participant_at w.participants place).home in
+    let known : i < length w.tree.views = known_in w.participants w.free (length w.tree.views) is.shared place i h (own_in (participant_at w.participants place)) in
     let p : Plays w.tree i (Here home) = subst (λ (r : Role). Plays w.tree i r) here (is.cast.plays i known) in
     let within = home_within w.tree i home is.cast.core p.0.ready.late in
     let parties = parties_are_few w.tree home is.cast.core within (λ e. is.cast.going) in
@@ -195,10 +195,10 @@ has_room parents w roles place tiers few is h here =
     sums_alike (λ (v : View). one_if v.errand) climbs w.tree.views roles (new_view 0) Out is.cast.long
     (λ j l. climbs_of w.tree j (role_at roles j) is.cast.core l (is.cast.plays j l)) in
     let both = sum_both roles in
-    let held = total weight roles w.seats w.free (length w.tree.views) refl is.shared is.cast.long is.free in
-    let light = seats_light (of_seat (λ t. weight (role_at roles t))) w.seats
-    (λ q l. let g : SeatValue = seat_at w.seats q in
+    let held = total weight roles w.participants w.free (length w.tree.views) refl is.shared is.cast.long is.free in
+    let light = participants_light (of_participant (λ t. weight (role_at roles t))) w.participants
+    (λ q l. let g : ParticipantValue = participant_at w.participants q in
     by_stage roles (length parents) g.token g.home g.kids g.synced g.stage (is.sits q l) (few.kids q l)) in
-    let many = few.seats in
+    let many = few.participants in
     let same : length w.tree.parents ≡ length parents = ap length is.built.shape in
     omega arith

@@ -4,14 +4,14 @@ use Rattle.std.specs.Prelude.{sum_by}
 use Rattle.std.specs.List.{AllByRecursion}
 use Rattle.std.proofs.lemmas.Bool.{eq-eqb, eqb-true, cases_eq, cases_lt}
 use Rattle.std.proofs.lemmas.List.Sums.{sum_by-cons}
-use Rattle.job_seats.specs.SeatValue.{KidValue, SeatValue, no_seat, no_kid, seat_at, kid_at}
-use Rattle.schedule_laws.specs.Working.{of_seat, of_all, AreShared}
+use Rattle.job_participants.specs.ParticipantValue.{KidValue, ParticipantValue, no_participant, no_kid, participant_at, kid_at}
+use Rattle.schedule_laws.specs.Working.{of_participant, of_all, AreShared}
 
 -- no task stands behind the last
-pub no_seat_beyond : (gs : List SeatValue) (place : ℕ) → length gs ≤ place → seat_at gs place ≡ no_seat
-no_seat_beyond [] place h = refl
-no_seat_beyond (g ∷ gs) zero h = absurd (omega arith)
-no_seat_beyond (g ∷ gs) (suc place) h = no_seat_beyond gs place (omega arith)
+pub no_participant_beyond : (gs : List ParticipantValue) (place : ℕ) → length gs ≤ place → participant_at gs place ≡ no_participant
+no_participant_beyond [] place h = refl
+no_participant_beyond (g ∷ gs) zero h = absurd (omega arith)
+no_participant_beyond (g ∷ gs) (suc place) h = no_participant_beyond gs place (omega arith)
 
 -- the measure of one token alone
 abbrev pub one : ℕ → ℕ → ℕ
@@ -64,61 +64,61 @@ two_parts f (x ∷ xs) (suc p) (suc q) d h k n =
     let a = sum_by-cons f x xs in let b = two_parts f xs p q d (omega arith) (omega arith) (λ e. n (ap suc e)) in omega arith
 
 -- a token of a task
-pub own_in : (g : SeatValue) → 1 ≤ of_seat (one g.token) g
+pub own_in : (g : ParticipantValue) → 1 ≤ of_participant (one g.token) g
 own_in g = let a = one_itself g.token in omega arith
 
-pub kid_in : (g : SeatValue) (k : ℕ) → k < length g.kids → 1 ≤ of_seat (one (kid_at g.kids k).token) g
+pub kid_in : (g : ParticipantValue) (k : ℕ) → k < length g.kids → 1 ≤ of_participant (one (kid_at g.kids k).token) g
 kid_in g k h =
     let i : ℕ = (kid_at g.kids k).token in
     let a = part (λ (c : KidValue). one i c.token) g.kids k no_kid h in let b = one_itself i in omega arith
 
-module _ (seats : List SeatValue) (free : List ℕ) (n : ℕ) (shared : AreShared seats free n) where
+module _ (participants : List ParticipantValue) (free : List ℕ) (n : ℕ) (shared : AreShared participants free n) where
   -- it is one that is known
-  pub known_in : (p i : ℕ) → p < length seats → 1 ≤ of_seat (one i) (seat_at seats p) → i < n
+  pub known_in : (p i : ℕ) → p < length participants → 1 ≤ of_participant (one i) (participant_at participants p) → i < n
   known_in p i h k =
-      let a = part (of_seat (one i)) seats p no_seat h in let b = shared (one i) in is_known n i (omega arith)
+      let a = part (of_participant (one i)) participants p no_participant h in let b = shared (one i) in is_known n i (omega arith)
 
   -- a task has it once
-  once_in : (p i : ℕ) → p < length seats → of_seat (one i) (seat_at seats p) ≤ 1
+  once_in : (p i : ℕ) → p < length participants → of_participant (one i) (participant_at participants p) ≤ 1
   once_in p i h =
-      let a = part (of_seat (one i)) seats p no_seat h in let b = shared (one i) in let c = at_most_one n i in omega arith
+      let a = part (of_participant (one i)) participants p no_participant h in let b = shared (one i) in let c = at_most_one n i in omega arith
 
   -- no other task has it
-  none_in : (p q i : ℕ) → p < length seats → q < length seats → q ≢ p → 1 ≤ of_seat (one i) (seat_at seats p) → of_seat (one i) (seat_at seats q) ≡ 0
+  none_in : (p q i : ℕ) → p < length participants → q < length participants → q ≢ p → 1 ≤ of_participant (one i) (participant_at participants p) → of_participant (one i) (participant_at participants q) ≡ 0
   none_in p q i h k m has =
-      let a = two_parts (of_seat (one i)) seats q p no_seat k h m in let b = shared (one i) in let c = at_most_one n i in omega arith
+      let a = two_parts (of_participant (one i)) participants q p no_participant k h m in let b = shared (one i) in let c = at_most_one n i in omega arith
 
-  pub others_own : (p q i : ℕ) → p < length seats → q < length seats → q ≢ p → 1 ≤ of_seat (one i) (seat_at seats p) → (seat_at seats q).token ≢ i
+  pub others_own : (p q i : ℕ) → p < length participants → q < length participants → q ≢ p → 1 ≤ of_participant (one i) (participant_at participants p) → (participant_at participants q).token ≢ i
   others_own p q i h k m has =
-      let a = none_in p q i h k m has in none_of i (seat_at seats q).token (omega arith)
+      let a = none_in p q i h k m has in none_of i (participant_at participants q).token (omega arith)
 
-  pub others_kid : (p q i j : ℕ) → p < length seats → q < length seats → q ≢ p → 1 ≤ of_seat (one i) (seat_at seats p) → j < length (seat_at seats q).kids
-      → (kid_at (seat_at seats q).kids j).token ≢ i
+  pub others_kid : (p q i j : ℕ) → p < length participants → q < length participants → q ≢ p → 1 ≤ of_participant (one i) (participant_at participants p) → j < length (participant_at participants q).kids
+      → (kid_at (participant_at participants q).kids j).token ≢ i
   others_kid p q i j h k m has l =
       let a = none_in p q i h k m has in
-      let b = part (λ (c : KidValue). one i c.token) (seat_at seats q).kids j no_kid l in
-      none_of i (kid_at (seat_at seats q).kids j).token (omega arith)
+      let b = part (λ (c : KidValue). one i c.token) (participant_at participants q).kids j no_kid l in
+      none_of i (kid_at (participant_at participants q).kids j).token (omega arith)
 
   -- its own token is none of its spawned tasks', and these differ
-  pub kid_not_own : (p j : ℕ) → p < length seats → j < length (seat_at seats p).kids → (kid_at (seat_at seats p).kids j).token ≢ (seat_at seats p).token
+  pub kid_not_own : (p j : ℕ) → p < length participants → j < length (participant_at participants p).kids → (kid_at (participant_at participants p).kids j).token ≢ (participant_at participants p).token
   kid_not_own p j h l =
-      let i : ℕ = (seat_at seats p).token in
+      let i : ℕ = (participant_at participants p).token in
       let a = once_in p i h in let b = one_itself i in
-      let c = part (λ (k : KidValue). one i k.token) (seat_at seats p).kids j no_kid l in
-      none_of i (kid_at (seat_at seats p).kids j).token (omega arith)
+      let c = part (λ (k : KidValue). one i k.token) (participant_at participants p).kids j no_kid l in
+      none_of i (kid_at (participant_at participants p).kids j).token (omega arith)
 
-  pub kids_differ : (p j k : ℕ) → p < length seats → j < length (seat_at seats p).kids → k < length (seat_at seats p).kids → j ≢ k
-      → (kid_at (seat_at seats p).kids j).token ≢ (kid_at (seat_at seats p).kids k).token
+  pub kids_differ : (p j k : ℕ) → p < length participants → j < length (participant_at participants p).kids → k < length (participant_at participants p).kids → j ≢ k
+      → (kid_at (participant_at participants p).kids j).token ≢ (kid_at (participant_at participants p).kids k).token
   kids_differ p j k h l m n =
-      let i : ℕ = (kid_at (seat_at seats p).kids k).token in
+      let i : ℕ = (kid_at (participant_at participants p).kids k).token in
       let a = once_in p i h in let b = one_itself i in
-      let c = two_parts (λ (x : KidValue). one i x.token) (seat_at seats p).kids j k no_kid l m n in
-      none_of i (kid_at (seat_at seats p).kids j).token (omega arith)
+      let c = two_parts (λ (x : KidValue). one i x.token) (participant_at participants p).kids j k no_kid l m n in
+      none_of i (kid_at (participant_at participants p).kids j).token (omega arith)
 
   -- no free token is a task's
-  pub free_not : (p i : ℕ) → p < length seats → 1 ≤ of_seat (one i) (seat_at seats p) → AllByRecursion (λ t. t ≢ i) free
+  pub free_not : (p i : ℕ) → p < length participants → 1 ≤ of_participant (one i) (participant_at participants p) → AllByRecursion (λ t. t ≢ i) free
   free_not p i h has =
-      let a = part (of_seat (one i)) seats p no_seat h in let b = shared (one i) in let c = at_most_one n i in each free (omega arith)
+      let a = part (of_participant (one i)) participants p no_participant h in let b = shared (one i) in let c = at_most_one n i in each free (omega arith)
     where
       each : (ts : List ℕ) → sum_by (one i) ts ≡ 0 → AllByRecursion (λ t. t ≢ i) ts
       each [] z = tt

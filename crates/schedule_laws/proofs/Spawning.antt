@@ -13,20 +13,20 @@ use Rattle.tier_core.specs.Machine.{State as Tree}
 use Rattle.tier_core.specs.Run.{after, answer_to}
 use Rattle.step_core.specs.JobMeaning.{status}
 use Rattle.schedule_laws.specs.Roles.{Role, is_refused as turns_away}
-use Rattle.job_seats.specs.declared.stage.Stage.{Stage}
-use Rattle.job_seats.specs.declared.stage.Stage.TheVariants.{Waits, Taken, Polling, Joining, Arriving, Leaving, Over}
-use Rattle.job_seats.specs.declared.stage.Mode.{Mode}
-use Rattle.job_seats.specs.declared.stage.Mode.TheVariants as mode
-use Rattle.job_seats.specs.declared.stage.Move.{Move}
-use Rattle.job_seats.specs.declared.stage.Move.TheVariants.{Takes, Calls, Closes, Ends}
+use Rattle.job_participants.specs.declared.stage.Stage.{Stage}
+use Rattle.job_participants.specs.declared.stage.Stage.TheVariants.{Waits, Taken, Polling, Joining, Arriving, Leaving, Over}
+use Rattle.job_participants.specs.declared.stage.Mode.{Mode}
+use Rattle.job_participants.specs.declared.stage.Mode.TheVariants as mode
+use Rattle.job_participants.specs.declared.stage.Move.{Move}
+use Rattle.job_participants.specs.declared.stage.Move.TheVariants.{Takes, Calls, Closes, Ends}
 use Rattle.job_schedule.specs.declared.step.JobStep.{JobStep}
 use Rattle.job_schedule.specs.AnswerValue.{Stepped, NotNow}
-use Rattle.job_seats.specs.SeatValue.{SeatValue, seat_at, kid_at, is_refused, all_over}
-use Rattle.job_seats.specs.Moves.{by_stage}
-use Rattle.job_schedule.specs.World.{World, called_by, done_by, kind_of, kind_for, if_asked, by_seat, by_hand, by_mode, move_of, worker_of, answer_of, reached, opening_world}
+use Rattle.job_participants.specs.ParticipantValue.{ParticipantValue, participant_at, kid_at, is_refused, all_over}
+use Rattle.job_participants.specs.Moves.{by_stage}
+use Rattle.job_schedule.specs.World.{World, called_by, done_by, kind_of, kind_for, if_asked, by_participant, by_hand, by_mode, move_of, worker_of, answer_of, reached, initial_world}
 use Rattle.schedule_laws.specs.Working.{IsWorking, IsKept}
 use Rattle.schedule_laws.specs.Laws.{SpawnsHaveRoomAtHome}
-use Rattle.schedule_laws.proofs.Sharing.{no_seat_beyond}
+use Rattle.schedule_laws.proofs.Sharing.{no_participant_beyond}
 use Rattle.schedule_laws.proofs.Moving.{home_admits, sits_at}
 use Rattle.schedule_laws.proofs.Room.{AreFew, has_room}
 use Rattle.schedule_laws.proofs.Claiming.{kept, light}
@@ -51,8 +51,8 @@ stepped_is w worker place tree answer.NotNow played h = cc
 
 abbrev Admits : World → ℕ → Option Move → Type 0
 Admits w worker o =
-    (place token : ℕ) (played : Played) → o ≡ Some (Calls place token (call.Join (seat_at w.seats place).home 1))
-    → (done_by w worker (Calls place token (call.Join (seat_at w.seats place).home 1))).0 ≡ Stepped played → is_refused played ≡ false
+    (place token : ℕ) (played : Played) → o ≡ Some (Calls place token (call.Join (participant_at w.participants place).home 1))
+    → (done_by w worker (Calls place token (call.Join (participant_at w.participants place).home 1))).0 ≡ Stepped played → is_refused played ≡ false
 
 same_place : (a b i j : ℕ) (c d : Call) → ◌≡◌ {A = Option Move} (Some (Calls a i c)) (Some (Calls b j d)) → (a ≡ b) × (i ≡ j) × (c ≡ d)
 same_place a b i j c d e = (cc, cc, cc)
@@ -61,17 +61,17 @@ same_home : (a b : ℕ) → ◌≡◌ {A = Call} (call.Join a 1) (call.Join b 1)
 same_home a b e = cc
 
 module _ (parents : List ℕ) (w : World) (worker : ℕ) (tiers : length parents ≤ 64) (few : is_some (status w.limit w.job) ≡ false → AreFew w) where
-  join_admits : (roles : List Role) (at n : ℕ) → IsWorking parents w roles → is_some (status w.limit w.job) ≡ false → at < length w.seats
-      → (seat_at w.seats at).stage ≡ Joining n
-      → Admits w worker (Some (Calls at (kid_at (seat_at w.seats at).kids n).token (call.Join (kid_at (seat_at w.seats at).kids n).home 1)))
+  join_admits : (roles : List Role) (at n : ℕ) → IsWorking parents w roles → is_some (status w.limit w.job) ≡ false → at < length w.participants
+      → (participant_at w.participants at).stage ≡ Joining n
+      → Admits w worker (Some (Calls at (kid_at (participant_at w.participants at).kids n).token (call.Join (kid_at (participant_at w.participants at).kids n).home 1)))
   join_admits roles at n is below h stage place token played e told =
-      let same = same_place at place (kid_at (seat_at w.seats at).kids n).token token (call.Join (kid_at (seat_at w.seats at).kids n).home 1)
-      (call.Join (seat_at w.seats place).home 1) e in
-      let home : (kid_at (seat_at w.seats at).kids n).home ≡ (seat_at w.seats at).home =
-      same_home (kid_at (seat_at w.seats at).kids n).home (seat_at w.seats place).home same.2 ∙ ap (λ (q : ℕ). (seat_at w.seats q).home) (sym same.0) in
-      let i : ℕ = (kid_at (seat_at w.seats at).kids n).token in
-      let c : Call = call.Join (kid_at (seat_at w.seats at).kids n).home 1 in
-      let here : (done_by w worker (Calls at (kid_at (seat_at w.seats at).kids n).token (call.Join (kid_at (seat_at w.seats at).kids n).home 1))).0 ≡ Stepped played =
+      let same = same_place at place (kid_at (participant_at w.participants at).kids n).token token (call.Join (kid_at (participant_at w.participants at).kids n).home 1)
+      (call.Join (participant_at w.participants place).home 1) e in
+      let home : (kid_at (participant_at w.participants at).kids n).home ≡ (participant_at w.participants at).home =
+      same_home (kid_at (participant_at w.participants at).kids n).home (participant_at w.participants place).home same.2 ∙ ap (λ (q : ℕ). (participant_at w.participants q).home) (sym same.0) in
+      let i : ℕ = (kid_at (participant_at w.participants at).kids n).token in
+      let c : Call = call.Join (kid_at (participant_at w.participants at).kids n).home 1 in
+      let here : (done_by w worker (Calls at (kid_at (participant_at w.participants at).kids n).token (call.Join (kid_at (participant_at w.participants at).kids n).home 1))).0 ≡ Stepped played =
       ap (λ (q : ℕ). (done_by w worker (Calls q i c)).0) same.0
       ∙ ap (λ (j : ℕ). (done_by w worker (Calls place j c)).0) same.1
       ∙ ap (λ (d : Call). (done_by w worker (Calls place token d)).0) same.2
@@ -82,17 +82,17 @@ module _ (parents : List ℕ) (w : World) (worker : ℕ) (tiers : length parents
       (stepped_is w worker at (after (after w.tree (Begin i c)) (Go i)) (answer_to (after w.tree (Begin i c)) (Go i)) played here)
 
   stage_admits : (roles : List Role) (at : ℕ) (due : Bool) (stage : Stage) → IsWorking parents w roles → is_some (status w.limit w.job) ≡ false
-      → at < length w.seats → (seat_at w.seats at).stage ≡ stage → Admits w worker (by_stage (seat_at w.seats at) at due stage)
+      → at < length w.participants → (participant_at w.participants at).stage ≡ stage → Admits w worker (by_stage (participant_at w.participants at) at due stage)
   stage_admits roles at due Waits is below h e place token played f told = cc
   stage_admits roles at due Taken is below h e place token played f told = cc
   stage_admits roles at due Polling is below h e place token played f told = cc
   stage_admits roles at due (Joining n) is below h e place token played f told = join_admits roles at n is below h e place token played f told
   stage_admits roles at due (Arriving n) is below h e place token played f told = cc
   stage_admits roles at true Leaving is below h e place token played f told = cc
-  stage_admits roles at false Leaving is below h e place token played f told = by (seat_at w.seats at).synced f
+  stage_admits roles at false Leaving is below h e place token played f told = by (participant_at w.participants at).synced f
     where
-      by : (b : Bool) → ◌≡◌ {A = Option Move} (Some (Calls at (seat_at w.seats at).token (if b then call.Arrive else call.Leave)))
-          (Some (Calls place token (call.Join (seat_at w.seats place).home 1))) → is_refused played ≡ false
+      by : (b : Bool) → ◌≡◌ {A = Option Move} (Some (Calls at (participant_at w.participants at).token (if b then call.Arrive else call.Leave)))
+          (Some (Calls place token (call.Join (participant_at w.participants place).home 1))) → is_refused played ≡ false
       by true k = cc
       by false k = cc
   stage_admits roles at due Over is below h e place token played f told = cc
@@ -103,22 +103,22 @@ module _ (parents : List ℕ) (w : World) (worker : ℕ) (tiers : length parents
   taking_admits false false place token played f told = cc
 
   hand_admits : (hand : Option ℕ) → IsKept parents w mode.Runs → Admits w worker (by_hand w hand)
-  hand_admits None k = taking_admits (nat_lt w.taken (length w.seats)) (is_some (status w.limit w.job))
-  hand_admits (Some at) k = by (nat_lt at (length w.seats)) refl
+  hand_admits None k = taking_admits (nat_lt w.taken (length w.participants)) (is_some (status w.limit w.job))
+  hand_admits (Some at) k = by (nat_lt at (length w.participants)) refl
     where
       none : Admits w worker None
       none place token played f told = cc
 
-      by : (b : Bool) → nat_lt at (length w.seats) ≡ b → Admits w worker (by_hand w (Some at))
+      by : (b : Bool) → nat_lt at (length w.participants) ≡ b → Admits w worker (by_hand w (Some at))
       by true e = ⊎_elim
-          (λ q. let l = ltb-true at (length w.seats) e in let z = q.1 in absurd (omega arith))
-          (λ q. stage_admits q.1.0 at _ (seat_at w.seats at).stage q.1.1 q.0 (ltb-true at (length w.seats) e) refl)
+          (λ q. let l = ltb-true at (length w.participants) e in let z = q.1 in absurd (omega arith))
+          (λ q. stage_admits q.1.0 at _ (participant_at w.participants at).stage q.1.1 q.0 (ltb-true at (length w.participants) e) refl)
           k
-      by false e = subst (λ (g : SeatValue). Admits w worker (by_seat w g at)) (sym (no_seat_beyond w.seats at (ltb-false at (length w.seats) e))) none
+      by false e = subst (λ (g : ParticipantValue). Admits w worker (by_participant w g at)) (sym (no_participant_beyond w.participants at (ltb-false at (length w.participants) e))) none
 
   mode_admits : (m : Mode) → IsKept parents w m → Admits w worker (by_mode w worker m)
   mode_admits mode.Runs k = hand_admits (slice_index_or w.hands worker None) k
-  mode_admits (mode.Advanced closer owner) k = by ((worker == closer) && all_over w.seats)
+  mode_admits (mode.Advanced closer owner) k = by ((worker == closer) && all_over w.participants)
     where
       by : (b : Bool) → Admits w worker (if b then Some (Closes owner) else None)
       by true = λ place token played f told. cc
@@ -148,6 +148,6 @@ asked w x m played e h = by (kind_of x == kind_for m) (ap (λ (o : Option Move).
 
 pub spawns_have_room_at_home : SpawnsHaveRoomAtHome
 spawns_have_room_at_home p parents limit xs x place token played driven e h =
-    let w : World = reached (opening_world p parents limit) xs in
+    let w : World = reached (initial_world p parents limit) xs in
     move_admits parents w (worker_of x) driven.tiers.few (light p parents limit driven xs) (kept p parents limit driven xs) place token played e
-    (asked w x (Calls place token (call.Join (seat_at (reached (opening_world p parents limit) xs).seats place).home 1)) played e h)
+    (asked w x (Calls place token (call.Join (participant_at (reached (initial_world p parents limit) xs).participants place).home 1)) played e h)

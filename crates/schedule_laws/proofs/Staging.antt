@@ -3,22 +3,22 @@ use Rattle.std.proofs.Common.{◌≡◌, ◌≢◌, ℕ, suc, ◌+◌, ◌<◌, 
 use Rattle.std.specs.Prelude.{if◌then◌else◌, nat_lt}
 use Rattle.std.proofs.lemmas.Bool.{ltb-true, ltb-false, cases_eq}
 use Rattle.std.proofs.lemmas.List.{get_or-set_same, get_or-set_other, length-set}
-use Rattle.tier_steps.specs.declared.view.Trip.TheVariants.{Arrival}
+use Rattle.tier_steps.specs.declared.view.Passage.TheVariants.{Arrival}
 use Rattle.tier_core.specs.declared.call.Played.{Played}
 use Rattle.schedule_laws.specs.Roles.{Role, Out, Polls, Ready, Here, Past}
 use Rattle.schedule_laws.specs.Cast.{role_at}
-use Rattle.job_seats.specs.declared.stage.Stage.{Stage}
-use Rattle.job_seats.specs.declared.stage.Stage.TheVariants.{Waits, Taken, Polling, Joining, Arriving, Leaving, Over}
-use Rattle.job_seats.specs.SeatValue.{KidValue, SeatValue, no_kid, kid_at, is_done, is_refused, next_stage, sent_home, answered, arriving, joining}
-use Rattle.schedule_laws.specs.Working.{trip_if, ComesTo, ArrivesAt, SitsAt, Sits, of_seat}
+use Rattle.job_participants.specs.declared.stage.Stage.{Stage}
+use Rattle.job_participants.specs.declared.stage.Stage.TheVariants.{Waits, Taken, Polling, Joining, Arriving, Leaving, Over}
+use Rattle.job_participants.specs.ParticipantValue.{KidValue, ParticipantValue, no_kid, kid_at, is_done, is_refused, next_stage, sent_home, answered, arriving, joining}
+use Rattle.schedule_laws.specs.Working.{passage_if, ComesTo, ArrivesAt, SitsAt, Sits, of_participant}
 use Rattle.schedule_laws.proofs.Turning.{sum_set_same}
 use Rattle.schedule_laws.proofs.Answering.{done_answer, refused_answer, kept_answer, goes_same, JoinEnds, PassEnds}
 
 -- an answer changes none of its tokens
-pub answer_count : (measure : ℕ → ℕ) (g : SeatValue) (a : Played) → of_seat measure (answered g a) ≡ of_seat measure g
+pub answer_count : (measure : ℕ → ℕ) (g : ParticipantValue) (a : Played) → of_participant measure (answered g a) ≡ of_participant measure g
 answer_count measure g a = by (is_done a) (is_refused a)
   where
-    home : (s : Stage) → of_seat measure (sent_home g s) ≡ of_seat measure g
+    home : (s : Stage) → of_participant measure (sent_home g s) ≡ of_participant measure g
     home Waits = refl
     home Taken = refl
     home Polling = refl
@@ -29,21 +29,21 @@ answer_count measure g a = by (is_done a) (is_refused a)
     home Leaving = refl
     home Over = refl
 
-    by : (b c : Bool) → of_seat measure (if b then record g { stage = next_stage g.stage (length g.kids) } else (if c then sent_home g g.stage else g)) ≡ of_seat measure g
+    by : (b c : Bool) → of_participant measure (if b then record g { stage = next_stage g.stage (length g.kids) } else (if c then sent_home g g.stage else g)) ≡ of_participant measure g
     by true c = refl
     by false true = home g.stage
     by false false = refl
 
-done_sits : (g : SeatValue) (a : Played) (roles : List Role) (tiers : ℕ) (s : Stage) → g.stage ≡ s → is_done a ≡ true
+done_sits : (g : ParticipantValue) (a : Played) (roles : List Role) (tiers : ℕ) (s : Stage) → g.stage ≡ s → is_done a ≡ true
     → SitsAt (next_stage s (length g.kids)) roles tiers g.token g.home g.kids g.synced → Sits roles tiers (answered g a)
 done_sits g a roles tiers s at e is =
-    subst (λ (x : SeatValue). Sits roles tiers x)
+    subst (λ (x : ParticipantValue). Sits roles tiers x)
     (sym (done_answer g a e ∙ ap (λ (t : Stage). record g { stage = next_stage t (length g.kids) }) at)) is
 
-kept_sits : (g : SeatValue) (a : Played) (roles : List Role) (tiers : ℕ) (s : Stage) → g.stage ≡ s → goes_same a
+kept_sits : (g : ParticipantValue) (a : Played) (roles : List Role) (tiers : ℕ) (s : Stage) → g.stage ≡ s → goes_same a
     → SitsAt s roles tiers g.token g.home g.kids g.synced → Sits roles tiers (answered g a)
 kept_sits g a roles tiers s at e is =
-    subst (λ (x : SeatValue). Sits roles tiers x) (sym (kept_answer g a e))
+    subst (λ (x : ParticipantValue). Sits roles tiers x) (sym (kept_answer g a e))
     (subst (λ (t : Stage). SitsAt t roles tiers g.token g.home g.kids g.synced) (sym at) is)
 
 -- the roles of its spawned tasks' tokens: so many are there, and the rest not yet
@@ -89,7 +89,7 @@ module _ (roles : List Role) (tiers token home : ℕ) (kids : List KidValue) (sy
           arriving_sits 0 (omega arith) (λ k h. (λ q. absurd (omega arith), λ q. (each k h).0 (omega arith)))
 
 -- its own token's step
-module _ (g : SeatValue) (roles roles' : List Role) (tiers : ℕ) (next : Role) (a : Played)
+module _ (g : ParticipantValue) (roles roles' : List Role) (tiers : ℕ) (next : Role) (a : Played)
     (own : role_at roles' g.token ≡ next)
     (same : (k : ℕ) → k < length g.kids → role_at roles' (kid_at g.kids k).token ≡ role_at roles (kid_at g.kids k).token) where
   pub after_poll : g.stage ≡ Polling → SitsAt Polling roles tiers g.token g.home g.kids g.synced
@@ -102,7 +102,7 @@ module _ (g : SeatValue) (roles roles' : List Role) (tiers : ℕ) (next : Role) 
       (λ k h. (λ l. absurd (omega arith), λ l. same k h ∙ is.each k h))))
       f
 
-  pub after_pass : g.stage ≡ Leaving → SitsAt Leaving roles tiers g.token g.home g.kids g.synced → PassEnds g.home (trip_if g.synced) a next
+  pub after_pass : g.stage ≡ Leaving → SitsAt Leaving roles tiers g.token g.home g.kids g.synced → PassEnds g.home (passage_if g.synced) a next
       → Sits roles' tiers (answered g a)
   after_pass at is f = ⊎_elim
       (λ q. done_sits g a roles' tiers Leaving at q.0
@@ -117,7 +117,7 @@ module _ (g : SeatValue) (roles roles' : List Role) (tiers : ℕ) (next : Role) 
       f
 
 -- a step of the token of a spawned task
-module _ (g : SeatValue) (roles roles' : List Role) (tiers n : ℕ) (next : Role) (a : Played)
+module _ (g : ParticipantValue) (roles roles' : List Role) (tiers n : ℕ) (next : Role) (a : Played)
     (own : role_at roles' g.token ≡ role_at roles g.token) (here : role_at roles' (kid_at g.kids n).token ≡ next)
     (same : (k : ℕ) → k < length g.kids → k ≢ n → role_at roles' (kid_at g.kids k).token ≡ role_at roles (kid_at g.kids k).token) where
   -- at this place, or at another
@@ -208,7 +208,7 @@ module _ (g : SeatValue) (roles roles' : List Role) (tiers n : ℕ) (next : Role
   after_join at is tier f = ⊎_elim
       (λ q. done_sits g a roles' tiers (Joining n) at q.0 (joined is q.1))
       (λ q. ⊎_elim
-      (λ q. subst (λ (x : SeatValue). Sits roles' tiers x) (sym (refused_answer g a q.0 ∙ ap (sent_home g) at)) (goes_home at is q.2 tier))
+      (λ q. subst (λ (x : ParticipantValue). Sits roles' tiers x) (sym (refused_answer g a q.0 ∙ ap (sent_home g) at)) (goes_home at is q.2 tier))
       (λ q. kept_sits g a roles' tiers (Joining n) at (ap is_done q.0, ap is_refused q.0) (still_joins is q.1))
       q) f
 

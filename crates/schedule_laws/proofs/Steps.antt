@@ -1,8 +1,8 @@
 -- The next step of a poll, of an arrival and of a departure: the role that it leaves.
 use Rattle.std.proofs.Common.{◌≡◌, ℕ, ◌<◌, ◌⊎◌, inl, inr, ⊎_elim, true, false, length, refl, sym, ◌∙◌, ap, subst, arith}
 use Rattle.tier_steps.specs.declared.view.View.{View}
-use Rattle.tier_steps.specs.declared.view.Trip.{Trip}
-use Rattle.tier_steps.specs.declared.view.Trip.TheVariants.{Arrival, Departure}
+use Rattle.tier_steps.specs.declared.view.Passage.{Passage}
+use Rattle.tier_steps.specs.declared.view.Passage.TheVariants.{Arrival, Departure}
 use Rattle.tier_steps.specs.Tally.{word_at}
 use Rattle.tier_core.specs.declared.call.Call.TheVariants as call
 use Rattle.tier_core.specs.declared.call.Played.TheVariants.{GoesOn, Done, MustAdvance}
@@ -50,12 +50,12 @@ polls_go s i home core going root p =
     step.goes_on
 
 -- a token in the root's phase that is to pass its tier
-ready_then : (s : State) (i home : ℕ) (trip : Trip) → IsCore s → RootStays s (after s (Go i)) → IsReady s i home → IsSame (view_at s.views i) (view_then s i)
-    → call_then s i ≡ Passing trip → IsReady (after s (Go i)) i home
-ready_then s i home trip core root is same e =
+ready_then : (s : State) (i home : ℕ) (passage : Passage) → IsCore s → RootStays s (after s (Go i)) → IsReady s i home → IsSame (view_at s.views i) (view_then s i)
+    → call_then s i ≡ Passing passage → IsReady (after s (Go i)) i home
+ready_then s i home passage core root is same e =
     let core' = core_after s (Go i) core tt in
     let h = known_after s i is.late.awaited.known in
-    let fits = fitting (after s (Go i)) i (Passing trip) core' h e in
+    let fits = fitting (after s (Go i)) i (Passing passage) core' h e in
     record {
       late = record {
         awaited = awaited_by (after s (Go i)) i core' h fits.0 fits.1;
@@ -65,31 +65,31 @@ ready_then s i home trip core root is same e =
       phase = same.phase ∙ (is.phase ∙ sym root.phase);
     }
 
-looks_go : (s : State) (i home : ℕ) (trip : Trip) → IsCore s → (flat_of s).ended ≡ false → RootStays s (after s (Go i)) → Plays s i (Looks home trip)
-    → (next : Role) × Goes s i (Looks home trip) next
-looks_go s i home trip core going root p =
-    let step = passes_begin_with_a_look s i trip core going p.0.late.awaited p.0.phase p.1 in (
-      Passes home trip,
+looks_go : (s : State) (i home : ℕ) (passage : Passage) → IsCore s → (flat_of s).ended ≡ false → RootStays s (after s (Go i)) → Plays s i (Looks home passage)
+    → (next : Role) × Goes s i (Looks home passage) next
+looks_go s i home passage core going root p =
+    let step = passes_begin_with_a_look s i passage core going p.0.late.awaited p.0.phase p.1 in (
+      Passes home passage,
       record {
         follows = (step.answer, refl);
-        plays = (ready_then s i home trip core root p.0 step.same step.call, step.call);
+        plays = (ready_then s i home passage core root p.0 step.same step.call, step.call);
       },
     )
 
 -- A call that passes its tier refreshes it first, or counts, whatever phase the tier is in.
-abbrev IsWaiting : State → ℕ → Trip → Type 0
-IsWaiting s i trip = IsSame (view_at s.views i) (view_then s i) × (answer_then s i ≡ GoesOn) × (call_then s i ≡ Passing trip)
+abbrev IsWaiting : State → ℕ → Passage → Type 0
+IsWaiting s i passage = IsSame (view_at s.views i) (view_then s i) × (answer_then s i ≡ GoesOn) × (call_then s i ≡ Passing passage)
 
-waits_or_counts : (s : State) (i : ℕ) (trip : Trip) → IsCore s → i < length s.views → (flat_of s).ended ≡ false → call_at s.calls i ≡ Passing trip
-    → IsWaiting s i trip ⊎ IsOwnStep s i trip
-waits_or_counts s i trip core h going e =
+waits_or_counts : (s : State) (i : ℕ) (passage : Passage) → IsCore s → i < length s.views → (flat_of s).ended ≡ false → call_at s.calls i ≡ Passing passage
+    → IsWaiting s i passage ⊎ IsOwnStep s i passage
+waits_or_counts s i passage core h going e =
     let v : View = view_at s.views i in
-    let fits = fitting s i (Passing trip) core h e in
+    let fits = fitting s i (Passing passage) core h e in
     let some : (view_at s.views i).arrived < (view_at s.views i).size = fits.1 in
     let fit = fits_at s i core h in
-    let within : v.tier < length s.words = subst (λ (n : ℕ). v.tier < n) (sym core.tally.long) (fit.seated (omega arith)) in
-    pass_goes s i trip v.tier trip (own_kind trip) (Passing trip) (end_shown (word_at s.words v.tier)) (IsWaiting s i trip ⊎ IsOwnStep s i trip)
-    (still_going s v.tier core going within) (own_errand s i trip)
+    let within : v.tier < length s.words = subst (λ (n : ℕ). v.tier < n) (sym core.tally.long) (fit.placed (omega arith)) in
+    pass_goes s i passage v.tier passage (own_kind passage) (Passing passage) (end_shown (word_at s.words v.tier)) (IsWaiting s i passage ⊎ IsOwnStep s i passage)
+    (still_going s v.tier core going within) (own_errand s i passage)
     (λ g. inl (
       record {
         tier = ap (λ (x : View). x.tier) g.view;
@@ -100,12 +100,12 @@ waits_or_counts s i trip core h going e =
       g.answer,
       g.call,
     ))
-    (λ view owes. inr (record { counts = counted s i trip fits.1 view; owes = owes }))
-    (gone s i (Passing trip) core h e refl)
+    (λ view owes. inr (record { counts = counted s i passage fits.1 view; owes = owes }))
+    (gone s i (Passing passage) core h e refl)
 
 -- the member has been counted
-counted_then : (s : State) (i home : ℕ) (trip : Trip) → IsCore s → RootStays s (after s (Go i)) → IsReady s i home → (view_at s.views i).arrived < (view_at s.views i).size
-    → Counts trip (view_at s.views i) (view_then s i) → HasCounted (after s (Go i)) i home trip
+counted_then : (s : State) (i home : ℕ) (passage : Passage) → IsCore s → RootStays s (after s (Go i)) → IsReady s i home → (view_at s.views i).arrived < (view_at s.views i).size
+    → Counts passage (view_at s.views i) (view_then s i) → HasCounted (after s (Go i)) i home passage
 counted_then s i home Arrival core root is some c =
     let one = is.late.one in
     (known_after s i is.late.awaited.known, c.0 ∙ is.late.tier, c.1 ∙ is.late.one, c.2 ∙ (is.phase ∙ sym root.phase), (let a = c.3 in omega arith))
@@ -113,26 +113,26 @@ counted_then s i home Departure core root is some c =
     let one = is.late.one in
     (known_after s i is.late.awaited.known, (let a = c.1 in omega arith))
 
-passes_go : (s : State) (i home : ℕ) (trip : Trip) → IsCore s → (flat_of s).ended ≡ false → RootStays s (after s (Go i)) → Plays s i (Passes home trip)
-    → (next : Role) × Goes s i (Passes home trip) next
-passes_go s i home trip core going root p =
-    let fits = fitting s i (Passing trip) core p.0.late.awaited.known p.1 in
+passes_go : (s : State) (i home : ℕ) (passage : Passage) → IsCore s → (flat_of s).ended ≡ false → RootStays s (after s (Go i)) → Plays s i (Passes home passage)
+    → (next : Role) × Goes s i (Passes home passage) next
+passes_go s i home passage core going root p =
+    let fits = fitting s i (Passing passage) core p.0.late.awaited.known p.1 in
     ⊎_elim
-    (λ (w : IsWaiting s i trip). (
-      Passes home trip,
+    (λ (w : IsWaiting s i passage). (
+      Passes home passage,
       record {
         follows = inl (w.1, refl);
-        plays = (ready_then s i home trip core root p.0 w.0 w.2, w.2);
+        plays = (ready_then s i home passage core root p.0 w.0 w.2, w.2);
       },
     ))
-    (λ (o : IsOwnStep s i trip).
-    let has = counted_then s i home trip core root p.0 fits.1 o.counts in
+    (λ (o : IsOwnStep s i passage).
+    let has = counted_then s i home passage core root p.0 fits.1 o.counts in
     ⊎_elim
-    (λ q. (Past home trip, record { follows = inr (inl (q.0 ∙ ap Done p.0.phase, refl)); plays = (has, q.2) }))
+    (λ q. (Past home passage, record { follows = inr (inl (q.0 ∙ ap Done p.0.phase, refl)); plays = (has, q.2) }))
     (λ q. ⊎_elim
-    (λ q. (Owes home trip, record { follows = inr (inr (inl (q.0, refl))); plays = (has, q.2) }))
+    (λ q. (Owes home passage, record { follows = inr (inr (inl (q.0, refl))); plays = (has, q.2) }))
     (λ q. (
-      Leads home trip,
+      Leads home passage,
       record {
         follows = inr (inr (inr ((q.0.0, q.0.1 ∙ ap (λ n. MustAdvance n q.0.0) p.0.phase), refl)));
         plays = (has, q.2);
@@ -140,29 +140,29 @@ passes_go s i home trip core going root p =
     ))
     q)
     o.owes)
-    (waits_or_counts s i trip core p.0.late.awaited.known going p.1)
+    (waits_or_counts s i passage core p.0.late.awaited.known going p.1)
 
 -- a climb
-climbed : (s : State) (i home : ℕ) (trip : Trip) → RootStays s (after s (Go i)) → HasCounted s i home trip → IsSame (view_at s.views i) (view_then s i)
-    → HasCounted (after s (Go i)) i home trip
+climbed : (s : State) (i home : ℕ) (passage : Passage) → RootStays s (after s (Go i)) → HasCounted s i home passage → IsSame (view_at s.views i) (view_then s i)
+    → HasCounted (after s (Go i)) i home passage
 climbed s i home Arrival root is same =
     (known_after s i is.0, same.tier ∙ is.1, same.size ∙ is.2, same.phase ∙ (is.3 ∙ sym root.phase), same.arrived ∙ is.4)
 climbed s i home Departure root is same = (known_after s i is.0, same.size ∙ is.1)
 
-known_by : (s : State) (i home : ℕ) (trip : Trip) → HasCounted s i home trip → i < length s.views
+known_by : (s : State) (i home : ℕ) (passage : Passage) → HasCounted s i home passage → i < length s.views
 known_by s i home Arrival is = is.0
 known_by s i home Departure is = is.0
 
-owes_go : (s : State) (i home : ℕ) (trip : Trip) → IsCore s → (flat_of s).ended ≡ false → RootStays s (after s (Go i)) → Plays s i (Owes home trip)
-    → (next : Role) × Goes s i (Owes home trip) next
-owes_go s i home trip core going root p =
-    let step = climbs_keep_members s i trip core (known_by s i home trip p.0) p.1 in
-    let has = climbed s i home trip root p.0 step.same in
+owes_go : (s : State) (i home : ℕ) (passage : Passage) → IsCore s → (flat_of s).ended ≡ false → RootStays s (after s (Go i)) → Plays s i (Owes home passage)
+    → (next : Role) × Goes s i (Owes home passage) next
+owes_go s i home passage core going root p =
+    let step = climbs_keep_members s i passage core (known_by s i home passage p.0) p.1 in
+    let has = climbed s i home passage root p.0 step.same in
     ⊎_elim
-    (λ q. (Past home trip, record { follows = inl (((view_at s.views i).phase, q.0), refl); plays = (has, q.2) }))
+    (λ q. (Past home passage, record { follows = inl (((view_at s.views i).phase, q.0), refl); plays = (has, q.2) }))
     (λ q. ⊎_elim
-    (λ q. (Owes home trip, record { follows = inr (inl (q.0, refl)); plays = (has, q.2) }))
-    (λ q. (Leads home trip, record { follows = inr (inr ((q.0.0, (view_at s.views i).phase, q.0.1), refl)); plays = (has, q.2) }))
+    (λ q. (Owes home passage, record { follows = inr (inl (q.0, refl)); plays = (has, q.2) }))
+    (λ q. (Leads home passage, record { follows = inr (inr ((q.0.0, (view_at s.views i).phase, q.0.1), refl)); plays = (has, q.2) }))
     q)
     step.owes
 
@@ -176,14 +176,14 @@ forces_not (Begun call.Force) e = not_both false e refl
 forces_not (ToSeek tier size) e = refl
 forces_not Settling e = refl
 forces_not (ToGiveBack answer) e = refl
-forces_not (Passing trip) e = refl
+forces_not (Passing passage) e = refl
 forces_not (Owing own) e = refl
 forces_not (Due own) e = refl
 forces_not (Refreshing moved) e = refl
 
-trip_not : (trip : Trip) → is_forcing (Begun (call_by trip)) ≡ false
-trip_not Arrival = refl
-trip_not Departure = refl
+passage_not : (passage : Passage) → is_forcing (Begun (call_by passage)) ≡ false
+passage_not Arrival = refl
+passage_not Departure = refl
 
 -- by the role
 role_goes : (s : State) (i : ℕ) (r : Role) → IsCore s → (flat_of s).ended ≡ false → Plays s i r → is_on_its_way r ≡ true
@@ -192,16 +192,16 @@ role_goes s i Out core going p e = not_both false e refl
 role_goes s i (Late home) core going p e = not_both false e refl
 role_goes s i (Ready home) core going p e = not_both false e refl
 role_goes s i (Here home) core going p e = not_both false e refl
-role_goes s i (Leads home trip) core going p e = not_both false e refl
-role_goes s i (Past home trip) core going p e = not_both false e refl
+role_goes s i (Leads home passage) core going p e = not_both false e refl
+role_goes s i (Past home passage) core going p e = not_both false e refl
 role_goes s i (Polls home) core going p e =
     let root = goes_stay s i core (forces_not (call_at s.calls i) p.1) in (root, polls_go s i home core going root p)
-role_goes s i (Looks home trip) core going p e =
-    let root = goes_stay s i core (ap is_forcing p.1 ∙ trip_not trip) in (root, looks_go s i home trip core going root p)
-role_goes s i (Passes home trip) core going p e =
-    let root = goes_stay s i core (ap is_forcing p.1) in (root, passes_go s i home trip core going root p)
-role_goes s i (Owes home trip) core going p e =
-    let root = goes_stay s i core (ap is_forcing p.1) in (root, owes_go s i home trip core going root p)
+role_goes s i (Looks home passage) core going p e =
+    let root = goes_stay s i core (ap is_forcing p.1 ∙ passage_not passage) in (root, looks_go s i home passage core going root p)
+role_goes s i (Passes home passage) core going p e =
+    let root = goes_stay s i core (ap is_forcing p.1) in (root, passes_go s i home passage core going root p)
+role_goes s i (Owes home passage) core going p e =
+    let root = goes_stay s i core (ap is_forcing p.1) in (root, owes_go s i home passage core going root p)
 role_goes s i (Joins home) core going p e =
     let root = goes_stay s i core (ap is_forcing p.1) in (root, joins_go s i home core going root p)
 role_goes s i (Seeks home claimed) core going p e =

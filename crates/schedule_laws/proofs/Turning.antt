@@ -9,10 +9,10 @@ use Rattle.tier_core.specs.Machine.{State}
 use Rattle.tier_answers.specs.Frame.{flat_of}
 use Rattle.schedule_laws.specs.Roles.{Role, Out}
 use Rattle.schedule_laws.specs.Cast.{role_at, IsCast}
-use Rattle.job_seats.specs.declared.stage.Stage.{Stage}
-use Rattle.job_seats.specs.SeatValue.{KidValue, SeatValue, no_seat, seat_at, kid_at}
-use Rattle.job_schedule.specs.World.{World, with_seat}
-use Rattle.schedule_laws.specs.Working.{OwnFits, KidFits, SitsAt, Sits, of_seat, AreShared, IsWorking}
+use Rattle.job_participants.specs.declared.stage.Stage.{Stage}
+use Rattle.job_participants.specs.ParticipantValue.{KidValue, ParticipantValue, no_participant, participant_at, kid_at}
+use Rattle.job_schedule.specs.World.{World, with_participant}
+use Rattle.schedule_laws.specs.Working.{OwnFits, KidFits, SitsAt, Sits, of_participant, AreShared, IsWorking}
 use Rattle.schedule_laws.proofs.Sharing.{one, others_own, others_kid, free_not}
 use Rattle.schedule_laws.proofs.Calling.{IsSameTree}
 
@@ -34,60 +34,60 @@ sum_set_same f (x ∷ xs) zero y d e = let a = sum_by-cons f x xs in let b = sum
 sum_set_same f (x ∷ xs) (suc p) y d e =
     let a = sum_by-cons f x xs in let b = sum_by-cons f x (set xs p y) in let c = sum_set_same f xs p y d e in omega arith
 
--- The seat at this place is another, with the same tokens, of which this one alone plays another role.
-pub record IsNext (w : World) (roles roles' : List Role) (tiers place i : ℕ) (g : SeatValue) : Type 0 where
-  pub mine : 1 ≤ of_seat (one i) (seat_at w.seats place)
+-- The participant at this place is another, with the same tokens, of which this one alone plays another role.
+pub record IsNext (w : World) (roles roles' : List Role) (tiers place i : ℕ) (g : ParticipantValue) : Type 0 where
+  pub mine : 1 ≤ of_participant (one i) (participant_at w.participants place)
   pub same : (j : ℕ) → j ≢ i → role_at roles' j ≡ role_at roles j
-  pub count : (measure : ℕ → ℕ) → of_seat measure g ≡ of_seat measure (seat_at w.seats place)
+  pub count : (measure : ℕ → ℕ) → of_participant measure g ≡ of_participant measure (participant_at w.participants place)
   pub sits : Sits roles' tiers g
 
-pub next_sits : (w : World) (roles roles' : List Role) (tiers place i n : ℕ) (g : SeatValue) → AreShared w.seats w.free n → place < length w.seats
-    → ((q : ℕ) → q < length w.seats → Sits roles tiers (seat_at w.seats q)) → IsNext w roles roles' tiers place i g
-    → (q : ℕ) → q < length (set w.seats place g) → Sits roles' tiers (seat_at (set w.seats place g) q)
+pub next_sits : (w : World) (roles roles' : List Role) (tiers place i n : ℕ) (g : ParticipantValue) → AreShared w.participants w.free n → place < length w.participants
+    → ((q : ℕ) → q < length w.participants → Sits roles tiers (participant_at w.participants q)) → IsNext w roles roles' tiers place i g
+    → (q : ℕ) → q < length (set w.participants place g) → Sits roles' tiers (participant_at (set w.participants place g) q)
 next_sits w roles roles' tiers place i n g shared h sits is q l =
-    let len : length (set w.seats place g) ≡ length w.seats = length-set w.seats place g in
-    let m : q < length w.seats = omega arith in
+    let len : length (set w.participants place g) ≡ length w.participants = length-set w.participants place g in
+    let m : q < length w.participants = omega arith in
     ⊎_elim
     (λ (e : q ≡ place).
-    subst (λ (x : SeatValue). Sits roles' tiers x) (sym (ap (seat_at (set w.seats place g)) e ∙ get_or-set_same w.seats place g no_seat h)) is.sits)
+    subst (λ (x : ParticipantValue). Sits roles' tiers x) (sym (ap (participant_at (set w.participants place g)) e ∙ get_or-set_same w.participants place g no_participant h)) is.sits)
     (λ (o : q ≢ place).
-    let x : SeatValue = seat_at w.seats q in
-    subst (λ (y : SeatValue). Sits roles' tiers y) (sym (get_or-set_other w.seats place q g no_seat o))
+    let x : ParticipantValue = participant_at w.participants q in
+    subst (λ (y : ParticipantValue). Sits roles' tiers y) (sym (get_or-set_other w.participants place q g no_participant o))
     (sits_stay x.stage roles roles' tiers x.token x.home x.kids x.synced
-    (is.same x.token (others_own w.seats w.free n shared place q i h m o is.mine))
-    (λ k d. is.same (kid_at x.kids k).token (others_kid w.seats w.free n shared place q i k h m o is.mine d))
+    (is.same x.token (others_own w.participants w.free n shared place q i h m o is.mine))
+    (λ k d. is.same (kid_at x.kids k).token (others_kid w.participants w.free n shared place q i k h m o is.mine d))
     (sits q m)))
     (cases_eq q place)
 
-pub next_shared : (w : World) (roles roles' : List Role) (tiers place i n : ℕ) (g : SeatValue) → AreShared w.seats w.free n
-    → IsNext w roles roles' tiers place i g → AreShared (set w.seats place g) w.free n
+pub next_shared : (w : World) (roles roles' : List Role) (tiers place i n : ℕ) (g : ParticipantValue) → AreShared w.participants w.free n
+    → IsNext w roles roles' tiers place i g → AreShared (set w.participants place g) w.free n
 next_shared w roles roles' tiers place i n g shared is = λ measure.
-    let a = sum_set_same (of_seat measure) w.seats place g no_seat (is.count measure) in let b = shared measure in omega arith
+    let a = sum_set_same (of_participant measure) w.participants place g no_participant (is.count measure) in let b = shared measure in omega arith
 
-pub next_free : (w : World) (roles roles' : List Role) (tiers place i n : ℕ) (g : SeatValue) → AreShared w.seats w.free n → place < length w.seats
+pub next_free : (w : World) (roles roles' : List Role) (tiers place i n : ℕ) (g : ParticipantValue) → AreShared w.participants w.free n → place < length w.participants
     → AllByRecursion (λ t. role_at roles t ≡ Out) w.free → IsNext w roles roles' tiers place i g → AllByRecursion (λ t. role_at roles' t ≡ Out) w.free
-next_free w roles roles' tiers place i n g shared h free is = each w.free free (free_not w.seats w.free n shared place i h is.mine)
+next_free w roles roles' tiers place i n g shared h free is = each w.free free (free_not w.participants w.free n shared place i h is.mine)
   where
     each : (ts : List ℕ) → AllByRecursion (λ t. role_at roles t ≡ Out) ts → AllByRecursion (λ t. t ≢ i) ts → AllByRecursion (λ t. role_at roles' t ≡ Out) ts
     each [] a b = tt
     each (t ∷ ts) a b = (is.same t b.0 ∙ a.0, each ts a.1 b.1)
 
-pub turn_works : (parents : List ℕ) (w : World) (roles roles' : List Role) (place i taken : ℕ) (g : SeatValue) (tree : State) (hands : List (Option ℕ))
-    → IsWorking parents w roles → place < length w.seats → ((q : ℕ) → taken ≤ q → (q ≢ place) × (w.taken ≤ q))
+pub turn_works : (parents : List ℕ) (w : World) (roles roles' : List Role) (place i taken : ℕ) (g : ParticipantValue) (tree : State) (hands : List (Option ℕ))
+    → IsWorking parents w roles → place < length w.participants → ((q : ℕ) → taken ≤ q → (q ≢ place) × (w.taken ≤ q))
     → IsNext w roles roles' (length parents) place i g → IsCast tree roles' → (flat_of tree).phase ≡ (flat_of w.tree).phase → IsSameTree w.tree tree
-    → IsWorking parents (record (with_seat w place g) { tree = tree; hands = hands; taken = taken }) roles'
+    → IsWorking parents (record (with_participant w place g) { tree = tree; hands = hands; taken = taken }) roles'
 turn_works parents w roles roles' place i taken g tree hands is h rest next cast phase same =
-    let len : length (set w.seats place g) ≡ length w.seats = length-set w.seats place g in
+    let len : length (set w.participants place g) ≡ length w.participants = length-set w.participants place g in
     let n : ℕ = length w.tree.views in
     record {
       built = record { shape = same.parents ∙ is.built.shape; plan = same.plan ∙ is.built.plan; leaves = is.built.leaves };
       cast = cast;
       phase = phase ∙ is.phase;
       sits = next_sits w roles roles' (length parents) place i n g is.shared h is.sits next;
-      shared = subst (λ (m : ℕ). AreShared (set w.seats place g) w.free m) (sym same.tokens)
+      shared = subst (λ (m : ℕ). AreShared (set w.participants place g) w.free m) (sym same.tokens)
           (next_shared w roles roles' (length parents) place i n g is.shared next);
       free = next_free w roles roles' (length parents) place i n g is.shared h is.free next;
       waits = λ q a b.
-          let k : q < length w.seats = omega arith in
-          ap (λ (x : SeatValue). x.stage) (get_or-set_other w.seats place q g no_seat (rest q a).0) ∙ is.waits q (rest q a).1 k;
+          let k : q < length w.participants = omega arith in
+          ap (λ (x : ParticipantValue). x.stage) (get_or-set_other w.participants place q g no_participant (rest q a).0) ∙ is.waits q (rest q a).1 k;
     }

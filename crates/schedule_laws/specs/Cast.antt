@@ -2,8 +2,8 @@
 use Rattle.std.specs.Prelude.{◌≡◌, ◌≢◌, ℕ, ◌+◌, ◌<◌, ◌≤◌, ◌⊎◌, Bool, true, false, List, [], ◌∷◌, ◌++◌, length, slice_index_or, slice_set, map, sum_by}
 use Rattle.flat_phaser.specs.Flat.{registered}
 use Rattle.phaser_word.specs.Phase.{next_phase_of}
-use Rattle.tier_steps.specs.declared.view.Trip.{Trip}
-use Rattle.tier_steps.specs.declared.view.Trip.TheVariants.{Arrival, Departure}
+use Rattle.tier_steps.specs.declared.view.Passage.{Passage}
+use Rattle.tier_steps.specs.declared.view.Passage.TheVariants.{Arrival, Departure}
 use Rattle.tier_steps.specs.Tally.{word_at}
 use Rattle.tier_core.specs.declared.call.Call.{Call}
 use Rattle.tier_core.specs.declared.call.Call.TheVariants as call
@@ -38,8 +38,8 @@ members_in (Late home) = 1
 members_in (Polls home) = 1
 members_in (Ready home) = 1
 members_in (Here home) = 1
-members_in (Looks home trip) = 1
-members_in (Passes home trip) = 1
+members_in (Looks home passage) = 1
+members_in (Passes home passage) = 1
 members_in (Owes home Arrival) = 1
 members_in (Owes home Departure) = 0
 members_in (Leads home Arrival) = 1
@@ -58,11 +58,11 @@ is_awaited (Late home) = true
 is_awaited (Polls home) = true
 is_awaited (Ready home) = true
 is_awaited (Here home) = true
-is_awaited (Looks home trip) = true
-is_awaited (Passes home trip) = true
-is_awaited (Owes home trip) = false
-is_awaited (Leads home trip) = false
-is_awaited (Past home trip) = false
+is_awaited (Looks home passage) = true
+is_awaited (Passes home passage) = true
+is_awaited (Owes home passage) = false
+is_awaited (Leads home passage) = false
+is_awaited (Past home passage) = false
 
 abbrev pub is_leading : Role → Bool
 is_leading Out = false
@@ -74,11 +74,11 @@ is_leading (Late home) = false
 is_leading (Polls home) = false
 is_leading (Ready home) = false
 is_leading (Here home) = false
-is_leading (Looks home trip) = false
-is_leading (Passes home trip) = false
-is_leading (Owes home trip) = false
-is_leading (Leads home trip) = true
-is_leading (Past home trip) = false
+is_leading (Looks home passage) = false
+is_leading (Passes home passage) = false
+is_leading (Owes home passage) = false
+is_leading (Leads home passage) = true
+is_leading (Past home passage) = false
 
 -- what the next step of a call answers, and the role that it leaves
 abbrev pub Follows : ℕ → Role → Played → Role → Type 0
@@ -93,13 +93,13 @@ Follows now (Polls home) answer next =
     ((answer ≡ GoesOn) × (next ≡ Polls home)) ⊎ (((answer ≡ Passed now) ⊎ (answer ≡ Done now)) × (next ≡ Here home))
 Follows now (Ready home) answer next = ⊥
 Follows now (Here home) answer next = ⊥
-Follows now (Looks home trip) answer next = (answer ≡ GoesOn) × (next ≡ Passes home trip)
-Follows now (Passes home trip) answer next = ((answer ≡ GoesOn) × (next ≡ Passes home trip)) ⊎ ((answer ≡ Done now) × (next ≡ Past home trip))
-    ⊎ ((answer ≡ GoesOn) × (next ≡ Owes home trip)) ⊎ (((parties : ℕ) × (answer ≡ MustAdvance now parties)) × (next ≡ Leads home trip))
-Follows now (Owes home trip) answer next = (((phase : ℕ) × (answer ≡ Done phase)) × (next ≡ Past home trip)) ⊎ ((answer ≡ GoesOn) × (next ≡ Owes home trip))
-    ⊎ (((parties : ℕ) × (phase : ℕ) × (answer ≡ MustAdvance phase parties)) × (next ≡ Leads home trip))
-Follows now (Leads home trip) answer next = ⊥
-Follows now (Past home trip) answer next = ⊥
+Follows now (Looks home passage) answer next = (answer ≡ GoesOn) × (next ≡ Passes home passage)
+Follows now (Passes home passage) answer next = ((answer ≡ GoesOn) × (next ≡ Passes home passage)) ⊎ ((answer ≡ Done now) × (next ≡ Past home passage))
+    ⊎ ((answer ≡ GoesOn) × (next ≡ Owes home passage)) ⊎ (((parties : ℕ) × (answer ≡ MustAdvance now parties)) × (next ≡ Leads home passage))
+Follows now (Owes home passage) answer next = (((phase : ℕ) × (answer ≡ Done phase)) × (next ≡ Past home passage)) ⊎ ((answer ≡ GoesOn) × (next ≡ Owes home passage))
+    ⊎ (((parties : ℕ) × (phase : ℕ) × (answer ≡ MustAdvance phase parties)) × (next ≡ Leads home passage))
+Follows now (Leads home passage) answer next = ⊥
+Follows now (Past home passage) answer next = ⊥
 
 -- whether the role has such a next step
 abbrev pub is_on_its_way : Role → Bool
@@ -112,11 +112,11 @@ is_on_its_way (Late home) = false
 is_on_its_way (Polls home) = true
 is_on_its_way (Ready home) = false
 is_on_its_way (Here home) = false
-is_on_its_way (Looks home trip) = true
-is_on_its_way (Passes home trip) = true
-is_on_its_way (Owes home trip) = true
-is_on_its_way (Leads home trip) = false
-is_on_its_way (Past home trip) = false
+is_on_its_way (Looks home passage) = true
+is_on_its_way (Passes home passage) = true
+is_on_its_way (Owes home passage) = true
+is_on_its_way (Leads home passage) = false
+is_on_its_way (Past home passage) = false
 
 -- The next step of a token leaves a cast tree, in which only its own role has gone on; the root is in its phase.
 pub record GoesTo (s : State) (roles : List Role) (token : ℕ) (next : Role) : Type 0 where
@@ -132,7 +132,7 @@ StepsKeepTheCast =
 -- A poll, an arrival, a departure or a join may begin where the role says so.
 abbrev pub Begins : ℕ → Role → Call → Role → Type 0
 Begins tiers role c next = ((home : ℕ) × (role ≡ Late home) × (c ≡ call.Poll) × (next ≡ Polls home))
-    ⊎ ((home : ℕ) × (trip : Trip) × ((role ≡ Here home) ⊎ (role ≡ Ready home)) × (c ≡ call_by trip) × (next ≡ Looks home trip))
+    ⊎ ((home : ℕ) × (passage : Passage) × ((role ≡ Here home) ⊎ (role ≡ Ready home)) × (c ≡ call_by passage) × (next ≡ Looks home passage))
     ⊎ ((home : ℕ) × (home < tiers) × (role ≡ Out) × (c ≡ call.Join home 1) × (next ≡ Joins home))
 
 abbrev pub BeginningsKeepTheCast : Type 0
@@ -151,9 +151,9 @@ NobodyLeads =
 -- Where one token leads no other climbs, or leads.
 abbrev pub LeadersAreAlone : Type 0
 LeadersAreAlone =
-    (s : State) (roles : List Role) (token other home : ℕ) (trip : Trip) → IsCast s roles → token < length s.views → other < length s.views
+    (s : State) (roles : List Role) (token other home : ℕ) (passage : Passage) → IsCast s roles → token < length s.views → other < length s.views
     → other ≢ token → is_leading (role_at roles token) ≡ true
-    → (role_at roles other ≡ Owes home trip) ⊎ (role_at roles other ≡ Leads home trip) → ⊥
+    → (role_at roles other ≡ Owes home passage) ⊎ (role_at roles other ≡ Leads home passage) → ⊥
 
 -- the role at the beginning of the next superstep
 abbrev pub turned : Role → Role
@@ -166,9 +166,9 @@ turned (Late home) = Late home
 turned (Polls home) = Polls home
 turned (Ready home) = Ready home
 turned (Here home) = Here home
-turned (Looks home trip) = Looks home trip
-turned (Passes home trip) = Passes home trip
-turned (Owes home trip) = Owes home trip
+turned (Looks home passage) = Looks home passage
+turned (Passes home passage) = Passes home passage
+turned (Owes home passage) = Owes home passage
 turned (Leads home Arrival) = Late home
 turned (Leads home Departure) = Out
 turned (Past home Arrival) = Late home
@@ -191,11 +191,11 @@ is_settled (Late home) = true
 is_settled (Polls home) = true
 is_settled (Ready home) = true
 is_settled (Here home) = true
-is_settled (Looks home trip) = true
-is_settled (Passes home trip) = true
-is_settled (Owes home trip) = true
-is_settled (Leads home trip) = true
-is_settled (Past home trip) = true
+is_settled (Looks home passage) = true
+is_settled (Passes home passage) = true
+is_settled (Owes home passage) = true
+is_settled (Leads home passage) = true
+is_settled (Past home passage) = true
 
 abbrev pub AdvancesTurnTheCast : Type 0
 AdvancesTurnTheCast =

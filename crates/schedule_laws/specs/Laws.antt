@@ -8,14 +8,14 @@ use Rattle.tier_answers.specs.Frame.{flat_of}
 use Rattle.task_lang.specs.Meaning.{Segment}
 use Rattle.step_core.specs.Program.{Program}
 use Rattle.step_core.specs.Superstep.{segments, first_fault, record_of}
-use Rattle.job_seats.specs.declared.stage.Mode.TheVariants as mode
+use Rattle.job_participants.specs.declared.stage.Mode.TheVariants as mode
 use Rattle.job_schedule.specs.declared.step.JobStep.{JobStep}
 use Rattle.job_schedule.specs.declared.step.JobStep.TheVariants.{Close}
-use Rattle.job_seats.specs.SeatValue.{is_delivered, is_refused, seat_at}
+use Rattle.job_participants.specs.ParticipantValue.{is_delivered, is_refused, participant_at}
 use Rattle.job_schedule.specs.AnswerValue.{Advanced, Stepped, NotNow}
-use Rattle.job_seats.specs.declared.stage.Move.{Move}
-use Rattle.job_seats.specs.declared.stage.Move.TheVariants.{Calls, Closes}
-use Rattle.job_schedule.specs.World.{World, opening_world, answer_of, move_of, kind_of, kind_for, worker_of, world_after, reached}
+use Rattle.job_participants.specs.declared.stage.Move.{Move}
+use Rattle.job_participants.specs.declared.stage.Move.TheVariants.{Calls, Closes}
+use Rattle.job_schedule.specs.World.{World, initial_world, answer_of, move_of, kind_of, kind_for, worker_of, world_after, reached}
 use Rattle.schedule_laws.specs.Working.{IsKept}
 
 -- a job with a limit on a tree, as it may be driven
@@ -29,32 +29,32 @@ pub record IsDriven (p : Program) (parents : List ℕ) (limit : ℕ) : Type 0 wh
 abbrev pub WorldsAreKept : Type 0
 WorldsAreKept =
     (p : Program) (parents : List ℕ) (limit : ℕ) (xs : List JobStep) → IsDriven p parents limit
-    → IsKept parents (reached (opening_world p parents limit) xs) (reached (opening_world p parents limit) xs).mode
+    → IsKept parents (reached (initial_world p parents limit) xs) (reached (initial_world p parents limit) xs).mode
 
 -- Whoever has advanced the root may close the round at once: each live task was handed in, and all its calls have their answers.
 pub record IsWhole (w : World) (worker token : ℕ) : Type 0 where
-  pub delivered : (place : ℕ) → place < length w.seats → is_delivered (seat_at w.seats place).stage ≡ true
+  pub delivered : (place : ℕ) → place < length w.participants → is_delivered (participant_at w.participants place).stage ≡ true
   pub closes : move_of w worker ≡ Some (Closes token)
 
 abbrev pub ClosingMissesNothing : Type 0
 ClosingMissesNothing =
     (p : Program) (parents : List ℕ) (limit : ℕ) (xs : List JobStep) (worker token : ℕ) → IsDriven p parents limit
-    → (reached (opening_world p parents limit) xs).mode ≡ mode.Advanced worker token
-    → IsWhole (reached (opening_world p parents limit) xs) worker token
+    → (reached (initial_world p parents limit) xs).mode ≡ mode.Advanced worker token
+    → IsWhole (reached (initial_world p parents limit) xs) worker token
 
 -- So whoever has advanced the root is answered to its next step, where that is to close the round.
 abbrev pub ClosesFollowAdvances : Type 0
 ClosesFollowAdvances =
     (p : Program) (parents : List ℕ) (limit : ℕ) (xs : List JobStep) (x : JobStep) (played : Played) → IsDriven p parents limit
-    → answer_of (reached (opening_world p parents limit) xs) x ≡ Advanced played
-    → answer_of (world_after (reached (opening_world p parents limit) xs) x) (Close (worker_of x)) ≢ NotNow
+    → answer_of (reached (initial_world p parents limit) xs) x ≡ Advanced played
+    → answer_of (world_after (reached (initial_world p parents limit) xs) x) (Close (worker_of x)) ≢ NotNow
 
 -- In every schedule a worker's next step is answered, whatever the others have done: a step answers NotNow only where it isn't its worker's next.
 abbrev pub NextStepsAreAnswered : Type 0
 NextStepsAreAnswered =
     (p : Program) (parents : List ℕ) (limit : ℕ) (xs : List JobStep) (x : JobStep) (move : Move) → IsDriven p parents limit
-    → move_of (reached (opening_world p parents limit) xs) (worker_of x) ≡ Some move → kind_of x ≡ kind_for move
-    → answer_of (reached (opening_world p parents limit) xs) x ≢ NotNow
+    → move_of (reached (initial_world p parents limit) xs) (worker_of x) ≡ Some move → kind_of x ≡ kind_for move
+    → answer_of (reached (initial_world p parents limit) xs) x ≢ NotNow
 
 -- what the live tasks do in this superstep
 abbrev pub deeds : World → List (List ℕ × Segment)
@@ -71,13 +71,13 @@ pub record IsCounted (w : World) : Type 0 where
 abbrev pub AdvancesAreCounted : Type 0
 AdvancesAreCounted =
     (p : Program) (parents : List ℕ) (limit : ℕ) (xs : List JobStep) (x : JobStep) (played : Played) → IsDriven p parents limit
-    → answer_of (reached (opening_world p parents limit) xs) x ≡ Advanced played
-    → IsCounted (reached (opening_world p parents limit) xs)
+    → answer_of (reached (initial_world p parents limit) xs) x ≡ Advanced played
+    → IsCounted (reached (initial_world p parents limit) xs)
 
 -- A spawned task's join at the tier of its spawner is never refused.
 abbrev pub SpawnsHaveRoomAtHome : Type 0
 SpawnsHaveRoomAtHome =
     (p : Program) (parents : List ℕ) (limit : ℕ) (xs : List JobStep) (x : JobStep) (place token : ℕ) (played : Played) → IsDriven p parents limit
-    → move_of (reached (opening_world p parents limit) xs) (worker_of x)
-    ≡ Some (Calls place token (call.Join (seat_at (reached (opening_world p parents limit) xs).seats place).home 1))
-    → answer_of (reached (opening_world p parents limit) xs) x ≡ Stepped played → is_refused played ≡ false
+    → move_of (reached (initial_world p parents limit) xs) (worker_of x)
+    ≡ Some (Calls place token (call.Join (participant_at (reached (initial_world p parents limit) xs).participants place).home 1))
+    → answer_of (reached (initial_world p parents limit) xs) x ≡ Stepped played → is_refused played ≡ false

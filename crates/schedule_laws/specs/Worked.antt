@@ -13,7 +13,7 @@ use Rattle.step_core.specs.Program.{Program}
 use Rattle.job_schedule.specs.declared.step.JobStep.{JobStep}
 use Rattle.job_schedule.specs.declared.step.JobStep.TheVariants.{Take, Deliver, Tree, Advance, Close}
 use Rattle.job_schedule.specs.AnswerValue.{AnswerValue, Took, Delivered, Stepped, Advanced, Closed, Finished, NotNow}
-use Rattle.job_schedule.specs.World.{opening_world, answers}
+use Rattle.job_schedule.specs.World.{initial_world, answers}
 use Rattle.schedule_laws.specs.Laws.{IsDriven}
 
 -- one task that stops at once
@@ -82,8 +82,8 @@ told_three =
 
 pub record SchedulesAreWorkedOut : Type 0 where
   pub alone_is_driven : IsDriven alone (0 ∷ []) 10
-  pub one : answers (opening_world alone (0 ∷ []) 10) one_worker ≡ told_one
+  pub one : answers (initial_world alone (0 ∷ []) 10) one_worker ≡ told_one
   pub pair_is_driven : IsDriven pair (0 ∷ 0 ∷ 0 ∷ []) 10
-  pub two : answers (opening_world pair (0 ∷ 0 ∷ 0 ∷ []) 10) two_workers ≡ told_two
+  pub two : answers (initial_world pair (0 ∷ 0 ∷ 0 ∷ []) 10) two_workers ≡ told_two
   pub uneven_is_driven : IsDriven uneven (0 ∷ 0 ∷ 0 ∷ 1 ∷ []) 10
-  pub three : answers (opening_world uneven (0 ∷ 0 ∷ 0 ∷ 1 ∷ []) 10) three_workers ≡ told_three
+  pub three : answers (initial_world uneven (0 ∷ 0 ∷ 0 ∷ 1 ∷ []) 10) three_workers ≡ told_three

@@ -1,27 +1,27 @@
 -- What is true of a world between two steps of workers, while its job runs (own).
 use Rattle.std.specs.Prelude.{◌≡◌, ◌≢◌, ℕ, zero, suc, ◌+◌, ◌<◌, ◌≤◌, ◌⊎◌, Bool, true, false, List, length, map, sum_by, is_some}
 use Rattle.std.specs.List.{AllByRecursion}
-use Rattle.tier_steps.specs.declared.view.Trip.{Trip}
-use Rattle.tier_steps.specs.declared.view.Trip.TheVariants.{Arrival, Departure}
+use Rattle.tier_steps.specs.declared.view.Passage.{Passage}
+use Rattle.tier_steps.specs.declared.view.Passage.TheVariants.{Arrival, Departure}
 use Rattle.tier_answers.specs.Frame.{flat_of}
 use Rattle.step_core.specs.JobMeaning.{status}
 use Rattle.schedule_laws.specs.Roles.{Role, Out, Joins, Seeks, Settles, GivesBack, Late, Polls, Ready, Here, Looks, Passes, Owes, Leads, Past}
 use Rattle.schedule_laws.specs.Cast.{role_at, IsCast, turned}
-use Rattle.job_seats.specs.declared.stage.Mode.{Mode}
-use Rattle.job_seats.specs.declared.stage.Mode.TheVariants as mode
-use Rattle.job_seats.specs.declared.stage.Stage.{Stage}
-use Rattle.job_seats.specs.declared.stage.Stage.TheVariants.{Waits, Taken, Polling, Joining, Arriving, Leaving, Over}
-use Rattle.job_seats.specs.SeatValue.{KidValue, SeatValue, kid_at, seat_at, all_over, living_seats}
+use Rattle.job_participants.specs.declared.stage.Mode.{Mode}
+use Rattle.job_participants.specs.declared.stage.Mode.TheVariants as mode
+use Rattle.job_participants.specs.declared.stage.Stage.{Stage}
+use Rattle.job_participants.specs.declared.stage.Stage.TheVariants.{Waits, Taken, Polling, Joining, Arriving, Leaving, Over}
+use Rattle.job_participants.specs.ParticipantValue.{KidValue, ParticipantValue, kid_at, participant_at, all_over, living_participants}
 use Rattle.job_schedule.specs.World.{World, plan_for}
 
 -- a task that synced arrives, any other leaves
-abbrev pub trip_if : Bool → Trip
-trip_if true = Arrival
-trip_if false = Departure
+abbrev pub passage_if : Bool → Passage
+passage_if true = Arrival
+passage_if false = Departure
 
--- a token that is to take such a trip from its tier, or is on its way
-abbrev pub IsOwnPassing : ℕ → Trip → Role → Type 0
-IsOwnPassing home trip own = (own ≡ Here home) ⊎ (own ≡ Looks home trip) ⊎ (own ≡ Passes home trip) ⊎ (own ≡ Owes home trip) ⊎ (own ≡ Leads home trip)
+-- a token that is to take such a passage from its tier, or is on its way
+abbrev pub IsOwnPassing : ℕ → Passage → Role → Type 0
+IsOwnPassing home passage own = (own ≡ Here home) ⊎ (own ≡ Looks home passage) ⊎ (own ≡ Passes home passage) ⊎ (own ≡ Owes home passage) ⊎ (own ≡ Leads home passage)
 
 -- the role of a task's own token, by how far the task has come
 abbrev pub OwnFits : Stage → ℕ → Bool → Role → Type 0
@@ -30,8 +30,8 @@ OwnFits Taken home synced own = own ≡ Late home
 OwnFits Polling home synced own = (own ≡ Late home) ⊎ (own ≡ Polls home)
 OwnFits (Joining joined) home synced own = own ≡ Here home
 OwnFits (Arriving arrived) home synced own = own ≡ Here home
-OwnFits Leaving home synced own = IsOwnPassing home (trip_if synced) own
-OwnFits Over home synced own = own ≡ Past home (trip_if synced)
+OwnFits Leaving home synced own = IsOwnPassing home (passage_if synced) own
+OwnFits Over home synced own = own ≡ Past home (passage_if synced)
 
 -- A token that is to join at this tier, or is on its way. At the tier of its own spawner it joins at once: only elsewhere it may have claimed
 -- tiers on its way, settle them, or give them back.
@@ -73,20 +73,20 @@ pub record SitsAt (stage : Stage) (roles : List Role) (tiers token home : ℕ) (
   pub turn : HasTurn stage (length kids)
   pub homes : (number : ℕ) → number < length kids → (kid_at kids number).home < tiers
 
-abbrev pub Sits : List Role → ℕ → SeatValue → Type 0
+abbrev pub Sits : List Role → ℕ → ParticipantValue → Type 0
 Sits roles tiers g = SitsAt g.stage roles tiers g.token g.home g.kids g.synced
 
 -- a measure of tokens over those of a task, and over all of so many
-abbrev pub of_seat : (ℕ → ℕ) → SeatValue → ℕ
-of_seat measure g = measure g.token + sum_by (λ (k : KidValue). measure k.token) g.kids
+abbrev pub of_participant : (ℕ → ℕ) → ParticipantValue → ℕ
+of_participant measure g = measure g.token + sum_by (λ (k : KidValue). measure k.token) g.kids
 
 abbrev pub of_all : ℕ → (ℕ → ℕ) → ℕ
 of_all zero measure = 0
 of_all (suc n) measure = of_all n measure + measure n
 
 -- Each of so many tokens is a live task's, or a spawned one's, or free, and it is so once: by any measure they count the same.
-abbrev pub AreShared : List SeatValue → List ℕ → ℕ → Type 0
-AreShared seats free tokens = (measure : ℕ → ℕ) → sum_by (of_seat measure) seats + sum_by measure free ≡ of_all tokens measure
+abbrev pub AreShared : List ParticipantValue → List ℕ → ℕ → Type 0
+AreShared participants free tokens = (measure : ℕ → ℕ) → sum_by (of_participant measure) participants + sum_by measure free ≡ of_all tokens measure
 
 -- what no step of a superstep changes
 pub record IsBuilt (parents : List ℕ) (w : World) : Type 0 where
@@ -99,27 +99,27 @@ pub record IsWorking (parents : List ℕ) (w : World) (roles : List Role) : Type
   pub built : IsBuilt parents w
   pub cast : IsCast w.tree roles
   pub phase : (flat_of w.tree).phase ≡ w.job.step
-  pub sits : (place : ℕ) → place < length w.seats → Sits roles (length parents) (seat_at w.seats place)
-  pub shared : AreShared w.seats w.free (length w.tree.views)
+  pub sits : (place : ℕ) → place < length w.participants → Sits roles (length parents) (participant_at w.participants place)
+  pub shared : AreShared w.participants w.free (length w.tree.views)
   pub free : AllByRecursion (λ token. role_at roles token ≡ Out) w.free
-  pub waits : (place : ℕ) → w.taken ≤ place → place < length w.seats → (seat_at w.seats place).stage ≡ Waits
+  pub waits : (place : ℕ) → w.taken ≤ place → place < length w.participants → (participant_at w.participants place).stage ≡ Waits
 
 -- After the advance: all live tasks are over; if the tree goes on, it does so in the next phase, where those that stay are awaited.
 -- It has ended where nobody stays, or in the last phase of the limit.
 pub record IsTurning (parents : List ℕ) (w : World) (roles : List Role) : Type 0 where
   pub built : IsBuilt parents w
-  pub over : all_over w.seats ≡ true
-  pub sits : (place : ℕ) → place < length w.seats → Sits roles (length parents) (seat_at w.seats place)
-  pub shared : AreShared w.seats w.free (length w.tree.views)
+  pub over : all_over w.participants ≡ true
+  pub sits : (place : ℕ) → place < length w.participants → Sits roles (length parents) (participant_at w.participants place)
+  pub shared : AreShared w.participants w.free (length w.tree.views)
   pub free : AllByRecursion (λ token. role_at roles token ≡ Out) w.free
   pub cast : (flat_of w.tree).ended ≡ false → IsCast w.tree (map turned roles)
   pub phase : (flat_of w.tree).ended ≡ false → (flat_of w.tree).phase ≡ suc w.job.step
-  pub last : (flat_of w.tree).ended ≡ true → (length (living_seats w.seats) ≡ 0) ⊎ (w.limit ≤ suc w.job.step)
+  pub last : (flat_of w.tree).ended ≡ true → (length (living_participants w.participants) ≡ 0) ⊎ (w.limit ≤ suc w.job.step)
 
 -- While a job runs its superstep works, or turns; a job that is over before it begins has no tasks.
 abbrev pub IsKept : List ℕ → World → Mode → Type 0
 IsKept parents w mode.Runs =
-    ((is_some (status w.limit w.job) ≡ true) × (length w.seats ≡ 0))
+    ((is_some (status w.limit w.job) ≡ true) × (length w.participants ≡ 0))
     ⊎ ((is_some (status w.limit w.job) ≡ false) × ((roles : List Role) × IsWorking parents w roles))
 IsKept parents w (mode.Advanced closer token) =
     (is_some (status w.limit w.job) ≡ false) × (closer < 64) × ((roles : List Role) × IsTurning parents w roles)

@@ -19,7 +19,7 @@ use Rattle.task_lang.specs.declared.job.Start.{Start}
 use Rattle.task_lang.specs.BodyValue.{BodyValue}
 use Rattle.step_parts.specs.declared.fault.Outcome.TheVariants.{TooMany, Landed, Overflowed}
 use Rattle.step_parts.specs.Taking.{outcome_of, outcome_by}
-use Rattle.step_parts.specs.JobMeaning.{so_far, status, opening, start_tasks}
+use Rattle.step_parts.specs.JobMeaning.{so_far, status, initial, start_tasks}
 use Rattle.step_parts.specs.SlotValue.{SlotValue}
 use Rattle.step_parts.specs.FinishedValue.{FinishedValue}
 use Rattle.step_parts.specs.Slots.{Slot, slot_of, slots_of, told_by, task_in, delivered, with_done, first_missing, or_missing, fresh, all_prints, all_told}
@@ -312,10 +312,10 @@ over_opens job limit step ea ex ef fault f now new is ends e =
 -- a round as it opens
 pub opened : (job : JobValue) (limit : ℕ) (arrays : List (List ℕ × List ℤ)) (slots : List SlotValue)
     → arrays ≡ job.arrays → slots_of (plans job.bodies) slots ≡ map fresh (start_tasks (plans job.bodies) 0 job.starts) → length job.starts ≤ 4096
-    → IsRound (whole job limit 0 arrays slots [] None) × Opens (whole job limit 0 arrays slots [] None) job limit (opening (program_of job))
+    → IsRound (whole job limit 0 arrays slots [] None) × Opens (whole job limit 0 arrays slots [] None) job limit (initial (program_of job))
 opened job limit arrays slots ea es le =
     let ps = plans job.bodies in
-    let s : state_of (whole job limit 0 arrays slots [] None) ≡ opening (program_of job) =
+    let s : state_of (whole job limit 0 arrays slots [] None) ≡ initial (program_of job) =
     (λ i. record { step = 0; arrays = ea i; live = (ap (map task_in) es ∙ fresh_tasks (start_tasks ps 0 job.starts)) i; prints = []; records = []; fault = None }) in
     let l : length slots ≡ length job.starts =
     sym (slots_length ps slots) ∙ ap length es ∙ fresh_length (start_tasks ps 0 job.starts) ∙ starts_length ps 0 job.starts in (
@@ -346,10 +346,10 @@ opened job limit arrays slots ea es le =
 pub opened_so : (job : JobValue) (limit : ℕ) (arrays : List (List ℕ × List ℤ)) (slots : List SlotValue) (finished : List FinishedValue)
     → arrays ≡ job.arrays → finished ≡ [] → (bodies : List BodyValue) → bodies ≡ job.bodies → (starts : List Start) → starts ≡ job.starts
     → slots_of (plans bodies) slots ≡ map fresh (start_tasks (plans bodies) 0 starts) → length job.starts ≤ 4096
-    → IsRound (whole job limit 0 arrays slots finished None) × Opens (whole job limit 0 arrays slots finished None) job limit (opening (program_of job))
+    → IsRound (whole job limit 0 arrays slots finished None) × Opens (whole job limit 0 arrays slots finished None) job limit (initial (program_of job))
 opened_so job limit arrays slots finished ea ef bodies eb starts es h le =
     let at : slots_of (plans job.bodies) slots ≡ map fresh (start_tasks (plans job.bodies) 0 job.starts) =
     ap (λ (b : List BodyValue). slots_of (plans b) slots) (sym eb) ∙ h
     ∙ (λ i. map fresh (start_tasks (plans (eb i)) 0 (es i))) in
-    subst (λ (fs : List FinishedValue). IsRound (whole job limit 0 arrays slots fs None) × Opens (whole job limit 0 arrays slots fs None) job limit (opening (program_of job)))
+    subst (λ (fs : List FinishedValue). IsRound (whole job limit 0 arrays slots fs None) × Opens (whole job limit 0 arrays slots fs None) job limit (initial (program_of job)))
     (sym ef) (opened job limit arrays slots ea at le)

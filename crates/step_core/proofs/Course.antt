@@ -20,7 +20,7 @@ use Rattle.step_parts.specs.Program.{Program, program_of}
 use Rattle.superstep_memory.specs.PathOrder.{in_path_order}
 use Rattle.step_parts.specs.SlotParts.{path_in, told_at}
 use Rattle.step_parts.specs.Superstep.{State, superstep, ended_by, first_fault, live_paths}
-use Rattle.step_parts.specs.JobMeaning.{opening, so_far, status, status_of, start_tasks, told, report_of}
+use Rattle.step_parts.specs.JobMeaning.{initial, so_far, status, status_of, start_tasks, told, report_of}
 use Rattle.step_deeds.specs.InPlace.{AllDone, deeds_of, IsAllDone, Told, maker, living_with, told_in}
 use Rattle.step_core.specs.Course.{course_state, HasFaulted, HasGone, HasTakenOne, left_by}
 use Rattle.step_core.specs.declared.alone.Course.{Course}
@@ -117,7 +117,7 @@ first_state ps arrays ts prints records = record { step = 0; arrays = arrays; li
 pub begun : (job : JobValue) (arrays : List (List ℕ × List ℤ)) (bodies : List BodyValue) (starts : List Start) (ts : List TaskValue) (prints : List PrintValue) (records : List PhaseRecord)
     → arrays ≡ job.arrays → bodies ≡ job.bodies → starts ≡ job.starts → map (task_of (plans bodies)) ts ≡ start_tasks (plans bodies) 0 starts
     → prints ≡ [] → records ≡ []
-    → first_state (plans job.bodies) arrays ts prints records ≡ opening (program_of job)
+    → first_state (plans job.bodies) arrays ts prints records ≡ initial (program_of job)
 begun job arrays bodies starts ts prints records ea eb es h ep er =
     let live : map (task_of (plans job.bodies)) ts ≡ start_tasks (plans job.bodies) 0 job.starts =
     ap (λ (b : List BodyValue). map (task_of (plans b)) ts) (sym eb) ∙ h ∙ (λ i. start_tasks (plans (eb i)) 0 (es i)) in

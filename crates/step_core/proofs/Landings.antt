@@ -2,7 +2,7 @@
 use Rattle.std.proofs.Common.{◌≡◌, ℕ, zero, suc, ◌<◌, Bool, true, false, List, [], ◌∷◌, ◌++◌, map, length, Option, Some, None, refl, sym, ap, ◌∙◌, arith}
 use Rattle.std.specs.Prelude.{pos, ◌&&◌, ◌||◌, slice_index_or}
 use Rattle.std.specs.List.{Contains, list_all}
-use Rattle.superstep_memory.specs.declared.arrays.Kind.TheVariants.{Set}
+use Rattle.superstep_memory.specs.declared.arrays.PutKind.TheVariants.{Set}
 use Rattle.superstep_memory.specs.declared.arrays.Put.{Put}
 use Rattle.superstep_memory.specs.Cells.{cell_at}
 use Rattle.superstep_memory.specs.Paths.{path_lt, is_rising}

@@ -42,7 +42,7 @@ use Rattle.step_core.specs.Laws.{
   IsBeginning,
   LongerLimitsOnlyAdd,
   JobsEnd,
-  RecordsTally,
+  RecordsAgree,
   NextLiveSyncedOrSpawned,
   paths_on,
 }
@@ -223,11 +223,11 @@ one_tallies path (Synced t) later h = (h, refl)
 one_tallies path Stopped later h = (h, refl)
 one_tallies path (Faulted f) later h = cc
 
-all_tally : (ss : List (List ℕ × Segment)) → first_fault ss ≡ None → length (living_on ss) + left ss ≡ length ss + spawned ss
-all_tally [] h = refl
-all_tally (s ∷ ss) h =
+all_agree : (ss : List (List ℕ × Segment)) → first_fault ss ≡ None → length (living_on ss) + left ss ≡ length ss + spawned ss
+all_agree [] h = refl
+all_agree (s ∷ ss) h =
     let one = one_tallies s.0 s.1.after (first_fault ss) h in
-    let more = all_tally ss one.0 in
+    let more = all_agree ss one.0 in
     let x = length_append (synced s.1.after ++ s.1.spawns) (living_on ss) in
     let y = length_append (synced s.1.after) s.1.spawns in
     omega (arith, one.1, more, x, y)
@@ -241,11 +241,11 @@ closed_tallies : (st : State) (ss : List (List ℕ × Segment)) (f : Option (ℕ
 closed_tallies st ss (Some f) e h = cc
 closed_tallies st ss None e h =
     let l = length_ordered (living_on ss) in
-    let m = all_tally ss (none_of (first_fault ss) (or_next (too_many (next_live ss)) (overflow st.arrays ss)) e) in
+    let m = all_agree ss (none_of (first_fault ss) (or_next (too_many (next_live ss)) (overflow st.arrays ss)) e) in
     omega (arith, l, m)
 
-pub records-tally : RecordsTally
-records-tally p st h =
+pub records-agree : RecordsAgree
+records-agree p st h =
     closed_tallies st (segments p st.arrays st.step st.live) (fault_in st.arrays (segments p st.arrays st.step st.live)) refl h
 
 living_paths : (p : Program) (a : List (List ℕ × List ℤ)) (n : ℕ) (ts : List Task) → map (λ (t : Task). t.path) (living_on (segments p a n ts)) ≡ paths_on (segments p a n ts)

@@ -1,7 +1,7 @@
 -- What holds of rounds and of jobs (own).
 use Rattle.std.specs.Prelude.{◌≡◌, ◌↔◌, if◌then◌else◌, slice_get, ℕ, ◌+◌, ◌≤◌, pos, true, false, IsTrue, is_some, List, [], ◌∷◌, ◌++◌, length, Some, None}
 use Rattle.std.specs.List.{Contains}
-use Rattle.superstep_memory.specs.declared.arrays.Kind.TheVariants.{Set}
+use Rattle.superstep_memory.specs.declared.arrays.PutKind.TheVariants.{Set}
 use Rattle.superstep_memory.specs.declared.arrays.Put.{Put}
 use Rattle.superstep_memory.specs.Cells.{cell_at}
 use Rattle.superstep_memory.specs.Paths.{path_lt, is_rising}
@@ -53,8 +53,8 @@ abbrev pub JobsEnd : Type 0
 JobsEnd = (p : Program) (limit : ℕ) → IsTrue (is_some (report_of p limit))
 
 -- Of the parties of a superstep that is recorded those live on that haven't left.
-abbrev pub RecordsTally : Type 0
-RecordsTally =
+abbrev pub RecordsAgree : Type 0
+RecordsAgree =
     (p : Program) (st : State) → (superstep p st).fault ≡ None
     → length (superstep p st).live + (record_of st.step (segments p st.arrays st.step st.live)).left
     ≡ (record_of st.step (segments p st.arrays st.step st.live)).parties

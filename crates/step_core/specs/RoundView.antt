@@ -6,7 +6,7 @@ use Rattle.step_parts.specs.RoundValue.{RoundValue, IsRound, whole}
 use Rattle.step_parts.specs.Slots.{missing_in}
 
 abbrev pub round_of : Inside → RoundValue
-round_of r = whole r.job.now r.limit r.step (arc_value r.opening) r.live r.finished.items r.fault
+round_of r = whole r.job.now r.limit r.step (arc_value r.start_arrays) r.live r.finished.items r.fault
 
 abbrev pub IsRoundInside : Inside → Type 0
 IsRoundInside r = IsRound (round_of r) × (r.missing ≡ missing_in r.live)

@@ -8,7 +8,7 @@ ghost use Rattle.step_parts.specs.Program.{program_of};
 ghost use Rattle.superstep_memory.specs.PathOrder.{in_path_order};
 ghost use Rattle.step_parts.specs.SlotParts.{path_in};
 ghost use Rattle.step_deeds.specs.InPlace.{living_with, left_in, spawned_in};
-ghost use Rattle.step_parts.specs.JobMeaning.{start_tasks, opening, report_of};
+ghost use Rattle.step_parts.specs.JobMeaning.{start_tasks, initial, report_of};
 ghost use Rattle.step_core.specs.Course.{course_state, HasTakenOne, left_by};
 
 use crate::watch::{NoWatch, Watch};
@@ -189,7 +189,7 @@ fn run_within<W: Watch>(
     room: &mut Room,
     watch: &mut W,
 ) -> Result<JobStatus, AllocError>
-    requires start { course_state (program_of job.now) course.old ≡ opening (program_of job.now) }
+    requires start { course_state (program_of job.now) course.old ≡ initial (program_of job.now) }
     requires few { length course.old.tasks.items ≤ 4096 }
     ensures report { IfOk result (λ s. report_of (program_of job.now) limit ≡ Some (left_by course.new (status_seen s))) }
     ensures short { IfOk result (λ s. IsShort (status_seen s)) }
@@ -220,7 +220,7 @@ fn run_on<W: Watch>(
     course: &mut Course,
     watch: &mut W,
 ) -> Result<JobStatus, AllocError>
-    requires start { course_state (program_of job.now) course.old ≡ opening (program_of job.now) }
+    requires start { course_state (program_of job.now) course.old ≡ initial (program_of job.now) }
     requires few { length course.old.tasks.items ≤ 4096 }
     ensures report { IfOk result (λ s. report_of (program_of job.now) limit ≡ Some (left_by course.new (status_seen s))) }
     ensures short { IfOk result (λ s. IsShort (status_seen s)) }
@@ -231,7 +231,7 @@ fn run_on<W: Watch>(
 
 // A job before its first superstep.
 fn begin(alloc: Global, job: &Job) -> Result<Course, AllocError>
-    ensures start { IfOk result (λ c. course_state (program_of job.now) c ≡ opening (program_of job.now)) }
+    ensures start { IfOk result (λ c. course_state (program_of job.now) c ≡ initial (program_of job.now)) }
     ensures few { IfOk result (λ c. length c.tasks.items ≤ 4096) }
 {
     let arrays = job.arrays().copy(alloc)?;

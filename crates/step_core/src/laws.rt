@@ -1,5 +1,5 @@
 //! Laws on rounds and on what jobs mean. Each function does nothing: its contract is the law.
-ghost use Rattle.step_core.specs.Laws.{DeliveryOrderIsFree, LongerLimitsOnlyAdd, JobsEnd, RecordsTally, LivePathsRise};
+ghost use Rattle.step_core.specs.Laws.{DeliveryOrderIsFree, LongerLimitsOnlyAdd, JobsEnd, RecordsAgree, LivePathsRise};
 ghost use Rattle.step_core.specs.Laws.{LaterPathWins, OthersKeepTheirValues};
 ghost use Rattle.step_core.specs.Laws.{MissingTells, OrdersAreOwn, NextLiveSyncedOrSpawned, FormatsMeanTheSame};
 
@@ -19,8 +19,8 @@ pub fn jobs_end()
 {}
 
 /// Of the parties of a superstep those live on that haven't left.
-pub fn records_tally()
-    ensures { RecordsTally }
+pub fn records_agree()
+    ensures { RecordsAgree }
 {}
 
 /// Live paths strictly rise, so that each live task has a path of its own.

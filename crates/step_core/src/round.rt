@@ -43,7 +43,7 @@ pub struct Round<'j> {
     job: &'j Job,
     limit: u32,
     step: u32,
-    opening: Arc<Arrays>,
+    start_arrays: Arc<Arrays>,
     live: Live,
     // For how many live tasks nothing was delivered.
     missing: usize,
@@ -81,7 +81,7 @@ impl<'j> Round<'j> {
     ghost use Rattle.phase_records.specs.Status.{IsShort};
     ghost use Rattle.phase_records.specs.StatusSeen.{status_seen};
     ghost use Rattle.step_parts.specs.Program.{program_of};
-    ghost use Rattle.step_parts.specs.JobMeaning.{opening, report_in};
+    ghost use Rattle.step_parts.specs.JobMeaning.{initial, report_in};
     ghost use Rattle.step_parts.specs.Superstep.{superstep, live_paths, first_fault};
     ghost use Rattle.step_parts.specs.Slots.{delivered, first_missing, missing_in};
     ghost use Rattle.step_parts.specs.SlotParts.{path_of, living_in, IsPlaceOf};
@@ -91,18 +91,18 @@ impl<'j> Round<'j> {
     /// A round of this job with this limit of supersteps, before the first of them.
     pub fn new(alloc: Global, job: &'j Job, limit: u32) -> Result<Self, AllocError>
         requires { 1 ≤ limit }
-        ensures { IfOk result (λ r. Opens r job.now limit (opening (program_of job.now))) }
+        ensures { IfOk result (λ r. Opens r job.now limit (initial (program_of job.now))) }
     {
         let tasks = start_all(alloc, job.bodies(), job.starts())?;
         let missing = tasks.len();
         let live = Live::new(alloc, tasks)?;
         let arrays = job.arrays().copy(alloc)?;
         match Arc::new(alloc, arrays) {
-            Ok(opening) => Ok(Round {
+            Ok(start_arrays) => Ok(Round {
                 job,
                 limit,
                 step: 0,
-                opening,
+                start_arrays,
                 live,
                 missing,
                 finished: Vec::new(alloc),
@@ -164,7 +164,7 @@ impl<'j> Round<'j> {
         };
         let prints = prints_of(alloc, &self.finished)?;
         let records = records_of(alloc, &self.finished)?;
-        let arrays = self.opening.copy(alloc)?;
+        let arrays = self.start_arrays.copy(alloc)?;
         Ok(Some(Report {
             prints,
             records,
@@ -181,11 +181,11 @@ impl<'j> Round<'j> {
             return Ok(None);
         };
         let Round {
-            opening,
+            start_arrays,
             finished,
             ..
         } = self;
-        join_report(alloc, opening, finished, status)
+        join_report(alloc, start_arrays, finished, status)
     }
 
     /// For how many live tasks nothing was delivered yet: none exactly where closing doesn't answer `Missing`. It takes no
@@ -205,11 +205,11 @@ impl<'j> Round<'j> {
         ensures task { IfOk result (λ o. option_map task_at (slice_get self.now.slots place) ≡ Some o.task) }
     {
         let tasks = self.live.tasks()?;
-        let arrays = Arc::try_clone(&self.opening)?;
+        let arrays = Arc::try_clone(&self.start_arrays)?;
         Ok(Order::new(self.job, self.step, place, tasks, arrays))
     }
 
-    /// What the segment of the live task of this path needs, the opening arrays and the step included; `None` where no
+    /// What the segment of the live task of this path needs, the arrays at its start and the step included; `None` where no
     /// live task has it, and where the job has ended. Nothing is copied.
     pub fn order(&self, _alloc: Global, path: &[u16]) -> Result<Option<Order<'j>>, AllocError>
         ensures { IfOk result (λ order. MatchOption order
@@ -381,7 +381,7 @@ impl<'j> Round<'j> {
             alloc,
             self.step,
             count,
-            &mut self.opening,
+            &mut self.start_arrays,
             &mut self.finished,
         );
         match taken {

@@ -1,4 +1,4 @@
 pub mod DeedValue
 pub mod InPlace
 pub mod DeedsView
-pub mod Turns
+pub mod Changes

@@ -6,7 +6,7 @@ ghost use Rattle.superstep_memory.specs.PathOrder.{put_all, in_path_order};
 ghost use Rattle.step_parts.specs.SlotParts.{path_in, told_at};
 ghost use Rattle.step_deeds.specs.DeedsView.{deeds_with, spawned_by, stopped_by, behind};
 ghost use Rattle.step_deeds.specs.InPlace.{told_in, maker, kept, living_with, left_in, spawned_in, AllFew};
-ghost use Rattle.step_deeds.specs.Turns.{turn_of, turn_in};
+ghost use Rattle.step_deeds.specs.Changes.{change_of, change_in};
 
 use phase_records::PhaseRecord;
 use std::alloc::{AllocError, Global};
@@ -240,7 +240,7 @@ impl Deeds {
 
 /// What a task did to the list of tasks: whether it goes on, and the paths of the tasks that it spawned, in program order.
 #[derive(Drop)]
-pub struct Turn {
+pub struct Change {
     /// Whether it synced.
     pub synced: bool,
     /// The paths of the tasks that it spawned.
@@ -262,24 +262,24 @@ fn none_stopped(each: &[Deed]) -> bool
 }
 
 // What each task did to the list of tasks.
-fn turns_of(alloc: Global, each: &[Deed], spawns: &[Task]) -> Result<Vec<Turn>, AllocError>
+fn changes_of(alloc: Global, each: &[Deed], spawns: &[Task]) -> Result<Vec<Change>, AllocError>
     requires { spawned_by each.now ≡ length spawns.now }
-    ensures { IfOk result (λ turns. map turn_of turns.items ≡ map turn_in (deeds_with each.now spawns.now)) }
+    ensures { IfOk result (λ changes. map change_of changes.items ≡ map change_in (deeds_with each.now spawns.now)) }
 {
-    let mut turns = Vec::new(alloc);
+    let mut changes = Vec::new(alloc);
     let mut rest = each;
     let mut others = spawns;
     while let Some((deed, after)) = rest.split_first() {
         let (own, behind) = others.split_at(deed.spawned);
         let spawned = paths_of(alloc, own)?;
-        turns.push(Turn {
+        changes.push(Change {
             synced: deed.synced,
             spawned,
         })?;
         rest = after;
         others = behind;
     }
-    Ok(turns)
+    Ok(changes)
 }
 
 impl Deeds {
@@ -305,9 +305,9 @@ impl Deeds {
     }
 
     /// What each task did to the list of tasks.
-    pub fn turns(&self, alloc: Global) -> Result<Vec<Turn>, AllocError>
-        ensures { IfOk result (λ turns. map turn_of turns.items ≡ map turn_in self.now) }
+    pub fn changes(&self, alloc: Global) -> Result<Vec<Change>, AllocError>
+        ensures { IfOk result (λ changes. map change_of changes.items ≡ map change_in self.now) }
     {
-        turns_of(alloc, &self.each, &self.spawns)
+        changes_of(alloc, &self.each, &self.spawns)
     }
 }

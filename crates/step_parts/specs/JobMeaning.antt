@@ -13,8 +13,8 @@ start_tasks plans number [] = []
 start_tasks plans number (s ∷ ss) = started plans (number ∷ []) s.body s.arg ∷ start_tasks plans (suc number) ss
 
 -- a job before its first superstep
-abbrev pub opening : Program → State
-opening p = record {
+abbrev pub initial : Program → State
+initial p = record {
   step = 0;
   arrays = p.arrays;
   live = start_tasks p.plans 0 p.starts;
@@ -38,12 +38,12 @@ unless_ended None st next = next
 
 -- the job after so many supersteps, or as it ended before
 abbrev pub so_far : Program → ℕ → ℕ → State
-so_far p limit zero = opening p
+so_far p limit zero = initial p
 so_far p limit (suc n) = unless_ended (status limit (so_far p limit n)) (so_far p limit n) (superstep p (so_far p limit n))
 
 -- the job after so many supersteps, whatever the limit
 abbrev pub state_at : Program → ℕ → State
-state_at p zero = opening p
+state_at p zero = initial p
 state_at p (suc n) = superstep p (state_at p n)
 
 abbrev pub told : State → Option Status → Option ReportValue

@@ -96,30 +96,30 @@ fn land_slots(
     }
 }
 
-/// Lands what was delivered in the opening arrays: in place where nobody else has them, else in a copy. Or tells the first
+/// Lands what was delivered in the arrays at its start: in place where nobody else has them, else in a copy. Or tells the first
 /// put that overflows, and changes nothing.
-pub(crate) fn land_opening(
+pub(crate) fn land_start_arrays(
     alloc: Global,
-    opening: &mut Arc<Arrays>,
+    start_arrays: &mut Arc<Arrays>,
     slots: &Slots<'_>,
 ) -> Result<Option<Blame>, AllocError>
     ensures fault { IfOk result (λ fault. (ps : List Plan)
-        → fault ≡ overflow (arc_value opening.old) (delivered (slots_of ps slots.now))) }
+        → fault ≡ overflow (arc_value start_arrays.old) (delivered (slots_of ps slots.now))) }
     ensures lands { IfOk result (λ fault. fault ≡ None → (ps : List Plan)
-        → arc_value opening.new ≡ landed (joined (map log_of (delivered (slots_of ps slots.now)))) (arc_value opening.old)) }
-    ensures unlanded { IfOk result (λ fault. IsSome fault → arc_value opening.new ≡ arc_value opening.old) }
-    ensures memory { OnErr result (arc_value opening.new ≡ arc_value opening.old) }
+        → arc_value start_arrays.new ≡ landed (joined (map log_of (delivered (slots_of ps slots.now)))) (arc_value start_arrays.old)) }
+    ensures unlanded { IfOk result (λ fault. IsSome fault → arc_value start_arrays.new ≡ arc_value start_arrays.old) }
+    ensures memory { OnErr result (arc_value start_arrays.new ≡ arc_value start_arrays.old) }
 {
-    if let Some(arrays) = Arc::get_mut(opening) {
+    if let Some(arrays) = Arc::get_mut(start_arrays) {
         return land_slots(alloc, arrays, slots);
     }
-    let mut copy = opening.copy(alloc)?;
+    let mut copy = start_arrays.copy(alloc)?;
     if let Some(blame) = land_slots(alloc, &mut copy, slots)? {
         return Ok(Some(blame));
     }
     match Arc::new(alloc, copy) {
         Ok(landed) => {
-            *opening = landed;
+            *start_arrays = landed;
             Ok(None)
         }
         Err(_) => Err(AllocError),

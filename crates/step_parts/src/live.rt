@@ -10,7 +10,7 @@ ghost use Rattle.superstep_memory.specs.PathOrder.{in_path_order};
 ghost use Rattle.step_parts.specs.SlotParts.{AllSmall, beside, living_by, no_segment, path_in};
 
 use crate::closing::{collect_prints, record_of};
-use crate::landing::land_opening;
+use crate::landing::land_start_arrays;
 use crate::next::{go_on, make_room, set_undone};
 use crate::slot::{Blame, Finished, Slots};
 use std::alloc::{AllocError, Global};
@@ -47,26 +47,26 @@ fn finish(
     alloc: Global,
     step: u32,
     slots: &Slots<'_>,
-    opening: &mut Arc<Arrays>,
+    start_arrays: &mut Arc<Arrays>,
     finished: &mut Vec<Finished>,
 ) -> Result<Option<Blame>, AllocError>
     requires few { length slots.now ≤ 4096 }
     requires small { AllSmall slots.now }
     ensures fault { IfOk result (λ fault. (ps : List Plan)
-        → fault ≡ overflow (arc_value opening.old) (delivered (slots_of ps slots.now))) }
+        → fault ≡ overflow (arc_value start_arrays.old) (delivered (slots_of ps slots.now))) }
     ensures lands { IfOk result (λ fault. fault ≡ None → (ps : List Plan)
-        → arc_value opening.new ≡ landed (joined (map log_of (delivered (slots_of ps slots.now)))) (arc_value opening.old)) }
+        → arc_value start_arrays.new ≡ landed (joined (map log_of (delivered (slots_of ps slots.now)))) (arc_value start_arrays.old)) }
     ensures tells { IfOk result (λ fault. fault ≡ None → (ps : List Plan)
         → finished.new.items ≡ finished.old.items ++ told_by step (delivered (slots_of ps slots.now)) ∷ []) }
     ensures unlanded { IfOk result (λ fault. IsSome fault
-        → (arc_value opening.new ≡ arc_value opening.old) × (finished.new.items ≡ finished.old.items)) }
-    ensures same_arrays { OnErr result (arc_value opening.new ≡ arc_value opening.old) }
+        → (arc_value start_arrays.new ≡ arc_value start_arrays.old) × (finished.new.items ≡ finished.old.items)) }
+    ensures same_arrays { OnErr result (arc_value start_arrays.new ≡ arc_value start_arrays.old) }
     ensures same_tales { OnErr result (finished.new.items ≡ finished.old.items) }
 {
     let prints = collect_prints(alloc, step, slots)?;
     let told = record_of(step, slots);
     finished.reserve(1)?;
-    if let Some(blame) = land_opening(alloc, opening, slots)? {
+    if let Some(blame) = land_start_arrays(alloc, start_arrays, slots)? {
         return Ok(Some(blame));
     }
     match finished.push(Finished { prints, told }) {
@@ -103,7 +103,7 @@ fn close_into(
     done: &mut Vec<Option<Segment>>,
     room: &mut Vec<Task>,
     next: &mut Arc<Vec<Task>>,
-    opening: &mut Arc<Arrays>,
+    start_arrays: &mut Arc<Arrays>,
     finished: &mut Vec<Finished>,
 ) -> Result<Option<Blame>, AllocError>
     requires few { length (beside tasks.now done.old.items) ≤ 4096 }
@@ -112,23 +112,23 @@ fn close_into(
     requires room { length (living_by done.old.items) ≤ vec_capacity room.old }
     requires places { length (living_by done.old.items) ≤ vec_capacity done.old }
     ensures fault { IfOk result (λ fault. (ps : List Plan)
-        → fault ≡ overflow (arc_value opening.old) (delivered (slots_of ps (beside tasks.now done.old.items)))) }
-    ensures lands { IfOk result (λ fault. fault ≡ None → (ps : List Plan) → arc_value opening.new
-        ≡ landed (joined (map log_of (delivered (slots_of ps (beside tasks.now done.old.items))))) (arc_value opening.old)) }
+        → fault ≡ overflow (arc_value start_arrays.old) (delivered (slots_of ps (beside tasks.now done.old.items)))) }
+    ensures lands { IfOk result (λ fault. fault ≡ None → (ps : List Plan) → arc_value start_arrays.new
+        ≡ landed (joined (map log_of (delivered (slots_of ps (beside tasks.now done.old.items))))) (arc_value start_arrays.old)) }
     ensures tells { IfOk result (λ fault. fault ≡ None → (ps : List Plan) → finished.new.items
         ≡ finished.old.items ++ told_by step (delivered (slots_of ps (beside tasks.now done.old.items))) ∷ []) }
     ensures tasks { IfOk result (λ fault. fault ≡ None → (arc_value next.new).items ≡ in_path_order path_in (living_by done.old.items)) }
     ensures none { IfOk result (λ fault. fault ≡ None → done.new.items ≡ map no_segment (arc_value next.new).items) }
     ensures unlanded { IfOk result (λ fault. IsSome fault → (done.new.items ≡ done.old.items)
-        × (arc_value opening.new ≡ arc_value opening.old) × (finished.new.items ≡ finished.old.items)) }
+        × (arc_value start_arrays.new ≡ arc_value start_arrays.old) × (finished.new.items ≡ finished.old.items)) }
     ensures same_done { OnErr result (done.new.items ≡ done.old.items) }
-    ensures same_arrays { OnErr result (arc_value opening.new ≡ arc_value opening.old) }
+    ensures same_arrays { OnErr result (arc_value start_arrays.new ≡ arc_value start_arrays.old) }
     ensures same_tales { OnErr result (finished.new.items ≡ finished.old.items) }
 {
     let Some(list) = Arc::get_mut(next) else {
         return Err(AllocError);
     };
-    if let Some(blame) = finish(alloc, step, &Slots::of(tasks, done), opening, finished)? {
+    if let Some(blame) = finish(alloc, step, &Slots::of(tasks, done), start_arrays, finished)? {
         return Ok(Some(blame));
     }
     go_on(done, room, list);
@@ -214,23 +214,23 @@ impl Live {
         alloc: Global,
         step: u32,
         count: usize,
-        opening: &mut Arc<Arrays>,
+        start_arrays: &mut Arc<Arrays>,
         finished: &mut Vec<Finished>,
     ) -> Result<Option<Blame>, AllocError>
         requires few { length self.old ≤ 4096 }
         requires small { AllSmall self.old }
         requires count { count ≡ length (living_in self.old) }
         ensures fault { IfOk result (λ fault. (ps : List Plan)
-            → fault ≡ overflow (arc_value opening.old) (delivered (slots_of ps self.old))) }
+            → fault ≡ overflow (arc_value start_arrays.old) (delivered (slots_of ps self.old))) }
         ensures lands { IfOk result (λ fault. fault ≡ None → (ps : List Plan)
-            → arc_value opening.new ≡ landed (joined (map log_of (delivered (slots_of ps self.old)))) (arc_value opening.old)) }
+            → arc_value start_arrays.new ≡ landed (joined (map log_of (delivered (slots_of ps self.old)))) (arc_value start_arrays.old)) }
         ensures tells { IfOk result (λ fault. fault ≡ None → (ps : List Plan)
             → finished.new.items ≡ finished.old.items ++ told_by step (delivered (slots_of ps self.old)) ∷ []) }
         ensures next { IfOk result (λ fault. fault ≡ None → self.new ≡ map fresh_slot (in_path_order path_in (living_in self.old))) }
         ensures unlanded { IfOk result (λ fault. IsSome fault → (self.new ≡ self.old)
-            × (arc_value opening.new ≡ arc_value opening.old) × (finished.new.items ≡ finished.old.items)) }
+            × (arc_value start_arrays.new ≡ arc_value start_arrays.old) × (finished.new.items ≡ finished.old.items)) }
         ensures same_tasks { OnErr result (self.new ≡ self.old) }
-        ensures same_arrays { OnErr result (arc_value opening.new ≡ arc_value opening.old) }
+        ensures same_arrays { OnErr result (arc_value start_arrays.new ≡ arc_value start_arrays.old) }
         ensures same_tales { OnErr result (finished.new.items ≡ finished.old.items) }
     {
         let mut next = list_for(alloc, &mut self.room, &mut self.done, count)?;
@@ -241,7 +241,7 @@ impl Live {
             &mut self.done,
             &mut self.room,
             &mut next,
-            opening,
+            start_arrays,
             finished,
         )?;
         if let Some(blame) = told {

@@ -144,7 +144,7 @@ fn own_arrays(alloc: Global, shared: Arc<Arrays>) -> Result<Arrays, AllocError>
 /// The report of these arrays, of what these supersteps left, and of how the job ended.
 pub fn join_report(
     alloc: Global,
-    opening: Arc<Arrays>,
+    start_arrays: Arc<Arrays>,
     finished: Vec<Finished>,
     status: JobStatus,
 ) -> Result<Option<Report>, AllocError>
@@ -152,13 +152,13 @@ pub fn join_report(
     ensures { IfOk result (λ report. report ≡ Some record {
       prints = all_prints finished.items;
       records = all_told finished.items;
-      arrays = arc_value opening;
+      arrays = arc_value start_arrays;
       status = status_seen status;
     }) }
 {
     let records = records_of(alloc, &finished)?;
     let prints = join_prints(alloc, finished)?;
-    let arrays = own_arrays(alloc, opening)?;
+    let arrays = own_arrays(alloc, start_arrays)?;
     Ok(Some(Report {
         prints,
         records,

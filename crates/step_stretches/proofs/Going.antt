@@ -88,9 +88,9 @@ by_faulting v f h whole e =
       told = ap (λ o. outcome_by o (too_many (next_live (deeds_next v))) (overflow (before v).arrays (deeds_next v))) (sym first);
     }
 
-pub tally : (v : StretchesValue) (told : PhaseRecord) → IsAllTold v → told ≡ told_in v.step (deeds_in v.parts)
+pub agreed : (v : StretchesValue) (told : PhaseRecord) → IsAllTold v → told ≡ told_in v.step (deeds_in v.parts)
     → length (living_with (tasks_in v.parts) (deeds_in v.parts)) + told.left ≡ told.parties
-tally v told t e = tallied v.step (tasks_in v.parts) (deeds_in v.parts) told t.fits e
+agreed v told t e = tallied v.step (tasks_in v.parts) (deeds_in v.parts) told t.fits e
 
 pub by_too_many : (v : StretchesValue) (f : ℕ × List ℕ) → IsAllTold v → 4096 < length (living_with (tasks_in v.parts) (deeds_in v.parts)) → f ≡ (7, []) → Ends v f TooMany
 by_too_many v f t lt e = record {
@@ -298,7 +298,7 @@ can_go v w told e h run whole none recorded le =
     let whole_v : is_whole v ≡ true = ap is_whole e ∙ whole in
     let all = all_told v h whole_v (ap (λ (x : StretchesValue). fault_in x.parts) e ∙ none) in
     let recorded_v : told ≡ told_in v.step (deeds_in v.parts) = recorded ∙ ap (λ (x : StretchesValue). told_in x.step (deeds_in x.parts)) (sym e) in
-    let t = tally v told all recorded_v in
+    let t = agreed v told all recorded_v in
     record {
       course = h;
       run = ap status_in e ∙ run;

@@ -14,7 +14,7 @@ mod stretch;
 mod stretches;
 
 pub use fault::{Unclosed, Unwanted};
-pub use step_deeds::deeds::Turn;
+pub use step_deeds::deeds::Change;
 pub use step_parts::fault::Outcome;
 pub use stretch::Stretch;
 pub use stretches::Stretches;

@@ -6,7 +6,7 @@ use phase_records::{PhaseRecord, Print};
 use smallvec::SmallVec;
 use std::alloc::{AllocError, Global};
 use std::marker::Model;
-use step_deeds::deeds::{Deeds, Turn};
+use step_deeds::deeds::{Change, Deeds};
 use step_deeds::in_place::{StepScene, do_range};
 use step_parts::slot::{Blame, task_path};
 use superstep_memory::arrays::{Arrays, Put};
@@ -85,7 +85,7 @@ impl<'j> Part<'j> {
     ghost use Rattle.step_parts.specs.JobMeaning.{state_at};
     ghost use Rattle.step_parts.specs.SlotParts.{path_of, path_in, told_at};
     ghost use Rattle.step_deeds.specs.InPlace.{told_in, maker, left_in, spawned_in, AllFew};
-    ghost use Rattle.step_deeds.specs.Turns.{turn_of, turn_in};
+    ghost use Rattle.step_deeds.specs.Changes.{change_of, change_in};
     ghost use Rattle.step_stretches.specs.Parts.{AreLive, IsPart, IsDoneTo, fresh_part, is_finished};
     ghost use Rattle.step_stretches.specs.Joining.{Follows, joined_part};
 
@@ -294,10 +294,10 @@ impl<'j> Part<'j> {
     }
 
     /// What each of its tasks did to the list of tasks, up to the first fault.
-    pub(crate) fn turns(&self, alloc: Global) -> Result<Vec<Turn>, AllocError>
-        ensures { IfOk result (λ turns. map turn_of turns.items ≡ map turn_in self.now.deeds) }
+    pub(crate) fn changes(&self, alloc: Global) -> Result<Vec<Change>, AllocError>
+        ensures { IfOk result (λ changes. map change_of changes.items ≡ map change_in self.now.deeds) }
     {
-        self.deeds.turns(alloc)
+        self.deeds.changes(alloc)
     }
 
     /// Goes on to the next step, at which the same tasks live, at the same places. Its prints come behind those that are

@@ -3,7 +3,7 @@ use crate::part::Part;
 use std::alloc::{AllocError, Global};
 use std::marker::Model;
 use std::sync::Arc;
-use step_deeds::deeds::Turn;
+use step_deeds::deeds::Change;
 use superstep_memory::arrays::Arrays;
 use superstep_memory::path::Path;
 
@@ -38,7 +38,7 @@ impl<'j> Stretch<'j> {
     ghost use Rattle.step_parts.specs.JobMeaning.{state_at};
     ghost use Rattle.step_parts.specs.SlotParts.{path_of, path_in};
     ghost use Rattle.step_deeds.specs.InPlace.{left_in, spawned_in};
-    ghost use Rattle.step_deeds.specs.Turns.{turn_of, turn_in};
+    ghost use Rattle.step_deeds.specs.Changes.{change_of, change_in};
     ghost use Rattle.step_stretches.specs.Parts.{IsPart, IsDoneTo, is_finished};
 
     /// The stretch of this number, over these arrays.
@@ -124,10 +124,10 @@ impl<'j> Stretch<'j> {
     }
 
     /// What each of its tasks did to the list of tasks. There are none behind a fault.
-    pub fn turns(&self, alloc: Global) -> Result<Vec<Turn>, AllocError>
-        ensures { IfOk result (λ turns. map turn_of turns.items ≡ map turn_in self.now.part.deeds) }
+    pub fn changes(&self, alloc: Global) -> Result<Vec<Change>, AllocError>
+        ensures { IfOk result (λ changes. map change_of changes.items ≡ map change_in self.now.part.deeds) }
     {
-        self.part.turns(alloc)
+        self.part.changes(alloc)
     }
 
     /// Its tasks and what they did. The arrays are given back.

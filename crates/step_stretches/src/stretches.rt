@@ -63,7 +63,7 @@ impl<'j> Stretches<'j> {
     ghost use Rattle.phase_records.specs.Status.{IsShort};
     ghost use Rattle.phase_records.specs.StatusSeen.{status_seen};
     ghost use Rattle.step_parts.specs.Program.{program_of};
-    ghost use Rattle.step_parts.specs.JobMeaning.{opening, report_in};
+    ghost use Rattle.step_parts.specs.JobMeaning.{initial, report_in};
     ghost use Rattle.step_parts.specs.Superstep.{superstep, ended_by};
     ghost use Rattle.step_parts.specs.declared.fault.Outcome.TheVariants.{Landed};
     ghost use Rattle.step_deeds.specs.InPlace.{told_in};
@@ -76,7 +76,7 @@ impl<'j> Stretches<'j> {
     pub fn new(alloc: Global, job: &'j Job, limit: u32, pieces: usize) -> Result<Self, AllocError>
         requires limit { 1 ≤ limit }
         requires pieces { 1 ≤ pieces }
-        ensures state { IfOk result (λ all. IsAt all job.now limit (opening (program_of job.now))) }
+        ensures state { IfOk result (λ all. IsAt all job.now limit (initial (program_of job.now))) }
         ensures ready { IfOk result (λ all. AllReady all) }
     {
         let tasks = start_all(alloc, job.bodies(), job.starts())?;

@@ -29,7 +29,7 @@ use std::marker::Model;
 
 /// What landing does with the value of a put.
 #[derive(Clone, Copy, PartialEq, Eq)]
-pub enum Kind {
+pub enum PutKind {
     /// The cell takes the value.
     Set,
     /// The value is added to the cell's.
@@ -44,7 +44,7 @@ pub struct Put {
     /// The number of the cell.
     pub index: u32,
     /// What landing does with the value.
-    pub kind: Kind,
+    pub kind: PutKind,
     /// What is to be written there.
     pub value: i64,
 }

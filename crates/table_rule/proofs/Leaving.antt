@@ -27,7 +27,7 @@ advance_or_not Force = inl refl
 advance_or_not (Claim tier claimed size) = inl refl
 advance_or_not (Settle tier claimed size) = inl refl
 advance_or_not (SettleBack tier claimed size) = inl refl
-advance_or_not (Climb trip) = inl refl
+advance_or_not (Climb passage) = inl refl
 advance_or_not Refresh = inl refl
 
 here_arrived : (p : ℕ) (v : View) → v.size ≡ cond {A = ℕ} (eqb v.phase p) v.arrived 0 → HasArrived p v

@@ -15,7 +15,7 @@ use Rattle.tier_steps.proofs.KindLaw.{ended_same}
 use Rattle.tier_steps.proofs.FlatLaw.{kinds_are_flat}
 use Rattle.tier_steps.proofs.Passing.{ended_passed}
 use Rattle.tier_steps.proofs.Ready.{advances_are_due}
-use Rattle.tier_steps.specs.declared.view.Trip.TheVariants.{Arrival, Departure}
+use Rattle.tier_steps.specs.declared.view.Passage.TheVariants.{Arrival, Departure}
 use Rattle.table_rule.specs.declared.sight.Key.{Key}
 use Rattle.table_rule.specs.declared.sight.Sight.{Sight}
 use Rattle.table_rule.specs.Reach.{views_of, cut_once, sat_sight, Reached, opens, steps, cuts, sits, joins, looks, parts}
@@ -59,7 +59,7 @@ word_end Force t w v a f = absurd (f refl)
 word_end (Claim tier claimed size) t w v a f = refl
 word_end (Settle tier claimed size) t w v a f = refl
 word_end (SettleBack tier claimed size) t w v a f = refl
-word_end (Climb trip) t w v a f = ended_passed t trip w
+word_end (Climb passage) t w v a f = ended_passed t passage w
 word_end Refresh t w v a f = refl
 
 root_end : (ws : List Fields) (kind : Kind) (t : ℕ) (v : View) → t < length ws → ((ends : Bool) → kind ≡ Advance ends → ⊥) → (kind ≡ Force → ⊥)
@@ -96,7 +96,7 @@ ends_are_forced_or_planned k ws vs id t x Force m = root_set ws t (word_after Fo
 ends_are_forced_or_planned k ws vs id t x (Claim tier claimed size) m = root_end ws (Claim tier claimed size) t x.view m.within (λ e p. absurd (cc)) (λ p. absurd (cc))
 ends_are_forced_or_planned k ws vs id t x (Settle tier claimed size) m = root_end ws (Settle tier claimed size) t x.view m.within (λ e p. absurd (cc)) (λ p. absurd (cc))
 ends_are_forced_or_planned k ws vs id t x (SettleBack tier claimed size) m = root_end ws (SettleBack tier claimed size) t x.view m.within (λ e p. absurd (cc)) (λ p. absurd (cc))
-ends_are_forced_or_planned k ws vs id t x (Climb trip) m = root_end ws (Climb trip) t x.view m.within (λ e p. absurd (cc)) (λ p. absurd (cc))
+ends_are_forced_or_planned k ws vs id t x (Climb passage) m = root_end ws (Climb passage) t x.view m.within (λ e p. absurd (cc)) (λ p. absurd (cc))
 ends_are_forced_or_planned k ws vs id t x Refresh m = root_end ws Refresh t x.view m.within (λ e p. absurd (cc)) (λ p. absurd (cc))
 
 -- the root of a new tree goes on

@@ -66,7 +66,7 @@ ended_by k words seats Force = true
 ended_by k words seats (Claim tier claimed size) = (word_at words 0).ended
 ended_by k words seats (Settle tier claimed size) = (word_at words 0).ended
 ended_by k words seats (SettleBack tier claimed size) = (word_at words 0).ended
-ended_by k words seats (Climb trip) = (word_at words 0).ended
+ended_by k words seats (Climb passage) = (word_at words 0).ended
 ended_by k words seats Refresh = (word_at words 0).ended
 
 abbrev pub EndsAreForcedOrPlanned : Type 0

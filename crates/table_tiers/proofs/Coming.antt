@@ -3,7 +3,7 @@ use Rattle.std.proofs.Common.{◌≡◌, ◌≢◌, ℕ, zero, suc, ◌<◌, tru
 use Rattle.tier_steps.specs.Step.{opening}
 use Rattle.tier_steps.specs.declared.view.View.{View}
 use Rattle.tier_steps.specs.declared.view.Errand.{Errand}
-use Rattle.tier_steps.specs.declared.view.Stage.TheVariants as stage
+use Rattle.tier_steps.specs.declared.view.OpeningStage.TheVariants as stage
 use Rattle.tier_steps.specs.declared.kind.Kind.TheVariants.{Look}
 use Rattle.tier_steps.proofs.KindLaw.{mine}
 use Rattle.tier_core.specs.declared.call.Played.{Played}
@@ -40,9 +40,9 @@ going_on ps least home tier size v a (Begun c) sh more = absurd sh
 going_on ps least home tier size v a (ToSeek tier' size') sh more = refl
 going_on ps least home tier size v a Settling sh more = refl
 going_on ps least home tier size v a (ToGiveBack b) sh more = refl
-going_on ps least home tier size v a (Passing trip) sh more = refl
-going_on ps least home tier size v a (Owing trip) sh more = refl
-going_on ps least home tier size v a (Due trip) sh more = refl
+going_on ps least home tier size v a (Passing passage) sh more = refl
+going_on ps least home tier size v a (Owing passage) sh more = refl
+going_on ps least home tier size v a (Due passage) sh more = refl
 going_on ps least home tier size v a (Refreshing passed_on) sh more = refl
 
 -- a path that is opened is for what was asked
@@ -58,9 +58,9 @@ asked_for ps least home tier size v a (ToSeek tier' size') sh fits more some =
     let o = opens_for v.errand tier' (claimed_by v.errand) size' fits.0 some in (o.0 ∙ sh.same_tier, o.1 ∙ sh.same_size)
 asked_for ps least home tier size v a Settling sh fits more some = (ap asked_tier sh.errand, ap asked_size sh.errand)
 asked_for ps least home tier size v a (ToGiveBack b) sh fits more some = (ap asked_tier sh.errand, ap asked_size sh.errand)
-asked_for ps least home tier size v a (Passing trip) sh fits more some = absurd sh
-asked_for ps least home tier size v a (Owing trip) sh fits more some = absurd sh
-asked_for ps least home tier size v a (Due trip) sh fits more some = absurd sh
+asked_for ps least home tier size v a (Passing passage) sh fits more some = absurd sh
+asked_for ps least home tier size v a (Owing passage) sh fits more some = absurd sh
+asked_for ps least home tier size v a (Due passage) sh fits more some = absurd sh
 asked_for ps least home tier size v a (Refreshing passed_on) sh fits more some = absurd sh
 
 -- a call without claims still seeks its tier
@@ -71,9 +71,9 @@ home_of ps least home tier size v a (Begun c) sh fits more none = absurd sh
 home_of ps least home tier size v a (ToSeek tier' size') sh fits more none = (sh.at_home, fits.1.none, (let c = sh.claims in omega arith), record { unseen = sh.unseen; unled = sh.unled })
 home_of ps least home tier size v a Settling sh fits more none = let c = ap claimed_by sh.errand in absurd (omega arith)
 home_of ps least home tier size v a (ToGiveBack b) sh fits more none = let c = ap claimed_by sh.errand in absurd (omega arith)
-home_of ps least home tier size v a (Passing trip) sh fits more none = absurd sh
-home_of ps least home tier size v a (Owing trip) sh fits more none = absurd sh
-home_of ps least home tier size v a (Due trip) sh fits more none = absurd sh
+home_of ps least home tier size v a (Passing passage) sh fits more none = absurd sh
+home_of ps least home tier size v a (Owing passage) sh fits more none = absurd sh
+home_of ps least home tier size v a (Due passage) sh fits more none = absurd sh
 home_of ps least home tier size v a (Refreshing passed_on) sh fits more none = absurd sh
 
 -- a call that joins, from where it began
@@ -105,7 +105,7 @@ module _ (n : Named) (least home tier size tries : ℕ) (o g : Going) (start : J
   is_for : g.progress ≢ Idle → claimed_by g.token.view.errand ≢ 0 → IsFor tier size g
   is_for more some =
       let a = asked_for n.key.shape least home tier size g.token.view g.answer g.progress shown ran.went.at.fits more some in
-      record { seat = a.0; members = a.1; claims = omega arith }
+      record { place = a.0; members = a.1; claims = omega arith }
 
   at_home : g.progress ≢ Idle → claimed_by g.token.view.errand ≡ 0 → (g.token.view.tier ≡ home) × (g.token.view.size ≡ 0) × (least ≡ 0) × IsFresh g.token.view
   at_home more none = home_of n.key.shape least home tier size g.token.view g.answer g.progress shown ran.went.at.fits more none

@@ -54,7 +54,7 @@ seen_step above Force t w v h = refl
 seen_step above (Claim tier claimed size) t w v h = h
 seen_step above (Settle tier claimed size) t w v h = h
 seen_step above (SettleBack tier claimed size) t w v h = h
-seen_step above (Climb trip) t w v h = h
+seen_step above (Climb passage) t w v h = h
 seen_step above Refresh t w v h = h
 
 seen_goes : (k : Key) (from at : Position) → seen from.view.end_seen ≡ true → Goes k from at → seen at.view.end_seen ≡ true
@@ -77,7 +77,7 @@ refuses a (Begun c) = false
 refuses a (ToSeek tier size) = false
 refuses a Settling = false
 refuses a (ToGiveBack answer) = is_refusal answer
-refuses a (Passing trip) = false
+refuses a (Passing passage) = false
 refuses a (Owing own) = false
 refuses a (Due own) = false
 refuses a (Refreshing passed_on) = false
@@ -94,7 +94,7 @@ refuses_next ps b w (ToSeek tier size) v a fits g h = not_both false h refl
 refuses_next ps b w Settling v a fits g h = not_both false h refl
 refuses_next ps b w (ToGiveBack answer) v a fits g h =
     subst (λ (e : Errand). refuses (give_back_turn ps answer e).answer (give_back_turn ps answer e).next ≡ true) (sym fits.3) (refuses_over fits.1 answer h)
-refuses_next ps b w (Passing trip) v a fits g h = not_both false h refl
+refuses_next ps b w (Passing passage) v a fits g h = not_both false h refl
 refuses_next ps b w (Owing own) v a fits g h = not_both false h refl
 refuses_next ps b w (Due own) v a fits g h = not_both false h refl
 refuses_next ps b w (Refreshing passed_on) v a fits g h = not_both false h refl
@@ -106,7 +106,7 @@ refuses_still (Begun c) a a' g h = h
 refuses_still (ToSeek tier size) a a' g h = h
 refuses_still Settling a a' g h = h
 refuses_still (ToGiveBack answer) a a' g h = h
-refuses_still (Passing trip) a a' g h = h
+refuses_still (Passing passage) a a' g h = h
 refuses_still (Owing own) a a' g h = h
 refuses_still (Due own) a a' g h = h
 refuses_still (Refreshing passed_on) a a' g h = h
@@ -133,9 +133,9 @@ refuses_first ps least home tier size v a (Begun c) sh fits many claims s none =
 refuses_first ps least home tier size v a (ToSeek tier' size') sh fits many claims s none = not_both _ s (ap seen sh.unseen)
 refuses_first ps least home tier size v a Settling sh fits many claims s none = let c = sh.joined.members in absurd (omega arith)
 refuses_first ps least home tier size v a (ToGiveBack answer) sh fits many claims s none = fits.4
-refuses_first ps least home tier size v a (Passing trip) sh fits many claims s none = absurd sh
-refuses_first ps least home tier size v a (Owing trip) sh fits many claims s none = absurd sh
-refuses_first ps least home tier size v a (Due trip) sh fits many claims s none = absurd sh
+refuses_first ps least home tier size v a (Passing passage) sh fits many claims s none = absurd sh
+refuses_first ps least home tier size v a (Owing passage) sh fits many claims s none = absurd sh
+refuses_first ps least home tier size v a (Due passage) sh fits many claims s none = absurd sh
 refuses_first ps least home tier size v a (Refreshing passed_on) sh fits many claims s none = absurd sh
 
 module _ (n : Named) (tries : ℕ) (o g : Going) (is : o.token.tree ≡ n) (opening : IsOpening o) (ran : Ran n tries o g) (phase : ℕ) (ended : o.token.view.end_seen ≡ Some phase)

@@ -48,7 +48,7 @@ look_enters (Begun c) v t w j = glance_enters t
 look_enters (ToSeek tier size) v t w j = join_enters tier (claimed_by v.errand) size t w
 look_enters Settling v t w j = glance_enters t
 look_enters (ToGiveBack answer) v t w j = glance_enters t
-look_enters (Passing trip) v t w j = glance_enters t
+look_enters (Passing passage) v t w j = glance_enters t
 look_enters (Owing own) v t w j = glance_enters t
 look_enters (Due own) v t w j = glance_enters t
 look_enters (Refreshing passed_on) v t w j = glance_enters t
@@ -62,7 +62,7 @@ step_enters ps b w (ToSeek tier size) v fits g j =
     (λ f. by_cond (λ r. is_entering r.kind ≡ true) (is_claimable (ancestor ps tier (claimed_by v.errand)) w) _ _ (λ h. refl) (λ h. refl)))
 step_enters ps b w Settling v fits g j = subst (λ (e : Errand). is_entering (settle_turn ps v e).kind ≡ true) (sym fits.3) refl
 step_enters ps b w (ToGiveBack answer) v fits g j = subst (λ (e : Errand). is_entering (give_back_turn ps answer e).kind ≡ true) (sym fits.3) refl
-step_enters ps b w (Passing trip) v fits g j = not_both false j refl
+step_enters ps b w (Passing passage) v fits g j = not_both false j refl
 step_enters ps b w (Owing own) v fits g j = not_both false j refl
 step_enters ps b w (Due own) v fits g j = not_both false j refl
 step_enters ps b w (Refreshing passed_on) v fits g j = not_both false j refl
@@ -118,9 +118,9 @@ joins_at ps least home tier size v a (Begun c) sh = absurd sh
 joins_at ps least home tier size v a (ToSeek tier' size') sh = refl
 joins_at ps least home tier size v a Settling sh = refl
 joins_at ps least home tier size v a (ToGiveBack b) sh = refl
-joins_at ps least home tier size v a (Passing trip) sh = absurd sh
-joins_at ps least home tier size v a (Owing trip) sh = absurd sh
-joins_at ps least home tier size v a (Due trip) sh = absurd sh
+joins_at ps least home tier size v a (Passing passage) sh = absurd sh
+joins_at ps least home tier size v a (Owing passage) sh = absurd sh
+joins_at ps least home tier size v a (Due passage) sh = absurd sh
 joins_at ps least home tier size v a (Refreshing passed_on) sh = absurd sh
 
 pub opening_joins : (o : Going) → IsOpening o → is_joining o.progress ≡ true

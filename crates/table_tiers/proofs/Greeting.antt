@@ -27,7 +27,7 @@ use Rattle.table_tiers.specs.Joins.{IsJoined}
 use Rattle.table_tiers.specs.Passes.{EndSeen, IsFresh}
 use Rattle.table_tiers.specs.Arrives.{IsSoon, IsSpent}
 use Rattle.table_tiers.specs.Registers.{IsLookedAround, token_of}
-use Rattle.table_tiers.specs.JoinsHere.{Waits, IsStill, IsFullHere, AreSoon, AreSpent, KeepsCrew, AnswersMeeting, JoinsOnce, JoinsHere}
+use Rattle.table_tiers.specs.JoinsHere.{Waits, IsStill, IsFullHere, AreSoon, AreSpent, KeepsCrew, AnswersHere, JoinsOnce, JoinsHere}
 use Rattle.table_tiers.specs.declared.joining.Registered.{Registered}
 use Rattle.table_tiers.specs.declared.joining.Registered.TheVariants as registered
 use Rattle.table_tiers.proofs.Turning.{refuse_at, ended_at, glanced}
@@ -83,7 +83,7 @@ waits_here {ps} {t} {w} {v} b rests here some still going =
 
 -- what the door may join
 pub door_due : (n : Named) {h : Holding} {tier size : ℕ} → IsDoor h → tier < length n.key.shape → (0 < size) × (size ≤ 65535) → IsDue n.key.shape tier 0 size tier h.view
-door_due n {h} {tier} {size} door inside many = record { here = refl; errand = door.rests; none = door.none; some = many.0; few = many.1; seat = inside }
+door_due n {h} {tier} {size} door inside many = record { here = refl; errand = door.rests; none = door.none; some = many.0; few = many.1; place = inside }
 
 refused_tier : (t : ℕ) (w : Fields) (v : View) → (refused t w v).tier ≡ v.tier
 refused_tier zero w v = looked_tier w v
@@ -222,7 +222,7 @@ pub met_joined : {h h' h'' : Holding} {phase : ℕ} (t size : ℕ) → IsDoor h 
     → IsSpent 1 h h'' × IsJoined t size h''.view × (h''.view.errand ≡ Rest) × (phase ≡ h''.view.phase) × MadeOnly is_entering h.steps h''.steps
 met_joined {h} {h'} {h''} {phase} t size door fresh took won is = (
   record { tree = won.tree ∙ took.tree; tried = (let a = won.tried in let b = took.tried in omega arith); opened = won.opened ∙ took.opened },
-  record { seat = ap (λ (v : View). v.tier) won.view; members = ap (λ (v : View). v.size) won.view; none_arrived = ap (λ (v : View). v.arrived) won.view; unled = ap (λ (v : View). v.led) won.view ∙ (peeks size 0 door took).unled fresh.unled },
+  record { place = ap (λ (v : View). v.tier) won.view; members = ap (λ (v : View). v.size) won.view; none_arrived = ap (λ (v : View). v.arrived) won.view; unled = ap (λ (v : View). v.led) won.view ∙ (peeks size 0 door took).unled fresh.unled },
   ap (λ (v : View). v.errand) won.view,
   is ∙ ap (λ (v : View). v.phase) (sym won.view),
   made_then is_entering (peek_made t size 0 took) (one_enters (Join t 0 size) h'.steps h''.steps refl won.steps),
@@ -256,7 +256,7 @@ new_crew {h'} {h''} {t} {size} some won = record {
 }
 
 -- a round, from what the door's part answers
-pub met_round : {old new : Holding} {tier : ℕ} (door : Holding) (size : ℕ) (a : Registered) → KeepsCrew 0 old new → tier ≡ old.view.tier → AnswersMeeting door tier size a → JoinsOnce old new door size a
+pub met_round : {old new : Holding} {tier : ℕ} (door : Holding) (size : ℕ) (a : Registered) → KeepsCrew 0 old new → tier ≡ old.view.tier → AnswersHere door tier size a → JoinsOnce old new door size a
 met_round {old} {new} {tier} door size (registered.Joined crew phase) k at m = (
   record { crew_tree = k.tree; door_tree = m.0.tree; crew = k.crew; tried = (let a = k.tried in let b = m.0.tried in omega arith); crew_opened = k.opened; door_opened = m.0.opened; crew_made = k.made; door_made = m.4 },
   subst (λ (t : ℕ). IsJoined t size crew.view) at m.1,

@@ -16,5 +16,5 @@ pub mod Coming
 pub mod Waits
 pub mod Ending
 pub mod Gathering
-pub mod Meeting
+pub mod StayingHere
 pub mod Greeting

@@ -8,7 +8,7 @@ use Rattle.tier_steps.specs.declared.kind.Kind.{Kind}
 use Rattle.tier_steps.specs.declared.kind.Kind.TheVariants.{Look, Glance, Advance, Climb, Refresh}
 use Rattle.tier_steps.specs.declared.view.View.{View}
 use Rattle.tier_steps.specs.declared.view.Errand.{Errand}
-use Rattle.tier_steps.specs.declared.view.Trip.{Trip}
+use Rattle.tier_steps.specs.declared.view.Passage.{Passage}
 use Rattle.tier_core.specs.declared.call.Played.{Played}
 use Rattle.tier_core.specs.declared.call.Played.TheVariants.{GoesOn, Done}
 use Rattle.tier_core.specs.declared.call.Progress.{Progress}
@@ -51,26 +51,26 @@ quiet_upward : (k : Kind) → is_quiet k ≡ true → is_upward k ≡ true
 quiet_upward Look e = refl
 quiet_upward Glance e = refl
 quiet_upward Refresh e = refl
-quiet_upward (Climb trip) e = refl
+quiet_upward (Climb passage) e = refl
 quiet_upward _ e = absurd (cc)
 
-module _ (ps : List ℕ) (own : Trip) (P C : View → Type 0) (Q R : List Kind → Type 0) (waits : (k : Kind) (ks : List Kind) → is_quiet k ≡ true → Q ks → Q (k ∷ ks))
+module _ (ps : List ℕ) (own : Passage) (P C : View → Type 0) (Q R : List Kind → Type 0) (waits : (k : Kind) (ks : List Kind) → is_quiet k ≡ true → Q ks → Q (k ∷ ks))
     (climbs : (k : Kind) (ks : List Kind) → is_upward k ≡ true → R ks → R (k ∷ ks)) (counts : (ks : List Kind) → Q ks → R (own_kind own ∷ ks)) where
   unled : (b : Bool) (ks : List Kind) → b ≡ false → R ks → LedBy R b ks
   unled b ks is r = subst (λ (c : Bool). LedBy R c ks) (sym is) r
 
   -- how the call goes on from what is owed
-  made_as_owed : (phase n above t : ℕ) (w : Fields) (trip trip' : Trip) (b : Bool) (ks : List Kind) → b ≡ false → R ks
-      → MadeAt Q R b (told phase n (owed above t trip w)) (goes_on trip' (owed above t trip w)) ks
-  made_as_owed phase n above t w trip trip' b ks is r = owed_cases (λ e. MadeAt Q R b (told phase n e) (goes_on trip' e) ks) above t trip w (unled b ks is r) r (λ to up. r)
+  made_as_owed : (phase n above t : ℕ) (w : Fields) (passage passage' : Passage) (b : Bool) (ks : List Kind) → b ≡ false → R ks
+      → MadeAt Q R b (told phase n (owed above t passage w)) (goes_on passage' (owed above t passage w)) ks
+  made_as_owed phase n above t w passage passage' b ks is r = owed_cases (λ e. MadeAt Q R b (told phase n e) (goes_on passage' e) ks) above t passage w (unled b ks is r) r (λ to up. r)
 
-  climb_made : (trip' : Trip) (above t : ℕ) (trip : Trip) (w : Fields) (u : View) (ks : List Kind) → u.led ≡ false → R ks
-      → let r = pass_turn ps trip' t trip (Climb trip) (Owing trip') (Done u.phase) w u in MadeAt Q R (view_after above r.kind t w u).led r.answer r.next (r.kind ∷ ks)
-  climb_made trip' above t trip w u ks l made =
+  climb_made : (passage' : Passage) (above t : ℕ) (passage : Passage) (w : Fields) (u : View) (ks : List Kind) → u.led ≡ false → R ks
+      → let r = pass_turn ps passage' t passage (Climb passage) (Owing passage') (Done u.phase) w u in MadeAt Q R (view_after above r.kind t w u).led r.answer r.next (r.kind ∷ ks)
+  climb_made passage' above t passage w u ks l made =
       by_cond (λ r. MadeAt Q R (view_after above r.kind t w u).led r.answer r.next (r.kind ∷ ks)) w.ended _ _
       (λ e. unled (looked w u).led (Look ∷ ks) (looked_unled w u) (climbs Look ks refl made))
       (λ e. by_cond (λ r. MadeAt Q R (view_after above r.kind t w u).led r.answer r.next (r.kind ∷ ks)) (lags w u) _ _ (λ f. climbs Refresh ks refl made)
-      (λ f. made_as_owed u.phase (passed t trip w).parties (parent_of ps t) t w trip trip' u.led (Climb trip ∷ ks) l (climbs (Climb trip) ks refl made)))
+      (λ f. made_as_owed u.phase (passed t passage w).parties (parent_of ps t) t w passage passage' u.led (Climb passage ∷ ks) l (climbs (Climb passage) ks refl made)))
 
   own_made : (t : ℕ) (w : Fields) (u : View) (ks : List Kind) → u.led ≡ false → Q ks
       → let r = pass_turn ps own t own (own_kind own) (Passing own) (end_shown w) w u in MadeAt Q R (view_after (parent_of ps t) r.kind t w u).led r.answer r.next (r.kind ∷ ks)
@@ -88,8 +88,8 @@ module _ (ps : List ℕ) (own : Trip) (P C : View → Type 0) (Q R : List Kind �
   step_made (ToSeek tier size) u a b w ks sh fits g made = absurd sh
   step_made Settling u a b w ks sh fits g made = absurd sh
   step_made (ToGiveBack answer) u a b w ks sh fits g made = absurd sh
-  step_made (Passing trip) u a b w ks sh fits g made =
-      subst (λ (z : Trip). let r = pass_turn ps z u.tier z (own_kind z) (Passing z) (end_shown w) w u in MadeAt Q R (view_after (parent_of ps u.tier) r.kind u.tier w u).led r.answer r.next (r.kind ∷ ks))
+  step_made (Passing passage) u a b w ks sh fits g made =
+      subst (λ (z : Passage). let r = pass_turn ps z u.tier z (own_kind z) (Passing z) (end_shown w) w u in MadeAt Q R (view_after (parent_of ps u.tier) r.kind u.tier w u).led r.answer r.next (r.kind ∷ ks))
       (sym sh.0) (own_made u.tier w u ks sh.2.unled made)
   step_made (Owing own') u a b w ks sh fits g made =
       subst (λ (e : Errand). let r = climb_turn ps own' w u e in MadeAt Q R (view_after (parent_of ps (errand_place ps e)) r.kind (errand_place ps e) w u).led r.answer r.next (r.kind ∷ ks)) (sym fits.2)
@@ -108,7 +108,7 @@ module _ (ps : List ℕ) (own : Trip) (P C : View → Type 0) (Q R : List Kind �
   stay_made (ToSeek tier size) u a w ks l sh g made = absurd sh
   stay_made Settling u a w ks l sh g made = absurd sh
   stay_made (ToGiveBack answer) u a w ks l sh g made = absurd sh
-  stay_made (Passing trip) u a w ks l sh g made = waits (glance u.tier) ks (glance_quiet u.tier) made
+  stay_made (Passing passage) u a w ks l sh g made = waits (glance u.tier) ks (glance_quiet u.tier) made
   stay_made (Owing own') u a w ks l sh g made =
       let t : ℕ = errand_place ps u.errand in climbs (glance t) ks (quiet_upward (glance t) (glance_quiet t)) made
   stay_made (Due own') u a w ks l sh g made = climbs Look ks refl made
@@ -131,7 +131,7 @@ module _ (ps : List ℕ) (own : Trip) (P C : View → Type 0) (Q R : List Kind �
       (λ e. stay_made at.progress at.view at.answer w at.steps u.led sh g made)
 
 -- along a call
-module _ (k : Key) (own : Trip) (P C : View → Type 0) (Q R : List Kind → Type 0) (waits : (x : Kind) (ks : List Kind) → is_quiet x ≡ true → Q ks → Q (x ∷ ks))
+module _ (k : Key) (own : Passage) (P C : View → Type 0) (Q R : List Kind → Type 0) (waits : (x : Kind) (ks : List Kind) → is_quiet x ≡ true → Q ks → Q (x ∷ ks))
     (climbs : (x : Kind) (ks : List Kind) → is_upward x ≡ true → R ks → R (x ∷ ks)) (counts : (ks : List Kind) → Q ks → R (own_kind own ∷ ks))
     (from : Position) (shown : (at : Position) → Goes k from at → PassAt own P C at.view at.answer at.progress) where
   pub made_along : (at : Position) → MadeAt Q R from.view.led from.answer from.progress from.steps → Goes k from at → MadeAt Q R at.view.led at.answer at.progress at.steps
@@ -142,8 +142,8 @@ module _ (k : Key) (own : Trip) (P C : View → Type 0) (Q R : List Kind → Typ
       look_made k.shape own P C Q R waits climbs counts at' w (shown at' go) fits g beside (made_along at' m go)
 
 -- what is made on the way to the own step, and behind it
-pub stepped_more : (own : Trip) (old : List Kind) (k : Kind) (ks : List Kind) → is_upward k ≡ true → HasStepped own old ks → HasStepped own old (k ∷ ks)
+pub stepped_more : (own : Passage) (old : List Kind) (k : Kind) (ks : List Kind) → is_upward k ≡ true → HasStepped own old ks → HasStepped own old (k ∷ ks)
 stepped_more own old k ks such m = (m.0, m.1, made_more is_upward k (own_kind own ∷ m.0) ks such m.2)
 
-pub steps_own : (own : Trip) (old ks : List Kind) → HasLooked old ks → HasStepped own old (own_kind own ∷ ks)
+pub steps_own : (own : Passage) (old ks : List Kind) → HasLooked old ks → HasStepped own old (own_kind own ∷ ks)
 steps_own own old ks m = (ks, m, made_none is_upward (own_kind own ∷ ks))

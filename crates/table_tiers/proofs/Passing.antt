@@ -8,8 +8,8 @@ use Rattle.tier_steps.specs.declared.kind.Kind.TheVariants.{Look, Advance, Climb
 use Rattle.tier_steps.specs.declared.view.View.{View}
 use Rattle.tier_steps.specs.declared.view.Errand.{Errand}
 use Rattle.tier_steps.specs.declared.view.Errand.TheVariants.{Rest, Climbing, Advancing}
-use Rattle.tier_steps.specs.declared.view.Trip.{Trip}
-use Rattle.tier_steps.specs.declared.view.Trip.TheVariants.{Arrival, Departure}
+use Rattle.tier_steps.specs.declared.view.Passage.{Passage}
+use Rattle.tier_steps.specs.declared.view.Passage.TheVariants.{Arrival, Departure}
 use Rattle.tier_steps.proofs.Looking.{move_keeps}
 use Rattle.tier_core.specs.declared.call.Played.{Played}
 use Rattle.tier_core.specs.declared.call.Played.TheVariants.{GoesOn, Done}
@@ -30,8 +30,8 @@ use Rattle.tier_steps.specs.Tally.{word_at, root_phase, ErrandFits}
 use Rattle.tier_steps.proofs.KindLaw.{mine}
 use Rattle.table_tiers.proofs.Turning.{by_cond, ended_root, look_is, PassIs, over, behind, passes, pass_is}
 
-pub owed_cases : (P : Errand → Type 0) (above t : ℕ) (trip : Trip) (w : Fields) → P Rest → P Advancing → ((to : ℕ) (up : Trip) → P (Climbing to up)) → P (owed above t trip w)
-owed_cases P above zero trip w a b c = by_test (λ x. P (cond x Advancing Rest)) (eqb w.unarrived 1) (λ e. b) (λ e. a)
+pub owed_cases : (P : Errand → Type 0) (above t : ℕ) (passage : Passage) (w : Fields) → P Rest → P Advancing → ((to : ℕ) (up : Passage) → P (Climbing to up)) → P (owed above t passage w)
+owed_cases P above zero passage w a b c = by_test (λ x. P (cond x Advancing Rest)) (eqb w.unarrived 1) (λ e. b) (λ e. a)
 owed_cases P above (suc t) Arrival w a b c = by_test (λ x. P (cond x (Climbing above Arrival) Rest)) (eqb w.unarrived 1) (λ e. c above Arrival) (λ e. a)
 owed_cases P above (suc t) Departure w a b c =
     by_test (λ x. P (cond x (Climbing above Departure) (cond (eqb w.unarrived 1) (Climbing above Arrival) Rest))) (eqb w.parties 1)
@@ -88,12 +88,12 @@ open_pass t kind w r (behind e k at) quiet = e
 open_pass t kind w r (passes e k at) quiet = e
 
 -- the own step leads nothing
-pub own_led : (own : Trip) (above t : ℕ) (w : Fields) (u : View) → u.led ≡ false → (view_after above (own_kind own) t w u).led ≡ false
+pub own_led : (own : Passage) (above t : ℕ) (w : Fields) (u : View) → u.led ≡ false → (view_after above (own_kind own) t w u).led ≡ false
 own_led Arrival above t w u l = l
 own_led Departure above t w u l = l
 
 -- the own step counts a member
-own_counts : (own : Trip) (above t : ℕ) (w : Fields) (v u : View) → u.arrived < u.size → IsSame v u → HasCounted own v (view_after above (own_kind own) t w u)
+own_counts : (own : Passage) (above t : ℕ) (w : Fields) (v u : View) → u.arrived < u.size → IsSame v u → HasCounted own v (view_after above (own_kind own) t w u)
 own_counts Arrival above t w v u lt s = record {
   tier = s.tier;
   phase = s.phase;
@@ -107,11 +107,11 @@ own_counts Departure above t w v u lt s = record {
   departure = λ e. ((let a = s.size in omega arith), s.arrived);
 }
 
-own_phase : (own : Trip) (above t : ℕ) (w : Fields) (u : View) → u.phase ≡ (view_after above (own_kind own) t w u).phase
+own_phase : (own : Passage) (above t : ℕ) (w : Fields) (u : View) → u.phase ≡ (view_after above (own_kind own) t w u).phase
 own_phase Arrival above t w u = refl
 own_phase Departure above t w u = refl
 
-counted_on : (own : Trip) (v u u' : View) → HasCounted own v u → IsSame u u' → HasCounted own v u'
+counted_on : (own : Passage) (v u u' : View) → HasCounted own v u → IsSame u u' → HasCounted own v u'
 counted_on own v u u' c s = record {
   tier = s.tier ∙ c.tier;
   phase = s.phase ∙ c.phase;
@@ -120,36 +120,36 @@ counted_on own v u u' c s = record {
 }
 
 -- a token that climbs or advances is in the root's phase
-current_at : (ps : List ℕ) (t : ℕ) (w : Fields) (v : View) → Beside ps t w v → (v.errand ≡ Advancing) ⊎ ((to : ℕ) × (trip : Trip) × (v.errand ≡ Climbing to trip)) → t ≡ 0 → v.phase ≡ w.phase
+current_at : (ps : List ℕ) (t : ℕ) (w : Fields) (v : View) → Beside ps t w v → (v.errand ≡ Advancing) ⊎ ((to : ℕ) × (passage : Passage) × (v.errand ≡ Climbing to passage)) → t ≡ 0 → v.phase ≡ w.phase
 current_at ps t w v b way z =
     let fits = (mine ps b.words b.front b.back v b.tally).errand in
     let root : (word_at b.words 0).phase ≡ w.phase = ap (λ (n : ℕ). (word_at b.words n).phase) (sym z) ∙ ap (λ (x : Fields). x.phase) b.word in
     ⊎_elim
     (λ (e : v.errand ≡ Advancing). subst (ErrandFits ps (root_phase b.words) v) e fits ∙ root)
-    (λ (e : (to : ℕ) × (trip : Trip) × (v.errand ≡ Climbing to trip)). (subst (ErrandFits ps (root_phase b.words) v) e.2 fits).0 ∙ root) way
+    (λ (e : (to : ℕ) × (passage : Passage) × (v.errand ≡ Climbing to passage)). (subst (ErrandFits ps (root_phase b.words) v) e.2 fits).0 ∙ root) way
 
 pub root_of : (ps : List ℕ) (t : ℕ) (w : Fields) (v : View) → Beside ps t w v → w.ended ≡ true → t ≡ 0
 root_of ps t w v b e = ended_root ps b.words (b.front ++ v ∷ b.back) t b.tally (ap (λ (z : Fields). z.ended) b.word ∙ e)
 
 -- What a call keeps: of a token of whose members none was counted yet, and of one that has counted.
-module _ (ps : List ℕ) (own : Trip) (P C : View → Type 0) (stays : (u u' : View) → P u → IsSame u u' → P u') (keeps : (u u' : View) → C u → IsSame u u' → C u')
+module _ (ps : List ℕ) (own : Passage) (P C : View → Type 0) (stays : (u u' : View) → P u → IsSame u u' → P u') (keeps : (u u' : View) → C u → IsSame u u' → C u')
     (counts : (above t : ℕ) (w : Fields) (u : View) → u.arrived < u.size → P u → C (view_after above (own_kind own) t w u)) where
   -- how the call goes on from what is owed
-  goes_as_owed : (phase n above t : ℕ) (w : Fields) (trip trip' : Trip) (u : View) → C u → u.led ≡ false → phase ≡ u.phase → PassAt own P C u (told phase n (owed above t trip w)) (goes_on trip' (owed above t trip w))
-  goes_as_owed phase n above t w trip trip' u c l same =
-      owed_cases (λ e. PassAt own P C u (told phase n e) (goes_on trip' e)) above t trip w (c, same) (c, l) (λ to up. (c, l))
+  goes_as_owed : (phase n above t : ℕ) (w : Fields) (passage passage' : Passage) (u : View) → C u → u.led ≡ false → phase ≡ u.phase → PassAt own P C u (told phase n (owed above t passage w)) (goes_on passage' (owed above t passage w))
+  goes_as_owed phase n above t w passage passage' u c l same =
+      owed_cases (λ e. PassAt own P C u (told phase n e) (goes_on passage' e)) above t passage w (c, same) (c, l) (λ to up. (c, l))
 
   -- a climb
-  climb_shown : (trip' : Trip) (above t : ℕ) (trip : Trip) (w : Fields) (u : View) → above ≡ parent_of ps t → C u → u.led ≡ false
-      → PassAt own P C (view_after above (pass_turn ps trip' t trip (Climb trip) (Owing trip') (Done u.phase) w u).kind t w u)
-      (pass_turn ps trip' t trip (Climb trip) (Owing trip') (Done u.phase) w u).answer (pass_turn ps trip' t trip (Climb trip) (Owing trip') (Done u.phase) w u).next
-  climb_shown trip' above t trip w u is c l =
+  climb_shown : (passage' : Passage) (above t : ℕ) (passage : Passage) (w : Fields) (u : View) → above ≡ parent_of ps t → C u → u.led ≡ false
+      → PassAt own P C (view_after above (pass_turn ps passage' t passage (Climb passage) (Owing passage') (Done u.phase) w u).kind t w u)
+      (pass_turn ps passage' t passage (Climb passage) (Owing passage') (Done u.phase) w u).answer (pass_turn ps passage' t passage (Climb passage) (Owing passage') (Done u.phase) w u).next
+  climb_shown passage' above t passage w u is c l =
       by_cond (λ r. PassAt own P C (view_after above r.kind t w u) r.answer r.next) w.ended _ _
       (λ e. let s = (ended_look w u e).0 in (keeps u (looked w u) c s, sym s.phase))
       (λ e. by_cond (λ r. PassAt own P C (view_after above r.kind t w u) r.answer r.next) (lags w u) _ _ (λ f. (c, l))
-      (λ f. subst (λ (a : ℕ). PassAt own P C (record u { errand = owed a t trip w }) (told u.phase (passed t trip w).parties (owed (parent_of ps t) t trip w)) (goes_on trip' (owed (parent_of ps t) t trip w))) (sym is)
-      (goes_as_owed u.phase (passed t trip w).parties (parent_of ps t) t w trip trip' (record u { errand = owed (parent_of ps t) t trip w })
-      (keeps u (record u { errand = owed (parent_of ps t) t trip w }) c (record { tier = refl; size = refl; phase = refl; arrived = refl })) l refl)))
+      (λ f. subst (λ (a : ℕ). PassAt own P C (record u { errand = owed a t passage w }) (told u.phase (passed t passage w).parties (owed (parent_of ps t) t passage w)) (goes_on passage' (owed (parent_of ps t) t passage w))) (sym is)
+      (goes_as_owed u.phase (passed t passage w).parties (parent_of ps t) t w passage passage' (record u { errand = owed (parent_of ps t) t passage w })
+      (keeps u (record u { errand = owed (parent_of ps t) t passage w }) c (record { tier = refl; size = refl; phase = refl; arrived = refl })) l refl)))
 
   -- the own step
   own_shown : (t : ℕ) (w : Fields) (u : View) → u.arrived < u.size → P u → IsFresh u
@@ -169,8 +169,8 @@ module _ (ps : List ℕ) (own : Trip) (P C : View → Type 0) (stays : (u u' : V
   step_shown (ToSeek tier size) u a b w sh fits g beside = absurd sh
   step_shown Settling u a b w sh fits g beside = absurd sh
   step_shown (ToGiveBack answer) u a b w sh fits g beside = absurd sh
-  step_shown (Passing trip) u a b w sh fits g beside =
-      subst (λ (z : Trip). let r = pass_turn ps z u.tier z (own_kind z) (Passing z) (end_shown w) w u in PassAt own P C (view_after (parent_of ps u.tier) r.kind u.tier w u) r.answer r.next) (sym sh.0)
+  step_shown (Passing passage) u a b w sh fits g beside =
+      subst (λ (z : Passage). let r = pass_turn ps z u.tier z (own_kind z) (Passing z) (end_shown w) w u in PassAt own P C (view_after (parent_of ps u.tier) r.kind u.tier w u) r.answer r.next) (sym sh.0)
       (own_shown u.tier w u fits.1 sh.1 sh.2)
   step_shown (Owing own') u a b w sh fits g beside =
       subst (λ (e : Errand). let r = climb_turn ps own' w u e in PassAt own P C (view_after (parent_of ps (errand_place ps e)) r.kind (errand_place ps e) w u) r.answer r.next) (sym fits.2)
@@ -190,8 +190,8 @@ module _ (ps : List ℕ) (own : Trip) (P C : View → Type 0) (stays : (u u' : V
   stay_shown (ToSeek tier size) u a w sh fits g beside quiet = absurd sh
   stay_shown Settling u a w sh fits g beside quiet = absurd sh
   stay_shown (ToGiveBack answer) u a w sh fits g beside quiet = absurd sh
-  stay_shown (Passing trip) u a w sh fits g beside quiet =
-      let open_now = open_pass u.tier (own_kind trip) w _ (pass_is ps trip u.tier trip (own_kind trip) (Passing trip) (end_shown w) w u) quiet in (
+  stay_shown (Passing passage) u a w sh fits g beside quiet =
+      let open_now = open_pass u.tier (own_kind passage) w _ (pass_is ps passage u.tier passage (own_kind passage) (Passing passage) (end_shown w) w u) quiet in (
         sh.0,
         stays u (view_after (parent_of ps u.tier) (glance u.tier) u.tier w u) sh.1 (still_glance (parent_of ps u.tier) u.tier w u (λ z. inr fits.1)),
         glance_fresh (parent_of ps u.tier) u.tier w u open_now sh.2,
@@ -221,7 +221,7 @@ module _ (ps : List ℕ) (own : Trip) (P C : View → Type 0) (stays : (u u' : V
       (λ e. stay_shown at.progress at.view at.answer w sh fits g beside e)
 
 -- along a call
-module _ (k : Key) (own : Trip) (P C : View → Type 0) (stays : (u u' : View) → P u → IsSame u u' → P u') (keeps : (u u' : View) → C u → IsSame u u' → C u')
+module _ (k : Key) (own : Passage) (P C : View → Type 0) (stays : (u u' : View) → P u → IsSame u u' → P u') (keeps : (u u' : View) → C u → IsSame u u' → C u')
     (counts : (above t : ℕ) (w : Fields) (u : View) → u.arrived < u.size → P u → C (view_after above (own_kind own) t w u)) where
   along : (from at : Position) → PassAt own P C from.view from.answer from.progress → Goes k from at → PassAt own P C at.view at.answer at.progress
   along from at sh starts = sh
@@ -234,15 +234,15 @@ passes_count_once k own v from at p is lt fresh go =
     (subst (λ (z : Progress). PassAt own (IsSame v) (HasCounted own v) from.view from.answer z) (sym p)
     (let z = subst (λ (z : View). IsSame v z × IsFresh z) (sym is) (record { tier = refl; size = refl; phase = refl; arrived = refl }, fresh) in (refl, z.0, z.1))) go
 
-owing_at : (own : Trip) (P C : View → Type 0) (u : View) (a : Played) (p : Progress) → is_owing p ≡ true → C u × (u.led ≡ false) → PassAt own P C u a p
+owing_at : (own : Passage) (P C : View → Type 0) (u : View) (a : Played) (p : Progress) → is_owing p ≡ true → C u × (u.led ≡ false) → PassAt own P C u a p
 owing_at own P C u a Idle o c = absurd (cc)
 owing_at own P C u a (Begun x) o c = absurd (cc)
 owing_at own P C u a (ToSeek tier size) o c = absurd (cc)
 owing_at own P C u a Settling o c = absurd (cc)
 owing_at own P C u a (ToGiveBack b) o c = absurd (cc)
-owing_at own P C u a (Passing trip) o c = absurd (cc)
-owing_at own P C u a (Owing trip) o c = c
-owing_at own P C u a (Due trip) o c = c
+owing_at own P C u a (Passing passage) o c = absurd (cc)
+owing_at own P C u a (Owing passage) o c = c
+owing_at own P C u a (Due passage) o c = c
 owing_at own P C u a (Refreshing moved_on) o c = absurd (cc)
 
 pub passes_count_no_more : PassesCountNoMore

@@ -10,8 +10,8 @@ use Rattle.tier_steps.specs.declared.kind.Kind.{Kind}
 use Rattle.tier_steps.specs.declared.kind.Kind.TheVariants.{Look, Glance, Join, Advance, Climb, Refresh}
 use Rattle.tier_steps.specs.declared.view.View.{View}
 use Rattle.tier_steps.specs.declared.view.Errand.{Errand}
-use Rattle.tier_steps.specs.declared.view.Trip.{Trip}
-use Rattle.tier_steps.specs.declared.view.Trip.TheVariants.{Arrival, Departure}
+use Rattle.tier_steps.specs.declared.view.Passage.{Passage}
+use Rattle.tier_steps.specs.declared.view.Passage.TheVariants.{Arrival, Departure}
 use Rattle.tier_core.specs.declared.call.Played.{Played}
 use Rattle.tier_core.specs.declared.call.Played.TheVariants.{GoesOn, Done}
 use Rattle.tier_core.specs.declared.call.Progress.{Progress}
@@ -47,13 +47,13 @@ seek_ends tier claimed size t w v =
     (λ e. by_cond EndsOrBacks (is_refusing (added claimed size) w) _ _ (λ f l. backs claimed _)
     (λ f. by_cond EndsOrBacks (is_claimable t w) _ _ (λ g l. not_both false l refl) (λ g l. not_both false l refl)))
 
-pass_ends : (ps : List ℕ) (own : Trip) (t : ℕ) (trip : Trip) (kind : Kind) (here : Progress) (answer : Played) (w : Fields) (v : View) → is_look kind ≡ false
-    → EndsOrBacks (pass_turn ps own t trip kind here answer w v)
-pass_ends ps own t trip kind here answer w v quiet =
+pass_ends : (ps : List ℕ) (own : Passage) (t : ℕ) (passage : Passage) (kind : Kind) (here : Progress) (answer : Played) (w : Fields) (v : View) → is_look kind ≡ false
+    → EndsOrBacks (pass_turn ps own t passage kind here answer w v)
+pass_ends ps own t passage kind here answer w v quiet =
     by_cond EndsOrBacks w.ended _ _ (λ e l. inl refl)
     (λ e. by_cond EndsOrBacks (lags w v) _ _ (λ f l. not_both false l refl) (λ f l. not_both (is_look kind) l quiet))
 
-pub quiet_own : (trip : Trip) → is_look (own_kind trip) ≡ false
+pub quiet_own : (passage : Passage) → is_look (own_kind passage) ≡ false
 quiet_own Arrival = refl
 quiet_own Departure = refl
 
@@ -64,7 +64,7 @@ look_ends ps w (ToSeek tier size) v fits g l = seek_ends tier (claimed_by v.erra
 look_ends ps w Settling v fits g l = not_both (is_look (settle_turn ps v v.errand).kind) l (subst (λ (e : Errand). is_look (settle_turn ps v e).kind ≡ false) (sym fits.3) refl)
 look_ends ps w (ToGiveBack answer) v fits g l =
     not_both (is_look (give_back_turn ps answer v.errand).kind) l (subst (λ (e : Errand). is_look (give_back_turn ps answer e).kind ≡ false) (sym fits.3) refl)
-look_ends ps w (Passing trip) v fits g l = pass_ends ps trip v.tier trip (own_kind trip) (Passing trip) (end_shown w) w v (quiet_own trip) l
+look_ends ps w (Passing passage) v fits g l = pass_ends ps passage v.tier passage (own_kind passage) (Passing passage) (end_shown w) w v (quiet_own passage) l
 look_ends ps w (Owing own) v fits g l =
     subst (λ (e : Errand). EndsOrBacks (climb_turn ps own w v e)) (sym fits.2) (pass_ends ps own fits.0 fits.1 (Climb fits.1) (Owing own) (Done v.phase) w v refl) l
 look_ends ps w (Due own) v fits g l = inl refl
@@ -76,7 +76,7 @@ back_quiet ps w (Begun c) v fits b = not_both false b refl
 back_quiet ps w (ToSeek tier size) v fits b = not_both false b refl
 back_quiet ps w Settling v fits b = not_both false b refl
 back_quiet ps w (ToGiveBack answer) v fits b = subst (λ (e : Errand). is_look (give_back_turn ps answer e).kind ≡ false) (sym fits.3) refl
-back_quiet ps w (Passing trip) v fits b = not_both false b refl
+back_quiet ps w (Passing passage) v fits b = not_both false b refl
 back_quiet ps w (Owing own) v fits b = not_both false b refl
 back_quiet ps w (Due own) v fits b = not_both false b refl
 back_quiet ps w (Refreshing passed_on) v fits b = not_both false b refl
@@ -202,7 +202,7 @@ plan_pass k t kind w r says (over e k' at) = subst (λ (z : Kind). PlanSays k z 
 plan_pass k t kind w r says (behind e k' at) = subst (λ (z : Kind). PlanSays k z w) (sym k') tt
 plan_pass k t kind w r says (passes e k' at) = subst (λ (z : Kind). PlanSays k z w) (sym k') says
 
-plan_own : (k : Key) (trip : Trip) (w : Fields) → PlanSays k (own_kind trip) w
+plan_own : (k : Key) (passage : Passage) (w : Fields) → PlanSays k (own_kind passage) w
 plan_own k Arrival w = tt
 plan_own k Departure w = tt
 
@@ -214,8 +214,8 @@ plan_says k b w (ToSeek tier size) v fits g h =
     plan_seek k tier (claimed_by v.errand) size (ancestor k.shape tier (claimed_by v.errand)) w _ (seek_is tier (claimed_by v.errand) size (ancestor k.shape tier (claimed_by v.errand)) w v)
 plan_says k b w Settling v fits g h = subst (λ (e : Errand). PlanSays k (settle_turn k.shape v e).kind w) (sym fits.3) tt
 plan_says k b w (ToGiveBack answer) v fits g h = subst (λ (e : Errand). PlanSays k (give_back_turn k.shape answer e).kind w) (sym fits.3) tt
-plan_says k b w (Passing trip) v fits g h =
-    plan_pass k v.tier (own_kind trip) w _ (plan_own k trip w) (pass_is k.shape trip v.tier trip (own_kind trip) (Passing trip) (end_shown w) w v)
+plan_says k b w (Passing passage) v fits g h =
+    plan_pass k v.tier (own_kind passage) w _ (plan_own k passage w) (pass_is k.shape passage v.tier passage (own_kind passage) (Passing passage) (end_shown w) w v)
 plan_says k b w (Owing own) v fits g h = subst (λ (e : Errand). PlanSays k (climb_turn k.shape own w v e).kind w) (sym fits.2)
     (plan_pass k fits.0 (Climb fits.1) w _ tt (pass_is k.shape own fits.0 fits.1 (Climb fits.1) (Owing own) (Done v.phase) w v))
 plan_says k b w (Due own) v fits g h = by_test (λ c. PlanSays k (cond c Look (Advance b)) w) w.ended (λ e. tt) (λ e. h refl)
@@ -233,7 +233,7 @@ lost_pass t t' kind w w' r is (over e k at) = ap (λ (z : Kind). looking z t' w'
 lost_pass t t' kind w w' r is (behind e k at) = ap (λ (z : Kind). looking z t' w') k
 lost_pass t t' kind w w' r is (passes e k at) = ap (λ (z : Kind). looking z t' w') k ∙ is
 
-lost_own : (trip : Trip) (t : ℕ) (w : Fields) → looking (own_kind trip) t w ≡ glance t
+lost_own : (passage : Passage) (t : ℕ) (w : Fields) → looking (own_kind passage) t w ≡ glance t
 lost_own Arrival t w = refl
 lost_own Departure t w = refl
 
@@ -245,8 +245,8 @@ lost_look ps b w w' (ToSeek tier size) v t fits g l =
     lost_seek tier (claimed_by v.errand) size (ancestor ps tier (claimed_by v.errand)) t w w' _ (seek_is tier (claimed_by v.errand) size (ancestor ps tier (claimed_by v.errand)) w v) l
 lost_look ps b w w' Settling v t fits g l = subst (λ (e : Errand). looking (settle_turn ps v e).kind t w' ≡ glance t) (sym fits.3) refl
 lost_look ps b w w' (ToGiveBack answer) v t fits g l = subst (λ (e : Errand). looking (give_back_turn ps answer e).kind t w' ≡ glance t) (sym fits.3) refl
-lost_look ps b w w' (Passing trip) v t fits g l =
-    lost_pass v.tier t (own_kind trip) w w' _ (lost_own trip t w') (pass_is ps trip v.tier trip (own_kind trip) (Passing trip) (end_shown w) w v)
+lost_look ps b w w' (Passing passage) v t fits g l =
+    lost_pass v.tier t (own_kind passage) w w' _ (lost_own passage t w') (pass_is ps passage v.tier passage (own_kind passage) (Passing passage) (end_shown w) w v)
 lost_look ps b w w' (Owing own) v t fits g l = subst (λ (e : Errand). looking (climb_turn ps own w v e).kind t w' ≡ glance t) (sym fits.2)
     (lost_pass fits.0 t (Climb fits.1) w w' _ refl (pass_is ps own fits.0 fits.1 (Climb fits.1) (Owing own) (Done v.phase) w v))
 lost_look ps b w w' (Due own) v t fits g l = by_test (λ c. looking (cond c Look (Advance b)) t w' ≡ glance t) w.ended (λ e. refl) (λ e. refl)

@@ -12,8 +12,8 @@ use Rattle.tier_steps.specs.declared.kind.Kind.TheVariants.{Join}
 use Rattle.tier_steps.specs.declared.view.View.{View}
 use Rattle.tier_steps.specs.declared.view.Errand.{Errand}
 use Rattle.tier_steps.specs.declared.view.Errand.TheVariants.{Opening}
-use Rattle.tier_steps.specs.declared.view.Stage.{Stage}
-use Rattle.tier_steps.specs.declared.view.Stage.TheVariants as stage
+use Rattle.tier_steps.specs.declared.view.OpeningStage.{OpeningStage}
+use Rattle.tier_steps.specs.declared.view.OpeningStage.TheVariants as stage
 use Rattle.tier_steps.proofs.Looking.{move_keeps}
 use Rattle.tier_steps.proofs.Known.{tally_is_known}
 use Rattle.tier_core.specs.declared.call.Played.{Played}
@@ -41,7 +41,7 @@ claims_one ps tier claimed t is =
     let e : eqb (ancestor ps tier claimed) t ≡ true = eq-eqb (ancestor ps tier claimed) t (sym is) in
     subst (λ (b : Bool). 0 < cond b 1 0 + claims_on ps tier claimed t) (sym e) (omega arith)
 
-pub claimed_below : (ps : List ℕ) (t : ℕ) (w : Fields) (v : View) (tier claimed size : ℕ) (s : Stage) → Beside ps t w v → v.errand ≡ Opening tier (suc claimed) s size
+pub claimed_below : (ps : List ℕ) (t : ℕ) (w : Fields) (v : View) (tier claimed size : ℕ) (s : OpeningStage) → Beside ps t w v → v.errand ≡ Opening tier (suc claimed) s size
     → t ≡ ancestor ps tier claimed → 0 < t
 claimed_below ps zero w v tier claimed size s b e is =
     let k = tally_is_known ps b.words b.front v b.back 0 b.within b.tally in
@@ -159,7 +159,7 @@ module _ (ps : List ℕ) (least home tier size : ℕ) where
       (refusal_says claimed t w (refused t w v) alone is (refused_note t w v) (refused_end t w v e ∙ unseen) f))
       (λ f. by_cond (λ r. JoinAt ps least home tier size (view_after above r.kind t w v) r.answer r.next) (is_claimable t w) _ _
       (λ g. record { same_tier = refl; same_size = refl; at_home = here; claims = omega arith; unseen = unseen; unled = unled })
-      (λ g. over_or_settles claimed w.phase (joined_view tier claimed size w v) refl (record { seat = refl; members = refl; none_arrived = refl; unled = unled }) refl)))
+      (λ g. over_or_settles claimed w.phase (joined_view tier claimed size w v) refl (record { place = refl; members = refl; none_arrived = refl; unled = unled }) refl)))
 
   rest_same : (a : Played) (v : View) (e : Errand) → Refusal ps tier size v a → Refusal ps tier size (record v { errand = e }) a
   rest_same GoesOn v e r = r
@@ -185,11 +185,11 @@ module _ (ps : List ℕ) (least home tier size : ℕ) where
       (λ i. (sh.same_tier i, sh.same_size i)) (fits.0, beside) in root_unclaimed ps tier (claimed_by u.errand) size w u z.1 z.0))
   step_shown Settling u a b w sh fits g beside =
       subst (λ (e : Errand). let r = settle_turn ps u e in let t = errand_place ps e in JoinAt ps least home tier size (view_after (parent_of ps t) r.kind t w u) r.answer r.next) (sym sh.errand)
-      (over_or_settles sh.claimed u.phase (settled_view tier sh.claimed stage.Joined size u) refl (record { seat = sh.joined.seat; members = sh.joined.members; none_arrived = sh.joined.none_arrived; unled = sh.joined.unled }) refl)
+      (over_or_settles sh.claimed u.phase (settled_view tier sh.claimed stage.Joined size u) refl (record { place = sh.joined.place; members = sh.joined.members; none_arrived = sh.joined.none_arrived; unled = sh.joined.unled }) refl)
   step_shown (ToGiveBack answer) u a b w sh fits g beside =
       subst (λ (e : Errand). let r = give_back_turn ps answer e in let t = errand_place ps e in JoinAt ps least home tier size (view_after (parent_of ps t) r.kind t w u) r.answer r.next) (sym sh.errand)
       (over_or_back sh.claimed answer (settled_view tier sh.claimed stage.GoingBack size u) sh.none refl (rest_same answer u (opening tier sh.claimed stage.GoingBack size) sh.refusal))
-  step_shown (Passing trip) u a b w sh fits g beside = absurd sh
+  step_shown (Passing passage) u a b w sh fits g beside = absurd sh
   step_shown (Owing own) u a b w sh fits g beside = absurd sh
   step_shown (Due own) u a b w sh fits g beside = absurd sh
   step_shown (Refreshing passed_on) u a b w sh fits g beside = absurd sh
@@ -246,7 +246,7 @@ module _ (ps : List ℕ) (least home tier size : ℕ) where
       let t : ℕ = errand_place ps u.errand in
       let low : 0 < t = claimed_below ps t w u tier sh.claimed size stage.GoingBack beside sh.errand (ap (errand_place ps) sh.errand) in
       subst (λ (z : View). GivesBackFor ps tier size z answer) (still (parent_of ps t) t w u low) sh
-  stay_shown (Passing trip) u a w sh fits g beside quiet = absurd sh
+  stay_shown (Passing passage) u a w sh fits g beside quiet = absurd sh
   stay_shown (Owing own) u a w sh fits g beside quiet = absurd sh
   stay_shown (Due own) u a w sh fits g beside quiet = absurd sh
   stay_shown (Refreshing passed_on) u a w sh fits g beside quiet = absurd sh
@@ -290,7 +290,7 @@ joining_next ps b w (ToSeek tier size) v fits j =
     (λ f. by_cond (λ r. is_joining r.next ≡ true) (is_claimable (ancestor ps tier (claimed_by v.errand)) w) _ _ (λ g. refl) (λ g. joining_settles (claimed_by v.errand))))
 joining_next ps b w Settling v fits j = subst (λ (e : Errand). is_joining (settle_turn ps v e).next ≡ true) (sym fits.3) (joining_settles fits.1)
 joining_next ps b w (ToGiveBack answer) v fits j = subst (λ (e : Errand). is_joining (give_back_turn ps answer e).next ≡ true) (sym fits.3) (joining_over fits.1 answer)
-joining_next ps b w (Passing trip) v fits j = absurd (cc)
+joining_next ps b w (Passing passage) v fits j = absurd (cc)
 joining_next ps b w (Owing own) v fits j = absurd (cc)
 joining_next ps b w (Due own) v fits j = absurd (cc)
 joining_next ps b w (Refreshing passed_on) v fits j = absurd (cc)
@@ -313,7 +313,7 @@ not_due (Begun c) j d = not_both false d refl
 not_due (ToSeek tier size) j d = not_both false d refl
 not_due Settling j d = not_both false d refl
 not_due (ToGiveBack answer) j d = not_both false d refl
-not_due (Passing trip) j d = not_both false d refl
+not_due (Passing passage) j d = not_both false d refl
 not_due (Owing own) j d = not_both false d refl
 not_due (Due own) j d = not_both false j refl
 not_due (Refreshing passed_on) j d = not_both false d refl

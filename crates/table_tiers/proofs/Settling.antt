@@ -8,8 +8,8 @@ use Rattle.tier_steps.specs.Tally.{root_phase}
 use Rattle.tier_steps.specs.Step.{looked, moved, dropped, is_going_back}
 use Rattle.tier_steps.specs.declared.view.View.{View}
 use Rattle.tier_steps.specs.declared.view.Errand.TheVariants.{Rest}
-use Rattle.tier_steps.specs.declared.view.Trip.{Trip}
-use Rattle.tier_steps.specs.declared.view.Trip.TheVariants.{Arrival, Departure}
+use Rattle.tier_steps.specs.declared.view.Passage.{Passage}
+use Rattle.tier_steps.specs.declared.view.Passage.TheVariants.{Arrival, Departure}
 use Rattle.tier_steps.specs.declared.kind.Kind.TheVariants.{Look}
 use Rattle.tier_steps.proofs.Looking.{move_keeps}
 use Rattle.tier_steps.proofs.KindLaw.{mine}
@@ -70,11 +70,11 @@ first h h' crew took = record {
         ap (λ b. (cond b (record u { end_seen = Some w.phase; errand = dropped v.errand }) (moved w u)).end_seen) e
 
 -- an arrival or a departure that has looked
-abbrev pub began_at : Trip → Holding → Going
+abbrev pub began_at : Passage → Holding → Going
 began_at own h = record { token = h; progress = Passing own; answer = GoesOn }
 
 -- where a call goes on from its first look
-pub began : {n : Named} {h h' : Holding} {own : Trip} → h.tree ≡ n → IsCrew h → Looked Look 0 h h' → h'.view.arrived ≢ h'.view.size → IsAt n (record { token = h'; progress = Passing own; answer = GoesOn })
+pub began : {n : Named} {h h' : Holding} {own : Passage} → h.tree ≡ n → IsCrew h → Looked Look 0 h h' → h'.view.arrived ≢ h'.view.size → IsAt n (record { token = h'; progress = Passing own; answer = GoesOn })
 began {n} {h} {h'} {own} is crew took some =
     let f = first h h' crew took in
     let b = took.after in
@@ -146,19 +146,19 @@ first_made {h} {h'} took = subst (λ (ks : List Kind). HasLooked h.steps ks) (sy
 pub soon_looked : {h h' : Holding} {tries : ℕ} → Looked Look 0 h h' → IsSoon tries h h'
 soon_looked {h} {h'} {tries} took = record { tree = took.tree; tried = (let a = took.tried in omega arith); opened = took.opened }
 
-pub first_ended : {h h' : Holding} {shown : ℤ} (own : Trip) (tries : ℕ) → IsCrew h → Looked Look 0 h h' → h'.word.ended ≡ true → shown ≡ shown_of h'.word.phase h'.word.ended
+pub first_ended : {h h' : Holding} {shown : ℤ} (own : Passage) (tries : ℕ) → IsCrew h → Looked Look 0 h h' → h'.word.ended ≡ true → shown ≡ shown_of h'.word.phase h'.word.ended
     → Arrives own h tries (arrived.Ended h' shown)
 first_ended {h} {h'} {shown} own tries crew took e is =
     let f = first h h' crew took in
     (soon_looked took, f.looked, (h'.word.phase, f.ended e, is ∙ ap (shown_of h'.word.phase) e), first_made took)
 
-pub first_arrived : {h h' : Holding} {phase : ℕ} (own : Trip) (tries : ℕ) → IsCrew h → Looked Look 0 h h' → h'.word.ended ≡ false → h'.view.arrived ≡ h'.view.size → phase ≡ h'.view.phase
+pub first_arrived : {h h' : Holding} {phase : ℕ} (own : Passage) (tries : ℕ) → IsCrew h → Looked Look 0 h h' → h'.word.ended ≡ false → h'.view.arrived ≡ h'.view.size → phase ≡ h'.view.phase
     → Arrives own h tries (arrived.AlreadyArrived h' phase)
 first_arrived {h} {h'} {phase} own tries crew took going all is = (soon_looked took, (first h h' crew took).looked, first_fresh took going, all, is, first_made took)
 
 -- a call that may answer as it stands
-settles_at : (P C : View → Type 0) (own : Trip) (g : Going) → IsAt g.token.tree g → PassAt own P C g.token.view g.answer g.progress → ((u : View) → P u → 0 < u.size) → MaySettle g
-settles_at P C own g at sh some = record { at = at; trip = own; shown = go g.progress g.answer sh }
+settles_at : (P C : View → Type 0) (own : Passage) (g : Going) → IsAt g.token.tree g → PassAt own P C g.token.view g.answer g.progress → ((u : View) → P u → 0 < u.size) → MaySettle g
+settles_at P C own g at sh some = record { at = at; passage = own; shown = go g.progress g.answer sh }
   where
     go : (p : Progress) (a : Played) → PassAt own P C g.token.view a p → PassAt own (λ u. 0 < u.size) (λ u. Unit {0}) g.token.view a p
     go Idle GoesOn s = s
@@ -174,13 +174,13 @@ settles_at P C own g at sh some = record { at = at; trip = own; shown = go g.pro
     go (ToSeek tier size) a s = s
     go Settling a s = s
     go (ToGiveBack b) a s = s
-    go (Passing trip) a s = (s.0, some g.token.view s.1, s.2)
-    go (Owing trip) a s = (tt, s.1)
-    go (Due trip) a s = (tt, s.1)
+    go (Passing passage) a s = (s.0, some g.token.view s.1, s.2)
+    go (Owing passage) a s = (tt, s.1)
+    go (Due passage) a s = (tt, s.1)
     go (Refreshing moved_on) a s = s
 
-ends_at : (C : View → Type 0) (own : Trip) (g : Going) → IsAt g.token.tree g → PassAt own (λ u. ⊥) C g.token.view g.answer g.progress → MayEnd g
-ends_at C own g at sh = record { at = at; trip = own; shown = go g.progress g.answer sh }
+ends_at : (C : View → Type 0) (own : Passage) (g : Going) → IsAt g.token.tree g → PassAt own (λ u. ⊥) C g.token.view g.answer g.progress → MayEnd g
+ends_at C own g at sh = record { at = at; passage = own; shown = go g.progress g.answer sh }
   where
     go : (p : Progress) (a : Played) → PassAt own (λ u. ⊥) C g.token.view a p → PassAt own (λ u. ⊥) (λ u. Unit {0}) g.token.view a p
     go Idle GoesOn s = s
@@ -196,58 +196,58 @@ ends_at C own g at sh = record { at = at; trip = own; shown = go g.progress g.an
     go (ToSeek tier size) a s = s
     go Settling a s = s
     go (ToGiveBack b) a s = s
-    go (Passing trip) a s = s
-    go (Owing trip) a s = (tt, s.1)
-    go (Due trip) a s = (tt, s.1)
+    go (Passing passage) a s = s
+    go (Owing passage) a s = (tt, s.1)
+    go (Due passage) a s = (tt, s.1)
     go (Refreshing moved_on) a s = s
 
 -- a token whose call owes nothing rests
-rests_at : (ps : List ℕ) (P C : View → Type 0) (own : Trip) (p : Progress) (a : Played) (u : View) → PassAt own P C u a p → CallFits ps p u
-    → ((trip : Trip) → p ≢ Owing trip) → ((trip : Trip) → p ≢ Due trip) → u.errand ≡ Rest
+rests_at : (ps : List ℕ) (P C : View → Type 0) (own : Passage) (p : Progress) (a : Played) (u : View) → PassAt own P C u a p → CallFits ps p u
+    → ((passage : Passage) → p ≢ Owing passage) → ((passage : Passage) → p ≢ Due passage) → u.errand ≡ Rest
 rests_at ps P C own Idle a u s f no_climb no_advance = f
 rests_at ps P C own (Begun x) a u s f no_climb no_advance = absurd s
 rests_at ps P C own (ToSeek tier size) a u s f no_climb no_advance = absurd s
 rests_at ps P C own Settling a u s f no_climb no_advance = absurd s
 rests_at ps P C own (ToGiveBack b) a u s f no_climb no_advance = absurd s
-rests_at ps P C own (Passing trip) a u s f no_climb no_advance = f.0
-rests_at ps P C own (Owing trip) a u s f no_climb no_advance = absurd (no_climb trip refl)
-rests_at ps P C own (Due trip) a u s f no_climb no_advance = absurd (no_advance trip refl)
+rests_at ps P C own (Passing passage) a u s f no_climb no_advance = f.0
+rests_at ps P C own (Owing passage) a u s f no_climb no_advance = absurd (no_climb passage refl)
+rests_at ps P C own (Due passage) a u s f no_climb no_advance = absurd (no_advance passage refl)
 rests_at ps P C own (Refreshing moved_on) a u s f no_climb no_advance = absurd s
 
-pub settled_crew : {g : Going} {u : View} → MaySettle g → u ≡ g.token.view → u.size ≢ 0 → ((trip : Trip) → g.progress ≢ Owing trip) → ((trip : Trip) → g.progress ≢ Due trip) → IsCrew g.token
+pub settled_crew : {g : Going} {u : View} → MaySettle g → u ≡ g.token.view → u.size ≢ 0 → ((passage : Passage) → g.progress ≢ Owing passage) → ((passage : Passage) → g.progress ≢ Due passage) → IsCrew g.token
 settled_crew {g} {u} m is some no_climb no_advance =
     let a = ap (λ (z : View). z.size) is in
-    crew_by g.token m.at.known (omega arith) (rests_at g.token.tree.key.shape (λ u. 0 < u.size) (λ u. Unit {0}) m.trip g.progress g.answer g.token.view m.shown m.at.fits no_climb no_advance)
+    crew_by g.token m.at.known (omega arith) (rests_at g.token.tree.key.shape (λ u. 0 < u.size) (λ u. Unit {0}) m.passage g.progress g.answer g.token.view m.shown m.at.fits no_climb no_advance)
 
-pub resumed_crew : {g : Going} {u : View} → MayEnd g → u ≡ g.token.view → u.size ≢ 0 → ((trip : Trip) → g.progress ≢ Owing trip) → ((trip : Trip) → g.progress ≢ Due trip) → IsCrew g.token
+pub resumed_crew : {g : Going} {u : View} → MayEnd g → u ≡ g.token.view → u.size ≢ 0 → ((passage : Passage) → g.progress ≢ Owing passage) → ((passage : Passage) → g.progress ≢ Due passage) → IsCrew g.token
 resumed_crew {g} {u} m is some no_climb no_advance =
     let a = ap (λ (z : View). z.size) is in
-    crew_by g.token m.at.known (omega arith) (rests_at g.token.tree.key.shape (λ u. ⊥) (λ u. Unit {0}) m.trip g.progress g.answer g.token.view m.shown m.at.fits no_climb no_advance)
+    crew_by g.token m.at.known (omega arith) (rests_at g.token.tree.key.shape (λ u. ⊥) (λ u. Unit {0}) m.passage g.progress g.answer g.token.view m.shown m.at.fits no_climb no_advance)
 
-ended_some : (own : Trip) (C : View → Type 0) (u : View) (shown : ℤ) (p : Progress) → PassAt own (λ u. 0 < u.size) C u (Ended shown) p
-    → ((trip : Trip) → p ≢ Owing trip) → ((trip : Trip) → p ≢ Due trip) → 0 < u.size
+ended_some : (own : Passage) (C : View → Type 0) (u : View) (shown : ℤ) (p : Progress) → PassAt own (λ u. 0 < u.size) C u (Ended shown) p
+    → ((passage : Passage) → p ≢ Owing passage) → ((passage : Passage) → p ≢ Due passage) → 0 < u.size
 ended_some own C u shown Idle s no_climb no_advance = s.0
 ended_some own C u shown (Begun x) s no_climb no_advance = absurd s
 ended_some own C u shown (ToSeek tier size) s no_climb no_advance = absurd s
 ended_some own C u shown Settling s no_climb no_advance = absurd s
 ended_some own C u shown (ToGiveBack b) s no_climb no_advance = absurd s
-ended_some own C u shown (Passing trip) s no_climb no_advance = s.1
-ended_some own C u shown (Owing trip) s no_climb no_advance = absurd (no_climb trip refl)
-ended_some own C u shown (Due trip) s no_climb no_advance = absurd (no_advance trip refl)
+ended_some own C u shown (Passing passage) s no_climb no_advance = s.1
+ended_some own C u shown (Owing passage) s no_climb no_advance = absurd (no_climb passage refl)
+ended_some own C u shown (Due passage) s no_climb no_advance = absurd (no_advance passage refl)
 ended_some own C u shown (Refreshing moved_on) s no_climb no_advance = absurd s
 
-pub ended_crew : {g : Going} {shown : ℤ} → MaySettle g → g.answer ≡ Ended shown → ((trip : Trip) → g.progress ≢ Owing trip) → ((trip : Trip) → g.progress ≢ Due trip) → IsCrew g.token
+pub ended_crew : {g : Going} {shown : ℤ} → MaySettle g → g.answer ≡ Ended shown → ((passage : Passage) → g.progress ≢ Owing passage) → ((passage : Passage) → g.progress ≢ Due passage) → IsCrew g.token
 ended_crew {g} {shown} m is no_climb no_advance =
     crew_by g.token m.at.known
-    (ended_some m.trip (λ u. Unit {0}) g.token.view shown g.progress (subst (λ (a : Played). PassAt m.trip (λ u. 0 < u.size) (λ u. Unit {0}) g.token.view a g.progress) is m.shown) no_climb no_advance)
-    (rests_at g.token.tree.key.shape (λ u. 0 < u.size) (λ u. Unit {0}) m.trip g.progress g.answer g.token.view m.shown m.at.fits no_climb no_advance)
+    (ended_some m.passage (λ u. Unit {0}) g.token.view shown g.progress (subst (λ (a : Played). PassAt m.passage (λ u. 0 < u.size) (λ u. Unit {0}) g.token.view a g.progress) is m.shown) no_climb no_advance)
+    (rests_at g.token.tree.key.shape (λ u. 0 < u.size) (λ u. Unit {0}) m.passage g.progress g.answer g.token.view m.shown m.at.fits no_climb no_advance)
 
 -- what a departure by the last member leaves
-left_is_departure : (own : Trip) (v u : View) → v.arrived < v.size → HasCounted own v u → u.size ≡ 0 → own ≡ Departure
+left_is_departure : (own : Passage) (v u : View) → v.arrived < v.size → HasCounted own v u → u.size ≡ 0 → own ≡ Departure
 left_is_departure Arrival v u lt c z = let s = (c.arrival refl).0 in absurd (omega arith)
 left_is_departure Departure v u lt c z = refl
 
-module _ (n : Named) (own : Trip) (tries : ℕ) (h h' : Holding) (g : Going) (is : h.tree ≡ n) (crew : IsCrew h) (took : Looked Look 0 h h') (going : h'.word.ended ≡ false) (some : h'.view.arrived ≢ h'.view.size)
+module _ (n : Named) (own : Passage) (tries : ℕ) (h h' : Holding) (g : Going) (is : h.tree ≡ n) (crew : IsCrew h) (took : Looked Look 0 h h') (going : h'.word.ended ≡ false) (some : h'.view.arrived ≢ h'.view.size)
     (ran : Ran n tries (record { token = h'; progress = Passing own; answer = GoesOn }) g) where
   abbrev at0 : Going
   at0 = record { token = h'; progress = Passing own; answer = GoesOn }
@@ -289,9 +289,9 @@ module _ (n : Named) (own : Trip) (tries : ℕ) (h h' : Holding) (g : Going) (is
   made_owed (ToSeek tier size) o m = absurd m
   made_owed Settling o m = absurd m
   made_owed (ToGiveBack b) o m = absurd m
-  made_owed (Passing trip) o m = absurd (cc)
-  made_owed (Owing trip) o m = m
-  made_owed (Due trip) o m = m
+  made_owed (Passing passage) o m = absurd (cc)
+  made_owed (Owing passage) o m = m
+  made_owed (Due passage) o m = m
   made_owed (Refreshing moved_on) o m = absurd m
 
   rests_now : g.progress ≡ Idle → g.token.view.errand ≡ Rest
@@ -307,9 +307,9 @@ module _ (n : Named) (own : Trip) (tries : ℕ) (h h' : Holding) (g : Going) (is
   owed_now (ToSeek tier size) o s = absurd s
   owed_now Settling o s = absurd s
   owed_now (ToGiveBack b) o s = absurd s
-  owed_now (Passing trip) o s = absurd (cc)
-  owed_now (Owing trip) o s = (s.0, refl, s.1)
-  owed_now (Due trip) o s = (s.0, refl, s.1)
+  owed_now (Passing passage) o s = absurd (cc)
+  owed_now (Owing passage) o s = (s.0, refl, s.1)
+  owed_now (Due passage) o s = (s.0, refl, s.1)
   owed_now (Refreshing moved_on) o s = absurd s
 
   pub arrives : (r : Arrived) → Settles g r → Arrives own h tries r
@@ -337,7 +337,7 @@ module _ (n : Named) (own : Trip) (tries : ℕ) (h h' : Holding) (g : Going) (is
       (spent both.1, passed_on both.0, s.1, both.2, made_owed g.progress s.1 made)
 
 -- a call that is resumed
-module _ (n : Named) (own : Trip) (tries : ℕ) (e g : Going) (is : e.token.tree ≡ n) (errand : IsErrand e) (ran : Ran n tries e g) where
+module _ (n : Named) (own : Passage) (tries : ℕ) (e g : Going) (is : e.token.tree ≡ n) (errand : IsErrand e) (ran : Ran n tries e g) where
   noted : PassAt own (λ u. ⊥) (IsSame e.token.view) g.token.view g.answer g.progress
   noted = passes_count_no_more n.key own e.token.view (position e) (position g) errand.owes refl errand.unled (ran.went.goes (position e) starts)
 
@@ -361,9 +361,9 @@ module _ (n : Named) (own : Trip) (tries : ℕ) (e g : Going) (is : e.token.tree
   same_at (ToSeek tier size) a s = absurd s
   same_at Settling a s = absurd s
   same_at (ToGiveBack b) a s = absurd s
-  same_at (Passing trip) a s = absurd s.1
-  same_at (Owing trip) a s = s.0
-  same_at (Due trip) a s = s.0
+  same_at (Passing passage) a s = absurd s.1
+  same_at (Owing passage) a s = s.0
+  same_at (Due passage) a s = s.0
   same_at (Refreshing moved_on) a s = absurd s
 
   goes_noted : (at : Position) → Goes n.key (position e) at → PassAt own (λ u. ⊥) (IsSame e.token.view) at.view at.answer at.progress
@@ -375,9 +375,9 @@ module _ (n : Named) (own : Trip) (tries : ℕ) (e g : Going) (is : e.token.tree
   made_first (ToSeek tier size) a o = absurd (cc)
   made_first Settling a o = absurd (cc)
   made_first (ToGiveBack b) a o = absurd (cc)
-  made_first (Passing trip) a o = absurd (cc)
-  made_first (Owing trip) a o = made_none is_upward e.token.steps
-  made_first (Due trip) a o = made_none is_upward e.token.steps
+  made_first (Passing passage) a o = absurd (cc)
+  made_first (Owing passage) a o = made_none is_upward e.token.steps
+  made_first (Due passage) a o = made_none is_upward e.token.steps
   made_first (Refreshing moved_on) a o = absurd (cc)
 
   made_then : MadeAt (λ ks. ⊥) (MadeOnly is_upward e.token.steps) g.token.view.led g.answer g.progress g.token.steps
@@ -400,9 +400,9 @@ module _ (n : Named) (own : Trip) (tries : ℕ) (e g : Going) (is : e.token.tree
   made_last (ToSeek tier size) a led i s m is_led = absurd s
   made_last Settling a led i s m is_led = absurd s
   made_last (ToGiveBack b) a led i s m is_led = absurd s
-  made_last (Passing trip) a led i s m is_led = absurd s.1
-  made_last (Owing trip) a led i s m is_led = absurd (cc)
-  made_last (Due trip) a led i s m is_led = absurd (cc)
+  made_last (Passing passage) a led i s m is_led = absurd s.1
+  made_last (Owing passage) a led i s m is_led = absurd (cc)
+  made_last (Due passage) a led i s m is_led = absurd (cc)
   made_last (Refreshing moved_on) a led i s m is_led = absurd s
 
   made_owing : (p : Progress) (a : Played) → is_owing p ≡ true → MadeAt (λ ks. ⊥) (MadeOnly is_upward e.token.steps) g.token.view.led a p g.token.steps → MadeOnly is_upward e.token.steps g.token.steps
@@ -411,9 +411,9 @@ module _ (n : Named) (own : Trip) (tries : ℕ) (e g : Going) (is : e.token.tree
   made_owing (ToSeek tier size) a o m = absurd m
   made_owing Settling a o m = absurd m
   made_owing (ToGiveBack b) a o m = absurd m
-  made_owing (Passing trip) a o m = absurd m
-  made_owing (Owing trip) a o m = m
-  made_owing (Due trip) a o m = m
+  made_owing (Passing passage) a o m = absurd m
+  made_owing (Owing passage) a o m = m
+  made_owing (Due passage) a o m = m
   made_owing (Refreshing moved_on) a o m = absurd m
 
   rests_then : g.progress ≡ Idle → g.token.view.errand ≡ Rest
@@ -425,9 +425,9 @@ module _ (n : Named) (own : Trip) (tries : ℕ) (e g : Going) (is : e.token.tree
   unled_at (ToSeek tier size) a o s = absurd s
   unled_at Settling a o s = absurd s
   unled_at (ToGiveBack b) a o s = absurd s
-  unled_at (Passing trip) a o s = absurd s.1
-  unled_at (Owing trip) a o s = s.1
-  unled_at (Due trip) a o s = s.1
+  unled_at (Passing passage) a o s = absurd s.1
+  unled_at (Owing passage) a o s = s.1
+  unled_at (Due passage) a o s = s.1
   unled_at (Refreshing moved_on) a o s = absurd s
 
   owing_goes : (p : Progress) → is_owing p ≡ true → is_going p ≡ true
@@ -436,9 +436,9 @@ module _ (n : Named) (own : Trip) (tries : ℕ) (e g : Going) (is : e.token.tree
   owing_goes (ToSeek tier size) o = refl
   owing_goes Settling o = refl
   owing_goes (ToGiveBack b) o = refl
-  owing_goes (Passing trip) o = refl
-  owing_goes (Owing trip) o = refl
-  owing_goes (Due trip) o = refl
+  owing_goes (Passing passage) o = refl
+  owing_goes (Owing passage) o = refl
+  owing_goes (Due passage) o = refl
   owing_goes (Refreshing moved_on) o = refl
 
   pub resumes : (r : Resumed) → Ends g r → Resumes e tries r

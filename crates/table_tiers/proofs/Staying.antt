@@ -3,7 +3,7 @@ use Rattle.std.specs.Prelude.{ℤ}
 use Rattle.std.proofs.Common.{◌≡◌, ◌≢◌, ℕ, true, false, refl, sym, subst, arith}
 use Rattle.phaser_word.specs.Phase.{shown_of}
 use Rattle.tier_steps.specs.declared.view.View.{View}
-use Rattle.tier_steps.specs.declared.view.Trip.TheVariants.{Arrival}
+use Rattle.tier_steps.specs.declared.view.Passage.TheVariants.{Arrival}
 use Rattle.tier_steps.specs.declared.kind.Kind.TheVariants.{Look}
 use Rattle.tier_core.specs.declared.call.Progress.{Progress}
 use Rattle.tier_core.specs.declared.call.Progress.TheVariants.{Idle, Begun, Seeking as ToSeek, Settling, GivingBack as ToGiveBack, Passing, Owing, Due, Refreshing}
@@ -29,9 +29,9 @@ over_idle P C u a (Begun x) s e = absurd s
 over_idle P C u a (ToSeek tier size) s e = not_both true refl e
 over_idle P C u a Settling s e = not_both true refl e
 over_idle P C u a (ToGiveBack b) s e = not_both true refl e
-over_idle P C u a (Passing trip) s e = not_both true refl e
-over_idle P C u a (Owing trip) s e = not_both true refl e
-over_idle P C u a (Due trip) s e = not_both true refl e
+over_idle P C u a (Passing passage) s e = not_both true refl e
+over_idle P C u a (Owing passage) s e = not_both true refl e
+over_idle P C u a (Due passage) s e = not_both true refl e
 over_idle P C u a (Refreshing moved_on) s e = not_both true refl e
 
 -- its members are as many as before
@@ -49,9 +49,9 @@ size_at v u a (Begun x) s e = absurd s
 size_at v u a (ToSeek tier size) s e = absurd s
 size_at v u a Settling s e = absurd s
 size_at v u a (ToGiveBack b) s e = absurd s
-size_at v u a (Passing trip) s e = s.1.size
-size_at v u a (Owing trip) s e = (s.0.arrival refl).0
-size_at v u a (Due trip) s e = (s.0.arrival refl).0
+size_at v u a (Passing passage) s e = s.1.size
+size_at v u a (Owing passage) s e = (s.0.arrival refl).0
+size_at v u a (Due passage) s e = (s.0.arrival refl).0
 size_at v u a (Refreshing moved_on) s e = absurd s
 
 pub first_stays : {h h' : Holding} {phase : ℕ} → IsCrew h → Looked Look 0 h h' → h'.word.ended ≡ false → h'.view.arrived ≡ h'.view.size → phase ≡ h'.view.phase → ArrivesInPlace h h' (came.AlreadyArrived phase)

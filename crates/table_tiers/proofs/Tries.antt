@@ -8,7 +8,7 @@ use Rattle.tier_steps.specs.declared.kind.Kind.TheVariants.{Look, Advance, Climb
 use Rattle.tier_steps.specs.declared.view.View.{View}
 use Rattle.tier_steps.specs.declared.view.Errand.{Errand}
 use Rattle.tier_steps.specs.declared.view.Errand.TheVariants.{Rest, Opening, Climbing, Advancing}
-use Rattle.tier_steps.specs.declared.view.Trip.{Trip}
+use Rattle.tier_steps.specs.declared.view.Passage.{Passage}
 use Rattle.tier_core.specs.declared.call.Played.{Played}
 use Rattle.tier_core.specs.declared.call.Played.TheVariants.{GoesOn, Done}
 use Rattle.tier_core.specs.declared.call.Progress.{Progress}
@@ -45,19 +45,19 @@ module _ (p : Progress) (w : Fields) (v : View) (p' : Progress) (a : Played) (ov
     x.1 ∙ sym (ap (λ (b : Bool). cond b r.answer GoesOn) quiet),
   )
 
-  missed_pass : (ps : List ℕ) (own : Trip) (t : ℕ) (trip : Trip) (kind : Kind) (here : Progress) → is_look kind ≡ false → Is (pass_turn ps own t trip kind here over w v)
-  missed_pass ps own t trip kind here quiet =
+  missed_pass : (ps : List ℕ) (own : Passage) (t : ℕ) (passage : Passage) (kind : Kind) (here : Progress) → is_look kind ≡ false → Is (pass_turn ps own t passage kind here over w v)
+  missed_pass ps own t passage kind here quiet =
       by_cond Is w.ended _ _ (λ e. ended_is e)
       (λ e. by_cond Is (lags w v) _ _
       (λ f. tried_is (record { kind = Refresh; tier = t; next = here; answer = GoesOn }) refl e)
       (λ f. tried_is (record {
         kind = kind;
         tier = t;
-        next = goes_on own (owed (parent_of ps t) t trip w);
-        answer = told v.phase (passed t trip w).parties (owed (parent_of ps t) t trip w);
+        next = goes_on own (owed (parent_of ps t) t passage w);
+        answer = told v.phase (passed t passage w).parties (owed (parent_of ps t) t passage w);
       }) quiet e))
 
-  missed_due : (own : Trip) (b : Bool) → over ≡ Done v.phase → Is (record { kind = cond w.ended Look (Advance b); tier = 0; next = Idle; answer = Done v.phase })
+  missed_due : (own : Passage) (b : Bool) → over ≡ Done v.phase → Is (record { kind = cond w.ended Look (Advance b); tier = 0; next = Idle; answer = Done v.phase })
   missed_due own b o =
       by_test (λ c. (w.ended ≡ c) → Is (record { kind = cond c Look (Advance b); tier = 0; next = Idle; answer = Done v.phase })) w.ended
       (λ e f. let x = ended_is f in (x.0, x.1 ∙ o))
@@ -71,8 +71,8 @@ missed_after ps (Begun c) v phase g q fits h is says = not_both false q refl
 missed_after ps (ToSeek tier size) v phase g q fits h is says = not_both false q refl
 missed_after ps Settling v phase g q fits h is says = not_both false q refl
 missed_after ps (ToGiveBack answer) v phase g q fits h is says = not_both false q refl
-missed_after ps (Passing trip) v phase g q fits h is says =
-    missed_pass (Passing trip) g.token.word v g.progress g.answer (end_shown g.token.word) is says ps trip v.tier trip (own_kind trip) (Passing trip) (quiet_own trip)
+missed_after ps (Passing passage) v phase g q fits h is says =
+    missed_pass (Passing passage) g.token.word v g.progress g.answer (end_shown g.token.word) is says ps passage v.tier passage (own_kind passage) (Passing passage) (quiet_own passage)
 missed_after ps (Owing own) v phase g q fits h is says =
     let says' : g.answer ≡ cond g.token.word.ended (Done v.phase) GoesOn = says ∙ ap (λ (n : ℕ). cond g.token.word.ended (Done n) GoesOn) (sym h) in
     subst (λ (e : Errand). let r : Turn = climb_turn ps own g.token.word v e in (g.progress ≡ cond (is_look r.kind) r.next (Owing own)) × (g.answer ≡ cond (is_look r.kind) r.answer GoesOn)) (sym fits.2)
@@ -93,7 +93,7 @@ passing_stands k g q fits here e = record { going = going g.progress q; tier = h
     going (ToSeek tier size) q = refl
     going Settling q = refl
     going (ToGiveBack answer) q = refl
-    going (Passing trip) q = refl
+    going (Passing passage) q = refl
     going (Owing own) q = refl
     going (Due own) q = refl
     going (Refreshing passed_on) q = refl
@@ -104,8 +104,8 @@ passing_stands k g q fits here e = record { going = going g.progress q; tier = h
     tries (ToSeek tier size) q fits = not_both false q refl
     tries Settling q fits = not_both false q refl
     tries (ToGiveBack answer) q fits = not_both false q refl
-    tries (Passing trip) q fits =
-        pass_tries k.shape trip g.token.view.tier trip (own_kind trip) (Passing trip) (end_shown g.token.word) g.token.word g.token.view (quiet_own trip) e
+    tries (Passing passage) q fits =
+        pass_tries k.shape passage g.token.view.tier passage (own_kind passage) (Passing passage) (end_shown g.token.word) g.token.word g.token.view (quiet_own passage) e
     tries (Owing own) q fits =
         subst (λ (z : Errand). is_look (climb_turn k.shape own g.token.word g.token.view z).kind ≡ false) (sym fits.2)
         (pass_tries k.shape own fits.0 fits.1 (Climb fits.1) (Owing own) (Done g.token.view.phase) g.token.word g.token.view refl e)
@@ -113,7 +113,7 @@ passing_stands k g q fits here e = record { going = going g.progress q; tier = h
     tries (Refreshing passed_on) q fits = not_both false q refl
 
 -- the turn of an own step, and of a climb, where the token stands
-pub own_turn : (k : Key) (g : Going) (own : Trip) → g.progress ≡ Passing own → Stands k g
+pub own_turn : (k : Key) (g : Going) (own : Passage) → g.progress ≡ Passing own → Stands k g
     → turn_by k.shape false g.token.word g.progress g.token.view
     ≡ pass_turn k.shape own g.token.tier own (own_kind own) g.progress (end_shown g.token.word) g.token.word g.token.view
 own_turn k g own p st =
@@ -121,16 +121,16 @@ own_turn k g own p st =
     ap (λ (z : Progress). turn_by k.shape false g.token.word z g.token.view) p
     ∙ (λ i. pass_turn k.shape own (here i) own (own_kind own) (sym p i) (end_shown g.token.word) g.token.word g.token.view)
 
-pub climb_by : (k : Key) (g : Going) (own : Trip) (t : ℕ) (trip : Trip) → g.progress ≡ Owing own → g.token.view.errand ≡ Climbing t trip → Stands k g
+pub climb_by : (k : Key) (g : Going) (own : Passage) (t : ℕ) (passage : Passage) → g.progress ≡ Owing own → g.token.view.errand ≡ Climbing t passage → Stands k g
     → turn_by k.shape false g.token.word g.progress g.token.view
-    ≡ pass_turn k.shape own g.token.tier trip (Climb trip) g.progress (Done g.token.view.phase) g.token.word g.token.view
-climb_by k g own t trip p is st =
+    ≡ pass_turn k.shape own g.token.tier passage (Climb passage) g.progress (Done g.token.view.phase) g.token.word g.token.view
+climb_by k g own t passage p is st =
     let here : t ≡ g.token.tier = sym (st.tier ∙ (ap (λ (z : Progress). place k.shape z g.token.view) p ∙ ap (errand_place k.shape) is)) in
     ap (λ (z : Progress). turn_by k.shape false g.token.word z g.token.view) p
     ∙ (ap (climb_turn k.shape own g.token.word g.token.view) is
-    ∙ (λ i. pass_turn k.shape own (here i) trip (Climb trip) (sym p i) (Done g.token.view.phase) g.token.word g.token.view))
+    ∙ (λ i. pass_turn k.shape own (here i) passage (Climb passage) (sym p i) (Done g.token.view.phase) g.token.word g.token.view))
 
-pub due_turn : (k : Key) (g : Going) (own : Trip) (ends : Bool) → g.progress ≡ Due own → g.token.word.ended ≡ false
+pub due_turn : (k : Key) (g : Going) (own : Passage) (ends : Bool) → g.progress ≡ Due own → g.token.word.ended ≡ false
     → turn_by k.shape ends g.token.word g.progress g.token.view ≡ record { kind = Advance ends; tier = 0; next = Idle; answer = Done g.token.view.phase }
 due_turn k g own ends p e =
     ap (λ (z : Progress). turn_by k.shape ends g.token.word z g.token.view) p
@@ -142,7 +142,7 @@ passing_going (Begun c) q = not_both false q refl
 passing_going (ToSeek tier size) q = refl
 passing_going Settling q = refl
 passing_going (ToGiveBack answer) q = refl
-passing_going (Passing trip) q = refl
+passing_going (Passing passage) q = refl
 passing_going (Owing own) q = refl
 passing_going (Due own) q = refl
 passing_going (Refreshing passed_on) q = refl
@@ -153,7 +153,7 @@ passing_means (Begun c) v q = refl
 passing_means (ToSeek tier size) v q = not_both false q refl
 passing_means Settling v q = refl
 passing_means (ToGiveBack answer) v q = refl
-passing_means (Passing trip) v q = refl
+passing_means (Passing passage) v q = refl
 passing_means (Owing own) v q = refl
 passing_means (Due own) v q = refl
 passing_means (Refreshing passed_on) v q = refl
@@ -164,7 +164,7 @@ no_way_back (Begun c) q = refl
 no_way_back (ToSeek tier size) q = refl
 no_way_back Settling q = refl
 no_way_back (ToGiveBack answer) q = not_both false q refl
-no_way_back (Passing trip) q = refl
+no_way_back (Passing passage) q = refl
 no_way_back (Owing own) q = refl
 no_way_back (Due own) q = refl
 no_way_back (Refreshing passed_on) q = refl
@@ -211,17 +211,17 @@ ran_once {n} {g} {g'} {g''} a b = record { used = 1; went = went_then n 0 1 g g'
 abbrev OnlyPasses : Progress → Type 0
 OnlyPasses p = is_going p ≡ true → is_passing p ≡ true
 
-owed_passes : (own : Trip) (e : Errand) → OnlyPasses (goes_on own e)
+owed_passes : (own : Passage) (e : Errand) → OnlyPasses (goes_on own e)
 owed_passes own Rest g = not_both false g refl
 owed_passes own Advancing g = refl
-owed_passes own (Climbing t trip) g = refl
+owed_passes own (Climbing t passage) g = refl
 owed_passes own (Opening tier claimed stage size) g = not_both false g refl
 
-pass_passes : (ps : List ℕ) (own : Trip) (t : ℕ) (trip : Trip) (kind : Kind) (here : Progress) (over : Played) (w : Fields) (v : View) → OnlyPasses here
-    → OnlyPasses (pass_turn ps own t trip kind here over w v).next
-pass_passes ps own t trip kind here over w v h =
+pass_passes : (ps : List ℕ) (own : Passage) (t : ℕ) (passage : Passage) (kind : Kind) (here : Progress) (over : Played) (w : Fields) (v : View) → OnlyPasses here
+    → OnlyPasses (pass_turn ps own t passage kind here over w v).next
+pass_passes ps own t passage kind here over w v h =
     by_cond (λ (r : Turn). OnlyPasses r.next) w.ended _ _ (λ e g. not_both false g refl)
-    (λ e. by_cond (λ (r : Turn). OnlyPasses r.next) (lags w v) _ _ (λ f. h) (λ f. owed_passes own (owed (parent_of ps t) t trip w)))
+    (λ e. by_cond (λ (r : Turn). OnlyPasses r.next) (lags w v) _ _ (λ f. h) (λ f. owed_passes own (owed (parent_of ps t) t passage w)))
 
 next_passes : (ps : List ℕ) (b : Bool) (w : Fields) (p : Progress) (v : View) → CallFits ps p v → is_passing p ≡ true → OnlyPasses (turn_by ps b w p v).next
 next_passes ps b w Idle v fits q = not_both false q refl
@@ -229,7 +229,7 @@ next_passes ps b w (Begun c) v fits q = not_both false q refl
 next_passes ps b w (ToSeek tier size) v fits q = not_both false q refl
 next_passes ps b w Settling v fits q = not_both false q refl
 next_passes ps b w (ToGiveBack answer) v fits q = not_both false q refl
-next_passes ps b w (Passing trip) v fits q = pass_passes ps trip v.tier trip (own_kind trip) (Passing trip) (end_shown w) w v (λ g. refl)
+next_passes ps b w (Passing passage) v fits q = pass_passes ps passage v.tier passage (own_kind passage) (Passing passage) (end_shown w) w v (λ g. refl)
 next_passes ps b w (Owing own) v fits q =
     subst (λ (e : Errand). OnlyPasses (climb_turn ps own w v e).next) (sym fits.2) (pass_passes ps own fits.0 fits.1 (Climb fits.1) (Owing own) (Done v.phase) w v (λ g. refl))
 next_passes ps b w (Due own) v fits q = λ g. not_both false g refl
@@ -254,17 +254,17 @@ passing_on {n} {used} {from} {at} went q g = passing_stays n.key (position from)
 abbrev OnlyOwes : Progress → Type 0
 OnlyOwes p = is_going p ≡ true → is_owing p ≡ true
 
-owed_owes : (own : Trip) (e : Errand) → OnlyOwes (goes_on own e)
+owed_owes : (own : Passage) (e : Errand) → OnlyOwes (goes_on own e)
 owed_owes own Rest g = not_both false g refl
 owed_owes own Advancing g = refl
-owed_owes own (Climbing t trip) g = refl
+owed_owes own (Climbing t passage) g = refl
 owed_owes own (Opening tier claimed stage size) g = not_both false g refl
 
-pass_owes : (ps : List ℕ) (own : Trip) (t : ℕ) (trip : Trip) (kind : Kind) (here : Progress) (over : Played) (w : Fields) (v : View) → OnlyOwes here
-    → OnlyOwes (pass_turn ps own t trip kind here over w v).next
-pass_owes ps own t trip kind here over w v h =
+pass_owes : (ps : List ℕ) (own : Passage) (t : ℕ) (passage : Passage) (kind : Kind) (here : Progress) (over : Played) (w : Fields) (v : View) → OnlyOwes here
+    → OnlyOwes (pass_turn ps own t passage kind here over w v).next
+pass_owes ps own t passage kind here over w v h =
     by_cond (λ (r : Turn). OnlyOwes r.next) w.ended _ _ (λ e g. not_both false g refl)
-    (λ e. by_cond (λ (r : Turn). OnlyOwes r.next) (lags w v) _ _ (λ f. h) (λ f. owed_owes own (owed (parent_of ps t) t trip w)))
+    (λ e. by_cond (λ (r : Turn). OnlyOwes r.next) (lags w v) _ _ (λ f. h) (λ f. owed_owes own (owed (parent_of ps t) t passage w)))
 
 next_owes : (ps : List ℕ) (b : Bool) (w : Fields) (p : Progress) (v : View) → CallFits ps p v → is_owing p ≡ true → OnlyOwes (turn_by ps b w p v).next
 next_owes ps b w Idle v fits q = not_both false q refl
@@ -272,7 +272,7 @@ next_owes ps b w (Begun c) v fits q = not_both false q refl
 next_owes ps b w (ToSeek tier size) v fits q = not_both false q refl
 next_owes ps b w Settling v fits q = not_both false q refl
 next_owes ps b w (ToGiveBack answer) v fits q = not_both false q refl
-next_owes ps b w (Passing trip) v fits q = not_both false q refl
+next_owes ps b w (Passing passage) v fits q = not_both false q refl
 next_owes ps b w (Owing own) v fits q =
     subst (λ (e : Errand). OnlyOwes (climb_turn ps own w v e).next) (sym fits.2) (pass_owes ps own fits.0 fits.1 (Climb fits.1) (Owing own) (Done v.phase) w v (λ g. refl))
 next_owes ps b w (Due own) v fits q = λ g. not_both false g refl

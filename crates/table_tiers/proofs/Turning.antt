@@ -11,9 +11,9 @@ use Rattle.tier_steps.specs.declared.kind.Kind.TheVariants.{Look, Glance, Refuse
 use Rattle.tier_steps.specs.declared.view.View.{View}
 use Rattle.tier_steps.specs.declared.view.Errand.{Errand}
 use Rattle.tier_steps.specs.declared.view.Errand.TheVariants.{Opening, Climbing}
-use Rattle.tier_steps.specs.declared.view.Stage.TheVariants.{Seeking, Joined, GoingBack}
-use Rattle.tier_steps.specs.declared.view.Trip.{Trip}
-use Rattle.tier_steps.specs.declared.view.Trip.TheVariants.{Arrival, Departure}
+use Rattle.tier_steps.specs.declared.view.OpeningStage.TheVariants.{Seeking, Joined, GoingBack}
+use Rattle.tier_steps.specs.declared.view.Passage.{Passage}
+use Rattle.tier_steps.specs.declared.view.Passage.TheVariants.{Arrival, Departure}
 use Rattle.tier_steps.proofs.Looking.{move_keeps}
 use Rattle.tier_core.specs.declared.call.Played.{Played}
 use Rattle.tier_core.specs.declared.call.Played.TheVariants.{Done}
@@ -67,9 +67,9 @@ pub data PassIs (t : ℕ) (kind : Kind) (w : Fields) (r : Turn) : Type 0 where
   behind : w.ended ≡ false → r.kind ≡ Refresh → r.tier ≡ t → PassIs t kind w r
   passes : w.ended ≡ false → r.kind ≡ kind → r.tier ≡ t → PassIs t kind w r
 
-pub pass_is : (ps : List ℕ) (own : Trip) (t : ℕ) (trip : Trip) (kind : Kind) (here : Progress) (answer : Played) (w : Fields) (v : View)
-    → PassIs t kind w (pass_turn ps own t trip kind here answer w v)
-pass_is ps own t trip kind here answer w v =
+pub pass_is : (ps : List ℕ) (own : Passage) (t : ℕ) (passage : Passage) (kind : Kind) (here : Progress) (answer : Played) (w : Fields) (v : View)
+    → PassIs t kind w (pass_turn ps own t passage kind here answer w v)
+pass_is ps own t passage kind here answer w v =
     by_cond (PassIs t kind w) w.ended _ _ (λ e. over e refl refl)
     (λ e. by_cond (PassIs t kind w) (lags w v) _ _ (λ f. behind e refl refl) (λ f. passes e refl refl))
 
@@ -153,11 +153,11 @@ seek_tries tier claimed size t w v going admits = go (seek_is tier claimed size 
     go (claims e f k at) = ap is_look k
     go (joins e f k at) = ap is_look k
 
-pub pass_tries : (ps : List ℕ) (own : Trip) (t : ℕ) (trip : Trip) (kind : Kind) (here : Progress) (answer : Played) (w : Fields) (v : View) → is_look kind ≡ false → w.ended ≡ false
-    → is_look (pass_turn ps own t trip kind here answer w v).kind ≡ false
-pass_tries ps own t trip kind here answer w v quiet going = go (pass_is ps own t trip kind here answer w v)
+pub pass_tries : (ps : List ℕ) (own : Passage) (t : ℕ) (passage : Passage) (kind : Kind) (here : Progress) (answer : Played) (w : Fields) (v : View) → is_look kind ≡ false → w.ended ≡ false
+    → is_look (pass_turn ps own t passage kind here answer w v).kind ≡ false
+pass_tries ps own t passage kind here answer w v quiet going = go (pass_is ps own t passage kind here answer w v)
   where
-    go : PassIs t kind w (pass_turn ps own t trip kind here answer w v) → is_look (pass_turn ps own t trip kind here answer w v).kind ≡ false
+    go : PassIs t kind w (pass_turn ps own t passage kind here answer w v) → is_look (pass_turn ps own t passage kind here answer w v).kind ≡ false
     go (over e k at) = not_both w.ended e going
     go (behind e k at) = ap is_look k
     go (passes e k at) = ap is_look k ∙ quiet
@@ -177,7 +177,7 @@ module _ (ps : List ℕ) (w : Fields) (v : View) (above : ℕ) where
       let n = fits.1 in
       plain ps w (ToSeek tier size) v u (looking (meant (ToSeek tier size) v) t w) (turn_by ps false w (ToSeek tier size) v)
       (λ l. not_both (is_look (turn_by ps false w (ToSeek tier size) v).kind) l quiet)
-      (subst (λ (z : Errand). z ≡ opening tier (claimed_by z) Seeking size) (sym errand) fits.0, record { seat = n.seat; some = n.some; few = n.few; none = g.size ∙ n.none })
+      (subst (λ (z : Errand). z ≡ opening tier (claimed_by z) Seeking size) (sym errand) fits.0, record { place = n.place; some = n.some; few = n.few; none = g.size ∙ n.none })
       (ap (λ (z : Errand). ancestor ps tier (claimed_by z)) errand)
       (seek_tries tier (claimed_by u.errand) size (ancestor ps tier (claimed_by u.errand)) w u e (subst (λ (z : Errand). is_refusing (added (claimed_by z) size) w ≡ false) (sym errand) f))
 
@@ -196,20 +196,20 @@ module _ (ps : List ℕ) (w : Fields) (v : View) (above : ℕ) where
   seek_look tier size fits root (joins e f k at) = seek_plain tier size fits e f (ap is_look k)
 
   -- looks of calls that refuse nothing
-  pass_plain : (p : Progress) (own : Trip) (t : ℕ) (trip : Trip) (kind : Kind) (here : Progress) (answer : Played) → is_look kind ≡ false
+  pass_plain : (p : Progress) (own : Passage) (t : ℕ) (passage : Passage) (kind : Kind) (here : Progress) (answer : Played) → is_look kind ≡ false
       → (w.ended ≡ true → t ≡ 0) → (w.ended ≡ false → (u : View) → Glanced w v u → CallFits ps p u × (place ps p u ≡ place ps p v) × (is_look (turn_by ps false w p u).kind ≡ false))
-      → PassIs t kind w (pass_turn ps own t trip kind here answer w v)
-      → LookIs ps w p v (view_after above (glance t) t w v) (glance t) (pass_turn ps own t trip kind here answer w v)
-  pass_plain p own t trip kind here answer quiet root keeps (over e k at) =
+      → PassIs t kind w (pass_turn ps own t passage kind here answer w v)
+      → LookIs ps w p v (view_after above (glance t) t w v) (glance t) (pass_turn ps own t passage kind here answer w v)
+  pass_plain p own t passage kind here answer quiet root keeps (over e k at) =
       record { turn = λ l. ap glance (root e) ∙ sym k; fits = λ l. no_look Look _ refl (sym k) l; there = λ l. no_look Look _ refl (sym k) l; tries = λ l. no_look Look _ refl (sym k) l }
-  pass_plain p own t trip kind here answer quiet root keeps (behind e k at) =
+  pass_plain p own t passage kind here answer quiet root keeps (behind e k at) =
       let r = keeps e (view_after above (glance t) t w v) (glanced above t w v) in
       record { turn = λ l. not_both (is_look _) l (ap is_look k); fits = λ l. r.0; there = λ l. r.1; tries = λ l. r.2 }
-  pass_plain p own t trip kind here answer quiet root keeps (passes e k at) =
+  pass_plain p own t passage kind here answer quiet root keeps (passes e k at) =
       let r = keeps e (view_after above (glance t) t w v) (glanced above t w v) in
       record { turn = λ l. not_both (is_look _) l (ap is_look k ∙ quiet); fits = λ l. r.0; there = λ l. r.1; tries = λ l. r.2 }
 
-  own_no_look : (trip : Trip) → is_look (own_kind trip) ≡ false
+  own_no_look : (passage : Passage) → is_look (own_kind passage) ≡ false
   own_no_look Arrival = refl
   own_no_look Departure = refl
 
@@ -243,26 +243,26 @@ module _ (ps : List ℕ) (w : Fields) (v : View) (above : ℕ) where
       plain ps w (ToGiveBack answer) v u (glance t) (turn_by ps false w (ToGiveBack answer) v)
       (λ l. not_both (is_look _) l (back_tries v.errand fits.0 fits.1 fits.2 answer fits.3))
       (fits.0, fits.1, fits.2, s ∙ fits.3, fits.4) (ap (errand_place ps) s) (back_tries u.errand fits.0 fits.1 fits.2 answer (s ∙ fits.3))
-  look_is (Passing trip) fits g root =
-      pass_plain (Passing trip) trip v.tier trip (own_kind trip) (Passing trip) (end_shown w) (own_no_look trip) root
+  look_is (Passing passage) fits g root =
+      pass_plain (Passing passage) passage v.tier passage (own_kind passage) (Passing passage) (end_shown w) (own_no_look passage) root
       (λ e u d. (
         (d.open_errand e ∙ fits.0, (let a = d.arrived e fits.1 in let b = d.size in let c = fits.1 in omega arith)),
         d.tier,
-        pass_tries ps trip u.tier trip (own_kind trip) (Passing trip) (end_shown w) w u (own_no_look trip) e,
+        pass_tries ps passage u.tier passage (own_kind passage) (Passing passage) (end_shown w) w u (own_no_look passage) e,
       ))
-      (pass_is ps trip v.tier trip (own_kind trip) (Passing trip) (end_shown w) w v)
+      (pass_is ps passage v.tier passage (own_kind passage) (Passing passage) (end_shown w) w v)
   look_is (Owing own) fits g root =
       let t : ℕ = fits.0 in
-      let trip : Trip = fits.1 in
-      let is : v.errand ≡ Climbing t trip = fits.2 in
+      let passage : Passage = fits.1 in
+      let is : v.errand ≡ Climbing t passage = fits.2 in
       subst (λ (z : Errand). LookIs ps w (Owing own) v (view_after above (glance (errand_place ps z)) (errand_place ps z) w v) (glance (errand_place ps z)) (climb_turn ps own w v z)) (sym is)
-      (pass_plain (Owing own) own t trip (Climb trip) (Owing own) (Done v.phase) refl (λ e. sym (ap (errand_place ps) is) ∙ root e)
+      (pass_plain (Owing own) own t passage (Climb passage) (Owing own) (Done v.phase) refl (λ e. sym (ap (errand_place ps) is) ∙ root e)
       (λ e u d. (
-        (t, trip, d.open_errand e ∙ is),
+        (t, passage, d.open_errand e ∙ is),
         ap (errand_place ps) (d.open_errand e),
-        subst (λ (z : Errand). is_look (climb_turn ps own w u z).kind ≡ false) (sym (d.open_errand e ∙ is)) (pass_tries ps own t trip (Climb trip) (Owing own) (Done u.phase) w u refl e),
+        subst (λ (z : Errand). is_look (climb_turn ps own w u z).kind ≡ false) (sym (d.open_errand e ∙ is)) (pass_tries ps own t passage (Climb passage) (Owing own) (Done u.phase) w u refl e),
       ))
-      (pass_is ps own t trip (Climb trip) (Owing own) (Done v.phase) w v))
+      (pass_is ps own t passage (Climb passage) (Owing own) (Done v.phase) w v))
   look_is (Due own) fits g root =
       by_test (λ c. (w.ended ≡ c) → LookIs ps w (Due own) v (looked w v) Look (record { kind = cond c Look (Advance false); tier = 0; next = Idle; answer = Done v.phase })) w.ended
       (λ e f. record { turn = λ l. refl; fits = λ l. not_both true refl l; there = λ l. refl; tries = λ l. not_both true refl l })

@@ -28,7 +28,7 @@ use Rattle.table_tiers.proofs.Making.{made_none, made_more, made_then, glance_qu
 -- the tier of a token's members is one of the shape
 pub seat_within : {n : Named} {h : Holding} → h.tree ≡ n → IsCrew h → Beside h.tree.key.shape h.tier h.word h.view → h.view.tier < length n.key.shape
 seat_within {n} {h} is crew b =
-    subst (λ (z : Named). h.view.tier < length z.key.shape) is ((mine h.tree.key.shape b.words b.front b.back h.view b.tally).seated crew.some)
+    subst (λ (z : Named). h.view.tier < length z.key.shape) is ((mine h.tree.key.shape b.words b.front b.back h.view b.tally).placed crew.some)
 
 module _ (h h' new : Holding) (crew : IsCrew h) (took : Looked Look 0 h h') (going : h'.word.ended ≡ false) (some : h'.view.arrived ≢ h'.view.size)
     (tree : new.tree ≡ h'.tree) (same : new.view ≡ h'.view) (few : new.tried ≤ h'.tried + 1) (kept : new.opened ≡ h'.opened) (more : MadeOnly is_quiet h'.steps new.steps) where

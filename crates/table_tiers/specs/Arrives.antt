@@ -3,8 +3,8 @@ use Rattle.std.specs.Prelude.{true, false, ◌≡◌, ℕ, ◌+◌, ◌<◌, ◌
 use Rattle.tier_steps.specs.Word.{next_phase_of}
 use Rattle.tier_steps.specs.declared.view.View.{View}
 use Rattle.tier_steps.specs.declared.view.Errand.TheVariants.{Rest}
-use Rattle.tier_steps.specs.declared.view.Trip.{Trip}
-use Rattle.tier_steps.specs.declared.view.Trip.TheVariants.{Departure}
+use Rattle.tier_steps.specs.declared.view.Passage.{Passage}
+use Rattle.tier_steps.specs.declared.view.Passage.TheVariants.{Departure}
 use Rattle.tier_core.specs.declared.call.Progress.TheVariants as progress
 use Rattle.tier_core.specs.declared.call.Played.TheVariants as played
 use Rattle.table_tiers.specs.declared.going.Going.{Going}
@@ -25,7 +25,7 @@ pub record IsLooked (old new : View) : Type 0 where
   pub phase : ((new.phase ≡ old.phase) × (new.arrived ≡ old.arrived)) ⊎ ((old.arrived ≡ old.size) × (new.phase ≡ next_phase_of old.phase) × (new.arrived ≡ 0))
 
 -- looked, with no advance taken since the call began, and then one member counted
-pub record HasPassed (own : Trip) (old new : View) : Type 0 where
+pub record HasPassed (own : Passage) (old new : View) : Type 0 where
   pub from : View
   pub looked : IsLooked old from
   pub unled : from.led ≡ false
@@ -45,7 +45,7 @@ pub record IsSpent (tries : ℕ) (old new : Holding) : Type 0 where
 
 -- `led` is the view's mark that its token took the advance: since the call's first look, which finds it cleared. What is over owes nothing; what isn't owes a
 -- climb or the advance, and has led none. Busy and AlreadyArrived have seen no end.
-abbrev pub Arrives : Trip → Holding → ℕ → Arrived → Type 0
+abbrev pub Arrives : Passage → Holding → ℕ → Arrived → Type 0
 Arrives own h tries (Done crew phase led) = IsSoon tries h crew × HasPassed own h.view crew.view × (crew.view.errand ≡ Rest) × (phase ≡ crew.view.phase) × (led ≡ crew.view.led)
     × LedBy (HasStepped own h.steps) led crew.steps
 Arrives own h tries (Left door phase led) = (own ≡ Departure) × IsSoon tries h door × HasPassed own h.view door.view × (door.view.errand ≡ Rest) × (phase ≡ door.view.phase) × (led ≡ door.view.led)
@@ -78,14 +78,14 @@ Resumes g tries (resumed.Owing errand) = IsSpent tries g.token errand.token × I
 -- a call that arrives or leaves, by a token with members until one has left
 pub record MaySettle (g : Going) : Type 0 where
   pub at : IsAt g.token.tree g
-  pub trip : Trip
-  pub shown : PassAt trip (λ u. 0 < u.size) (λ u. Unit {0}) g.token.view g.answer g.progress
+  pub passage : Passage
+  pub shown : PassAt passage (λ u. 0 < u.size) (λ u. Unit {0}) g.token.view g.answer g.progress
 
 -- one that has counted its member
 pub record MayEnd (g : Going) : Type 0 where
   pub at : IsAt g.token.tree g
-  pub trip : Trip
-  pub shown : PassAt trip (λ u. ⊥) (λ u. Unit {0}) g.token.view g.answer g.progress
+  pub passage : Passage
+  pub shown : PassAt passage (λ u. ⊥) (λ u. Unit {0}) g.token.view g.answer g.progress
 
 -- what such a call answers, by how it stands
 abbrev pub Settles : Going → Arrived → Type 0
@@ -93,7 +93,7 @@ Settles g (Done crew phase led) = (crew ≡ g.token) × (g.progress ≡ progress
 Settles g (Left door phase led) = (door ≡ g.token) × (g.progress ≡ progress.Idle) × (g.answer ≡ played.Done phase) × (led ≡ g.token.view.led) × (g.token.view.size ≡ 0)
 Settles g (AlreadyArrived crew phase) = ⊥
 Settles g (Ended crew shown) = (crew ≡ g.token) × (g.progress ≡ progress.Idle) × (g.answer ≡ played.Ended shown)
-Settles g (Busy crew) = (crew ≡ g.token) × ((trip : Trip) × (g.progress ≡ progress.Passing trip))
+Settles g (Busy crew) = (crew ≡ g.token) × ((passage : Passage) × (g.progress ≡ progress.Passing passage))
 Settles g (Owing errand) = (errand ≡ g) × (is_owing g.progress ≡ true)
 
 abbrev pub Ends : Going → Resumed → Type 0

@@ -1,7 +1,7 @@
 -- What an arrival answers whose crew stays where it is, by the views of its token before and after (own).
 use Rattle.std.specs.Prelude.{false, ◌≡◌, ℕ}
 use Rattle.tier_steps.specs.declared.view.Errand.TheVariants.{Rest}
-use Rattle.tier_steps.specs.declared.view.Trip.TheVariants.{Arrival}
+use Rattle.tier_steps.specs.declared.view.Passage.TheVariants.{Arrival}
 use Rattle.tier_core.specs.declared.call.Progress.TheVariants as progress
 use Rattle.tier_core.specs.declared.call.Played.TheVariants as played
 use Rattle.tier_core.specs.Machine.{is_going}

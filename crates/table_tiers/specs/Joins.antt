@@ -5,7 +5,7 @@ use Rattle.tier_steps.specs.View.{ancestor}
 use Rattle.tier_steps.specs.Step.{added}
 use Rattle.tier_steps.specs.declared.view.View.{View}
 use Rattle.tier_steps.specs.declared.view.Errand.TheVariants.{Opening}
-use Rattle.tier_steps.specs.declared.view.Stage.TheVariants as stage
+use Rattle.tier_steps.specs.declared.view.OpeningStage.TheVariants as stage
 use Rattle.tier_core.specs.declared.call.Played.{Played}
 use Rattle.tier_core.specs.declared.call.Played.TheVariants.{GoesOn, Done, Passed, Waiting, Held, Full, AlreadyArrived, Ended, MustAdvance}
 use Rattle.tier_core.specs.declared.call.Progress.{Progress}
@@ -17,7 +17,7 @@ use Rattle.table_tiers.specs.Goes.{Position, Goes}
 
 -- so many members at this tier, all of them unarrived, by a token that took no advance
 pub record IsJoined (tier size : ℕ) (v : View) : Type 0 where
-  pub seat : v.tier ≡ tier
+  pub place : v.tier ≡ tier
   pub members : v.size ≡ size
   pub none_arrived : v.arrived ≡ 0
   pub unled : v.led ≡ false
@@ -85,9 +85,9 @@ JoinAt parents least home tier size v answer (ToSeek tier' size') = SeeksFor lea
 JoinAt parents least home tier size v answer Settling = SettlesFor tier size v
 JoinAt parents least home tier size v answer (ToGiveBack refusal) = GivesBackFor parents tier size v refusal
 JoinAt parents least home tier size v answer (Begun c) = ⊥
-JoinAt parents least home tier size v answer (Passing trip) = ⊥
-JoinAt parents least home tier size v answer (Owing trip) = ⊥
-JoinAt parents least home tier size v answer (Due trip) = ⊥
+JoinAt parents least home tier size v answer (Passing passage) = ⊥
+JoinAt parents least home tier size v answer (Owing passage) = ⊥
+JoinAt parents least home tier size v answer (Due passage) = ⊥
 JoinAt parents least home tier size v answer (Refreshing moved) = ⊥
 
 -- A join, by whatever steps and looks it goes on, seats the members that were asked for at the tier that was asked for, or is refused as
@@ -104,7 +104,7 @@ is_joining (ToSeek tier size) = true
 is_joining Settling = true
 is_joining (ToGiveBack answer) = true
 is_joining (Begun c) = false
-is_joining (Passing trip) = false
+is_joining (Passing passage) = false
 is_joining (Owing own) = false
 is_joining (Due own) = false
 is_joining (Refreshing moved) = false

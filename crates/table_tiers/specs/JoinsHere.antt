@@ -84,14 +84,14 @@ pub record IsStill (tries : ℕ) (door after : Holding) : Type 0 where
   pub made : MadeOnly is_entering door.steps after.steps
 
 -- what the door's part of such a try answers
-abbrev pub AnswersMeeting : Holding → ℕ → ℕ → Registered → Type 0
-AnswersMeeting door tier size (Joined crew phase) = IsSpent 1 door crew × IsJoined tier size crew.view × (crew.view.errand ≡ Rest) × (phase ≡ crew.view.phase) × MadeOnly is_entering door.steps crew.steps
-AnswersMeeting door tier size (Full after count) = IsSpent 0 door after × IsFullHere (shape_of door) tier size after.view count × MadeOnly is_entering door.steps after.steps
-AnswersMeeting door tier size (Ended after shown) = IsSoon 1 door after × EndSeen after.view shown × MadeOnly is_entering door.steps after.steps
-AnswersMeeting door tier size (Busy after) = IsStill 1 door after
-AnswersMeeting door tier size (Held after phase cause) = ⊥
-AnswersMeeting door tier size (Owing opening) = ⊥
+abbrev pub AnswersHere : Holding → ℕ → ℕ → Registered → Type 0
+AnswersHere door tier size (Joined crew phase) = IsSpent 1 door crew × IsJoined tier size crew.view × (crew.view.errand ≡ Rest) × (phase ≡ crew.view.phase) × MadeOnly is_entering door.steps crew.steps
+AnswersHere door tier size (Full after count) = IsSpent 0 door after × IsFullHere (shape_of door) tier size after.view count × MadeOnly is_entering door.steps after.steps
+AnswersHere door tier size (Ended after shown) = IsSoon 1 door after × EndSeen after.view shown × MadeOnly is_entering door.steps after.steps
+AnswersHere door tier size (Busy after) = IsStill 1 door after
+AnswersHere door tier size (Held after phase cause) = ⊥
+AnswersHere door tier size (Owing opening) = ⊥
 
 abbrev pub Meets : Holding → ℕ → ℕ → Met → Type 0
-Meets door tier size (Answer answer) = AnswersMeeting door tier size answer
+Meets door tier size (Answer answer) = AnswersHere door tier size answer
 Meets door tier size (Late after) = IsStill 0 door after

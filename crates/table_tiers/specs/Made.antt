@@ -3,7 +3,7 @@ use Rattle.std.specs.Prelude.{◌≡◌, Bool, true, false, List, ◌∷◌, ◌
 use Rattle.std.specs.List.{AllByRecursion}
 use Rattle.tier_steps.specs.declared.kind.Kind.{Kind}
 use Rattle.tier_steps.specs.declared.kind.Kind.TheVariants.{Look, Glance, Refuse, Join, Arrive, Leave, Advance, Force, Claim, Settle, SettleBack, Climb, Refresh}
-use Rattle.tier_steps.specs.declared.view.Trip.{Trip}
+use Rattle.tier_steps.specs.declared.view.Passage.{Passage}
 use Rattle.tier_core.specs.declared.call.Played.{Played}
 use Rattle.tier_core.specs.declared.call.Played.TheVariants.{GoesOn, Done, Passed, Waiting, Held, Full, AlreadyArrived, Ended, MustAdvance}
 use Rattle.tier_core.specs.declared.call.Progress.{Progress}
@@ -23,7 +23,7 @@ is_glance Force = false
 is_glance (Claim tier claimed size) = false
 is_glance (Settle tier claimed size) = false
 is_glance (SettleBack tier claimed size) = false
-is_glance (Climb trip) = false
+is_glance (Climb passage) = false
 is_glance Refresh = false
 
 -- looks, and refreshes: they count nothing
@@ -39,7 +39,7 @@ is_quiet Force = false
 is_quiet (Claim tier claimed size) = false
 is_quiet (Settle tier claimed size) = false
 is_quiet (SettleBack tier claimed size) = false
-is_quiet (Climb trip) = false
+is_quiet (Climb passage) = false
 is_quiet Refresh = true
 
 -- these, and climbs
@@ -55,7 +55,7 @@ is_upward Force = false
 is_upward (Claim tier claimed size) = false
 is_upward (Settle tier claimed size) = false
 is_upward (SettleBack tier claimed size) = false
-is_upward (Climb trip) = true
+is_upward (Climb passage) = true
 is_upward Refresh = true
 
 -- looks, and the steps of a registration
@@ -71,7 +71,7 @@ is_entering Force = false
 is_entering (Claim tier claimed size) = true
 is_entering (Settle tier claimed size) = true
 is_entering (SettleBack tier claimed size) = true
-is_entering (Climb trip) = false
+is_entering (Climb passage) = false
 is_entering Refresh = false
 
 -- Behind the steps `old` come some more, all of such kinds.
@@ -87,7 +87,7 @@ abbrev pub HasEntered : List Kind → List Kind → Type 0
 HasEntered old new = MadeOnly is_entering (Look ∷ old) new
 
 -- after these the own step, once, and then looks, refreshes and climbs
-abbrev pub HasStepped : Trip → List Kind → List Kind → Type 0
+abbrev pub HasStepped : Passage → List Kind → List Kind → Type 0
 HasStepped own old new = (looked : List Kind) × HasLooked old looked × MadeOnly is_upward (own_kind own ∷ looked) new
 
 -- an advance as the last step where the call led, and else none
@@ -109,9 +109,9 @@ MadeAnswer Q R led (MustAdvance phase count) ks = ⊥
 
 abbrev pub MadeAt : (List Kind → Type 0) → (List Kind → Type 0) → Bool → Played → Progress → List Kind → Type 0
 MadeAt Q R led answer Idle ks = MadeAnswer Q R led answer ks
-MadeAt Q R led answer (Passing trip) ks = Q ks
-MadeAt Q R led answer (Owing trip) ks = R ks
-MadeAt Q R led answer (Due trip) ks = R ks
+MadeAt Q R led answer (Passing passage) ks = Q ks
+MadeAt Q R led answer (Owing passage) ks = R ks
+MadeAt Q R led answer (Due passage) ks = R ks
 MadeAt Q R led answer (Begun c) ks = ⊥
 MadeAt Q R led answer (ToSeek tier size) ks = ⊥
 MadeAt Q R led answer Settling ks = ⊥

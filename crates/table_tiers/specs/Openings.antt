@@ -11,13 +11,13 @@ use Rattle.table_tiers.specs.Joins.{JoinAt}
 abbrev pub asked_tier : Errand → ℕ
 asked_tier (Opening tier claimed stage size) = tier
 asked_tier Rest = 0
-asked_tier (Climbing tier trip) = 0
+asked_tier (Climbing tier passage) = 0
 asked_tier Advancing = 0
 
 abbrev pub asked_size : Errand → ℕ
 asked_size (Opening tier claimed stage size) = size
 asked_size Rest = 0
-asked_size (Climbing tier trip) = 0
+asked_size (Climbing tier passage) = 0
 asked_size Advancing = 0
 
 -- a token that opens a path, and has claimed a tier

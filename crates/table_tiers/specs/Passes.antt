@@ -2,8 +2,8 @@
 use Rattle.std.specs.Prelude.{◌≡◌, ℕ, ◌+◌, ◌<◌, true, false, Some, None, ℤ}
 use Rattle.phaser_word.specs.Phase.{shown_of}
 use Rattle.tier_steps.specs.declared.view.View.{View}
-use Rattle.tier_steps.specs.declared.view.Trip.{Trip}
-use Rattle.tier_steps.specs.declared.view.Trip.TheVariants.{Arrival, Departure}
+use Rattle.tier_steps.specs.declared.view.Passage.{Passage}
+use Rattle.tier_steps.specs.declared.view.Passage.TheVariants.{Arrival, Departure}
 use Rattle.tier_core.specs.declared.call.Played.{Played}
 use Rattle.tier_core.specs.declared.call.Played.TheVariants.{GoesOn, Done, Passed, Waiting, Held, Full, AlreadyArrived, Ended, MustAdvance}
 use Rattle.tier_core.specs.declared.call.Progress.{Progress}
@@ -20,7 +20,7 @@ pub record IsSame (old new : View) : Type 0 where
   pub arrived : new.arrived ≡ old.arrived
 
 -- one more member has arrived, or one has left
-pub record HasCounted (own : Trip) (old new : View) : Type 0 where
+pub record HasCounted (own : Passage) (old new : View) : Type 0 where
   pub tier : new.tier ≡ old.tier
   pub phase : new.phase ≡ old.phase
   pub arrival : own ≡ Arrival → (new.size ≡ old.size) × (new.arrived ≡ old.arrived + 1)
@@ -48,11 +48,11 @@ PassAnswer P C u (AlreadyArrived phase) = ⊥
 PassAnswer P C u (MustAdvance phase count) = ⊥
 
 -- How such a call stands, wherever it stands. Before its own step it has seen no end, and until it is over it has taken no advance.
-abbrev pub PassAt : Trip → (View → Type 0) → (View → Type 0) → View → Played → Progress → Type 0
+abbrev pub PassAt : Passage → (View → Type 0) → (View → Type 0) → View → Played → Progress → Type 0
 PassAt own P C u answer Idle = PassAnswer P C u answer
-PassAt own P C u answer (Passing trip) = (trip ≡ own) × P u × IsFresh u
-PassAt own P C u answer (Owing trip) = C u × (u.led ≡ false)
-PassAt own P C u answer (Due trip) = C u × (u.led ≡ false)
+PassAt own P C u answer (Passing passage) = (passage ≡ own) × P u × IsFresh u
+PassAt own P C u answer (Owing passage) = C u × (u.led ≡ false)
+PassAt own P C u answer (Due passage) = C u × (u.led ≡ false)
 PassAt own P C u answer (Begun c) = ⊥
 PassAt own P C u answer (ToSeek tier size) = ⊥
 PassAt own P C u answer Settling = ⊥
@@ -62,11 +62,11 @@ PassAt own P C u answer (Refreshing moved) = ⊥
 -- An arrival or a departure that goes on from its first look, by whatever steps and looks, counts one member, once.
 abbrev pub PassesCountOnce : Type 0
 PassesCountOnce =
-    (k : Key) (own : Trip) (v : View) (from at : Position) → from.progress ≡ Passing own → from.view ≡ v → v.arrived < v.size → IsFresh v
+    (k : Key) (own : Passage) (v : View) (from at : Position) → from.progress ≡ Passing own → from.view ≡ v → v.arrived < v.size → IsFresh v
     → Goes k from at → PassAt own (IsSame v) (HasCounted own v) at.view at.answer at.progress
 
 -- One that has counted counts no more.
 abbrev pub PassesCountNoMore : Type 0
 PassesCountNoMore =
-    (k : Key) (own : Trip) (v : View) (from at : Position) → is_owing from.progress ≡ true → from.view ≡ v → v.led ≡ false
+    (k : Key) (own : Passage) (v : View) (from at : Position) → is_owing from.progress ≡ true → from.view ≡ v → v.led ≡ false
     → Goes k from at → PassAt own (λ u. ⊥) (IsSame v) at.view at.answer at.progress

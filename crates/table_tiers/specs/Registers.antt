@@ -25,7 +25,7 @@ pub record IsLookedAround (old new : View) : Type 0 where
 
 -- a call that opens a path, for what was asked for, and has claimed a tier
 pub record IsFor (tier size : ℕ) (g : Going) : Type 0 where
-  pub seat : asked_tier g.token.view.errand ≡ tier
+  pub place : asked_tier g.token.view.errand ≡ tier
   pub members : asked_size g.token.view.errand ≡ size
   pub claims : 0 < claimed_by g.token.view.errand
 

@@ -13,7 +13,7 @@ use crate::tokens::{Crew, Door, Errand};
 use advance_rule::StoredAdvance;
 use tier_core::call::{Played, Progress};
 use tier_steps::kind::Kind;
-use tier_steps::view::Trip;
+use tier_steps::view::Passage;
 
 /// What an arrival or a departure answers.
 pub enum Arrived {
@@ -112,7 +112,7 @@ impl Tiers {
     pub fn pass<F: Fn(u32, u32) -> bool>(
         &self,
         crew: Crew,
-        own: Trip,
+        own: Passage,
         rule: &StoredAdvance<F>,
         tries: u32,
     ) -> Arrived

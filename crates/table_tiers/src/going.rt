@@ -19,7 +19,7 @@ use crate::tiers::Tiers;
 use advance_rule::StoredAdvance;
 use tier_core::call::{Played, Progress};
 use tier_core::turn::{tier_of, turn_here};
-use tier_steps::view::{Trip, View};
+use tier_steps::view::{Passage, View};
 
 /// How far a call has come, beside its token.
 #[derive(Clone, Copy)]
@@ -211,7 +211,7 @@ impl Tiers {
         &self,
         token: &mut Seated,
         course: &mut Course,
-        own: Trip,
+        own: Passage,
         rule: &StoredAdvance<F>,
         tries: u32,
     ) -> u32
@@ -240,7 +240,7 @@ impl Tiers {
         &self,
         token: &mut Seated,
         course: &mut Course,
-        own: Trip,
+        own: Passage,
         rule: &StoredAdvance<F>,
         tries: u32,
     )

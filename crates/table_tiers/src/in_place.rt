@@ -5,7 +5,7 @@ ghost use Rattle.std.specs.Prelude.{◌≡◌, ℕ, Some, true};
 ghost use Rattle.advance_rule.specs.Stored.{Answers};
 ghost use Rattle.advance_rule.specs.Plan.{end_ends_at};
 ghost use Rattle.tier_core.specs.declared.call.Progress.TheVariants.{Passing};
-ghost use Rattle.tier_steps.specs.declared.view.Trip.TheVariants.{Arrival};
+ghost use Rattle.tier_steps.specs.declared.view.Passage.TheVariants.{Arrival};
 ghost use Rattle.table_tiers.specs.Calls.{IsAt, under};
 ghost use Rattle.table_tiers.specs.Next.{is_passing};
 ghost use Rattle.table_tiers.specs.Goes.{WentOn};
@@ -20,7 +20,7 @@ use advance_rule::StoredAdvance;
 use std::sync::Wait;
 use std::thread;
 use tier_core::call::{Played, Progress};
-use tier_steps::view::Trip;
+use tier_steps::view::Passage;
 
 /// How many tries a call makes before its thread lets others run.
 const TRIES: u32 = 16;
@@ -144,7 +144,7 @@ impl Tiers {
             return Came::AlreadyArrived(view.phase);
         }
         let mut course = Course {
-            progress: Progress::Passing(Trip::Arrival),
+            progress: Progress::Passing(Passage::Arrival),
             answer: Played::GoesOn,
         };
         self.go_to_end(rt, token, &mut course, rule);

@@ -9,7 +9,7 @@ ghost use Rattle.tier_core.specs.Turn.{place, turn_by, pass_turn};
 ghost use Rattle.tier_core.specs.declared.call.Played.{Played};
 ghost use Rattle.tier_core.specs.declared.call.Played.TheVariants as played;
 ghost use Rattle.tier_core.specs.declared.call.Progress.TheVariants as progress;
-ghost use Rattle.tier_steps.specs.declared.view.Trip.TheVariants.{Arrival};
+ghost use Rattle.tier_steps.specs.declared.view.Passage.TheVariants.{Arrival};
 ghost use Rattle.table_tiers.specs.Calls.{IsAt, under};
 ghost use Rattle.table_tiers.specs.Next.{is_passing};
 ghost use Rattle.table_tiers.specs.Goes.{Stands, WentOn, EndsAsPlanned, Stood, Ran, over_at};
@@ -24,11 +24,11 @@ use tier_core::call::{Played, Progress, Turn};
 use tier_core::turn::{above, is_behind};
 use tier_steps::kind::Kind;
 use tier_steps::step::{errand_after, word_passed};
-use tier_steps::view::{Errand, Trip};
+use tier_steps::view::{Errand, Passage};
 
 /// How an arrival or a departure goes on from what it owes.
 #[inline(always)]
-fn then_climb(own: Trip, errand: Errand) -> Progress
+fn then_climb(own: Passage, errand: Errand) -> Progress
     ensures { result ≡ spec.goes_on own errand }
 {
     match errand {
@@ -106,12 +106,19 @@ impl Tiers {
 
     /// One try of the step by which a party passes the tier where its token stands, or of the refresh before it.
     #[inline(always)]
-    fn pass_tier(&self, token: &mut Seated, course: &mut Course, own: Trip, trip: Trip, kind: Kind)
+    fn pass_tier(
+        &self,
+        token: &mut Seated,
+        course: &mut Course,
+        own: Passage,
+        passage: Passage,
+        kind: Kind,
+    )
         requires at { IsAt self.now (under token.old course.old) }
         requires stands { Stands self.now.key (under token.old course.old) }
         requires passing { is_passing course.old.progress ≡ true }
         requires open { token.old.word.ended ≡ false }
-        requires turn { (over : Played) × (turn_by self.now.key.shape false token.old.word course.old.progress token.old.view ≡ pass_turn self.now.key.shape own token.old.tier trip kind course.old.progress over token.old.word token.old.view) }
+        requires turn { (over : Played) × (turn_by self.now.key.shape false token.old.word course.old.progress token.old.view ≡ pass_turn self.now.key.shape own token.old.tier passage kind course.old.progress over token.old.word token.old.view) }
         requires ends { EndsAsPlanned self.now.key false (under token.old course.old) }
         ensures { WentOn self.now 1 (under token.old course.old) (under token.new course.new) }
     {
@@ -127,8 +134,8 @@ impl Tiers {
             };
             return self.try_turn(token, course, turn, false);
         }
-        let errand = errand_after(above(self.shape(), tier), tier, trip, word);
-        let parties = word_passed(tier, trip, word).parties;
+        let errand = errand_after(above(self.shape(), tier), tier, passage, word);
+        let parties = word_passed(tier, passage, word).parties;
         let turn = Turn {
             kind,
             tier,
@@ -163,17 +170,23 @@ impl Tiers {
             let turn = Turn {
                 kind: Kind::Arrive,
                 tier: 0,
-                next: Progress::Due(Trip::Arrival),
+                next: Progress::Due(Passage::Arrival),
                 answer: Played::MustAdvance(phase, word.parties),
             };
             return self.try_turn(token, course, turn, false);
         }
-        self.pass_tier(token, course, Trip::Arrival, Trip::Arrival, Kind::Arrive);
+        self.pass_tier(
+            token,
+            course,
+            Passage::Arrival,
+            Passage::Arrival,
+            Kind::Arrive,
+        );
     }
 
     /// The own step of an arrival or a departure, by one try at most.
     #[inline(always)]
-    pub(crate) fn pass_own(&self, token: &mut Seated, course: &mut Course, own: Trip)
+    pub(crate) fn pass_own(&self, token: &mut Seated, course: &mut Course, own: Passage)
         requires at { IsAt self.now (under token.old course.old) }
         requires passing { course.old.progress ≡ progress.Passing own }
         ensures { Ran self.now 1 (under token.old course.old) (under token.new course.new) }
@@ -184,11 +197,23 @@ impl Tiers {
             return;
         }
         match own {
-            Trip::Arrival => {
-                self.pass_tier(token, course, Trip::Arrival, Trip::Arrival, Kind::Arrive)
+            Passage::Arrival => {
+                self.pass_tier(
+                    token,
+                    course,
+                    Passage::Arrival,
+                    Passage::Arrival,
+                    Kind::Arrive,
+                )
             }
-            Trip::Departure => {
-                self.pass_tier(token, course, Trip::Departure, Trip::Departure, Kind::Leave)
+            Passage::Departure => {
+                self.pass_tier(
+                    token,
+                    course,
+                    Passage::Departure,
+                    Passage::Departure,
+                    Kind::Leave,
+                )
             }
         }
     }
@@ -210,7 +235,7 @@ impl Tiers {
 
     /// The next step of its climb, by one try at most.
     #[inline(always)]
-    pub(crate) fn climb(&self, token: &mut Seated, course: &mut Course, own: Trip)
+    pub(crate) fn climb(&self, token: &mut Seated, course: &mut Course, own: Passage)
         requires at { IsAt self.now (under token.old course.old) }
         requires owing { course.old.progress ≡ progress.Owing own }
         ensures { Ran self.now 1 (under token.old course.old) (under token.new course.new) }
@@ -222,23 +247,23 @@ impl Tiers {
         if !goes_on(course.progress) {
             return;
         }
-        let Errand::Climbing { trip, .. } = token.view().errand else {
+        let Errand::Climbing { passage, .. } = token.view().errand else {
             unreachable!()
         };
-        match trip {
-            Trip::Arrival => self.pass_tier(
+        match passage {
+            Passage::Arrival => self.pass_tier(
                 token,
                 course,
                 own,
-                Trip::Arrival,
-                Kind::Climb(Trip::Arrival),
+                Passage::Arrival,
+                Kind::Climb(Passage::Arrival),
             ),
-            Trip::Departure => self.pass_tier(
+            Passage::Departure => self.pass_tier(
                 token,
                 course,
                 own,
-                Trip::Departure,
-                Kind::Climb(Trip::Departure),
+                Passage::Departure,
+                Kind::Climb(Passage::Departure),
             ),
         }
     }
@@ -252,7 +277,7 @@ impl Tiers {
         rule: &StoredAdvance<F>,
     )
         requires at { IsAt self.now (under token.old course.old) }
-        requires due { (own : Trip) × (course.old.progress ≡ progress.Due own) }
+        requires due { (own : Passage) × (course.old.progress ≡ progress.Due own) }
         requires rule { Answers (F.pre rule.now.closure) (F.post rule.now.closure) (end_ends_at rule.now.plan) }
         requires plan { rule.now.plan ≡ self.now.key.plan }
         ensures { Ran self.now 1 (under token.old course.old) (under token.new course.new) }

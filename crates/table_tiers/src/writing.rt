@@ -6,7 +6,7 @@ ghost use Rattle.tier_steps.specs.Step.{looked, view_after, IsRunnable};
 use phaser_word::Word;
 use tier_steps::kind::Kind;
 use tier_steps::step::{errand_after, look, step_view};
-use tier_steps::view::{Errand, Trip, View};
+use tier_steps::view::{Errand, Passage, View};
 
 /// Writes what a look at the root leaves.
 #[inline(always)]
@@ -36,9 +36,9 @@ pub(crate) fn step_in(kind: Kind, tier: u16, above: u16, word: Word, view: &mut 
         Kind::Glance | Kind::Refresh => {}
         Kind::Arrive => {
             view.arrived += 1;
-            view.errand = errand_after(above, tier, Trip::Arrival, word);
+            view.errand = errand_after(above, tier, Passage::Arrival, word);
         }
-        Kind::Climb(trip) => view.errand = errand_after(above, tier, trip, word),
+        Kind::Climb(passage) => view.errand = errand_after(above, tier, passage, word),
         Kind::Advance(_) => {
             view.errand = Errand::Rest;
             view.led = true;

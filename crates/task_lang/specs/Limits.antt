@@ -1,8 +1,8 @@
 -- What the limits of a body count, and which numbers lines may have (own).
 use Rattle.std.specs.Prelude.{ℕ, ◌+◌, ◌-◌, max, Bool, true, false, ◌&&◌, nat_lt, List, [], ◌∷◌, count_by}
 use Rattle.text_lines.specs.Number.{fits_i64}
-use Rattle.superstep_memory.specs.declared.arrays.Kind.{Kind}
-use Rattle.superstep_memory.specs.declared.arrays.Kind.TheVariants.{Set, Add}
+use Rattle.superstep_memory.specs.declared.arrays.PutKind.{PutKind}
+use Rattle.superstep_memory.specs.declared.arrays.PutKind.TheVariants.{Set, Add}
 use Rattle.task_lang.specs.declared.code.Index.{Index}
 use Rattle.task_lang.specs.declared.code.Index.TheVariants as index
 use Rattle.task_lang.specs.declared.code.Operand.{Operand}
@@ -76,7 +76,7 @@ module _ (arrays bodies : ℕ) where
   is_line l = over_line ◌&&◌ true (is_operand arrays) is_action (is_expr arrays) l
 
 -- format 1 has each line but an add
-abbrev pub is_set : Kind → Bool
+abbrev pub is_set : PutKind → Bool
 is_set Set = true
 is_set Add = false
 

@@ -7,7 +7,7 @@ ghost use Rattle.task_lang.specs.Operands.{if_any, over_operands};
 
 use crate::code::{Action, Line, Operand};
 use crate::operands::{Operands, operands_of};
-use superstep_memory::arrays::Kind;
+use superstep_memory::arrays::PutKind;
 
 /// Whether a number is one of 64 signed bits, as each of its type is.
 #[tactic(auto, using(text_lines::proofs::NumbersLemmas::fits_back))]
@@ -109,7 +109,7 @@ fn is_of_first(line: &Line) -> bool
     ensures { result ≡ spec.is_of_first line.now }
 {
     match line {
-        Line::Do(Action::Put(kind, _, _)) => *kind == Kind::Set,
+        Line::Do(Action::Put(kind, _, _)) => *kind == PutKind::Set,
         _ => true,
     }
 }

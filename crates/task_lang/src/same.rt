@@ -4,9 +4,9 @@ ghost use Rattle.std.specs.Prelude.{◌≡◌, ◌↔◌, IsTrue, map, string_by
 use crate::body::Body;
 use crate::code::{Action, Cell, Expr, Line, Operand, Operator};
 use crate::job::Start;
-use superstep_memory::arrays::Kind;
+use superstep_memory::arrays::PutKind;
 
-fn same_kind(a: Kind, b: Kind) -> bool
+fn same_kind(a: PutKind, b: PutKind) -> bool
     ensures { IsTrue result ↔ (a ≡ b) }
 {
     a == b

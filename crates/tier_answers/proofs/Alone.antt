@@ -11,8 +11,8 @@ use Rattle.phaser_word.specs.Fields.{Fields}
 use Rattle.tier_steps.specs.declared.view.View.{View}
 use Rattle.tier_steps.specs.declared.view.Errand.{Errand}
 use Rattle.tier_steps.specs.declared.view.Errand.TheVariants.{Rest, Opening, Climbing, Advancing}
-use Rattle.tier_steps.specs.declared.view.Trip.{Trip}
-use Rattle.tier_steps.specs.declared.view.Trip.TheVariants.{Arrival, Departure}
+use Rattle.tier_steps.specs.declared.view.Passage.{Passage}
+use Rattle.tier_steps.specs.declared.view.Passage.TheVariants.{Arrival, Departure}
 use Rattle.tier_steps.specs.declared.kind.Kind.{Kind}
 use Rattle.tier_steps.specs.declared.kind.Kind.TheVariants.{Look, Glance, Refuse, Join, Arrive, Leave, Advance, Force, Claim, Settle, SettleBack, Climb, Refresh}
 use Rattle.tier_shape.specs.Parents.{parent_of}
@@ -52,7 +52,7 @@ is_passing Force = false
 is_passing (Claim tier claimed size) = false
 is_passing (Settle tier claimed size) = false
 is_passing (SettleBack tier claimed size) = false
-is_passing (Climb trip) = true
+is_passing (Climb passage) = true
 is_passing Refresh = false
 
 -- only they may leave their token with the advance to take
@@ -78,10 +78,10 @@ by_turn_plain : (P : Turn → Type 0) (b : Bool) (x y : Turn) → P x → P y �
 by_turn_plain P true x y p q = p
 by_turn_plain P false x y p q = q
 
-twice : (b c : Bool) (trip : Trip) → is_due (cond b Idle (cond c Idle (Passing trip))) ≡ false
-twice true c trip = refl
-twice false true trip = refl
-twice false false trip = refl
+twice : (b c : Bool) (passage : Passage) → is_due (cond b Idle (cond c Idle (Passing passage))) ≡ false
+twice true c passage = refl
+twice false true passage = refl
+twice false false passage = refl
 
 thrice : (b c d e : Bool) → is_due (cond b Idle (cond c Idle (cond d (Refreshing e) Idle))) ≡ false
 thrice true c d e = refl
@@ -119,37 +119,37 @@ seek_due tier k size t w v =
 settle_due : (ps : List ℕ) (v : View) (e : Errand) → PassesIfDue (settle_turn ps v e)
 settle_due ps v Rest = λ e. not_both false e refl
 settle_due ps v Advancing = λ e. not_both false e refl
-settle_due ps v (Climbing t trip) = λ e. not_both false e refl
+settle_due ps v (Climbing t passage) = λ e. not_both false e refl
 settle_due ps v (Opening tier zero stage size) = λ e. not_both false e refl
 settle_due ps v (Opening tier (suc k) stage size) = never (settle_turn ps v (Opening tier (suc k) stage size)) (no_settle k)
 
 give_back_due : (ps : List ℕ) (a : Played) (e : Errand) → PassesIfDue (give_back_turn ps a e)
 give_back_due ps a Rest = λ e. not_both false e refl
 give_back_due ps a Advancing = λ e. not_both false e refl
-give_back_due ps a (Climbing t trip) = λ e. not_both false e refl
+give_back_due ps a (Climbing t passage) = λ e. not_both false e refl
 give_back_due ps a (Opening tier zero stage size) = λ e. not_both false e refl
 give_back_due ps a (Opening tier (suc k) stage size) = never (give_back_turn ps a (Opening tier (suc k) stage size)) (no_back k a)
 
-pass_due : (ps : List ℕ) (own : Trip) (t : ℕ) (trip : Trip) (kind : Kind) (here : Progress) (over : Played) (w : Fields) (v : View)
-    → is_passing kind ≡ true → is_due here ≡ false → PassesIfDue (pass_turn ps own t trip kind here over w v)
-pass_due ps own t trip kind here over w v passing stays =
+pass_due : (ps : List ℕ) (own : Passage) (t : ℕ) (passage : Passage) (kind : Kind) (here : Progress) (over : Played) (w : Fields) (v : View)
+    → is_passing kind ≡ true → is_due here ≡ false → PassesIfDue (pass_turn ps own t passage kind here over w v)
+pass_due ps own t passage kind here over w v passing stays =
     let wait : Turn = record { kind = Refresh; tier = t; next = here; answer = GoesOn } in
     let goes : Turn = record {
       kind = kind;
       tier = t;
-      next = goes_on own (owed (parent_of ps t) t trip w);
-      answer = told v.phase (passed t trip w).parties (owed (parent_of ps t) t trip w);
+      next = goes_on own (owed (parent_of ps t) t passage w);
+      answer = told v.phase (passed t passage w).parties (owed (parent_of ps t) t passage w);
     } in
     by_turn_plain PassesIfDue w.ended (last_look over) (cond (lags w v) wait goes) (λ e. not_both false e refl)
     (by_turn_plain PassesIfDue (lags w v) wait goes (λ e. not_both (is_due here) e stays) (λ _. passing))
 
-climb_due : (ps : List ℕ) (w : Fields) (own : Trip) (v : View) (e : Errand) → PassesIfDue (climb_turn ps own w v e)
+climb_due : (ps : List ℕ) (w : Fields) (own : Passage) (v : View) (e : Errand) → PassesIfDue (climb_turn ps own w v e)
 climb_due ps w own v Rest = λ e. not_both false e refl
 climb_due ps w own v Advancing = λ e. not_both false e refl
 climb_due ps w own v (Opening tier k stage size) = λ e. not_both false e refl
-climb_due ps w own v (Climbing t trip) = pass_due ps own t trip (Climb trip) (Owing own) (Done v.phase) w v refl refl
+climb_due ps w own v (Climbing t passage) = pass_due ps own t passage (Climb passage) (Owing own) (Done v.phase) w v refl refl
 
-own_passes : (trip : Trip) → is_passing (own_kind trip) ≡ true
+own_passes : (passage : Passage) → is_passing (own_kind passage) ≡ true
 own_passes Arrival = refl
 own_passes Departure = refl
 
@@ -161,10 +161,10 @@ turn_due ps ws (ToSeek tier size) v =
     let t : ℕ = ancestor ps tier k in seek_due tier k size t (word_at ws t) v
 turn_due ps ws Settling v = settle_due ps v v.errand
 turn_due ps ws (ToGiveBack a) v = give_back_due ps a v.errand
-turn_due ps ws (Passing trip) v =
-    pass_due ps trip v.tier trip (own_kind trip) (Passing trip) (end_shown (word_at ws v.tier)) (word_at ws v.tier) v (own_passes trip) refl
+turn_due ps ws (Passing passage) v =
+    pass_due ps passage v.tier passage (own_kind passage) (Passing passage) (end_shown (word_at ws v.tier)) (word_at ws v.tier) v (own_passes passage) refl
 turn_due ps ws (Owing own) v = climb_due ps (word_at ws (errand_place ps v.errand)) own v v.errand
-turn_due ps ws (Due trip) v = λ e. not_both false e refl
+turn_due ps ws (Due passage) v = λ e. not_both false e refl
 turn_due ps ws (Refreshing has_moved) v = λ e. not_both false e refl
 
 -- labels of such steps
@@ -183,7 +183,7 @@ passing_label i Force f e going = not_both false e refl
 passing_label i (Claim tier claimed size) f e going = not_both false e refl
 passing_label i (Settle tier claimed size) f e going = not_both false e refl
 passing_label i (SettleBack tier claimed size) f e going = not_both false e refl
-passing_label i (Climb trip) f e going = (refl, going)
+passing_label i (Climb passage) f e going = (refl, going)
 passing_label i Refresh f e going = not_both false e refl
 
 -- a party that passes leaves the flat phaser in its phase, and doesn't end it

@@ -15,7 +15,7 @@ use Rattle.tier_steps.specs.Word.{forced}
 use Rattle.tier_steps.specs.Step.{looked, moved, dropped, is_going_back}
 use Rattle.tier_steps.specs.Laws.{words_after, stepped_view}
 use Rattle.tier_steps.specs.Image.{token_members, all_members, some_climbing, image}
-use Rattle.tier_steps.specs.declared.view.Trip.TheVariants.{Arrival, Departure}
+use Rattle.tier_steps.specs.declared.view.Passage.TheVariants.{Arrival, Departure}
 use Rattle.tier_steps.specs.declared.kind.Kind.{Kind}
 use Rattle.tier_steps.specs.declared.kind.Kind.TheVariants.{Look, Force, Refuse}
 use Rattle.tier_core.specs.declared.call.Call.{Call}
@@ -40,7 +40,7 @@ idle_is (Begun c) e = not_both false e refl
 idle_is (ToSeek tier size) e = not_both false e refl
 idle_is Settling e = not_both false e refl
 idle_is (ToGiveBack answer) e = not_both false e refl
-idle_is (Passing trip) e = not_both false e refl
+idle_is (Passing passage) e = not_both false e refl
 idle_is (Owing own) e = not_both false e refl
 idle_is (Due own) e = not_both false e refl
 idle_is (Refreshing has_moved) e = not_both false e refl

@@ -8,8 +8,8 @@ use Rattle.phaser_word.specs.Fields.{Fields}
 use Rattle.tier_steps.specs.declared.view.View.{View}
 use Rattle.tier_steps.specs.declared.view.Errand.{Errand}
 use Rattle.tier_steps.specs.declared.view.Errand.TheVariants.{Rest, Opening, Climbing, Advancing}
-use Rattle.tier_steps.specs.declared.view.Stage.TheVariants.{Seeking, Joined, GoingBack}
-use Rattle.tier_steps.specs.declared.view.Trip.TheVariants.{Arrival, Departure}
+use Rattle.tier_steps.specs.declared.view.OpeningStage.TheVariants.{Seeking, Joined, GoingBack}
+use Rattle.tier_steps.specs.declared.view.Passage.TheVariants.{Arrival, Departure}
 use Rattle.tier_steps.specs.View.{new_view, ancestor, absent, only_at, late_share, party_share, errand_parties, errand_late, is_hidden, advance_share, errand_advances}
 use Rattle.tier_steps.specs.Tally.{word_at, root_phase, counted, children_among, children, Tallies, ViewFits, ErrandFits, is_zero}
 use Rattle.tier_steps.specs.Told.{is_under_way}
@@ -61,7 +61,7 @@ awaited_late s i core is =
     let some = is.some in
     let a = resting_late (root_phase s.words) s.parents (view_at s.views i).tier (view_at s.views i) is.rests in
     let c = only_here (view_at s.views i).tier (absent (root_phase s.words) (view_at s.views i)) in
-    (fit.seated (absent_some (root_phase s.words) (view_at s.views i) is.some), omega arith)
+    (fit.placed (absent_some (root_phase s.words) (view_at s.views i) is.some), omega arith)
 
 -- a token with a member that hasn't arrived in its own phase
 pub is_awaited : (s : State) (i : ℕ) → IsCore s → i < length s.views → (view_at s.views i).errand ≡ Rest
@@ -123,7 +123,7 @@ apart f (x ∷ xs) (suc i) (suc j) d h k n =
 still_by : (root : ℕ) (v : View) (e : Errand) → v.errand ≡ e → IsDone root v → errand_advances e ≡ 0 → is_under_way e ≡ false
 still_by root v Rest q d none = refl
 still_by root v Advancing q d none = absurd (let a : 1 ≡ 0 = none in omega arith)
-still_by root v (Climbing t trip) q d none = absurd
+still_by root v (Climbing t passage) q d none = absurd
     (let a : only_at t 1 t ≡ 0 = sym (ap (λ x. errand_late [] x t) q) ∙ d.lates [] t in let b = only_here t 1 in omega arith)
 still_by root v (Opening tier claimed Seeking size) q d none = refl
 still_by root v (Opening tier claimed GoingBack size) q d none = refl

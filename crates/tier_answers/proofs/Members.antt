@@ -9,8 +9,8 @@ use Rattle.flat_phaser.proofs.Everyone.{either}
 use Rattle.tier_steps.specs.declared.view.View.{View}
 use Rattle.tier_steps.specs.declared.view.Errand.{Errand}
 use Rattle.tier_steps.specs.declared.view.Errand.TheVariants.{Rest, Opening, Climbing, Advancing}
-use Rattle.tier_steps.specs.declared.view.Trip.{Trip}
-use Rattle.tier_steps.specs.declared.view.Trip.TheVariants.{Arrival, Departure}
+use Rattle.tier_steps.specs.declared.view.Passage.{Passage}
+use Rattle.tier_steps.specs.declared.view.Passage.TheVariants.{Arrival, Departure}
 use Rattle.tier_steps.specs.declared.kind.Kind.{Kind}
 use Rattle.tier_steps.specs.declared.kind.Kind.TheVariants.{Look, Refuse, Join, Advance, Claim, Climb, Refresh}
 use Rattle.tier_shape.specs.Parents.{parent_of}
@@ -37,11 +37,11 @@ use Rattle.tier_answers.specs.Calls.{view_then, IsSame, IsLookStep, PassesBeginW
 use Rattle.tier_answers.proofs.Holding.{fits_at}
 use Rattle.tier_answers.proofs.Memory.{by_turn}
 use Rattle.tier_answers.proofs.Stepping.{Gone, gone, fitting, awaited_look}
-use Rattle.tier_steps.specs.declared.view.Stage.TheVariants.{Joined, GoingBack}
+use Rattle.tier_steps.specs.declared.view.OpeningStage.TheVariants.{Joined, GoingBack}
 use Rattle.tier_steps.specs.Step.{added, opening, refused, given_up}
 use Rattle.tier_steps.proofs.Advance.{ancestor_within}
 use Rattle.tier_core.specs.Turn.{claimed_by, is_refusing, is_claimable, has_no_room, refusal, giving_back, settling, unless_claimed, seek_turn, settle_turn, give_back_turn}
-use Rattle.tier_answers.specs.Calls.{IsSeated, IsJoinLook, JoinsBeginWithALook, JoinsSeatAtOnce, IsAdmitted, OpenTiersAdmit, is_settling, SettlingKeepsMembers}
+use Rattle.tier_answers.specs.Calls.{IsPlaced, IsJoinLook, JoinsBeginWithALook, JoinsPlaceAtOnce, IsAdmitted, OpenTiersAdmit, is_settling, SettlingKeepsMembers}
 use Rattle.tier_answers.proofs.Counting.{looked_empty}
 use Rattle.tier_answers.proofs.Seeking.{joined_phase, ended_root}
 use Rattle.tier_answers.proofs.Ended.{looked_same}
@@ -56,49 +56,49 @@ still_going s t core going h = ⊎_elim
     (cases_eq t 0)
 
 -- a party that passes a tier which hasn't ended: either the tier is refreshed first, or the call goes on as it is owed
-pub pass_goes : (s : State) (i : ℕ) (own : Trip) (t : ℕ) (trip : Trip) (kind : Kind) (here : Progress) (over : Played) (Q : Type 0)
+pub pass_goes : (s : State) (i : ℕ) (own : Passage) (t : ℕ) (passage : Passage) (kind : Kind) (here : Progress) (over : Played) (Q : Type 0)
     → (word_at s.words t).ended ≡ false
-    → (stepped_view s.parents s.words kind t (view_at s.views i)).errand ≡ owed (parent_of s.parents t) t trip (word_at s.words t)
+    → (stepped_view s.parents s.words kind t (view_at s.views i)).errand ≡ owed (parent_of s.parents t) t passage (word_at s.words t)
     → (Gone s i (record { kind = Refresh; tier = t; next = here; answer = GoesOn }) → Q)
     → (view_then s i ≡ stepped_view s.parents s.words kind t (view_at s.views i) → GoesAsOwed s i own → Q)
-    → Gone s i (pass_turn s.parents own t trip kind here over (word_at s.words t) (view_at s.views i)) → Q
-pass_goes s i own t trip kind here over Q going errand waits passes =
+    → Gone s i (pass_turn s.parents own t passage kind here over (word_at s.words t) (view_at s.views i)) → Q
+pass_goes s i own t passage kind here over Q going errand waits passes =
     let w : Fields = word_at s.words t in
     let v : View = view_at s.views i in
-    let parties : ℕ = (passed t trip (word_at s.words t)).parties in
+    let parties : ℕ = (passed t passage (word_at s.words t)).parties in
     let goes : Errand → Turn = λ e. record { kind = kind; tier = t; next = goes_on own e; answer = told v.phase parties e } in
     let wait : Turn = record { kind = Refresh; tier = t; next = here; answer = GoesOn } in
-    by_turn (λ r. Gone s i r → Q) w.ended (last_look over) (cond (lags w v) wait (goes (owed (parent_of s.parents t) t trip w)))
+    by_turn (λ r. Gone s i r → Q) w.ended (last_look over) (cond (lags w v) wait (goes (owed (parent_of s.parents t) t passage w)))
     (λ e. not_both w.ended e going)
-    (λ _. by_turn (λ r. Gone s i r → Q) (lags w v) wait (goes (owed (parent_of s.parents t) t trip w))
+    (λ _. by_turn (λ r. Gone s i r → Q) (lags w v) wait (goes (owed (parent_of s.parents t) t passage w))
     (λ _. waits)
-    (λ _. owed_is (λ x. owed (parent_of s.parents t) t trip w ≡ x → Gone s i (goes x) → Q) (parent_of s.parents t) t trip w
+    (λ _. owed_is (λ x. owed (parent_of s.parents t) t passage w ≡ x → Gone s i (goes x) → Q) (parent_of s.parents t) t passage w
     (λ owes g. passes g.view (inl (g.answer, ap (λ (x : View). x.errand) g.view ∙ (errand ∙ owes), g.call)))
     (λ _ owes g. passes g.view (inr (inr ((parties, g.answer), ap (λ (x : View). x.errand) g.view ∙ (errand ∙ owes), g.call))))
     (λ j _ owes g. passes g.view (inr (inl (g.answer, (parent_of s.parents t, j, ap (λ (x : View). x.errand) g.view ∙ (errand ∙ owes)), g.call))))
     refl))
 
 -- the look of an arrival and of a departure
-look_by : (s : State) (i : ℕ) (trip : Trip) → IsCore s → (word_at s.words 0).ended ≡ false → IsAwaited s i
+look_by : (s : State) (i : ℕ) (passage : Passage) → IsCore s → (word_at s.words 0).ended ≡ false → IsAwaited s i
     → (view_at s.views i).phase ≡ root_phase s.words
     → Gone s i (record {
       kind = Look;
       tier = 0;
       next = cond (word_at s.words 0).ended Idle
-          (cond (eqb (looked (word_at s.words 0) (view_at s.views i)).arrived (view_at s.views i).size) Idle (Passing trip));
+          (cond (eqb (looked (word_at s.words 0) (view_at s.views i)).arrived (view_at s.views i).size) Idle (Passing passage));
       answer = cond (word_at s.words 0).ended (end_shown (word_at s.words 0))
           (cond (eqb (looked (word_at s.words 0) (view_at s.views i)).arrived (view_at s.views i).size)
           (AlreadyArrived (looked (word_at s.words 0) (view_at s.views i)).phase) GoesOn);
-    }) → IsLookStep s i (Passing trip)
-look_by s i trip core going is now =
+    }) → IsLookStep s i (Passing passage)
+look_by s i passage core going is now =
     let w : Fields = word_at s.words 0 in
     let v : View = view_at s.views i in
     let look = awaited_look s i core going is in
     let make : Progress → Played → Turn = λ next answer. record { kind = Look; tier = 0; next = next; answer = answer } in
-    by_test (λ b. Gone s i (make (cond b Idle (cond (eqb (looked w v).arrived v.size) Idle (Passing trip)))
-    (cond b (end_shown w) (cond (eqb (looked w v).arrived v.size) (AlreadyArrived (looked w v).phase) GoesOn))) → IsLookStep s i (Passing trip)) w.ended
+    by_test (λ b. Gone s i (make (cond b Idle (cond (eqb (looked w v).arrived v.size) Idle (Passing passage)))
+    (cond b (end_shown w) (cond (eqb (looked w v).arrived v.size) (AlreadyArrived (looked w v).phase) GoesOn))) → IsLookStep s i (Passing passage)) w.ended
     (λ q. not_both w.ended q going)
-    (λ _. by_test (λ b. Gone s i (make (cond b Idle (Passing trip)) (cond b (AlreadyArrived (looked w v).phase) GoesOn)) → IsLookStep s i (Passing trip))
+    (λ _. by_test (λ b. Gone s i (make (cond b Idle (Passing passage)) (cond b (AlreadyArrived (looked w v).phase) GoesOn)) → IsLookStep s i (Passing passage))
     (eqb (looked w v).arrived v.size)
     (λ q. absurd (let a = look.awaited in let b = eqb-true (looked w v).arrived v.size q in omega arith))
     (λ _ g. record {
@@ -118,9 +118,9 @@ passes_begin_with_a_look s i Arrival core going is now e = look_by s i Arrival c
 passes_begin_with_a_look s i Departure core going is now e = look_by s i Departure core going is now (gone s i (Begun call.Leave) core is.known e refl)
 
 -- the own step
-pub counted : (s : State) (i : ℕ) (trip : Trip) → (view_at s.views i).arrived < (view_at s.views i).size
-    → view_then s i ≡ stepped_view s.parents s.words (own_kind trip) (view_at s.views i).tier (view_at s.views i)
-    → Counts trip (view_at s.views i) (view_then s i)
+pub counted : (s : State) (i : ℕ) (passage : Passage) → (view_at s.views i).arrived < (view_at s.views i).size
+    → view_then s i ≡ stepped_view s.parents s.words (own_kind passage) (view_at s.views i).tier (view_at s.views i)
+    → Counts passage (view_at s.views i) (view_then s i)
 counted s i Arrival some view =
     (ap (λ (x : View). x.tier) view, ap (λ (x : View). x.size) view, ap (λ (x : View). x.phase) view, ap (λ (x : View). x.arrived) view)
 counted s i Departure some view = (
@@ -130,30 +130,30 @@ counted s i Departure some view = (
   ap (λ (x : View). x.arrived) view,
 )
 
-pub own_errand : (s : State) (i : ℕ) (trip : Trip)
-    → (stepped_view s.parents s.words (own_kind trip) (view_at s.views i).tier (view_at s.views i)).errand
-    ≡ owed (parent_of s.parents (view_at s.views i).tier) (view_at s.views i).tier trip (word_at s.words (view_at s.views i).tier)
+pub own_errand : (s : State) (i : ℕ) (passage : Passage)
+    → (stepped_view s.parents s.words (own_kind passage) (view_at s.views i).tier (view_at s.views i)).errand
+    ≡ owed (parent_of s.parents (view_at s.views i).tier) (view_at s.views i).tier passage (word_at s.words (view_at s.views i).tier)
 own_errand s i Arrival = refl
 own_errand s i Departure = refl
 
 pub passes_count : PassesCount
-passes_count s i trip core h going e home =
+passes_count s i passage core h going e home =
     let v : View = view_at s.views i in
-    let fits = fitting s i (Passing trip) core h e in
+    let fits = fitting s i (Passing passage) core h e in
     let some : (view_at s.views i).arrived < (view_at s.views i).size = fits.1 in
     let fit = fits_at s i core h in
     let now = unarrived_is_current s.parents (root_phase s.words) (word_at s.words 0).ended (view_at s.views i) fit fits.1 in
-    let within : v.tier < length s.words = subst (λ (n : ℕ). v.tier < n) (sym core.tally.long) (fit.seated (omega arith)) in
-    pass_goes s i trip v.tier trip (own_kind trip) (Passing trip) (end_shown (word_at s.words v.tier)) (IsOwnStep s i trip)
-    (still_going s v.tier core going within) (own_errand s i trip)
+    let within : v.tier < length s.words = subst (λ (n : ℕ). v.tier < n) (sym core.tally.long) (fit.placed (omega arith)) in
+    pass_goes s i passage v.tier passage (own_kind passage) (Passing passage) (end_shown (word_at s.words v.tier)) (IsOwnStep s i passage)
+    (still_going s v.tier core going within) (own_errand s i passage)
     (λ g. absurd (g.may.needs.behind (home ∙ sym now)))
-    (λ view owes. record { counts = counted s i trip fits.1 view; owes = owes })
-    (gone s i (Passing trip) core h e refl)
+    (λ view owes. record { counts = counted s i passage fits.1 view; owes = owes })
+    (gone s i (Passing passage) core h e refl)
 
 -- a climb that finds the root ended
-climb_over : (s : State) (i : ℕ) (own : Trip) (t : ℕ) (trip : Trip) → IsCore s → t < length s.words → (word_at s.words t).ended ≡ true
-    → (view_at s.views i).errand ≡ Climbing t trip → Gone s i (last_look (Done (view_at s.views i).phase)) → IsClimbStep s i own
-climb_over s i own t trip core within ended owes g =
+climb_over : (s : State) (i : ℕ) (own : Passage) (t : ℕ) (passage : Passage) → IsCore s → t < length s.words → (word_at s.words t).ended ≡ true
+    → (view_at s.views i).errand ≡ Climbing t passage → Gone s i (last_look (Done (view_at s.views i).phase)) → IsClimbStep s i own
+climb_over s i own t passage core within ended owes g =
     let v : View = view_at s.views i in
     let w : Fields = word_at s.words 0 in
     let root : t ≡ 0 = ended_root s t core within ended in
@@ -163,7 +163,7 @@ climb_over s i own t trip core within ended owes g =
       owes = inl (
         g.answer,
         ap (λ (x : View). x.errand) g.view
-            ∙ (looked_ended w v over ∙ ap dropped (owes ∙ ap (λ n. Climbing n trip) root)),
+            ∙ (looked_ended w v over ∙ ap dropped (owes ∙ ap (λ n. Climbing n passage) root)),
         g.call,
       );
     }
@@ -276,14 +276,14 @@ refused_size zero w v = looked_size w v
 refused_size (suc t) w v = refl
 
 -- the steps of a join that looks for its tier
-abbrev Seats : State → ℕ → ℕ → ℕ → Type 0
-Seats s i tier size =
+abbrev Places : State → ℕ → ℕ → ℕ → Type 0
+Places s i tier size =
     ((label i (turn_at s i).kind ≡ None) × ((view_then s i).size ≡ 0))
-    ⊎ ((label i (turn_at s i).kind ≡ Some (flat.Join i size)) × IsSeated tier size (flat_of s).phase (view_then s i))
+    ⊎ ((label i (turn_at s i).kind ≡ Some (flat.Join i size)) × IsPlaced tier size (flat_of s).phase (view_then s i))
 
-seek_seats : (s : State) (i tier k size t : ℕ) → IsCore s → t < length s.words → (view_at s.views i).size ≡ 0
-    → Gone s i (seek_turn tier k size t (word_at s.words t) (view_at s.views i)) → Seats s i tier size
-seek_seats s i tier k size t core within none =
+seek_places : (s : State) (i tier k size t : ℕ) → IsCore s → t < length s.words → (view_at s.views i).size ≡ 0
+    → Gone s i (seek_turn tier k size t (word_at s.words t) (view_at s.views i)) → Places s i tier size
+seek_places s i tier k size t core within none =
     let w : Fields = word_at s.words t in
     let v : View = view_at s.views i in
     let p : ℕ = (refused t (word_at s.words t) (view_at s.views i)).phase in
@@ -296,11 +296,11 @@ seek_seats s i tier k size t core within none =
     } in
     let claim : Turn = record { kind = Claim tier k size; tier = t; next = ToSeek tier size; answer = GoesOn } in
     let join : Turn = record { kind = Join tier k size; tier = t; next = settling k; answer = unless_claimed k (Done w.phase) } in
-    by_turn (λ r. Gone s i r → Seats s i tier size) w.ended over (cond (is_refusing (added k size) w) no (cond (is_claimable t w) claim join))
+    by_turn (λ r. Gone s i r → Places s i tier size) w.ended over (cond (is_refusing (added k size) w) no (cond (is_claimable t w) claim join))
     (λ _ g. inl (ap (label i) g.kind, ap (λ (x : View). x.size) g.view ∙ (looked_size (word_at s.words 0) v ∙ none)))
-    (λ _. by_turn (λ r. Gone s i r → Seats s i tier size) (is_refusing (added k size) w) no (cond (is_claimable t w) claim join)
+    (λ _. by_turn (λ r. Gone s i r → Places s i tier size) (is_refusing (added k size) w) no (cond (is_claimable t w) claim join)
     (λ _ g. inl (ap (label i) g.kind, ap (λ (x : View). x.size) g.view ∙ (refused_size t w v ∙ none)))
-    (λ _. by_turn (λ r. Gone s i r → Seats s i tier size) (is_claimable t w) claim join
+    (λ _. by_turn (λ r. Gone s i r → Places s i tier size) (is_claimable t w) claim join
     (λ _ g. inl (ap (label i) g.kind, ap (λ (x : View). x.size) g.view ∙ none))
     (λ _ g. inr (
       ap (label i) g.kind,
@@ -312,12 +312,12 @@ seek_seats s i tier k size t core within none =
       },
     ))))
 
-pub joins_seat_at_once : JoinsSeatAtOnce
-joins_seat_at_once s i tier size core h e =
+pub joins_place_at_once : JoinsPlaceAtOnce
+joins_place_at_once s i tier size core h e =
     let k : ℕ = claimed_by (view_at s.views i).errand in
     let fits = fitting s i (ToSeek tier size) core h e in
-    seek_seats s i tier k size (ancestor s.parents tier k) core
-    (subst (λ (n : ℕ). ancestor s.parents tier k < n) (sym core.tally.long) (ancestor_within s.parents tier k core.shape fits.1.seat))
+    seek_places s i tier k size (ancestor s.parents tier k) core
+    (subst (λ (n : ℕ). ancestor s.parents tier k < n) (sym core.tally.long) (ancestor_within s.parents tier k core.shape fits.1.place))
     fits.1.none (gone s i (ToSeek tier size) core h e refl)
 
 pub not_yet : (m n : ℕ) → n ≤ m → ltb m n ≡ false
@@ -344,7 +344,7 @@ open_tiers_admit s i tier size core h going e rests some waits room =
     let v : View = view_at s.views i in
     let w : Fields = word_at s.words tier in
     let fits = fitting s i (ToSeek tier size) core h e in
-    let within : tier < length s.words = subst (λ (n : ℕ). tier < n) (sym core.tally.long) fits.1.seat in
+    let within : tier < length s.words = subst (λ (n : ℕ). tier < n) (sym core.tally.long) fits.1.place in
     let p : ℕ = (refused tier w v).phase in
     let over : Turn = record { kind = Look; tier = 0; next = Idle; answer = end_shown w } in
     let no : Turn = record { kind = Refuse tier 0 size; tier = tier; next = Idle; answer = refusal tier size p w } in
@@ -360,7 +360,7 @@ open_tiers_admit s i tier size core h going e rests some waits room =
     (λ q. not_both (is_claimable tier w) q (no_claim tier w some))
     (λ _ j. let phase = joined_phase s tier size core within j.may.needs.1 in
     record {
-      seated = record {
+      placed = record {
         tier = ap (λ (x : View). x.tier) j.view;
         size = ap (λ (x : View). x.size) j.view;
         phase = ap (λ (x : View). x.phase) j.view ∙ phase;
@@ -395,7 +395,7 @@ settling_by s i (ToGiveBack answer) core h e q =
     let g : Gone s i (give_back_turn s.parents answer (Opening fits.0 (suc fits.1) GoingBack fits.2)) =
     subst (λ (x : Errand). Gone s i (give_back_turn s.parents answer x)) fits.3 (gone s i (ToGiveBack answer) core h e refl) in
     kept_by s i (opening fits.0 fits.1 GoingBack fits.2) g.view
-settling_by s i (Passing trip) core h e q = not_both false q refl
+settling_by s i (Passing passage) core h e q = not_both false q refl
 settling_by s i (Owing own) core h e q = not_both false q refl
 settling_by s i (Due own) core h e q = not_both false q refl
 settling_by s i (Refreshing has_moved) core h e q = not_both false q refl

@@ -2,8 +2,8 @@
 use Rattle.std.proofs.Common.{◌≡◌, ℕ, zero, suc, Bool, true, false, cond, List, ◌∷◌, refl, sym, ◌∙◌, ap, subst, arith}
 use Rattle.std.specs.List.{Any}
 use Rattle.tier_steps.specs.declared.view.View.{View}
-use Rattle.tier_steps.specs.declared.view.Trip.{Trip}
-use Rattle.tier_steps.specs.declared.view.Trip.TheVariants.{Arrival, Departure}
+use Rattle.tier_steps.specs.declared.view.Passage.{Passage}
+use Rattle.tier_steps.specs.declared.view.Passage.TheVariants.{Arrival, Departure}
 use Rattle.tier_steps.specs.Laws.{stepped_view}
 use Rattle.tier_core.specs.declared.call.Call.{Call}
 use Rattle.tier_core.specs.declared.call.Call.TheVariants as call
@@ -43,7 +43,7 @@ RefusalTells token c ms (AlreadyArrived phase) = ⊥
 RefusalTells token c ms (Ended number) = Any (HasEnded token number) ms
 RefusalTells token c ms (MustAdvance phase parties) = ⊥
 
-abbrev pub call_of : Trip → Call
+abbrev pub call_of : Passage → Call
 call_of Arrival = call.Arrive
 call_of Departure = call.Leave
 
@@ -53,7 +53,7 @@ Remembers token c ms (Begun d) v = d ≡ c
 Remembers token c ms (ToSeek tier size) v = (c ≡ call.Join tier size) × (v.phase ≡ last_seen ms)
 Remembers token c ms Settling v = IsDoneIn token c v.phase ms
 Remembers token c ms (ToGiveBack answer) v = RefusalTells token c ms answer
-Remembers token c ms (Passing trip) v = c ≡ call_of trip
+Remembers token c ms (Passing passage) v = c ≡ call_of passage
 Remembers token c ms (Owing own) v = IsDoneIn token c v.phase ms
 Remembers token c ms (Due own) v = IsDoneIn token c v.phase ms
 Remembers token c ms (Refreshing has_moved) v = (c ≡ call.Poll) × PollTells token has_moved v.phase ms

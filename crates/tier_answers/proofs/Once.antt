@@ -1,4 +1,4 @@
--- A call counts once, a join seats its members where it was asked to, and a refused one notes what refused it.
+-- A call counts once, a join places its members where it was asked to, and a refused one notes what refused it.
 use Rattle.std.proofs.Common.{◌≡◌, ℕ, zero, suc, ◌<◌, ◌≤◌, Bool, true, false, cond, eqb, List, [], ◌∷◌, length, refl, sym, ◌∙◌, ap, subst, arith, Some}
 use Rattle.std.specs.Prelude.{◌&&◌, not}
 use Rattle.std.specs.List.{Any}
@@ -8,9 +8,9 @@ use Rattle.phaser_word.specs.Fields.{Fields}
 use Rattle.tier_steps.specs.declared.view.View.{View}
 use Rattle.tier_steps.specs.declared.view.Errand.{Errand}
 use Rattle.tier_steps.specs.declared.view.Errand.TheVariants.{Opening, Climbing}
-use Rattle.tier_steps.specs.declared.view.Stage.TheVariants.{Joined, GoingBack}
-use Rattle.tier_steps.specs.declared.view.Trip.{Trip}
-use Rattle.tier_steps.specs.declared.view.Trip.TheVariants.{Arrival, Departure}
+use Rattle.tier_steps.specs.declared.view.OpeningStage.TheVariants.{Joined, GoingBack}
+use Rattle.tier_steps.specs.declared.view.Passage.{Passage}
+use Rattle.tier_steps.specs.declared.view.Passage.TheVariants.{Arrival, Departure}
 use Rattle.tier_steps.specs.declared.kind.Kind.{Kind}
 use Rattle.tier_steps.specs.declared.kind.Kind.TheVariants.{Look, Glance, Refuse, Join, Advance, Force, Claim, Climb, Refresh}
 use Rattle.tier_shape.specs.Parents.{parent_of}
@@ -31,8 +31,8 @@ use Rattle.tier_core.specs.Machine.{State, IsCore, CallFits, BegunFits, view_at,
 use Rattle.tier_core.specs.Run.{may_begin, begun, finish_at, plan_ends, IsCall}
 use Rattle.tier_core.proofs.Turns.{by_test, not_both, looked_size, refusal_is}
 use Rattle.tier_answers.specs.Moments.{Moment, Event, moments, AreEvents, AreOfCall}
-use Rattle.tier_answers.specs.Calls.{IsSeated}
-use Rattle.tier_answers.specs.Once.{is_counting, times_counted, counts_when_done, CountsAs, LatestCounts, CallsCountOnce, view_after_turn, SeatsAs, LatestSeats, JoinsSeatWhereAsked, IsNotedAt, NotesAs, LatestNotes, RefusalsAreNoted}
+use Rattle.tier_answers.specs.Calls.{IsPlaced}
+use Rattle.tier_answers.specs.Once.{is_counting, times_counted, counts_when_done, CountsAs, LatestCounts, CallsCountOnce, view_after_turn, PlacesAs, LatestPlaces, JoinsPlaceWhereAsked, IsNotedAt, NotesAs, LatestNotes, RefusalsAreNoted}
 use Rattle.tier_answers.proofs.Ending.{alike_itself, at, imaged}
 use Rattle.tier_answers.proofs.Memory.{any_here, any_later, call_of, by_turn}
 use Rattle.tier_answers.specs.Frame.{flat_of}
@@ -41,16 +41,16 @@ use Rattle.tier_answers.proofs.Reached.{Alikes, Tells_, reached, carried, any_al
 use Rattle.tier_answers.proofs.Along.{Carries, OfToken, of_token, along_call}
 
 -- what a turn answers, of a call that has counted so often
-abbrev Seats : Call → Played → View → Type 0
-Seats (call.Join tier size) a v = SeatsAs tier size a v
-Seats call.Arrive a v = Unit {0}
-Seats call.Leave a v = Unit {0}
-Seats call.Poll a v = Unit {0}
-Seats call.Force a v = Unit {0}
+abbrev Places : Call → Played → View → Type 0
+Places (call.Join tier size) a v = PlacesAs tier size a v
+Places call.Arrive a v = Unit {0}
+Places call.Leave a v = Unit {0}
+Places call.Poll a v = Unit {0}
+Places call.Force a v = Unit {0}
 
 record Says (c : Call) (a : Played) (v : View) (ms : List Moment) : Type 0 where
   counts : CountsAs c a (times_counted ms)
-  seats : Seats c a v
+  places : Places c a v
   notes : NotesAs a v ms
 
 -- what a call has to remember for it
@@ -58,11 +58,11 @@ abbrev Keeps : Call → List Moment → Progress → View → Type 0
 Keeps c past Idle v = Unit {0}
 Keeps c past (Begun d) v = (d ≡ c) × (times_counted past ≡ 0)
 Keeps c past (ToSeek tier size) v = (c ≡ call.Join tier size) × (times_counted past ≡ 0)
-Keeps c past Settling v = (times_counted past ≡ 1) × ((tier : ℕ) × (size : ℕ) × (c ≡ call.Join tier size) × IsSeated tier size v.phase v)
+Keeps c past Settling v = (times_counted past ≡ 1) × ((tier : ℕ) × (size : ℕ) × (c ≡ call.Join tier size) × IsPlaced tier size v.phase v)
 Keeps c past (ToGiveBack a) v = (times_counted past ≡ 0) × (v.size ≡ 0) × NotesAs a v past
-Keeps c past (Passing trip) v = (c ≡ call_of trip) × (times_counted past ≡ 0)
-Keeps c past (Owing own) v = ((trip : Trip) × (c ≡ call_of trip)) × (times_counted past ≡ 1)
-Keeps c past (Due own) v = ((trip : Trip) × (c ≡ call_of trip)) × (times_counted past ≡ 1)
+Keeps c past (Passing passage) v = (c ≡ call_of passage) × (times_counted past ≡ 0)
+Keeps c past (Owing own) v = ((passage : Passage) × (c ≡ call_of passage)) × (times_counted past ≡ 1)
+Keeps c past (Due own) v = ((passage : Passage) × (c ≡ call_of passage)) × (times_counted past ≡ 1)
 Keeps c past (Refreshing has_moved) v = (c ≡ call.Poll) × (times_counted past ≡ 0)
 
 -- a turn that answers so, and after which the call remembers what it has to
@@ -81,18 +81,18 @@ one_count i s past r counts e =
     let a = count_cons (λ (m : Moment). is_counting m.turn.kind) (at i s r) past in
     let b : cond {A = ℕ} (is_counting r.kind) 1 0 ≡ 1 = ap (λ x. cond {A = ℕ} x 1 0) counts in omega arith
 
-seats_no : (c : Call) (a : Played) (v : View) → ((tier size : ℕ) → SeatsAs tier size a v) → Seats c a v
-seats_no (call.Join tier size) a v h = h tier size
-seats_no call.Arrive a v h = tt
-seats_no call.Leave a v h = tt
-seats_no call.Poll a v h = tt
-seats_no call.Force a v h = tt
+places_no : (c : Call) (a : Played) (v : View) → ((tier size : ℕ) → PlacesAs tier size a v) → Places c a v
+places_no (call.Join tier size) a v h = h tier size
+places_no call.Arrive a v h = tt
+places_no call.Leave a v h = tt
+places_no call.Poll a v h = tt
+places_no call.Force a v h = tt
 
-seats_pass : (trip : Trip) (a : Played) (v : View) → Seats (call_of trip) a v
-seats_pass Arrival a v = tt
-seats_pass Departure a v = tt
+places_pass : (passage : Passage) (a : Played) (v : View) → Places (call_of passage) a v
+places_pass Arrival a v = tt
+places_pass Departure a v = tt
 
-done_once : (trip : Trip) → counts_when_done (call_of trip) ≡ 1
+done_once : (passage : Passage) → counts_when_done (call_of passage) ≡ 1
 done_once Arrival = refl
 done_once Departure = refl
 
@@ -101,7 +101,7 @@ goes_on_once : (s : State) (i : ℕ) (c : Call) (past : List Moment) (r : Turn) 
 goes_on_once s i c past r e few =
     let v' : View = stepped_view s.parents s.words r.kind r.tier (view_at s.views i) in
     subst (λ (a : Played). Says c a (stepped_view s.parents s.words r.kind r.tier (view_at s.views i)) (at i s r ∷ past)) (sym e)
-    (record { counts = few; seats = seats_no c GoesOn v' (λ _ _. tt); notes = tt })
+    (record { counts = few; places = places_no c GoesOn v' (λ _ _. tt); notes = tt })
 
 -- a refusal that is answered, or kept until the claimed tiers are given back
 refused_fits : (s : State) (i : ℕ) (c : Call) (past : List Moment) (r : Turn) (claimed : ℕ) (a : Played) → is_refusal a ≡ true
@@ -111,7 +111,7 @@ refused_fits : (s : State) (i : ℕ) (c : Call) (past : List Moment) (r : Turn) 
 refused_fits s i c past r zero a is next answer none size notes = record {
   says = subst (λ (x : Played). Says c x (stepped_view s.parents s.words r.kind r.tier (view_at s.views i)) (at i s r ∷ past)) (sym answer) (record {
     counts = refuses_nothing a is;
-    seats = seats_no c a (stepped_view s.parents s.words r.kind r.tier (view_at s.views i)) (λ tier many. refuses_all a is tier many);
+    places = places_no c a (stepped_view s.parents s.words r.kind r.tier (view_at s.views i)) (λ tier many. refuses_all a is tier many);
     notes = notes;
   });
   keeps = subst (λ (x : Progress). Keeps c (at i s r ∷ past) x (stepped_view s.parents s.words r.kind r.tier (view_at s.views i))) (sym next) tt;
@@ -128,7 +128,7 @@ refused_fits s i c past r zero a is next answer none size notes = record {
     refuses_nothing (Ended number) e = none
     refuses_nothing (MustAdvance phase parties) e = not_both false e refl
 
-    refuses_all : (b : Played) → is_refusal b ≡ true → (tier many : ℕ) → SeatsAs tier many b (stepped_view s.parents s.words r.kind r.tier (view_at s.views i))
+    refuses_all : (b : Played) → is_refusal b ≡ true → (tier many : ℕ) → PlacesAs tier many b (stepped_view s.parents s.words r.kind r.tier (view_at s.views i))
     refuses_all GoesOn e tier many = not_both false e refl
     refuses_all (Done phase) e tier many = not_both false e refl
     refuses_all (Passed phase) e tier many = not_both false e refl
@@ -147,17 +147,17 @@ refused_fits s i c past r (suc claimed) a is next answer none size notes = recor
 -- a join that is answered to be done, or kept until the claimed tiers are settled
 joined_fits : (s : State) (i : ℕ) (past : List Moment) (tier size : ℕ) (r : Turn) (claimed phase : ℕ) → r.next ≡ settling claimed
     → r.answer ≡ unless_claimed claimed (Done phase) → times_counted (at i s r ∷ past) ≡ 1
-    → IsSeated tier size phase (stepped_view s.parents s.words r.kind r.tier (view_at s.views i)) → Fits s i (call.Join tier size) past r
-joined_fits s i past tier size r zero phase next answer one seated = record {
+    → IsPlaced tier size phase (stepped_view s.parents s.words r.kind r.tier (view_at s.views i)) → Fits s i (call.Join tier size) past r
+joined_fits s i past tier size r zero phase next answer one placed = record {
   says = subst (λ (x : Played). Says (call.Join tier size) x (stepped_view s.parents s.words r.kind r.tier (view_at s.views i)) (at i s r ∷ past)) (sym answer)
-      (record { counts = one; seats = seated; notes = tt });
+      (record { counts = one; places = placed; notes = tt });
   keeps = subst (λ (x : Progress). Keeps (call.Join tier size) (at i s r ∷ past) x (stepped_view s.parents s.words r.kind r.tier (view_at s.views i)))
       (sym next) tt;
 }
-joined_fits s i past tier size r (suc claimed) phase next answer one seated = record {
+joined_fits s i past tier size r (suc claimed) phase next answer one placed = record {
   says = goes_on_once s i (call.Join tier size) past r answer (omega arith);
   keeps = subst (λ (x : Progress). Keeps (call.Join tier size) (at i s r ∷ past) x (stepped_view s.parents s.words r.kind r.tier (view_at s.views i)))
-      (sym next) (one, (tier, size, refl, record { tier = seated.tier; size = seated.size; phase = refl; arrived = seated.arrived }));
+      (sym next) (one, (tier, size, refl, record { tier = placed.tier; size = placed.size; phase = refl; arrived = placed.arrived }));
 }
 
 note_is : (t : ℕ) (w : Fields) (v : View) → (refused t w v).note ≡ Some (t, w)
@@ -235,44 +235,44 @@ seek_fits s i past tier size k t none before =
 
 -- the first step of each call
 over_fits : (s : State) (i : ℕ) (c : Call) (past : List Moment) (kind : Kind) (t : ℕ) (a : Played) → is_counting kind ≡ false → times_counted past ≡ 0
-    → ((times : ℕ) → times ≡ 0 → CountsAs c a times) → Seats c a (stepped_view s.parents s.words kind t (view_at s.views i))
+    → ((times : ℕ) → times ≡ 0 → CountsAs c a times) → Places c a (stepped_view s.parents s.words kind t (view_at s.views i))
     → NotesAs a (stepped_view s.parents s.words kind t (view_at s.views i)) (at i s (record { kind = kind; tier = t; next = Idle; answer = a }) ∷ past)
     → Fits s i c past (record { kind = kind; tier = t; next = Idle; answer = a })
-over_fits s i c past kind t a quiet before counts seats notes =
+over_fits s i c past kind t a quiet before counts places notes =
     let r : Turn = record { kind = kind; tier = t; next = Idle; answer = a } in
     record {
       says = record {
         counts = counts (times_counted (at i s r ∷ past)) (same_count i s past r 0 quiet before);
-        seats = seats;
+        places = places;
         notes = notes;
       };
       keeps = tt;
     }
 
-pass_first_fits : (s : State) (i : ℕ) (past : List Moment) (trip : Trip) → times_counted past ≡ 0
-    → Fits s i (call_of trip) past (record {
+pass_first_fits : (s : State) (i : ℕ) (past : List Moment) (passage : Passage) → times_counted past ≡ 0
+    → Fits s i (call_of passage) past (record {
       kind = Look;
       tier = 0;
       next = cond (word_at s.words 0).ended Idle
-          (cond (eqb (looked (word_at s.words 0) (view_at s.views i)).arrived (view_at s.views i).size) Idle (Passing trip));
+          (cond (eqb (looked (word_at s.words 0) (view_at s.views i)).arrived (view_at s.views i).size) Idle (Passing passage));
       answer = cond (word_at s.words 0).ended (end_shown (word_at s.words 0))
           (cond (eqb (looked (word_at s.words 0) (view_at s.views i)).arrived (view_at s.views i).size)
           (AlreadyArrived (looked (word_at s.words 0) (view_at s.views i)).phase) GoesOn);
     })
-pass_first_fits s i past trip before =
+pass_first_fits s i past passage before =
     let w : Fields = word_at s.words 0 in
     let v : View = view_at s.views i in
-    let c : Call = call_of trip in
+    let c : Call = call_of passage in
     let all : Bool = eqb (looked w v).arrived v.size in
     let make : Progress → Played → Turn = λ next answer. record { kind = Look; tier = 0; next = next; answer = answer } in
-    by_test (λ b. Fits s i c past (make (cond b Idle (cond all Idle (Passing trip)))
+    by_test (λ b. Fits s i c past (make (cond b Idle (cond all Idle (Passing passage)))
     (cond b (end_shown w) (cond all (AlreadyArrived (looked w v).phase) GoesOn)))) w.ended
-    (λ _. over_fits s i c past Look 0 (end_shown w) refl before (λ _ e. e) (seats_pass trip (end_shown w) (looked w v)) tt)
-    (λ _. by_test (λ b. Fits s i c past (make (cond b Idle (Passing trip)) (cond b (AlreadyArrived (looked w v).phase) GoesOn))) all
+    (λ _. over_fits s i c past Look 0 (end_shown w) refl before (λ _ e. e) (places_pass passage (end_shown w) (looked w v)) tt)
+    (λ _. by_test (λ b. Fits s i c past (make (cond b Idle (Passing passage)) (cond b (AlreadyArrived (looked w v).phase) GoesOn))) all
     (λ _. over_fits s i c past Look 0 (AlreadyArrived (looked w v).phase) refl before (λ _ e. e)
-    (seats_pass trip (AlreadyArrived (looked w v).phase) (looked w v)) tt)
-    (λ _. let n = same_count i s past (make (Passing trip) GoesOn) 0 refl before in
-    record { says = goes_on_once s i c past (make (Passing trip) GoesOn) refl (omega arith); keeps = (refl, n) }))
+    (places_pass passage (AlreadyArrived (looked w v).phase) (looked w v)) tt)
+    (λ _. let n = same_count i s past (make (Passing passage) GoesOn) 0 refl before in
+    record { says = goes_on_once s i c past (make (Passing passage) GoesOn) refl (omega arith); keeps = (refl, n) }))
 
 polled_counts : (has_moved : Bool) (phase times : ℕ) → times ≡ 0 → CountsAs call.Poll (polled has_moved phase) times
 polled_counts true phase times e = e
@@ -330,26 +330,26 @@ first_fits s i past call.Poll before fits = poll_first_fits s i past before
 first_fits s i past call.Force before fits = over_fits s i call.Force past Force 0 (end_shown (word_at s.words 0)) refl before (λ _ e. e) tt tt
 
 -- a party passes a tier: the own step counts, and a step of a climb has counted
-pass_fits : (s : State) (i : ℕ) (c : Call) (past : List Moment) (own : Trip) (t : ℕ) (trip : Trip) (kind : Kind) (here : Progress) (over : Played)
-    → (known : (j : Trip) × (c ≡ call_of j))
+pass_fits : (s : State) (i : ℕ) (c : Call) (past : List Moment) (own : Passage) (t : ℕ) (passage : Passage) (kind : Kind) (here : Progress) (over : Played)
+    → (known : (j : Passage) × (c ≡ call_of j))
     → Fits s i c past (last_look over)
     → Fits s i c past (record { kind = Refresh; tier = t; next = here; answer = GoesOn })
     → ((next : Progress) (a : Played) → times_counted (at i s (record { kind = kind; tier = t; next = next; answer = a }) ∷ past) ≡ 1)
-    → Fits s i c past (pass_turn s.parents own t trip kind here over (word_at s.words t) (view_at s.views i))
-pass_fits s i c past own t trip kind here over known at_end waits once =
+    → Fits s i c past (pass_turn s.parents own t passage kind here over (word_at s.words t) (view_at s.views i))
+pass_fits s i c past own t passage kind here over known at_end waits once =
     let w : Fields = word_at s.words t in
     let v : View = view_at s.views i in
     let v' : View = stepped_view s.parents s.words kind t (view_at s.views i) in
-    let parties : ℕ = (passed t trip (word_at s.words t)).parties in
+    let parties : ℕ = (passed t passage (word_at s.words t)).parties in
     let goes : Errand → Turn = λ e. record { kind = kind; tier = t; next = goes_on own e; answer = told v.phase parties e } in
     let wait : Turn = record { kind = Refresh; tier = t; next = here; answer = GoesOn } in
-    by_turn (Fits s i c past) w.ended (last_look over) (cond (lags w v) wait (goes (owed (parent_of s.parents t) t trip w))) (λ _. at_end)
-    (λ _. by_turn (Fits s i c past) (lags w v) wait (goes (owed (parent_of s.parents t) t trip w)) (λ _. waits)
-    (λ _. owed_is (λ x. Fits s i c past (goes x)) (parent_of s.parents t) t trip w
+    by_turn (Fits s i c past) w.ended (last_look over) (cond (lags w v) wait (goes (owed (parent_of s.parents t) t passage w))) (λ _. at_end)
+    (λ _. by_turn (Fits s i c past) (lags w v) wait (goes (owed (parent_of s.parents t) t passage w)) (λ _. waits)
+    (λ _. owed_is (λ x. Fits s i c past (goes x)) (parent_of s.parents t) t passage w
     (record {
       says = record {
         counts = once Idle (Done v.phase) ∙ sym (ap counts_when_done known.1 ∙ done_once known.0);
-        seats = subst (λ (x : Call). Seats x (Done v.phase) v') (sym known.1) (seats_pass known.0 (Done v.phase) v');
+        places = subst (λ (x : Call). Places x (Done v.phase) v') (sym known.1) (places_pass known.0 (Done v.phase) v');
         notes = tt;
       };
       keeps = tt;
@@ -357,7 +357,7 @@ pass_fits s i c past own t trip kind here over known at_end waits once =
     (λ _. record {
       says = record {
         counts = once (Due own) (MustAdvance v.phase parties);
-        seats = subst (λ (x : Call). Seats x (MustAdvance v.phase parties) v') (sym known.1) (seats_pass known.0 (MustAdvance v.phase parties) v');
+        places = subst (λ (x : Call). Places x (MustAdvance v.phase parties) v') (sym known.1) (places_pass known.0 (MustAdvance v.phase parties) v');
         notes = tt;
       };
       keeps = (known, once (Due own) (MustAdvance v.phase parties));
@@ -367,7 +367,7 @@ pass_fits s i c past own t trip kind here over known at_end waits once =
       keeps = (known, n);
     })))
 
-own_counts : (trip : Trip) → is_counting (own_kind trip) ≡ true
+own_counts : (passage : Passage) → is_counting (own_kind passage) ≡ true
 own_counts Arrival = refl
 own_counts Departure = refl
 
@@ -386,27 +386,27 @@ turn_fits s i c past (ToSeek tier size) active fits keeps =
 turn_fits s i c past Settling active fits keeps =
     let v : View = view_at s.views i in
     let r : Turn = settle_turn s.parents v (Opening fits.0 (suc fits.1) Joined fits.2) in
-    let seat : IsSeated keeps.1.0 keeps.1.1 v.phase v = keeps.1.3 in
+    let place : IsPlaced keeps.1.0 keeps.1.1 v.phase v = keeps.1.3 in
     subst (λ (x : Call). Fits s i x past (settle_turn s.parents v v.errand)) (sym keeps.1.2)
     (subst (λ (e : Errand). Fits s i (call.Join keeps.1.0 keeps.1.1) past (settle_turn s.parents v e)) (sym fits.3)
     (joined_fits s i past keeps.1.0 keeps.1.1 r fits.1 v.phase refl refl (same_count i s past r 1 refl keeps.0)
-    (record { tier = seat.tier; size = seat.size; phase = refl; arrived = seat.arrived })))
+    (record { tier = place.tier; size = place.size; phase = refl; arrived = place.arrived })))
 turn_fits s i c past (ToGiveBack a) active fits keeps =
     let v : View = view_at s.views i in
     let r : Turn = give_back_turn s.parents a (Opening fits.0 (suc fits.1) GoingBack fits.2) in
     subst (λ (e : Errand). Fits s i c past (give_back_turn s.parents a e)) (sym fits.3)
     (refused_fits s i c past r fits.1 a fits.4 refl refl (same_count i s past r 0 refl keeps.0) keeps.1
     (notes_later a v (stepped_view s.parents s.words r.kind r.tier v) (at i s r) past refl keeps.2))
-turn_fits s i c past (Passing trip) active fits keeps =
+turn_fits s i c past (Passing passage) active fits keeps =
     let v : View = view_at s.views i in
-    let wait : Turn = record { kind = Refresh; tier = v.tier; next = Passing trip; answer = GoesOn } in
+    let wait : Turn = record { kind = Refresh; tier = v.tier; next = Passing passage; answer = GoesOn } in
     let n = same_count i s past wait 0 refl keeps.1 in
     let a : Played = end_shown (word_at s.words v.tier) in
-    pass_fits s i c past trip v.tier trip (own_kind trip) (Passing trip) (end_shown (word_at s.words v.tier)) (trip, keeps.0)
+    pass_fits s i c past passage v.tier passage (own_kind passage) (Passing passage) (end_shown (word_at s.words v.tier)) (passage, keeps.0)
     (over_fits s i c past Look 0 (end_shown (word_at s.words v.tier)) refl keeps.1 (λ _ e. e)
-    (subst (λ (x : Call). Seats x a (looked (word_at s.words 0) v)) (sym keeps.0) (seats_pass trip a (looked (word_at s.words 0) v))) tt)
+    (subst (λ (x : Call). Places x a (looked (word_at s.words 0) v)) (sym keeps.0) (places_pass passage a (looked (word_at s.words 0) v))) tt)
     (record { says = goes_on_once s i c past wait refl (omega arith); keeps = (keeps.0, n) })
-    (λ next b. one_count i s past (record { kind = own_kind trip; tier = v.tier; next = next; answer = b }) (own_counts trip) keeps.1)
+    (λ next b. one_count i s past (record { kind = own_kind passage; tier = v.tier; next = next; answer = b }) (own_counts passage) keeps.1)
 turn_fits s i c past (Owing own) active fits keeps =
     let v : View = view_at s.views i in
     let t : ℕ = fits.0 in
@@ -419,7 +419,7 @@ turn_fits s i c past (Owing own) active fits keeps =
     (record {
       says = record {
         counts = m ∙ sym (ap counts_when_done keeps.0.1 ∙ done_once keeps.0.0);
-        seats = subst (λ (x : Call). Seats x (Done v.phase) v0) (sym keeps.0.1) (seats_pass keeps.0.0 (Done v.phase) v0);
+        places = subst (λ (x : Call). Places x (Done v.phase) v0) (sym keeps.0.1) (places_pass keeps.0.0 (Done v.phase) v0);
         notes = tt;
       };
       keeps = tt;
@@ -449,7 +449,7 @@ last_fits s i c past ends (Begun d) due keeps = not_both false due refl
 last_fits s i c past ends (ToSeek tier size) due keeps = not_both false due refl
 last_fits s i c past ends Settling due keeps = not_both false due refl
 last_fits s i c past ends (ToGiveBack answer) due keeps = not_both false due refl
-last_fits s i c past ends (Passing trip) due keeps = not_both false due refl
+last_fits s i c past ends (Passing passage) due keeps = not_both false due refl
 last_fits s i c past ends (Owing own) due keeps = not_both false due refl
 last_fits s i c past ends (Due own) due keeps =
     let r : Turn = finish_at s i ends in
@@ -459,7 +459,7 @@ last_fits s i c past ends (Due own) due keeps =
       says = record {
         counts = same_count i s past (finish_at s i ends) 1 (finish_quiet ends (word_at s.words 0).ended) keeps.1
             ∙ sym (ap counts_when_done keeps.0.1 ∙ done_once keeps.0.0);
-        seats = subst (λ (x : Call). Seats x (Done phase) v') (sym keeps.0.1) (seats_pass keeps.0.0 (Done phase) v');
+        places = subst (λ (x : Call). Places x (Done phase) v') (sym keeps.0.1) (places_pass keeps.0.0 (Done phase) v');
         notes = tt;
       };
       keeps = tt;
@@ -526,16 +526,16 @@ calls_count_once s i c events core is may are own =
     counts_alike c (moments i events (begun s i c) (flat_of s) []) (imaged i events (begun s i c) []) (images s i c events core is may are)
     (latest_counts i c (imaged i events (begun s i c) []) (says s i c events core is may are own))
 
-latest_seats : (i tier size : ℕ) (ms ns : List Moment) → Alikes ms ns → LatestSays i (call.Join tier size) ns → LatestSeats i tier size ms
-latest_seats i tier size [] [] h t = tt
-latest_seats i tier size [] (n ∷ ns) h t = absurd h
-latest_seats i tier size (m ∷ ms) [] h t = absurd h
-latest_seats i tier size (m ∷ ms) (n ∷ ns) h t =
-    carried (λ (x : Moment). SeatsAs tier size x.turn.answer (view_after_turn i x)) m n h.0 t.seats
+latest_places : (i tier size : ℕ) (ms ns : List Moment) → Alikes ms ns → LatestSays i (call.Join tier size) ns → LatestPlaces i tier size ms
+latest_places i tier size [] [] h t = tt
+latest_places i tier size [] (n ∷ ns) h t = absurd h
+latest_places i tier size (m ∷ ms) [] h t = absurd h
+latest_places i tier size (m ∷ ms) (n ∷ ns) h t =
+    carried (λ (x : Moment). PlacesAs tier size x.turn.answer (view_after_turn i x)) m n h.0 t.places
 
-pub joins_seat_where_asked : JoinsSeatWhereAsked
-joins_seat_where_asked s i tier size events core is may are own =
-    latest_seats i tier size (moments i events (begun s i (call.Join tier size)) (flat_of s) []) (imaged i events (begun s i (call.Join tier size)) [])
+pub joins_place_where_asked : JoinsPlaceWhereAsked
+joins_place_where_asked s i tier size events core is may are own =
+    latest_places i tier size (moments i events (begun s i (call.Join tier size)) (flat_of s) []) (imaged i events (begun s i (call.Join tier size)) [])
     (images s i (call.Join tier size) events core is may are) (says s i (call.Join tier size) events core is may are own)
 
 noted : (v : View) → Tells_ (IsNotedAt v) (IsNotedAt v)

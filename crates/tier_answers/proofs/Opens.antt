@@ -12,7 +12,7 @@ use Rattle.tier_shape.specs.Paths.{IsTiers}
 use Rattle.tier_steps.specs.declared.view.View.{View}
 use Rattle.tier_steps.specs.declared.view.Errand.{Errand}
 use Rattle.tier_steps.specs.declared.view.Errand.TheVariants.{Rest, Opening}
-use Rattle.tier_steps.specs.declared.view.Stage.TheVariants.{Seeking, Joined}
+use Rattle.tier_steps.specs.declared.view.OpeningStage.TheVariants.{Seeking, Joined}
 use Rattle.tier_steps.specs.declared.kind.Kind.TheVariants.{Look, Refuse, Join, Claim, Settle}
 use Rattle.tier_steps.specs.View.{new_view, ancestor, claims_on, errand_claims, claim_share}
 use Rattle.tier_steps.specs.Word.{is_being_opened, joined}
@@ -38,7 +38,7 @@ use Rattle.tier_core.proofs.Turns.{by_test, not_both}
 use Rattle.tier_core.proofs.Runs.{begun_core}
 use Rattle.tier_answers.specs.Frame.{flat_of}
 use Rattle.tier_answers.specs.Moments.{Moment, Takes, run_of, moments, AreEvents}
-use Rattle.tier_answers.specs.Calls.{IsSeated, moves_root}
+use Rattle.tier_answers.specs.Calls.{IsPlaced, moves_root}
 use Rattle.tier_answers.specs.Fresh.{IsFreshWord, join_alone, last_answer, IsJoined, JoinsAreDoneAlone, NewTreesAreFresh, NewTokensKeepItFresh, AwaitedTiersWait}
 use Rattle.tier_answers.proofs.Framing.{others_stay}
 use Rattle.tier_answers.proofs.Holding.{split, fits_at, awaited_late, parties_are_few}
@@ -83,7 +83,7 @@ idle_is (Begun c) h = absurd (h refl)
 idle_is (ToSeek tier size) h = absurd (h refl)
 idle_is Settling h = absurd (h refl)
 idle_is (ToGiveBack answer) h = absurd (h refl)
-idle_is (Passing trip) h = absurd (h refl)
+idle_is (Passing passage) h = absurd (h refl)
 idle_is (Owing own) h = absurd (h refl)
 idle_is (Due own) h = absurd (h refl)
 idle_is (Refreshing has_moved) h = absurd (h refl)
@@ -98,21 +98,21 @@ added_some (suc k) size h = omega arith
 
 -- how far such a join has come
 abbrev Stands : ℕ → ℕ → ℕ → List Moment → Progress → View → Type 0
-Stands tier size now ms Idle v = IsSeated tier size now v × (last_answer ms ≡ Some (Done now))
+Stands tier size now ms Idle v = IsPlaced tier size now v × (last_answer ms ≡ Some (Done now))
 Stands tier size now ms (Begun c) v = c ≡ call.Join tier size
 Stands tier size now ms (ToSeek there many) v = (there ≡ tier) × (many ≡ size)
-Stands tier size now ms Settling v = IsSeated tier size now v
+Stands tier size now ms Settling v = IsPlaced tier size now v
 Stands tier size now ms (ToGiveBack answer) v = ⊥
-Stands tier size now ms (Passing trip) v = ⊥
+Stands tier size now ms (Passing passage) v = ⊥
 Stands tier size now ms (Owing own) v = ⊥
 Stands tier size now ms (Due own) v = ⊥
 Stands tier size now ms (Refreshing has_moved) v = ⊥
 
 -- a token that has its members settles the tiers that are left, or is done
-seated_by : (k tier size now : ℕ) (ms : List Moment) (v : View) {p : ℕ} → IsSeated tier size now v → last_answer ms ≡ Some (unless_claimed k (Done p)) → p ≡ now
+placed_by : (k tier size now : ℕ) (ms : List Moment) (v : View) {p : ℕ} → IsPlaced tier size now v → last_answer ms ≡ Some (unless_claimed k (Done p)) → p ≡ now
     → Stands tier size now ms (settling k) v
-seated_by zero tier size now ms v seated answer here = (seated, answer ∙ ap (λ n. Some (Done n)) here)
-seated_by (suc k) tier size now ms v seated answer here = seated
+placed_by zero tier size now ms v placed answer here = (placed, answer ∙ ap (λ n. Some (Done n)) here)
+placed_by (suc k) tier size now ms v placed answer here = placed
 
 abbrev NearlyFresh : ℕ → Fields → Type 0
 NearlyFresh now w = IsFreshWord now w ⊎ (is_being_opened w ≡ true)
@@ -191,12 +191,12 @@ opening_is tier (suc k) size = refl
 not_opened : (old s : State) (i tier size k : ℕ) (ms : List Moment) → Joining old s i tier size ms
     → (view_at s.views i).errand ≡ opening tier k Seeking size → tier < length s.parents → ancestor s.parents tier k < length s.words
     → is_being_opened (word_at s.words (ancestor s.parents tier k)) ≡ false
-not_opened old s i tier size k ms is errand seat within =
+not_opened old s i tier size k ms is errand place within =
     let t : ℕ = ancestor s.parents tier k in
     ⊎_elim
     (λ (z : ancestor s.parents tier k ≡ 0). ap (λ n. is_being_opened (word_at s.words n)) z ∙ is.core.tally.root_claims)
     (λ (n : ancestor s.parents tier k ≢ 0).
-    let none : claims_on s.parents tier k t ≡ 0 = unclaimed s.parents tier k k is.core.shape seat (omega arith) (omega arith) in
+    let none : claims_on s.parents tier k t ≡ 0 = unclaimed s.parents tier k k is.core.shape place (omega arith) (omega arith) in
     let own : claim_share s.parents t (view_at s.views i) ≡ 0 = ap (errand_claims s.parents t) errand ∙ own_claims s.parents tier k size t none in
     let zero_sum : sum_by (claim_share s.parents t) s.views ≡ 0 = sum_zero (claim_share s.parents t) s.views
     (all_from (λ v. claim_share s.parents t v ≡ 0) (new_view 0) s.views (λ j h. ⊎_elim
@@ -256,8 +256,8 @@ seek_goes old s i tier size k ms is e q =
     let now : ℕ = root_phase old.words in
     let fits = fitting s i (ToSeek tier size) is.core is.known e in
     let errand : (view_at s.views i).errand ≡ opening tier k Seeking size = fits.0 ∙ ap (λ n. opening tier n Seeking size) (sym q) in
-    let within : t < length s.words = subst (λ (n : ℕ). t < n) (sym is.core.tally.long) (ancestor_within s.parents tier k is.core.shape fits.1.seat) in
-    let plain = not_opened old s i tier size k ms is errand fits.1.seat within in
+    let within : t < length s.words = subst (λ (n : ℕ). t < n) (sym is.core.tally.long) (ancestor_within s.parents tier k is.core.shape fits.1.place) in
+    let plain = not_opened old s i tier size k ms is errand fits.1.place within in
     let room = room_at old s i tier size k t ms is errand fits.1.none within in
     let fresh : IsFreshWord now w = ⊎_elim (λ (f : IsFreshWord now w). f) (λ (o : is_being_opened w ≡ true). not_both (is_being_opened w) o plain)
     (is.words t within) in
@@ -282,27 +282,27 @@ seek_goes old s i tier size k ms is e q =
     let here : w.phase ≡ now = joined_phase s t (added k size) is.core within g.may.needs.1 ∙ is.phase in
     goes old s i tier size ms join is g refl
     (inl (joined_fresh now (added k size) w (added_some k size is.some) here fresh))
-    (seated_by k tier size now (own_imaged i s (Go i) ++ ms) (stepped_view s.parents s.words (Join tier k size) t v)
+    (placed_by k tier size now (own_imaged i s (Go i) ++ ms) (stepped_view s.parents s.words (Join tier k size) t v)
     (record { tier = refl; size = refl; phase = here; arrived = refl })
     (answer_is s i ms join g) here))))
 
 -- a step that settles a claimed tier
 settle_goes : (old s : State) (i tier size there k many : ℕ) (ms : List Moment) → Joining old s i tier size ms
-    → (view_at s.views i).errand ≡ Opening there (suc k) Joined many → IsSeated tier size (root_phase old.words) (view_at s.views i)
+    → (view_at s.views i).errand ≡ Opening there (suc k) Joined many → IsPlaced tier size (root_phase old.words) (view_at s.views i)
     → Gone s i (settle_turn s.parents (view_at s.views i) (Opening there (suc k) Joined many))
     → Joining old (after s (Go i)) i tier size (own_imaged i s (Go i) ++ ms)
-settle_goes old s i tier size there k many ms is q seated g =
+settle_goes old s i tier size there k many ms is q placed g =
     let v : View = view_at s.views i in
     let now : ℕ = root_phase old.words in
     let r : Turn = settle_turn s.parents v (Opening there (suc k) Joined many) in
     let fit : ErrandFits s.parents (root_phase s.words) (view_at s.views i) (Opening there (suc k) Joined many) =
     subst (λ (x : Errand). ErrandFits s.parents (root_phase s.words) (view_at s.views i) x) q (fits_at s i is.core is.known).errand in
     goes old s i tier size ms (settle_turn s.parents (view_at s.views i) (Opening there (suc k) Joined many)) is g refl
-    (inl (inr (added_some k many fit.0.some, refl, seated.phase)))
-    (seated_by k tier size now (own_imaged i s (Go i) ++ ms)
+    (inl (inr (added_some k many fit.0.some, refl, placed.phase)))
+    (placed_by k tier size now (own_imaged i s (Go i) ++ ms)
     (stepped_view s.parents s.words (Settle there k many) (ancestor s.parents there k) (view_at s.views i))
-    (record { tier = seated.tier; size = seated.size; phase = seated.phase; arrived = seated.arrived })
-    (answer_is s i ms (settle_turn s.parents (view_at s.views i) (Opening there (suc k) Joined many)) g) seated.phase)
+    (record { tier = placed.tier; size = placed.size; phase = placed.phase; arrived = placed.arrived })
+    (answer_is s i ms (settle_turn s.parents (view_at s.views i) (Opening there (suc k) Joined many)) g) placed.phase)
 
 -- the look
 look_goes : (old s : State) (i tier size : ℕ) (ms : List Moment) → Joining old s i tier size ms → call_at s.calls i ≡ Begun (call.Join tier size)
@@ -344,7 +344,7 @@ step_goes old s i tier size ms Settling is e going stands =
           (subst (λ (x : Errand). Gone s i (settle_turn s.parents (view_at s.views i) x)) fits.3 (gone s i Settling is.core is.known e refl)),
     )
 step_goes old s i tier size ms (ToGiveBack answer) is e going stands = absurd stands
-step_goes old s i tier size ms (Passing trip) is e going stands = absurd stands
+step_goes old s i tier size ms (Passing passage) is e going stands = absurd stands
 step_goes old s i tier size ms (Owing own) is e going stands = absurd stands
 step_goes old s i tier size ms (Due own) is e going stands = absurd stands
 step_goes old s i tier size ms (Refreshing has_moved) is e going stands = absurd stands
@@ -371,7 +371,7 @@ over old s i tier size ms is e =
       };
       core = is.core;
       phase = is.phase;
-      seated = stands.0;
+      placed = stands.0;
       tokens = is.tokens;
       others = is.others;
       sizes = is.sizes ∙ ap (λ n. sum_by (λ (v : View). v.size) old.views + n) stands.0.size;
@@ -412,10 +412,10 @@ runs_out (suc n) old s i tier size ms is left = ⊎_elim
 -- the join begins
 may_join : (s : State) (i tier size : ℕ) → i < length s.views → call_at s.calls i ≡ Idle → (view_at s.views i).size ≡ 0 → tier < length s.parents
     → may_begin s i (call.Join tier size) ≡ true
-may_join s i tier size h idle none seat =
+may_join s i tier size h idle none place =
     ap (λ b. b && (is_idle (call_at s.calls i) && (ltb tier (length s.parents) && eqb (view_at s.views i).size 0))) (lt-ltb i (length s.views) h)
     ∙ (ap (λ p. is_idle p && (ltb tier (length s.parents) && eqb (view_at s.views i).size 0)) idle
-    ∙ (ap (λ b. b && eqb (view_at s.views i).size 0) (lt-ltb tier (length s.parents) seat) ∙ eq-eqb (view_at s.views i).size 0 none))
+    ∙ (ap (λ b. b && eqb (view_at s.views i).size 0) (lt-ltb tier (length s.parents) place) ∙ eq-eqb (view_at s.views i).size 0 none))
 
 goes_are_events : (n i : ℕ) → AreEvents (replicate n (Takes (Go i)))
 goes_are_events zero i = tt
@@ -433,16 +433,16 @@ joined_alike old new i tier size ms ns h is = record {
   fresh = is.fresh;
   core = is.core;
   phase = is.phase;
-  seated = is.seated;
+  placed = is.placed;
   tokens = is.tokens;
   others = is.others;
   sizes = is.sizes;
 }
 
 pub joins_are_done_alone : JoinsAreDoneAlone
-joins_are_done_alone s i tier size tiers core fresh h none seat some room =
+joins_are_done_alone s i tier size tiers core fresh h none place some room =
     let c : Call = call.Join tier size in
-    let may = may_join s i tier size h (fresh.idle i h) none seat in
+    let may = may_join s i tier size h (fresh.idle i h) none place in
     let here : after s (Begin i (call.Join tier size)) ≡ begun s i (call.Join tier size) = ap (λ b. cond b (begun s i (call.Join tier size)) s) may in
     let call_is : call_at (begun s i (call.Join tier size)).calls i ≡ Begun (call.Join tier size) =
     get_or-set_same s.calls i (Begun (call.Join tier size)) Idle (let l = core.long in omega arith) in

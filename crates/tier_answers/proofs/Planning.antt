@@ -11,8 +11,8 @@ use Rattle.tier_steps.specs.View.{new_view}
 use Rattle.tier_steps.specs.declared.view.View.{View}
 use Rattle.tier_steps.specs.declared.view.Errand.{Errand}
 use Rattle.tier_steps.specs.declared.view.Errand.TheVariants.{Rest, Opening, Climbing, Advancing}
-use Rattle.tier_steps.specs.declared.view.Stage.{Stage}
-use Rattle.tier_steps.specs.declared.view.Stage.TheVariants.{Seeking, Joined, GoingBack}
+use Rattle.tier_steps.specs.declared.view.OpeningStage.{OpeningStage}
+use Rattle.tier_steps.specs.declared.view.OpeningStage.TheVariants.{Seeking, Joined, GoingBack}
 use Rattle.tier_steps.specs.declared.kind.Kind.{Kind}
 use Rattle.tier_steps.specs.declared.kind.Kind.TheVariants.{Look, Glance, Refuse, Join, Arrive, Leave, Advance, Force, Claim, Settle, SettleBack, Climb, Refresh}
 use Rattle.tier_steps.specs.Tally.{word_at}
@@ -50,7 +50,7 @@ advancing s i r ends may e =
     subst (λ (k : Kind). Needs s.parents k r.tier (word_at s.words r.tier) (view_at s.views i)) e may.needs in n.1.errand
 
 -- a call that goes on by a step of its own doesn't owe the advance
-opens : (tier claimed size : ℕ) (stage : Stage) → opening tier claimed stage size ≢ Advancing
+opens : (tier claimed size : ℕ) (stage : OpeningStage) → opening tier claimed stage size ≢ Advancing
 opens tier zero size stage e = absurd (let a : Rest ≡ Advancing = e in cc)
 opens tier (suc claimed) size stage e = absurd (let a : Opening tier (suc claimed) stage size ≡ Advancing = e in cc)
 
@@ -63,7 +63,7 @@ active_owes ps (Begun c) v e fits = rests v.errand fits.0
 active_owes ps (ToSeek tier size) v e fits = λ q. opens tier (claimed_by v.errand) size Seeking (sym fits.0 ∙ q)
 active_owes ps Settling v e fits = λ q. absurd (let a : Opening fits.0 (suc fits.1) Joined fits.2 ≡ Advancing = sym fits.3 ∙ q in cc)
 active_owes ps (ToGiveBack answer) v e fits = λ q. absurd (let a : Opening fits.0 (suc fits.1) GoingBack fits.2 ≡ Advancing = sym fits.3 ∙ q in cc)
-active_owes ps (Passing trip) v e fits = rests v.errand fits.0
+active_owes ps (Passing passage) v e fits = rests v.errand fits.0
 active_owes ps (Owing own) v e fits = λ q. absurd (let a : Climbing fits.0 fits.1 ≡ Advancing = sym fits.2 ∙ q in cc)
 active_owes ps (Due own) v e fits = not_both false e refl
 active_owes ps (Refreshing has_moved) v e fits = rests v.errand fits.0
@@ -89,7 +89,7 @@ kind_of i Force ends e = absurd (let a : Some flat.Force ≡ Some (flat.Advance 
 kind_of i (Claim tier claimed size) ends e = absurd (let a : None ≡ Some (flat.Advance ends) = e in cc)
 kind_of i (Settle tier claimed size) ends e = absurd (let a : None ≡ Some (flat.Advance ends) = e in cc)
 kind_of i (SettleBack tier claimed size) ends e = absurd (let a : None ≡ Some (flat.Advance ends) = e in cc)
-kind_of i (Climb trip) ends e = absurd (let a : None ≡ Some (flat.Advance ends) = e in cc)
+kind_of i (Climb passage) ends e = absurd (let a : None ≡ Some (flat.Advance ends) = e in cc)
 kind_of i Refresh ends e = absurd (let a : None ≡ Some (flat.Advance ends) = e in cc)
 
 -- two numbers that are 0 together

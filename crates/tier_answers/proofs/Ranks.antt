@@ -8,10 +8,10 @@ use Rattle.phaser_word.specs.Fields.{Fields}
 use Rattle.tier_steps.specs.declared.view.View.{View}
 use Rattle.tier_steps.specs.declared.view.Errand.{Errand}
 use Rattle.tier_steps.specs.declared.view.Errand.TheVariants.{Rest, Opening, Climbing, Advancing}
-use Rattle.tier_steps.specs.declared.view.Stage.{Stage}
-use Rattle.tier_steps.specs.declared.view.Stage.TheVariants.{Seeking, Joined, GoingBack}
-use Rattle.tier_steps.specs.declared.view.Trip.{Trip}
-use Rattle.tier_steps.specs.declared.view.Trip.TheVariants.{Arrival, Departure}
+use Rattle.tier_steps.specs.declared.view.OpeningStage.{OpeningStage}
+use Rattle.tier_steps.specs.declared.view.OpeningStage.TheVariants.{Seeking, Joined, GoingBack}
+use Rattle.tier_steps.specs.declared.view.Passage.{Passage}
+use Rattle.tier_steps.specs.declared.view.Passage.TheVariants.{Arrival, Departure}
 use Rattle.tier_steps.specs.declared.kind.Kind.{Kind}
 use Rattle.tier_steps.specs.declared.kind.Kind.TheVariants.{Look, Glance, Refuse, Join, Arrive, Leave, Advance, Force, Claim, Settle, SettleBack, Climb, Refresh}
 use Rattle.tier_shape.specs.Parents.{parent_of}
@@ -68,7 +68,7 @@ pub record SeeksWithin (ps : List ℕ) (tier claimed n : ℕ) : Type 0 where
 abbrev pub climbs_to : Errand → ℕ
 climbs_to Rest = 0
 climbs_to Advancing = 0
-climbs_to (Climbing t trip) = t
+climbs_to (Climbing t passage) = t
 climbs_to (Opening tier claimed stage size) = 0
 
 -- a call takes at most so many further steps
@@ -78,7 +78,7 @@ Within ps ws (Begun c) v n = most_steps c ≤ n
 Within ps ws (ToSeek tier size) v n = SeeksWithin ps tier (claimed_by v.errand) n
 Within ps ws Settling v n = claimed_by v.errand ≤ n
 Within ps ws (ToGiveBack answer) v n = claimed_by v.errand ≤ n
-Within ps ws (Passing trip) v n = ClimbsWithin ps ws v.phase v.tier n
+Within ps ws (Passing passage) v n = ClimbsWithin ps ws v.phase v.tier n
 Within ps ws (Owing own) v n = ClimbsWithin ps ws v.phase (climbs_to v.errand) n
 Within ps ws (Due own) v n = 1 ≤ n
 Within ps ws (Refreshing has_moved) v n = 1 ≤ n
@@ -157,7 +157,7 @@ some_left ps ws (Begun c) v n going fits left = let a = some_step c in omega ari
 some_left ps ws (ToSeek tier size) v n going fits left = let a = left.left in let b = left.reached in omega arith
 some_left ps ws Settling v n going fits left = let a : claimed_by v.errand ≡ suc fits.1 = ap claimed_by fits.3 in omega arith
 some_left ps ws (ToGiveBack answer) v n going fits left = let a : claimed_by v.errand ≡ suc fits.1 = ap claimed_by fits.3 in omega arith
-some_left ps ws (Passing trip) v n going fits left =
+some_left ps ws (Passing passage) v n going fits left =
     let a = climb_some left.levels ps ws v.phase v.tier in let b = left.left in omega arith
 some_left ps ws (Owing own) v n going fits left =
     let a = climb_some left.levels ps ws v.phase (climbs_to v.errand) in let b = left.left in omega arith
@@ -169,7 +169,7 @@ abbrev pub Lowers : State → ℕ → ℕ → Turn → Type 0
 Lowers s i n r = MayPlay s i r
     → Within s.parents (words_after s.words r.kind r.tier (view_at s.views i)) r.next (stepped_view s.parents s.words r.kind r.tier (view_at s.views i)) (n - 1)
 
-claims_kept : (tier k size : ℕ) (stage : Stage) → claimed_by (opening tier k stage size) ≡ k
+claims_kept : (tier k size : ℕ) (stage : OpeningStage) → claimed_by (opening tier k stage size) ≡ k
 claims_kept tier zero size stage = refl
 claims_kept tier (suc k) size stage = refl
 
@@ -252,12 +252,12 @@ give_back_lowers s i n tier k size a q left =
     (stepped_view s.parents s.words (SettleBack tier k size) (ancestor s.parents tier k) v) (claims_kept tier k size GoingBack) (omega arith))
 
 -- The step that passes a tier: it leaves the phases of all tiers and the token's, and what the token owes by the word before.
-pub record Steps (s : State) (i t : ℕ) (trip : Trip) (kind : Kind) : Type 0 where
+pub record Steps (s : State) (i t : ℕ) (passage : Passage) (kind : Kind) : Type 0 where
   pub within : t < length s.words
   pub current : (view_at s.views i).phase ≡ root_phase s.words
   pub word : (word_after kind t (word_at s.words t) (view_at s.views i)).phase ≡ (word_at s.words t).phase
   pub phase : (stepped_view s.parents s.words kind t (view_at s.views i)).phase ≡ (view_at s.views i).phase
-  pub errand : (stepped_view s.parents s.words kind t (view_at s.views i)).errand ≡ owed (parent_of s.parents t) t trip (word_at s.words t)
+  pub errand : (stepped_view s.parents s.words kind t (view_at s.views i)).errand ≡ owed (parent_of s.parents t) t passage (word_at s.words t)
 
 kept_phases : (ws : List Fields) (t : ℕ) (w : Fields) (phase : ℕ) → t < length ws → w.phase ≡ (word_at ws t).phase → NoneFallsBehind phase ws (set ws t w)
 kept_phases ws t w phase h e u k = ⊎_elim
@@ -273,19 +273,19 @@ above_it ps ws phase t n zero below root left = absurd (omega arith)
 above_it ps ws phase t n (suc levels) below root left = (levels, root, left)
 
 -- a party passes a tier, or the tier is refreshed first, or the tree has ended
-pass_lowers : (s : State) (i n : ℕ) (own : Trip) (t : ℕ) (trip : Trip) (kind : Kind) (here : Progress) (over : Played) → Steps s i t trip kind
+pass_lowers : (s : State) (i n : ℕ) (own : Passage) (t : ℕ) (passage : Passage) (kind : Kind) (here : Progress) (over : Played) → Steps s i t passage kind
     → ClimbsWithin s.parents s.words (view_at s.views i).phase t n
     → ((ws : List Fields) (m : ℕ) → ClimbsWithin s.parents ws (view_at s.views i).phase t m → Within s.parents ws here (view_at s.views i) m)
-    → Lowers s i n (pass_turn s.parents own t trip kind here over (word_at s.words t) (view_at s.views i))
-pass_lowers s i n own t trip kind here over is left stays =
+    → Lowers s i n (pass_turn s.parents own t passage kind here over (word_at s.words t) (view_at s.views i))
+pass_lowers s i n own t passage kind here over is left stays =
     let w : Fields = word_at s.words t in
     let v : View = view_at s.views i in
-    let parties : ℕ = (passed t trip (word_at s.words t)).parties in
+    let parties : ℕ = (passed t passage (word_at s.words t)).parties in
     let goes : Errand → Turn = λ e. record { kind = kind; tier = t; next = goes_on own e; answer = told v.phase parties e } in
     let wait : Turn = record { kind = Refresh; tier = t; next = here; answer = GoesOn } in
-    by_turn (Lowers s i n) w.ended (last_look over) (cond (lags w v) wait (goes (owed (parent_of s.parents t) t trip w)))
+    by_turn (Lowers s i n) w.ended (last_look over) (cond (lags w v) wait (goes (owed (parent_of s.parents t) t passage w)))
     (λ _ _. tt)
-    (λ going. by_turn (Lowers s i n) (lags w v) wait (goes (owed (parent_of s.parents t) t trip w))
+    (λ going. by_turn (Lowers s i n) (lags w v) wait (goes (owed (parent_of s.parents t) t passage w))
     (λ e may.
     let other : (word_at s.words t).phase ≢ (view_at s.views i).phase = may.needs.behind in
     let below : t ≢ 0 = λ z. other (ap (λ m. (word_at s.words m).phase) z ∙ sym is.current) in
@@ -297,7 +297,7 @@ pass_lowers s i n own t trip kind here over is left stays =
     let fewer = climb_less up.0 s.parents s.words (words_after s.words Refresh t v) v.phase (parent_of s.parents t)
     (written s.words t w' v.phase is.within refl) in
     stays (words_after s.words Refresh t v) (n - 1) record { levels = suc up.0; root = up.1; left = (let a = up.2 in omega arith) })
-    (λ e. owed_is (λ x. owed (parent_of s.parents t) t trip w ≡ x → Lowers s i n (goes x)) (parent_of s.parents t) t trip w
+    (λ e. owed_is (λ x. owed (parent_of s.parents t) t passage w ≡ x → Lowers s i n (goes x)) (parent_of s.parents t) t passage w
     (λ _ _. tt)
     (λ _ _ _. (let a = climb_some left.levels s.parents s.words v.phase t in let b = left.left in omega arith))
     (λ j below owes _.
@@ -314,8 +314,8 @@ pass_lowers s i n own t trip kind here over is left stays =
       left = (let a = up.2 in omega arith);
     })) refl))
 
-own_steps : (s : State) (i : ℕ) (trip : Trip) → (view_at s.views i).tier < length s.words → (view_at s.views i).phase ≡ root_phase s.words
-    → Steps s i (view_at s.views i).tier trip (own_kind trip)
+own_steps : (s : State) (i : ℕ) (passage : Passage) → (view_at s.views i).tier < length s.words → (view_at s.views i).phase ≡ root_phase s.words
+    → Steps s i (view_at s.views i).tier passage (own_kind passage)
 own_steps s i Arrival within current = record {
   within = within;
   current = current;
@@ -332,13 +332,13 @@ own_steps s i Departure within current = record {
 }
 
 -- the first step of a call
-first_pass : (s : State) (i n : ℕ) (trip : Trip) (answer : Played) (b c : Bool) → IsTiers s.parents → (view_at s.views i).tier < length s.parents → 15 ≤ n
-    → Lowers s i n record { kind = Look; tier = 0; next = cond b Idle (cond c Idle (Passing trip)); answer = answer }
-first_pass s i n trip answer true c tiers seat left = λ _. tt
-first_pass s i n trip answer false true tiers seat left = λ _. tt
-first_pass s i n trip answer false false tiers seat left = λ _.
+first_pass : (s : State) (i n : ℕ) (passage : Passage) (answer : Played) (b c : Bool) → IsTiers s.parents → (view_at s.views i).tier < length s.parents → 15 ≤ n
+    → Lowers s i n record { kind = Look; tier = 0; next = cond b Idle (cond c Idle (Passing passage)); answer = answer }
+first_pass s i n passage answer true c tiers place left = λ _. tt
+first_pass s i n passage answer false true tiers place left = λ _. tt
+first_pass s i n passage answer false false tiers place left = λ _.
     let v' : View = looked (word_at s.words 0) (view_at s.views i) in
-    let deep = shallow s.parents (view_at s.views i).tier tiers seat in
+    let deep = shallow s.parents (view_at s.views i).tier tiers place in
     let most = climb_most deep.0 s.parents (words_after s.words Look 0 (view_at s.views i)) v'.phase v'.tier in
     record {
       levels = deep.0;
@@ -354,20 +354,20 @@ first_poll s i n answer false false true e left = λ _. (let a = left in omega a
 first_poll s i n answer false false false e left = λ _. tt
 
 seeks_first : (ps : List ℕ) (tier n : ℕ) (e : Errand) → IsTiers ps → tier < length ps → 14 ≤ n → e ≡ Rest → SeeksWithin ps tier (claimed_by e) (n - 1)
-seeks_first ps tier n e tiers seat left q =
-    let deep = shallow ps tier tiers seat in
+seeks_first ps tier n e tiers place left q =
+    let deep = shallow ps tier tiers place in
     let none : claimed_by e ≡ 0 = ap claimed_by q in
     record { levels = deep.0; root = deep.2; reached = omega arith; left = (let a = deep.1 in omega arith) }
 
 first_join : (s : State) (i n tier size : ℕ) (answer : Played) (b c : Bool) → IsTiers s.parents → tier < length s.parents
     → (view_at s.views i).errand ≡ Rest → 14 ≤ n
     → Lowers s i n record { kind = cond b Look (cond c (Refuse 0 0 size) Look); tier = 0; next = cond b Idle (ToSeek tier size); answer = answer }
-first_join s i n tier size answer true c tiers seat rest left = λ _. tt
-first_join s i n tier size answer false true tiers seat rest left = λ _.
-    seeks_first s.parents tier n (refused 0 (word_at s.words 0) (view_at s.views i)).errand tiers seat left
+first_join s i n tier size answer true c tiers place rest left = λ _. tt
+first_join s i n tier size answer false true tiers place rest left = λ _.
+    seeks_first s.parents tier n (refused 0 (word_at s.words 0) (view_at s.views i)).errand tiers place left
     (ap given_up (looked_rests (word_at s.words 0) (view_at s.views i) rest))
-first_join s i n tier size answer false false tiers seat rest left = λ _.
-    seeks_first s.parents tier n (looked (word_at s.words 0) (view_at s.views i)).errand tiers seat left
+first_join s i n tier size answer false false tiers place rest left = λ _.
+    seeks_first s.parents tier n (looked (word_at s.words 0) (view_at s.views i)).errand tiers place left
     (looked_rests (word_at s.words 0) (view_at s.views i) rest)
 
 -- each step of a call takes one of those that are left
@@ -378,17 +378,17 @@ turn_lowers s i n Idle tiers core h active fits left = not_both false active ref
 turn_lowers s i n (Due own) tiers core h active fits left = not_both false active refl
 turn_lowers s i n (Begun (call.Join tier size)) tiers core h active fits left =
     let w : Fields = word_at s.words 0 in
-    first_join s i n tier size (cond w.ended (end_shown w) GoesOn) w.ended (eqb tier 0 && is_refusing size w) tiers fits.1.seat fits.0 left
+    first_join s i n tier size (cond w.ended (end_shown w) GoesOn) w.ended (eqb tier 0 && is_refusing size w) tiers fits.1.place fits.0 left
 turn_lowers s i n (Begun call.Arrive) tiers core h active fits left =
     let w : Fields = word_at s.words 0 in
     let v : View = view_at s.views i in
     first_pass s i n Arrival (turn s.parents s.words (Begun call.Arrive) v).answer w.ended (eqb (looked w v).arrived v.size) tiers
-    ((fits_at s i core h).seated fits.1) left
+    ((fits_at s i core h).placed fits.1) left
 turn_lowers s i n (Begun call.Leave) tiers core h active fits left =
     let w : Fields = word_at s.words 0 in
     let v : View = view_at s.views i in
     first_pass s i n Departure (turn s.parents s.words (Begun call.Leave) v).answer w.ended (eqb (looked w v).arrived v.size) tiers
-    ((fits_at s i core h).seated fits.1) left
+    ((fits_at s i core h).placed fits.1) left
 turn_lowers s i n (Begun call.Poll) tiers core h active fits left =
     let w : Fields = word_at s.words 0 in
     let v : View = view_at s.views i in
@@ -398,17 +398,17 @@ turn_lowers s i n (Begun call.Force) tiers core h active fits left = λ _. tt
 turn_lowers s i n (ToSeek tier size) tiers core h active fits left =
     let k : ℕ = claimed_by (view_at s.views i).errand in
     seek_lowers s i n tier k size (ancestor s.parents tier k) core
-    (subst (λ (m : ℕ). ancestor s.parents tier k < m) (sym core.tally.long) (ancestor_within s.parents tier k core.shape fits.1.seat))
-    (record { here = refl; errand = fits.0; none = fits.1.none; some = fits.1.some; few = fits.1.few; seat = fits.1.seat }) left
+    (subst (λ (m : ℕ). ancestor s.parents tier k < m) (sym core.tally.long) (ancestor_within s.parents tier k core.shape fits.1.place))
+    (record { here = refl; errand = fits.0; none = fits.1.none; some = fits.1.some; few = fits.1.few; place = fits.1.place }) left
 turn_lowers s i n Settling tiers core h active fits left = settle_lowers s i n fits.0 fits.1 fits.2 fits.3 left
 turn_lowers s i n (ToGiveBack answer) tiers core h active fits left = give_back_lowers s i n fits.0 fits.1 fits.2 answer fits.3 left
-turn_lowers s i n (Passing trip) tiers core h active fits left =
+turn_lowers s i n (Passing passage) tiers core h active fits left =
     let v : View = view_at s.views i in
     let fit = fits_at s i core h in
     let some : (view_at s.views i).arrived < (view_at s.views i).size = fits.1 in
     let current = unarrived_is_current s.parents (root_phase s.words) (word_at s.words 0).ended (view_at s.views i) fit fits.1 in
-    let within : v.tier < length s.words = subst (λ (m : ℕ). v.tier < m) (sym core.tally.long) (fit.seated (omega arith)) in
-    pass_lowers s i n trip v.tier trip (own_kind trip) (Passing trip) (end_shown (word_at s.words v.tier)) (own_steps s i trip within current) left
+    let within : v.tier < length s.words = subst (λ (m : ℕ). v.tier < m) (sym core.tally.long) (fit.placed (omega arith)) in
+    pass_lowers s i n passage v.tier passage (own_kind passage) (Passing passage) (end_shown (word_at s.words v.tier)) (own_steps s i passage within current) left
     (λ ws m is. is)
 turn_lowers s i n (Owing own) tiers core h active fits left =
     let v : View = view_at s.views i in
@@ -442,7 +442,7 @@ kind_owes s j Force t needs e = not_both false e refl
 kind_owes s j (Claim tier claimed size) t needs e = not_both false e refl
 kind_owes s j (Settle tier claimed size) t needs e = not_both false e refl
 kind_owes s j (SettleBack tier claimed size) t needs e = not_both false e refl
-kind_owes s j (Climb trip) t needs e = not_both false e refl
+kind_owes s j (Climb passage) t needs e = not_both false e refl
 kind_owes s j Refresh t needs e = not_both false e refl
 
 no_advance : (s : State) (j : ℕ) (r : Turn) → IsCore s → j < length s.views → MayPlay s j r
@@ -479,7 +479,7 @@ left_stays s i j n (Begun c) r core h k may fits left = left
 left_stays s i j n (ToSeek tier size) r core h k may fits left = left
 left_stays s i j n Settling r core h k may fits left = left
 left_stays s i j n (ToGiveBack answer) r core h k may fits left = left
-left_stays s i j n (Passing trip) r core h k may fits left =
+left_stays s i j n (Passing passage) r core h k may fits left =
     let v : View = view_at s.views i in
     let current = unarrived_is_current s.parents (root_phase s.words) (word_at s.words 0).ended (view_at s.views i) (fits_at s i core h) fits.1 in
     climbs_still s.parents s.words (words_after s.words r.kind r.tier (view_at s.views j)) v.phase v.tier n

@@ -10,7 +10,7 @@ use Rattle.tier_steps.specs.Word.{is_being_opened}
 use Rattle.tier_steps.specs.declared.view.View.{View}
 use Rattle.tier_steps.specs.declared.view.Errand.{Errand}
 use Rattle.tier_steps.specs.declared.view.Errand.TheVariants.{Opening}
-use Rattle.tier_steps.specs.declared.view.Stage.TheVariants.{Seeking, Joined, GoingBack}
+use Rattle.tier_steps.specs.declared.view.OpeningStage.TheVariants.{Seeking, Joined, GoingBack}
 use Rattle.tier_steps.specs.declared.kind.Kind.TheVariants.{Look, Refuse, Join, Claim}
 use Rattle.tier_shape.specs.Parents.{IsShape, parent_of}
 use Rattle.tier_steps.specs.View.{new_view, ancestor, claims_on, errand_claims, claim_share}
@@ -105,7 +105,7 @@ opened_by s i tier k size t core h due within e =
     (ap (λ n. is_being_opened (word_at s.words n)) (sym z) ∙ e) core.tally.root_claims in
     let one : sum_by (claim_share s.parents t) s.views ≡ 1 = sym (core.tally.claims t within) ∙ ap bit e in
     let none : claims_on s.parents tier k t ≡ 0 = subst (λ (n : ℕ). claims_on s.parents tier k n ≡ 0) (sym due.here)
-    (unclaimed s.parents tier k k core.shape due.seat (omega arith) (subst (λ (n : ℕ). 0 < n) due.here (omega arith))) in
+    (unclaimed s.parents tier k k core.shape due.place (omega arith) (subst (λ (n : ℕ). 0 < n) due.here (omega arith))) in
     let own : claim_share s.parents t (view_at s.views i) ≡ 0 = ap (errand_claims s.parents t) due.errand ∙ own_claims s.parents tier k size t none in
     let other = elsewhere (claim_share s.parents t) s.views i h (omega arith) in
     record { other = other.0; another = other.1; known = other.2; claims = other.3 }

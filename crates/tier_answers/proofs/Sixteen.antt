@@ -11,10 +11,10 @@ use Rattle.tier_steps.specs.Word.{is_being_opened}
 use Rattle.tier_steps.specs.declared.view.View.{View}
 use Rattle.tier_steps.specs.declared.view.Errand.{Errand}
 use Rattle.tier_steps.specs.declared.view.Errand.TheVariants.{Opening, Climbing}
-use Rattle.tier_steps.specs.declared.view.Stage.{Stage}
-use Rattle.tier_steps.specs.declared.view.Stage.TheVariants.{Seeking, Joined, GoingBack}
-use Rattle.tier_steps.specs.declared.view.Trip.{Trip}
-use Rattle.tier_steps.specs.declared.view.Trip.TheVariants.{Arrival, Departure}
+use Rattle.tier_steps.specs.declared.view.OpeningStage.{OpeningStage}
+use Rattle.tier_steps.specs.declared.view.OpeningStage.TheVariants.{Seeking, Joined, GoingBack}
+use Rattle.tier_steps.specs.declared.view.Passage.{Passage}
+use Rattle.tier_steps.specs.declared.view.Passage.TheVariants.{Arrival, Departure}
 use Rattle.tier_steps.specs.declared.kind.Kind.{Kind}
 use Rattle.tier_steps.specs.declared.kind.Kind.TheVariants.{Look, Refuse, Join, Claim, Climb, Refresh}
 use Rattle.tier_steps.specs.View.{new_view, ancestor, only_at, claims_on, errand_claims, claim_share}
@@ -77,14 +77,14 @@ polled_last : (has_moved : Bool) (phase : ℕ) → is_last (polled has_moved pha
 polled_last true phase = refl
 polled_last false phase = refl
 
-pass_first : (trip : Trip) (root : Fields) (v : View)
-    → Further (cond root.ended Idle (cond (eqb (looked root v).arrived v.size) Idle (Passing trip)))
+pass_first : (passage : Passage) (root : Fields) (v : View)
+    → Further (cond root.ended Idle (cond (eqb (looked root v).arrived v.size) Idle (Passing passage)))
     (cond root.ended (end_shown root) (cond (eqb (looked root v).arrived v.size) (AlreadyArrived (looked root v).phase) GoesOn))
-pass_first trip root v =
+pass_first passage root v =
     let all : Bool = eqb (looked root v).arrived v.size in
-    further_if root.ended Idle (cond all Idle (Passing trip)) (end_shown root) (cond all (AlreadyArrived (looked root v).phase) GoesOn)
+    further_if root.ended Idle (cond all Idle (Passing passage)) (end_shown root) (cond all (AlreadyArrived (looked root v).phase) GoesOn)
     (answers Idle (end_shown root) refl)
-    (further_if all Idle (Passing trip) (AlreadyArrived (looked root v).phase) GoesOn (answers Idle (AlreadyArrived (looked root v).phase) refl) (λ _. refl))
+    (further_if all Idle (Passing passage) (AlreadyArrived (looked root v).phase) GoesOn (answers Idle (AlreadyArrived (looked root v).phase) refl) (λ _. refl))
 
 first_further : (c : Call) (root own : Fields) (v : View) → Further (first_turn c root own v).next (first_turn c root own v).answer
 first_further (call.Join tier size) root own v =
@@ -118,15 +118,15 @@ seek_further tier k size t w v =
     (λ _. backs_further k a (refusal_is t (added k size) (refused t w v).phase w))
     (λ _. by_turn TurnFurther (is_claimable t w) claim join (λ _ _. refl) (λ _. settles_further k w.phase)))
 
-pass_further : (ps : List ℕ) (own : Trip) (t : ℕ) (trip : Trip) (kind : Kind) (here : Progress) (over : Played) (w : Fields) (v : View)
-    → is_last over ≡ true → is_idle here ≡ false → TurnFurther (pass_turn ps own t trip kind here over w v)
-pass_further ps own t trip kind here over w v last going =
-    let parties : ℕ = (passed t trip w).parties in
+pass_further : (ps : List ℕ) (own : Passage) (t : ℕ) (passage : Passage) (kind : Kind) (here : Progress) (over : Played) (w : Fields) (v : View)
+    → is_last over ≡ true → is_idle here ≡ false → TurnFurther (pass_turn ps own t passage kind here over w v)
+pass_further ps own t passage kind here over w v last going =
+    let parties : ℕ = (passed t passage w).parties in
     let goes : Errand → Turn = λ e. record { kind = kind; tier = t; next = goes_on own e; answer = told v.phase parties e } in
     let wait : Turn = record { kind = Refresh; tier = t; next = here; answer = GoesOn } in
-    by_turn TurnFurther w.ended (last_look over) (cond (lags w v) wait (goes (owed (parent_of ps t) t trip w))) (λ _. answers Idle over last)
-    (λ _. by_turn TurnFurther (lags w v) wait (goes (owed (parent_of ps t) t trip w)) (λ _ _. going)
-    (λ _. owed_is (λ e. TurnFurther (goes e)) (parent_of ps t) t trip w (answers Idle (Done v.phase) refl) (λ _ _. refl) (λ _ _ _. refl)))
+    by_turn TurnFurther w.ended (last_look over) (cond (lags w v) wait (goes (owed (parent_of ps t) t passage w))) (λ _. answers Idle over last)
+    (λ _. by_turn TurnFurther (lags w v) wait (goes (owed (parent_of ps t) t passage w)) (λ _ _. going)
+    (λ _. owed_is (λ e. TurnFurther (goes e)) (parent_of ps t) t passage w (answers Idle (Done v.phase) refl) (λ _ _. refl) (λ _ _ _. refl)))
 
 goes_further : (ps : List ℕ) (ws : List Fields) (p : Progress) (v : View) → is_active p ≡ true → CallFits ps p v → TurnFurther (turn ps ws p v)
 goes_further ps ws Idle v active fits = not_both false active refl
@@ -136,8 +136,8 @@ goes_further ps ws (ToSeek tier size) v active fits =
     seek_further tier (claimed_by v.errand) size (ancestor ps tier (claimed_by v.errand)) (word_at ws (ancestor ps tier (claimed_by v.errand))) v
 goes_further ps ws Settling v active fits = subst (λ (e : Errand). TurnFurther (settle_turn ps v e)) (sym fits.3) (settles_further fits.1 v.phase)
 goes_further ps ws (ToGiveBack a) v active fits = subst (λ (e : Errand). TurnFurther (give_back_turn ps a e)) (sym fits.3) (backs_further fits.1 a fits.4)
-goes_further ps ws (Passing trip) v active fits =
-    pass_further ps trip v.tier trip (own_kind trip) (Passing trip) (end_shown (word_at ws v.tier)) (word_at ws v.tier) v refl refl
+goes_further ps ws (Passing passage) v active fits =
+    pass_further ps passage v.tier passage (own_kind passage) (Passing passage) (end_shown (word_at ws v.tier)) (word_at ws v.tier) v refl refl
 goes_further ps ws (Owing own) v active fits =
     subst (λ (e : Errand). TurnFurther (climb_turn ps own (word_at ws (errand_place ps e)) v e)) (sym fits.2)
     (pass_further ps own fits.0 fits.1 (Climb fits.1) (Owing own) (Done v.phase) (word_at ws fits.0) v refl refl)
@@ -154,7 +154,7 @@ claims_at ps tier (suc n) levels h root = ⊎_elim
     (λ (d : levels ≢ n). let a = claims_at ps tier n levels (omega arith) root in omega arith)
     (cases_eq levels n)
 
-few_claims : (s : State) (i tier claimed size levels : ℕ) (stage : Stage) → IsCore s → i < length s.views
+few_claims : (s : State) (i tier claimed size levels : ℕ) (stage : OpeningStage) → IsCore s → i < length s.views
     → (view_at s.views i).errand ≡ Opening tier claimed stage size → ancestor s.parents tier levels ≡ 0 → claimed ≤ levels
 few_claims s i tier claimed size levels stage core h owes root = ⊎_elim
     (λ (less : levels < claimed). absurd (
@@ -178,7 +178,7 @@ within_sixteen : (s : State) (i : ℕ) (p : Progress) → IsTiers s.parents → 
 within_sixteen s i Idle tiers core h fits = tt
 within_sixteen s i (Begun c) tiers core h fits = most c
 within_sixteen s i (ToSeek tier size) tiers core h fits =
-    let up = shallow s.parents tier tiers fits.1.seat in
+    let up = shallow s.parents tier tiers fits.1.place in
     let few = up.1 in
     record {
       levels = up.0;
@@ -189,21 +189,21 @@ within_sixteen s i (ToSeek tier size) tiers core h fits =
 within_sixteen s i Settling tiers core h fits =
     let fit : ErrandFits s.parents (root_phase s.words) (view_at s.views i) (Opening fits.0 (suc fits.1) Joined fits.2) =
     subst (λ (x : Errand). ErrandFits s.parents (root_phase s.words) (view_at s.views i) x) fits.3 (fits_at s i core h).errand in
-    let up = shallow s.parents fits.0 tiers fit.0.seat in
+    let up = shallow s.parents fits.0 tiers fit.0.place in
     let few = up.1 in
     let a = few_claims s i fits.0 (suc fits.1) fits.2 up.0 Joined core h fits.3 up.2 in
     let b : claimed_by (view_at s.views i).errand ≡ suc fits.1 = ap claimed_by fits.3 in omega arith
 within_sixteen s i (ToGiveBack a) tiers core h fits =
     let fit : ErrandFits s.parents (root_phase s.words) (view_at s.views i) (Opening fits.0 (suc fits.1) GoingBack fits.2) =
     subst (λ (x : Errand). ErrandFits s.parents (root_phase s.words) (view_at s.views i) x) fits.3 (fits_at s i core h).errand in
-    let up = shallow s.parents fits.0 tiers fit.0.seat in
+    let up = shallow s.parents fits.0 tiers fit.0.place in
     let few = up.1 in
     let c = few_claims s i fits.0 (suc fits.1) fits.2 up.0 GoingBack core h fits.3 up.2 in
     let b : claimed_by (view_at s.views i).errand ≡ suc fits.1 = ap claimed_by fits.3 in omega arith
-within_sixteen s i (Passing trip) tiers core h fits =
+within_sixteen s i (Passing passage) tiers core h fits =
     let v : View = view_at s.views i in
     let some = fits.1 in
-    let up = shallow s.parents v.tier tiers ((fits_at s i core h).seated (omega arith)) in
+    let up = shallow s.parents v.tier tiers ((fits_at s i core h).placed (omega arith)) in
     let few = up.1 in
     let a = climb_most up.0 s.parents s.words v.phase v.tier in
     record { levels = up.0; root = up.2; left = omega arith }
@@ -225,7 +225,7 @@ due_or_active (Begun c) e = inr (refl, refl)
 due_or_active (ToSeek tier size) e = inr (refl, refl)
 due_or_active Settling e = inr (refl, refl)
 due_or_active (ToGiveBack a) e = inr (refl, refl)
-due_or_active (Passing trip) e = inr (refl, refl)
+due_or_active (Passing passage) e = inr (refl, refl)
 due_or_active (Owing own) e = inr (refl, refl)
 due_or_active (Due own) e = inl refl
 due_or_active (Refreshing has_moved) e = inr (refl, refl)

@@ -112,7 +112,7 @@ no_advance i Force e = refl
 no_advance i (Claim tier claimed size) e = refl
 no_advance i (Settle tier claimed size) e = refl
 no_advance i (SettleBack tier claimed size) e = refl
-no_advance i (Climb trip) e = refl
+no_advance i (Climb passage) e = refl
 no_advance i Refresh e = refl
 
 abbrev TiersStay : State → State → Type 0
@@ -340,7 +340,7 @@ poll_by s i (Begun call.Force) core going is e q = not_both false q refl
 poll_by s i (ToSeek tier size) core going is e q = not_both false q refl
 poll_by s i Settling core going is e q = not_both false q refl
 poll_by s i (ToGiveBack answer) core going is e q = not_both false q refl
-poll_by s i (Passing trip) core going is e q = not_both false q refl
+poll_by s i (Passing passage) core going is e q = not_both false q refl
 poll_by s i (Owing own) core going is e q = not_both false q refl
 poll_by s i (Due own) core going is e q = not_both false q refl
 poll_by s i (Refreshing has_moved) core going is e q = poll_second s i has_moved core going is e

@@ -8,8 +8,8 @@ use Rattle.flat_phaser.specs.Flat.{members_of, arrived_of}
 use Rattle.tier_steps.specs.declared.view.View.{View}
 use Rattle.tier_steps.specs.declared.view.Errand.{Errand}
 use Rattle.tier_steps.specs.declared.view.Errand.TheVariants.{Climbing}
-use Rattle.tier_steps.specs.declared.view.Trip.{Trip}
-use Rattle.tier_steps.specs.declared.view.Trip.TheVariants.{Arrival, Departure}
+use Rattle.tier_steps.specs.declared.view.Passage.{Passage}
+use Rattle.tier_steps.specs.declared.view.Passage.TheVariants.{Arrival, Departure}
 use Rattle.tier_steps.specs.declared.kind.Kind.TheVariants.{Look, Refuse, Force, Climb}
 use Rattle.tier_steps.specs.View.{ancestor}
 use Rattle.tier_steps.specs.Tally.{word_at, root_phase, ErrandFits}
@@ -79,23 +79,23 @@ poll_seen s i past r core h is going some e =
     (eqb-false (looked w v).arrived v.size e)
 
 -- the first step of an arrival and of a departure
-pass_first : (s : State) (i : ℕ) (past : List Moment) (trip : Trip) → IsCore s → i < length s.views → call_at s.calls i ≡ Begun (call_of trip)
+pass_first : (s : State) (i : ℕ) (past : List Moment) (passage : Passage) → IsCore s → i < length s.views → call_at s.calls i ≡ Begun (call_of passage)
     → 0 < (view_at s.views i).size
-    → Goal s i (call_of trip) past record {
+    → Goal s i (call_of passage) past record {
       kind = Look;
       tier = 0;
       next = cond (word_at s.words 0).ended Idle
-          (cond (eqb (looked (word_at s.words 0) (view_at s.views i)).arrived (view_at s.views i).size) Idle (Passing trip));
+          (cond (eqb (looked (word_at s.words 0) (view_at s.views i)).arrived (view_at s.views i).size) Idle (Passing passage));
       answer = cond (word_at s.words 0).ended (end_shown (word_at s.words 0))
           (cond (eqb (looked (word_at s.words 0) (view_at s.views i)).arrived (view_at s.views i).size)
           (AlreadyArrived (looked (word_at s.words 0) (view_at s.views i)).phase) GoesOn);
     }
-pass_first s i past trip core h is some =
+pass_first s i past passage core h is some =
     let w : Fields = word_at s.words 0 in
     let v : View = view_at s.views i in
-    let c : Call = call_of trip in
+    let c : Call = call_of passage in
     let make : Progress → Played → Turn = λ next answer. record { kind = Look; tier = 0; next = next; answer = answer } in
-    by_test (λ b. Goal s i c past (make (cond b Idle (cond (eqb (looked w v).arrived v.size) Idle (Passing trip)))
+    by_test (λ b. Goal s i c past (make (cond b Idle (cond (eqb (looked w v).arrived v.size) Idle (Passing passage)))
     (cond b (end_shown w) (cond (eqb (looked w v).arrived v.size) (AlreadyArrived (looked w v).phase) GoesOn)))) w.ended
     (λ e may. record {
       told = record {
@@ -104,7 +104,7 @@ pass_first s i past trip core h is some =
       };
       keeps = tt;
     })
-    (λ going. by_test (λ b. Goal s i c past (make (cond b Idle (Passing trip)) (cond b (AlreadyArrived (looked w v).phase) GoesOn)))
+    (λ going. by_test (λ b. Goal s i c past (make (cond b Idle (Passing passage)) (cond b (AlreadyArrived (looked w v).phase) GoesOn)))
     (eqb (looked w v).arrived v.size)
     (λ e may. let f = first_all w v going some e in
     record {
@@ -218,21 +218,21 @@ turn_tells s i c past (ToSeek tier size) core h is active fits knows =
     let k : ℕ = claimed_by v.errand in
     subst (λ (x : Call). Goal s i x past (turn s.parents s.words (ToSeek tier size) v)) (sym knows.0)
     (seek_tells s i past tier (claimed_by (view_at s.views i).errand) size (ancestor s.parents tier (claimed_by (view_at s.views i).errand)) core h
-    (record { here = refl; errand = fits.0; none = fits.1.none; some = fits.1.some; few = fits.1.few; seat = fits.1.seat })
+    (record { here = refl; errand = fits.0; none = fits.1.none; some = fits.1.some; few = fits.1.few; place = fits.1.place })
     (subst (λ (n : ℕ). ancestor s.parents tier (claimed_by (view_at s.views i).errand) < n) (sym core.tally.long)
-    (ancestor_within s.parents tier (claimed_by (view_at s.views i).errand) core.shape fits.1.seat))
+    (ancestor_within s.parents tier (claimed_by (view_at s.views i).errand) core.shape fits.1.place))
     knows.1)
 turn_tells s i c past Settling core h is active fits knows = settle_tells s i c past fits.0 fits.1 fits.2 fits.3 knows
 turn_tells s i c past (ToGiveBack answer) core h is active fits knows = give_back_tells s i c past fits.0 fits.1 fits.2 answer fits.3 knows
-turn_tells s i c past (Passing trip) core h is active fits knows =
+turn_tells s i c past (Passing passage) core h is active fits knows =
     let v : View = view_at s.views i in
     let fit = fits_at s i core h in
     let some : (view_at s.views i).arrived < (view_at s.views i).size = fits.1 in
     let current = unarrived_is_current s.parents (root_phase s.words) (word_at s.words 0).ended (view_at s.views i) fit fits.1 in
-    let within : v.tier < length s.words = subst (λ (n : ℕ). v.tier < n) (sym core.tally.long) (fit.seated (omega arith)) in
-    subst (λ (x : Call). Goal s i x past (turn s.parents s.words (Passing trip) v)) (sym knows)
-    (pass_tells s i (call_of trip) past trip v.tier trip (own_kind trip) (Passing trip) (end_shown (word_at s.words v.tier)) core
-    (own_passer s i past trip h within current)
+    let within : v.tier < length s.words = subst (λ (n : ℕ). v.tier < n) (sym core.tally.long) (fit.placed (omega arith)) in
+    subst (λ (x : Call). Goal s i x past (turn s.parents s.words (Passing passage) v)) (sym knows)
+    (pass_tells s i (call_of passage) past passage v.tier passage (own_kind passage) (Passing passage) (end_shown (word_at s.words v.tier)) core
+    (own_passer s i past passage h within current)
     (λ e r may. any_here (HasEnded i (shown_of (word_at s.words v.tier).phase true)) (at i s r) past (ended_there s i v.tier r core h may within e))
     (λ m. refl) refl)
 turn_tells s i c past (Owing own) core h is active fits knows =
@@ -267,7 +267,7 @@ last_tells s i c past ends (Begun d) due knows = not_both false due refl
 last_tells s i c past ends (ToSeek tier size) due knows = not_both false due refl
 last_tells s i c past ends Settling due knows = not_both false due refl
 last_tells s i c past ends (ToGiveBack answer) due knows = not_both false due refl
-last_tells s i c past ends (Passing trip) due knows = not_both false due refl
+last_tells s i c past ends (Passing passage) due knows = not_both false due refl
 last_tells s i c past ends (Owing own) due knows = not_both false due refl
 last_tells s i c past ends (Due own) due knows = record {
   told = record { tells = done_later i c (view_at s.views i).phase (at i s (finish_at s i ends)) past knows; ends = λ _. refl };

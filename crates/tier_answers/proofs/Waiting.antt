@@ -5,8 +5,8 @@ use Rattle.std.proofs.lemmas.List.{get_or-set_same, get_or-set_other}
 use Rattle.phaser_word.specs.Fields.{Fields}
 use Rattle.tier_steps.specs.Word.{is_being_opened}
 use Rattle.tier_steps.specs.declared.view.Errand.TheVariants.{Opening, Advancing}
-use Rattle.tier_steps.specs.declared.view.Stage.{Stage}
-use Rattle.tier_steps.specs.declared.view.Stage.TheVariants.{Joined, GoingBack}
+use Rattle.tier_steps.specs.declared.view.OpeningStage.{OpeningStage}
+use Rattle.tier_steps.specs.declared.view.OpeningStage.TheVariants.{Joined, GoingBack}
 use Rattle.tier_steps.specs.declared.kind.Kind.{Kind}
 use Rattle.tier_steps.specs.declared.kind.Kind.TheVariants.{Look, Glance, Refuse, Join, Arrive, Leave, Advance, Force, Claim, Settle, SettleBack, Climb, Refresh}
 use Rattle.tier_steps.specs.View.{ancestor, claims_on, errand_claims, claim_share, errand_advances, advance_share}
@@ -49,7 +49,7 @@ field_zero s i core h owes going =
     (let a = part s advance_share i h in let b = core.tally.advances going in omega arith)
 
 -- nobody has claimed the root
-unclaimed_root : (s : State) (j : ℕ) (tier claimed size : ℕ) (stage : Stage) → IsCore s → j < length s.views → 0 ≡ ancestor s.parents tier claimed
+unclaimed_root : (s : State) (j : ℕ) (tier claimed size : ℕ) (stage : OpeningStage) → IsCore s → j < length s.views → 0 ≡ ancestor s.parents tier claimed
     → (view_at s.views j).errand ≡ Opening tier (suc claimed) stage size → {A : Type 0} → A
 unclaimed_root s j tier claimed size stage core h here owes = absurd (
     let a : claim_share s.parents 0 (view_at s.views j) ≡ claims_on s.parents tier (suc claimed) 0 = ap (errand_claims s.parents 0) owes in
@@ -91,7 +91,7 @@ by_kind s i j Force core h owes k n needs = record { phase = refl; parties = ref
 by_kind s i j (Claim tier claimed size) core h owes k n needs = absurd (let a = needs.1.below in omega arith)
 by_kind s i j (Settle tier claimed size) core h owes k n needs = unclaimed_root s j tier claimed size Joined core k needs.0 needs.1
 by_kind s i j (SettleBack tier claimed size) core h owes k n needs = unclaimed_root s j tier claimed size GoingBack core k needs.0 needs.1
-by_kind s i j (Climb trip) core h owes k n needs =
+by_kind s i j (Climb passage) core h owes k n needs =
     never s i j core h owes k n needs.going
     (λ still. not_both (is_under_way (view_at s.views j).errand) (ap is_under_way needs.errand) still.errand)
 by_kind s i j Refresh core h owes k n needs =

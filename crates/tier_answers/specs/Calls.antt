@@ -4,8 +4,8 @@ use Rattle.flat_phaser.specs.declared.FlatStep.{FlatStep}
 use Rattle.flat_phaser.specs.declared.FlatStep.TheVariants as flat
 use Rattle.tier_steps.specs.declared.view.View.{View}
 use Rattle.tier_steps.specs.declared.view.Errand.TheVariants.{Rest, Climbing, Advancing}
-use Rattle.tier_steps.specs.declared.view.Trip.{Trip}
-use Rattle.tier_steps.specs.declared.view.Trip.TheVariants.{Arrival, Departure}
+use Rattle.tier_steps.specs.declared.view.Passage.{Passage}
+use Rattle.tier_steps.specs.declared.view.Passage.TheVariants.{Arrival, Departure}
 use Rattle.tier_steps.specs.Tally.{word_at}
 use Rattle.tier_steps.specs.Image.{label}
 use Rattle.tier_core.specs.declared.call.Call.{Call}
@@ -79,7 +79,7 @@ is_poll (Begun call.Force) = false
 is_poll (ToSeek tier size) = false
 is_poll Settling = false
 is_poll (ToGiveBack answer) = false
-is_poll (Passing trip) = false
+is_poll (Passing passage) = false
 is_poll (Owing own) = false
 is_poll (Due own) = false
 is_poll (Refreshing moved) = true
@@ -89,7 +89,7 @@ PollsFollowTheRoot =
     (s : State) (token : ℕ) → IsCore s → (flat_of s).ended ≡ false → IsAwaited s token → is_poll (call_at s.calls token) ≡ true → IsPollStep s token
 
 -- The first step of an arrival or a departure, by a token that has a member unarrived in the root's phase, changes no members.
-abbrev pub call_by : Trip → Call
+abbrev pub call_by : Passage → Call
 call_by Arrival = call.Arrive
 call_by Departure = call.Leave
 
@@ -101,42 +101,42 @@ pub record IsLookStep (s : State) (token : ℕ) (next : Progress) : Type 0 where
 
 abbrev pub PassesBeginWithALook : Type 0
 PassesBeginWithALook =
-    (s : State) (token : ℕ) (trip : Trip) → IsCore s → (flat_of s).ended ≡ false → IsAwaited s token
-    → (view_at s.views token).phase ≡ (flat_of s).phase → call_at s.calls token ≡ Begun (call_by trip) → IsLookStep s token (Passing trip)
+    (s : State) (token : ℕ) (passage : Passage) → IsCore s → (flat_of s).ended ≡ false → IsAwaited s token
+    → (view_at s.views token).phase ≡ (flat_of s).phase → call_at s.calls token ≡ Begun (call_by passage) → IsLookStep s token (Passing passage)
 
 -- what is owed after a party has passed a tier, and how the call goes on: it is done, it climbs, or it has to advance the root
-abbrev pub GoesAsOwed : State → ℕ → Trip → Type 0
+abbrev pub GoesAsOwed : State → ℕ → Passage → Type 0
 GoesAsOwed s token own =
     let phase : ℕ = (view_at s.views token).phase in
     ((answer_then s token ≡ Done phase) × ((view_then s token).errand ≡ Rest) × (call_then s token ≡ Idle))
-    ⊎ ((answer_then s token ≡ GoesOn) × ((t : ℕ) × (trip : Trip) × ((view_then s token).errand ≡ Climbing t trip)) × (call_then s token ≡ Owing own))
+    ⊎ ((answer_then s token ≡ GoesOn) × ((t : ℕ) × (passage : Passage) × ((view_then s token).errand ≡ Climbing t passage)) × (call_then s token ≡ Owing own))
     ⊎ (((parties : ℕ) × (answer_then s token ≡ MustAdvance phase parties)) × ((view_then s token).errand ≡ Advancing)
     × (call_then s token ≡ Due own))
 
 -- one more member has arrived, or one has left
-abbrev pub Counts : Trip → View → View → Type 0
+abbrev pub Counts : Passage → View → View → Type 0
 Counts Arrival old new = (new.tier ≡ old.tier) × (new.size ≡ old.size) × (new.phase ≡ old.phase) × (new.arrived ≡ old.arrived + 1)
 Counts Departure old new = (new.tier ≡ old.tier) × (new.size + 1 ≡ old.size) × (new.phase ≡ old.phase) × (new.arrived ≡ old.arrived)
 
 -- The own step of an arrival or a departure where the word of the tier is in the root's phase: the member is counted.
-pub record IsOwnStep (s : State) (token : ℕ) (trip : Trip) : Type 0 where
-  pub counts : Counts trip (view_at s.views token) (view_then s token)
-  pub owes : GoesAsOwed s token trip
+pub record IsOwnStep (s : State) (token : ℕ) (passage : Passage) : Type 0 where
+  pub counts : Counts passage (view_at s.views token) (view_then s token)
+  pub owes : GoesAsOwed s token passage
 
 abbrev pub PassesCount : Type 0
 PassesCount =
-    (s : State) (token : ℕ) (trip : Trip) → IsCore s → token < length s.views → (flat_of s).ended ≡ false → call_at s.calls token ≡ Passing trip
-    → (word_at s.words (view_at s.views token).tier).phase ≡ (flat_of s).phase → IsOwnStep s token trip
+    (s : State) (token : ℕ) (passage : Passage) → IsCore s → token < length s.views → (flat_of s).ended ≡ false → call_at s.calls token ≡ Passing passage
+    → (word_at s.words (view_at s.views token).tier).phase ≡ (flat_of s).phase → IsOwnStep s token passage
 
 -- A step of a climb changes no members: the tier is refreshed first, or the climb goes as it is owed. At a root that has ended the call is
 -- done in the phase of its own step.
-pub record IsClimbStep (s : State) (token : ℕ) (own : Trip) : Type 0 where
+pub record IsClimbStep (s : State) (token : ℕ) (own : Passage) : Type 0 where
   pub same : IsSame (view_at s.views token) (view_then s token)
   pub owes : GoesAsOwed s token own
 
 abbrev pub ClimbsKeepMembers : Type 0
 ClimbsKeepMembers =
-    (s : State) (token : ℕ) (own : Trip) → IsCore s → token < length s.views → call_at s.calls token ≡ Owing own → IsClimbStep s token own
+    (s : State) (token : ℕ) (own : Passage) → IsCore s → token < length s.views → call_at s.calls token ≡ Owing own → IsClimbStep s token own
 
 -- The advance changes no members of its token, nor does the look that stands for it where the root has ended.
 pub record IsAdvanceStep (s : State) (token : ℕ) : Type 0 where
@@ -147,10 +147,10 @@ pub record IsAdvanceStep (s : State) (token : ℕ) : Type 0 where
 
 abbrev pub AdvancesKeepMembers : Type 0
 AdvancesKeepMembers =
-    (s : State) (token : ℕ) (own : Trip) → IsCore s → token < length s.views → call_at s.calls token ≡ Due own → IsAdvanceStep s token
+    (s : State) (token : ℕ) (own : Passage) → IsCore s → token < length s.views → call_at s.calls token ≡ Due own → IsAdvanceStep s token
 
 -- so many members at a tier, all unarrived in this phase
-pub record IsSeated (there many now : ℕ) (v : View) : Type 0 where
+pub record IsPlaced (there many now : ℕ) (v : View) : Type 0 where
   pub tier : v.tier ≡ there
   pub size : v.size ≡ many
   pub phase : v.phase ≡ now
@@ -170,15 +170,15 @@ JoinsBeginWithALook =
     → call_at s.calls token ≡ Begun (call.Join tier size) → IsJoinLook s token tier size
 
 -- Its further steps leave it without members until the one that admits them all.
-abbrev pub JoinsSeatAtOnce : Type 0
-JoinsSeatAtOnce =
+abbrev pub JoinsPlaceAtOnce : Type 0
+JoinsPlaceAtOnce =
     (s : State) (token tier size : ℕ) → IsCore s → token < length s.views → call_at s.calls token ≡ ToSeek tier size
     → ((label token (turn_at s token).kind ≡ None) × ((view_then s token).size ≡ 0))
-    ⊎ ((label token (turn_at s token).kind ≡ Some (flat.Join token size)) × IsSeated tier size (flat_of s).phase (view_then s token))
+    ⊎ ((label token (turn_at s token).kind ≡ Some (flat.Join token size)) × IsPlaced tier size (flat_of s).phase (view_then s token))
 
 -- A tier in the root's phase with an unarrived party and room admits them at the first step after the look.
 pub record IsAdmitted (s : State) (token tier size : ℕ) : Type 0 where
-  pub seated : IsSeated tier size (flat_of s).phase (view_then s token)
+  pub placed : IsPlaced tier size (flat_of s).phase (view_then s token)
   pub errand : (view_then s token).errand ≡ Rest
   pub answer : answer_then s token ≡ Done (flat_of s).phase
   pub call : call_then s token ≡ Idle
@@ -196,7 +196,7 @@ is_settling (Begun c) = false
 is_settling (ToSeek tier size) = false
 is_settling Settling = true
 is_settling (ToGiveBack answer) = true
-is_settling (Passing trip) = false
+is_settling (Passing passage) = false
 is_settling (Owing own) = false
 is_settling (Due own) = false
 is_settling (Refreshing moved) = false

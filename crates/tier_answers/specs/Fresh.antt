@@ -13,7 +13,7 @@ use Rattle.tier_core.specs.declared.call.Step.TheVariants.{Begin, Go}
 use Rattle.tier_core.specs.Machine.{State, IsCore, view_at, call_at, opened, with_token}
 use Rattle.tier_answers.specs.Frame.{flat_of}
 use Rattle.tier_answers.specs.Moments.{Moment, Event, Takes, run_of, moments}
-use Rattle.tier_answers.specs.Calls.{IsSeated}
+use Rattle.tier_answers.specs.Calls.{IsPlaced}
 use Rattle.tier_answers.specs.Hold.{IsAwaited}
 
 -- a tier that is empty, or whose parties are all unarrived in this phase
@@ -40,7 +40,7 @@ pub record IsJoined (old new : State) (token tier size : ℕ) (ms : List Moment)
   pub fresh : IsFresh new
   pub core : IsCore new
   pub phase : (flat_of new).phase ≡ (flat_of old).phase
-  pub seated : IsSeated tier size (flat_of old).phase (view_at new.views token)
+  pub placed : IsPlaced tier size (flat_of old).phase (view_at new.views token)
   pub tokens : length new.views ≡ length old.views
   pub others : (other : ℕ) → other ≢ token → view_at new.views other ≡ view_at old.views other
   pub sizes : sum_by (λ v. v.size) new.views ≡ sum_by (λ v. v.size) old.views + size

@@ -1,4 +1,4 @@
--- How often a call counts, where a join seats its members, and what a refused join notes (own).
+-- How often a call counts, where a join places its members, and what a refused join notes (own).
 use Rattle.std.specs.Prelude.{◌≡◌, ℕ, ◌≤◌, Bool, true, false, Some, List, [], ◌∷◌, count_by}
 use Rattle.std.specs.List.{Any}
 use Rattle.tier_steps.specs.declared.kind.Kind.{Kind}
@@ -12,7 +12,7 @@ use Rattle.tier_core.specs.Machine.{State, IsCore, view_at, played}
 use Rattle.tier_core.specs.Run.{may_begin, begun, IsCall}
 use Rattle.tier_answers.specs.Frame.{flat_of}
 use Rattle.tier_answers.specs.Moments.{Moment, Event, moments, AreEvents, AreOfCall}
-use Rattle.tier_answers.specs.Calls.{IsSeated}
+use Rattle.tier_answers.specs.Calls.{IsPlaced}
 use Rattle.tier_answers.specs.Told.{refusing}
 
 -- the steps that register members, or count one that arrives or leaves
@@ -28,7 +28,7 @@ is_counting Force = false
 is_counting (Claim tier claimed size) = false
 is_counting (Settle tier claimed size) = false
 is_counting (SettleBack tier claimed size) = false
-is_counting (Climb trip) = false
+is_counting (Climb passage) = false
 is_counting Refresh = false
 
 abbrev pub times_counted : List Moment → ℕ
@@ -68,26 +68,26 @@ abbrev pub view_after_turn : ℕ → Moment → View
 view_after_turn token m = view_at (played m.state token m.turn).views token
 
 -- A join that is done has its members at the tier that was asked for, unarrived in the phase that it answers.
-abbrev pub SeatsAs : ℕ → ℕ → Played → View → Type 0
-SeatsAs tier size GoesOn v = Unit {0}
-SeatsAs tier size (Done phase) v = IsSeated tier size phase v
-SeatsAs tier size (Passed phase) v = Unit {0}
-SeatsAs tier size Waiting v = Unit {0}
-SeatsAs tier size (Held phase why) v = v.size ≡ 0
-SeatsAs tier size (Full parties) v = v.size ≡ 0
-SeatsAs tier size (AlreadyArrived phase) v = Unit {0}
-SeatsAs tier size (Ended number) v = v.size ≡ 0
-SeatsAs tier size (MustAdvance phase parties) v = Unit {0}
+abbrev pub PlacesAs : ℕ → ℕ → Played → View → Type 0
+PlacesAs tier size GoesOn v = Unit {0}
+PlacesAs tier size (Done phase) v = IsPlaced tier size phase v
+PlacesAs tier size (Passed phase) v = Unit {0}
+PlacesAs tier size Waiting v = Unit {0}
+PlacesAs tier size (Held phase why) v = v.size ≡ 0
+PlacesAs tier size (Full parties) v = v.size ≡ 0
+PlacesAs tier size (AlreadyArrived phase) v = Unit {0}
+PlacesAs tier size (Ended number) v = v.size ≡ 0
+PlacesAs tier size (MustAdvance phase parties) v = Unit {0}
 
-abbrev pub LatestSeats : ℕ → ℕ → ℕ → List Moment → Type 0
-LatestSeats token tier size [] = Unit {0}
-LatestSeats token tier size (m ∷ past) = SeatsAs tier size m.turn.answer (view_after_turn token m)
+abbrev pub LatestPlaces : ℕ → ℕ → ℕ → List Moment → Type 0
+LatestPlaces token tier size [] = Unit {0}
+LatestPlaces token tier size (m ∷ past) = PlacesAs tier size m.turn.answer (view_after_turn token m)
 
-abbrev pub JoinsSeatWhereAsked : Type 0
-JoinsSeatWhereAsked =
+abbrev pub JoinsPlaceWhereAsked : Type 0
+JoinsPlaceWhereAsked =
     (s : State) (token tier size : ℕ) (events : List Event) → IsCore s → IsCall (call.Join tier size)
     → may_begin s token (call.Join tier size) ≡ true → AreEvents events → AreOfCall token events
-    → LatestSeats token tier size (moments token events (begun s token (call.Join tier size)) (flat_of s) [])
+    → LatestPlaces token tier size (moments token events (begun s token (call.Join tier size)) (flat_of s) [])
 
 -- the moment that refused, as the token has noted it: the tier, and the word that it found there
 pub record IsNotedAt (v : View) (m : Moment) : Type 0 where

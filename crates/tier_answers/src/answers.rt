@@ -4,7 +4,7 @@
 ghost use Rattle.tier_answers.specs.Moments.{MomentsAreAnswers, MomentsLookLikeTheTree};
 ghost use Rattle.tier_answers.specs.Told.{AnswersTell};
 ghost use Rattle.tier_answers.specs.Driven.{RunsAnswerAsTheFlatPhaser, NewTreesAdvanceWhenAllArrived};
-ghost use Rattle.tier_answers.specs.Once.{CallsCountOnce, JoinsSeatWhereAsked, RefusalsAreNoted};
+ghost use Rattle.tier_answers.specs.Once.{CallsCountOnce, JoinsPlaceWhereAsked, RefusalsAreNoted};
 ghost use Rattle.tier_answers.specs.Count.{CallsAreShort, SixteenStepsAreEnough};
 ghost use Rattle.tier_answers.specs.Worked.{EachAnswerIsGiven};
 
@@ -45,8 +45,8 @@ pub fn calls_count_once()
 
 /// A join that is done has its members at the tier that was asked for, unarrived in the phase that it
 /// answers; one that is refused, or finds that the tree has ended, leaves its token without members.
-pub fn joins_seat_where_asked()
-    ensures { JoinsSeatWhereAsked }
+pub fn joins_place_where_asked()
+    ensures { JoinsPlaceWhereAsked }
 {}
 
 /// A join that is held off or finds no room has noted the tier and the word that refused it.

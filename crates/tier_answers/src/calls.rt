@@ -3,7 +3,7 @@
 
 ghost use Rattle.tier_answers.specs.Ended.{TokensBeginCalls, EndedTreesTurnCallsAway, ForceEndsTheTree};
 ghost use Rattle.tier_answers.specs.Calls.{OnlyAdvancesMove, PollsFollowTheRoot, PassesBeginWithALook, PassesCount, ClimbsKeepMembers, AdvancesKeepMembers};
-ghost use Rattle.tier_answers.specs.Calls.{JoinsBeginWithALook, JoinsSeatAtOnce, OpenTiersAdmit, SettlingKeepsMembers};
+ghost use Rattle.tier_answers.specs.Calls.{JoinsBeginWithALook, JoinsPlaceAtOnce, OpenTiersAdmit, SettlingKeepsMembers};
 
 /// A token begins a call exactly where it exists, is in no call, and has what the call is for: an arrival, a
 /// departure and a poll want a member, a join wants a token without members and a tier that exists, and
@@ -65,8 +65,8 @@ pub fn joins_begin_with_a_look()
 {}
 
 /// It stays without members until the one step that admits all of them, unarrived in the root's phase.
-pub fn joins_seat_at_once()
-    ensures { JoinsSeatAtOnce }
+pub fn joins_place_at_once()
+    ensures { JoinsPlaceAtOnce }
 {}
 
 /// A tier that has an unarrived party and room admits them at the first step after the look.

@@ -25,7 +25,7 @@ idle_rests ps (Begun c) v e fits = not_both false e refl
 idle_rests ps (ToSeek tier size) v e fits = not_both false e refl
 idle_rests ps Settling v e fits = not_both false e refl
 idle_rests ps (ToGiveBack answer) v e fits = not_both false e refl
-idle_rests ps (Passing trip) v e fits = not_both false e refl
+idle_rests ps (Passing passage) v e fits = not_both false e refl
 idle_rests ps (Owing own) v e fits = not_both false e refl
 idle_rests ps (Due own) v e fits = not_both false e refl
 idle_rests ps (Refreshing has_moved) v e fits = not_both false e refl
@@ -36,7 +36,7 @@ due_advances ps (Begun c) v e fits = not_both false e refl
 due_advances ps (ToSeek tier size) v e fits = not_both false e refl
 due_advances ps Settling v e fits = not_both false e refl
 due_advances ps (ToGiveBack answer) v e fits = not_both false e refl
-due_advances ps (Passing trip) v e fits = not_both false e refl
+due_advances ps (Passing passage) v e fits = not_both false e refl
 due_advances ps (Owing own) v e fits = not_both false e refl
 due_advances ps (Due own) v e fits = fits
 due_advances ps (Refreshing has_moved) v e fits = not_both false e refl
@@ -44,7 +44,7 @@ due_advances ps (Refreshing has_moved) v e fits = not_both false e refl
 call_fits : (ps : List ℕ) (c : Call) (v : View) → IsCall c → may_call (length ps) c v ≡ true → BegunFits ps c v
 call_fits ps (call.Join tier size) v is e =
     let a = both_true (ltb tier (length ps)) (eqb v.size 0) e in
-    record { seat = ltb-true tier (length ps) a.0; some = is.0; few = is.1; none = eqb-true v.size 0 a.1 }
+    record { place = ltb-true tier (length ps) a.0; some = is.0; few = is.1; none = eqb-true v.size 0 a.1 }
 call_fits ps call.Arrive v is e = ltb-true 0 v.size e
 call_fits ps call.Leave v is e = ltb-true 0 v.size e
 call_fits ps call.Poll v is e = ltb-true 0 v.size e

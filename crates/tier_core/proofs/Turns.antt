@@ -9,9 +9,9 @@ use Rattle.tier_steps.specs.Word.{is_being_opened}
 use Rattle.tier_steps.specs.declared.view.View.{View}
 use Rattle.tier_steps.specs.declared.view.Errand.{Errand}
 use Rattle.tier_steps.specs.declared.view.Errand.TheVariants.{Rest, Opening, Climbing, Advancing}
-use Rattle.tier_steps.specs.declared.view.Stage.TheVariants.{Seeking, Joined, GoingBack}
-use Rattle.tier_steps.specs.declared.view.Trip.{Trip}
-use Rattle.tier_steps.specs.declared.view.Trip.TheVariants.{Arrival, Departure}
+use Rattle.tier_steps.specs.declared.view.OpeningStage.TheVariants.{Seeking, Joined, GoingBack}
+use Rattle.tier_steps.specs.declared.view.Passage.{Passage}
+use Rattle.tier_steps.specs.declared.view.Passage.TheVariants.{Arrival, Departure}
 use Rattle.tier_shape.specs.Parents.{parent_of}
 use Rattle.tier_steps.specs.View.{ancestor, absent}
 use Rattle.tier_steps.specs.Tally.{blank, word_at, root_phase, Tallies, ViewFits, ErrandFits, KeepsUp}
@@ -81,7 +81,7 @@ by_cond P false x y f g = g refl
 
 -- the first step of a join
 wanted_kept : (ps : List ℕ) (tier size : ℕ) (v v' : View) → v'.size ≡ v.size → IsWanted ps tier size v → IsWanted ps tier size v'
-wanted_kept ps tier size v v' e h = record { seat = h.seat; some = h.some; few = h.few; none = e ∙ h.none }
+wanted_kept ps tier size v v' e h = record { place = h.place; some = h.some; few = h.few; none = e ∙ h.none }
 
 seeks : (ps : List ℕ) (tier size : ℕ) (v : View) → v.errand ≡ Rest → IsWanted ps tier size v → CallFits ps (ToSeek tier size) v
 seeks ps tier size v e h = (subst (λ (x : Errand). x ≡ opening tier (claimed_by x) Seeking size) (sym e) refl, h)
@@ -117,7 +117,7 @@ join_first ps ws v tier size shape some rest wanted going =
     (λ e. record {
       within = some;
       needs = (
-        record { here = refl; errand = rest; none = wanted.none; some = wanted.some; few = wanted.few; seat = shape.some },
+        record { here = refl; errand = rest; none = wanted.none; some = wanted.some; few = wanted.few; place = shape.some },
         refuses size (word_at ws 0) going (both_true (eqb tier 0) (is_refusing size (word_at ws 0)) e).1,
       );
       keeps = seeks ps tier size (refused 0 (word_at ws 0) v) (ap given_up (looked_rests (word_at ws 0) v rest))
@@ -143,13 +143,13 @@ some_left ps ws front back v going tally e =
     omega arith
 
 -- the first step of an arrival or a departure
-pass_first : (ps : List ℕ) (ws : List Fields) (front back : List View) (v : View) (trip : Trip) → Tallies ps ws (front ++ v ∷ back)
+pass_first : (ps : List ℕ) (ws : List Fields) (front back : List View) (v : View) (passage : Passage) → Tallies ps ws (front ++ v ∷ back)
     → v.errand ≡ Rest
-    → IsNext ps ws v Look 0 (cond (word_at ws 0).ended Idle (cond (eqb (looked (word_at ws 0) v).arrived v.size) Idle (Passing trip)))
-pass_first ps ws front back v trip tally rest =
-    by_test (λ b. IsNext ps ws v Look 0 (cond b Idle (cond (eqb (looked (word_at ws 0) v).arrived v.size) Idle (Passing trip)))) (word_at ws 0).ended
+    → IsNext ps ws v Look 0 (cond (word_at ws 0).ended Idle (cond (eqb (looked (word_at ws 0) v).arrived v.size) Idle (Passing passage)))
+pass_first ps ws front back v passage tally rest =
+    by_test (λ b. IsNext ps ws v Look 0 (cond b Idle (cond (eqb (looked (word_at ws 0) v).arrived v.size) Idle (Passing passage)))) (word_at ws 0).ended
     (λ _. ends_look ps ws v tally.some rest)
-    (λ going. by_test (λ b. IsNext ps ws v Look 0 (cond b Idle (Passing trip))) (eqb (looked (word_at ws 0) v).arrived v.size)
+    (λ going. by_test (λ b. IsNext ps ws v Look 0 (cond b Idle (Passing passage))) (eqb (looked (word_at ws 0) v).arrived v.size)
     (λ _. ends_look ps ws v tally.some rest)
     (λ e. record {
       within = tally.some;
@@ -323,7 +323,7 @@ seek ps ws front back v tier claimed size t tally h due =
     (λ e. record {
       within = h;
       needs = (due, free t (word_at ws t) e);
-      keeps = (refl, record { seat = due.seat; some = due.some; few = due.few; none = due.none });
+      keeps = (refl, record { place = due.place; some = due.some; few = due.few; none = due.none });
     })
     (λ e. record {
       within = h;
@@ -337,9 +337,9 @@ settle : (ps : List ℕ) (ws : List Fields) (front back : List View) (v : View) 
 settle ps ws front back v tier claimed size shape tally q =
     let fit : ErrandFits ps (root_phase ws) v (Opening tier (suc claimed) Joined size) =
     subst (λ (x : Errand). ErrandFits ps (root_phase ws) v x) q (mine ps ws front back v tally).errand in
-    let seat : tier < length ps = fit.0.seat in
+    let place : tier < length ps = fit.0.place in
     subst (λ (x : Errand). Goes ps ws v (settle_turn ps v x)) (sym q) (record {
-      within = subst (λ (n : ℕ). ancestor ps tier claimed < n) (sym tally.long) (ancestor_within ps tier claimed shape seat);
+      within = subst (λ (n : ℕ). ancestor ps tier claimed < n) (sym tally.long) (ancestor_within ps tier claimed shape place);
       needs = (refl, q);
       keeps = settles ps tier claimed size (record v { errand = opening tier claimed Joined size }) refl;
     })
@@ -350,9 +350,9 @@ give_back : (ps : List ℕ) (ws : List Fields) (front back : List View) (v : Vie
 give_back ps ws front back v tier claimed size answer shape tally q is =
     let fit : ErrandFits ps (root_phase ws) v (Opening tier (suc claimed) GoingBack size) =
     subst (λ (x : Errand). ErrandFits ps (root_phase ws) v x) q (mine ps ws front back v tally).errand in
-    let seat : tier < length ps = fit.0.seat in
+    let place : tier < length ps = fit.0.place in
     subst (λ (x : Errand). Goes ps ws v (give_back_turn ps answer x)) (sym q) (record {
-      within = subst (λ (n : ℕ). ancestor ps tier claimed < n) (sym tally.long) (ancestor_within ps tier claimed shape seat);
+      within = subst (λ (n : ℕ). ancestor ps tier claimed < n) (sym tally.long) (ancestor_within ps tier claimed shape place);
       needs = (refl, q);
       keeps = gives_back ps tier claimed size answer (record v { errand = opening tier claimed GoingBack size }) refl is;
     })
@@ -366,14 +366,14 @@ in_phase root w v some current up kept = ⊎_elim
     (cases_eq w.phase v.phase))
     (up some)
 
-own_seat : (ps : List ℕ) (ws : List Fields) (front back : List View) (v : View) → Tallies ps ws (front ++ v ∷ back) → v.arrived < v.size → v.tier < length ws
-own_seat ps ws front back v tally some =
-    subst (λ (n : ℕ). v.tier < n) (sym tally.long) ((mine ps ws front back v tally).seated (omega arith))
+own_place : (ps : List ℕ) (ws : List Fields) (front back : List View) (v : View) → Tallies ps ws (front ++ v ∷ back) → v.arrived < v.size → v.tier < length ws
+own_place ps ws front back v tally some =
+    subst (λ (n : ℕ). v.tier < n) (sym tally.long) ((mine ps ws front back v tally).placed (omega arith))
 
 own_pass : (ps : List ℕ) (ws : List Fields) (front back : List View) (v : View) → Tallies ps ws (front ++ v ∷ back) → v.errand ≡ Rest → v.arrived < v.size
     → (word_at ws v.tier).ended ≡ false → lags (word_at ws v.tier) v ≡ false → CanPass v.tier (word_at ws v.tier) v
 own_pass ps ws front back v tally rest some going kept =
-    let h = own_seat ps ws front back v tally some in
+    let h = own_place ps ws front back v tally some in
     let current : v.phase ≡ root_phase ws = unarrived_is_current ps (root_phase ws) (word_at ws 0).ended v (mine ps ws front back v tally) some in
     let a = stands ps ws front back v v.tier tally h going in
     let b = resting_late (root_phase ws) ps v.tier v rest in
@@ -388,12 +388,12 @@ own_pass ps ws front back v tally rest some going kept =
       unarrived = some;
     }
 
-owed_goes : (ps : List ℕ) (above t : ℕ) (own k : Trip) (w : Fields) (v : View) → v.errand ≡ owed above t k w → CallFits ps (goes_on own (owed above t k w)) v
+owed_goes : (ps : List ℕ) (above t : ℕ) (own k : Passage) (w : Fields) (v : View) → v.errand ≡ owed above t k w → CallFits ps (goes_on own (owed above t k w)) v
 owed_goes ps above t own k w v e =
     owed_is (λ x. v.errand ≡ x → CallFits ps (goes_on own x) v) above t k w (λ q. q) (λ _ q. q) (λ j _ q. (above, j, q)) e
 
-own_next : (ps : List ℕ) (ws : List Fields) (v : View) (trip : Trip) → v.tier < length ws → CanPass v.tier (word_at ws v.tier) v
-    → IsNext ps ws v (own_kind trip) v.tier (goes_on trip (owed (parent_of ps v.tier) v.tier trip (word_at ws v.tier)))
+own_next : (ps : List ℕ) (ws : List Fields) (v : View) (passage : Passage) → v.tier < length ws → CanPass v.tier (word_at ws v.tier) v
+    → IsNext ps ws v (own_kind passage) v.tier (goes_on passage (owed (parent_of ps v.tier) v.tier passage (word_at ws v.tier)))
 own_next ps ws v Arrival h can = record {
   within = h;
   needs = can;
@@ -408,82 +408,82 @@ own_next ps ws v Departure h can = record {
 }
 
 -- the own step of an arrival or a departure
-pass : (ps : List ℕ) (ws : List Fields) (front back : List View) (v : View) (trip : Trip) → Tallies ps ws (front ++ v ∷ back)
-    → v.errand ≡ Rest → v.arrived < v.size → Goes ps ws v (turn ps ws (Passing trip) v)
-pass ps ws front back v trip tally rest some =
-    let h = own_seat ps ws front back v tally some in
+pass : (ps : List ℕ) (ws : List Fields) (front back : List View) (v : View) (passage : Passage) → Tallies ps ws (front ++ v ∷ back)
+    → v.errand ≡ Rest → v.arrived < v.size → Goes ps ws v (turn ps ws (Passing passage) v)
+pass ps ws front back v passage tally rest some =
+    let h = own_place ps ws front back v tally some in
     by_cond (Goes ps ws v) (word_at ws v.tier).ended (last_look (end_shown (word_at ws v.tier)))
-    (cond (lags (word_at ws v.tier) v) (record { kind = Refresh; tier = v.tier; next = Passing trip; answer = GoesOn })
+    (cond (lags (word_at ws v.tier) v) (record { kind = Refresh; tier = v.tier; next = Passing passage; answer = GoesOn })
     (record {
-      kind = own_kind trip;
+      kind = own_kind passage;
       tier = v.tier;
-      next = goes_on trip (owed (parent_of ps v.tier) v.tier trip (word_at ws v.tier));
-      answer = told v.phase (passed v.tier trip (word_at ws v.tier)).parties (owed (parent_of ps v.tier) v.tier trip (word_at ws v.tier));
+      next = goes_on passage (owed (parent_of ps v.tier) v.tier passage (word_at ws v.tier));
+      answer = told v.phase (passed v.tier passage (word_at ws v.tier)).parties (owed (parent_of ps v.tier) v.tier passage (word_at ws v.tier));
     }))
     (λ _. ends_look ps ws v tally.some rest)
     (λ going. by_cond (Goes ps ws v) (lags (word_at ws v.tier) v)
-    (record { kind = Refresh; tier = v.tier; next = Passing trip; answer = GoesOn })
+    (record { kind = Refresh; tier = v.tier; next = Passing passage; answer = GoesOn })
     (record {
-      kind = own_kind trip;
+      kind = own_kind passage;
       tier = v.tier;
-      next = goes_on trip (owed (parent_of ps v.tier) v.tier trip (word_at ws v.tier));
-      answer = told v.phase (passed v.tier trip (word_at ws v.tier)).parties (owed (parent_of ps v.tier) v.tier trip (word_at ws v.tier));
+      next = goes_on passage (owed (parent_of ps v.tier) v.tier passage (word_at ws v.tier));
+      answer = told v.phase (passed v.tier passage (word_at ws v.tier)).parties (owed (parent_of ps v.tier) v.tier passage (word_at ws v.tier));
     })
     (λ e. let l = lag_parts (word_at ws v.tier) v e in record {
       within = h;
       needs = record { some = l.0; arrived = l.1; behind = l.2; leave = inl (rest, refl, some) };
       keeps = (rest, some);
     })
-    (λ e. own_next ps ws v trip h (own_pass ps ws front back v tally rest some going e)))
+    (λ e. own_next ps ws v passage h (own_pass ps ws front back v tally rest some going e)))
 
-climb_pass : (ps : List ℕ) (ws : List Fields) (front back : List View) (v : View) (t : ℕ) (trip : Trip) → Tallies ps ws (front ++ v ∷ back)
-    → t < length ws → v.phase ≡ root_phase ws → v.errand ≡ Climbing t trip
-    → (word_at ws t).ended ≡ false → lags (word_at ws t) v ≡ false → CanClimb t trip (word_at ws t) v
-climb_pass ps ws front back v t trip tally h current q going kept =
+climb_pass : (ps : List ℕ) (ws : List Fields) (front back : List View) (v : View) (t : ℕ) (passage : Passage) → Tallies ps ws (front ++ v ∷ back)
+    → t < length ws → v.phase ≡ root_phase ws → v.errand ≡ Climbing t passage
+    → (word_at ws t).ended ≡ false → lags (word_at ws t) v ≡ false → CanClimb t passage (word_at ws t) v
+climb_pass ps ws front back v t passage tally h current q going kept =
     let a = stands ps ws front back v t tally h going in
-    let b = climbing_late (root_phase ws) ps t trip t v q in
+    let b = climbing_late (root_phase ws) ps t passage t v q in
     let c = only_here t 1 in
     let some : 0 < (word_at ws t).parties = waiting_open (root_phase ws) (word_at ws t) (omega arith) in
     record { errand = q; going = going; current = in_phase (root_phase ws) (word_at ws t) v some current (tally.phases t h) kept }
 
 -- a step of a climb
-climb : (ps : List ℕ) (ws : List Fields) (front back : List View) (v : View) (own : Trip) (t : ℕ) (trip : Trip) → Tallies ps ws (front ++ v ∷ back)
-    → v.errand ≡ Climbing t trip → Goes ps ws v (climb_turn ps own (word_at ws t) v (Climbing t trip))
-climb ps ws front back v own t trip tally q =
-    let fit : ErrandFits ps (root_phase ws) v (Climbing t trip) =
+climb : (ps : List ℕ) (ws : List Fields) (front back : List View) (v : View) (own : Passage) (t : ℕ) (passage : Passage) → Tallies ps ws (front ++ v ∷ back)
+    → v.errand ≡ Climbing t passage → Goes ps ws v (climb_turn ps own (word_at ws t) v (Climbing t passage))
+climb ps ws front back v own t passage tally q =
+    let fit : ErrandFits ps (root_phase ws) v (Climbing t passage) =
     subst (λ (x : Errand). ErrandFits ps (root_phase ws) v x) q (mine ps ws front back v tally).errand in
     let h : t < length ws = subst (λ (n : ℕ). t < n) (sym tally.long) fit.1 in
     by_cond (Goes ps ws v) (word_at ws t).ended (last_look (Done v.phase))
     (cond (lags (word_at ws t) v) (record { kind = Refresh; tier = t; next = Owing own; answer = GoesOn })
     (record {
-      kind = Climb trip;
+      kind = Climb passage;
       tier = t;
-      next = goes_on own (owed (parent_of ps t) t trip (word_at ws t));
-      answer = told v.phase (passed t trip (word_at ws t)).parties (owed (parent_of ps t) t trip (word_at ws t));
+      next = goes_on own (owed (parent_of ps t) t passage (word_at ws t));
+      answer = told v.phase (passed t passage (word_at ws t)).parties (owed (parent_of ps t) t passage (word_at ws t));
     }))
     (λ e. let z = is_root ps ws (front ++ v ∷ back) t tally h e in record {
       within = tally.some;
       needs = refl;
       keeps = looked_ended (word_at ws 0) v (ap (λ k. (word_at ws k).ended) (sym z) ∙ e)
-          ∙ ap dropped (q ∙ ap (λ k. Climbing k trip) z);
+          ∙ ap dropped (q ∙ ap (λ k. Climbing k passage) z);
     })
     (λ going. by_cond (Goes ps ws v) (lags (word_at ws t) v)
     (record { kind = Refresh; tier = t; next = Owing own; answer = GoesOn })
     (record {
-      kind = Climb trip;
+      kind = Climb passage;
       tier = t;
-      next = goes_on own (owed (parent_of ps t) t trip (word_at ws t));
-      answer = told v.phase (passed t trip (word_at ws t)).parties (owed (parent_of ps t) t trip (word_at ws t));
+      next = goes_on own (owed (parent_of ps t) t passage (word_at ws t));
+      answer = told v.phase (passed t passage (word_at ws t)).parties (owed (parent_of ps t) t passage (word_at ws t));
     })
     (λ e. let l = lag_parts (word_at ws t) v e in record {
       within = h;
-      needs = record { some = l.0; arrived = l.1; behind = l.2; leave = inr (trip, q) };
-      keeps = (t, trip, q);
+      needs = record { some = l.0; arrived = l.1; behind = l.2; leave = inr (passage, q) };
+      keeps = (t, passage, q);
     })
     (λ e. record {
       within = h;
-      needs = climb_pass ps ws front back v t trip tally h fit.0 q going e;
-      keeps = owed_goes ps (parent_of ps t) t own trip (word_at ws t) (view_after (parent_of ps t) (Climb trip) t (word_at ws t) v) refl;
+      needs = climb_pass ps ws front back v t passage tally h fit.0 q going e;
+      keeps = owed_goes ps (parent_of ps t) t own passage (word_at ws t) (view_after (parent_of ps t) (Climb passage) t (word_at ws t) v) refl;
     }))
 
 -- the second step of a poll
@@ -504,16 +504,16 @@ turns_are_steps ps ws front v back (Due own) shape tally active fits = not_both 
 turns_are_steps ps ws front v back (Begun c) shape tally active fits = begun ps ws front back v c shape tally fits.0 fits.1
 turns_are_steps ps ws front v back (ToSeek tier size) shape tally active fits =
     seek ps ws front back v tier (claimed_by v.errand) size (ancestor ps tier (claimed_by v.errand)) tally
-    (subst (λ (n : ℕ). ancestor ps tier (claimed_by v.errand) < n) (sym tally.long) (ancestor_within ps tier (claimed_by v.errand) shape fits.1.seat))
-    (record { here = refl; errand = fits.0; none = fits.1.none; some = fits.1.some; few = fits.1.few; seat = fits.1.seat })
+    (subst (λ (n : ℕ). ancestor ps tier (claimed_by v.errand) < n) (sym tally.long) (ancestor_within ps tier (claimed_by v.errand) shape fits.1.place))
+    (record { here = refl; errand = fits.0; none = fits.1.none; some = fits.1.some; few = fits.1.few; place = fits.1.place })
 turns_are_steps ps ws front v back Settling shape tally active fits = settle ps ws front back v fits.0 fits.1 fits.2 shape tally fits.3
 turns_are_steps ps ws front v back (ToGiveBack answer) shape tally active fits =
     give_back ps ws front back v fits.0 fits.1 fits.2 answer shape tally fits.3 fits.4
-turns_are_steps ps ws front v back (Passing trip) shape tally active fits = pass ps ws front back v trip tally fits.0 fits.1
+turns_are_steps ps ws front v back (Passing passage) shape tally active fits = pass ps ws front back v passage tally fits.0 fits.1
 turns_are_steps ps ws front v back (Owing own) shape tally active fits =
     subst (λ (x : Errand). Goes ps ws v (climb_turn ps own (word_at ws (errand_place ps x)) v x)) (sym fits.2) (climb ps ws front back v own fits.0 fits.1 tally fits.2)
 turns_are_steps ps ws front v back (Refreshing has_moved) shape tally active fits =
-    refresh ps ws v (own_seat ps ws front back v tally fits.1) fits.0 fits.1 fits.2
+    refresh ps ws v (own_place ps ws front back v tally fits.1) fits.0 fits.1 fits.2
 
 -- a turn is at the tier of its call, where the word that it sees is the root's if it has ended
 abbrev AtPlace : Turn → ℕ → Fields → Type 0
@@ -539,15 +539,15 @@ seek_place tier k size t w v =
     (by_cond (λ r. r.tier ≡ t) (is_refusing (added k size) w) back (cond (is_claimable t w) claim join) (λ _. refl)
     (λ _. by_cond (λ r. r.tier ≡ t) (is_claimable t w) claim join (λ _. refl) (λ _. refl)))
 
-pass_place : (ps : List ℕ) (own : Trip) (t : ℕ) (trip : Trip) (kind : Kind) (here : Progress) (over : Played) (w : Fields) (v : View)
-    → AtPlace (pass_turn ps own t trip kind here over w v) t w
-pass_place ps own t trip kind here over w v =
+pass_place : (ps : List ℕ) (own : Passage) (t : ℕ) (passage : Passage) (kind : Kind) (here : Progress) (over : Played) (w : Fields) (v : View)
+    → AtPlace (pass_turn ps own t passage kind here over w v) t w
+pass_place ps own t passage kind here over w v =
     let wait : Turn = record { kind = Refresh; tier = t; next = here; answer = GoesOn } in
     let goes : Turn = record {
       kind = kind;
       tier = t;
-      next = goes_on own (owed (parent_of ps t) t trip w);
-      answer = told v.phase (passed t trip w).parties (owed (parent_of ps t) t trip w);
+      next = goes_on own (owed (parent_of ps t) t passage w);
+      answer = told v.phase (passed t passage w).parties (owed (parent_of ps t) t passage w);
     } in
     at_place t w (last_look over) (cond (lags w v) wait goes) refl (by_cond (λ r. r.tier ≡ t) (lags w v) wait goes (λ _. refl) (λ _. refl))
 
@@ -560,7 +560,7 @@ turn_place ps ends w Settling v going fits =
     subst (λ (e : Errand). AtPlace (settle_turn ps v e) (errand_place ps e) w) (sym fits.3) (λ _. refl)
 turn_place ps ends w (ToGiveBack answer) v going fits =
     subst (λ (e : Errand). AtPlace (give_back_turn ps answer e) (errand_place ps e) w) (sym fits.3) (λ _. refl)
-turn_place ps ends w (Passing trip) v going fits = pass_place ps trip v.tier trip (own_kind trip) (Passing trip) (end_shown w) w v
+turn_place ps ends w (Passing passage) v going fits = pass_place ps passage v.tier passage (own_kind passage) (Passing passage) (end_shown w) w v
 turn_place ps ends w (Owing own) v going fits =
     subst (λ (e : Errand). AtPlace (climb_turn ps own w v e) (errand_place ps e) w) (sym fits.2)
     (pass_place ps own fits.0 fits.1 (Climb fits.1) (Owing own) (Done v.phase) w v)
@@ -584,7 +584,7 @@ turn_goes ps ws front v back (ToSeek tier size) ends shape tally going fits = tu
 turn_goes ps ws front v back Settling ends shape tally going fits = turns_are_steps ps ws front v back Settling shape tally refl fits
 turn_goes ps ws front v back (ToGiveBack answer) ends shape tally going fits =
     turns_are_steps ps ws front v back (ToGiveBack answer) shape tally refl fits
-turn_goes ps ws front v back (Passing trip) ends shape tally going fits = turns_are_steps ps ws front v back (Passing trip) shape tally refl fits
+turn_goes ps ws front v back (Passing passage) ends shape tally going fits = turns_are_steps ps ws front v back (Passing passage) shape tally refl fits
 turn_goes ps ws front v back (Owing own) ends shape tally going fits = turns_are_steps ps ws front v back (Owing own) shape tally refl fits
 turn_goes ps ws front v back (Due own) ends shape tally going fits = finish_next ps ws v ends tally.some fits
 turn_goes ps ws front v back (Refreshing has_moved) ends shape tally going fits =
@@ -664,20 +664,20 @@ seek_range tier k size t w v =
     (refusal_range (refusal t (added k size) (refused t w v).phase w) (refusal_is t (added k size) (refused t w v).phase w)))
     (λ _. by_cond (λ r. IsInRange r.answer) (is_claimable t w) claim join (λ _. tt) (λ _. unless_range k (Done w.phase) tt)))
 
-pass_range : (ps : List ℕ) (own : Trip) (t : ℕ) (trip : Trip) (kind : Kind) (here : Progress) (over : Played) (w : Fields) (v : View)
-    → IsInRange over → v.phase ≤ 2147483647 → IsLegal w → IsInRange (pass_turn ps own t trip kind here over w v).answer
-pass_range ps own t trip kind here over w v last phase legal =
+pass_range : (ps : List ℕ) (own : Passage) (t : ℕ) (passage : Passage) (kind : Kind) (here : Progress) (over : Played) (w : Fields) (v : View)
+    → IsInRange over → v.phase ≤ 2147483647 → IsLegal w → IsInRange (pass_turn ps own t passage kind here over w v).answer
+pass_range ps own t passage kind here over w v last phase legal =
     let wait : Turn = record { kind = Refresh; tier = t; next = here; answer = GoesOn } in
     let goes : Turn = record {
       kind = kind;
       tier = t;
-      next = goes_on own (owed (parent_of ps t) t trip w);
-      answer = told v.phase (passed t trip w).parties (owed (parent_of ps t) t trip w);
+      next = goes_on own (owed (parent_of ps t) t passage w);
+      answer = told v.phase (passed t passage w).parties (owed (parent_of ps t) t passage w);
     } in
     by_cond (λ r. IsInRange r.answer) w.ended (last_look over) (cond (lags w v) wait goes) (λ _. last)
     (λ _. by_cond (λ r. IsInRange r.answer) (lags w v) wait goes (λ _. tt)
-    (λ _. owed_is (λ e. IsInRange (told v.phase (passed t trip w).parties e)) (parent_of ps t) t trip w tt
-    (λ _. (phase, (passed_legal t trip w legal).parties)) (λ _ _. tt)))
+    (λ _. owed_is (λ e. IsInRange (told v.phase (passed t passage w).parties e)) (parent_of ps t) t passage w tt
+    (λ _. (phase, (passed_legal t passage w legal).parties)) (λ _ _. tt)))
 
 pub turn_range : (ps : List ℕ) (ws : List Fields) (front : List View) (v : View) (back : List View) (p : Progress) → Tallies ps ws (front ++ v ∷ back)
     → CallFits ps p v → IsInRange (turn ps ws p v).answer
@@ -689,11 +689,11 @@ turn_range ps ws front v back Settling tally fits =
     subst (λ (e : Errand). IsInRange (settle_turn ps v e).answer) (sym fits.3) (unless_range fits.1 (Done v.phase) tt)
 turn_range ps ws front v back (ToGiveBack answer) tally fits =
     subst (λ (e : Errand). IsInRange (give_back_turn ps answer e).answer) (sym fits.3) (unless_range fits.1 answer (refusal_range answer fits.4))
-turn_range ps ws front v back (Passing trip) tally fits =
+turn_range ps ws front v back (Passing passage) tally fits =
     let current = unarrived_is_current ps (root_phase ws) (word_at ws 0).ended v (mine ps ws front back v tally) fits.1 in
     let legal = (tally.legal 0 tally.some).phase in
-    pass_range ps trip v.tier trip (own_kind trip) (Passing trip) (end_shown (word_at ws v.tier)) (word_at ws v.tier) v tt (omega arith)
-    (tally.legal v.tier (own_seat ps ws front back v tally fits.1))
+    pass_range ps passage v.tier passage (own_kind passage) (Passing passage) (end_shown (word_at ws v.tier)) (word_at ws v.tier) v tt (omega arith)
+    (tally.legal v.tier (own_place ps ws front back v tally fits.1))
 turn_range ps ws front v back (Owing own) tally fits =
     let fit : ErrandFits ps (root_phase ws) v (Climbing fits.0 fits.1) =
     subst (λ (x : Errand). ErrandFits ps (root_phase ws) v x) fits.2 (mine ps ws front back v tally).errand in
@@ -711,7 +711,7 @@ one_word_tells_ranges ps ws front v back (Begun c) ends tally fits = tt
 one_word_tells_ranges ps ws front v back (ToSeek tier size) ends tally fits = turn_range ps ws front v back (ToSeek tier size) tally fits
 one_word_tells_ranges ps ws front v back Settling ends tally fits = turn_range ps ws front v back Settling tally fits
 one_word_tells_ranges ps ws front v back (ToGiveBack answer) ends tally fits = turn_range ps ws front v back (ToGiveBack answer) tally fits
-one_word_tells_ranges ps ws front v back (Passing trip) ends tally fits = turn_range ps ws front v back (Passing trip) tally fits
+one_word_tells_ranges ps ws front v back (Passing passage) ends tally fits = turn_range ps ws front v back (Passing passage) tally fits
 one_word_tells_ranges ps ws front v back (Owing own) ends tally fits = turn_range ps ws front v back (Owing own) tally fits
 one_word_tells_ranges ps ws front v back (Due own) ends tally fits = tt
 one_word_tells_ranges ps ws front v back (Refreshing has_moved) ends tally fits = turn_range ps ws front v back (Refreshing has_moved) tally fits

@@ -4,8 +4,8 @@ use Rattle.advance_rule.specs.declared.EndPlan.{EndPlan}
 use Rattle.phaser_word.specs.Fields.{Fields}
 use Rattle.tier_steps.specs.declared.view.View.{View}
 use Rattle.tier_steps.specs.declared.view.Errand.TheVariants.{Rest, Opening, Climbing, Advancing}
-use Rattle.tier_steps.specs.declared.view.Stage.TheVariants.{Seeking, Joined, GoingBack}
-use Rattle.tier_steps.specs.declared.view.Trip.{Trip}
+use Rattle.tier_steps.specs.declared.view.OpeningStage.TheVariants.{Seeking, Joined, GoingBack}
+use Rattle.tier_steps.specs.declared.view.Passage.{Passage}
 use Rattle.tier_steps.specs.View.{new_view}
 use Rattle.tier_steps.specs.Tally.{word_at, Tallies}
 use Rattle.tier_shape.specs.Parents.{IsShape}
@@ -32,7 +32,7 @@ call_at calls token = slice_index_or calls token Idle
 
 -- so many members are to join an existing tier, by a token without members
 pub record IsWanted (parents : List ℕ) (tier size : ℕ) (v : View) : Type 0 where
-  pub seat : tier < length parents
+  pub place : tier < length parents
   pub some : 0 < size
   pub few : size ≤ 65535
   pub none : v.size ≡ 0
@@ -52,8 +52,8 @@ CallFits parents (Begun c) v = (v.errand ≡ Rest) × BegunFits parents c v
 CallFits parents (ToSeek tier size) v = (v.errand ≡ opening tier (claimed_by v.errand) Seeking size) × IsWanted parents tier size v
 CallFits parents Settling v = (tier : ℕ) × (claimed : ℕ) × (size : ℕ) × (v.errand ≡ Opening tier (suc claimed) Joined size)
 CallFits parents (ToGiveBack answer) v = (tier : ℕ) × (claimed : ℕ) × (size : ℕ) × (v.errand ≡ Opening tier (suc claimed) GoingBack size) × (is_refusal answer ≡ true)
-CallFits parents (Passing trip) v = (v.errand ≡ Rest) × (v.arrived < v.size)
-CallFits parents (Owing own) v = (t : ℕ) × (trip : Trip) × (v.errand ≡ Climbing t trip)
+CallFits parents (Passing passage) v = (v.errand ≡ Rest) × (v.arrived < v.size)
+CallFits parents (Owing own) v = (t : ℕ) × (passage : Passage) × (v.errand ≡ Climbing t passage)
 CallFits parents (Due own) v = v.errand ≡ Advancing
 CallFits parents (Refreshing moved) v = (v.errand ≡ Rest) × (v.arrived < v.size) × (0 < v.tier)
 
@@ -76,7 +76,7 @@ standing (Begun c) = AtStart
 standing (ToSeek tier size) = OnItsWay
 standing Settling = OnItsWay
 standing (ToGiveBack answer) = OnItsWay
-standing (Passing trip) = OnItsWay
+standing (Passing passage) = OnItsWay
 standing (Owing own) = OnItsWay
 standing (Due own) = BeforeAdvance
 standing (Refreshing moved) = OnItsWay

@@ -15,8 +15,8 @@ use Rattle.tier_steps.specs.Word.{is_being_opened}
 use Rattle.tier_steps.specs.declared.view.View.{View}
 use Rattle.tier_steps.specs.declared.view.Errand.{Errand}
 use Rattle.tier_steps.specs.declared.view.Errand.TheVariants.{Rest, Opening, Climbing, Advancing}
-use Rattle.tier_steps.specs.declared.view.Trip.{Trip}
-use Rattle.tier_steps.specs.declared.view.Trip.TheVariants.{Arrival, Departure}
+use Rattle.tier_steps.specs.declared.view.Passage.{Passage}
+use Rattle.tier_steps.specs.declared.view.Passage.TheVariants.{Arrival, Departure}
 use Rattle.tier_shape.specs.Parents.{parent_of}
 use Rattle.tier_steps.specs.View.{ancestor}
 use Rattle.tier_steps.specs.Tally.{word_at}
@@ -93,7 +93,7 @@ seek_turn tier claimed size t w v =
 abbrev pub claimed_by : Errand → ℕ
 claimed_by Rest = 0
 claimed_by Advancing = 0
-claimed_by (Climbing t trip) = 0
+claimed_by (Climbing t passage) = 0
 claimed_by (Opening tier claimed stage size) = claimed
 
 -- A look at the root that a call ends with; it stands where no step is due as well.
@@ -111,7 +111,7 @@ settle_turn parents v (Opening tier (suc claimed) stage size) = record {
 settle_turn parents v (Opening tier zero stage size) = last_look GoesOn
 settle_turn parents v Rest = last_look GoesOn
 settle_turn parents v Advancing = last_look GoesOn
-settle_turn parents v (Climbing t trip) = last_look GoesOn
+settle_turn parents v (Climbing t passage) = last_look GoesOn
 
 -- after a refusal they are given back likewise, and the last one answers the refusal
 abbrev pub give_back_turn : List ℕ → Played → Errand → Turn
@@ -124,19 +124,19 @@ give_back_turn parents answer (Opening tier (suc claimed) stage size) = record {
 give_back_turn parents answer (Opening tier zero stage size) = last_look GoesOn
 give_back_turn parents answer Rest = last_look GoesOn
 give_back_turn parents answer Advancing = last_look GoesOn
-give_back_turn parents answer (Climbing t trip) = last_look GoesOn
+give_back_turn parents answer (Climbing t passage) = last_look GoesOn
 
 -- the own step of a call that passes its tier
-abbrev pub own_kind : Trip → Kind
+abbrev pub own_kind : Passage → Kind
 own_kind Arrival = Arrive
 own_kind Departure = Leave
 
 -- how a call goes on from what is owed, and what it answers: the phase, and the root's parties as the step leaves them
-abbrev pub goes_on : Trip → Errand → Progress
-goes_on trip Rest = Idle
-goes_on trip Advancing = Due trip
-goes_on trip (Climbing t up) = Owing trip
-goes_on trip (Opening tier claimed stage size) = Idle
+abbrev pub goes_on : Passage → Errand → Progress
+goes_on passage Rest = Idle
+goes_on passage Advancing = Due passage
+goes_on passage (Climbing t up) = Owing passage
+goes_on passage (Opening tier claimed stage size) = Idle
 
 abbrev pub told : ℕ → ℕ → Errand → Played
 told phase parties Rest = Done phase
@@ -145,20 +145,20 @@ told phase parties (Climbing t up) = GoesOn
 told phase parties (Opening tier claimed stage size) = GoesOn
 
 -- A party passes a tier, in a call that arrives or leaves: at an ended root the token looks instead, and a tier that lags is refreshed first.
-abbrev pub pass_turn : List ℕ → Trip → ℕ → Trip → Kind → Progress → Played → Fields → View → Turn
-pass_turn parents own t trip kind here over w v =
+abbrev pub pass_turn : List ℕ → Passage → ℕ → Passage → Kind → Progress → Played → Fields → View → Turn
+pass_turn parents own t passage kind here over w v =
     if w.ended then last_look over
     else (if lags w v then record { kind = Refresh; tier = t; next = here; answer = GoesOn }
     else record {
       kind = kind;
       tier = t;
-      next = goes_on own (owed (parent_of parents t) t trip w);
-      answer = told v.phase (passed t trip w).parties (owed (parent_of parents t) t trip w);
+      next = goes_on own (owed (parent_of parents t) t passage w);
+      answer = told v.phase (passed t passage w).parties (owed (parent_of parents t) t passage w);
     })
 
 -- the climb of such a call, which has counted in the phase of its own step
-abbrev pub climb_turn : List ℕ → Trip → Fields → View → Errand → Turn
-climb_turn parents own w v (Climbing t trip) = pass_turn parents own t trip (Climb trip) (Owing own) (Done v.phase) w v
+abbrev pub climb_turn : List ℕ → Passage → Fields → View → Errand → Turn
+climb_turn parents own w v (Climbing t passage) = pass_turn parents own t passage (Climb passage) (Owing own) (Done v.phase) w v
 climb_turn parents own w v Rest = last_look GoesOn
 climb_turn parents own w v Advancing = last_look GoesOn
 climb_turn parents own w v (Opening tier claimed stage size) = last_look GoesOn
@@ -217,7 +217,7 @@ finish_turn ends root v = record { kind = (if root.ended then Look else Advance 
 abbrev pub errand_place : List ℕ → Errand → ℕ
 errand_place parents Rest = 0
 errand_place parents Advancing = 0
-errand_place parents (Climbing t trip) = t
+errand_place parents (Climbing t passage) = t
 errand_place parents (Opening tier zero stage size) = 0
 errand_place parents (Opening tier (suc claimed) stage size) = ancestor parents tier claimed
 
@@ -228,7 +228,7 @@ place parents (Begun c) v = 0
 place parents (ToSeek tier size) v = ancestor parents tier (claimed_by v.errand)
 place parents Settling v = errand_place parents v.errand
 place parents (ToGiveBack answer) v = errand_place parents v.errand
-place parents (Passing trip) v = v.tier
+place parents (Passing passage) v = v.tier
 place parents (Owing own) v = errand_place parents v.errand
 place parents (Due own) v = 0
 place parents (Refreshing moved) v = v.tier
@@ -240,7 +240,7 @@ turn_by parents ends w (Begun c) v = last_look GoesOn
 turn_by parents ends w (ToSeek tier size) v = seek_turn tier (claimed_by v.errand) size (ancestor parents tier (claimed_by v.errand)) w v
 turn_by parents ends w Settling v = settle_turn parents v v.errand
 turn_by parents ends w (ToGiveBack answer) v = give_back_turn parents answer v.errand
-turn_by parents ends w (Passing trip) v = pass_turn parents trip v.tier trip (own_kind trip) (Passing trip) (end_shown w) w v
+turn_by parents ends w (Passing passage) v = pass_turn parents passage v.tier passage (own_kind passage) (Passing passage) (end_shown w) w v
 turn_by parents ends w (Owing own) v = climb_turn parents own w v v.errand
 turn_by parents ends w (Due own) v = finish_turn ends w v
 turn_by parents ends w (Refreshing moved) v = record {
@@ -257,7 +257,7 @@ turn parents words (Begun c) v = first_turn c (word_at words 0) (word_at words v
 turn parents words (ToSeek tier size) v = turn_by parents false (word_at words (place parents (ToSeek tier size) v)) (ToSeek tier size) v
 turn parents words Settling v = turn_by parents false (word_at words (place parents Settling v)) Settling v
 turn parents words (ToGiveBack answer) v = turn_by parents false (word_at words (place parents (ToGiveBack answer) v)) (ToGiveBack answer) v
-turn parents words (Passing trip) v = turn_by parents false (word_at words (place parents (Passing trip) v)) (Passing trip) v
+turn parents words (Passing passage) v = turn_by parents false (word_at words (place parents (Passing passage) v)) (Passing passage) v
 turn parents words (Owing own) v = turn_by parents false (word_at words (place parents (Owing own) v)) (Owing own) v
 turn parents words (Due own) v = last_look GoesOn
 turn parents words (Refreshing moved) v = turn_by parents false (word_at words (place parents (Refreshing moved) v)) (Refreshing moved) v

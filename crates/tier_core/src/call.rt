@@ -2,7 +2,7 @@
 
 use thiserror::Error;
 use tier_steps::kind::Kind;
-use tier_steps::view::Trip;
+use tier_steps::view::Passage;
 
 /// What a token is asked to do (own; Java SE 21, `Phaser`: `bulkRegister`, `arrive`,
 /// `arriveAndDeregister`, `forceTermination`; polling is own).
@@ -85,11 +85,11 @@ pub enum Progress {
     /// A join has been refused, its claimed tiers are given back, and this will be its answer.
     GivingBack(Played),
     /// An arrival or a departure has looked at the root, and passes its own tier next.
-    Passing(Trip),
+    Passing(Passage),
     /// An arrival or a departure has passed its own tier, and climbs.
-    Owing(Trip),
+    Owing(Passage),
     /// An arrival or a departure has to advance the root.
-    Due(Trip),
+    Due(Passage),
     /// A poll has looked at the root and found its own tier lagging; whether its phase has passed.
     Refreshing(bool),
 }

@@ -7,7 +7,7 @@ ghost use Rattle.phaser_word.specs.Fields.{Fields};
 ghost use Rattle.tier_steps.specs.declared.view.View.{View};
 ghost use Rattle.tier_shape.specs.Parents.{parent_of};
 ghost use Rattle.tier_steps.specs.View.{ancestor};
-ghost use Rattle.tier_steps.specs.declared.view.Trip.TheVariants.{Arrival, Departure};
+ghost use Rattle.tier_steps.specs.declared.view.Passage.TheVariants.{Arrival, Departure};
 ghost use Rattle.tier_steps.specs.Tally.{word_at};
 ghost use Rattle.tier_steps.specs.Step.{looked};
 ghost use Rattle.tier_steps.specs.declared.kind.Kind.TheVariants.{Look};
@@ -47,7 +47,7 @@ use phaser_word::{MOST_PARTIES, Word};
 use tier_shape::Shape;
 use tier_steps::kind::Kind;
 use tier_steps::step::{errand_after, look, parties_added, refuse, word_passed};
-use tier_steps::view::{Errand, Trip, View};
+use tier_steps::view::{Errand, Passage, View};
 
 /// The tier above another; the root's is itself.
 pub fn above(shape: &Shape, tier: u16) -> u16
@@ -301,7 +301,7 @@ fn give_back(shape: &Shape, answer: Played, view: View) -> Turn
 }
 
 /// How an arrival or a departure goes on from what is owed.
-fn then_climb(own: Trip, errand: Errand) -> Progress
+fn then_climb(own: Passage, errand: Errand) -> Progress
     ensures { result ≡ goes_on own errand }
 {
     match errand {
@@ -323,9 +323,17 @@ fn passed_answer(phase: u32, parties: u32, errand: Errand) -> Played
 }
 
 /// The step of a call that passes a tier, which is refreshed first where it lags.
-fn pass(shape: &Shape, own: Trip, at: u16, trip: Trip, pass: Turn, word: Word, view: View) -> Turn
+fn pass(
+    shape: &Shape,
+    own: Passage,
+    at: u16,
+    passage: Passage,
+    pass: Turn,
+    word: Word,
+    view: View,
+) -> Turn
     requires { IsShape shape.now }
-    ensures { result ≡ pass_turn shape.now own at trip pass.kind pass.next pass.answer word view }
+    ensures { result ≡ pass_turn shape.now own at passage pass.kind pass.next pass.answer word view }
 {
     if word.ended {
         return look_last(pass.answer);
@@ -338,12 +346,12 @@ fn pass(shape: &Shape, own: Trip, at: u16, trip: Trip, pass: Turn, word: Word, v
             answer: Played::GoesOn,
         };
     }
-    let errand = errand_after(above(shape, at), at, trip, word);
+    let errand = errand_after(above(shape, at), at, passage, word);
     Turn {
         kind: pass.kind,
         tier: at,
         next: then_climb(own, errand),
-        answer: passed_answer(view.phase, word_passed(at, trip, word).parties, errand),
+        answer: passed_answer(view.phase, word_passed(at, passage, word).parties, errand),
     }
 }
 
@@ -359,10 +367,10 @@ fn poll_answer(moved: bool, phase: u32) -> Played
 }
 
 /// The look of a call that arrives or leaves, by whether all its members had arrived in this phase.
-fn look_passing(trip: Trip, all: bool, phase: u32) -> Turn
+fn look_passing(passage: Passage, all: bool, phase: u32) -> Turn
     ensures kind { result.kind ≡ Look }
     ensures tier { result.tier ≡ 0 }
-    ensures next { result.next ≡ (if all then spec.Idle else spec.Passing trip) }
+    ensures next { result.next ≡ (if all then spec.Idle else spec.Passing passage) }
     ensures answer { result.answer ≡ (if all then spec.AlreadyArrived phase else spec.GoesOn) }
 {
     if all {
@@ -371,16 +379,16 @@ fn look_passing(trip: Trip, all: bool, phase: u32) -> Turn
     Turn {
         kind: Kind::Look,
         tier: 0,
-        next: Progress::Passing(trip),
+        next: Progress::Passing(passage),
         answer: Played::GoesOn,
     }
 }
 
 /// The first look of a call that arrives or leaves.
-fn look_before(trip: Trip, root: Word, view: View) -> Turn
+fn look_before(passage: Passage, root: Word, view: View) -> Turn
     ensures kind { result.kind ≡ Look }
     ensures tier { result.tier ≡ 0 }
-    ensures next { result.next ≡ (if root.ended then spec.Idle else (if (looked root view).arrived == view.size then spec.Idle else spec.Passing trip)) }
+    ensures next { result.next ≡ (if root.ended then spec.Idle else (if (looked root view).arrived == view.size then spec.Idle else spec.Passing passage)) }
     ensures answer { result.answer ≡ (if root.ended then end_shown root else (if (looked root view).arrived == view.size then spec.AlreadyArrived (looked root view).phase else spec.GoesOn)) }
 {
     if root.ended {
@@ -388,7 +396,7 @@ fn look_before(trip: Trip, root: Word, view: View) -> Turn
     }
     let size = view.size;
     let looked = look(root, view);
-    look_passing(trip, looked.arrived == size, looked.phase)
+    look_passing(passage, looked.arrived == size, looked.phase)
 }
 
 /// The first step of a poll.
@@ -446,8 +454,8 @@ fn first(call: Call, root: Word, own: Word, view: View) -> Turn
 {
     match call {
         Call::Join { tier, n } => look_around(tier, n, root),
-        Call::Arrive => look_before(Trip::Arrival, root, view),
-        Call::Leave => look_before(Trip::Departure, root, view),
+        Call::Arrive => look_before(Passage::Arrival, root, view),
+        Call::Leave => look_before(Passage::Departure, root, view),
         Call::Poll => poll(root, own, view),
         Call::Force => Turn {
             kind: Kind::Force,
@@ -502,38 +510,38 @@ pub fn tier_of(shape: &Shape, progress: Progress, view: &View) -> u16
 }
 
 /// The next step of a climb.
-fn climb(shape: &Shape, own: Trip, word: Word, view: View) -> Turn
+fn climb(shape: &Shape, own: Passage, word: Word, view: View) -> Turn
     requires { IsShape shape.now }
     ensures { result ≡ climb_turn shape.now own word view view.errand }
 {
-    let Errand::Climbing { tier, trip } = view.errand else {
+    let Errand::Climbing { tier, passage } = view.errand else {
         return look_last(Played::GoesOn);
     };
     let step = Turn {
-        kind: Kind::Climb(trip),
+        kind: Kind::Climb(passage),
         tier,
         next: Progress::Owing(own),
         answer: Played::Done(view.phase),
     };
-    pass(shape, own, tier, trip, step, word, view)
+    pass(shape, own, tier, passage, step, word, view)
 }
 
 /// The own step of an arrival or a departure.
-fn pass_own(shape: &Shape, trip: Trip, word: Word, view: View) -> Turn
+fn pass_own(shape: &Shape, passage: Passage, word: Word, view: View) -> Turn
     requires { IsShape shape.now }
-    ensures { result ≡ pass_turn shape.now trip view.tier trip (own_kind trip) (spec.Passing trip) (end_shown word) word view }
+    ensures { result ≡ pass_turn shape.now passage view.tier passage (own_kind passage) (spec.Passing passage) (end_shown word) word view }
 {
-    let kind = match trip {
-        Trip::Arrival => Kind::Arrive,
-        Trip::Departure => Kind::Leave,
+    let kind = match passage {
+        Passage::Arrival => Kind::Arrive,
+        Passage::Departure => Kind::Leave,
     };
     let step = Turn {
         kind,
         tier: view.tier,
-        next: Progress::Passing(trip),
+        next: Progress::Passing(passage),
         answer: shown_end(word),
     };
-    pass(shape, trip, view.tier, trip, step, word, view)
+    pass(shape, passage, view.tier, passage, step, word, view)
 }
 
 /// The second step of a poll.
@@ -568,7 +576,7 @@ pub fn turn_here(shape: &Shape, ends: bool, word: Word, progress: Progress, view
         }
         Progress::Settling => settle(shape, view),
         Progress::GivingBack(answer) => give_back(shape, answer, view),
-        Progress::Passing(trip) => pass_own(shape, trip, word, view),
+        Progress::Passing(passage) => pass_own(shape, passage, word, view),
         Progress::Owing(own) => climb(shape, own, word, view),
         Progress::Due(_) => last_turn(ends, word, view),
         Progress::Refreshing(moved) => refresh(moved, word, view),

@@ -61,14 +61,14 @@ pub record IsDone (root : ℕ) (v : View) : Type 0 where
   pub lates : (ps : List ℕ) (u : ℕ) → errand_late ps v.errand u ≡ 0
 
 -- the members of a token that isn't hidden
-seated_done : (ps : List ℕ) (root : ℕ) (ended : Bool) (v : View) → ViewFits ps root ended v
+placed_done : (ps : List ℕ) (root : ℕ) (ended : Bool) (v : View) → ViewFits ps root ended v
     → (v.tier < length ps → only_at v.tier (absent root v) v.tier ≡ 0) → (0 < v.size → v.phase ≡ root) × (v.arrived ≡ v.size)
-seated_done ps root ended v ok none =
+placed_done ps root ended v ok none =
     ⊎_elim
     (λ (z : v.size ≡ 0). ((λ h. absurd (omega arith)), (let a = ok.within in omega arith)))
     (λ (h : v.size ≢ 0).
-    let seat : v.tier < length ps = ok.seated (omega arith) in
-    let none : absent root v ≡ 0 = sym (only_here v.tier (absent root v)) ∙ none seat in
+    let place : v.tier < length ps = ok.placed (omega arith) in
+    let none : absent root v ≡ 0 = sym (only_here v.tier (absent root v)) ∙ none place in
     ⊎_elim
     (λ (e : v.phase ≡ root). (
       (λ _. e),
@@ -84,14 +84,14 @@ done_by : (ps : List ℕ) (root : ℕ) (ended : Bool) (v : View) (e : Errand) �
     → ViewFits ps root ended v → ErrandFits ps root v e
     → ((t : ℕ) → t < length ps → cond (is_hidden e) 0 (only_at v.tier (absent root v) t) + errand_late ps e t ≡ 0) → IsDone root v
 done_by ps root ended v Rest shape some q ok fit none =
-    let a = seated_done ps root ended v ok (λ h. let b = none v.tier h in omega arith) in
+    let a = placed_done ps root ended v ok (λ h. let b = none v.tier h in omega arith) in
     record { phase = a.0; arrived = a.1; shares = λ qs u. ap (λ x. errand_parties qs x u) q; lates = λ qs u. ap (λ x. errand_late qs x u) q }
 done_by ps root ended v Advancing shape some q ok fit none =
-    let a = seated_done ps root ended v ok (λ h. let b = none v.tier h in omega arith) in
+    let a = placed_done ps root ended v ok (λ h. let b = none v.tier h in omega arith) in
     record { phase = a.0; arrived = a.1; shares = λ qs u. ap (λ x. errand_parties qs x u) q; lates = λ qs u. ap (λ x. errand_late qs x u) q }
 done_by ps root ended v (Climbing t k) shape some q ok fit none = absurd (let a = none t fit.1 in let b = only_here t 1 in omega arith)
 done_by ps root ended v (Opening tier claimed Joined size) shape some q ok fit none =
-    absurd (let a = none (ancestor ps tier claimed) (ancestor_within ps tier claimed shape fit.0.seat) in
+    absurd (let a = none (ancestor ps tier claimed) (ancestor_within ps tier claimed shape fit.0.place) in
     let b = only_here (ancestor ps tier claimed) 1 in omega arith)
 done_by ps root ended v (Opening tier claimed Seeking size) shape some q ok fit none =
     record {
@@ -144,7 +144,7 @@ pub done_ok : (ps : List ℕ) (root after : ℕ) (ended : Bool) (v : View) → n
 done_ok ps root after ended v e d a ok = record {
   within = ok.within;
   few = ok.few;
-  seated = ok.seated;
+  placed = ok.placed;
   current = λ h. inr (ap next_phase_of (d.phase h) ∙ e, d.arrived);
   seen = λ p q. absurd (let b : false ≡ true = (ok.seen p q).0 in cc);
   errand = done_errand ps root after v v.errand refl d a ok.errand;
@@ -155,7 +155,7 @@ advanced_done : (root : ℕ) (v : View) → v.errand ≡ Advancing → IsDone ro
 advanced_done root v e d = record { phase = d.phase; arrived = d.arrived; shares = λ _ _. refl; lates = λ _ _. refl }
 
 advanced_ok : (ps : List ℕ) (root : ℕ) (v : View) → ViewFits ps root false v → ViewFits ps root false (advanced_view v)
-advanced_ok ps root v ok = record { within = ok.within; few = ok.few; seated = ok.seated; current = ok.current; seen = ok.seen; errand = tt }
+advanced_ok ps root v ok = record { within = ok.within; few = ok.few; placed = ok.placed; current = ok.current; seen = ok.seen; errand = tt }
 
 late_next : (root after : ℕ) (w : Fields) → root ≢ after → late root w ≡ 0 → KeepsUp root w → late after w ≡ w.parties
 late_next root after w n z up = ⊎_elim

@@ -21,7 +21,7 @@ memberless : (ps : List ℕ) (root : ℕ) (ended : Bool) (v : View) → ViewFits
     → ((t : ℕ) → t < length ps → party_share ps t v ≡ 0) → v.size ≡ 0
 memberless ps root ended v ok rest none = ⊎_elim (λ (z : v.size ≡ 0). z)
     (λ (n : v.size ≢ 0). absurd (
-    let a = none v.tier (ok.seated (omega arith)) in
+    let a = none v.tier (ok.placed (omega arith)) in
     let b : party_share ps v.tier v ≡ only_at v.tier v.size v.tier + 0 =
     ap (λ e. cond (is_hidden e) 0 (only_at v.tier v.size v.tier) + errand_parties ps e v.tier) rest in
     let c = only_here v.tier v.size in omega arith))

@@ -5,7 +5,7 @@ use Rattle.std.specs.List.{AllByRecursion}
 use Rattle.std.proofs.lemmas.List.{get_or-set_same, get_or-set_other}
 use Rattle.std.proofs.lemmas.Bool.{cases_eq, eq-eqb}
 use Rattle.tier_steps.specs.Word.{Fields, IsLegal, next_phase_of, late}
-use Rattle.tier_steps.specs.View.{View, Errand, Rest, Opening, Climbing, Advancing, Trip, parent_of, only_at, errand_late, late_share, errand_advances, advance_share}
+use Rattle.tier_steps.specs.View.{View, Errand, Rest, Opening, Climbing, Advancing, Passage, parent_of, only_at, errand_late, late_share, errand_advances, advance_share}
 use Rattle.tier_steps.specs.Tally.{IsShape, blank, word_at, root_phase, ViewFits, is_zero, Tallies}
 use Rattle.tier_steps.specs.Step.{passed, owed, CanAdvance, advanced_view}
 use Rattle.tier_steps.proofs.Parts.{AlikeParts}
@@ -182,7 +182,7 @@ calm [] back v e = (or_none (is_climbing v.errand) (some_climbing back) e).0
 calm (x ∷ front) back v e = calm front back v (or_none (is_climbing x.errand) (some_climbing (front ++ v ∷ back)) e).1
 
 -- a party that passes a tier leaves someone climbing where everyone has arrived
-pub someone_after : (ps : List ℕ) (ws : List Fields) (front back : List View) (v' : View) (t : ℕ) (k : Trip) → IsShape ps → t < length ws
+pub someone_after : (ps : List ℕ) (ws : List Fields) (front back : List View) (v' : View) (t : ℕ) (k : Passage) → IsShape ps → t < length ws
     → Tallies ps (set ws t (passed t k (word_at ws t))) (front ++ v' ∷ back)
     → (word_at ws 0).ended ≡ false → IsLegal (word_at ws t) → (word_at ws t).phase ≡ root_phase ws
     → (0 < (word_at ws t).parties) × (0 < (word_at ws t).unarrived) → v'.errand ≡ owed (parent_of ps t) t k (word_at ws t)

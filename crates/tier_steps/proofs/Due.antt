@@ -5,7 +5,7 @@ use Rattle.std.specs.List.{AllByRecursion}
 use Rattle.std.proofs.lemmas.List.Sums.{sum_by-cons}
 use Rattle.std.proofs.lemmas.Bool.{cases_eq, eq-eqb, ne_eqb}
 use Rattle.tier_steps.specs.Word.{Fields, IsLegal, late}
-use Rattle.tier_steps.specs.View.{View, Errand, Rest, Opening, Climbing, Advancing, Trip, Arrival, Departure, Seeking, Joined, GoingBack, parent_of, absent, only_at, errand_late, is_hidden, late_share}
+use Rattle.tier_steps.specs.View.{View, Errand, Rest, Opening, Climbing, Advancing, Passage, Arrival, Departure, Seeking, Joined, GoingBack, parent_of, absent, only_at, errand_late, is_hidden, late_share}
 use Rattle.tier_steps.specs.Tally.{IsShape, blank, word_at, root_phase, counted, children_among, children, Balances, ErrandFits, ViewFits, Tallies}
 use Rattle.tier_steps.specs.Step.{passed, owed}
 use Rattle.tier_steps.proofs.Pass.{only_nothing}
@@ -114,7 +114,7 @@ all_still ps ws vs shape tally going everyone nobody t h =
     (λ v f. still_by ps (root_phase ws) u v v.errand f.1.1 f.0.errand (f.1.0 f.0.within)) vs facts))
     (length ws) t (omega arith) h
 
-last_climbs : (ps : List ℕ) (t : ℕ) (k : Trip) (w : Fields) → eqb w.unarrived 1 ≡ true → is_climbing (owed (parent_of ps t) t k w) ≡ false → ⊥
+last_climbs : (ps : List ℕ) (t : ℕ) (k : Passage) (w : Fields) → eqb w.unarrived 1 ≡ true → is_climbing (owed (parent_of ps t) t k w) ≡ false → ⊥
 last_climbs ps zero k w z h = let a : is_climbing (owed (parent_of ps zero) zero k w) ≡ true =
     ap (λ b. is_climbing (cond b Advancing Rest)) z in let b : true ≡ false = sym a ∙ h in cc
 last_climbs ps (suc t) Arrival w z h = let a : is_climbing (owed (parent_of ps (suc t)) (suc t) Arrival w) ≡ true =
@@ -128,7 +128,7 @@ last_climbs ps (suc t) Departure w z h =
     let b : true ≡ false = sym a ∙ h in cc
 
 -- a party that passes and owes nothing leaves an unarrived party behind
-pub passed_rests : (ps : List ℕ) (root t : ℕ) (k : Trip) (w : Fields) → IsLegal w → w.phase ≡ root → 0 < w.parties → 0 < w.unarrived
+pub passed_rests : (ps : List ℕ) (root t : ℕ) (k : Passage) (w : Fields) → IsLegal w → w.phase ≡ root → 0 < w.parties → 0 < w.unarrived
     → is_climbing (owed (parent_of ps t) t k w) ≡ false → 0 < late root (passed t k w)
 passed_rests ps root t k w legal e p u h =
     let a = passed_late root t k w legal e p u in

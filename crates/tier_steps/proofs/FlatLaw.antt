@@ -3,7 +3,7 @@ use Rattle.std.proofs.Common.{◌≡◌, ◌≢◌, ℕ, zero, suc, ◌<◌, Boo
 use Rattle.std.proofs.lemmas.List.{get_or-set_same}
 use Rattle.std.proofs.lemmas.Bool.{ne_eqb}
 use Rattle.tier_steps.specs.Word.{Fields, next_phase_of, joined, advanced, refreshed, emptied, claimed_word, settled, forced}
-use Rattle.tier_steps.specs.View.{View, Errand, Rest, Opening, Climbing, Advancing, Arrival, Departure, Stage, Seeking, Joined, GoingBack, parent_of, ancestor}
+use Rattle.tier_steps.specs.View.{View, Errand, Rest, Opening, Climbing, Advancing, Arrival, Departure, OpeningStage, Seeking, Joined, GoingBack, parent_of, ancestor}
 use Rattle.tier_steps.specs.Tally.{blank, word_at, root_phase, ErrandFits, ViewFits, Tallies}
 use Rattle.tier_steps.specs.Step.{Kind, Look, Glance, Refuse, Join, Arrive, Leave, Advance, Force, Claim, Settle, SettleBack, Climb, Refresh, passed, CanPass, arrived_view, left_view, CanClimb, climbed_view, opening, added, IsDue, joined_view, claimed_view, settled_view, dropped, moved, is_going_back, looked, given_up, noted, refused, forced_view, CanAdvance, advanced_view, word_after, view_after}
 use Rattle.tier_steps.specs.Laws.{IsStep, KindsAreFlat}
@@ -85,7 +85,7 @@ refused_same ws zero v e =
     (a.0, a.1, given_up_same (looked (word_at ws 0) v).errand ∙ a.2)
 refused_same ws (suc t) v e = noted_same (root_phase ws) (suc t) (word_at ws (suc t)) v
 
-opening_still : (tier claimed size : ℕ) (s : Stage) → is_climbing (opening tier claimed s size) ≡ false
+opening_still : (tier claimed size : ℕ) (s : OpeningStage) → is_climbing (opening tier claimed s size) ≡ false
 opening_still tier zero size s = refl
 opening_still tier (suc claimed) size s = refl
 
@@ -217,17 +217,17 @@ kinds_are_flat ps ws front v back t (SettleBack tier claimed size) f step alike 
       (kept ps ws front back v t (SettleBack tier claimed size) step) alike (λ _. refl) refl
       (λ e. (refl, refl, opening_still tier claimed size GoingBack ∙ sym (ap is_climbing step.needs.1))),
 )
-kinds_are_flat ps ws front v back t (Climb trip) f step alike =
+kinds_are_flat ps ws front v back t (Climb passage) f step alike =
     let parts : AlikeParts f (image ws (front ++ v ∷ back)) = parts_of f (image ws (front ++ v ∷ back)) alike in
-    let can : CanClimb t trip (word_at ws t) v = step.needs in
+    let can : CanClimb t passage (word_at ws t) v = step.needs in
     let ok : ViewFits ps (root_phase ws) (word_at ws 0).ended v = mine ps ws front back v step.tally in
-    let fit : ErrandFits ps (root_phase ws) v (Climbing t trip) = subst (λ (e : Errand). ErrandFits ps (root_phase ws) v e) can.errand ok.errand in
-    let w' : Fields = passed t trip (word_at ws t) in
-    let v' : View = climbed_view (parent_of ps t) t trip (word_at ws t) v in
-    let root : root_phase (set ws t w') ≡ root_phase ws = root_same ws t w' step.within (λ _. phase_passed t trip (word_at ws t)) in
+    let fit : ErrandFits ps (root_phase ws) v (Climbing t passage) = subst (λ (e : Errand). ErrandFits ps (root_phase ws) v e) can.errand ok.errand in
+    let w' : Fields = passed t passage (word_at ws t) in
+    let v' : View = climbed_view (parent_of ps t) t passage (word_at ws t) v in
+    let root : root_phase (set ws t w') ≡ root_phase ws = root_same ws t w' step.within (λ _. phase_passed t passage (word_at ws t)) in
     let waits = waiting_word (root_phase ws) (word_at ws t) (can.current ∙ fit.0)
     (let a = stands ps ws front back v t step.tally step.within can.going in
-    let b = climbing_late (root_phase ws) ps t trip t v can.errand in
+    let b = climbing_late (root_phase ws) ps t passage t v can.errand in
     let c = only_here t 1 in omega arith) in
     let mem : (u : ℕ) → members_of u (all_members 0 (front ++ v' ∷ back)) ≡ members_of u (all_members 0 (front ++ v ∷ back)) = λ u.
     (let a = members_change front back v v' u ok.within ok.within in omega arith) in
@@ -237,9 +237,9 @@ kinds_are_flat ps ws front v back t (Climb trip) f step alike =
       tt,
       whole_of f (image (set ws t w') (front ++ v' ∷ back))
           (silent ws (set ws t w') front back v v' f parts ok.within ok.within root
-          (ended_same ws t w' step.within (ended_passed t trip (word_at ws t)))
+          (ended_same ws t w' step.within (ended_passed t passage (word_at ws t)))
           (λ _. (refl, refl))
-          (λ e every. someone_after ps ws front back v' t trip step.shape step.within (kept ps ws front back v t (Climb trip) step) e
+          (λ e every. someone_after ps ws front back v' t passage step.shape step.within (kept ps ws front back v t (Climb passage) step) e
           (step.tally.legal t step.within) (can.current ∙ fit.0) waits refl
           (ap (λ p. everyone_arrived p (all_members 0 (front ++ v' ∷ back))) root
           ∙ (same_everyone (root_phase ws) (all_members 0 (front ++ v' ∷ back)) (all_members 0 (front ++ v ∷ back)) mem arr ∙ every))

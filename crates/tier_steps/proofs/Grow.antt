@@ -2,7 +2,7 @@
 use Rattle.std.proofs.Common.{◌≡◌, ◌≢◌, ℕ, zero, suc, ◌+◌, ◌<◌, ◌≤◌, inl, ⊎_elim, Bool, false, cond, eqb, List, length, refl, sym, ◌∙◌, ap, arith}
 use Rattle.std.proofs.lemmas.Bool.{cases_eq, eq-eqb, ne_eqb}
 use Rattle.tier_steps.specs.Word.{Fields, IsLegal, is_being_opened, late, joined}
-use Rattle.tier_steps.specs.View.{View, Rest, Stage, Seeking, Joined, parent_of, ancestor, absent, only_at, errand_parties, errand_late, is_hidden, party_share, late_share, claims_on, errand_claims, claim_share, errand_advances, advance_share}
+use Rattle.tier_steps.specs.View.{View, Rest, OpeningStage, Seeking, Joined, parent_of, ancestor, absent, only_at, errand_parties, errand_late, is_hidden, party_share, late_share, claims_on, errand_claims, claim_share, errand_advances, advance_share}
 use Rattle.tier_steps.specs.Tally.{word_at, root_phase, counted, ErrandFits, ViewFits, is_zero, Tallies}
 use Rattle.tier_steps.specs.Step.{Admits, opening, added, IsDue, joined_view}
 use Rattle.tier_steps.proofs.Legal.{joined_legal}
@@ -144,12 +144,12 @@ joined_share root ps u tier zero size w v =
 joined_share root ps u tier (suc claimed) size w v = omega arith
 
 -- neither claims nor advances change
-pub opening_claims : (ps : List ℕ) (u tier claimed size : ℕ) (stage : Stage)
+pub opening_claims : (ps : List ℕ) (u tier claimed size : ℕ) (stage : OpeningStage)
     → errand_claims ps u (opening tier claimed stage size) ≡ claims_on ps tier claimed u
 opening_claims ps u tier zero size stage = refl
 opening_claims ps u tier (suc claimed) size stage = refl
 
-pub opening_idle : (tier claimed size : ℕ) (stage : Stage) → errand_advances (opening tier claimed stage size) ≡ 0
+pub opening_idle : (tier claimed size : ℕ) (stage : OpeningStage) → errand_advances (opening tier claimed stage size) ≡ 0
 opening_idle tier zero size stage = refl
 opening_idle tier (suc claimed) size stage = refl
 
@@ -159,10 +159,10 @@ added_some (suc claimed) size h = omega arith
 
 joined_errand : (ps : List ℕ) (root tier claimed size : ℕ) (w : Fields) (v : View) → w.phase ≡ root → tier < length ps → 0 < size → size ≤ 65535
     → ErrandFits ps root (joined_view tier claimed size w v) (opening tier claimed Joined size)
-joined_errand ps root tier zero size w v e seat some few = tt
-joined_errand ps root tier (suc claimed) size w v e seat some few = (
-  record { claims = omega arith; seat = seat; some = some; few = few },
-  record { phase = e; arrived = refl; seat = refl; members = refl },
+joined_errand ps root tier zero size w v e place some few = tt
+joined_errand ps root tier (suc claimed) size w v e place some few = (
+  record { claims = omega arith; place = place; some = some; few = few },
+  record { phase = e; arrived = refl; place = refl; members = refl },
 )
 
 -- Join
@@ -194,8 +194,8 @@ join_fits ps ws vs v t tier claimed size ended within tally due can ok =
     (record {
       within = omega arith;
       few = due.few;
-      seated = λ _. due.seat;
+      placed = λ _. due.place;
       current = λ _. inl current;
       seen = ok.seen;
-      errand = joined_errand ps (root_phase ws) tier claimed size (word_at ws t) v current due.seat due.some due.few;
+      errand = joined_errand ps (root_phase ws) tier claimed size (word_at ws t) v current due.place due.some due.few;
     })

@@ -56,7 +56,7 @@ pub view_later : (ps : List ℕ) (root : ℕ) (old new : Bool) → (old ≡ true
 view_later ps root old new h v ok = record {
   within = ok.within;
   few = ok.few;
-  seated = ok.seated;
+  placed = ok.placed;
   current = ok.current;
   seen = λ p e. let s = ok.seen p e in (h s.0, s.1);
   errand = ok.errand;

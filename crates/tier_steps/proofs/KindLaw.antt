@@ -118,11 +118,11 @@ kinds_keep_tally ps ws front v back t (SettleBack tier claimed size) step =
     kept ps ws front back v (settled_view tier claimed GoingBack size v) (ancestor ps tier claimed) w' step.shape at step.tally refl
     (λ ok. settle_back_fits ps ws front back v tier claimed size
     (word_at (set ws (ancestor ps tier claimed) w') 0).ended at step.tally step.needs.1 ok))
-kinds_keep_tally ps ws front v back t (Climb trip) step =
-    let w' : Fields = passed t trip (word_at ws t) in
-    kept ps ws front back v (climbed_view (parent_of ps t) t trip (word_at ws t) v) t w' step.shape step.within step.tally
-    (ended_passed t trip (word_at ws t))
-    (λ ok. climb_fits ps ws front back v t trip (word_at (set ws t w') 0).ended step.shape step.within step.tally step.needs ok)
+kinds_keep_tally ps ws front v back t (Climb passage) step =
+    let w' : Fields = passed t passage (word_at ws t) in
+    kept ps ws front back v (climbed_view (parent_of ps t) t passage (word_at ws t) v) t w' step.shape step.within step.tally
+    (ended_passed t passage (word_at ws t))
+    (λ ok. climb_fits ps ws front back v t passage (word_at (set ws t w') 0).ended step.shape step.within step.tally step.needs ok)
 kinds_keep_tally ps ws front v back t Refresh step =
     let w' : Fields = refreshed (word_at ws t) v.phase in
     kept ps ws front back v v t w' step.shape step.within step.tally refl

@@ -2,7 +2,7 @@
 use Rattle.std.proofs.Common.{◌≡◌, ◌≢◌, ℕ, zero, suc, ◌+◌, ◌<◌, ◌≤◌, ⊎_elim, Bool, List, length, sym, ◌∙◌, ap, subst, arith}
 use Rattle.std.proofs.lemmas.Bool.{cases_eq}
 use Rattle.tier_steps.specs.Word.{Fields, IsLegal}
-use Rattle.tier_steps.specs.View.{View, Errand, Opening, Climbing, Trip, Arrival, Departure, Joined, parent_of, ancestor, party_share, late_share, claim_share, advance_share}
+use Rattle.tier_steps.specs.View.{View, Errand, Opening, Climbing, Passage, Arrival, Departure, Joined, parent_of, ancestor, party_share, late_share, claim_share, advance_share}
 use Rattle.tier_steps.specs.Tally.{IsShape, word_at, root_phase, ErrandFits, ViewFits, is_zero}
 use Rattle.tier_steps.specs.Step.{Kind, Look, Glance, Refuse, Join, Arrive, Leave, Advance, Force, Claim, Settle, SettleBack, Climb, Refresh, added, CanRefresh, claimed_before, Needs, word_after}
 use Rattle.tier_steps.specs.Known.{Known, TallyIsKnown, StepsAreRunnable}
@@ -30,13 +30,13 @@ tally_is_known ps ws front v back t h tally = record {
 
 -- a path goes down by at least one at each tier below the root
 pub path_falls : (ps : List ℕ) (tier above : ℕ) → IsShape ps → tier < length ps → 0 < ancestor ps tier above → ancestor ps tier above + above ≤ tier
-path_falls ps tier zero shape seat below = omega arith
-path_falls ps tier (suc above) shape seat below =
+path_falls ps tier zero shape place below = omega arith
+path_falls ps tier (suc above) shape place below =
     ⊎_elim
     (λ (z : ancestor ps tier above ≡ 0).
     absurd (let a : parent_of ps (ancestor ps tier above) ≡ 0 = ap (parent_of ps) z ∙ shape.root in omega arith))
     (λ (n : ancestor ps tier above ≢ 0).
-    let a = path_falls ps tier above shape seat (omega arith) in
+    let a = path_falls ps tier above shape place (omega arith) in
     let b : parent_of ps (ancestor ps tier above) < ancestor ps tier above = shape.earlier (ancestor ps tier above) (omega arith) (omega arith) in
     omega arith)
     (cases_eq (ancestor ps tier above) 0)
@@ -45,7 +45,7 @@ path_falls ps tier (suc above) shape seat below =
 pub refresher : (ps : List ℕ) (root : ℕ) (ended : Bool) (t : ℕ) (w : Fields) (v : View) → ViewFits ps root ended v → CanRefresh t w v → v.phase ≡ root
 refresher ps root ended t w v fits can = ⊎_elim
     (λ own. unarrived_is_current ps root ended v fits own.2)
-    (λ (climb : (k : Trip) × (v.errand ≡ Climbing t k)).
+    (λ (climb : (k : Passage) × (v.errand ≡ Climbing t k)).
     (let fit : ErrandFits ps root v (Climbing t climb.0) = subst (λ (x : Errand). ErrandFits ps root v x) climb.1 fits.errand in fit.0))
     can.leave
 
@@ -66,7 +66,7 @@ step_legal ps t w v (Settle tier claimed size) known n =
     let range = added_range claimed size fit.0.some fit.0.few in
     settled_legal w v.phase (added claimed size) (subst (λ (k : ℕ). k ≤ 2147483647) (sym fit.1.phase) known.root_legal) range.0 range.1
 step_legal ps t w v (SettleBack tier claimed size) known n = unclaimed_legal w 1 known.legal (omega arith)
-step_legal ps t w v (Climb trip) known n = passed_legal t trip w known.legal
+step_legal ps t w v (Climb passage) known n = passed_legal t passage w known.legal
 step_legal ps t w v Refresh known n =
     refreshed_legal w v.phase known.legal
     (subst (λ (k : ℕ). k ≤ 2147483647) (sym (refresher ps known.root known.ended t w v known.fits n)) known.root_legal) n.some
@@ -82,10 +82,10 @@ step_claims ps t w v (Advance ends) shape n = shape.some
 step_claims ps t w v Force shape n = shape.some
 step_claims ps t w v (Claim tier claimed size) shape n =
     let below : 0 < ancestor ps tier claimed = subst (λ (k : ℕ). 0 < k) n.0.here n.1.below in
-    let a = path_falls ps tier claimed shape n.0.seat below in let b = n.0.seat in omega arith
+    let a = path_falls ps tier claimed shape n.0.place below in let b = n.0.place in omega arith
 step_claims ps t w v (Settle tier claimed size) shape n = shape.some
 step_claims ps t w v (SettleBack tier claimed size) shape n = shape.some
-step_claims ps t w v (Climb trip) shape n = shape.some
+step_claims ps t w v (Climb passage) shape n = shape.some
 step_claims ps t w v Refresh shape n = shape.some
 
 pub steps_are_runnable : StepsAreRunnable

@@ -3,7 +3,7 @@ use Rattle.std.proofs.Common.{◌+◌, zero, suc, Bool, ◌≡◌, ◌≢◌, �
 use Rattle.std.proofs.lemmas.Bool.{cases_eq, eq-eqb, ne_eqb}
 use Rattle.phaser_word.specs.Fields.{most_unarrived}
 use Rattle.tier_steps.specs.Word.{Fields, IsLegal, next_phase_of, joined, arrived_one, left_one, left_root, advanced, refreshed, settled}
-use Rattle.tier_steps.specs.View.{Trip, Arrival, Departure}
+use Rattle.tier_steps.specs.View.{Passage, Arrival, Departure}
 use Rattle.tier_steps.specs.Step.{passed, added, Admits}
 
 none_most : (n : ℕ) → n ≡ 0 → most_unarrived n ≡ 2
@@ -30,7 +30,7 @@ is_legal w phase parties empty some = record {
 }
 
 -- a party that passes leaves a legal word, whatever the word was
-pub passed_legal : (t : ℕ) (trip : Trip) (w : Fields) → IsLegal w → IsLegal (passed t trip w)
+pub passed_legal : (t : ℕ) (passage : Passage) (w : Fields) → IsLegal w → IsLegal (passed t passage w)
 passed_legal t Arrival w legal =
     is_legal (arrived_one w) legal.phase legal.parties (λ e. let a = legal_empty w legal e in omega arith)
     (λ h. let a = legal_open w legal h in omega arith)

@@ -80,7 +80,7 @@ given_up_ok ps root v v' (Climbing t k) a b c d ok = (b ∙ ok.0, ok.1)
 given_up_ok ps root v v' (Opening tier claimed Seeking size) a b c d ok = (ok.0, a ∙ ok.1)
 given_up_ok ps root v v' (Opening tier claimed GoingBack size) a b c d ok = (ok.0, a ∙ ok.1)
 given_up_ok ps root v v' (Opening tier claimed Joined size) a b c d ok =
-    (ok.0, record { phase = b ∙ ok.1.phase; arrived = c ∙ ok.1.arrived; seat = d ∙ ok.1.seat; members = a ∙ ok.1.members })
+    (ok.0, record { phase = b ∙ ok.1.phase; arrived = c ∙ ok.1.arrived; place = d ∙ ok.1.place; members = a ∙ ok.1.members })
 
 -- A look below the root that notes a refusal
 pub note_fits : (ps : List ℕ) (ws : List Fields) (vs : List View) (t : ℕ) (ended : Bool) (v : View) → t < length ws → Tallies ps ws vs
@@ -92,7 +92,7 @@ note_fits ps ws vs t ended v within tally ok =
     (record {
       within = ok.within;
       few = ok.few;
-      seated = ok.seated;
+      placed = ok.placed;
       current = ok.current;
       seen = ok.seen;
       errand = given_up_ok ps (root_phase ws) v (noted t (word_at ws t) v) v.errand refl refl refl refl ok.errand;
@@ -109,7 +109,7 @@ forced_ok ps root v w (Climbing t k) ok = ok
 forced_ok ps root v w (Opening tier claimed Seeking size) ok = ok
 forced_ok ps root v w (Opening tier claimed GoingBack size) ok = ok
 forced_ok ps root v w (Opening tier claimed Joined size) ok =
-    (ok.0, record { phase = ok.1.phase; arrived = ok.1.arrived; seat = ok.1.seat; members = ok.1.members })
+    (ok.0, record { phase = ok.1.phase; arrived = ok.1.arrived; place = ok.1.place; members = ok.1.members })
 
 -- Force
 pub force_fits : (ps : List ℕ) (ws : List Fields) (vs : List View) (v : View) → Tallies ps ws vs → ViewFits ps (root_phase ws) true v
@@ -134,7 +134,7 @@ force_fits ps ws vs v tally ok =
       view = record {
         within = ok.within;
         few = ok.few;
-        seated = ok.seated;
+        placed = ok.placed;
         current = ok.current;
         seen = λ p e. (refl, some_is p (root_phase ws) e);
         errand = forced_ok ps (root_phase ws) v (word_at ws 0) v.errand ok.errand;
@@ -186,7 +186,7 @@ moved_ok ps w v ok = move_keeps (ViewFits ps w.phase w.ended) w v ok
     (λ a b. record {
       within = omega arith;
       few = ok.few;
-      seated = ok.seated;
+      placed = ok.placed;
       current = λ _. inl refl;
       seen = ok.seen;
       errand = behind_ok ps w v v.errand b ok.errand;
@@ -223,7 +223,7 @@ dropped_ok ps root v v' (Climbing (suc t) k) a b c d ok = (b ∙ ok.0, ok.1)
 dropped_ok ps root v v' (Opening tier claimed Seeking size) a b c d ok = (ok.0, a ∙ ok.1)
 dropped_ok ps root v v' (Opening tier claimed GoingBack size) a b c d ok = (ok.0, a ∙ ok.1)
 dropped_ok ps root v v' (Opening tier claimed Joined size) a b c d ok =
-    (ok.0, record { phase = b ∙ ok.1.phase; arrived = c ∙ ok.1.arrived; seat = d ∙ ok.1.seat; members = a ∙ ok.1.members })
+    (ok.0, record { phase = b ∙ ok.1.phase; arrived = c ∙ ok.1.arrived; place = d ∙ ok.1.place; members = a ∙ ok.1.members })
 
 -- A Look at a root that has ended
 look_ended_fits : (ps : List ℕ) (ws : List Fields) (vs : List View) (v v' : View) → Tallies ps ws vs → (word_at ws 0).ended ≡ true
@@ -273,7 +273,7 @@ look_ended_fits ps ws vs v v' tally e ok same_tier same_size same_phase same_arr
       view = record {
         within = subst (λ (k : ℕ). k ≤ v'.size) (sym same_arrived) (subst (λ (k : ℕ). v.arrived ≤ k) (sym same_size) ok.within);
         few = subst (λ (k : ℕ). k ≤ 65535) (sym same_size) ok.few;
-        seated = λ h. subst (λ (k : ℕ). k < length ps) (sym same_tier) (ok.seated (subst (λ (k : ℕ). 0 < k) same_size h));
+        placed = λ h. subst (λ (k : ℕ). k < length ps) (sym same_tier) (ok.placed (subst (λ (k : ℕ). 0 < k) same_size h));
         current = λ h. ⊎_elim (λ c. inl (same_phase ∙ c))
             (λ c. inr (ap next_phase_of same_phase ∙ c.0, same_arrived ∙ (c.1 ∙ sym same_size))) (ok.current (subst (λ (k : ℕ). 0 < k) same_size h));
         seen = λ p q. (refl, some_is p (root_phase ws) (sym same_end ∙ q));
@@ -302,14 +302,14 @@ cleared_errand ps root v mark (Climbing t k) ok = ok
 cleared_errand ps root v mark (Opening tier claimed Seeking size) ok = ok
 cleared_errand ps root v mark (Opening tier claimed GoingBack size) ok = ok
 cleared_errand ps root v mark (Opening tier claimed Joined size) ok =
-    (ok.0, record { phase = ok.1.phase; arrived = ok.1.arrived; seat = ok.1.seat; members = ok.1.members })
+    (ok.0, record { phase = ok.1.phase; arrived = ok.1.arrived; place = ok.1.place; members = ok.1.members })
 
 pub cleared_ok : (ps : List ℕ) (root : ℕ) (ended : Bool) (v : View) (mark : Option (ℕ × Fields)) → ViewFits ps root ended v
     → ViewFits ps root ended (record v { led = false; note = mark })
 cleared_ok ps root ended v mark ok = record {
   within = ok.within;
   few = ok.few;
-  seated = ok.seated;
+  placed = ok.placed;
   current = ok.current;
   seen = ok.seen;
   errand = cleared_errand ps root v mark v.errand ok.errand;
@@ -362,7 +362,7 @@ noted_ok : (ps : List ℕ) (root : ℕ) (ended : Bool) (t : ℕ) (w : Fields) (v
 noted_ok ps root ended t w v ok = record {
   within = ok.within;
   few = ok.few;
-  seated = ok.seated;
+  placed = ok.placed;
   current = ok.current;
   seen = ok.seen;
   errand = given_up_ok ps root v (noted t w v) v.errand refl refl refl refl ok.errand;

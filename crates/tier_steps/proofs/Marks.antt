@@ -94,9 +94,9 @@ marks_of above (Settle tier claimed size) t w v =
 marks_of above (SettleBack tier claimed size) t w v =
     let v' : View = view_after above (SettleBack tier claimed size) t w v in
     (led_same t (SettleBack tier claimed size) v v' refl refl refl, note_same t w (SettleBack tier claimed size) v v' refl refl refl)
-marks_of above (Climb trip) t w v =
-    let v' : View = view_after above (Climb trip) t w v in
-    (led_same t (Climb trip) v v' refl refl refl, note_same t w (Climb trip) v v' refl refl refl)
+marks_of above (Climb passage) t w v =
+    let v' : View = view_after above (Climb passage) t w v in
+    (led_same t (Climb passage) v v' refl refl refl, note_same t w (Climb passage) v v' refl refl refl)
 marks_of above Refresh t w v = (led_same t Refresh v v refl refl refl, note_same t w Refresh v v refl refl refl)
 
 pub marks_are_told : MarksAreTold

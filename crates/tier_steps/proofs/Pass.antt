@@ -3,7 +3,7 @@ use Rattle.std.proofs.Common.{◌≡◌, ◌≢◌, ℕ, zero, suc, ◌+◌, ◌
 use Rattle.std.specs.Prelude.{sum_by}
 use Rattle.std.proofs.lemmas.Bool.{eq-eqb, ne_eqb}
 use Rattle.tier_steps.specs.Word.{Fields, IsLegal, is_being_opened, late}
-use Rattle.tier_steps.specs.View.{View, Errand, Rest, Climbing, Advancing, Trip, Arrival, Departure, parent_of, absent, only_at, errand_parties, errand_late, is_hidden, party_share, late_share, errand_claims, claim_share, errand_advances, advance_share}
+use Rattle.tier_steps.specs.View.{View, Errand, Rest, Climbing, Advancing, Passage, Arrival, Departure, parent_of, absent, only_at, errand_parties, errand_late, is_hidden, party_share, late_share, errand_claims, claim_share, errand_advances, advance_share}
 use Rattle.tier_steps.specs.Tally.{IsShape, word_at, root_phase, ErrandFits, ViewFits, is_zero, Tallies}
 use Rattle.tier_steps.specs.Step.{passed, owed, CanPass, CanClimb, climbed_view}
 use Rattle.tier_steps.proofs.Legal.{legal_open, passed_legal}
@@ -12,8 +12,8 @@ use Rattle.tier_steps.proofs.Passing.{gone, phase_passed, ended_passed, passed_p
 use Rattle.tier_steps.proofs.Keeping.{StepFits}
 
 -- what holds of each errand that may be owed holds of the one that is
-pub owed_is : (P : Errand → Type 0) (above t : ℕ) (k : Trip) (w : Fields)
-    → P Rest → (t ≡ 0 → P Advancing) → ((j : Trip) → 0 < t → P (Climbing above j)) → P (owed above t k w)
+pub owed_is : (P : Errand → Type 0) (above t : ℕ) (k : Passage) (w : Fields)
+    → P Rest → (t ≡ 0 → P Advancing) → ((j : Passage) → 0 < t → P (Climbing above j)) → P (owed above t k w)
 owed_is P above zero k w r a c = elim (eqb w.unarrived 1) as (λ b. P (cond b Advancing Rest)) [ true ↦ a refl | false ↦ r ]
 owed_is P above (suc t) Arrival w r a c =
     elim (eqb w.unarrived 1) as (λ b. P (cond b (Climbing above Arrival) Rest)) [ true ↦ c Arrival (omega arith) | false ↦ r ]
@@ -30,7 +30,7 @@ only_elsewhere t n u h = let other : t ≢ u = omega arith in ap (λ b. cond b n
 pub only_here : (t n : ℕ) → only_at t n t ≡ n
 only_here t n = ap (λ b. cond b n 0) (eq-eqb t t refl)
 
-passed_not_opened : (t : ℕ) (k : Trip) (w : Fields) → IsLegal w → 0 < w.parties → 0 < w.unarrived → is_being_opened (passed t k w) ≡ false
+passed_not_opened : (t : ℕ) (k : Passage) (w : Fields) → IsLegal w → 0 < w.parties → 0 < w.unarrived → is_being_opened (passed t k w) ≡ false
 passed_not_opened t Arrival w legal p u = grind arith
 passed_not_opened zero Departure w legal p u = let c = legal_open w legal p in grind arith
 passed_not_opened (suc t) Departure w legal p u = let c = legal_open w legal p in grind arith
@@ -38,7 +38,7 @@ passed_not_opened (suc t) Departure w legal p u = let c = legal_open w legal p i
 rooted : (n : ℕ) → 0 < n → is_zero (n - 1) ≡ errand_advances (cond (eqb n 1) Advancing Rest)
 rooted n h = grind arith
 
-passed_advances : (ps : List ℕ) (t : ℕ) (k : Trip) (w : Fields) → 0 < w.unarrived → t ≡ 0
+passed_advances : (ps : List ℕ) (t : ℕ) (k : Passage) (w : Fields) → 0 < w.unarrived → t ≡ 0
     → is_zero (passed t k w).unarrived ≡ errand_advances (owed (parent_of ps t) t k w)
 passed_advances ps zero Arrival w u e = rooted w.unarrived u
 passed_advances ps zero Departure w u e = rooted w.unarrived u
@@ -52,7 +52,7 @@ pub plain_late : (root : ℕ) (ps : List ℕ) (u : ℕ) (v : View) → is_hidden
     → late_share root ps u v ≡ only_at v.tier (absent root v) u + errand_late ps v.errand u
 plain_late root ps u v h = ap (λ b. cond b 0 (only_at v.tier (absent root v) u) + errand_late ps v.errand u) h
 
-climbs_elsewhere_parties : (ps : List ℕ) (t : ℕ) → (0 < t → parent_of ps t ≢ t) → (j : Trip) → 0 < t
+climbs_elsewhere_parties : (ps : List ℕ) (t : ℕ) → (0 < t → parent_of ps t ≢ t) → (j : Passage) → 0 < t
     → errand_parties ps (Climbing (parent_of ps t) j) t ≡ 0
 climbs_elsewhere_parties ps t above Arrival h = refl
 climbs_elsewhere_parties ps t above Departure h = only_elsewhere (parent_of ps t) 1 t (λ e. above h (sym e))
@@ -61,7 +61,7 @@ pub open_not_opened : (w : Fields) → 0 < w.parties → is_being_opened w ≡ f
 open_not_opened w h = ap (λ b. cond b (eqb w.unarrived 2) false) (ne_eqb w.parties 0 (omega arith))
 
 -- what a step at the tier t owes, where the token's own shares fall by those of one party at t
-pub record Passes (ps : List ℕ) (root : ℕ) (t : ℕ) (k : Trip) (w : Fields) (v v' : View) : Type 0 where
+pub record Passes (ps : List ℕ) (root : ℕ) (t : ℕ) (k : Passage) (w : Fields) (v v' : View) : Type 0 where
   pub legal : IsLegal w
   pub phase : w.phase ≡ root
   pub some : 0 < w.parties
@@ -73,7 +73,7 @@ pub record Passes (ps : List ℕ) (root : ℕ) (t : ℕ) (k : Trip) (w : Fields)
   pub parties : (u : ℕ) → only_at v.tier v.size u + errand_parties ps v.errand u ≡ only_at v'.tier v'.size u + only_at t (gone k) u
   pub unarrived : (u : ℕ) → only_at v.tier (absent root v) u + errand_late ps v.errand u ≡ only_at v'.tier (absent root v') u + only_at t 1 u
 
-pub pass_fits : (ps : List ℕ) (root : ℕ) (ended : Bool) (t : ℕ) (k : Trip) (w : Fields) (v v' : View) → IsShape ps → t < length ps
+pub pass_fits : (ps : List ℕ) (root : ℕ) (ended : Bool) (t : ℕ) (k : Passage) (w : Fields) (v v' : View) → IsShape ps → t < length ps
     → Passes ps root t k w v v' → ViewFits ps root ended v' → StepFits ps root ended t w (passed t k w) v v'
 pass_fits ps root ended t k w v v' shape within p ok =
     let hidden : is_hidden v'.errand ≡ false = ap is_hidden p.errand
@@ -157,7 +157,7 @@ stands ps ws front back v t tally within going =
     omega arith
 
 -- what is owed fits a token in the root's phase
-owed_ok : (ps : List ℕ) (root t : ℕ) (k : Trip) (w : Fields) (v : View) → IsShape ps → t < length ps → v.phase ≡ root
+owed_ok : (ps : List ℕ) (root t : ℕ) (k : Passage) (w : Fields) (v : View) → IsShape ps → t < length ps → v.phase ≡ root
     → ErrandFits ps root v (owed (parent_of ps t) t k w)
 owed_ok ps root t k w v shape within e = owed_is (ErrandFits ps root v) (parent_of ps t) t k w tt (λ _. e) (λ j h.
     (e, (let a : parent_of ps t < t = shape.earlier t h within in omega arith)))
@@ -187,32 +187,32 @@ own_waits ps ws front back v t within tally can current =
     let e = can.unarrived in
     omega arith)
 
--- how many members a token has after a trip of one of them, and how many of them have arrived
-abbrev size_after : Trip → ℕ → ℕ
+-- how many members a token has after a passage of one of them, and how many of them have arrived
+abbrev size_after : Passage → ℕ → ℕ
 size_after Arrival n = n
 size_after Departure n = n - 1
 
-abbrev arrived_after : Trip → ℕ → ℕ
+abbrev arrived_after : Passage → ℕ → ℕ
 arrived_after Arrival n = n + 1
 arrived_after Departure n = n
 
--- a departure takes a member away, and after either trip one is absent no longer
-after_trip : (k : Trip) (n a : ℕ) → a < n
+-- a departure takes a member away, and after either passage one is absent no longer
+after_passage : (k : Passage) (n a : ℕ) → a < n
     → (n ≡ size_after k n + gone k) × (n - a ≡ size_after k n - arrived_after k a + 1) × (arrived_after k a ≤ size_after k n)
-after_trip Arrival n a h = (omega arith, omega arith, omega arith)
-after_trip Departure n a h = (omega arith, omega arith, omega arith)
+after_passage Arrival n a h = (omega arith, omega arith, omega arith)
+after_passage Departure n a h = (omega arith, omega arith, omega arith)
 
--- the view of a token after a trip of one of its members
-abbrev pub passed_view : ℕ → ℕ → Trip → Fields → View → View
+-- the view of a token after a passage of one of its members
+abbrev pub passed_view : ℕ → ℕ → Passage → Fields → View → View
 passed_view above t k w v = record v { size = size_after k v.size; arrived = arrived_after k v.arrived; errand = owed above t k w }
 
 -- it fits
-passed_ok : (ps : List ℕ) (root : ℕ) (ended : Bool) (t : ℕ) (k : Trip) (w : Fields) (v : View) → IsShape ps → t < length ps → v.phase ≡ root
+passed_ok : (ps : List ℕ) (root : ℕ) (ended : Bool) (t : ℕ) (k : Passage) (w : Fields) (v : View) → IsShape ps → t < length ps → v.phase ≡ root
     → v.arrived < v.size → ViewFits ps root ended v → ViewFits ps root ended (passed_view (parent_of ps t) t k w v)
-passed_ok ps root ended t k w v shape within current h ok = let a = after_trip k v.size v.arrived h in record {
+passed_ok ps root ended t k w v shape within current h ok = let a = after_passage k v.size v.arrived h in record {
   within = a.2;
   few = (let b = ok.few in let c = a.0 in omega arith);
-  seated = λ p. ok.seated (omega arith);
+  placed = λ p. ok.placed (omega arith);
   current = λ _. inl current;
   seen = ok.seen;
   errand = owed_ok ps root t k w (passed_view (parent_of ps t) t k w v) shape within current;
@@ -223,7 +223,7 @@ rest_share : (s t u n m c e : ℕ) → s ≡ t → n ≡ m + c → e ≡ 0 → o
 rest_share s t u n m c e own less rest = grind arith
 
 -- a member arrives or leaves at the tier of its token
-pub own_pass_fits : (ps : List ℕ) (ws : List Fields) (front back : List View) (v : View) (t : ℕ) (k : Trip) (ended : Bool) → IsShape ps
+pub own_pass_fits : (ps : List ℕ) (ws : List Fields) (front back : List View) (v : View) (t : ℕ) (k : Passage) (ended : Bool) → IsShape ps
     → t < length ws → Tallies ps ws (front ++ v ∷ back)
     → CanPass t (word_at ws t) v → ViewFits ps (root_phase ws) ended v
     → StepFits ps (root_phase ws) ended t (word_at ws t) (passed t k (word_at ws t)) v (passed_view (parent_of ps t) t k (word_at ws t) v)
@@ -232,7 +232,7 @@ own_pass_fits ps ws front back v t k ended shape within tally can ok =
     let waits = own_waits ps ws front back v t within tally can current in
     let inside : t < length ps = subst (λ (n : ℕ). t < n) tally.long within in
     let v' : View = passed_view (parent_of ps t) t k (word_at ws t) v in
-    let after = after_trip k v.size v.arrived can.unarrived in
+    let after = after_passage k v.size v.arrived can.unarrived in
     let fewer : absent (root_phase ws) v ≡ absent (root_phase ws) v' + 1 =
     absent_current (root_phase ws) v current ∙ after.1 ∙ ap (λ n. n + 1) (sym (absent_current (root_phase ws) v' current)) in
     pass_fits ps (root_phase ws) ended t k (word_at ws t) v v' shape inside
@@ -252,26 +252,26 @@ own_pass_fits ps ws front back v t k ended shape within tally can ok =
     })
     (passed_ok ps (root_phase ws) ended t k (word_at ws t) v shape inside current can.unarrived ok)
 
-climbed_ok : (ps : List ℕ) (root : ℕ) (ended : Bool) (t : ℕ) (k : Trip) (w : Fields) (v : View) → IsShape ps → t < length ps
+climbed_ok : (ps : List ℕ) (root : ℕ) (ended : Bool) (t : ℕ) (k : Passage) (w : Fields) (v : View) → IsShape ps → t < length ps
     → v.phase ≡ root → ViewFits ps root ended v → ViewFits ps root ended (climbed_view (parent_of ps t) t k w v)
 climbed_ok ps root ended t k w v shape within current ok = record {
   within = ok.within;
   few = ok.few;
-  seated = ok.seated;
+  placed = ok.placed;
   current = ok.current;
   seen = ok.seen;
   errand = owed_ok ps root t k w (climbed_view (parent_of ps t) t k w v) shape within current;
 }
 
-climb_parties : (ps : List ℕ) (t : ℕ) (k : Trip) (u : ℕ) → errand_parties ps (Climbing t k) u ≡ only_at t (gone k) u
+climb_parties : (ps : List ℕ) (t : ℕ) (k : Passage) (u : ℕ) → errand_parties ps (Climbing t k) u ≡ only_at t (gone k) u
 climb_parties ps t Arrival u = sym (only_nothing t u)
 climb_parties ps t Departure u = refl
 
-pub climbing_late : (root : ℕ) (ps : List ℕ) (t : ℕ) (k : Trip) (u : ℕ) (v : View) → v.errand ≡ Climbing t k
+pub climbing_late : (root : ℕ) (ps : List ℕ) (t : ℕ) (k : Passage) (u : ℕ) (v : View) → v.errand ≡ Climbing t k
     → late_share root ps u v ≡ only_at v.tier (absent root v) u + only_at t 1 u
 climbing_late root ps t k u v e = ap (λ x. cond (is_hidden x) 0 (only_at v.tier (absent root v) u) + errand_late ps x u) e
 
-pub climb_fits : (ps : List ℕ) (ws : List Fields) (front back : List View) (v : View) (t : ℕ) (k : Trip) (ended : Bool) → IsShape ps
+pub climb_fits : (ps : List ℕ) (ws : List Fields) (front back : List View) (v : View) (t : ℕ) (k : Passage) (ended : Bool) → IsShape ps
     → t < length ws → Tallies ps ws (front ++ v ∷ back)
     → CanClimb t k (word_at ws t) v → ViewFits ps (root_phase ws) ended v
     → StepFits ps (root_phase ws) ended t (word_at ws t) (passed t k (word_at ws t)) v (climbed_view (parent_of ps t) t k (word_at ws t) v)

@@ -21,4 +21,4 @@ claims_are_listed ps tier (suc claimed) u =
     omega arith
 
 pub paths_fall : PathsFall
-paths_fall ps tier above shape seat below = path_falls ps tier above shape seat below
+paths_fall ps tier above shape place below = path_falls ps tier above shape place below

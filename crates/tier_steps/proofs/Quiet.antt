@@ -2,7 +2,7 @@
 use Rattle.std.proofs.Common.{◌≡◌, ◌≢◌, ℕ, zero, suc, ◌+◌, ◌<◌, ◌≤◌, inl, ⊎_elim, Bool, true, false, cond, eqb, List, ◌∷◌, ◌++◌, length, refl, sym, ◌∙◌, ap, subst, arith}
 use Rattle.std.proofs.lemmas.Bool.{eq-eqb, ne_eqb}
 use Rattle.tier_steps.specs.Word.{Fields, IsLegal, is_being_opened, late, refreshed, emptied, claimed_word, settled}
-use Rattle.tier_steps.specs.View.{View, Errand, Rest, Opening, Climbing, Trip, Stage, Seeking, Joined, GoingBack, parent_of, ancestor, absent, only_at, errand_parties, errand_late, is_hidden, party_share, late_share, claims_on, errand_claims, claim_share, errand_advances, advance_share}
+use Rattle.tier_steps.specs.View.{View, Errand, Rest, Opening, Climbing, Passage, OpeningStage, Seeking, Joined, GoingBack, parent_of, ancestor, absent, only_at, errand_parties, errand_late, is_hidden, party_share, late_share, claims_on, errand_claims, claim_share, errand_advances, advance_share}
 use Rattle.tier_steps.specs.Tally.{IsShape, word_at, root_phase, counted, OpeningFits, JoinFits, ErrandFits, ViewFits, bit, Tallies}
 use Rattle.tier_steps.specs.Step.{opening, added, IsDue, IsFree, claimed_view, settled_view, CanRefresh}
 use Rattle.tier_steps.proofs.Legal.{settled_legal, unclaimed_legal, refreshed_legal, added_range}
@@ -132,10 +132,10 @@ claim_fits ps ws vs v t tier claimed size ended within tally due can ok =
     (record {
       within = ok.within;
       few = ok.few;
-      seated = ok.seated;
+      placed = ok.placed;
       current = ok.current;
       seen = ok.seen;
-      errand = (record { claims = omega arith; seat = due.seat; some = due.some; few = due.few }, due.none);
+      errand = (record { claims = omega arith; place = due.place; some = due.some; few = due.few }, due.none);
     })
 
 bit_true : (b : Bool) → 0 < cond {A = ℕ} b 1 0 → b ≡ true
@@ -161,7 +161,7 @@ claimed_below ps ws (suc t) vs tally e = omega arith
 left_ok : (ps : List ℕ) (root : ℕ) (v : View) (tier claimed size : ℕ) → OpeningFits ps tier (suc claimed) size → v.size ≡ 0
     → ErrandFits ps root v (opening tier claimed GoingBack size)
 left_ok ps root v tier zero size fit z = tt
-left_ok ps root v tier (suc claimed) size fit z = (record { claims = omega arith; seat = fit.seat; some = fit.some; few = fit.few }, z)
+left_ok ps root v tier (suc claimed) size fit z = (record { claims = omega arith; place = fit.place; some = fit.some; few = fit.few }, z)
 
 -- the highest of the claimed tiers is claimed once more than by the others
 highest_claimed : (ps : List ℕ) (tier claimed : ℕ)
@@ -172,7 +172,7 @@ others_claimed : (ps : List ℕ) (tier claimed u : ℕ) → u ≢ ancestor ps ti
 others_claimed ps tier claimed u h = let a = only_elsewhere (ancestor ps tier claimed) 1 u h in omega arith
 
 -- the tier that is settled next is being opened
-next_is_opened : (ps : List ℕ) (ws : List Fields) (front back : List View) (v : View) (tier claimed size : ℕ) (stage : Stage)
+next_is_opened : (ps : List ℕ) (ws : List Fields) (front back : List View) (v : View) (tier claimed size : ℕ) (stage : OpeningStage)
     → Tallies ps ws (front ++ v ∷ back) → ancestor ps tier claimed < length ws → v.errand ≡ Opening tier (suc claimed) stage size
     → is_being_opened (word_at ws (ancestor ps tier claimed)) ≡ true
 next_is_opened ps ws front back v tier claimed size stage tally within e =
@@ -218,7 +218,7 @@ settle_back_fits ps ws front back v tier claimed size ended within tally e ok =
     (record {
       within = ok.within;
       few = ok.few;
-      seated = ok.seated;
+      placed = ok.placed;
       current = ok.current;
       seen = ok.seen;
       errand = left_ok ps (root_phase ws) v' tier claimed size fit.0 fit.1;
@@ -236,10 +236,10 @@ settled_share : (ps : List ℕ) (root : ℕ) (v : View) (tier claimed size : ℕ
     → (party_share ps u (settled_view tier claimed Joined size v) ≡ only_at (ancestor ps tier claimed) (added claimed size) u)
     × (late_share root ps u (settled_view tier claimed Joined size v) ≡ only_at (ancestor ps tier claimed) (added claimed size) u)
 settled_share ps root v tier zero size fit u = (
-  resting_parties ps u (settled_view tier 0 Joined size v) refl ∙ (ap (λ k. only_at k v.size u) fit.seat ∙ ap (λ k. only_at tier k u) fit.members),
+  resting_parties ps u (settled_view tier 0 Joined size v) refl ∙ (ap (λ k. only_at k v.size u) fit.place ∙ ap (λ k. only_at tier k u) fit.members),
   resting_late root ps u (settled_view tier 0 Joined size v) refl
       ∙ (ap (λ k. only_at v.tier k u) (absent_joined root (settled_view tier 0 Joined size v) fit.arrived)
-      ∙ (ap (λ k. only_at k v.size u) fit.seat ∙ ap (λ k. only_at tier k u) fit.members)),
+      ∙ (ap (λ k. only_at k v.size u) fit.place ∙ ap (λ k. only_at tier k u) fit.members)),
 )
 settled_share ps root v tier (suc claimed) size fit u = (omega arith, omega arith)
 
@@ -256,8 +256,8 @@ lower_ok : (ps : List ℕ) (root : ℕ) (v : View) (tier claimed size : ℕ) →
     → ErrandFits ps root v (opening tier claimed Joined size)
 lower_ok ps root v tier zero size fit join = tt
 lower_ok ps root v tier (suc claimed) size fit join = (
-  record { claims = omega arith; seat = fit.seat; some = fit.some; few = fit.few },
-  record { phase = join.phase; arrived = join.arrived; seat = join.seat; members = join.members },
+  record { claims = omega arith; place = fit.place; some = fit.some; few = fit.few },
+  record { phase = join.phase; arrived = join.arrived; place = join.place; members = join.members },
 )
 
 settled_not_opened : (w : Fields) (phase n : ℕ) → 0 < n → is_being_opened (settled w phase n) ≡ false
@@ -351,11 +351,11 @@ settle_fits ps ws front back v tier claimed size ended shape within tally e ok =
       view = record {
         within = ok.within;
         few = ok.few;
-        seated = ok.seated;
+        placed = ok.placed;
         current = ok.current;
         seen = ok.seen;
         errand = lower_ok ps (root_phase ws) v' tier claimed size fit.0
-            (record { phase = fit.1.phase; arrived = fit.1.arrived; seat = fit.1.seat; members = fit.1.members });
+            (record { phase = fit.1.phase; arrived = fit.1.arrived; place = fit.1.place; members = fit.1.members });
       };
     }
 
@@ -370,7 +370,7 @@ refresh_fits ps ws v vs t ended within tally can ok =
     let w : Fields = word_at ws t in
     let current : v.phase ≡ root_phase ws = ⊎_elim
     (λ own. unarrived_is_current ps (root_phase ws) ended v ok own.2)
-    (λ (climb : (k : Trip) × (v.errand ≡ Climbing t k)).
+    (λ (climb : (k : Passage) × (v.errand ≡ Climbing t k)).
     (let fit : ErrandFits ps (root_phase ws) v (Climbing t climb.0) =
     subst (λ (x : Errand). ErrandFits ps (root_phase ws) v x) climb.1 ok.errand in fit.0))
     can.leave in

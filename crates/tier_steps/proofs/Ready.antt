@@ -75,18 +75,18 @@ no_members ps ws vs shape tally going due none =
     (λ x k. memberless ps t x k.0.1 k.1) vs facts))
     (length ws) 0 (omega arith) tally.some
 
-seated_empty : (ps : List ℕ) (root : ℕ) (ended : Bool) (v : View) → ViewFits ps root ended v
+placed_empty : (ps : List ℕ) (root : ℕ) (ended : Bool) (v : View) → ViewFits ps root ended v
     → (v.tier < length ps → only_at v.tier v.size v.tier ≡ 0) → v.size ≡ 0
-seated_empty ps root ended v ok none = ⊎_elim (λ (z : v.size ≡ 0). z)
-    (λ (n : v.size ≢ 0). let a = none (ok.seated (omega arith)) in let b = only_here v.tier v.size in omega arith) (cases_eq v.size 0)
+placed_empty ps root ended v ok none = ⊎_elim (λ (z : v.size ≡ 0). z)
+    (λ (n : v.size ≢ 0). let a = none (ok.placed (omega arith)) in let b = only_here v.tier v.size in omega arith) (cases_eq v.size 0)
 
 -- a token that is done and counts no party anywhere has no members
 empty_by : (ps : List ℕ) (root : ℕ) (ended : Bool) (v : View) (e : Errand) → v.errand ≡ e → ViewFits ps root ended v
     → ErrandFits ps root v e → IsDone root v
     → (v.tier < length ps → cond (is_hidden e) 0 (only_at v.tier v.size v.tier) + errand_parties ps e v.tier ≡ 0) → v.size ≡ 0
-empty_by ps root ended v Rest q ok fit d none = seated_empty ps root ended v ok (λ h. let a = none h in omega arith)
-empty_by ps root ended v Advancing q ok fit d none = seated_empty ps root ended v ok (λ h. let a = none h in omega arith)
-empty_by ps root ended v (Climbing t trip) q ok fit d none = seated_empty ps root ended v ok (λ h. let a = none h in omega arith)
+empty_by ps root ended v Rest q ok fit d none = placed_empty ps root ended v ok (λ h. let a = none h in omega arith)
+empty_by ps root ended v Advancing q ok fit d none = placed_empty ps root ended v ok (λ h. let a = none h in omega arith)
+empty_by ps root ended v (Climbing t passage) q ok fit d none = placed_empty ps root ended v ok (λ h. let a = none h in omega arith)
 empty_by ps root ended v (Opening tier claimed Seeking size) q ok fit d none = fit.1
 empty_by ps root ended v (Opening tier claimed GoingBack size) q ok fit d none = fit.1
 empty_by ps root ended v (Opening tier claimed Joined size) q ok fit d none = absurd
@@ -176,7 +176,7 @@ after_phase ps root ended (Settle tier claimed size) t w v ok n a e =
     let fit : ErrandFits ps root v (Opening tier (suc claimed) Joined size) =
     subst (λ (x : Errand). ErrandFits ps root v x) n.1 ok.errand in fit.1.phase
 after_phase ps root ended (SettleBack tier claimed size) t w v ok n a e = e
-after_phase ps root ended (Climb trip) t w v ok n a e = phase_passed t trip w ∙ e
+after_phase ps root ended (Climb passage) t w v ok n a e = phase_passed t passage w ∙ e
 after_phase ps root ended Refresh t w v ok n a e = refresher ps root ended t w v ok n
 
 pub phases_stay : PhasesStay

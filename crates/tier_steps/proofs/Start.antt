@@ -68,7 +68,7 @@ new_tokens_tally ps ws front back p tally =
     (all_into (ViewFits ps (root_phase ws) (word_at ws 0).ended) front back new tally.fits (record {
       within = omega arith;
       few = omega arith;
-      seated = λ h. absurd (omega arith);
+      placed = λ h. absurd (omega arith);
       current = λ h. absurd (omega arith);
       seen = λ q e. absurd (let a : None ≡ Some q = e in cc);
       errand = tt;

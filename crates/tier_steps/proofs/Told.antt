@@ -47,7 +47,7 @@ told_by ps root u v (Climbing t Arrival) ok h = omega arith
 told_by ps root u v (Climbing t Departure) ok h = omega arith
 told_by ps root u v (Opening tier claimed Joined size) ok h =
     let a = only_highest ps tier claimed v.size u ok.0.claims h in
-    let b : only_at v.tier v.size u ≡ only_at tier v.size u = ap (λ k. only_at k v.size u) ok.1.seat in
+    let b : only_at v.tier v.size u ≡ only_at tier v.size u = ap (λ k. only_at k v.size u) ok.1.place in
     omega arith
 told_by ps root u v (Opening tier claimed Seeking size) ok h =
     let a = ap (λ k. only_at v.tier k u) ok.1 in let b = only_nothing v.tier u in omega arith
@@ -58,10 +58,10 @@ late_by : (ps : List ℕ) (root u : ℕ) (v : View) (e : Errand) → ErrandFits 
     → absent_at root u v + climbing u e + claimed_children ps u e ≡ cond (is_hidden e) 0 (only_at v.tier (absent root v) u) + errand_late ps e u
 late_by ps root u v Rest ok h = omega arith
 late_by ps root u v Advancing ok h = omega arith
-late_by ps root u v (Climbing t trip) ok h = omega arith
+late_by ps root u v (Climbing t passage) ok h = omega arith
 late_by ps root u v (Opening tier claimed Joined size) ok h =
     let a = only_highest ps tier claimed (absent root v) u ok.0.claims h in
-    let b : only_at v.tier (absent root v) u ≡ only_at tier (absent root v) u = ap (λ k. only_at k (absent root v) u) ok.1.seat in
+    let b : only_at v.tier (absent root v) u ≡ only_at tier (absent root v) u = ap (λ k. only_at k (absent root v) u) ok.1.place in
     omega arith
 late_by ps root u v (Opening tier claimed Seeking size) ok h =
     let a = ap (λ k. only_at v.tier k u) (absent_none root v ok.1) in let b = only_nothing v.tier u in omega arith
@@ -123,7 +123,7 @@ some_claim false h = absurd (omega arith)
 under_way : (ps : List ℕ) (root : ℕ) (v : View) (e : Errand) → ErrandFits ps root v e → is_under_way e ≡ true → v.phase ≡ root
 under_way ps root v Rest ok h = absurd (let a : false ≡ true = h in cc)
 under_way ps root v Advancing ok h = ok
-under_way ps root v (Climbing t trip) ok h = ok.0
+under_way ps root v (Climbing t passage) ok h = ok.0
 under_way ps root v (Opening tier claimed Seeking size) ok h = absurd (let a : false ≡ true = h in cc)
 under_way ps root v (Opening tier claimed GoingBack size) ok h = absurd (let a : false ≡ true = h in cc)
 under_way ps root v (Opening tier claimed Joined size) ok h = ok.1.phase

@@ -57,7 +57,7 @@ is_advance Force = false
 is_advance (Claim tier claimed size) = false
 is_advance (Settle tier claimed size) = false
 is_advance (SettleBack tier claimed size) = false
-is_advance (Climb trip) = false
+is_advance (Climb passage) = false
 is_advance Refresh = false
 
 -- A tier in the root's phase stays there until the root advances.

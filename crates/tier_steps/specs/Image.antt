@@ -23,7 +23,7 @@ all_members owner (v ∷ views) = token_members owner v ++ all_members (suc owne
 abbrev pub is_climbing : Errand → Bool
 is_climbing Rest = false
 is_climbing Advancing = true
-is_climbing (Climbing t trip) = true
+is_climbing (Climbing t passage) = true
 is_climbing (Opening tier claimed stage size) = false
 
 -- some token climbs or advances
@@ -56,7 +56,7 @@ label owner Force = Some flat.Force
 label owner (Claim tier claimed size) = None
 label owner (Settle tier claimed size) = None
 label owner (SettleBack tier claimed size) = None
-label owner (Climb trip) = None
+label owner (Climb passage) = None
 label owner Refresh = None
 
 -- what a label leaves of a flat phaser, and whether the flat phaser may take it

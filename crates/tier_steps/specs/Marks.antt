@@ -20,7 +20,7 @@ sees_root t Force = false
 sees_root t (Claim tier claimed size) = false
 sees_root t (Settle tier claimed size) = false
 sees_root t (SettleBack tier claimed size) = false
-sees_root t (Climb trip) = false
+sees_root t (Climb passage) = false
 sees_root t Refresh = false
 
 abbrev pub is_refusal : Kind → Bool
@@ -35,7 +35,7 @@ is_refusal Force = false
 is_refusal (Claim tier claimed size) = false
 is_refusal (Settle tier claimed size) = false
 is_refusal (SettleBack tier claimed size) = false
-is_refusal (Climb trip) = false
+is_refusal (Climb passage) = false
 is_refusal Refresh = false
 
 -- A token has led from the advance that it takes to its next look at the root.

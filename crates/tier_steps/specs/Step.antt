@@ -4,18 +4,18 @@ pub use Rattle.tier_steps.specs.declared.kind.Kind.{Kind}
 pub use Rattle.tier_steps.specs.declared.kind.Kind.TheVariants.{Look, Glance, Refuse, Join, Arrive, Leave, Advance, Force, Claim, Settle, SettleBack, Climb, Refresh}
 use Rattle.std.specs.Prelude.{◌≡◌, ◌≢◌, ℕ, zero, suc, ◌+◌, ◌-◌, ◌≤◌, ◌<◌, ◌⊎◌, Bool, true, false, ◌==◌, if◌then◌else◌, Some, None, List, length}
 use Rattle.tier_steps.specs.Word.{Fields, IsLegal, joined, arrived_one, left_one, left_root, advanced, refreshed, emptied, claimed_word, settled, forced, is_being_opened}
-use Rattle.tier_steps.specs.View.{View, Errand, Rest, Opening, Climbing, Advancing, Stage, Seeking, Joined, GoingBack, Trip, Arrival, Departure, ancestor}
+use Rattle.tier_steps.specs.View.{View, Errand, Rest, Opening, Climbing, Advancing, OpeningStage, Seeking, Joined, GoingBack, Passage, Arrival, Departure, ancestor}
 
 -- the word of a tier that one party has passed, by an arrival or a departure
-abbrev pub passed : ℕ → Trip → Fields → Fields
+abbrev pub passed : ℕ → Passage → Fields → Fields
 passed t Arrival w = arrived_one w
 passed zero Departure w = left_root w
 passed (suc t) Departure w = left_one w
 
 -- What is owed after that, by the word before: the last unarrived party of a tier tells the tier above, as a departure where it was the
 -- last party; the root's advances.
-abbrev pub owed : ℕ → ℕ → Trip → Fields → Errand
-owed above zero trip w = if w.unarrived == 1 then Advancing else Rest
+abbrev pub owed : ℕ → ℕ → Passage → Fields → Errand
+owed above zero passage w = if w.unarrived == 1 then Advancing else Rest
 owed above (suc t) Arrival w = if w.unarrived == 1 then Climbing above Arrival else Rest
 owed above (suc t) Departure w = if w.parties == 1 then Climbing above Departure else (if w.unarrived == 1 then Climbing above Arrival else Rest)
 
@@ -34,13 +34,13 @@ abbrev pub left_view : ℕ → ℕ → Fields → View → View
 left_view above t w v = record v { size = v.size - 1; errand = owed above t Departure w }
 
 -- a token goes on with a climb
-pub record CanClimb (t : ℕ) (trip : Trip) (w : Fields) (v : View) : Type 0 where
-  pub errand : v.errand ≡ Climbing t trip
+pub record CanClimb (t : ℕ) (passage : Passage) (w : Fields) (v : View) : Type 0 where
+  pub errand : v.errand ≡ Climbing t passage
   pub going : w.ended ≡ false
   pub current : w.phase ≡ v.phase
 
-abbrev pub climbed_view : ℕ → ℕ → Trip → Fields → View → View
-climbed_view above t trip w v = record v { errand = owed above t trip w }
+abbrev pub climbed_view : ℕ → ℕ → Passage → Fields → View → View
+climbed_view above t passage w v = record v { errand = owed above t passage w }
 
 -- so many parties may join a tier: it has an unarrived party, or it is the empty root, and there is room
 pub record Admits (t n : ℕ) (w : Fields) : Type 0 where
@@ -54,7 +54,7 @@ abbrev pub Refuses : ℕ → Fields → Type 0
 Refuses n w = (w.ended ≡ false) × ((65535 < w.parties + n) ⊎ (w.unarrived ≡ 0) ⊎ (is_being_opened w ≡ true))
 
 -- the errand of an opening with so many claimed tiers: without claims there is none
-abbrev pub opening : ℕ → ℕ → Stage → ℕ → Errand
+abbrev pub opening : ℕ → ℕ → OpeningStage → ℕ → Errand
 opening tier zero stage size = Rest
 opening tier (suc claimed) stage size = Opening tier (suc claimed) stage size
 
@@ -70,7 +70,7 @@ pub record IsDue (parents : List ℕ) (tier claimed size : ℕ) (t : ℕ) (v : V
   pub none : v.size ≡ 0
   pub some : 0 < size
   pub few : size ≤ 65535
-  pub seat : tier < length parents
+  pub place : tier < length parents
 
 abbrev pub joined_view : ℕ → ℕ → ℕ → Fields → View → View
 joined_view tier claimed size w v = record v { tier = tier; size = size; phase = w.phase; arrived = 0; errand = opening tier claimed Joined size }
@@ -84,7 +84,7 @@ pub record IsFree (t : ℕ) (w : Fields) : Type 0 where
 abbrev pub claimed_view : ℕ → ℕ → ℕ → View → View
 claimed_view tier claimed size v = record v { errand = Opening tier (suc claimed) Seeking size }
 
-abbrev pub settled_view : ℕ → ℕ → Stage → ℕ → View → View
+abbrev pub settled_view : ℕ → ℕ → OpeningStage → ℕ → View → View
 settled_view tier claimed stage size v = record v { errand = opening tier claimed stage size }
 
 -- a token may bring a word that lags into its phase, at its own tier where it has an unarrived member, and where it climbs
@@ -92,14 +92,14 @@ pub record CanRefresh (t : ℕ) (w : Fields) (v : View) : Type 0 where
   pub some : 0 < w.parties
   pub arrived : w.unarrived ≡ 0
   pub behind : w.phase ≢ v.phase
-  pub leave : ((v.errand ≡ Rest) × (v.tier ≡ t) × (v.arrived < v.size)) ⊎ ((trip : Trip) × (v.errand ≡ Climbing t trip))
+  pub leave : ((v.errand ≡ Rest) × (v.tier ≡ t) × (v.arrived < v.size)) ⊎ ((passage : Passage) × (v.errand ≡ Climbing t passage))
 
 -- What a token owes to a root that has ended is dropped, and a path whose join isn't taken is given back.
 abbrev pub dropped : Errand → Errand
 dropped Rest = Rest
 dropped Advancing = Rest
-dropped (Climbing zero trip) = Rest
-dropped (Climbing (suc t) trip) = Climbing (suc t) trip
+dropped (Climbing zero passage) = Rest
+dropped (Climbing (suc t) passage) = Climbing (suc t) passage
 dropped (Opening tier claimed Seeking size) = Opening tier claimed GoingBack size
 dropped (Opening tier claimed Joined size) = Opening tier claimed Joined size
 dropped (Opening tier claimed GoingBack size) = Opening tier claimed GoingBack size
@@ -111,7 +111,7 @@ moved w v = if v.arrived == v.size then (if v.phase == w.phase then v else recor
 abbrev pub is_going_back : Errand → Bool
 is_going_back Rest = false
 is_going_back Advancing = false
-is_going_back (Climbing t trip) = false
+is_going_back (Climbing t passage) = false
 is_going_back (Opening tier claimed Seeking size) = false
 is_going_back (Opening tier claimed Joined size) = false
 is_going_back (Opening tier claimed GoingBack size) = true
@@ -126,7 +126,7 @@ looked w v =
 abbrev pub given_up : Errand → Errand
 given_up Rest = Rest
 given_up Advancing = Advancing
-given_up (Climbing t trip) = Climbing t trip
+given_up (Climbing t passage) = Climbing t passage
 given_up (Opening tier claimed Seeking size) = Opening tier claimed GoingBack size
 given_up (Opening tier claimed Joined size) = Opening tier claimed Joined size
 given_up (Opening tier claimed GoingBack size) = Opening tier claimed GoingBack size
@@ -164,7 +164,7 @@ Needs parents Force t w v = t ≡ 0
 Needs parents (Claim tier claimed size) t w v = IsDue parents tier claimed size t v × IsFree t w
 Needs parents (Settle tier claimed size) t w v = (t ≡ ancestor parents tier claimed) × (v.errand ≡ Opening tier (suc claimed) Joined size)
 Needs parents (SettleBack tier claimed size) t w v = (t ≡ ancestor parents tier claimed) × (v.errand ≡ Opening tier (suc claimed) GoingBack size)
-Needs parents (Climb trip) t w v = CanClimb t trip w v
+Needs parents (Climb passage) t w v = CanClimb t passage w v
 Needs parents Refresh t w v = CanRefresh t w v
 
 -- the word that it leaves
@@ -180,7 +180,7 @@ word_after Force t w v = forced w
 word_after (Claim tier claimed size) t w v = claimed_word w
 word_after (Settle tier claimed size) t w v = settled w v.phase (added claimed size)
 word_after (SettleBack tier claimed size) t w v = emptied w
-word_after (Climb trip) t w v = passed t trip w
+word_after (Climb passage) t w v = passed t passage w
 word_after Refresh t w v = refreshed w v.phase
 
 -- the view that it leaves, where `above` is the parent of the tier
@@ -196,7 +196,7 @@ view_after above Force t w v = forced_view w v
 view_after above (Claim tier claimed size) t w v = claimed_view tier claimed size v
 view_after above (Settle tier claimed size) t w v = settled_view tier claimed Joined size v
 view_after above (SettleBack tier claimed size) t w v = settled_view tier claimed GoingBack size v
-view_after above (Climb trip) t w v = climbed_view above t trip w v
+view_after above (Climb passage) t w v = climbed_view above t passage w v
 view_after above Refresh t w v = v
 
 -- how many tiers were claimed before a claim
@@ -212,7 +212,7 @@ claimed_before Force = 0
 claimed_before (Claim tier claimed size) = claimed
 claimed_before (Settle tier claimed size) = 0
 claimed_before (SettleBack tier claimed size) = 0
-claimed_before (Climb trip) = 0
+claimed_before (Climb passage) = 0
 claimed_before Refresh = 0
 
 -- A step that the code can run: the word that it leaves is legal, and its numbers stay in their ranges.

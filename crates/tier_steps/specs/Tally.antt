@@ -46,7 +46,7 @@ KeepsUp root w = 0 < w.parties → (w.phase ≡ root) ⊎ ((next_phase_of w.phas
 -- an opening is of an existing tier, for some members, and has claimed at least that tier
 pub record OpeningFits (parents : List ℕ) (tier claimed size : ℕ) : Type 0 where
   pub claims : 0 < claimed
-  pub seat : tier < length parents
+  pub place : tier < length parents
   pub some : 0 < size
   pub few : size ≤ 65535
 
@@ -54,7 +54,7 @@ pub record OpeningFits (parents : List ℕ) (tier claimed size : ℕ) : Type 0 w
 pub record JoinFits (root : ℕ) (v : View) (tier size : ℕ) : Type 0 where
   pub phase : v.phase ≡ root
   pub arrived : v.arrived ≡ 0
-  pub seat : v.tier ≡ tier
+  pub place : v.tier ≡ tier
   pub members : v.size ≡ size
 
 abbrev pub ErrandFits : List ℕ → ℕ → View → Errand → Type 0
@@ -62,14 +62,14 @@ ErrandFits parents root v Rest = Unit {0}
 ErrandFits parents root v (Opening tier claimed Seeking size) = OpeningFits parents tier claimed size × (v.size ≡ 0)
 ErrandFits parents root v (Opening tier claimed GoingBack size) = OpeningFits parents tier claimed size × (v.size ≡ 0)
 ErrandFits parents root v (Opening tier claimed Joined size) = OpeningFits parents tier claimed size × JoinFits root v tier size
-ErrandFits parents root v (Climbing t trip) = (v.phase ≡ root) × (t < length parents)
+ErrandFits parents root v (Climbing t passage) = (v.phase ≡ root) × (t < length parents)
 ErrandFits parents root v Advancing = v.phase ≡ root
 
 -- a view fits a root in this phase, ended or not
 pub record ViewFits (parents : List ℕ) (root : ℕ) (ended : Bool) (v : View) : Type 0 where
   pub within : v.arrived ≤ v.size
   pub few : v.size ≤ 65535
-  pub seated : 0 < v.size → v.tier < length parents
+  pub placed : 0 < v.size → v.tier < length parents
   pub current : 0 < v.size → (v.phase ≡ root) ⊎ ((next_phase_of v.phase ≡ root) × (v.arrived ≡ v.size))
   pub seen : (p : ℕ) → v.end_seen ≡ Some p → (ended ≡ true) × (p ≡ root)
   pub errand : ErrandFits parents root v v.errand

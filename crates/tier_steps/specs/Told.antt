@@ -23,7 +23,7 @@ departing t (Opening tier claimed stage size) = 0
 abbrev pub climbing : ℕ → Errand → ℕ
 climbing t Rest = 0
 climbing t Advancing = 0
-climbing t (Climbing to trip) = only_at to 1 t
+climbing t (Climbing to passage) = only_at to 1 t
 climbing t (Opening tier claimed stage size) = 0
 
 -- how many of the claimed tiers are children of a tier
@@ -35,7 +35,7 @@ children_on parents tier (suc claimed) t = only_at (parent_of parents (ancestor 
 abbrev pub claimed_children : List ℕ → ℕ → Errand → ℕ
 claimed_children parents t Rest = 0
 claimed_children parents t Advancing = 0
-claimed_children parents t (Climbing to trip) = 0
+claimed_children parents t (Climbing to passage) = 0
 claimed_children parents t (Opening tier claimed Joined size) = children_on parents tier claimed t
 claimed_children parents t (Opening tier claimed Seeking size) = 0
 claimed_children parents t (Opening tier claimed GoingBack size) = 0
@@ -60,7 +60,7 @@ unarrived_told parents words views t =
 abbrev pub is_under_way : Errand → Bool
 is_under_way Rest = false
 is_under_way Advancing = true
-is_under_way (Climbing t trip) = true
+is_under_way (Climbing t passage) = true
 is_under_way (Opening tier claimed Seeking size) = false
 is_under_way (Opening tier claimed GoingBack size) = false
 is_under_way (Opening tier claimed Joined size) = true

@@ -2,10 +2,10 @@
 pub use Rattle.tier_steps.specs.declared.view.View.{View}
 pub use Rattle.tier_steps.specs.declared.view.Errand.{Errand}
 pub use Rattle.tier_steps.specs.declared.view.Errand.TheVariants.{Rest, Opening, Climbing, Advancing}
-pub use Rattle.tier_steps.specs.declared.view.Trip.{Trip}
-pub use Rattle.tier_steps.specs.declared.view.Trip.TheVariants.{Arrival, Departure}
-pub use Rattle.tier_steps.specs.declared.view.Stage.{Stage}
-pub use Rattle.tier_steps.specs.declared.view.Stage.TheVariants.{Seeking, Joined, GoingBack}
+pub use Rattle.tier_steps.specs.declared.view.Passage.{Passage}
+pub use Rattle.tier_steps.specs.declared.view.Passage.TheVariants.{Arrival, Departure}
+pub use Rattle.tier_steps.specs.declared.view.OpeningStage.{OpeningStage}
+pub use Rattle.tier_steps.specs.declared.view.OpeningStage.TheVariants.{Seeking, Joined, GoingBack}
 pub use Rattle.tier_shape.specs.Parents.{parent_of}
 use Rattle.std.specs.Prelude.{ℕ, zero, suc, ◌+◌, ◌-◌, Bool, true, false, ◌==◌, if◌then◌else◌, None, List, [], ◌∷◌}
 
@@ -47,7 +47,7 @@ errand_parties parents (Opening tier claimed GoingBack size) u = 0
 abbrev pub errand_late : List ℕ → Errand → ℕ → ℕ
 errand_late parents Rest u = 0
 errand_late parents Advancing u = 0
-errand_late parents (Climbing t trip) u = only_at t 1 u
+errand_late parents (Climbing t passage) u = only_at t 1 u
 errand_late parents (Opening tier claimed Joined size) u = only_at (ancestor parents tier claimed) 1 u
 errand_late parents (Opening tier claimed Seeking size) u = 0
 errand_late parents (Opening tier claimed GoingBack size) u = 0
@@ -56,7 +56,7 @@ errand_late parents (Opening tier claimed GoingBack size) u = 0
 abbrev pub is_hidden : Errand → Bool
 is_hidden Rest = false
 is_hidden Advancing = false
-is_hidden (Climbing t trip) = false
+is_hidden (Climbing t passage) = false
 is_hidden (Opening tier claimed stage size) = true
 
 -- what a token counts among the parties of a tier
@@ -75,7 +75,7 @@ claims_on parents tier (suc claimed) u = only_at (ancestor parents tier claimed)
 abbrev pub errand_claims : List ℕ → ℕ → Errand → ℕ
 errand_claims parents u Rest = 0
 errand_claims parents u Advancing = 0
-errand_claims parents u (Climbing t trip) = 0
+errand_claims parents u (Climbing t passage) = 0
 errand_claims parents u (Opening tier claimed stage size) = claims_on parents tier claimed u
 
 abbrev pub claim_share : List ℕ → ℕ → View → ℕ
@@ -84,7 +84,7 @@ claim_share parents u v = errand_claims parents u v.errand
 abbrev pub errand_advances : Errand → ℕ
 errand_advances Rest = 0
 errand_advances Advancing = 1
-errand_advances (Climbing t trip) = 0
+errand_advances (Climbing t passage) = 0
 errand_advances (Opening tier claimed stage size) = 0
 
 abbrev pub advance_share : View → ℕ

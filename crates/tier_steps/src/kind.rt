@@ -1,6 +1,6 @@
 //! The kinds of step that a token can take.
 
-use crate::view::Trip;
+use crate::view::Passage;
 
 /// A kind of step, at some tier (own; registering, arriving, leaving, advancing and ending by force are
 /// those of Java SE 21, `Phaser`). In the steps of a join `tier` is the tier that the members are to join,
@@ -66,7 +66,7 @@ pub enum Kind {
         size: u32,
     },
     /// A step of a climb.
-    Climb(Trip),
+    Climb(Passage),
     /// A lagging word is brought into the token's phase.
     Refresh,
 }

@@ -23,7 +23,7 @@ ghost use Rattle.tier_steps.specs.Step.{
 };
 
 use crate::kind::Kind;
-use crate::view::{Errand, Stage, Trip, View};
+use crate::view::{Errand, OpeningStage, Passage, View};
 use phaser_word::{Word, next_phase};
 
 /// What a tier gets of a join with so many claimed tiers below it: the members, or one party.
@@ -34,8 +34,8 @@ pub fn parties_added(claimed: u16, size: u32) -> u32
 }
 
 /// What a token owes after a party has passed the tier, by the word before.
-pub fn errand_after(above: u16, tier: u16, trip: Trip, word: Word) -> Errand
-    ensures { result ≡ owed above tier trip word }
+pub fn errand_after(above: u16, tier: u16, passage: Passage, word: Word) -> Errand
+    ensures { result ≡ owed above tier passage word }
 {
     if tier == 0 {
         return if word.unarrived == 1 {
@@ -44,27 +44,27 @@ pub fn errand_after(above: u16, tier: u16, trip: Trip, word: Word) -> Errand
             Errand::Rest
         };
     }
-    match trip {
-        Trip::Departure if word.parties == 1 => Errand::Climbing {
+    match passage {
+        Passage::Departure if word.parties == 1 => Errand::Climbing {
             tier: above,
-            trip: Trip::Departure,
+            passage: Passage::Departure,
         },
         _ if word.unarrived == 1 => Errand::Climbing {
             tier: above,
-            trip: Trip::Arrival,
+            passage: Passage::Arrival,
         },
         _ => Errand::Rest,
     }
 }
 
 /// The word of a tier that a party has passed.
-pub fn word_passed(tier: u16, trip: Trip, word: Word) -> Word
-    ensures { result ≡ passed tier trip word }
+pub fn word_passed(tier: u16, passage: Passage, word: Word) -> Word
+    ensures { result ≡ passed tier passage word }
 {
     let unarrived = word.unarrived.saturating_sub(1);
-    match trip {
-        Trip::Arrival => Word { unarrived, ..word },
-        Trip::Departure => Word {
+    match passage {
+        Passage::Arrival => Word { unarrived, ..word },
+        Passage::Departure => Word {
             parties: word.parties.saturating_sub(1),
             unarrived: if tier != 0 && word.parties == 1 {
                 1
@@ -150,8 +150,8 @@ pub fn step_word(kind: Kind, tier: u16, word: Word, view: &View) -> Word
     match kind {
         Kind::Look | Kind::Glance | Kind::Refuse { .. } => word,
         Kind::Join { claimed, size, .. } => word_joined(word, parties_added(claimed, size)),
-        Kind::Arrive => word_passed(tier, Trip::Arrival, word),
-        Kind::Leave => word_passed(tier, Trip::Departure, word),
+        Kind::Arrive => word_passed(tier, Passage::Arrival, word),
+        Kind::Leave => word_passed(tier, Passage::Departure, word),
         Kind::Advance(ends) => word_advanced(word, ends),
         Kind::Force => Word {
             ended: true,
@@ -162,13 +162,13 @@ pub fn step_word(kind: Kind, tier: u16, word: Word, view: &View) -> Word
             word_settled(word, view.phase, parties_added(claimed, size))
         }
         Kind::SettleBack { .. } => word_without(word, 1),
-        Kind::Climb(trip) => word_passed(tier, trip, word),
+        Kind::Climb(passage) => word_passed(tier, passage, word),
         Kind::Refresh => word_refreshed(word, view.phase),
     }
 }
 
 /// The errand of a path with so many claimed tiers: without claims there is none.
-fn path(tier: u16, claimed: u16, stage: Stage, size: u32) -> Errand
+fn path(tier: u16, claimed: u16, stage: OpeningStage, size: u32) -> Errand
     ensures { result ≡ opening tier claimed stage size }
 {
     if claimed == 0 {
@@ -190,12 +190,12 @@ fn give_up(errand: Errand) -> Errand
         Errand::Opening {
             tier,
             claimed,
-            stage: Stage::Seeking,
+            stage: OpeningStage::Seeking,
             size,
         } => Errand::Opening {
             tier,
             claimed,
-            stage: Stage::GoingBack,
+            stage: OpeningStage::GoingBack,
             size,
         },
         _ => errand,
@@ -233,7 +233,7 @@ pub fn look(root: Word, view: View) -> View
     let going_back = matches!(
         view.errand,
         Errand::Opening {
-            stage: Stage::GoingBack,
+            stage: OpeningStage::GoingBack,
             ..
         }
     );
@@ -265,19 +265,19 @@ pub fn refuse(tier: u16, word: Word, view: View) -> View
 }
 
 /// One more member has arrived, or one fewer is there.
-fn pass(trip: Trip, above: u16, tier: u16, word: Word, view: View) -> View
+fn pass(passage: Passage, above: u16, tier: u16, word: Word, view: View) -> View
     requires few { view.arrived ≤ 65535 }
-    ensures arrived { trip ≡ Arrival → result ≡ arrived_view above tier word view }
-    ensures left { trip ≡ Departure → result ≡ left_view above tier word view }
+    ensures arrived { passage ≡ Arrival → result ≡ arrived_view above tier word view }
+    ensures left { passage ≡ Departure → result ≡ left_view above tier word view }
 {
-    let errand = errand_after(above, tier, trip, word);
-    match trip {
-        Trip::Arrival => View {
+    let errand = errand_after(above, tier, passage, word);
+    match passage {
+        Passage::Arrival => View {
             arrived: view.arrived + 1,
             errand,
             ..view
         },
-        Trip::Departure => View {
+        Passage::Departure => View {
             size: view.size.saturating_sub(1),
             errand,
             ..view
@@ -294,7 +294,7 @@ fn admit(tier: u16, claimed: u16, size: u32, word: Word, view: View) -> View
         size,
         phase: word.phase,
         arrived: 0,
-        errand: path(tier, claimed, Stage::Joined, size),
+        errand: path(tier, claimed, OpeningStage::Joined, size),
         ..view
     }
 }
@@ -313,8 +313,8 @@ pub fn step_view(kind: Kind, tier: u16, above: u16, word: Word, view: View) -> V
             claimed,
             size,
         } => return admit(tier, claimed, size, word, view),
-        Kind::Arrive => return pass(Trip::Arrival, above, tier, word, view),
-        Kind::Leave => return pass(Trip::Departure, above, tier, word, view),
+        Kind::Arrive => return pass(Passage::Arrival, above, tier, word, view),
+        Kind::Leave => return pass(Passage::Departure, above, tier, word, view),
         Kind::Force => {
             let end_seen = Some(word.phase);
             return View { end_seen, ..view };
@@ -325,18 +325,18 @@ pub fn step_view(kind: Kind, tier: u16, above: u16, word: Word, view: View) -> V
             tier,
             claimed,
             size,
-        } => path(tier, claimed + 1, Stage::Seeking, size),
+        } => path(tier, claimed + 1, OpeningStage::Seeking, size),
         Kind::Settle {
             tier,
             claimed,
             size,
-        } => path(tier, claimed, Stage::Joined, size),
+        } => path(tier, claimed, OpeningStage::Joined, size),
         Kind::SettleBack {
             tier,
             claimed,
             size,
-        } => path(tier, claimed, Stage::GoingBack, size),
-        Kind::Climb(trip) => errand_after(above, tier, trip, word),
+        } => path(tier, claimed, OpeningStage::GoingBack, size),
+        Kind::Climb(passage) => errand_after(above, tier, passage, word),
     };
     let led = view.led || matches!(kind, Kind::Advance(_));
     View {

@@ -6,7 +6,7 @@ use phaser_word::Word;
 
 /// What a climb tells the tier above: that a party has arrived there, or that it has left (own).
 #[derive(Clone, Copy, PartialEq, Eq)]
-pub enum Trip {
+pub enum Passage {
     /// The tier below has no unarrived party left.
     Arrival,
     /// The tier below has no party left.
@@ -15,7 +15,7 @@ pub enum Trip {
 
 /// How far the opening of a path of empty tiers has come (own).
 #[derive(Clone, Copy, PartialEq, Eq)]
-pub enum Stage {
+pub enum OpeningStage {
     /// Tiers are claimed, and the join above them is still to come.
     Seeking,
     /// The join was taken, and the claimed tiers are settled from the highest down.
@@ -37,7 +37,7 @@ pub enum Errand {
         /// How many tiers of the path are claimed.
         claimed: u16,
         /// How far the opening has come.
-        stage: Stage,
+        stage: OpeningStage,
         /// How many members there are to be.
         size: u32,
     },
@@ -46,7 +46,7 @@ pub enum Errand {
         /// The tier that is to be told.
         tier: u16,
         /// What that tier is told.
-        trip: Trip,
+        passage: Passage,
     },
     /// It has to take the root's advance.
     Advancing,

@@ -1,8 +1,8 @@
 -- What calls that wait answer, by the view of their token: as the calls that they repeat, without a number of tries (own).
 use Rattle.std.specs.Prelude.{◌≡◌, ℕ, ◌<◌, Result, Ok, Err}
 use Rattle.tier_steps.specs.declared.view.Errand.TheVariants.{Rest}
-use Rattle.tier_steps.specs.declared.view.Trip.{Trip}
-use Rattle.tier_steps.specs.declared.view.Trip.TheVariants.{Departure}
+use Rattle.tier_steps.specs.declared.view.Passage.{Passage}
+use Rattle.tier_steps.specs.declared.view.Passage.TheVariants.{Departure}
 use Rattle.tier_core.specs.declared.call.Played.TheVariants as played
 use Rattle.table_tiers.specs.Holding.{Named, Holding}
 use Rattle.table_tiers.specs.Passes.{IsSame, EndSeen, IsFresh}
@@ -28,7 +28,7 @@ OpensAtLast n tier size (Ok answer) = RegistersAtLast n tier size answer
 OpensAtLast n tier size (Err door) = door.tree ≡ n
 
 -- an arrival or a departure
-abbrev pub ArrivesAtLast : Trip → Holding → Counted → Type 0
+abbrev pub ArrivesAtLast : Passage → Holding → Counted → Type 0
 ArrivesAtLast own h (counted.Done crew phase led) = (crew.tree ≡ h.tree) × HasPassed own h.view crew.view × (crew.view.errand ≡ Rest) × (phase ≡ crew.view.phase) × (led ≡ crew.view.led)
 ArrivesAtLast own h (counted.Left door phase led) = (own ≡ Departure) × (door.tree ≡ h.tree) × HasPassed own h.view door.view × (door.view.errand ≡ Rest) × (phase ≡ door.view.phase) × (led ≡ door.view.led)
 ArrivesAtLast own h (counted.AlreadyArrived crew phase) = (crew.tree ≡ h.tree) × IsLooked h.view crew.view × IsFresh crew.view × (crew.view.arrived ≡ crew.view.size) × (phase ≡ crew.view.phase)

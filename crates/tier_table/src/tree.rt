@@ -4,7 +4,7 @@ ghost use Rattle.std.specs.Prelude.{◌≡◌, ◌<◌, ◌≤◌, ℕ, Some, If
 ghost use Rattle.table_tiers.specs.Closes.{held, plain_tokens, views_in, sights_in, TallyWithOthers, IsLeftBy};
 ghost use Rattle.advance_rule.specs.Stored.{Answers};
 ghost use Rattle.advance_rule.specs.Plan.{end_ends_at};
-ghost use Rattle.tier_steps.specs.declared.view.Trip.TheVariants.{Arrival, Departure};
+ghost use Rattle.tier_steps.specs.declared.view.Passage.TheVariants.{Arrival, Departure};
 ghost use Rattle.table_tiers.specs.Holding.{IsSat, split_once};
 ghost use Rattle.tier_table.specs.Ruled.{IsNew};
 ghost use Rattle.table_tiers.specs.Arrives.{Arrives, Resumes};
@@ -30,7 +30,7 @@ use table_tiers::polling::Polled;
 use table_tiers::tiers::Tiers;
 use table_tiers::tokens::{Crew, Door, Errand, Opening, Token};
 use tier_shape::Shape;
-use tier_steps::view::Trip;
+use tier_steps::view::Passage;
 
 /// A tree of phasers: one atomic word for each tier, and the rule that says when it ends. Its calls take it
 /// by shared reference, take no lock, and never wait.
@@ -157,7 +157,7 @@ impl<F: Fn(u32, u32) -> bool> Tree<F> {
         ensures answer { Arrives Arrival crew tries result }
         ensures ended { (phase : ℕ) → crew.view.end_seen ≡ Some phase → arrives.HasEnded result }
     {
-        self.tiers.pass(crew, Trip::Arrival, &self.rule, tries)
+        self.tiers.pass(crew, Passage::Arrival, &self.rule, tries)
     }
 
     /// Lets a member leave, which counts as its arrival.
@@ -167,7 +167,7 @@ impl<F: Fn(u32, u32) -> bool> Tree<F> {
         ensures answer { Arrives Departure crew tries result }
         ensures ended { (phase : ℕ) → crew.view.end_seen ≡ Some phase → arrives.HasEnded result }
     {
-        self.tiers.pass(crew, Trip::Departure, &self.rule, tries)
+        self.tiers.pass(crew, Passage::Departure, &self.rule, tries)
     }
 
     /// Goes on with an arrival or a departure that was counted.

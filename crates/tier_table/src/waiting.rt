@@ -4,7 +4,7 @@
 ghost use Rattle.std.specs.Prelude.{◌≡◌, ◌<◌, ◌≤◌, ℕ, Some, length, MatchResult};
 ghost use Rattle.advance_rule.specs.Stored.{Answers};
 ghost use Rattle.advance_rule.specs.Plan.{end_ends_at};
-ghost use Rattle.tier_steps.specs.declared.view.Trip.TheVariants.{Arrival, Departure};
+ghost use Rattle.tier_steps.specs.declared.view.Passage.TheVariants.{Arrival, Departure};
 ghost use Rattle.table_tiers.specs.Openings.{asked_tier, asked_size};
 ghost use Rattle.table_tiers.specs.Holding.{Holding};
 ghost use Rattle.table_tiers.specs.Arrives.{IsLooked, HasPassed};
@@ -21,7 +21,7 @@ use table_tiers::joining::{Opened, Registered};
 use table_tiers::polling::Polled;
 use table_tiers::tiers::Tiers;
 use table_tiers::tokens::{Crew, Door, Errand, Opening};
-use tier_steps::view::Trip;
+use tier_steps::view::Passage;
 
 /// How many tries a call makes before its thread lets others run.
 const TRIES: u32 = 16;
@@ -149,7 +149,7 @@ impl<F: Fn(u32, u32) -> bool> Tree<F> {
     }
 
     /// Goes on with an errand of this kind until that is over.
-    fn settle_wait<R: Wait>(&self, rt: &R, errand: Errand, own: Trip) -> Counted
+    fn settle_wait<R: Wait>(&self, rt: &R, errand: Errand, own: Passage) -> Counted
         requires own { errand.token.tree ≡ self.now.tree }
         requires rule { Answers (F.pre self.now.rule.closure) (F.post self.now.rule.closure) (end_ends_at self.now.rule.plan) }
         ensures answer { (h : Holding) → 0 < h.view.size → errand.token.tree ≡ h.tree → HasPassed own h.view errand.token.view → ArrivesAtLast own h result }
@@ -165,7 +165,7 @@ impl<F: Fn(u32, u32) -> bool> Tree<F> {
     }
 
     /// Lets a member arrive or leave, by so many tries. Where they did not suffice, the crew is an error.
-    fn pass_once<R: Wait>(&self, rt: &R, crew: Crew, own: Trip) -> Result<Counted, Crew>
+    fn pass_once<R: Wait>(&self, rt: &R, crew: Crew, own: Passage) -> Result<Counted, Crew>
         requires own { crew.tree ≡ self.now.tree }
         requires rule { Answers (F.pre self.now.rule.closure) (F.post self.now.rule.closure) (end_ends_at self.now.rule.plan) }
         ensures some { 0 < crew.view.size }
@@ -185,7 +185,7 @@ impl<F: Fn(u32, u32) -> bool> Tree<F> {
     }
 
     /// Lets a member arrive or leave.
-    fn pass_wait<R: Wait>(&self, rt: &R, crew: Crew, own: Trip) -> Counted
+    fn pass_wait<R: Wait>(&self, rt: &R, crew: Crew, own: Passage) -> Counted
         requires own { crew.tree ≡ self.now.tree }
         requires rule { Answers (F.pre self.now.rule.closure) (F.post self.now.rule.closure) (end_ends_at self.now.rule.plan) }
         ensures answer { ArrivesAtLast own crew result }
@@ -211,7 +211,7 @@ impl<F: Fn(u32, u32) -> bool> Tree<F> {
         ensures unsplit { (token_counted result).opened ≡ crew.opened }
         ensures ended { (phase : ℕ) → crew.view.end_seen ≡ Some phase → HasEndedArrival result }
     {
-        self.pass_wait(rt, crew, Trip::Arrival)
+        self.pass_wait(rt, crew, Passage::Arrival)
     }
 
     /// Lets a member of a crew arrive that stays where it is. It waits as `arrive_wait` does, and moves nothing.
@@ -233,7 +233,7 @@ impl<F: Fn(u32, u32) -> bool> Tree<F> {
         ensures unsplit { (token_counted result).opened ≡ crew.opened }
         ensures ended { (phase : ℕ) → crew.view.end_seen ≡ Some phase → HasEndedArrival result }
     {
-        self.pass_wait(rt, crew, Trip::Departure)
+        self.pass_wait(rt, crew, Passage::Departure)
     }
 
     /// Waits until the phase has passed in which all members of the crew have arrived. Where a member has

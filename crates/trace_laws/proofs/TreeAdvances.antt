@@ -58,7 +58,7 @@ no-advance Force h = refl
 no-advance (Claim tier claimed size) h = refl
 no-advance (Settle tier claimed size) h = refl
 no-advance (SettleBack tier claimed size) h = refl
-no-advance (Climb trip) h = refl
+no-advance (Climb passage) h = refl
 no-advance Refresh h = refl
 
 played-stays : (s : State) (token : ℕ) (r : Turn) → IsCore s → token < length s.views → MayPlay s token r → is_advance r.kind ≡ false
@@ -240,7 +240,7 @@ rests (Begun c) e = absurd (false≢true e)
 rests (ToSeek tier size) e = absurd (false≢true e)
 rests Settling e = absurd (false≢true e)
 rests (ToGiveBack a) e = absurd (false≢true e)
-rests (Passing trip) e = absurd (false≢true e)
+rests (Passing passage) e = absurd (false≢true e)
 rests (Owing own) e = absurd (false≢true e)
 rests (Due own) e = absurd (false≢true e)
 rests (Refreshing moved) e = absurd (false≢true e)

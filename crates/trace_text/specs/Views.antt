@@ -24,10 +24,10 @@ first_phase (head.Phaser h) = h.phase
 first_phase (head.Tree h) = h.phase
 first_phase (head.Barrier h) = 0
 
-abbrev pub opening_phase : Trace → ℕ
-opening_phase (trace.Phaser h cs) = h.phase
-opening_phase (trace.Tree h cs) = h.phase
-opening_phase (trace.Barrier h cs) = 0
+abbrev pub start_phase : Trace → ℕ
+start_phase (trace.Phaser h cs) = h.phase
+start_phase (trace.Tree h cs) = h.phase
+start_phase (trace.Barrier h cs) = 0
 
 -- that the numbers of its commands are in range
 abbrev pub commands_fit : Trace → Type 0

@@ -12,7 +12,7 @@ ghost use Rattle.trace_text.specs.Runs.{run_text};
 ghost use Rattle.trace_text.specs.TreeAnswers.{tree_text, tree_after, tree_opened_text};
 ghost use Rattle.trace_text.specs.TreeWords.{InRange};
 ghost use Rattle.trace_text.specs.Parts.{tree_asked};
-ghost use Rattle.trace_text.specs.Views.{asked, opening_phase, commands_fit};
+ghost use Rattle.trace_text.specs.Views.{asked, start_phase, commands_fit};
 ghost use Rattle.trace_text.specs.Outcome.{WriteCause, Writes, Moves, ReadsCause, Traces};
 
 use crate::barrier::push_barrier_command;
@@ -325,7 +325,7 @@ fn run_asked<W: CountedWrite>(
     writer: &mut W,
     trace: &Trace<'_>,
 ) -> Result<(), TraceFault>
-    requires phase { opening_phase trace.now ≤ 2147483647 }
+    requires phase { start_phase trace.now ≤ 2147483647 }
     requires range { commands_fit trace.now }
     ensures writes { Writes (W.contents writer.old) (W.contents writer.new) result (output_of (asked trace.now)) }
     ensures failures { WriteCause (W.failures writer.old) (W.failures writer.new) result }

@@ -3,7 +3,7 @@ ghost use Rattle.std.specs.Prelude.{◌≡◌, ◌+◌, ◌≤◌, ◌<◌, ◌^
 ghost use Rattle.text_lines.specs.Text.{is_skipped, lines_of, words_of};
 ghost use Rattle.trace_text.specs.Trace as spec;
 ghost use Rattle.trace_text.specs.Gives.{Gives, Fails};
-ghost use Rattle.trace_text.specs.Views.{asked, head_in, first_phase, opening_phase, commands_fit};
+ghost use Rattle.trace_text.specs.Views.{asked, head_in, first_phase, start_phase, commands_fit};
 
 use crate::barrier_words::{BarrierCommand, BarrierHead};
 use crate::command::Command;
@@ -139,7 +139,7 @@ fn read_behind<'a>(
 ) -> Result<Trace<'a>, TraceFault>
     requires { line + length rest.now < 2 ^ 32 }
     ensures asked { Gives asked result (spec.below (head_in head.entry) line (lines_of rest.now)) }
-    ensures phase { first_phase head.entry ≤ 2147483647 → IfOk result (λ t. opening_phase t ≤ 2147483647) }
+    ensures phase { first_phase head.entry ≤ 2147483647 → IfOk result (λ t. start_phase t ≤ 2147483647) }
     ensures range { IfOk result commands_fit }
 {
     match head {
@@ -154,7 +154,7 @@ fn read_behind<'a>(
 pub(crate) fn read_trace(alloc: Global, text: &[u8]) -> Result<Trace<'_>, TraceFault>
     requires { length text.now ≤ 1048576 }
     ensures asked { Gives asked result (spec.asked_of text.now) }
-    ensures phase { IfOk result (λ t. opening_phase t ≤ 2147483647) }
+    ensures phase { IfOk result (λ t. start_phase t ≤ 2147483647) }
     ensures range { IfOk result commands_fit }
 {
     if let Some(line) = bad_byte_line(text) {

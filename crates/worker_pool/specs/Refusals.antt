@@ -2,18 +2,18 @@
 use Rattle.std.specs.Prelude.{ℕ, ◌<◌}
 use Rattle.worker_pool.specs.declared.fault.Refused.{Refused}
 use Rattle.worker_pool.specs.declared.fault.Refused.TheVariants.{Memory, NotStarted, Internal}
-use Rattle.worker_pool.specs.declared.fault.Note.{Note}
-use Rattle.worker_pool.specs.declared.fault.Note.TheVariants as note
+use Rattle.worker_pool.specs.declared.fault.Reason.{Reason}
+use Rattle.worker_pool.specs.declared.fault.Reason.TheVariants as reason
 
 abbrev pub refusal_number : Refused → ℕ
 refusal_number Memory = 1
 refusal_number (NotStarted k) = 2
 refusal_number Internal = 3
 
--- what a run answers after this note of a worker
-abbrev pub refusal_of : Note → Refused
-refusal_of note.Memory = Memory
-refusal_of note.Internal = Internal
+-- what a run answers where this sent a worker home
+abbrev pub refusal_of : Reason → Refused
+refusal_of reason.Memory = Memory
+refusal_of reason.Internal = Internal
 
 -- a worker that couldn't be started is one of so many, numbered from 0
 abbrev pub IsOfWorkers : ℕ → Refused → Type 0

@@ -6,10 +6,10 @@ ghost use Rattle.step_stretches.specs.StretchesValue.{state_of, is_whole};
 ghost use Rattle.step_stretches.specs.Closing.{Takes, with_slot, IsClosed, IsAt};
 ghost use Rattle.worker_pool.specs.Refusals.{IsOfWorkers};
 
-use crate::fault::{Note, Refused, note_of_closing, note_of_delivery};
+use crate::cohorts::{cohorts_of, in_path_order, move_cohorts, move_participants, push_cohort};
+use crate::fault::{Reason, Refused, reason_of_closing, reason_of_delivery};
 use crate::hand::Lent;
-use crate::rows::{in_path_order, move_rows, move_seats, push_row, rows_of};
-use crate::seat::{Row, Seat};
+use crate::participant::{Cohort, Participant};
 use phase_records::Report;
 use std::alloc::Global;
 use std::collections::VecDeque;
@@ -46,17 +46,17 @@ impl Running for Brand {
     } };
 }
 
-/// The stretches of the job that runs, the rows of their tasks, and the first refusal. Its type keeps that the stretches are of
+/// The stretches of the job that runs, the cohorts of their tasks, and the first refusal. Its type keeps that the stretches are of
 /// that job and limit, and that a worker that couldn't be started is one of the run's.
 #[derive(Drop)]
 pub(crate) struct Board<'j, J: Running> {
     stretches: Stretches<'j>,
-    // The rows whose stretches nobody has taken.
-    ready: VecDeque<Row<J>>,
-    // The rows of this superstep that are back from the tree. Once it is closed they are ready, where all tasks stay.
-    back: VecDeque<Row<J>>,
-    // The seats of the next superstep's tasks, as far as they are back from the tree, where tasks came or left.
-    coming: Vec<Seat<J>>,
+    // The cohorts whose stretches nobody has taken.
+    ready: VecDeque<Cohort<J>>,
+    // The cohorts of this superstep that are back from the tree. Once it is closed they are ready, where all tasks stay.
+    back: VecDeque<Cohort<J>>,
+    // The participants of the next superstep's tasks, as far as they are back from the tree, where tasks came or left.
+    coming: Vec<Participant<J>>,
     // Whether a task came or left in this superstep, as far as was delivered.
     moves: bool,
     // Whether the live tasks were cut anew when the last superstep was closed.
@@ -69,13 +69,13 @@ pub(crate) struct Board<'j, J: Running> {
 /// What a worker does next.
 #[derive(Drop)]
 pub(crate) enum Next<'j, J: Running> {
-    /// To run the segments of this stretch, whose tasks have these seats.
-    Run(Lent<'j, J>, Row<J>),
+    /// To run the segments of this stretch, whose tasks have these participants.
+    Run(Lent<'j, J>, Cohort<J>),
     /// To go home.
     Home,
 }
 
-/// What a worker that handed seats back has done to the board.
+/// What a worker that handed participants back has done to the board.
 #[derive(Clone, Copy)]
 pub(crate) enum Turned {
     /// No stretch is ready that was not.
@@ -107,8 +107,8 @@ impl<'j, J: Running> Board<'j, J> {
     ghost use Rattle.worker_pool.specs.BoardValue.{with_stretches, refused_by};
     ghost use Rattle.worker_pool.specs.Refusals.{IsOfWorkers, refusal_of};
 
-    /// A board for these stretches, with these rows for their tasks.
-    pub(crate) fn new(alloc: Global, stretches: Stretches<'j>, ready: VecDeque<Row<J>>) -> Self
+    /// A board for these stretches, with these cohorts for their tasks.
+    pub(crate) fn new(alloc: Global, stretches: Stretches<'j>, ready: VecDeque<Cohort<J>>) -> Self
         requires job { stretches.job ≡ J.job }
         requires limit { stretches.limit ≡ J.limit }
         ensures { result ≡ record { stretches = stretches.entry; first = None } }
@@ -137,28 +137,28 @@ impl<'j, J: Running> Board<'j, J> {
         self.ready.is_empty() && !self.is_over()
     }
 
-    // Lends the stretch of a row that was ready.
-    fn lend(&mut self, row: Row<J>) -> Result<Next<'j, J>, Note> {
-        match self.stretches.take(row.number) {
-            Ok(Some(stretch)) => Ok(Next::Run(Lent::new(stretch), row)),
-            Ok(None) => Err(Note::Internal),
-            Err(_) => Err(Note::Memory),
+    // Lends the stretch of a cohort that was ready.
+    fn lend(&mut self, cohort: Cohort<J>) -> Result<Next<'j, J>, Reason> {
+        match self.stretches.take(cohort.number) {
+            Ok(Some(stretch)) => Ok(Next::Run(Lent::new(stretch), cohort)),
+            Ok(None) => Err(Reason::Internal),
+            Err(_) => Err(Reason::Memory),
         }
     }
 
     /// What a worker does next: it takes the first ready stretch, or goes home.
-    pub(crate) fn next(&mut self) -> Result<Next<'j, J>, Note> {
+    pub(crate) fn next(&mut self) -> Result<Next<'j, J>, Reason> {
         if self.is_over() {
             return Ok(Next::Home);
         }
         match self.ready.pop_front() {
-            Some(row) => self.lend(row),
-            None => Err(Note::Internal),
+            Some(cohort) => self.lend(cohort),
+            None => Err(Reason::Internal),
         }
     }
 
     /// Takes a stretch back, whose tasks have done their segments and all stay, or not.
-    pub(crate) fn deliver(&mut self, lent: Lent<'j, J>, stay: bool) -> Result<(), Note>
+    pub(crate) fn deliver(&mut self, lent: Lent<'j, J>, stay: bool) -> Result<(), Reason>
         ensures taken { OnOk result (Takes self.old.stretches lent.entry) }
         ensures added { OnOk result (self.new ≡ with_stretches self.old (with_slot self.old.stretches lent.entry.number (Some lent.entry.part))) }
         ensures unchanged { OnErr result (self.new ≡ self.old) }
@@ -168,7 +168,7 @@ impl<'j, J: Running> Board<'j, J> {
                 self.moves = self.moves || !stay;
                 Ok(())
             }
-            Err(fault) => Err(note_of_delivery(fault)),
+            Err(fault) => Err(reason_of_delivery(fault)),
         }
     }
 
@@ -183,42 +183,42 @@ impl<'j, J: Running> Board<'j, J> {
     }
 
     /// Notes why a worker can't go on; what was noted first stays.
-    pub(crate) fn note(&mut self, note: Note)
-        ensures { self.new ≡ refused_by self.old (refusal_of note) }
+    pub(crate) fn note(&mut self, reason: Reason)
+        ensures { self.new ≡ refused_by self.old (refusal_of reason) }
     {
-        self.refuse(note.refusal());
+        self.refuse(reason.refusal());
     }
 
-    // Makes the stretches of tasks that were cut anew ready, once all seats are back. Whether they are.
-    fn man(&mut self) -> Result<bool, Note>
+    // Makes the stretches of tasks that were cut anew ready, once all participants are back. Whether they are.
+    fn man(&mut self) -> Result<bool, Reason>
         ensures { self.new ≡ self.old }
     {
         if self.coming.len() < self.stretches.count() {
             return Ok(false);
         }
         in_path_order(&mut self.coming);
-        self.ready = rows_of(&self.stretches, &mut self.coming)?;
+        self.ready = cohorts_of(&self.stretches, &mut self.coming)?;
         Ok(true)
     }
 
-    // Takes back a row whose tasks have passed through the tree in a superstep that was closed meanwhile. One whose tasks have
+    // Takes back a cohort whose tasks have passed through the tree in a superstep that was closed meanwhile. One whose tasks have
     // all left may come later still, and nobody waits for it. Whether a stretch is ready that was not.
-    fn take_late(&mut self, row: Row<J>) -> Result<bool, Note>
+    fn take_late(&mut self, cohort: Cohort<J>) -> Result<bool, Reason>
         ensures { self.new ≡ self.old }
     {
-        if row.seats.is_empty() {
+        if cohort.participants.is_empty() {
             return Ok(false);
         }
         if !self.is_cut {
-            push_row(&mut self.ready, row)?;
+            push_cohort(&mut self.ready, cohort)?;
             return Ok(true);
         }
-        move_seats(row, &mut self.coming)?;
+        move_participants(cohort, &mut self.coming)?;
         self.man()
     }
 
     // Takes the superstep.
-    fn close(&mut self, alloc: Global) -> Result<Outcome, Note>
+    fn close(&mut self, alloc: Global) -> Result<Outcome, Reason>
         ensures whole { OnOk result (is_whole self.old.stretches ≡ true) }
         ensures closed { IfOk result (λ outcome. IsClosed self.old.stretches self.new.stretches outcome) }
         ensures first { self.new.first ≡ self.old.first }
@@ -230,32 +230,32 @@ impl<'j, J: Running> Board<'j, J> {
     }
 
     // Makes stretches ready whose superstep was closed. Whether some are.
-    fn open(&mut self) -> Result<bool, Note>
+    fn open(&mut self) -> Result<bool, Reason>
         ensures { self.new ≡ self.old }
     {
         if !self.is_cut {
             self.ready.append(&mut self.back)?;
             return Ok(true);
         }
-        move_rows(&mut self.back, &mut self.coming)?;
+        move_cohorts(&mut self.back, &mut self.coming)?;
         self.man()
     }
 
-    /// Takes back the row of a stretch whose tasks have passed through the tree in this superstep, and closes the superstep
+    /// Takes back the cohort of a stretch whose tasks have passed through the tree in this superstep, and closes the superstep
     /// where one of them took the advance.
     pub(crate) fn turn(
         &mut self,
         alloc: Global,
         step: u32,
-        row: Row<J>,
+        cohort: Cohort<J>,
         led: bool,
-    ) -> Result<Turned, Note>
+    ) -> Result<Turned, Reason>
         ensures unled { led ≡ false → self.new ≡ self.old }
     {
         if self.stretches.step() != step {
-            return opened(self.take_late(row));
+            return opened(self.take_late(cohort));
         }
-        push_row(&mut self.back, row)?;
+        push_cohort(&mut self.back, cohort)?;
         if !led {
             return Ok(Turned::Goes);
         }
@@ -286,12 +286,12 @@ impl<'j, J: Running> Board<'j, J> {
     }
 }
 
-// Whether a row that came late has made stretches ready.
-fn opened(ready: Result<bool, Note>) -> Result<Turned, Note> {
+// Whether a cohort that came late has made stretches ready.
+fn opened(ready: Result<bool, Reason>) -> Result<Turned, Reason> {
     match ready {
         Ok(true) => Ok(Turned::Opened),
         Ok(false) => Ok(Turned::Goes),
-        Err(note) => Err(note),
+        Err(reason) => Err(reason),
     }
 }
 
@@ -309,16 +309,16 @@ fn report_by(alloc: Global, stretches: Stretches<'_>) -> Result<Report, Refused>
 }
 
 // Takes the superstep of a job that has not ended.
-fn close_superstep(stretches: &mut Stretches<'_>, alloc: Global) -> Result<Outcome, Note>
+fn close_superstep(stretches: &mut Stretches<'_>, alloc: Global) -> Result<Outcome, Reason>
     ensures whole { OnOk result (is_whole stretches.old ≡ true) }
     ensures closed { IfOk result (λ outcome. IsClosed stretches.old stretches.new outcome) }
     ensures kept { OnErr result (IsAt stretches.new stretches.old.job stretches.old.limit (state_of stretches.old)) }
 {
     if stretches.has_ended() {
-        return Err(Note::Internal);
+        return Err(Reason::Internal);
     }
     match stretches.close(alloc) {
         Ok(outcome) => Ok(outcome),
-        Err(fault) => Err(note_of_closing(fault)),
+        Err(fault) => Err(reason_of_closing(fault)),
     }
 }

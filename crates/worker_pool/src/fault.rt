@@ -41,47 +41,47 @@ impl From<AllocError> for Refused {
 
 /// Why a worker went home before the job's end.
 #[derive(Clone, Copy)]
-pub(crate) enum Note {
+pub(crate) enum Reason {
     /// It found no memory.
     Memory,
     /// It met a refusal that workers never meet.
     Internal,
 }
 
-impl Note {
+impl Reason {
     /// What the run then answers.
     pub(crate) fn refusal(self) -> Refused
         ensures told { result ≡ refusal_of self }
         ensures workers { (workers : ℕ) → IsOfWorkers workers result }
     {
         match self {
-            Note::Memory => Refused::Memory,
-            Note::Internal => Refused::Internal,
+            Reason::Memory => Refused::Memory,
+            Reason::Internal => Refused::Internal,
         }
     }
 }
 
-impl From<AllocError> for Note {
+impl From<AllocError> for Reason {
     fn from(_fault: AllocError) -> Self {
-        Note::Memory
+        Reason::Memory
     }
 }
 
 /// What a worker notes whose stretch isn't taken back: each is lent to one worker, who delivers it once, done.
-pub(crate) fn note_of_delivery(fault: Unwanted) -> Note
-    ensures { result ≡ Note.Internal }
+pub(crate) fn reason_of_delivery(fault: Unwanted) -> Reason
+    ensures { result ≡ Reason.Internal }
 {
     match fault {
         Unwanted::WrongStep | Unwanted::Unfinished | Unwanted::Stranger | Unwanted::Double => {
-            Note::Internal
+            Reason::Internal
         }
     }
 }
 
 /// What a worker notes that can't close a superstep: where all have arrived each stretch is back.
-pub(crate) fn note_of_closing(fault: Unclosed) -> Note {
+pub(crate) fn reason_of_closing(fault: Unclosed) -> Reason {
     match fault {
-        Unclosed::Missing => Note::Internal,
-        Unclosed::Memory(_) => Note::Memory,
+        Unclosed::Missing => Reason::Internal,
+        Unclosed::Memory(_) => Reason::Memory,
     }
 }

@@ -4,12 +4,12 @@ ghost use Rattle.step_stretches.specs.Parts.{IsDoneTo, is_finished};
 ghost use Rattle.worker_pool.specs.Turnouts.{Tells};
 
 use crate::board::Running;
-use crate::fault::Note;
+use crate::fault::Reason;
 use crate::hooks::Gate;
 use std::alloc::{AllocError, Global};
 use std::marker::{Model, PhantomData};
 use std::sync::Wait;
-use step_stretches::{Stretch, Turn};
+use step_stretches::{Change, Stretch};
 
 /// A stretch that a worker has. Its type keeps that it is of the job that runs.
 #[derive(Drop)]
@@ -35,7 +35,7 @@ pub(crate) enum Turnout {
     /// The same tasks live on.
     Same,
     /// What each did, up to the first fault.
-    Each(Vec<Turn>),
+    Each(Vec<Change>),
 }
 
 // Does the next segment of a stretch.
@@ -130,13 +130,13 @@ impl<'j, J: Running> Lent<'j, J> {
         rt: &R,
         alloc: Global,
         gate: &G,
-    ) -> Result<Turnout, Note>
+    ) -> Result<Turnout, Reason>
         ensures done { OnOk result (is_finished self.new.part ≡ true) }
         ensures told { IfOk result (λ turnout. Tells self.new.part turnout) }
     {
         match do_all(rt, alloc, gate, &mut self.stretch) {
-            Ok(()) => turns_of(alloc, &self.stretch),
-            Err(_) => Err(Note::Memory),
+            Ok(()) => changes_of(alloc, &self.stretch),
+            Err(_) => Err(Reason::Memory),
         }
     }
 
@@ -150,14 +150,14 @@ impl<'j, J: Running> Lent<'j, J> {
 }
 
 // What the tasks of a stretch did to the list of tasks.
-fn turns_of(alloc: Global, stretch: &Stretch<'_>) -> Result<Turnout, Note>
+fn changes_of(alloc: Global, stretch: &Stretch<'_>) -> Result<Turnout, Reason>
     ensures { IfOk result (λ turnout. Tells stretch.now.part turnout) }
 {
     if stretch.all_stay() && !stretch.has_faulted() {
         return Ok(Turnout::Same);
     }
-    match stretch.turns(alloc) {
-        Ok(turns) => Ok(Turnout::Each(turns)),
-        Err(_) => Err(Note::Memory),
+    match stretch.changes(alloc) {
+        Ok(changes) => Ok(Turnout::Each(changes)),
+        Err(_) => Err(Reason::Memory),
     }
 }

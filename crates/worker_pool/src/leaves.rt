@@ -3,7 +3,7 @@ ghost use Rattle.std.specs.Prelude.{◌≡◌, ◌<◌, IfOk, length};
 ghost use Rattle.tier_shape.specs.Leaves.{leaves_of};
 
 use crate::board::Running;
-use job_seats::leaves::{leaf_at, preferred};
+use job_participants::leaves::{leaf_at, preferred};
 use std::alloc::{AllocError, Global};
 use std::marker::PhantomData;
 use tier_shape::Shape;
@@ -27,7 +27,7 @@ pub(crate) fn leaves_in(alloc: Global, shape: &Shape) -> Result<Vec<u16>, AllocE
 }
 
 impl<J: Running> Leaves<J> {
-    ghost use Rattle.job_seats.specs.Moves.{leaf_at, preferred};
+    ghost use Rattle.job_participants.specs.Moves.{leaf_at, preferred};
 
     /// The leaves of the tree of the run.
     pub(crate) fn new(tiers: Vec<u16>) -> Self

@@ -2,13 +2,13 @@
 #![tactic(auto)]
 
 mod board;
+mod cohorts;
 mod fault;
 mod hand;
 mod hooks;
 mod leaves;
-mod rows;
+mod participant;
 mod run;
-mod seat;
 mod shop;
 mod start;
 mod tree;

@@ -6,17 +6,17 @@ ghost use Rattle.advance_rule.specs.Plan.{end_ends_at};
 ghost use Rattle.step_core.specs.Program.{program_of};
 ghost use Rattle.step_core.specs.JobMeaning.{report_of};
 ghost use Rattle.tier_shape.specs.Leaves.{leaves_of};
-ghost use Rattle.job_seats.specs.Moves.{leaf_at};
+ghost use Rattle.job_participants.specs.Moves.{leaf_at};
 ghost use Rattle.tier_table.specs.Ruled.{IsNew};
 ghost use Rattle.worker_pool.specs.JobPlan.{limit_of, IsJobPlan};
 ghost use Rattle.worker_pool.specs.Refusals.{IsOfWorkers};
 
 use crate::board::{Board, Running};
-use crate::fault::{Note, Refused};
+use crate::cohorts::cohorts_of;
+use crate::fault::{Reason, Refused};
 use crate::hooks::{Gate, Starter};
 use crate::leaves::{Leaves, leaves_in};
-use crate::rows::rows_of;
-use crate::seat::{Key, Row, Seat};
+use crate::participant::{Cohort, OwnToken, Participant};
 use crate::shop::Shop;
 use crate::start::start_all;
 use crate::tree::Meeting;
@@ -52,62 +52,62 @@ fn do_nothing(_generation: u64) -> bool
 }
 
 // Registers the next start task, whose number is that of those before it, at the leaf of that number.
-fn seat_one<J: Running, R: Wait, F: Fn(u32, u32) -> bool>(
+fn register_one<J: Running, R: Wait, F: Fn(u32, u32) -> bool>(
     rt: &R,
     meeting: &Meeting<J, F>,
-    key: &mut Key<J>,
+    own: &mut OwnToken<J>,
     path: Path,
-    seats: &mut Vec<Seat<J>>,
-) -> Result<(), Note>
-    ensures { OnOk result (map (λ seat. seat.crew.view.tier) seats.new.items
-        ≡ map (λ seat. seat.crew.view.tier) seats.old.items ++ leaf_at (leaves_of J.tree.key.shape) (length seats.old.items) ∷ []) }
+    participants: &mut Vec<Participant<J>>,
+) -> Result<(), Reason>
+    ensures { OnOk result (map (λ participant. participant.crew.view.tier) participants.new.items
+        ≡ map (λ participant. participant.crew.view.tier) participants.old.items ++ leaf_at (leaves_of J.tree.key.shape) (length participants.old.items) ∷ []) }
 {
-    let seat = meeting.register_start(rt, key, path, seats.len())?;
-    match seats.push(seat) {
+    let participant = meeting.register_start(rt, own, path, participants.len())?;
+    match participants.push(participant) {
         Ok(()) => Ok(()),
-        Err(_) => Err(Note::Memory),
+        Err(_) => Err(Reason::Memory),
     }
 }
 
-// Registers the start tasks, one leaf after another, before any worker is started. `seats` has been empty. The path of a
+// Registers the start tasks, one leaf after another, before any worker is started. `participants` has been empty. The path of a
 // start task is the number of its start line.
-fn seat_all<J: Running, R: Wait, F: Fn(u32, u32) -> bool>(
+fn register_all<J: Running, R: Wait, F: Fn(u32, u32) -> bool>(
     rt: &R,
     alloc: Global,
     meeting: &Meeting<J, F>,
-    key: &mut Key<J>,
+    own: &mut OwnToken<J>,
     stretches: &Stretches<'_>,
-    seats: &mut Vec<Seat<J>>,
-) -> Result<(), Note> {
+    participants: &mut Vec<Participant<J>>,
+) -> Result<(), Reason> {
     for number in 0..stretches.count() {
-        let Ok(own) = u16::try_from(number) else {
-            return Err(Note::Internal);
+        let Ok(line) = u16::try_from(number) else {
+            return Err(Reason::Internal);
         };
-        let path = SmallVec::from_slice(alloc, &[own])?;
-        seat_one(rt, meeting, key, path, seats)?;
+        let path = SmallVec::from_slice(alloc, &[line])?;
+        register_one(rt, meeting, own, path, participants)?;
     }
     Ok(())
 }
 
-// Registers the start tasks, and puts their seats in the rows of their stretches.
-fn seated<J: Running, R: Wait, F: Fn(u32, u32) -> bool>(
+// Registers the start tasks, and puts their participants in the cohorts of their stretches.
+fn registered<J: Running, R: Wait, F: Fn(u32, u32) -> bool>(
     rt: &R,
     alloc: Global,
     meeting: &Meeting<J, F>,
-    key: &mut Key<J>,
+    own: &mut OwnToken<J>,
     stretches: &Stretches<'_>,
-) -> Result<VecDeque<Row<J>>, Note> {
-    let mut seats = Vec::new(alloc);
-    seat_all(rt, alloc, meeting, key, stretches, &mut seats)?;
-    rows_of(stretches, &mut seats)
+) -> Result<VecDeque<Cohort<J>>, Reason> {
+    let mut participants = Vec::new(alloc);
+    register_all(rt, alloc, meeting, own, stretches, &mut participants)?;
+    cohorts_of(stretches, &mut participants)
 }
 
-// What the workers of these stretches share, whose tasks are seated so at this tree.
+// What the workers of these stretches share, whose tasks are registered so at this tree.
 fn shop_of<'j, J: Running, F: Fn(u32, u32) -> bool>(
     alloc: Global,
     stretches: Stretches<'j>,
     meeting: Meeting<J, F>,
-    rows: VecDeque<Row<J>>,
+    cohorts: VecDeque<Cohort<J>>,
     looks: u32,
 ) -> Shop<'j, J, F>
     requires job { stretches.job ≡ J.job }
@@ -115,7 +115,7 @@ fn shop_of<'j, J: Running, F: Fn(u32, u32) -> bool>(
     ensures { result.meeting ≡ meeting }
 {
     Shop {
-        board: Mutex::new(Board::new(alloc, stretches, rows)),
+        board: Mutex::new(Board::new(alloc, stretches, cohorts)),
         changed: Condvar::new(),
         rings: AtomicU64::new(0),
         looks,
@@ -123,7 +123,7 @@ fn shop_of<'j, J: Running, F: Fn(u32, u32) -> bool>(
     }
 }
 
-// Seats the tasks of these stretches, lets the workers work, who wait for each other at the barrier first, and concludes when
+// Registers the tasks of these stretches, lets the workers work, who wait for each other at the barrier first, and concludes when
 // all have gone.
 fn run_at<
     'j,
@@ -153,20 +153,20 @@ fn run_at<
     ensures report { IfOk result (λ report. report_of (program_of J.job) J.limit ≡ Some report) }
     ensures started { IfErr result (IsOfWorkers workers) }
 {
-    let mut key = Key::new(door);
-    let (rows, fault) = match seated(rt, alloc, &meeting, &mut key, &stretches) {
-        Ok(rows) => (rows, None),
-        Err(note) => (VecDeque::new(alloc), Some(note)),
+    let mut own = OwnToken::new(door);
+    let (cohorts, fault) = match registered(rt, alloc, &meeting, &mut own, &stretches) {
+        Ok(cohorts) => (cohorts, None),
+        Err(reason) => (VecDeque::new(alloc), Some(reason)),
     };
-    let shop = shop_of(alloc, stretches, meeting, rows, looks_of(rt, workers));
-    start_seated(
-        rt, alloc, &shop, &mut key, gate, barrier, starter, workers, fault,
+    let shop = shop_of(alloc, stretches, meeting, cohorts, looks_of(rt, workers));
+    start_registered(
+        rt, alloc, &shop, &mut own, gate, barrier, starter, workers, fault,
     );
     shop.conclude(alloc)
 }
 
-// Starts the workers where the start tasks were seated and there is a barrier; else why not is noted.
-fn start_seated<
+// Starts the workers where the start tasks were registered and there is a barrier; else why not is noted.
+fn start_registered<
     'j,
     J: Running + Send + Sync,
     R: Threads + Wait + Sync,
@@ -178,25 +178,25 @@ fn start_seated<
     rt: &R,
     alloc: Global,
     shop: &Shop<'j, J, F>,
-    key: &mut Key<J>,
+    own: &mut OwnToken<J>,
     gate: &G,
     barrier: &Result<CyclicGate<A>, BarrierFault>,
     starter: &S,
     workers: u32,
-    fault: Option<Note>,
+    fault: Option<Reason>,
 )
     requires workers { workers ≡ J.workers }
     requires rule { Answers (F.pre shop.now.meeting.tree.rule.closure) (F.post shop.now.meeting.tree.rule.closure) (end_ends_at shop.now.meeting.tree.rule.plan) }
     requires action { IfOk barrier.now (λ barrier. AnswersAction (A.pre barrier.action.closure) (A.post barrier.action.closure) barrier.action.plan) }
 {
-    if let Some(note) = fault {
-        shop.board.lock(rt).note(note);
+    if let Some(reason) = fault {
+        shop.board.lock(rt).note(reason);
         return;
     }
     match barrier {
-        Ok(barrier) => start_all(rt, alloc, shop, key, gate, barrier, starter, workers),
-        Err(BarrierFault::Memory) => shop.board.lock(rt).note(Note::Memory),
-        Err(_) => shop.board.lock(rt).note(Note::Internal),
+        Ok(barrier) => start_all(rt, alloc, shop, own, gate, barrier, starter, workers),
+        Err(BarrierFault::Memory) => shop.board.lock(rt).note(Reason::Memory),
+        Err(_) => shop.board.lock(rt).note(Reason::Internal),
     }
 }
 

@@ -1,8 +1,8 @@
 //! What the workers of a run share.
 use crate::board::{Board, Next, Running, Turned};
-use crate::fault::{Note, Refused};
+use crate::fault::{Reason, Refused};
 use crate::hand::{Lent, Turnout};
-use crate::seat::{Key, Row, Seat};
+use crate::participant::{Cohort, OwnToken, Participant};
 use crate::tree::Meeting;
 use phase_records::Report;
 use std::alloc::Global;
@@ -10,7 +10,7 @@ use std::collections::VecDeque;
 use std::hint::spin_loop;
 use std::sync::atomic::{AtomicU64, Ordering};
 use std::sync::{Condvar, Mutex, MutexGuard, Wait};
-use step_stretches::Turn;
+use step_stretches::Change;
 use superstep_memory::path::Path;
 
 /// The board under a lock, and the tree without one: no call of the tree is made while the lock is held. Who waits for a
@@ -35,7 +35,7 @@ impl<'j, J: Running, F: Fn(u32, u32) -> bool> Shop<'j, J, F> {
     ghost use Rattle.worker_pool.specs.Refusals.{IsOfWorkers};
 
     /// What a worker does next. It waits for a ready stretch.
-    pub(crate) fn next<R: Wait>(&self, rt: &R) -> Result<Next<'j, J>, Note> {
+    pub(crate) fn next<R: Wait>(&self, rt: &R) -> Result<Next<'j, J>, Reason> {
         let board = self.board.lock(rt);
         let board = if board.is_idle() {
             self.look_out(rt, board)
@@ -75,7 +75,7 @@ impl<'j, J: Running, F: Fn(u32, u32) -> bool> Shop<'j, J, F> {
         rt: &R,
         lent: Lent<'j, J>,
         turnout: &Turnout,
-    ) -> Result<(), Note> {
+    ) -> Result<(), Reason> {
         let stay = matches!(turnout, Turnout::Same);
         self.board.lock(rt).deliver(lent, stay)
     }
@@ -84,16 +84,16 @@ impl<'j, J: Running, F: Fn(u32, u32) -> bool> Shop<'j, J, F> {
     fn arrive<R: Wait>(
         &self,
         rt: &R,
-        seat: Seat<J>,
-        passed: &mut VecDeque<Seat<J>>,
-    ) -> Result<bool, Note>
+        participant: Participant<J>,
+        passed: &mut VecDeque<Participant<J>>,
+    ) -> Result<bool, Reason>
         requires rule { Answers (F.pre self.now.meeting.tree.rule.closure) (F.post self.now.meeting.tree.rule.closure) (end_ends_at self.now.meeting.tree.rule.plan) }
     {
-        let mut seat = seat;
-        let led = self.meeting.arrive(rt, &mut seat.crew)?;
-        match passed.push_back(seat) {
+        let mut participant = participant;
+        let led = self.meeting.arrive(rt, &mut participant.crew)?;
+        match passed.push_back(participant) {
             Ok(()) => Ok(led),
-            Err(_) => Err(Note::Memory),
+            Err(_) => Err(Reason::Memory),
         }
     }
 
@@ -101,15 +101,17 @@ impl<'j, J: Running, F: Fn(u32, u32) -> bool> Shop<'j, J, F> {
     fn bring_kid<R: Wait>(
         &self,
         rt: &R,
-        seat: &mut Seat<J>,
+        participant: &mut Participant<J>,
         path: Path,
-        passed: &mut VecDeque<Seat<J>>,
-    ) -> Result<(), Note>
+        passed: &mut VecDeque<Participant<J>>,
+    ) -> Result<(), Reason>
         requires rule { Answers (F.pre self.now.meeting.tree.rule.closure) (F.post self.now.meeting.tree.rule.closure) (end_ends_at self.now.meeting.tree.rule.plan) }
-        requires unarrived { seat.old.crew.view.arrived < seat.old.crew.view.size }
-        ensures same { seat.new.crew.view.arrived < seat.new.crew.view.size }
+        requires unarrived { participant.old.crew.view.arrived < participant.old.crew.view.size }
+        ensures same { participant.new.crew.view.arrived < participant.new.crew.view.size }
     {
-        let kid = self.meeting.register_spawned(rt, &mut seat.crew, path)?;
+        let kid = self
+            .meeting
+            .register_spawned(rt, &mut participant.crew, path)?;
         self.arrive(rt, kid, passed)?;
         Ok(())
     }
@@ -118,32 +120,32 @@ impl<'j, J: Running, F: Fn(u32, u32) -> bool> Shop<'j, J, F> {
     fn bring_in<R: Wait>(
         &self,
         rt: &R,
-        seat: &mut Seat<J>,
+        participant: &mut Participant<J>,
         spawned: Vec<Path>,
-        passed: &mut VecDeque<Seat<J>>,
-    ) -> Result<(), Note>
+        passed: &mut VecDeque<Participant<J>>,
+    ) -> Result<(), Reason>
         requires rule { Answers (F.pre self.now.meeting.tree.rule.closure) (F.post self.now.meeting.tree.rule.closure) (end_ends_at self.now.meeting.tree.rule.plan) }
     {
         if spawned.is_empty() {
             return Ok(());
         }
-        self.meeting.come_in(&mut seat.crew)?;
+        self.meeting.come_in(&mut participant.crew)?;
         passed.reserve(spawned.len())?;
         for path in spawned {
-            self.bring_kid(rt, seat, path, passed)?;
+            self.bring_kid(rt, participant, path, passed)?;
         }
         Ok(())
     }
 
     // Lets a task leave. Whether it took the advance.
-    fn leave<R: Wait>(&self, rt: &R, seat: Seat<J>) -> Result<bool, Note>
+    fn leave<R: Wait>(&self, rt: &R, participant: Participant<J>) -> Result<bool, Reason>
         requires rule { Answers (F.pre self.now.meeting.tree.rule.closure) (F.post self.now.meeting.tree.rule.closure) (end_ends_at self.now.meeting.tree.rule.plan) }
     {
-        let Seat {
+        let Participant {
             path: _,
             crew,
             of: _,
-        } = seat;
+        } = participant;
         self.meeting.leave(rt, crew)
     }
 
@@ -151,106 +153,110 @@ impl<'j, J: Running, F: Fn(u32, u32) -> bool> Shop<'j, J, F> {
     fn pass<R: Wait>(
         &self,
         rt: &R,
-        seat: Seat<J>,
-        turn: Turn,
-        passed: &mut VecDeque<Seat<J>>,
-    ) -> Result<bool, Note>
+        participant: Participant<J>,
+        change: Change,
+        passed: &mut VecDeque<Participant<J>>,
+    ) -> Result<bool, Reason>
         requires rule { Answers (F.pre self.now.meeting.tree.rule.closure) (F.post self.now.meeting.tree.rule.closure) (end_ends_at self.now.meeting.tree.rule.plan) }
     {
-        let Turn { synced, spawned } = turn;
-        let mut seat = seat;
-        self.bring_in(rt, &mut seat, spawned, passed)?;
+        let Change { synced, spawned } = change;
+        let mut participant = participant;
+        self.bring_in(rt, &mut participant, spawned, passed)?;
         if !synced {
-            return self.leave(rt, seat);
+            return self.leave(rt, participant);
         }
         passed.reserve(1)?;
-        self.arrive(rt, seat, passed)
+        self.arrive(rt, participant, passed)
     }
 
-    // Lets each task of a row arrive, which all live on. Whether one of them took the advance.
-    fn arrive_each<R: Wait>(&self, rt: &R, seats: &mut VecDeque<Seat<J>>) -> Result<bool, Note>
+    // Lets each task of a cohort arrive, which all live on. Whether one of them took the advance.
+    fn arrive_each<R: Wait>(
+        &self,
+        rt: &R,
+        participants: &mut VecDeque<Participant<J>>,
+    ) -> Result<bool, Reason>
         requires rule { Answers (F.pre self.now.meeting.tree.rule.closure) (F.post self.now.meeting.tree.rule.closure) (end_ends_at self.now.meeting.tree.rule.plan) }
     {
         let mut led = false;
-        for seat in seats.iter_mut() {
-            led = self.meeting.arrive(rt, &mut seat.crew)? || led;
+        for participant in participants.iter_mut() {
+            led = self.meeting.arrive(rt, &mut participant.crew)? || led;
         }
         Ok(led)
     }
 
-    // Passes each task of a row through the tree, by what it did to the list of tasks; behind a fault it leaves. Whether one of
+    // Passes each task of a cohort through the tree, by what it did to the list of tasks; behind a fault it leaves. Whether one of
     // them took the advance.
     fn pass_each<R: Wait>(
         &self,
         rt: &R,
-        seats: &mut VecDeque<Seat<J>>,
-        turns: Vec<Turn>,
-    ) -> Result<bool, Note>
+        participants: &mut VecDeque<Participant<J>>,
+        changes: Vec<Change>,
+    ) -> Result<bool, Reason>
         requires rule { Answers (F.pre self.now.meeting.tree.rule.closure) (F.post self.now.meeting.tree.rule.closure) (end_ends_at self.now.meeting.tree.rule.plan) }
     {
         let mut led = false;
-        let mut turns = VecDeque::from_vec(turns);
-        for _ in 0..seats.len() {
-            let Some(seat) = seats.pop_front() else {
-                return Err(Note::Internal);
+        let mut changes = VecDeque::from_vec(changes);
+        for _ in 0..participants.len() {
+            let Some(participant) = participants.pop_front() else {
+                return Err(Reason::Internal);
             };
-            let one_led = match turns.pop_front() {
-                Some(turn) => self.pass(rt, seat, turn, seats)?,
-                None => self.leave(rt, seat)?,
+            let one_led = match changes.pop_front() {
+                Some(change) => self.pass(rt, participant, change, participants)?,
+                None => self.leave(rt, participant)?,
             };
             led = one_led || led;
         }
         Ok(led)
     }
 
-    // Passes the tasks of a row through the tree. Whether one of them took the advance.
-    fn pass_row<R: Wait>(
+    // Passes the tasks of a cohort through the tree. Whether one of them took the advance.
+    fn pass_cohort<R: Wait>(
         &self,
         rt: &R,
-        seats: &mut VecDeque<Seat<J>>,
+        participants: &mut VecDeque<Participant<J>>,
         turnout: Turnout,
-    ) -> Result<bool, Note>
+    ) -> Result<bool, Reason>
         requires rule { Answers (F.pre self.now.meeting.tree.rule.closure) (F.post self.now.meeting.tree.rule.closure) (end_ends_at self.now.meeting.tree.rule.plan) }
     {
         match turnout {
-            Turnout::Same => self.arrive_each(rt, seats),
-            Turnout::Each(turns) => self.pass_each(rt, seats, turns),
+            Turnout::Same => self.arrive_each(rt, participants),
+            Turnout::Each(changes) => self.pass_each(rt, participants, changes),
         }
     }
 
     /// Passes the tasks of a stretch that was delivered through the tree: those that they have spawned join and arrive, then
-    /// they arrive or leave. Then the seats of those that live on are handed back, and where the last of them took the advance
+    /// they arrive or leave. Then the participants of those that live on are handed back, and where the last of them took the advance
     /// the superstep is closed.
     pub(crate) fn pass_all<R: Wait>(
         &self,
         rt: &R,
         alloc: Global,
-        key: &mut Key<J>,
+        own: &mut OwnToken<J>,
         step: u32,
-        row: Row<J>,
+        cohort: Cohort<J>,
         turnout: Turnout,
-    ) -> Result<(), Note>
+    ) -> Result<(), Reason>
         requires rule { Answers (F.pre self.now.meeting.tree.rule.closure) (F.post self.now.meeting.tree.rule.closure) (end_ends_at self.now.meeting.tree.rule.plan) }
     {
-        let mut row = row;
-        let led = self.pass_row(rt, &mut row.seats, turnout)?;
-        let turned = self.board.lock(rt).turn(alloc, step, row, led)?;
+        let mut cohort = cohort;
+        let led = self.pass_cohort(rt, &mut cohort.participants, turnout)?;
+        let turned = self.board.lock(rt).turn(alloc, step, cohort, led)?;
         match turned {
             Turned::Goes => {}
             Turned::Opened => self.ring(),
             Turned::Ended => {
                 self.ring();
-                self.meeting.force(rt, key);
+                self.meeting.force(rt, own);
             }
         }
         Ok(())
     }
 
     /// Notes why a worker can't go on, and sends all home.
-    pub(crate) fn give_up<R: Wait>(&self, rt: &R, key: &mut Key<J>, note: Note) {
-        self.board.lock(rt).note(note);
+    pub(crate) fn give_up<R: Wait>(&self, rt: &R, own: &mut OwnToken<J>, reason: Reason) {
+        self.board.lock(rt).note(reason);
         self.ring();
-        self.meeting.force(rt, key);
+        self.meeting.force(rt, own);
     }
 
     /// What the job left, once all workers have gone home.

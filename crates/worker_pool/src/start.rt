@@ -9,7 +9,7 @@ ghost use Rattle.worker_pool.specs.Refusals.{IsOfWorkers};
 use crate::board::Running;
 use crate::fault::Refused;
 use crate::hooks::{Gate, Starter};
-use crate::seat::Key;
+use crate::participant::OwnToken;
 use crate::shop::Shop;
 use crate::work::work;
 use cyclic_gate::{CyclicGate, GateFault};
@@ -41,14 +41,14 @@ fn wait_and_work<'j, J: Running, R: Wait, F: Fn(u32, u32) -> bool, A: Fn(u64) ->
     gate: &G,
     barrier: &CyclicGate<A>,
     k: u32,
-    key: Key<J>,
+    own: OwnToken<J>,
 )
     requires rule { Answers (F.pre shop.now.meeting.tree.rule.closure) (F.post shop.now.meeting.tree.rule.closure) (end_ends_at shop.now.meeting.tree.rule.plan) }
     requires action { AnswersAction (A.pre barrier.now.action.closure) (A.post barrier.now.action.closure) barrier.now.action.plan }
 {
-    let mut key = key;
+    let mut own = own;
     match barrier.await_turn(rt, k) {
-        Ok(_) => work(rt, alloc, shop, gate, &mut key),
+        Ok(_) => work(rt, alloc, shop, gate, &mut own),
         Err(GateFault::Memory) => call_off(rt, shop, barrier, Refused::Memory),
         Err(_) => {}
     }
@@ -93,7 +93,7 @@ pub(crate) fn start_all<
     rt: &R,
     alloc: Global,
     shop: &Shop<'j, J, F>,
-    key: &mut Key<J>,
+    own: &mut OwnToken<J>,
     gate: &G,
     barrier: &CyclicGate<A>,
     starter: &S,
@@ -116,7 +116,7 @@ pub(crate) fn start_all<
                     call_off(rt, shop, barrier, refused);
                     break;
                 }
-                let own = shop.meeting.key(key);
+                let own = shop.meeting.own_token(own);
                 match scope.spawn(move || wait_and_work(rt, alloc, shop, gate, barrier, k, own)) {
                     Ok(thread) => started.push_reserved(thread),
                     Err(_) => {

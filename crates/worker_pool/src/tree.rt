@@ -2,9 +2,9 @@
 ghost use Rattle.std.specs.Prelude.{◌≡◌};
 
 use crate::board::Running;
-use crate::fault::Note;
+use crate::fault::Reason;
 use crate::leaves::Leaves;
-use crate::seat::{Key, Seat};
+use crate::participant::{OwnToken, Participant};
 use std::sync::Wait;
 use superstep_memory::path::Path;
 use tier_table::forcing::Forced;
@@ -41,10 +41,10 @@ impl<J: Running, F: Fn(u32, u32) -> bool> Meeting<J, F> {
     ghost use Rattle.advance_rule.specs.Plan.{end_ends_at};
     ghost use Rattle.tier_shape.specs.Leaves.{leaves_of};
     ghost use Rattle.tier_table.specs.Openings.{asked_tier};
-    ghost use Rattle.job_seats.specs.Moves.{leaf_at};
+    ghost use Rattle.job_participants.specs.Moves.{leaf_at};
     ghost use Rattle.worker_pool.specs.Entries.{IsOf, IsAtLeaf};
     ghost use Rattle.tier_table.specs.Arrives.{HasPassed};
-    ghost use Rattle.tier_steps.specs.declared.view.Trip.TheVariants.{Arrival};
+    ghost use Rattle.tier_steps.specs.declared.view.Passage.TheVariants.{Arrival};
 
     /// A tree, with its leaves.
     pub(crate) fn new(tree: Tree<F>, leaves: Leaves<J>) -> Self
@@ -55,8 +55,8 @@ impl<J: Running, F: Fn(u32, u32) -> bool> Meeting<J, F> {
     }
 
     /// A worker's own token.
-    pub(crate) fn key(&self, key: &mut Key<J>) -> Key<J> {
-        Key::new(self.tree.split(&mut key.door))
+    pub(crate) fn own_token(&self, own: &mut OwnToken<J>) -> OwnToken<J> {
+        OwnToken::new(self.tree.split(&mut own.door))
     }
 
     // Goes on with the opening of a path until it is done.
@@ -94,7 +94,7 @@ impl<J: Running, F: Fn(u32, u32) -> bool> Meeting<J, F> {
     }
 
     // Registers a member beside a crew one of whose members is unarrived.
-    fn join_here<R: Wait>(&self, rt: &R, crew: &mut Crew, door: Door) -> Result<Crew, Note>
+    fn join_here<R: Wait>(&self, rt: &R, crew: &mut Crew, door: Door) -> Result<Crew, Reason>
         requires own { (crew.old.tree ≡ J.tree) × (door.tree ≡ J.tree) }
         requires unarrived { crew.old.view.arrived < crew.old.view.size }
         ensures same { (crew.new.tree ≡ J.tree) × (crew.new.view.arrived < crew.new.view.size) × (crew.new.view.tier ≡ crew.old.view.tier) }
@@ -105,8 +105,8 @@ impl<J: Running, F: Fn(u32, u32) -> bool> Meeting<J, F> {
             match self.tree.join_here(crew, door, 1, TRIES) {
                 Registered::Joined(kid, _phase) => return Ok(kid),
                 Registered::Busy(rest) => door = rest,
-                Registered::Full(_door, _count) => return Err(Note::Internal),
-                Registered::Ended(_door, _shown) => return Err(Note::Internal),
+                Registered::Full(_door, _count) => return Err(Reason::Internal),
+                Registered::Ended(_door, _shown) => return Err(Reason::Internal),
                 Registered::Held(..) | Registered::Owing(_) => unreachable!(),
             }
         }
@@ -117,16 +117,16 @@ impl<J: Running, F: Fn(u32, u32) -> bool> Meeting<J, F> {
     pub(crate) fn register_start<R: Wait>(
         &self,
         rt: &R,
-        key: &mut Key<J>,
+        own: &mut OwnToken<J>,
         path: Path,
         number: usize,
-    ) -> Result<Seat<J>, Note>
-        ensures { IfOk result (λ seat. seat.crew.view.tier ≡ leaf_at (leaves_of J.tree.key.shape) number) }
+    ) -> Result<Participant<J>, Reason>
+        ensures { IfOk result (λ participant. participant.crew.view.tier ≡ leaf_at (leaves_of J.tree.key.shape) number) }
     {
-        let fresh = self.tree.split(&mut key.door);
+        let fresh = self.tree.split(&mut own.door);
         match self.register(rt, fresh, self.leaves.tier(number)) {
-            Entry::In(crew) => Ok(Seat::new(path, crew)),
-            Entry::Off(_) | Entry::Over => Err(Note::Internal),
+            Entry::In(crew) => Ok(Participant::new(path, crew)),
+            Entry::Off(_) | Entry::Over => Err(Reason::Internal),
         }
     }
 
@@ -136,39 +136,39 @@ impl<J: Running, F: Fn(u32, u32) -> bool> Meeting<J, F> {
         rt: &R,
         crew: &mut Crew,
         path: Path,
-    ) -> Result<Seat<J>, Note>
+    ) -> Result<Participant<J>, Reason>
         requires own { crew.old.tree ≡ J.tree }
         requires unarrived { crew.old.view.arrived < crew.old.view.size }
         ensures same { (crew.new.tree ≡ J.tree) × (crew.new.view.arrived < crew.new.view.size) × (crew.new.view.tier ≡ crew.old.view.tier) }
-        ensures leaf { IfOk result (λ seat. IsAtLeaf (leaves_of J.tree.key.shape) crew.old.view.tier path.items seat.crew.view.tier) }
+        ensures leaf { IfOk result (λ participant. IsAtLeaf (leaves_of J.tree.key.shape) crew.old.view.tier path.items participant.crew.view.tier) }
     {
         let fresh = self.tree.split_crew(crew);
         let tier = self.leaves.preferred(crew.tier(), path.as_slice());
         match self.register(rt, fresh, tier) {
-            Entry::In(kid) => Ok(Seat::new(path, kid)),
+            Entry::In(kid) => Ok(Participant::new(path, kid)),
             Entry::Off(door) => {
                 let kid = self.join_here(rt, crew, door)?;
-                Ok(Seat::new(path, kid))
+                Ok(Participant::new(path, kid))
             }
-            Entry::Over => Err(Note::Internal),
+            Entry::Over => Err(Reason::Internal),
         }
     }
 
     /// Lets a crew see the phase in which its task runs, in which no member of it has arrived.
-    pub(crate) fn come_in(&self, crew: &mut Crew) -> Result<(), Note>
+    pub(crate) fn come_in(&self, crew: &mut Crew) -> Result<(), Reason>
         requires { crew.old.tree ≡ J.tree }
         ensures same { crew.new.tree ≡ J.tree }
         ensures unarrived { OnOk result (crew.new.view.arrived < crew.new.view.size) }
     {
         let _polled = self.tree.poll(crew);
         if crew.unarrived() == 0 {
-            return Err(Note::Internal);
+            return Err(Reason::Internal);
         }
         Ok(())
     }
 
     /// Lets the member of a crew arrive. Whether it took the advance.
-    pub(crate) fn arrive<R: Wait>(&self, rt: &R, crew: &mut Crew) -> Result<bool, Note>
+    pub(crate) fn arrive<R: Wait>(&self, rt: &R, crew: &mut Crew) -> Result<bool, Reason>
         requires own { crew.old.tree ≡ J.tree }
         requires rule { Answers (F.pre self.now.tree.rule.closure) (F.post self.now.tree.rule.closure) (end_ends_at self.now.tree.rule.plan) }
         ensures same { crew.new.tree ≡ J.tree }
@@ -176,30 +176,30 @@ impl<J: Running, F: Fn(u32, u32) -> bool> Meeting<J, F> {
     {
         match self.tree.arrive_in_place(rt, crew) {
             Came::Done(_phase, led) => Ok(led),
-            Came::AlreadyArrived(_phase) => Err(Note::Internal),
-            Came::Ended(_shown) => Err(Note::Internal),
+            Came::AlreadyArrived(_phase) => Err(Reason::Internal),
+            Came::Ended(_shown) => Err(Reason::Internal),
         }
     }
 
     /// Lets the one member of a crew leave. Whether it took the advance.
-    pub(crate) fn leave<R: Wait>(&self, rt: &R, crew: Crew) -> Result<bool, Note>
+    pub(crate) fn leave<R: Wait>(&self, rt: &R, crew: Crew) -> Result<bool, Reason>
         requires own { crew.tree ≡ J.tree }
         requires rule { Answers (F.pre self.now.tree.rule.closure) (F.post self.now.tree.rule.closure) (end_ends_at self.now.tree.rule.plan) }
     {
         match self.tree.leave_wait(rt, crew) {
             Counted::Left(_door, _phase, led) => Ok(led),
-            Counted::Done(_crew, _phase, _led) => Err(Note::Internal),
-            Counted::AlreadyArrived(_crew, _phase) => Err(Note::Internal),
-            Counted::Ended(_crew, _shown) => Err(Note::Internal),
+            Counted::Done(_crew, _phase, _led) => Err(Reason::Internal),
+            Counted::AlreadyArrived(_crew, _phase) => Err(Reason::Internal),
+            Counted::Ended(_crew, _shown) => Err(Reason::Internal),
         }
     }
 
     /// Ends the tree. Where it has ended nothing changes.
-    pub(crate) fn force<R: Wait>(&self, rt: &R, key: &mut Key<J>)
-        ensures ended { is_some key.new.door.view.end_seen ≡ true }
+    pub(crate) fn force<R: Wait>(&self, rt: &R, own: &mut OwnToken<J>)
+        ensures ended { is_some own.new.door.view.end_seen ≡ true }
     {
         for _ in rt.forever() {
-            match self.tree.force(&mut key.door, TRIES) {
+            match self.tree.force(&mut own.door, TRIES) {
                 Forced::Ended(_) => return,
                 Forced::Busy => {}
             }

@@ -3,29 +3,29 @@ ghost use Rattle.advance_rule.specs.Stored.{Answers};
 ghost use Rattle.advance_rule.specs.Plan.{end_ends_at};
 
 use crate::board::{Next, Running};
-use crate::fault::Note;
+use crate::fault::Reason;
 use crate::hand::Lent;
 use crate::hooks::Gate;
-use crate::seat::{Key, Row};
+use crate::participant::{Cohort, OwnToken};
 use crate::shop::Shop;
 use std::alloc::Global;
 use std::sync::Wait;
 
-/// Does stretches until the workers go home. `key` is the worker's own token, by which it ends the tree where it must.
+/// Does stretches until the workers go home. `own` is the worker's own token, by which it ends the tree where it must.
 pub(crate) fn work<'j, J: Running, R: Wait, F: Fn(u32, u32) -> bool, G: Gate>(
     rt: &R,
     alloc: Global,
     shop: &Shop<'j, J, F>,
     gate: &G,
-    key: &mut Key<J>,
+    own: &mut OwnToken<J>,
 )
     requires rule { Answers (F.pre shop.now.meeting.tree.rule.closure) (F.post shop.now.meeting.tree.rule.closure) (end_ends_at shop.now.meeting.tree.rule.plan) }
 {
     for _ in rt.forever() {
-        match do_next(rt, alloc, shop, gate, key) {
+        match do_next(rt, alloc, shop, gate, own) {
             Ok(true) => {}
             Ok(false) => return,
-            Err(note) => return shop.give_up(rt, key, note),
+            Err(reason) => return shop.give_up(rt, own, reason),
         }
     }
 }
@@ -36,13 +36,13 @@ fn do_next<'j, J: Running, R: Wait, F: Fn(u32, u32) -> bool, G: Gate>(
     alloc: Global,
     shop: &Shop<'j, J, F>,
     gate: &G,
-    key: &mut Key<J>,
-) -> Result<bool, Note>
+    own: &mut OwnToken<J>,
+) -> Result<bool, Reason>
     requires rule { Answers (F.pre shop.now.meeting.tree.rule.closure) (F.post shop.now.meeting.tree.rule.closure) (end_ends_at shop.now.meeting.tree.rule.plan) }
 {
     match shop.next(rt)? {
-        Next::Run(lent, row) => {
-            do_stretch(rt, alloc, shop, gate, key, lent, row)?;
+        Next::Run(lent, cohort) => {
+            do_stretch(rt, alloc, shop, gate, own, lent, cohort)?;
             Ok(true)
         }
         Next::Home => Ok(false),
@@ -55,15 +55,15 @@ fn do_stretch<'j, J: Running, R: Wait, F: Fn(u32, u32) -> bool, G: Gate>(
     alloc: Global,
     shop: &Shop<'j, J, F>,
     gate: &G,
-    key: &mut Key<J>,
+    own: &mut OwnToken<J>,
     lent: Lent<'j, J>,
-    row: Row<J>,
-) -> Result<(), Note>
+    cohort: Cohort<J>,
+) -> Result<(), Reason>
     requires rule { Answers (F.pre shop.now.meeting.tree.rule.closure) (F.post shop.now.meeting.tree.rule.closure) (end_ends_at shop.now.meeting.tree.rule.plan) }
 {
     let mut lent = lent;
     let step = lent.step();
     let turnout = lent.run(rt, alloc, gate)?;
     shop.deliver(rt, lent, &turnout)?;
-    shop.pass_all(rt, alloc, key, step, row, turnout)
+    shop.pass_all(rt, alloc, own, step, cohort, turnout)
 }

@@ -3,8 +3,8 @@ use smallvec::SmallVec;
 use std::alloc::{AllocError, Global};
 use std::process::Abort;
 use std::test::Fail;
-use superstep_memory::arrays::Kind::{Add, Set};
-use superstep_memory::arrays::{Arrays, Kind, Put, PutLog};
+use superstep_memory::arrays::PutKind::{Add, Set};
+use superstep_memory::arrays::{Arrays, Put, PutKind, PutLog};
 use superstep_memory::landing::{LandFault, land};
 use superstep_memory::path::Path;
 use superstep_memory::runs::{Run, land_runs};
@@ -26,7 +26,7 @@ fn cells_of(arrays: &Arrays) -> [Option<i64>; 3] {
 fn entry(
     alloc: Global,
     path: &[u16],
-    puts: &[(u32, Kind, i64)],
+    puts: &[(u32, PutKind, i64)],
 ) -> Result<(Path, PutLog), AllocError> {
     let path = SmallVec::from_slice(alloc, path)?;
     let mut log = Vec::new(alloc);

@@ -38,6 +38,6 @@ fn come_to_the_end<R: Threads + Wait + Sync>(rt: &R, alloc: Global) -> bool {
 }
 
 #[test]
-fn rows_may_come_late(rt: HostRuntime) {
+fn cohorts_may_come_late(rt: HostRuntime) {
     assert!(rt; come_to_the_end(&rt, rt.alloc()));
 }

@@ -3,13 +3,13 @@ use crate::step::fixtures::{is_cell, three_cells};
 use smallvec::SmallVec;
 use std::alloc::{AllocError, Global};
 use std::process::Abort;
-use superstep_memory::arrays::Kind::{Add, Set};
-use superstep_memory::arrays::{Arrays, Kind, Put};
+use superstep_memory::arrays::PutKind::{Add, Set};
+use superstep_memory::arrays::{Arrays, Put, PutKind};
 use superstep_memory::landing::{Entry, LandFault, land};
 use superstep_memory::runs::{Run, land_runs};
 
 // What a task has put: its path, and an array, a cell and a value of each put.
-type Log = (&'static [u16], &'static [(u16, u32, Kind, i64)]);
+type Log = (&'static [u16], &'static [(u16, u32, PutKind, i64)]);
 
 // What landing says.
 #[derive(Clone, Copy, PartialEq, Eq)]
@@ -104,7 +104,7 @@ const TWO_LOGS: &[Log] = &[
 fn entry_of(
     alloc: Global,
     path: &[u16],
-    puts: &[(u16, u32, Kind, i64)],
+    puts: &[(u16, u32, PutKind, i64)],
 ) -> Result<Entry, AllocError> {
     let mut all = Vec::new(alloc);
     for (array, index, kind, value) in puts {

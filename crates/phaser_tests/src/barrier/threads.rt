@@ -12,7 +12,7 @@ use std::thread::Threads;
 
 // What a thread does at the gate.
 #[derive(Clone, Copy)]
-enum Deed {
+enum Duty {
     // Waits for its turn, as this caller.
     Awaits(u32),
     // Takes the caller 1 away, and answers 0.
@@ -20,10 +20,10 @@ enum Deed {
 }
 
 // They meet, each as its own caller.
-const MEET: [Deed; 3] = [Deed::Awaits(0), Deed::Awaits(1), Deed::Awaits(2)];
+const MEET: [Duty; 3] = [Duty::Awaits(0), Duty::Awaits(1), Duty::Awaits(2)];
 
 // Two wait, of which the third takes one away.
-const PART: [Deed; 3] = [Deed::Awaits(0), Deed::Awaits(1), Deed::TakesAway];
+const PART: [Duty; 3] = [Duty::Awaits(0), Duty::Awaits(1), Duty::TakesAway];
 
 // A turn, which sends the others home where it finds no memory.
 fn turn<R: Wait, F: Fn(u64) -> bool>(
@@ -57,13 +57,13 @@ fn take_away<R: Wait, F: Fn(u64) -> bool>(rt: &R, gate: &CyclicGate<F>) -> Resul
 fn does<R: Wait, F: Fn(u64) -> bool>(
     rt: &R,
     gate: &CyclicGate<F>,
-    deed: Deed,
+    duty: Duty,
 ) -> Result<u32, GateFault>
     requires { AnswersAction (F.pre gate.now.action.closure) (F.post gate.now.action.closure) gate.now.action.plan }
 {
-    match deed {
-        Deed::Awaits(caller) => turn(rt, gate, caller),
-        Deed::TakesAway => take_away(rt, gate),
+    match duty {
+        Duty::Awaits(caller) => turn(rt, gate, caller),
+        Duty::TakesAway => take_away(rt, gate),
     }
 }
 
@@ -72,7 +72,7 @@ fn three<R: Threads + Wait + Abort + Sync, F: Fn(u64) -> bool + Sync>(
     rt: &R,
     alloc: Global,
     gate: &CyclicGate<F>,
-    deeds: [Deed; 3],
+    duties: [Duty; 3],
 ) -> Vec<Result<u32, GateFault>>
     requires { AnswersAction (F.pre gate.now.action.closure) (F.post gate.now.action.closure) gate.now.action.plan }
 {
@@ -82,7 +82,7 @@ fn three<R: Threads + Wait + Abort + Sync, F: Fn(u64) -> bool + Sync>(
         3,
         &|i: usize| -> Result<u32, GateFault>
             requires { (i < 3) × AnswersAction (F.pre gate.now.action.closure) (F.post gate.now.action.closure) gate.now.action.plan }
-        { does(rt, gate, deeds[i]) },
+        { does(rt, gate, duties[i]) },
     );
     answers.expect(rt, "memory")
 }

@@ -3,11 +3,11 @@
 ghost use Rattle.std.specs.Prelude.{◌≡◌};
 ghost use Rattle.advance_rule.specs.Stored.{Answers};
 ghost use Rattle.advance_rule.specs.Plan.{end_ends_at};
-ghost use Rattle.phaser_tests.specs.Slots.{tree_of};
+ghost use Rattle.phaser_tests.specs.Holders.{tree_of};
 
 use crate::calls::ask::{Ask, Told};
 use crate::calls::call::call;
-use crate::calls::slots::Slot;
+use crate::calls::holders::Holder;
 use crate::lists::mirror::Mirror;
 use crate::lists::numbers::Numbers;
 use crate::trees::Rule;
@@ -15,22 +15,22 @@ use std::process::Abort;
 use tier_table::tree::Tree;
 
 // What a token is asked next; late in a list the end by force, too.
-fn next_ask(slot: &Slot, numbers: &mut Numbers, tiers: u32, late: bool) -> Ask {
-    match slot {
-        Slot::Outside(_) if late && numbers.below(4) == 0 => Ask::Force,
-        Slot::Outside(_) => {
+fn next_ask(holder: &Holder, numbers: &mut Numbers, tiers: u32, late: bool) -> Ask {
+    match holder {
+        Holder::Outside(_) if late && numbers.below(4) == 0 => Ask::Force,
+        Holder::Outside(_) => {
             let tier = (numbers.below(tiers) % 64) as u16;
             let few = numbers.below(3).saturating_add(1);
             let members = if numbers.below(16) == 0 { 65530 } else { few };
             Ask::Register(tier, members)
         }
-        Slot::Inside(_) => match numbers.below(8) {
+        Holder::Inside(_) => match numbers.below(8) {
             0 => Ask::Leave,
             1 | 2 => Ask::Poll,
             _ => Ask::Arrive,
         },
-        Slot::Owing(_) => Ask::Resume,
-        Slot::Opening(_) => Ask::Open,
+        Holder::Owing(_) => Ask::Resume,
+        Holder::Opening(_) => Ask::Open,
     }
 }
 
@@ -55,26 +55,26 @@ pub fn act(
     tree: &Tree<Rule>,
     mirror: &mut Mirror,
     token: usize,
-    slot: Slot,
+    holder: Holder,
     numbers: &mut Numbers,
     late: bool,
-) -> Slot
-    requires own { tree_of slot ≡ tree.now.tree }
+) -> Holder
+    requires own { tree_of holder ≡ tree.now.tree }
     requires rule { Answers (pre tree.now.rule.closure) (post tree.now.rule.closure) (end_ends_at tree.now.rule.plan) }
     ensures { tree_of result ≡ tree.now.tree }
 {
-    let ask = next_ask(&slot, numbers, mirror.tiers(), late);
-    let mut slot = slot;
+    let ask = next_ask(&holder, numbers, mirror.tiers(), late);
+    let mut holder = holder;
     let mut again = false;
     for _ in 0..8 {
         let (tries, on_the_tree) = next_tries(numbers, ask, again);
-        let (next, told) = call(rt, tree, slot, ask, on_the_tree);
-        slot = next;
+        let (next, told) = call(rt, tree, holder, ask, on_the_tree);
+        holder = next;
         assert!(rt; mirror.told(rt, token, ask, tries, again) == told);
         if told != Told::Busy {
-            return slot;
+            return holder;
         }
         again = true;
     }
-    slot
+    holder
 }

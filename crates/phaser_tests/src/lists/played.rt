@@ -3,11 +3,11 @@
 ghost use Rattle.std.specs.Prelude.{◌≡◌, ◌≤◌, All};
 ghost use Rattle.advance_rule.specs.Stored.{Answers};
 ghost use Rattle.advance_rule.specs.Plan.{end_ends_at};
-ghost use Rattle.phaser_tests.specs.Slots.{tree_of, FourOf, EightOf};
+ghost use Rattle.phaser_tests.specs.Holders.{tree_of, FourOf, EightOf};
 ghost use Rattle.tier_table.specs.Closes.{held};
 
 use crate::calls::call::at_rest;
-use crate::calls::slots::{Eight, Four, Slot};
+use crate::calls::holders::{Eight, Four, Holder};
 use crate::lists::act::act;
 use crate::lists::mirror::{Mirror, words_of};
 use crate::lists::numbers::Numbers;
@@ -26,22 +26,22 @@ fn settled(
     tree: &Tree<Rule>,
     mirror: &mut Mirror,
     token: usize,
-    slot: Slot,
+    holder: Holder,
     numbers: &mut Numbers,
 ) -> Token
-    requires own { tree_of slot ≡ tree.now.tree }
+    requires own { tree_of holder ≡ tree.now.tree }
     requires rule { Answers (pre tree.now.rule.closure) (post tree.now.rule.closure) (end_ends_at tree.now.rule.plan) }
     ensures { (held result).tree ≡ tree.now.tree }
 {
-    let mut slot = slot;
+    let mut holder = holder;
     for _ in 0..64 {
-        match slot {
-            Slot::Outside(door) => return Token::Door(door),
-            Slot::Inside(crew) => return Token::Crew(crew),
-            other => slot = act(rt, tree, mirror, token, other, numbers, false),
+        match holder {
+            Holder::Outside(door) => return Token::Door(door),
+            Holder::Inside(crew) => return Token::Crew(crew),
+            other => holder = act(rt, tree, mirror, token, other, numbers, false),
         }
     }
-    at_rest(rt, slot)
+    at_rest(rt, holder)
 }
 
 // Whether the words of a closed tree are those of the machine.
@@ -60,15 +60,15 @@ fn act_in_four(
     tree: &Tree<Rule>,
     mirror: &mut Mirror,
     token: usize,
-    slots: Four,
+    holders: Four,
     numbers: &mut Numbers,
     late: bool,
 ) -> Four
-    requires own { FourOf tree.now.tree slots }
+    requires own { FourOf tree.now.tree holders }
     requires rule { Answers (pre tree.now.rule.closure) (post tree.now.rule.closure) (end_ends_at tree.now.rule.plan) }
     ensures { FourOf tree.now.tree result }
 {
-    let (mut zero, mut one, mut two, mut three) = slots;
+    let (mut zero, mut one, mut two, mut three) = holders;
     match token % 4 {
         0 => zero = act(rt, tree, mirror, token, zero, numbers, late),
         1 => one = act(rt, tree, mirror, token, one, numbers, late),
@@ -84,15 +84,15 @@ fn act_one(
     tree: &Tree<Rule>,
     mirror: &mut Mirror,
     token: usize,
-    slots: Eight,
+    holders: Eight,
     numbers: &mut Numbers,
     late: bool,
 ) -> Eight
-    requires own { EightOf tree.now.tree slots }
+    requires own { EightOf tree.now.tree holders }
     requires rule { Answers (pre tree.now.rule.closure) (post tree.now.rule.closure) (end_ends_at tree.now.rule.plan) }
     ensures { EightOf tree.now.tree result }
 {
-    let Eight { front, back } = slots;
+    let Eight { front, back } = holders;
     if token < 4 {
         let front = act_in_four(rt, tree, mirror, token, front, numbers, late);
         return Eight { front, back };
@@ -102,15 +102,15 @@ fn act_one(
 }
 
 // Four tokens split off one, as the calls of a list take them.
-fn four_slots(tree: &Tree<Rule>, door: Door) -> Four
+fn four_holders(tree: &Tree<Rule>, door: Door) -> Four
     requires own { door.tree ≡ tree.now.tree }
     ensures { FourOf tree.now.tree result }
 {
     let mut door = door;
-    let one = Slot::Outside(tree.split(&mut door));
-    let two = Slot::Outside(tree.split(&mut door));
-    let three = Slot::Outside(tree.split(&mut door));
-    (Slot::Outside(door), one, two, three)
+    let one = Holder::Outside(tree.split(&mut door));
+    let two = Holder::Outside(tree.split(&mut door));
+    let three = Holder::Outside(tree.split(&mut door));
+    (Holder::Outside(door), one, two, three)
 }
 
 // Eight tokens after 300 calls in some order.
@@ -118,19 +118,19 @@ fn played(
     rt: &impl Abort,
     tree: &Tree<Rule>,
     mirror: &mut Mirror,
-    slots: Eight,
+    holders: Eight,
     numbers: &mut Numbers,
 ) -> Eight
-    requires own { EightOf tree.now.tree slots }
+    requires own { EightOf tree.now.tree holders }
     requires rule { Answers (pre tree.now.rule.closure) (post tree.now.rule.closure) (end_ends_at tree.now.rule.plan) }
     ensures { EightOf tree.now.tree result }
 {
-    let mut slots = slots;
+    let mut holders = holders;
     for turn in 0..300 {
         let token = numbers.below(8) as usize;
-        slots = act_one(rt, tree, mirror, token, slots, numbers, turn > 250);
+        holders = act_one(rt, tree, mirror, token, holders, numbers, turn > 250);
     }
-    slots
+    holders
 }
 
 // Puts four tokens beside others, after each of them has done what it owes.
@@ -139,16 +139,16 @@ fn settle_four(
     tree: &Tree<Rule>,
     mirror: &mut Mirror,
     first: usize,
-    slots: Four,
+    holders: Four,
     numbers: &mut Numbers,
     tokens: &mut Vec<Token>,
 )
-    requires own { FourOf tree.now.tree slots × All (λ t. (held t).tree ≡ tree.now.tree) tokens.old.items }
+    requires own { FourOf tree.now.tree holders × All (λ t. (held t).tree ≡ tree.now.tree) tokens.old.items }
     requires first { first ≤ 4 }
     requires rule { Answers (pre tree.now.rule.closure) (post tree.now.rule.closure) (end_ends_at tree.now.rule.plan) }
     ensures { All (λ t. (held t).tree ≡ tree.now.tree) tokens.new.items }
 {
-    let (zero, one, two, three) = slots;
+    let (zero, one, two, three) = holders;
     let zero = settled(rt, tree, mirror, first, zero, numbers);
     put(rt, tree, tokens, zero);
     let one = settled(rt, tree, mirror, first + 1, one, numbers);
@@ -174,10 +174,10 @@ fn listed(
 {
     let mut numbers = Numbers { seed };
     let mut door = door;
-    let back = four_slots(tree, tree.split(&mut door));
-    let front = four_slots(tree, door);
-    let slots = Eight { front, back };
-    let Eight { front, back } = played(rt, tree, mirror, slots, &mut numbers);
+    let back = four_holders(tree, tree.split(&mut door));
+    let front = four_holders(tree, door);
+    let holders = Eight { front, back };
+    let Eight { front, back } = played(rt, tree, mirror, holders, &mut numbers);
     let mut tokens = Vec::new(alloc);
     settle_four(rt, tree, mirror, 0, front, &mut numbers, &mut tokens);
     settle_four(rt, tree, mirror, 4, back, &mut numbers, &mut tokens);

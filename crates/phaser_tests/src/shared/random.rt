@@ -4,11 +4,11 @@ ghost use Rattle.std.specs.Prelude.{◌≡◌, All, false};
 ghost use Rattle.advance_rule.specs.Stored.{Answers};
 ghost use Rattle.advance_rule.specs.Plan.{end_ends_at};
 ghost use Rattle.tier_table.specs.Closes.{held};
-ghost use Rattle.phaser_tests.specs.Slots.{tree_of};
+ghost use Rattle.phaser_tests.specs.Holders.{tree_of};
 
 use crate::calls::ask::{Ask, Told};
 use crate::calls::call::{at_rest, call};
-use crate::calls::slots::Slot;
+use crate::calls::holders::Holder;
 use crate::lists::numbers::Numbers;
 use crate::shared::counts::tally;
 use crate::shared::told::{may_be_told, tells};
@@ -43,86 +43,86 @@ fn is_never(_phase: u32, _count: u32) -> bool
 }
 
 // What a token is asked next; late, and with a few of the numbers, the end by force or more members than will arrive.
-fn next_ask(slot: &Slot, numbers: &mut Numbers, tiers: u32, late: bool) -> Ask {
-    match slot {
-        Slot::Outside(_) if late && numbers.below(400) == 0 => Ask::Force,
-        Slot::Outside(_) => {
+fn next_ask(holder: &Holder, numbers: &mut Numbers, tiers: u32, late: bool) -> Ask {
+    match holder {
+        Holder::Outside(_) if late && numbers.below(400) == 0 => Ask::Force,
+        Holder::Outside(_) => {
             let tier = (numbers.below(tiers) % 64) as u16;
             let few = numbers.below(3).saturating_add(1);
             let many = late && numbers.below(32) == 0;
             let members = if many { 65533 } else { few };
             Ask::Register(tier, members)
         }
-        Slot::Inside(_) => match numbers.below(8) {
+        Holder::Inside(_) => match numbers.below(8) {
             0 => Ask::Leave,
             1 | 2 => Ask::Poll,
             _ => Ask::Arrive,
         },
-        Slot::Owing(_) => Ask::Resume,
-        Slot::Opening(_) => Ask::Open,
+        Holder::Owing(_) => Ask::Resume,
+        Holder::Opening(_) => Ask::Open,
     }
 }
 
 // One call with up to 4 tries, whose answer is one that it may have; and whether its token took an advance.
-fn turn(rt: &impl Abort, tree: &Tree<Rule>, slot: Slot, ask: Ask, tries: u32) -> (Slot, bool)
-    requires own { tree_of slot ≡ tree.now.tree }
+fn turn(rt: &impl Abort, tree: &Tree<Rule>, holder: Holder, ask: Ask, tries: u32) -> (Holder, bool)
+    requires own { tree_of holder ≡ tree.now.tree }
     requires rule { Answers (pre tree.now.rule.closure) (post tree.now.rule.closure) (end_ends_at tree.now.rule.plan) }
     ensures { tree_of result.0 ≡ tree.now.tree }
 {
-    let before = tells(&slot);
-    let (slot, told) = call(rt, tree, slot, ask, tries);
-    assert!(rt; may_be_told(ask, before, tells(&slot), told));
+    let before = tells(&holder);
+    let (holder, told) = call(rt, tree, holder, ask, tries);
+    assert!(rt; may_be_told(ask, before, tells(&holder), told));
     let led = matches!(told, Told::Done(_, true) | Told::Left(_, true));
-    (slot, led)
+    (holder, led)
 }
 
 // So many random calls of a token; and how many advances it took.
-fn turns(rt: &impl Abort, tree: &Tree<Rule>, slot: Slot, seed: u32, count: u32) -> (Slot, u32)
-    requires own { tree_of slot ≡ tree.now.tree }
+fn turns(rt: &impl Abort, tree: &Tree<Rule>, holder: Holder, seed: u32, count: u32) -> (Holder, u32)
+    requires own { tree_of holder ≡ tree.now.tree }
     requires rule { Answers (pre tree.now.rule.closure) (post tree.now.rule.closure) (end_ends_at tree.now.rule.plan) }
     ensures { tree_of result.0 ≡ tree.now.tree }
 {
     let mut numbers = Numbers { seed };
-    let mut slot = slot;
+    let mut holder = holder;
     let mut led = 0u32;
     for number in 0..count {
         let late = number > count / 2;
-        let ask = next_ask(&slot, &mut numbers, tree.shape().count() as u32, late);
-        let (next, leads) = turn(rt, tree, slot, ask, numbers.below(5));
-        slot = next;
+        let ask = next_ask(&holder, &mut numbers, tree.shape().count() as u32, late);
+        let (next, leads) = turn(rt, tree, holder, ask, numbers.below(5));
+        holder = next;
         led = led.saturating_add(u32::from(leads));
     }
-    (slot, led)
+    (holder, led)
 }
 
 // Goes on with what a token owes until it is at rest; and how many advances it took.
-fn settled(rt: &impl Abort, tree: &Tree<Rule>, slot: Slot) -> (Token, u32)
-    requires own { tree_of slot ≡ tree.now.tree }
+fn settled(rt: &impl Abort, tree: &Tree<Rule>, holder: Holder) -> (Token, u32)
+    requires own { tree_of holder ≡ tree.now.tree }
     requires rule { Answers (pre tree.now.rule.closure) (post tree.now.rule.closure) (end_ends_at tree.now.rule.plan) }
     ensures { (held result.0).tree ≡ tree.now.tree }
 {
-    let mut slot = slot;
+    let mut holder = holder;
     let mut led = 0u32;
     for _ in 0..1000000u32 {
-        let ask = match &slot {
-            Slot::Owing(_) => Ask::Resume,
-            Slot::Opening(_) => Ask::Open,
+        let ask = match &holder {
+            Holder::Owing(_) => Ask::Resume,
+            Holder::Opening(_) => Ask::Open,
             _ => break,
         };
-        let (next, leads) = turn(rt, tree, slot, ask, 16);
-        slot = next;
+        let (next, leads) = turn(rt, tree, holder, ask, 16);
+        holder = next;
         led = led.saturating_add(u32::from(leads));
     }
-    (at_rest(rt, slot), led)
+    (at_rest(rt, holder), led)
 }
 
 // A token as one in a state.
-fn slot_of(token: Token) -> Slot
+fn holder_of(token: Token) -> Holder
     ensures { tree_of result ≡ (held token).tree }
 {
     match token {
-        Token::Door(door) => Slot::Outside(door),
-        Token::Crew(crew) => Slot::Inside(crew),
+        Token::Door(door) => Holder::Outside(door),
+        Token::Crew(crew) => Holder::Inside(crew),
     }
 }
 
@@ -137,8 +137,8 @@ fn plays(rt: &impl Abort, tree: &Tree<Rule>, player: Player) -> Player
         seed,
         led: _,
     } = player;
-    let (slot, some) = turns(rt, tree, slot_of(token), seed, 2000);
-    let (token, more) = settled(rt, tree, slot);
+    let (holder, some) = turns(rt, tree, holder_of(token), seed, 2000);
+    let (token, more) = settled(rt, tree, holder);
     Player {
         token,
         seed,

@@ -5,8 +5,8 @@ ghost use Rattle.advance_rule.specs.Stored.{Answers};
 ghost use Rattle.advance_rule.specs.Plan.{end_ends_at};
 ghost use Rattle.tier_table.specs.Closes.{held};
 
-use crate::shared::deeds::Deed::{Arrives, ComesAndGoes, Joins, Meets, Stays};
-use crate::shared::deeds::{Actor, Deed, all_act};
+use crate::shared::duties::Duty::{Arrives, ComesAndGoes, Joins, Meets, Stays};
+use crate::shared::duties::{Actor, Duty, all_act};
 use crate::trees::{Rule, WHEN_EMPTY, is_empty, left, planted, put};
 use advance_rule::StoredAdvance;
 use std::alloc::Global;
@@ -22,8 +22,8 @@ use tier_table::tree::Tree;
 // at least have one member in that phase.
 struct Scene {
     widths: &'static str,
-    first: &'static [Deed],
-    others: &'static [&'static [Deed]],
+    first: &'static [Duty],
+    others: &'static [&'static [Duty]],
     tiers: usize,
     phase: u32,
     parties: u32,
@@ -97,24 +97,30 @@ const EIGHT_MEET: Scene = Scene {
 
 // The actors of a scene. The first has this token, and those of the others are split off it.
 #[tactic(auto, using(crate::proofs::Held::all_pushed))]
-fn cast(rt: &impl Abort, alloc: Global, tree: &Tree<Rule>, door: Door, scene: &Scene) -> Vec<Actor>
+fn actors_of(
+    rt: &impl Abort,
+    alloc: Global,
+    tree: &Tree<Rule>,
+    door: Door,
+    scene: &Scene,
+) -> Vec<Actor>
     requires own { door.tree ≡ tree.now.tree }
     ensures { All (λ a. (held a.token).tree ≡ tree.now.tree) result.items }
 {
     let mut door = door;
     let mut actors = Vec::new(alloc);
-    for deeds in scene.others {
+    for duties in scene.others {
         let token = Token::Door(tree.split(&mut door));
         actors
             .push(Actor {
                 token,
-                deeds: *deeds,
+                duties: *duties,
             })
             .expect(rt, "memory");
     }
     let token = Token::Door(door);
-    let deeds = scene.first;
-    actors.push(Actor { token, deeds }).expect(rt, "memory");
+    let duties = scene.first;
+    actors.push(Actor { token, duties }).expect(rt, "memory");
     actors
 }
 
@@ -177,7 +183,7 @@ fn plays<R: Threads + Wait + Abort + Sync>(
     requires rule { Answers (pre rule.closure) (post rule.closure) (end_ends_at rule.plan) }
 {
     let (tree, door) = planted(rt, alloc, scene.widths, 0, rule);
-    let actors = cast(rt, alloc, &tree, door, scene);
+    let actors = actors_of(rt, alloc, &tree, door, scene);
     let actors = staged(rt, &tree, actors, scene.first.len());
     let tokens = tokens_of(rt, alloc, &tree, actors);
     let closed = left(rt, alloc, tree, tokens);

@@ -1,7 +1,7 @@
 //! What a call may be told, by its token before it and after it.
 
 use crate::calls::ask::{Ask, Told};
-use crate::calls::slots::Slot;
+use crate::calls::holders::Holder;
 
 /// What a token tells of itself.
 #[derive(Clone, Copy, PartialEq, Eq)]
@@ -17,14 +17,14 @@ pub enum Seen {
 }
 
 /// What a token tells of itself.
-pub(crate) fn tells(slot: &Slot) -> Seen {
-    match slot {
-        Slot::Outside(door) => Seen::Door(door.phase()),
-        Slot::Inside(crew) => {
+pub(crate) fn tells(holder: &Holder) -> Seen {
+    match holder {
+        Holder::Outside(door) => Seen::Door(door.phase()),
+        Holder::Inside(crew) => {
             Seen::Crew(crew.tier(), crew.size(), crew.unarrived(), crew.phase())
         }
-        Slot::Owing(_) => Seen::Errand,
-        Slot::Opening(_) => Seen::Opening,
+        Holder::Owing(_) => Seen::Errand,
+        Holder::Opening(_) => Seen::Opening,
     }
 }
 

@@ -8,7 +8,7 @@ use crate::calls::ask::Ask::{Arrive, Beside, Force, Leave, Open, Poll, Register,
 use crate::calls::ask::Told::{
     AlreadyArrived, Busy, Done, Ended, Full, Held, Here, Joined, Left, Owing, Passed, Waiting,
 };
-use crate::calls::slots::Slot;
+use crate::calls::holders::Holder;
 use crate::table::rows::{Row, played};
 use crate::table::trees::{are, left_by_three, with_three};
 use crate::trees::{Rule, WHEN_EMPTY, is_empty};
@@ -249,10 +249,10 @@ const RUNS: [Run; 11] = [
 ];
 
 // Whether a token is a crew that tells this of itself, where it is told at all.
-fn is_told(slot: &Slot, want: Option<ClosedToken>) -> bool {
-    match (slot, want) {
+fn is_told(holder: &Holder, want: Option<ClosedToken>) -> bool {
+    match (holder, want) {
         (_, None) => true,
-        (Slot::Inside(crew), Some(want)) => {
+        (Holder::Inside(crew), Some(want)) => {
             crew.tier() == want.tier
                 && crew.size() == want.size
                 && crew.unarrived() == want.unarrived
@@ -282,10 +282,10 @@ fn run(rt: &impl Abort, alloc: Global, rule: StoredAdvance<Rule>, run: Run)
 {
     let (widths, phase, rows, words, third) = run;
     assert!(rt; phase <= LAST);
-    let (tree, slots) = with_three(rt, alloc, widths, phase, rule);
-    let slots = played(rt, &tree, slots, rows);
-    assert!(rt; is_told(&slots.2, third));
-    let closed = left_by_three(rt, alloc, tree, slots);
+    let (tree, holders) = with_three(rt, alloc, widths, phase, rule);
+    let holders = played(rt, &tree, holders, rows);
+    assert!(rt; is_told(&holders.2, third));
+    let closed = left_by_three(rt, alloc, tree, holders);
     assert!(rt; closed.tokens.len() == 3 && are(&closed.words, words));
     assert!(rt; is_handed_back(&closed.tokens, third));
 }

@@ -1,10 +1,10 @@
 //! Trees with three tokens, and the words that they leave.
 
 ghost use Rattle.std.specs.Prelude.{◌≡◌, ◌≤◌};
-ghost use Rattle.phaser_tests.specs.Slots.{ThreeOf};
+ghost use Rattle.phaser_tests.specs.Holders.{ThreeOf};
 
 use crate::calls::call::at_rest;
-use crate::calls::slots::{Slot, Three};
+use crate::calls::holders::{Holder, Three};
 use crate::trees::{Rule, left, planted};
 use advance_rule::StoredAdvance;
 use phaser_word::Word;
@@ -26,9 +26,9 @@ pub fn with_three(
     ensures own { ThreeOf result.0.tree result.1 }
 {
     let (tree, mut zero) = planted(rt, alloc, widths, phase, rule);
-    let one = Slot::Outside(tree.split(&mut zero));
-    let two = Slot::Outside(tree.split(&mut zero));
-    (tree, (Slot::Outside(zero), one, two))
+    let one = Holder::Outside(tree.split(&mut zero));
+    let two = Holder::Outside(tree.split(&mut zero));
+    (tree, (Holder::Outside(zero), one, two))
 }
 
 /// What a tree leaves that is closed with its three tokens.
@@ -36,11 +36,11 @@ pub(crate) fn left_by_three(
     rt: &impl Abort,
     alloc: Global,
     tree: Tree<Rule>,
-    slots: Three,
+    holders: Three,
 ) -> Closed
-    requires own { ThreeOf tree.tree slots }
+    requires own { ThreeOf tree.tree holders }
 {
-    let (zero, one, two) = slots;
+    let (zero, one, two) = holders;
     let (zero, one, two) = (at_rest(rt, zero), at_rest(rt, one), at_rest(rt, two));
     let tokens = vec![in alloc; zero, one, two].expect(rt, "memory");
     left(rt, alloc, tree, tokens)

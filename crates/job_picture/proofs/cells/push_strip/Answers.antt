@@ -8,7 +8,7 @@ returns c =
     (onto c.args.out.now.items _ _ _ _
     (onto c.args.out.now.items _ _ _ _
     (onto c.args.out.now.items _ _ _ _
-    (field c.args.out.now.items _ _ _ _ _ (rw c.range_of-extent.ensures at c.in_ok-push_label.ensures) c.in_ok-push_field.ensures)
+    (field c.args.out.now.items _ _ _ _ _ (rw c.range_of-extent.ensures at c.in_ok-push_caption.ensures) c.in_ok-push_field.ensures)
     c.in_ok-push_text.ensures)
     (rw c.range_of-extent.ensures at c.in_ok-push_cells.ensures))
     c.in_ok-push_text-2.ensures)

@@ -2,7 +2,7 @@ use Rattle.std.proofs.Common.{◌≡◌, IfOk, map, subst}
 use Rattle.job_schedule.specs.AnswerValue.{answer_seen}
 use Rattle.job_schedule.specs.World.{World, answers}
 use Rattle.job_schedule.specs.Parts.{world_of}
-use Rattle.job_schedule.proofs.Kept.{opening_reached}
+use Rattle.job_schedule.proofs.Kept.{initial_reached}
 use Rattle.job_schedule.proofs.drive.take_steps.Goals as goal
 
 pub returns : goal.returns
@@ -12,4 +12,4 @@ returns c =
 
 pub take_each-requires-clause-reached : goal.take_each-requires-clause-reached
 take_each-requires-clause-reached c =
-    opening_reached c.args.job.now c.args.limit c.args.shape (world_of c.in_ok-schedule.schedule) c.in_ok-schedule.ensures.world
+    initial_reached c.args.job.now c.args.limit c.args.shape (world_of c.in_ok-schedule.schedule) c.in_ok-schedule.ensures.world

@@ -44,7 +44,7 @@ returns-in-Owing g c =
     let asked = c.in-Owing.ensures.answer.1 in
     let errand = c.in-Owing.opening.token.view.errand in
     record {
-      answer = opens_for c.args.tiers.now (asked_tier errand) c.args.tier (asked_size errand) c.args.n c.open_wait.result asked.seat asked.members c.open_wait.ensures.answer;
+      answer = opens_for c.args.tiers.now (asked_tier errand) c.args.tier (asked_size errand) c.args.n c.open_wait.result asked.place asked.members c.open_wait.ensures.answer;
       unsplit = subst (λ (n : ℕ). HasSplit n c.open_wait.result) c.in-Owing.ensures.answer.0.opened c.open_wait.ensures.unsplit;
       ended = λ p e. absurd (c.in-Owing.ensures.ended p e);
     }

@@ -49,7 +49,7 @@ open_on-requires g c = record { own = c.loop.invariant.2 }
 pub loop-preserved : goal.loop-preserved
 loop-preserved g c =
     let told = c.in-Owing.ensures.answer in
-    let kept = c.loop.invariant in (tt, tt, told.0.tree ∙ kept.2, told.1.seat ∙ kept.3, told.1.members ∙ kept.4, told.0.opened ∙ kept.5)
+    let kept = c.loop.invariant in (tt, tt, told.0.tree ∙ kept.2, told.1.place ∙ kept.3, told.1.members ∙ kept.4, told.0.opened ∙ kept.5)
 
 pub loop-preserved-derived : goal.loop-preserved-derived
 loop-preserved-derived g c = (tt, tt)

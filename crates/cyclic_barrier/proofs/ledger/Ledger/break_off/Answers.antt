@@ -2,7 +2,7 @@ use Rattle.std.proofs.Common.{refl, ap, sym}
 use Rattle.cyclic_barrier.specs.Machine.{Machine}
 use Rattle.cyclic_barrier.specs.declared.ledger.Outcome.TheVariants.{Broken}
 use Rattle.cyclic_barrier.specs.declared.call.Call.TheVariants.{BreakOff}
-use Rattle.cyclic_barrier.proofs.Replay.{replay_noted, broken_place, place_left}
+use Rattle.cyclic_barrier.proofs.Replay.{replay_entered, broken_place, place_left}
 use Rattle.cyclic_barrier.proofs.ledger.Ledger.break_off.Goals as goal
 
 pub push_reserved-requires : goal.push_reserved-requires
@@ -10,7 +10,7 @@ push_reserved-requires c = place_left c.self.inside.state _ _ c.self.invariant.1
 
 pub invariant_of-self : goal.invariant_of-self
 invariant_of-self c = (
-  replay_noted c.self.inside.fails BreakOff c.self.inside.state c.break_off.new.self c.self.inside.history.items c.push_reserved.new.self.items Broken c.self.invariant.0
+  replay_entered c.self.inside.fails BreakOff c.self.inside.state c.break_off.new.self c.self.inside.history.items c.push_reserved.new.self.items Broken c.self.invariant.0
       c.break_off.ensures.state c.push_reserved.ensures.items refl,
   broken_place c.break_off.new.self _ _ (ap (λ (m : Machine). m.broken) c.break_off.ensures.state),
 )

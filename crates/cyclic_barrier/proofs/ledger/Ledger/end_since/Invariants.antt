@@ -2,5 +2,5 @@ use Rattle.std.proofs.Common.{◌≡◌, drop}
 use Rattle.cyclic_barrier.specs.History.{first_end}
 use Rattle.cyclic_barrier.proofs.ledger.Ledger.end_since.Given as goal
 
-abbrev pub invariant-loop-note : goal.invariant-loop-note
-invariant-loop-note l = first_end (drop l.place l.self.history) ≡ first_end (drop l.note-index l.later)
+abbrev pub invariant-loop-entry : goal.invariant-loop-entry
+invariant-loop-entry l = first_end (drop l.place l.self.history) ≡ first_end (drop l.entry-index l.later)

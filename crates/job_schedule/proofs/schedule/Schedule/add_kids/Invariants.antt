@@ -6,7 +6,7 @@ use Rattle.job_schedule.proofs.schedule.Schedule.add_kids.Given as goal
 abbrev pub invariant-loop-path : goal.invariant-loop-path
 invariant-loop-path l = record {
   kids : with_kids (world_of l.self) l.place (map path_items l.rest) ≡ with_kids (world_of l.fn.self) l.place (map path_items l.fn.paths);
-  place : l.place < length l.self.seats.items;
+  place : l.place < length l.self.participants.items;
   round : l.self.round ≡ l.fn.self.round;
 }
 

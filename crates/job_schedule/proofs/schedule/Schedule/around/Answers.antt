@@ -1,4 +1,4 @@
-use Rattle.job_schedule.proofs.Opening.{empty_opens}
+use Rattle.job_schedule.proofs.Initial.{empty_opens}
 use Rattle.job_schedule.proofs.schedule.Schedule.around.Goals as goal
 
 pub returns-clause-world : goal.returns-clause-world

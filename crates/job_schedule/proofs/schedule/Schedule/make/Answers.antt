@@ -1,10 +1,10 @@
 use Rattle.std.proofs.Common.{◌≡◌, sym, subst, refl, Result, Ok, Err}
 use Rattle.std.specs.Prelude.{OnOk}
 use Rattle.step_core.specs.RoundValue.{RoundValue}
-use Rattle.job_seats.specs.declared.stage.Move.{Move}
+use Rattle.job_participants.specs.declared.stage.Move.{Move}
 use Rattle.job_schedule.specs.Parts.{IsAllowed, IsKept, world_of}
 use Rattle.step_core.specs.OrderValue.{has_synced, spawned_paths}
-use Rattle.job_seats.specs.SeatValue.{seat_at}
+use Rattle.job_participants.specs.ParticipantValue.{participant_at}
 use Rattle.job_schedule.specs.World.{World, deed_of, next_job}
 use Rattle.job_schedule.proofs.Kept.{is_wanted, delivered_kept, called_kept, advanced_kept, closed_kept, ended_kept, all_handed}
 use Rattle.job_schedule.proofs.schedule.Schedule.make.Goals as goal
@@ -34,8 +34,8 @@ returns-in-Delivers-clause-kept c =
     on_both c.deliver.result c.deliver.ensures.after c.deliver.ensures.taken (λ after taken.
     subst (IsKept c.deliver.new.self.round) (sym after)
     (delivered_kept c.args.self.now.round c.deliver.new.self.round (world_of c.args.self.now) c.in-Delivers.place
-    (has_synced (deed_of (world_of c.args.self.now) (seat_at c.args.self.now.seats.items c.in-Delivers.place).path))
-    (spawned_paths (deed_of (world_of c.args.self.now) (seat_at c.args.self.now.seats.items c.in-Delivers.place).path)) c.has_ended-known.ensures.round refl
+    (has_synced (deed_of (world_of c.args.self.now) (participant_at c.args.self.now.participants.items c.in-Delivers.place).path))
+    (spawned_paths (deed_of (world_of c.args.self.now) (participant_at c.args.self.now.participants.items c.in-Delivers.place).path)) c.has_ended-known.ensures.round refl
     c.requires.stands a.0 a.1 a.2 taken c.requires.kept))
 
 pub returns-in-Calls-clause-kept : goal.returns-in-Calls-clause-kept

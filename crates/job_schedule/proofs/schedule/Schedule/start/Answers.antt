@@ -1,8 +1,8 @@
 use Rattle.std.proofs.Common.{List, ℕ, ◌∷◌, ◌++◌, [], ◌∙◌, ap, arith}
-use Rattle.job_seats.specs.SeatValue.{SeatValue}
-use Rattle.job_seats.specs.Moves.{leaf_at}
+use Rattle.job_participants.specs.ParticipantValue.{ParticipantValue}
+use Rattle.job_participants.specs.Moves.{leaf_at}
 use Rattle.job_schedule.specs.Parts.{world_of}
-use Rattle.job_schedule.proofs.Opening.{started}
+use Rattle.job_schedule.proofs.Initial.{started}
 use Rattle.job_schedule.proofs.schedule.Schedule.start.Goals as goal
 
 pub returns-clause-world : goal.returns-clause-world
@@ -11,6 +11,6 @@ returns-clause-world c =
     c.in_ok-token.ensures.added c.in_ok-token.ensures.token
     (c.leaf_at-home.ensures
     ∙ ap (λ (ls : List ℕ). leaf_at ls c.len.result) c.deref.ensures.value
-    ∙ ap (leaf_at c.args.self.now.leaves.items) (c.len.ensures ∙ omega (arith, c.args.self.now.seats.ok)))
+    ∙ ap (leaf_at c.args.self.now.leaves.items) (c.len.ensures ∙ omega (arith, c.args.self.now.participants.ok)))
     c.step.ensures.after c.go_on.ensures
-    (c.in_ok-push.ensures.items ∙ ap (λ (g : SeatValue). c.args.self.now.seats.items ++ g ∷ []) c.new.ensures)
+    (c.in_ok-push.ensures.items ∙ ap (λ (g : ParticipantValue). c.args.self.now.participants.items ++ g ∷ []) c.new.ensures)

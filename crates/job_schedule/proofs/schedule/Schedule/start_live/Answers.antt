@@ -1,7 +1,7 @@
 use Rattle.std.proofs.Common.{◌∙◌, ap, ℕ, List, map}
 use Rattle.smallvec.specs.SmallVec.{SmallVec}
 use Rattle.job_schedule.specs.Parts.{path_items, world_of}
-use Rattle.job_schedule.proofs.Opening.{all_live}
+use Rattle.job_schedule.proofs.Initial.{all_live}
 use Rattle.job_schedule.proofs.schedule.Schedule.start_live.Goals as goal
 
 pub returns-clause-world : goal.returns-clause-world

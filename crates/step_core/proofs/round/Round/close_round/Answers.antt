@@ -33,4 +33,4 @@ returns-then-count-gt4096-clause-outcome c =
 pub count_living-count-requires-clause-small : goal.count_living-count-requires-clause-small
 count_living-count-requires-clause-small c =
     subst AllSmall (sym c.slots-slots.ensures)
-    (all_small (plans c.self.inside.job.now.bodies) (arc_value c.self.inside.opening) c.self.inside.step c.self.inside.live c.self.invariant.0.fits)
+    (all_small (plans c.self.inside.job.now.bodies) (arc_value c.self.inside.start_arrays) c.self.inside.step c.self.inside.live c.self.invariant.0.fits)

@@ -13,7 +13,7 @@ use Rattle.step_core.proofs.round.Round.land.Goals as goal
 
 pub take_superstep-taken-requires-clause-small : goal.take_superstep-taken-requires-clause-small
 take_superstep-taken-requires-clause-small c =
-    all_small (plans c.self.inside.job.now.bodies) (arc_value c.self.inside.opening) c.self.inside.step c.self.inside.live c.self.invariant.0.fits
+    all_small (plans c.self.inside.job.now.bodies) (arc_value c.self.inside.start_arrays) c.self.inside.step c.self.inside.live c.self.invariant.0.fits
 
 pub end-requires : goal.end-requires
 end-requires c =
@@ -55,9 +55,9 @@ invariant_of-self-in-Ok-None c =
     let few : length c.take_superstep-taken.new.self ≤ 4096 =
     let l = ap length (told.next none) ∙ at.2 in omega (arith, l, c.requires.few) in
     let on =
-    went_on c.self.inside.job.now c.self.inside.limit c.self.inside.step (arc_value c.self.inside.opening) c.self.inside.live
+    went_on c.self.inside.job.now c.self.inside.limit c.self.inside.step (arc_value c.self.inside.start_arrays) c.self.inside.live
     c.self.inside.finished.items c.self.inside.fault at.0 at.1 (sym (told.fault ps) ∙ none) c.take_superstep-taken.new.self (told.next none) few
-    (arc_value c.take_superstep-taken.new.opening) (told.lands none ps) c.take_superstep-taken.new.finished.items (told.tells none ps) in
+    (arc_value c.take_superstep-taken.new.start_arrays) (told.lands none ps) c.take_superstep-taken.new.finished.items (told.tells none ps) in
     let l = ap missing_in (told.next none) ∙ all_missing (in_path_order path_in (living_in c.self.inside.live)) in
     let m = length-map (in_path_order path_in (living_in c.self.inside.live)) fresh_slot in
     let n = at.2 in
@@ -72,9 +72,9 @@ returns-in-Ok-None-clause-closed c =
     let few : length c.take_superstep-taken.new.self ≤ 4096 =
     let l = ap length (told.next none) ∙ at.2 in omega (arith, l, c.requires.few) in
     closed_now _ _ _ c.self.view_is
-    (went_on c.self.inside.job.now c.self.inside.limit c.self.inside.step (arc_value c.self.inside.opening) c.self.inside.live
+    (went_on c.self.inside.job.now c.self.inside.limit c.self.inside.step (arc_value c.self.inside.start_arrays) c.self.inside.live
     c.self.inside.finished.items c.self.inside.fault at.0 at.1 (sym (told.fault ps) ∙ none) c.take_superstep-taken.new.self (told.next none) few
-    (arc_value c.take_superstep-taken.new.opening) (told.lands none ps) c.take_superstep-taken.new.finished.items (told.tells none ps))
+    (arc_value c.take_superstep-taken.new.start_arrays) (told.lands none ps) c.take_superstep-taken.new.finished.items (told.tells none ps))
 
 pub returns-in-Ok-None-clause-outcome : goal.returns-in-Ok-None-clause-outcome
 returns-in-Ok-None-clause-outcome c =

@@ -10,7 +10,7 @@ use Rattle.step_core.proofs.round.Round.new.Goals as goal
 pub invariant_of-result : goal.invariant_of-result
 invariant_of-result c =
     let ps = plans c.bodies.result.now in (
-      (opened_so c.args.job.now c.args.limit (arc_value c.in-Ok.opening) c.in_ok-live.live c.new-in-Ok.result.items
+      (opened_so c.args.job.now c.args.limit (arc_value c.in-Ok.start_arrays) c.in_ok-live.live c.new-in-Ok.result.items
           (c.in-Ok.ensures.ok ∙ c.in_ok-arrays.ensures ∙ c.arrays.ensures) c.new-in-Ok.ensures.items
           c.bodies.result.now c.bodies.ensures.bodies c.starts.result.now c.starts.ensures
           (ap (λ (ss : List SlotValue). slots_of ps ss) c.in_ok-live.ensures ∙ fresh_mapped ps c.in_ok-tasks.tasks.items ∙ ap (map fresh) c.in_ok-tasks.ensures)
@@ -22,7 +22,7 @@ invariant_of-result c =
 pub returns-in-Ok : goal.returns-in-Ok
 returns-in-Ok c =
     let ps = plans c.bodies.result.now in
-    (opened_so c.args.job.now c.args.limit (arc_value c.in-Ok.opening) c.in_ok-live.live c.new-in-Ok.result.items
+    (opened_so c.args.job.now c.args.limit (arc_value c.in-Ok.start_arrays) c.in_ok-live.live c.new-in-Ok.result.items
     (c.in-Ok.ensures.ok ∙ c.in_ok-arrays.ensures ∙ c.arrays.ensures) c.new-in-Ok.ensures.items
     c.bodies.result.now c.bodies.ensures.bodies c.starts.result.now c.starts.ensures
     (ap (λ (ss : List SlotValue). slots_of ps ss) c.in_ok-live.ensures ∙ fresh_mapped ps c.in_ok-tasks.tasks.items ∙ ap (map fresh) c.in_ok-tasks.ensures)

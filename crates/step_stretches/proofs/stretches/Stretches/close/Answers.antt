@@ -7,7 +7,7 @@ use Rattle.step_stretches.specs.StretchesValue.{StretchesValue, status_in, with_
 use Rattle.step_stretches.specs.StretchesView.{stretches_of}
 use Rattle.step_stretches.specs.Closing.{IsClosed}
 use Rattle.step_stretches.proofs.Whole.{all_told}
-use Rattle.step_stretches.proofs.Going.{by_faulting, by_too_many, tally, ended_closed, covered, ended_for}
+use Rattle.step_stretches.proofs.Going.{by_faulting, by_too_many, agreed, ended_closed, covered, ended_for}
 use Rattle.step_stretches.proofs.stretches.Stretches.close.Goals as goal
 
 pub end-requires-clause-ends : goal.end-requires-clause-ends
@@ -47,7 +47,7 @@ overflow_sub-told c =
     let v = stretches_of c.self.inside in
     let whole = covered v c.self.inside.count c.deref.result.now c.cover.result c.self.invariant.count c.deref.ensures.value c.cover.ensures c.if-not-cover.false in
     let all = all_told v c.self.invariant.course whole (ap fault_in (sym c.deref-2.ensures.value) ∙ sym c.find_fault.ensures ∙ c.in_default.is) in
-    let t = tally v c.record_of-told.result all (c.record_of-told.ensures ∙ ap (λ (ss : List (Option PartValue)). told_in v.step (deeds_in ss)) c.deref-3.ensures.value) in
+    let t = agreed v c.record_of-told.result all (c.record_of-told.ensures ∙ ap (λ (ss : List (Option PartValue)). told_in v.step (deeds_in ss)) c.deref-3.ensures.value) in
     omega (arith, t)
 
 pub end-requires-then-told-gt4096-clause-ends : goal.end-requires-then-told-gt4096-clause-ends
@@ -55,7 +55,7 @@ end-requires-then-told-gt4096-clause-ends c =
     let v = stretches_of c.self.inside in
     let whole = covered v c.self.inside.count c.deref.result.now c.cover.result c.self.invariant.count c.deref.ensures.value c.cover.ensures c.if-not-cover.false in
     let all = all_told v c.self.invariant.course whole (ap fault_in (sym c.deref-2.ensures.value) ∙ sym c.find_fault.ensures ∙ c.in_default.is) in
-    let t = tally v c.record_of-told.result all (c.record_of-told.ensures ∙ ap (λ (ss : List (Option PartValue)). told_in v.step (deeds_in ss)) c.deref-3.ensures.value) in
+    let t = agreed v c.record_of-told.result all (c.record_of-told.ensures ∙ ap (λ (ss : List (Option PartValue)). told_in v.step (deeds_in ss)) c.deref-3.ensures.value) in
     let e = by_too_many v c.too_many.result all (omega (arith, t, c.if-told-gt4096.true)) c.too_many.ensures in
     ended_for v c.args.self.now c.too_many.result c.self.view_is e.ends
 
@@ -64,7 +64,7 @@ returns-then-told-gt4096-clause-closed c =
     let v = stretches_of c.self.inside in
     let whole = covered v c.self.inside.count c.deref.result.now c.cover.result c.self.invariant.count c.deref.ensures.value c.cover.ensures c.if-not-cover.false in
     let all = all_told v c.self.invariant.course whole (ap fault_in (sym c.deref-2.ensures.value) ∙ sym c.find_fault.ensures ∙ c.in_default.is) in
-    let t = tally v c.record_of-told.result all (c.record_of-told.ensures ∙ ap (λ (ss : List (Option PartValue)). told_in v.step (deeds_in ss)) c.deref-3.ensures.value) in
+    let t = agreed v c.record_of-told.result all (c.record_of-told.ensures ∙ ap (λ (ss : List (Option PartValue)). told_in v.step (deeds_in ss)) c.deref-3.ensures.value) in
     let e = by_too_many v c.too_many.result all (omega (arith, t, c.if-told-gt4096.true)) c.too_many.ensures in
     subst (λ (x : StretchesValue). IsClosed x c.end-then-told-gt4096.new.self TooMany) c.self.view_is
     (ended_closed v c.end-then-told-gt4096.new.self c.too_many.result TooMany c.self.invariant.course (ap status_in c.self.view_is ∙ c.requires.running) e.ends e.told

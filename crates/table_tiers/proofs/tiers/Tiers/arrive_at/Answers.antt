@@ -1,4 +1,4 @@
-use Rattle.tier_steps.specs.declared.view.Trip.TheVariants.{Arrival}
+use Rattle.tier_steps.specs.declared.view.Passage.TheVariants.{Arrival}
 use Rattle.tier_core.specs.Turn.{end_shown}
 use Rattle.table_tiers.specs.Calls.{under}
 use Rattle.table_tiers.proofs.Tries.{own_turn}

@@ -1,7 +1,7 @@
 use Rattle.std.proofs.Common.{ap, sym, ◌∙◌}
 use Rattle.tier_steps.specs.declared.view.View.{View}
 use Rattle.tier_steps.specs.declared.view.Errand.TheVariants.{Climbing}
-use Rattle.tier_steps.specs.declared.view.Trip.TheVariants.{Arrival, Departure}
+use Rattle.tier_steps.specs.declared.view.Passage.TheVariants.{Arrival, Departure}
 use Rattle.tier_core.specs.declared.call.Played.TheVariants.{Done}
 use Rattle.table_tiers.specs.Calls.{under}
 use Rattle.table_tiers.proofs.Tries.{climb_by, stands_by, ran_once}

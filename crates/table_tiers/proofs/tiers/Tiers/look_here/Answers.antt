@@ -1,7 +1,7 @@
 use Rattle.std.proofs.Common.{◌<◌, ℕ, ap, sym, subst, length}
 use Rattle.tier_steps.specs.declared.view.View.{View}
 use Rattle.table_tiers.proofs.Waits.{seat_within}
-use Rattle.table_tiers.proofs.Meeting.{crew_looked}
+use Rattle.table_tiers.proofs.StayingHere.{crew_looked}
 use Rattle.table_tiers.proofs.tiers.Tiers.look_here.Goals as goal
 
 pub look-requires-clause-tier : goal.look-requires-clause-tier

@@ -1,5 +1,5 @@
 use Rattle.std.proofs.Common.{subst, sym}
-use Rattle.tier_steps.specs.declared.view.Trip.TheVariants.{Arrival}
+use Rattle.tier_steps.specs.declared.view.Passage.TheVariants.{Arrival}
 use Rattle.table_tiers.specs.declared.going.Going.{Going}
 use Rattle.table_tiers.specs.Calls.{IsErrand}
 use Rattle.table_tiers.specs.Goes.{Ran}

@@ -1,7 +1,7 @@
 use Rattle.std.proofs.Common.{ap, sym, ◌∙◌}
 use Rattle.tier_core.specs.Turn.{end_shown}
 use Rattle.tier_core.specs.declared.call.Progress.TheVariants.{Passing}
-use Rattle.tier_steps.specs.declared.view.Trip.TheVariants.{Arrival, Departure}
+use Rattle.tier_steps.specs.declared.view.Passage.TheVariants.{Arrival, Departure}
 use Rattle.table_tiers.specs.Calls.{under}
 use Rattle.table_tiers.proofs.Tries.{own_turn, stands_by, ran_once}
 use Rattle.table_tiers.proofs.tiers.Tiers.pass_own.Goals as goal

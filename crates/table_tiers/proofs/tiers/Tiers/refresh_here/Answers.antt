@@ -1,4 +1,4 @@
-use Rattle.table_tiers.proofs.Meeting.{refresh_needs, refresh_kept}
+use Rattle.table_tiers.proofs.StayingHere.{refresh_needs, refresh_kept}
 use Rattle.table_tiers.proofs.tiers.Tiers.refresh_here.Goals as goal
 
 pub returns : goal.returns

@@ -1,6 +1,6 @@
 use Rattle.std.proofs.Common.{ap, ◌∙◌}
 use Rattle.table_rule.specs.Look.{glance}
-use Rattle.table_tiers.proofs.Meeting.{stay_kept}
+use Rattle.table_tiers.proofs.StayingHere.{stay_kept}
 use Rattle.table_tiers.proofs.tiers.Tiers.stay_here.Goals as goal
 
 pub returns : goal.returns

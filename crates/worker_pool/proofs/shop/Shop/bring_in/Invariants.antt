@@ -4,4 +4,4 @@ use Rattle.worker_pool.proofs.shop.Shop.bring_in.Given as goal
 abbrev pub invariant-loop-path : goal.invariant-loop-path
 invariant-loop-path g l =
     (goal.iterator-loop-path g).can_next l.path-iterator × (goal.iterator-loop-path g).is_finite l.path-iterator
-    × (l.seat.crew.view.arrived < l.seat.crew.view.size)
+    × (l.participant.crew.view.arrived < l.participant.crew.view.size)

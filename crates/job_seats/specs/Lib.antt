@@ -1,2 +1,0 @@
-pub mod SeatValue
-pub mod Moves
