@@ -1,4 +1,4 @@
--- The participants of live tasks (own).
+-- Live tasks as participants at a tree (own).
 use Rattle.std.specs.Prelude.{ℕ, suc, nat_lt, Bool, true, false, ◌&&◌, if◌then◌else◌, List, [], ◌∷◌, ◌++◌, length, map, slice_index_or, slice_set}
 use Rattle.superstep_memory.specs.PathOrder.{in_path_order}
 use Rattle.tier_core.specs.declared.call.Played.{Played}

@@ -1,4 +1,4 @@
-//! The participants of live tasks.
+//! Live tasks as participants at a tree.
 ghost use Rattle.std.specs.Prelude.{◌≡◌, IfOk};
 ghost use Rattle.job_participants.specs.ParticipantValue as spec;
 ghost use Rattle.job_participants.specs.ParticipantValue.{all_over};

@@ -209,7 +209,7 @@ impl<'j> Round<'j> {
         Ok(Order::new(self.job, self.step, place, tasks, arrays))
     }
 
-    /// What the segment of the live task of this path needs, the arrays at its start and the step included; `None` where no
+    /// What the segment of the live task of this path needs, the step and the arrays as it began included; `None` where no
     /// live task has it, and where the job has ended. Nothing is copied.
     pub fn order(&self, _alloc: Global, path: &[u16]) -> Result<Option<Order<'j>>, AllocError>
         ensures { IfOk result (λ order. MatchOption order

@@ -10,7 +10,7 @@ use Rattle.step_parts.specs.Program.{Program, program_of}
 use Rattle.step_parts.specs.Superstep.{State}
 use Rattle.step_parts.specs.JobMeaning.{state_at}
 
--- the task at this place of the live tasks, at this step, and the arrays at its start
+-- the task at this place of the live tasks, at this step, and the arrays as it began
 pub record OrderValue : Type 0 where
   pub job : JobValue
   pub step : ℕ

@@ -38,7 +38,7 @@ pub record State : Type 0 where
 abbrev pub live_paths : State → List (List ℕ)
 live_paths st = map (λ t. t.path) st.live
 
--- what these tasks do over the arrays at its start, each segment with the path of its task
+-- what these tasks do over the arrays as the superstep began, each segment with the path of its task
 abbrev pub segments : Program → List (List ℕ × List ℤ) → ℕ → List Task → List (List ℕ × Segment)
 segments p arrays step [] = []
 segments p arrays step (t ∷ ts) = (t.path, segment_of p.plans t arrays step) ∷ segments p arrays step ts

@@ -96,8 +96,8 @@ fn land_slots(
     }
 }
 
-/// Lands what was delivered in the arrays at its start: in place where nobody else has them, else in a copy. Or tells the first
-/// put that overflows, and changes nothing.
+/// Lands what was delivered in the arrays as the superstep began: in place where nobody else has them, else in a copy. Or
+/// tells the first put that overflows, and changes nothing.
 pub(crate) fn land_start_arrays(
     alloc: Global,
     start_arrays: &mut Arc<Arrays>,

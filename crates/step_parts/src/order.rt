@@ -14,7 +14,7 @@ use task_lang::job::Job;
 use task_lang::segment::segment;
 use task_lang::task::{After, Segment, Task};
 
-/// What the segment of a live task needs: its job, its step, the task and the arrays at its start. It is one of the
+/// What the segment of a live task needs: its job, its step, the task and the arrays as it began. It is one of the
 /// job's supersteps. The tasks and the arrays are shared among the orders of a superstep.
 #[derive(Drop)]
 pub struct Order<'j> {

@@ -27,7 +27,7 @@ use smallvec::SmallVec;
 use std::alloc::{AllocError, Global};
 use std::collections::VecDeque;
 use std::marker::Brand;
-use std::sync::atomic::AtomicU64;
+use std::sync::atomic::{AtomicBool, AtomicU64};
 use std::sync::{Condvar, Mutex, Wait};
 use std::thread;
 use std::thread::Threads;
@@ -41,7 +41,7 @@ use tier_table::tree::Tree;
 // About how many stretches there are for each worker.
 const PIECES_EACH: usize = 8;
 
-// How often a worker looks for a ready stretch before it sleeps: for some 100 microseconds.
+// How often a worker looks for a ready stretch before it sleeps, or stands back for another: for some 100 microseconds.
 const MOST_LOOKS: u32 = 2000;
 
 // The action of the barrier: none, and it never fails.
@@ -118,6 +118,7 @@ fn shop_of<'j, J: Running, F: Fn(u32, u32) -> bool>(
         board: Mutex::new(Board::new(alloc, stretches, cohorts)),
         changed: Condvar::new(),
         rings: AtomicU64::new(0),
+        passing: AtomicBool::new(false),
         looks,
         meeting,
     }
@@ -332,7 +333,7 @@ fn pieces_of<G: Gate>(gate: &G, workers: u32) -> usize
     }
 }
 
-// How often a worker looks for a ready stretch before it sleeps: not at all where there are more workers than processors.
+// How often a worker looks before it sleeps or calls the tree: not at all where there are more workers than processors.
 fn looks_of<R: Threads>(rt: &R, workers: u32) -> u32 {
     match thread::available_parallelism(rt) {
         Ok(count) if workers as usize <= count.get() => MOST_LOOKS,

@@ -8,7 +8,7 @@ use phase_records::Report;
 use std::alloc::Global;
 use std::collections::VecDeque;
 use std::hint::spin_loop;
-use std::sync::atomic::{AtomicU64, Ordering};
+use std::sync::atomic::{AtomicBool, AtomicU64, Ordering};
 use std::sync::{Condvar, Mutex, MutexGuard, Wait};
 use step_stretches::Change;
 use superstep_memory::path::Path;
@@ -21,7 +21,9 @@ pub(crate) struct Shop<'j, J: Running, F: Fn(u32, u32) -> bool> {
     pub(crate) changed: Condvar,
     // How often stretches became ready or workers were sent home, wrapping.
     pub(crate) rings: AtomicU64,
-    // How often a worker looks at that before it sleeps.
+    // Whether a worker passes tasks through the tree for which others stand back.
+    pub(crate) passing: AtomicBool,
+    // How often a worker looks at either before it goes on.
     pub(crate) looks: u32,
     pub(crate) meeting: Meeting<J, F>,
 }
@@ -61,6 +63,18 @@ impl<'j, J: Running, F: Fn(u32, u32) -> bool> Shop<'j, J, F> {
             spin_loop();
         }
         self.board.lock(rt)
+    }
+
+    // Stands back for a while where another worker passes tasks through the tree: exchanges of one word at once fail by each
+    // other. Whether others stand back for this worker now. The tree may be called in either case.
+    fn stand_back(&self) -> bool {
+        for _ in 0..self.looks {
+            if !self.passing.load(Ordering::SeqCst) && !self.passing.swap(true, Ordering::SeqCst) {
+                return true;
+            }
+            spin_loop();
+        }
+        false
     }
 
     // Wakes all who wait for the board to change.
@@ -239,7 +253,12 @@ impl<'j, J: Running, F: Fn(u32, u32) -> bool> Shop<'j, J, F> {
         requires rule { Answers (F.pre self.now.meeting.tree.rule.closure) (F.post self.now.meeting.tree.rule.closure) (end_ends_at self.now.meeting.tree.rule.plan) }
     {
         let mut cohort = cohort;
-        let led = self.pass_cohort(rt, &mut cohort.participants, turnout)?;
+        let alone = self.stand_back();
+        let passed = self.pass_cohort(rt, &mut cohort.participants, turnout);
+        if alone {
+            self.passing.store(false, Ordering::SeqCst);
+        }
+        let led = passed?;
         let turned = self.board.lock(rt).turn(alloc, step, cohort, led)?;
         match turned {
             Turned::Goes => {}
@@ -268,6 +287,7 @@ impl<'j, J: Running, F: Fn(u32, u32) -> bool> Shop<'j, J, F> {
             board,
             changed: _,
             rings: _,
+            passing: _,
             looks: _,
             meeting: _,
         } = self;
