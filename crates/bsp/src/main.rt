@@ -2,7 +2,7 @@
 #![tactic(auto)]
 
 use bsp_cli::run_program;
-use phase_records::Writer;
+use devices::Writer;
 use std::process::ExitCode;
 
 fn main(rt: HostRuntime) -> ExitCode {

@@ -1,11 +1,11 @@
 -- How commands end, by what they return.
 use Rattle.std.specs.Prelude.{◌≡◌, ◌≤◌, ◌<◌, ◌⊎◌, ℕ, ◌+◌, List, Option, IfSome, Result, Ok, Err}
 use Rattle.std.specs.Io.KnownBytes.{Appends, Keeps}
-use Rattle.phase_records.specs.Device.{AppendsBeginning}
+use Rattle.devices.specs.Device.{AppendsBeginning}
 use Rattle.phase_records.specs.ReportValue.{ReportValue}
 use Rattle.phase_records.specs.StatusSeen.{status_seen}
 use Rattle.phase_records.specs.declared.record.JobStatus.{JobStatus}
-use Rattle.task_lang.specs.JobValue.{JobValue}
+use Rattle.task_code.specs.JobValue.{JobValue}
 use Rattle.trace_text.specs.Trace.{asked_of}
 use Rattle.trace_text.specs.Outcome.{WritesAnswers, WritesBeginning}
 use Rattle.job_reader.specs.Trees.{job_tree}

@@ -18,7 +18,7 @@ use crate::status::{COMMAND_LINE_REFUSED, DEVICE_FAILED, OUT_OF_MEMORY};
 use crate::trace::trace;
 use clap::Error;
 use clap::error::ErrorKind;
-use phase_records::{CountedRead, CountedWrite, write_all};
+use devices::{CountedRead, CountedWrite, write_all};
 use std::alloc::{AllocError, Global};
 use std::convert::AsStr;
 use std::sync::Wait;

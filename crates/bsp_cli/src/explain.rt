@@ -6,7 +6,7 @@ ghost use Rattle.bsp_cli.specs.declared.asked.Topic.TheVariants.{Code, Fault};
 
 use crate::asked::Topic;
 use crate::fault::RunFault;
-use phase_records::{CountedWrite, write_all};
+use devices::{CountedWrite, write_all};
 
 // What can be asked for.
 const TOPICS: &str = "Codes of a job's refusals, by bsp explain CODE:

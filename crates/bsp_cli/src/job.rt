@@ -13,17 +13,15 @@ use crate::fault::RunFault;
 use crate::progress::{NoProgress, Progress, WatchEnd};
 use crate::status::{LIMIT_REACHED, TASK_FAULT};
 use advance_rule::{EndPlan, StoredAdvance};
+use devices::{CountedRead, CountedWrite, ReadFault, read_all, write_all};
 use job_picture::picture_of;
 use job_reader::{Code, ReadJobFault, Refusal, read_job, upgrade as upgraded, write_job};
-use phase_records::{
-    CountedRead, CountedWrite, JobStatus, ReadFault, Report, WriteFault, read_all, write_all,
-    write_report,
-};
+use phase_records::{JobStatus, Report, WriteFault, write_report};
 use std::alloc::{AllocError, Global};
 use std::sync::Wait;
 use std::thread::Threads;
 use step_core::{run_alone, run_watched};
-use task_lang::job::Job;
+use task_code::job::Job;
 use tier_shape::Shape;
 use worker_pool::{AllStart, Gate, OpenGate, Refused, run_job};
 

@@ -6,7 +6,7 @@ use crate::command_line::run_telling;
 use crate::fault::{RunFault, refuse, tell};
 use crate::progress::Teller;
 use crate::status::{COMMAND_LINE_REFUSED, OUT_OF_MEMORY};
-use phase_records::{CountedWrite, Reader};
+use devices::{CountedWrite, Reader};
 use std::io::Input;
 use std::rt::Clock;
 use std::sync::Wait;

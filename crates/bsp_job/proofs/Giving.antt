@@ -2,8 +2,8 @@
 use Rattle.std.proofs.Common.{◌≡◌, ℕ, ℤ, List, [], ◌∷◌, map, length, Some, refl, sym, ◌∙◌, ap, subst}
 use Rattle.phase_records.specs.ReportValue.{ReportValue}
 use Rattle.phase_records.specs.ReportText.{report_text}
-use Rattle.task_lang.specs.JobValue.{JobValue}
-use Rattle.task_lang.specs.BodyValue.{BodyValue}
+use Rattle.task_code.specs.JobValue.{JobValue}
+use Rattle.task_code.specs.BodyValue.{BodyValue}
 use Rattle.task_lang.specs.Meaning.{Plan}
 use Rattle.task_lang.specs.Views.{plans}
 use Rattle.job_reader.specs.Trees.{body_tree, job_tree}

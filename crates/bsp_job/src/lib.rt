@@ -12,7 +12,7 @@ use job_reader::{ReadJobFault, Refusal, canonical, read_job, upgrade};
 use phase_records::{JobStatus, text_of};
 use std::alloc::{AllocError, Global};
 use step_core::run_alone;
-use task_lang::job::Job;
+use task_code::job::Job;
 
 /// There was no memory.
 const NO_MEMORY: i32 = 6;

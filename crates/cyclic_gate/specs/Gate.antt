@@ -1,9 +1,9 @@
 -- What contracts see of a gate and of its answers.
 use Rattle.std.specs.Prelude.{◌≡◌, ℕ, true, Option, Result, Ok, Err}
 use Rattle.advance_rule.specs.Stored.{Stored}
-use Rattle.cyclic_barrier.specs.Steps.{Answer, Waiting, Trips, Fails, IsBroken, Already, is_change}
-use Rattle.cyclic_barrier.specs.Ledger.{Book, booked}
-use Rattle.cyclic_barrier.specs.declared.call.Call.TheVariants.{Await}
+use Rattle.cyclic_gate.specs.Steps.{Answer, Waiting, Trips, Fails, IsBroken, Already, is_change}
+use Rattle.cyclic_gate.specs.Ledger.{Book, booked}
+use Rattle.cyclic_gate.specs.declared.call.Call.TheVariants.{Await}
 use Rattle.cyclic_gate.specs.declared.gate.Arrival.{Arrival}
 use Rattle.cyclic_gate.specs.declared.gate.Arrival.TheVariants as arrival
 use Rattle.cyclic_gate.specs.declared.gate.GateFault.{GateFault}

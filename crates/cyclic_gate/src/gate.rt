@@ -1,15 +1,16 @@
 //! The barrier under a lock, where threads wait.
 ghost use Rattle.std.specs.Prelude.{◌≡◌, ◌⊎◌, ◌↔◌, ◌<◌, ◌≤◌, ◌<ℤ◌, pos, length, if◌then◌else◌, IfOk, IfErr, MatchResult};
 ghost use Rattle.advance_rule.specs.Action.{AnswersAction};
-ghost use Rattle.cyclic_barrier.specs.Steps.{answer, Breaks};
-ghost use Rattle.cyclic_barrier.specs.Runs.{AfterSome};
-ghost use Rattle.cyclic_barrier.specs.Seen.{RefusesAbandon};
-ghost use Rattle.cyclic_barrier.specs.Ledger.{booked};
+ghost use Rattle.cyclic_gate.specs.Steps.{answer, Breaks};
+ghost use Rattle.cyclic_gate.specs.Runs.{AfterSome};
+ghost use Rattle.cyclic_gate.specs.Seen.{RefusesAbandon};
+ghost use Rattle.cyclic_gate.specs.Ledger.{booked};
 ghost use Rattle.cyclic_gate.specs.Gate.{GivesTurn, GivesNoTurn, IsArrival, RefusesArrival, left_by};
-ghost use Rattle.cyclic_barrier.specs.declared.call.Call.TheVariants.{Await, Abandon, BreakOff, Reset};
+ghost use Rattle.cyclic_gate.specs.declared.call.Call.TheVariants.{Await, Abandon, BreakOff, Reset};
 
+use crate::call::{Awaited, BarrierFault};
+use crate::ledger::{Ledger, Outcome};
 use advance_rule::StoredAction;
-use cyclic_barrier::{Awaited, BarrierFault, Ledger, Outcome};
 use std::alloc::{AllocError, Global};
 use std::marker::Model;
 use std::sync::{Condvar, Mutex, Wait};

@@ -5,18 +5,18 @@ use Rattle.phase_records.specs.PrintValue.{PrintValue}
 use Rattle.phase_records.specs.ReportValue.{ReportValue}
 use Rattle.phase_records.specs.Status.{Status, Ended, Fault, Limit}
 use Rattle.phase_records.specs.declared.record.PhaseRecord.{PhaseRecord}
-use Rattle.task_lang.specs.declared.job.Start.{Start}
-use Rattle.task_lang.specs.declared.code.Index.TheVariants.{Number, Local, Arg}
+use Rattle.task_code.specs.declared.job.Start.{Start}
+use Rattle.task_code.specs.declared.code.Index.TheVariants.{Number, Local, Arg}
 use Rattle.superstep_memory.specs.declared.arrays.PutKind.TheVariants.{Set, Add as Plus}
-use Rattle.task_lang.specs.declared.code.Index.{Index}
-use Rattle.task_lang.specs.declared.code.Cell.{Cell}
-use Rattle.task_lang.specs.declared.code.Operand.{Operand}
-use Rattle.task_lang.specs.declared.code.Operand.TheVariants.{Plain, Cell as At}
-use Rattle.task_lang.specs.declared.code.Operator.TheVariants.{Add, Subtract, Divide}
-use Rattle.task_lang.specs.declared.code.Expr.{Expr}
-use Rattle.task_lang.specs.declared.code.Expr.TheVariants.{One, Two}
-use Rattle.task_lang.specs.declared.code.Action.TheVariants.{Let, Put, Print, Spawn, Sync}
-use Rattle.task_lang.specs.Tree.{Block, Done, Do, While}
+use Rattle.task_code.specs.declared.code.Index.{Index}
+use Rattle.task_code.specs.declared.code.Cell.{Cell}
+use Rattle.task_code.specs.declared.code.Operand.{Operand}
+use Rattle.task_code.specs.declared.code.Operand.TheVariants.{Plain, Cell as At}
+use Rattle.task_code.specs.declared.code.Operator.TheVariants.{Add, Subtract, Divide}
+use Rattle.task_code.specs.declared.code.Expr.{Expr}
+use Rattle.task_code.specs.declared.code.Expr.TheVariants.{One, Two}
+use Rattle.task_code.specs.declared.code.Action.TheVariants.{Let, Put, Print, Spawn, Sync}
+use Rattle.task_code.specs.Tree.{Block, Done, Do, While}
 use Rattle.task_lang.specs.Meaning.{Plan}
 use Rattle.step_core.specs.Program.{Program}
 use Rattle.step_core.specs.JobMeaning.{report_of}

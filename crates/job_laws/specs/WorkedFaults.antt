@@ -2,14 +2,14 @@
 use Rattle.std.specs.Prelude.{◌≡◌, ℕ, ◌+◌, ◌<◌, ◌≤◌, ℤ, pos, negsuc, [], ◌∷◌, ◌++◌, length}
 use Rattle.phase_records.specs.Status.{Ended, Fault, Limit}
 use Rattle.superstep_memory.specs.declared.arrays.PutKind.TheVariants.{Set}
-use Rattle.task_lang.specs.declared.code.Index.TheVariants.{Number, Local, Step}
-use Rattle.task_lang.specs.declared.code.Operand.{Operand}
-use Rattle.task_lang.specs.declared.code.Operand.TheVariants.{Plain, Cell as At}
-use Rattle.task_lang.specs.declared.code.Operator.TheVariants.{Add, Below}
-use Rattle.task_lang.specs.declared.code.Expr.TheVariants.{One, Two}
-use Rattle.task_lang.specs.declared.code.Action.TheVariants.{Let, Put, Print, Spawn, Sync}
+use Rattle.task_code.specs.declared.code.Index.TheVariants.{Number, Local, Step}
+use Rattle.task_code.specs.declared.code.Operand.{Operand}
+use Rattle.task_code.specs.declared.code.Operand.TheVariants.{Plain, Cell as At}
+use Rattle.task_code.specs.declared.code.Operator.TheVariants.{Add, Below}
+use Rattle.task_code.specs.declared.code.Expr.TheVariants.{One, Two}
+use Rattle.task_code.specs.declared.code.Action.TheVariants.{Let, Put, Print, Spawn, Sync}
 use Rattle.task_lang.specs.declared.fault.Fault.TheVariants.{Depth, Spawns}
-use Rattle.task_lang.specs.Tree.{Block, Done, Do, If, While}
+use Rattle.task_code.specs.Tree.{Block, Done, Do, If, While}
 use Rattle.task_lang.specs.Meaning.{Setting, Doing, Goes, Fails, spawn, started}
 use Rattle.step_core.specs.Program.{Program}
 use Rattle.step_core.specs.JobMeaning.{report_of}

@@ -1,7 +1,7 @@
 -- What each operator gives, in plain words and worked out (own; that `/` rounds to 0 and `%` has the sign of the left number is C's, 1999).
 use Rattle.std.specs.Prelude.{◌≡◌, ◌≢◌, ◌↔◌, ◌<◌, ◌<ℤ◌, ◌≤ℤ◌, ℤ, pos, negsuc, ◌+ℤ◌, ◌*ℤ◌, unsigned_abs, FitsSigned, Ok, Err}
 use Rattle.std.specs.Int.{w64}
-use Rattle.task_lang.specs.declared.code.Operator.TheVariants.{
+use Rattle.task_code.specs.declared.code.Operator.TheVariants.{
   Add,
   Subtract,
   Multiply,

@@ -6,7 +6,7 @@ use Rattle.std.specs.Str.{IsUtf8}
 use Rattle.std.proofs.lemmas.Str.{IsUtf8-from_ascii}
 use Rattle.std.proofs.lemmas.Str.Ascii.{IsAscii-cons, IsAscii-nil}
 use Rattle.std.proofs.lemmas.Grind.{common_steps}
-use Rattle.task_lang.specs.Names.{begins_lower, is_in_name, is_name, is_reserved, is_free, is_among, are_names}
+use Rattle.task_code.specs.Names.{begins_lower, is_in_name, is_name, is_reserved, is_free, is_among, are_names}
 use Rattle.job_words.specs.Words.{Word}
 use Rattle.job_words.specs.Views.{lent}
 use Rattle.job_words.proofs.SaidLemmas.{and-true}

@@ -4,11 +4,11 @@ use Rattle.std.specs.Prelude.{if◌then◌else◌, max}
 use Rattle.std.specs.List.{list_all}
 use Rattle.std.proofs.lemmas.List.Folds.{list_all-append}
 use Rattle.std.proofs.lemmas.List.Recursion.{is_count_by}
-use Rattle.task_lang.specs.Limits.{is_statement, statements, opened, deepest, fits_line}
-use Rattle.task_lang.specs.Tree.{Block, Done}
-use Rattle.task_lang.specs.Open.{Frame, InIf, InElse, InWhile, open_code, step_of}
-use Rattle.task_lang.specs.declared.code.Line.{Line}
-use Rattle.task_lang.specs.declared.code.Line.TheVariants as line
+use Rattle.task_code.specs.Limits.{is_statement, statements, opened, deepest, fits_line}
+use Rattle.task_code.specs.Tree.{Block, Done}
+use Rattle.task_code.specs.Open.{Frame, InIf, InElse, InWhile, open_code, step_of}
+use Rattle.task_code.specs.declared.code.Line.{Line}
+use Rattle.task_code.specs.declared.code.Line.TheVariants as line
 use Rattle.job_words.proofs.SaidLemmas.{and-true}
 use Rattle.job_reader.specs.Above.{statements_behind}
 use Rattle.job_reader.specs.Kept.{open_behind, Counted}

@@ -4,7 +4,7 @@ use Rattle.std.specs.Prelude.{◌==◌, not, if◌then◌else◌}
 use Rattle.std.specs.List.{list_all, list_any}
 use Rattle.text_lines.specs.declared.refusal.Code.{Code}
 use Rattle.text_lines.specs.declared.refusal.Code.TheVariants.{BadName, BadLine, Reserved}
-use Rattle.task_lang.specs.Names.{is_name, is_reserved, is_free, is_among, are_names}
+use Rattle.task_code.specs.Names.{is_name, is_reserved, is_free, is_among, are_names}
 use Rattle.job_words.specs.Faults.{both, made}
 use Rattle.job_words.specs.Words.{Word, Words, named}
 use Rattle.job_words.proofs.SaidLemmas.{made-ok, both-ok, and-true}

@@ -1,9 +1,9 @@
 -- The lines of flat code are those of its tree.
 use Rattle.std.proofs.Common.{◌≡◌, ℕ, ◌+◌, List, [], ◌∷◌, ◌++◌, length, refl, sym, ap, ◌∙◌, append_assoc, codes}
-use Rattle.task_lang.specs.declared.code.Line.{Line}
-use Rattle.task_lang.specs.declared.code.Line.TheVariants as line
-use Rattle.task_lang.specs.Tree.{Block, Done, Do, If, IfElse, While, flat}
-use Rattle.task_lang.specs.Reading.{tree_of, IsMatched}
+use Rattle.task_code.specs.declared.code.Line.{Line}
+use Rattle.task_code.specs.declared.code.Line.TheVariants as line
+use Rattle.task_code.specs.Tree.{Block, Done, Do, If, IfElse, While, flat}
+use Rattle.task_code.specs.Reading.{tree_of, IsMatched}
 use Rattle.job_words.specs.Words.{Words}
 use Rattle.job_words.specs.Exprs.{Names, expr_words}
 use Rattle.job_words.specs.Lines.{line_words, action_words, end_words}

@@ -4,7 +4,7 @@ use Rattle.std.specs.Prelude.{if◌then◌else◌, ◌==◌, ◌||◌}
 use Rattle.job_reader.proofs.NotedNames.{same-number}
 use Rattle.std.specs.Str.{bytes_eq}
 use Rattle.std.proofs.lemmas.Fmt.{decimal_digit}
-use Rattle.task_lang.specs.Rules.{is_format}
+use Rattle.task_code.specs.Rules.{is_format}
 use Rattle.job_words.specs.Words.{Word, Words}
 use Rattle.job_words.proofs.SaidLemmas.{same-word}
 use Rattle.job_reader.specs.Grammar.{header_words}

@@ -1,10 +1,10 @@
 -- A job, as its type keeps it, is a job of the grammar.
 use Rattle.std.proofs.Common.{◌≡◌, List, [], ◌∷◌, map, refl, sym, ap, subst, ◌∙◌}
 use Rattle.std.specs.List.{AllByRecursion}
-use Rattle.task_lang.specs.BodyValue.{BodyValue}
-use Rattle.task_lang.specs.JobValue.{JobValue}
-use Rattle.task_lang.specs.Rules.{IsBody, IsJob}
-use Rattle.task_lang.specs.declared.code.Line.{Line}
+use Rattle.task_code.specs.BodyValue.{BodyValue}
+use Rattle.task_code.specs.JobValue.{JobValue}
+use Rattle.task_code.specs.Rules.{IsBody, IsJob}
+use Rattle.task_code.specs.declared.code.Line.{Line}
 use Rattle.job_reader.specs.Legal.{flat_body, IsJobTree}
 use Rattle.job_reader.specs.Trees.{body_tree, job_tree}
 

@@ -6,15 +6,15 @@ use Rattle.std.proofs.lemmas.List.{map-append}
 use Rattle.std.proofs.lemmas.Grind.{common_steps}
 use Rattle.text_lines.specs.declared.refusal.Code.{Code}
 use Rattle.text_lines.specs.declared.refusal.Code.TheVariants.{TooMany}
-use Rattle.task_lang.specs.Names.{is_free, is_among, are_names}
-use Rattle.task_lang.specs.Mentions.{in_line, mentions, mentioned, are_below}
-use Rattle.task_lang.specs.Limits.{statements, opened, deepest, is_of_first, fits_line}
-use Rattle.task_lang.specs.Rules.{IsBody, IsOfFirst, is_format}
-use Rattle.task_lang.specs.Tree.{Block, flat}
-use Rattle.task_lang.specs.Open.{Frame, InIf, InElse, InWhile, open_code, step_of}
-use Rattle.task_lang.specs.declared.code.Line.{Line}
-use Rattle.task_lang.specs.declared.code.Line.TheVariants as line
-use Rattle.task_lang.proofs.Reading.{matched-flat}
+use Rattle.task_code.specs.Names.{is_free, is_among, are_names}
+use Rattle.task_code.specs.Mentions.{in_line, mentions, mentioned, are_below}
+use Rattle.task_code.specs.Limits.{statements, opened, deepest, is_of_first, fits_line}
+use Rattle.task_code.specs.Rules.{IsBody, IsOfFirst, is_format}
+use Rattle.task_code.specs.Tree.{Block, flat}
+use Rattle.task_code.specs.Open.{Frame, InIf, InElse, InWhile, open_code, step_of}
+use Rattle.task_code.specs.declared.code.Line.{Line}
+use Rattle.task_code.specs.declared.code.Line.TheVariants as line
+use Rattle.task_code.proofs.Reading.{matched-flat}
 use Rattle.job_words.specs.Words.{Word, Words, noted}
 use Rattle.job_words.specs.Exprs.{Names}
 use Rattle.job_words.specs.declared.lines.Keyword.{Keyword}

@@ -10,9 +10,9 @@ use Rattle.text_lines.specs.Text.{lines_of, words_of, is_skipped, bad_byte_line}
 use Rattle.text_lines.specs.declared.refusal.Code.{Code}
 use Rattle.text_lines.specs.declared.refusal.Code.TheVariants.{TooLong, Twice, TooMany, BadLength}
 use Rattle.text_lines.specs.declared.refusal.Refusal.{Refusal}
-use Rattle.task_lang.specs.Names.{is_free, is_among, are_names}
-use Rattle.task_lang.specs.Rules.{is_array}
-use Rattle.task_lang.specs.declared.job.Start.{Start}
+use Rattle.task_code.specs.Names.{is_free, is_among, are_names}
+use Rattle.task_code.specs.Rules.{is_array}
+use Rattle.task_code.specs.declared.job.Start.{Start}
 use Rattle.job_words.specs.Words.{Word, Words, named, numbered}
 use Rattle.job_words.specs.Faults.{both}
 use Rattle.job_words.specs.Lines.{body_at, keyword_of}

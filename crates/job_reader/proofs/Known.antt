@@ -2,9 +2,9 @@
 use Rattle.std.proofs.Common.{◌≡◌, ℕ, Bool, true, false, List, [], ◌∷◌, Option, Some, None, Result, Ok, Err, refl, sym, ap, ◌∙◌}
 use Rattle.std.specs.Prelude.{◌||◌, ◌==◌, not, if◌then◌else◌}
 use Rattle.text_lines.specs.declared.refusal.Code.{Code}
-use Rattle.task_lang.specs.Limits as lines
-use Rattle.task_lang.specs.declared.code.Line.{Line}
-use Rattle.task_lang.specs.declared.code.Line.TheVariants as line
+use Rattle.task_code.specs.Limits as lines
+use Rattle.task_code.specs.declared.code.Line.{Line}
+use Rattle.task_code.specs.declared.code.Line.TheVariants as line
 use Rattle.job_words.specs.Faults.{made}
 use Rattle.job_words.specs.Words.{Word, Words}
 use Rattle.job_words.specs.Exprs.{Names}

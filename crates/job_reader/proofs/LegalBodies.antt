@@ -4,17 +4,17 @@ use Rattle.std.specs.Prelude.{nat_lt}
 use Rattle.std.specs.List.{list_all}
 use Rattle.std.proofs.lemmas.Bool.{ltb-true}
 use Rattle.std.proofs.lemmas.List.Folds.{list_all-append}
-use Rattle.task_lang.specs.Limits.{is_operand, is_expr, is_action, is_line}
-use Rattle.task_lang.specs.Mentions.{in_line}
-use Rattle.task_lang.specs.Tree.{Block, Done, Do, If, IfElse, While, flat}
-use Rattle.task_lang.specs.declared.code.Operand.{Operand}
-use Rattle.task_lang.specs.declared.code.Operand.TheVariants as operand
-use Rattle.task_lang.specs.declared.code.Expr.{Expr}
-use Rattle.task_lang.specs.declared.code.Expr.TheVariants.{One, Two}
-use Rattle.task_lang.specs.declared.code.Action.{Action}
-use Rattle.task_lang.specs.declared.code.Action.TheVariants as action
-use Rattle.task_lang.specs.declared.code.Line.{Line}
-use Rattle.task_lang.specs.declared.code.Line.TheVariants as line
+use Rattle.task_code.specs.Limits.{is_operand, is_expr, is_action, is_line}
+use Rattle.task_code.specs.Mentions.{in_line}
+use Rattle.task_code.specs.Tree.{Block, Done, Do, If, IfElse, While, flat}
+use Rattle.task_code.specs.declared.code.Operand.{Operand}
+use Rattle.task_code.specs.declared.code.Operand.TheVariants as operand
+use Rattle.task_code.specs.declared.code.Expr.{Expr}
+use Rattle.task_code.specs.declared.code.Expr.TheVariants.{One, Two}
+use Rattle.task_code.specs.declared.code.Action.{Action}
+use Rattle.task_code.specs.declared.code.Action.TheVariants as action
+use Rattle.task_code.specs.declared.code.Line.{Line}
+use Rattle.task_code.specs.declared.code.Line.TheVariants as line
 use Rattle.job_words.specs.Words.{Word}
 use Rattle.job_words.specs.Exprs.{Names}
 use Rattle.job_words.specs.Lines.{line_names, line_fits}

@@ -3,10 +3,10 @@ use Rattle.std.proofs.Common.{◌≡◌, Bool, true, false, List, [], ◌∷◌,
 use Rattle.std.specs.Prelude.{length, if◌then◌else◌}
 use Rattle.text_lines.specs.declared.refusal.Code.{Code}
 use Rattle.text_lines.specs.declared.refusal.Code.TheVariants.{TooMany}
-use Rattle.task_lang.specs.Limits.{opened}
-use Rattle.task_lang.specs.declared.code.Line.{Line}
-use Rattle.task_lang.specs.Tree.{Block}
-use Rattle.task_lang.specs.Open.{Frame}
+use Rattle.task_code.specs.Limits.{opened}
+use Rattle.task_code.specs.declared.code.Line.{Line}
+use Rattle.task_code.specs.Tree.{Block}
+use Rattle.task_code.specs.Open.{Frame}
 use Rattle.job_words.specs.Words.{Word, Words}
 use Rattle.job_words.specs.Faults.{made}
 use Rattle.job_words.specs.declared.lines.Keyword.{Keyword}

@@ -3,7 +3,7 @@ use Rattle.std.proofs.Common.{◌≡◌, ℕ, Bool, true, false, List, [], ◌�
 use Rattle.std.specs.Prelude.{◌==◌, if◌then◌else◌}
 use Rattle.std.specs.List.{list_all, flat_map}
 use Rattle.std.proofs.lemmas.Grind.{flat_map-append}
-use Rattle.task_lang.specs.Names.{is_free, are_names}
+use Rattle.task_code.specs.Names.{is_free, are_names}
 use Rattle.job_words.specs.Words.{Word, Words, noted}
 use Rattle.job_words.specs.Lines.{mentions_of}
 use Rattle.job_words.proofs.GrowLemmas.{noted-grows}

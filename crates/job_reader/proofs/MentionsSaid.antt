@@ -4,20 +4,20 @@ use Rattle.std.specs.Prelude.{if◌then◌else◌, nat_lt, ◌||◌, ◌==◌}
 use Rattle.std.specs.List.{list_all}
 use Rattle.std.specs.Str.{bytes_eq}
 use Rattle.std.proofs.lemmas.List.{map-append}
-use Rattle.task_lang.specs.Mentions as mentions
-use Rattle.task_lang.specs.Names.{are_names}
-use Rattle.task_lang.specs.Open.{Frame, open_code, step_of}
-use Rattle.task_lang.specs.Tree.{Block}
-use Rattle.task_lang.specs.declared.code.Index.{Index}
-use Rattle.task_lang.specs.declared.code.Index.TheVariants as index
-use Rattle.task_lang.specs.declared.code.Cell.{Cell}
-use Rattle.task_lang.specs.declared.code.Operand.{Operand}
-use Rattle.task_lang.specs.declared.code.Operand.TheVariants as operand
-use Rattle.task_lang.specs.declared.code.Expr.{Expr}
-use Rattle.task_lang.specs.declared.code.Expr.TheVariants.{One}
-use Rattle.task_lang.specs.declared.code.Action.TheVariants as action
-use Rattle.task_lang.specs.declared.code.Line.{Line}
-use Rattle.task_lang.specs.declared.code.Line.TheVariants as line
+use Rattle.task_code.specs.Mentions as mentions
+use Rattle.task_code.specs.Names.{are_names}
+use Rattle.task_code.specs.Open.{Frame, open_code, step_of}
+use Rattle.task_code.specs.Tree.{Block}
+use Rattle.task_code.specs.declared.code.Index.{Index}
+use Rattle.task_code.specs.declared.code.Index.TheVariants as index
+use Rattle.task_code.specs.declared.code.Cell.{Cell}
+use Rattle.task_code.specs.declared.code.Operand.{Operand}
+use Rattle.task_code.specs.declared.code.Operand.TheVariants as operand
+use Rattle.task_code.specs.declared.code.Expr.{Expr}
+use Rattle.task_code.specs.declared.code.Expr.TheVariants.{One}
+use Rattle.task_code.specs.declared.code.Action.TheVariants as action
+use Rattle.task_code.specs.declared.code.Line.{Line}
+use Rattle.task_code.specs.declared.code.Line.TheVariants as line
 use Rattle.job_words.specs.Faults.{both, made}
 use Rattle.job_words.specs.Words.{Word, Words, begins_number, numbered, declared_at, name_at, index_word, index_of, in_index, noted}
 use Rattle.job_words.specs.Exprs.{Names, cell_parts, cell_at, cell_from, cell_of, has_bracket, operand_of, operator_of, expr_of, two, in_parts, in_operand, in_expr}

@@ -6,7 +6,7 @@ use Rattle.std.proofs.lemmas.Grind.{common_steps}
 use Rattle.std.specs.declared.alloc.Global.{Global}
 use Rattle.text_lines.specs.declared.refusal.Code.{Code}
 use Rattle.superstep_memory.specs.Cells.{has_array, IsNew}
-use Rattle.task_lang.specs.Names.{is_free, is_among}
+use Rattle.task_code.specs.Names.{is_free, is_among}
 use Rattle.job_words.specs.Words.{Word, Words}
 use Rattle.job_words.specs.Views.{lent}
 use Rattle.job_words.proofs.GrowLemmas.{and-right}

@@ -34,8 +34,8 @@ use Rattle.std.specs.Str.{bytes_eq}
 use Rattle.std.proofs.lemmas.Bool.{ltb-true}
 use Rattle.std.proofs.lemmas.List.{length-take-le}
 use Rattle.std.proofs.lemmas.Grind.{common_steps}
-use Rattle.task_lang.specs.Names.{is_free, is_among, are_names}
-use Rattle.task_lang.specs.Mentions.{mentioned}
+use Rattle.task_code.specs.Names.{is_free, is_among, are_names}
+use Rattle.task_code.specs.Mentions.{mentioned}
 use Rattle.job_words.specs.Words.{Word, place_from, name_at, noted}
 use Rattle.job_words.proofs.SaidLemmas.{and-true, same-word}
 use Rattle.job_words.proofs.GrowLemmas.{and-left, and-right, noted-grows}

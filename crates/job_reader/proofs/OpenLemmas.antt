@@ -2,11 +2,11 @@
 use Rattle.std.proofs.Common.{◌≡◌, ℕ, Bool, true, false, List, [], ◌∷◌, length, Option, Some, None, Result, Ok, Err, refl, sym, ap, ◌∙◌, arith, length-append}
 use Rattle.std.specs.Prelude.{IfSome}
 use Rattle.text_lines.specs.declared.refusal.Code.{Code}
-use Rattle.task_lang.specs.declared.code.Line.{Line}
-use Rattle.task_lang.specs.declared.code.Line.TheVariants as line
-use Rattle.task_lang.specs.Tree.{Block, flat}
-use Rattle.task_lang.specs.Open.{Frame, place_of, open_places, open_code, step_of}
-use Rattle.task_lang.specs.BodyValue.{BodyValue}
+use Rattle.task_code.specs.declared.code.Line.{Line}
+use Rattle.task_code.specs.declared.code.Line.TheVariants as line
+use Rattle.task_code.specs.Tree.{Block, flat}
+use Rattle.task_code.specs.Open.{Frame, place_of, open_places, open_code, step_of}
+use Rattle.task_code.specs.BodyValue.{BodyValue}
 use Rattle.job_words.specs.Words.{Word, Words}
 use Rattle.job_words.specs.Views.{lent}
 use Rattle.job_words.specs.Faults.{made}

@@ -5,11 +5,11 @@ use Rattle.std.specs.List.{list_all, AllByRecursion}
 use Rattle.std.proofs.lemmas.List.{length-map}
 use Rattle.std.proofs.lemmas.Grind.{common_steps}
 use Rattle.std.proofs.lemmas.Simd.{map-map}
-use Rattle.task_lang.specs.Names.{are_names}
-use Rattle.task_lang.specs.Limits.{is_line}
-use Rattle.task_lang.specs.Rules.{IsBody, IsOfFirst}
-use Rattle.task_lang.proofs.Reading.{tree-flat}
-use Rattle.task_lang.specs.Tree.{Block}
+use Rattle.task_code.specs.Names.{are_names}
+use Rattle.task_code.specs.Limits.{is_line}
+use Rattle.task_code.specs.Rules.{IsBody, IsOfFirst}
+use Rattle.task_code.proofs.Reading.{tree-flat}
+use Rattle.task_code.specs.Tree.{Block}
 use Rattle.job_words.specs.Words.{Word}
 use Rattle.job_words.proofs.SaidLemmas.{and-true}
 use Rattle.job_reader.specs.Trees.{BodyTree, JobTree, body_tree, job_tree, array_names, body_names}
@@ -24,9 +24,9 @@ use Rattle.job_reader.specs.declared.so_far.SoFar.{SoFar}
 use Rattle.text_lines.specs.Text.{lines_of, bad_byte_line}
 use Rattle.text_lines.specs.declared.refusal.Code.TheVariants.{TooLong}
 use Rattle.text_lines.specs.declared.refusal.Refusal.{Refusal}
-use Rattle.task_lang.specs.BodyValue.{BodyValue}
-use Rattle.task_lang.specs.JobValue.{JobValue, job_value}
-use Rattle.task_lang.specs.declared.job.Start.{Start}
+use Rattle.task_code.specs.BodyValue.{BodyValue}
+use Rattle.task_code.specs.JobValue.{JobValue, job_value}
+use Rattle.task_code.specs.declared.job.Start.{Start}
 use Rattle.job_reader.proofs.KeptLines.{text-kept}
 use Rattle.job_reader.proofs.LegalBodies.{AreWhole, items-whole, starts-there}
 

@@ -39,18 +39,18 @@ use Rattle.text_lines.specs.declared.refusal.Code.{Code}
 use Rattle.text_lines.specs.declared.refusal.Code.TheVariants.{Reserved, BadName}
 use Rattle.text_lines.specs.Number.{number_of, fits_i64}
 use Rattle.text_lines.proofs.NumbersLemmas.{numbers_law}
-use Rattle.task_lang.specs.Limits.{fits_index, fits_operand, fits_expr, fits_line}
-use Rattle.task_lang.specs.Names.{is_name, is_reserved, is_free}
-use Rattle.task_lang.specs.declared.code.Index.{Index}
-use Rattle.task_lang.specs.declared.code.Index.TheVariants as index
-use Rattle.task_lang.specs.declared.code.Cell.{Cell}
-use Rattle.task_lang.specs.declared.code.Operand.{Operand}
-use Rattle.task_lang.specs.declared.code.Operand.TheVariants as operand
-use Rattle.task_lang.specs.declared.code.Expr.{Expr}
-use Rattle.task_lang.specs.declared.code.Expr.TheVariants.{One}
-use Rattle.task_lang.specs.declared.code.Action.TheVariants as action
-use Rattle.task_lang.specs.declared.code.Line.{Line}
-use Rattle.task_lang.specs.declared.code.Line.TheVariants as line
+use Rattle.task_code.specs.Limits.{fits_index, fits_operand, fits_expr, fits_line}
+use Rattle.task_code.specs.Names.{is_name, is_reserved, is_free}
+use Rattle.task_code.specs.declared.code.Index.{Index}
+use Rattle.task_code.specs.declared.code.Index.TheVariants as index
+use Rattle.task_code.specs.declared.code.Cell.{Cell}
+use Rattle.task_code.specs.declared.code.Operand.{Operand}
+use Rattle.task_code.specs.declared.code.Operand.TheVariants as operand
+use Rattle.task_code.specs.declared.code.Expr.{Expr}
+use Rattle.task_code.specs.declared.code.Expr.TheVariants.{One}
+use Rattle.task_code.specs.declared.code.Action.TheVariants as action
+use Rattle.task_code.specs.declared.code.Line.{Line}
+use Rattle.task_code.specs.declared.code.Line.TheVariants as line
 use Rattle.job_words.specs.Faults.{both, made}
 use Rattle.job_words.specs.Words.{Word, Words, begins_number, named, numbered, or_bad_number, place_from, or_unknown, declared_at, name_at, index_word, index_of, in_index}
 use Rattle.job_words.specs.Exprs.{Names, cell_parts, cell_at, cell_from, cell_of, has_bracket, operand_of, operator_of, expr_of, two, in_parts, in_operand, in_expr}

@@ -1,12 +1,12 @@
 -- A line that is put behind open code is written behind it.
 use Rattle.std.proofs.Common.{◌≡◌, ℕ, ◌+◌, List, [], ◌∷◌, ◌++◌, length, map, Some, sym, ap, subst, ◌∙◌, append_assoc}
 use Rattle.std.proofs.lemmas.List.{map-append}
-use Rattle.task_lang.specs.declared.code.Expr.{Expr}
-use Rattle.task_lang.specs.declared.code.Line.{Line}
-use Rattle.task_lang.specs.declared.code.Line.TheVariants as line
-use Rattle.task_lang.specs.Tree.{Block, Done, Do, If, IfElse, While, ◌⨾◌, flat}
-use Rattle.task_lang.specs.Open.{Frame, InIf, InElse, InWhile, closed, open_code, step_of}
-use Rattle.task_lang.proofs.Building.{open-then}
+use Rattle.task_code.specs.declared.code.Expr.{Expr}
+use Rattle.task_code.specs.declared.code.Line.{Line}
+use Rattle.task_code.specs.declared.code.Line.TheVariants as line
+use Rattle.task_code.specs.Tree.{Block, Done, Do, If, IfElse, While, ◌⨾◌, flat}
+use Rattle.task_code.specs.Open.{Frame, InIf, InElse, InWhile, closed, open_code, step_of}
+use Rattle.task_code.proofs.Building.{open-then}
 
 module _ {X : Type 0} (f : Line → X)
     (on-if : (e : Expr) (n m : ℕ) → f (line.If e n) ≡ f (line.If e m))

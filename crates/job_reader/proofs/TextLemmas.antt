@@ -1,14 +1,14 @@
 -- Texts of lines in turn.
 use Rattle.std.proofs.Common.{◌≡◌, ℕ, ℤ, zero, suc, ◌+◌, List, [], ◌∷◌, ◌++◌, length, map, drop, Some, None, refl, sym, ap, ◌∙◌, append_assoc, codes, add-one}
 use Rattle.std.specs.Prelude.{slice_get}
-use Rattle.task_lang.specs.declared.code.Line.{Line}
-use Rattle.task_lang.specs.Reading.{tree_of, IsMatched}
-use Rattle.task_lang.specs.BodyValue.{BodyValue}
+use Rattle.task_code.specs.declared.code.Line.{Line}
+use Rattle.task_code.specs.Reading.{tree_of, IsMatched}
+use Rattle.task_code.specs.BodyValue.{BodyValue}
 use Rattle.job_words.specs.Words.{Word, Words}
 use Rattle.job_words.specs.Exprs.{Names}
 use Rattle.job_words.specs.Lines.{end_words}
-use Rattle.task_lang.specs.JobValue.{JobValue}
-use Rattle.task_lang.specs.declared.job.Start.{Start}
+use Rattle.task_code.specs.JobValue.{JobValue}
+use Rattle.task_code.specs.declared.job.Start.{Start}
 use Rattle.job_reader.specs.Trees.{BodyTree, body_tree, job_tree, array_names, body_names}
 use Rattle.job_reader.specs.Grammar.{
   block_lines,

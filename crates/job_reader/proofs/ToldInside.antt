@@ -4,11 +4,11 @@ use Rattle.std.specs.Prelude.{not, ◌||◌}
 use Rattle.std.specs.List.{list_all}
 use Rattle.std.specs.Str.{bytes_eq}
 use Rattle.std.proofs.lemmas.List.Folds.{list_all-append}
-use Rattle.task_lang.specs.Names.{is_among}
-use Rattle.task_lang.specs.declared.code.Line.{Line}
-use Rattle.task_lang.specs.declared.code.Line.TheVariants as line
-use Rattle.task_lang.specs.Tree.{Block, flat}
-use Rattle.task_lang.specs.Open.{Frame, InIf, InElse, InWhile, open_code, step_of}
+use Rattle.task_code.specs.Names.{is_among}
+use Rattle.task_code.specs.declared.code.Line.{Line}
+use Rattle.task_code.specs.declared.code.Line.TheVariants as line
+use Rattle.task_code.specs.Tree.{Block, flat}
+use Rattle.task_code.specs.Open.{Frame, InIf, InElse, InWhile, open_code, step_of}
 use Rattle.job_words.specs.Words.{Word, Words}
 use Rattle.job_words.specs.Exprs.{Names}
 use Rattle.job_words.specs.declared.lines.Keyword.{Keyword}

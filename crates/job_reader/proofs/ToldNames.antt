@@ -10,9 +10,9 @@ use Rattle.std.proofs.lemmas.Grind.{common_steps}
 use Rattle.text_lines.specs.declared.refusal.Code.{Code}
 use Rattle.text_lines.specs.declared.refusal.Code.TheVariants.{Twice, TooMany}
 use Rattle.text_lines.specs.Text.{words_of, is_skipped}
-use Rattle.task_lang.specs.Names.{is_among}
-use Rattle.task_lang.specs.Open.{Frame, step_of}
-use Rattle.task_lang.specs.Tree.{Block}
+use Rattle.task_code.specs.Names.{is_among}
+use Rattle.task_code.specs.Open.{Frame, step_of}
+use Rattle.task_code.specs.Tree.{Block}
 use Rattle.job_words.specs.Words.{Word, Words}
 use Rattle.superstep_memory.specs.declared.arrays.PutKind.TheVariants.{Set, Add}
 use Rattle.job_words.specs.declared.lines.Keyword.{Keyword}

@@ -7,8 +7,8 @@ use Rattle.std.proofs.lemmas.List.{length-replicate}
 use Rattle.std.proofs.lemmas.Grind.{common_steps}
 use Rattle.text_lines.specs.declared.refusal.Code.{Code}
 use Rattle.text_lines.specs.declared.refusal.Code.TheVariants.{Twice, TooMany, BadLength}
-use Rattle.task_lang.specs.Names.{is_among}
-use Rattle.task_lang.specs.declared.job.Start.{Start}
+use Rattle.task_code.specs.Names.{is_among}
+use Rattle.task_code.specs.declared.job.Start.{Start}
 use Rattle.job_words.specs.Words.{Word, Words, named, numbered, name_at}
 use Rattle.job_words.specs.Faults.{both}
 use Rattle.job_words.specs.Lines.{body_at}

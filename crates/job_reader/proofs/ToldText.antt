@@ -3,9 +3,9 @@ use Rattle.std.proofs.Common.{◌≡◌, ◌⊎◌, inl, inr, ℕ, ◌+◌, Bool
 use Rattle.std.specs.Prelude.{if◌then◌else◌, nat_le}
 use Rattle.text_lines.specs.declared.refusal.Code.{Code}
 use Rattle.text_lines.specs.declared.refusal.Code.TheVariants.{Twice, TooMany}
-use Rattle.task_lang.specs.Names.{is_among}
-use Rattle.task_lang.specs.Tree.{Block}
-use Rattle.task_lang.specs.Open.{Frame, step_of}
+use Rattle.task_code.specs.Names.{is_among}
+use Rattle.task_code.specs.Tree.{Block}
+use Rattle.task_code.specs.Open.{Frame, step_of}
 use Rattle.job_words.specs.declared.lines.Keyword.{Keyword}
 use Rattle.job_words.specs.Lines.{keyword_of, known_in}
 use Rattle.job_reader.specs.declared.outer.Outer.{Outer}

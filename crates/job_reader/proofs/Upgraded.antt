@@ -1,7 +1,7 @@
 -- A job as one of format 2 is a job.
 use Rattle.std.proofs.Common.{◌≡◌, ℕ, refl, sym, ap, arith}
-use Rattle.task_lang.specs.JobValue.{JobValue}
-use Rattle.task_lang.specs.Rules.{IsJob}
+use Rattle.task_code.specs.JobValue.{JobValue}
+use Rattle.task_code.specs.Rules.{IsJob}
 use Rattle.job_reader.specs.Upgrade.{upgraded}
 
 one-two : (f : ℕ) → f ≡ 2 → f ≡ 1 → ⊥

@@ -3,10 +3,10 @@ use Rattle.std.specs.Prelude.{◌≡◌, ◌≤◌, ◌<◌, ℕ, ◌-◌, ◌==
 use Rattle.std.specs.List.{flat_map, list_all}
 use Rattle.std.specs.Fmt.{decimal, signed_decimal}
 use Rattle.text_lines.specs.Text.{words_of, is_skipped}
-use Rattle.task_lang.specs.Limits.{is_of_first}
-use Rattle.task_lang.specs.declared.code.Line.{Line}
-use Rattle.task_lang.specs.Tree.{Block, Done, Do, If, IfElse, While, flat}
-use Rattle.task_lang.specs.declared.job.Start.{Start}
+use Rattle.task_code.specs.Limits.{is_of_first}
+use Rattle.task_code.specs.declared.code.Line.{Line}
+use Rattle.task_code.specs.Tree.{Block, Done, Do, If, IfElse, While, flat}
+use Rattle.task_code.specs.declared.job.Start.{Start}
 use Rattle.job_words.specs.Words.{Word, Words, name_at, noted}
 use Rattle.job_words.specs.Exprs.{Names, expr_words}
 use Rattle.job_words.specs.Lines.{action_words, end_words, line_fits, mentions_of}

@@ -3,13 +3,13 @@ use Rattle.std.specs.Prelude.{◌≡◌, ◌≤◌, ◌<◌, ℕ, true, false, L
 use Rattle.std.specs.List.{list_all}
 use Rattle.text_lines.specs.Number.{fits_i64}
 use Rattle.text_lines.specs.declared.refusal.Refusal.{Refusal}
-use Rattle.task_lang.specs.Names.{is_free, is_among, are_names}
-use Rattle.task_lang.specs.Mentions.{mentions, mentioned, are_below}
-use Rattle.task_lang.specs.Limits.{statements, opened, deepest, is_of_first, fits_line}
-use Rattle.task_lang.specs.Rules.{IsBody, IsOfFirst, is_format, is_array}
-use Rattle.task_lang.specs.Tree.{Block}
-use Rattle.task_lang.specs.Open.{Frame, open_code}
-use Rattle.task_lang.specs.declared.code.Line.{Line}
+use Rattle.task_code.specs.Names.{is_free, is_among, are_names}
+use Rattle.task_code.specs.Mentions.{mentions, mentioned, are_below}
+use Rattle.task_code.specs.Limits.{statements, opened, deepest, is_of_first, fits_line}
+use Rattle.task_code.specs.Rules.{IsBody, IsOfFirst, is_format, is_array}
+use Rattle.task_code.specs.Tree.{Block}
+use Rattle.task_code.specs.Open.{Frame, open_code}
+use Rattle.task_code.specs.declared.code.Line.{Line}
 use Rattle.job_words.specs.Words.{Word}
 use Rattle.job_reader.specs.Trees.{BodyTree, JobTree, array_names, body_names}
 use Rattle.job_reader.specs.Above.{Inside, Above, belongs, ended}

@@ -1,9 +1,9 @@
 -- Which jobs there are (own): what the types of a body and of a job keep, said of statement trees.
 use Rattle.std.specs.Prelude.{map}
-use Rattle.task_lang.specs.Tree.{flat}
-use Rattle.task_lang.specs.BodyValue.{BodyValue}
-use Rattle.task_lang.specs.JobValue.{JobValue}
-use Rattle.task_lang.specs.Rules.{IsJob}
+use Rattle.task_code.specs.Tree.{flat}
+use Rattle.task_code.specs.BodyValue.{BodyValue}
+use Rattle.task_code.specs.JobValue.{JobValue}
+use Rattle.task_code.specs.Rules.{IsJob}
 use Rattle.job_reader.specs.Trees.{BodyTree, JobTree}
 
 -- with the flat code of its statements

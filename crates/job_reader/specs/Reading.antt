@@ -14,12 +14,12 @@ use Rattle.job_words.specs.Words.{Word, Words, named, numbered}
 use Rattle.job_words.specs.Views.{lent}
 use Rattle.job_words.specs.declared.lines.Keyword.{Keyword}
 use Rattle.job_words.specs.Lines.{body_at, keyword_of, known_in, line_behind, mentions_behind}
-use Rattle.task_lang.specs.Names.{is_name, is_reserved, is_among}
-use Rattle.task_lang.specs.Limits.{opened}
-use Rattle.task_lang.specs.Tree.{Block}
-use Rattle.task_lang.specs.Open.{Frame, step_of}
-use Rattle.task_lang.specs.declared.code.Line.{Line}
-use Rattle.task_lang.specs.declared.job.Start.{Start}
+use Rattle.task_code.specs.Names.{is_name, is_reserved, is_among}
+use Rattle.task_code.specs.Limits.{opened}
+use Rattle.task_code.specs.Tree.{Block}
+use Rattle.task_code.specs.Open.{Frame, step_of}
+use Rattle.task_code.specs.declared.code.Line.{Line}
+use Rattle.task_code.specs.declared.job.Start.{Start}
 use Rattle.job_reader.specs.declared.outer.Outer.{Outer}
 use Rattle.job_reader.specs.declared.outer.Outer.TheVariants as outer
 use Rattle.job_reader.specs.Trees.{JobTree, array_names, body_names}

@@ -1,8 +1,8 @@
 -- What the reader has, against what the lines above say.
 use Rattle.std.specs.Prelude.{◌≡◌, ℕ, List, map, Option, Some, None}
 use Rattle.job_words.specs.Views.{lent}
-use Rattle.task_lang.specs.Tree.{Block}
-use Rattle.task_lang.specs.Open.{Frame, IsOpen}
+use Rattle.task_code.specs.Tree.{Block}
+use Rattle.task_code.specs.Open.{Frame, IsOpen}
 use Rattle.job_reader.specs.declared.inside.OpenBody.{OpenBody}
 use Rattle.job_reader.specs.declared.so_far.SoFar.{SoFar}
 use Rattle.job_reader.specs.declared.state.State.{State}

@@ -1,11 +1,11 @@
 -- Jobs whose bodies are statement trees.
 use Rattle.std.specs.Prelude.{ℕ, ℤ, List, map}
 use Rattle.job_words.specs.Words.{Word}
-use Rattle.task_lang.specs.Tree.{Block}
-use Rattle.task_lang.specs.Reading.{tree_of}
-use Rattle.task_lang.specs.BodyValue.{BodyValue}
-use Rattle.task_lang.specs.JobValue.{JobValue}
-use Rattle.task_lang.specs.declared.job.Start.{Start}
+use Rattle.task_code.specs.Tree.{Block}
+use Rattle.task_code.specs.Reading.{tree_of}
+use Rattle.task_code.specs.BodyValue.{BodyValue}
+use Rattle.task_code.specs.JobValue.{JobValue}
+use Rattle.task_code.specs.declared.job.Start.{Start}
 
 -- a body by its name, its locals and its statements
 pub record BodyTree : Type 0 where

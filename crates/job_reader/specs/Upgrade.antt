@@ -1,5 +1,5 @@
 -- A job as one of format 2 (own): its arrays, its bodies with their locals in their order, and its start lines stay.
-use Rattle.task_lang.specs.JobValue.{JobValue}
+use Rattle.task_code.specs.JobValue.{JobValue}
 use Rattle.job_reader.specs.Trees.{JobTree}
 
 abbrev pub upgraded : JobValue → JobValue

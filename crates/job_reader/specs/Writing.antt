@@ -1,6 +1,6 @@
 -- Lines of flat code as they are written.
 use Rattle.std.specs.Prelude.{List, map, string_bytes}
-use Rattle.task_lang.specs.declared.code.Line.{Line}
+use Rattle.task_code.specs.declared.code.Line.{Line}
 use Rattle.job_words.specs.Words.{Words}
 use Rattle.job_words.specs.Exprs.{Names}
 use Rattle.job_words.specs.Lines.{line_words}

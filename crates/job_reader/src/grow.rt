@@ -4,7 +4,7 @@ ghost use Rattle.std.specs.Option.{ForSome};
 ghost use Rattle.std.specs.List.{list_all};
 ghost use Rattle.text_lines.specs.Text.{words_of};
 ghost use Rattle.superstep_memory.specs.Cells.{IsNew};
-ghost use Rattle.task_lang.specs.Names.{is_free};
+ghost use Rattle.task_code.specs.Names.{is_free};
 ghost use Rattle.job_words.specs.Views.{lent};
 ghost use Rattle.job_words.specs.Lines as lines;
 ghost use Rattle.job_reader.specs.Trees.{JobTree, job_tree};
@@ -23,9 +23,9 @@ use job_words::lines::{Keyword, keyword_of, known_in};
 use job_words::words::is_among;
 use std::alloc::{AllocError, Global};
 use superstep_memory::arrays::Arrays;
-use task_lang::body::Body;
-use task_lang::code::Line;
-use task_lang::job::Job;
+use task_code::body::Body;
+use task_code::code::Line;
+use task_code::job::Job;
 use text_lines::Code;
 
 /// The most arrays of a job.

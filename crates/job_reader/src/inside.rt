@@ -2,8 +2,8 @@
 ghost use Rattle.std.specs.Prelude.{◌≡◌, ◌≤◌, ◌+◌, length, slice_get, IfOk, OnOk};
 ghost use Rattle.job_words.specs.Views.{lent};
 ghost use Rattle.job_words.specs.Lines as lines;
-ghost use Rattle.task_lang.specs.Open.{step_of};
-ghost use Rattle.task_lang.specs.Limits.{opened};
+ghost use Rattle.task_code.specs.Open.{step_of};
+ghost use Rattle.task_code.specs.Limits.{opened};
 ghost use Rattle.job_reader.specs.Above.{Inside, begun, can_else, belongs, statements_behind};
 ghost use Rattle.job_reader.specs.Reading as spec;
 ghost use Rattle.job_reader.specs.Relates.{IsInside, IsGrown};
@@ -12,8 +12,8 @@ use job_words::exprs::Scope;
 use job_words::lines::{Keyword, line_behind};
 use job_words::mentions::note_behind;
 use std::alloc::{AllocError, Global};
-use task_lang::builder::Builder;
-use task_lang::code::Line;
+use task_code::builder::Builder;
+use task_code::code::Line;
 use text_lines::Code;
 
 /// A body of which only the front is read.

@@ -8,8 +8,8 @@ use job_words::faults::both;
 use job_words::lines::body_at;
 use job_words::words::{is_among, is_word, named, numbered};
 use std::alloc::{AllocError, Global};
-use task_lang::job::Start;
-use task_lang::names::{is_name, is_reserved};
+use task_code::job::Start;
+use task_code::names::{is_name, is_reserved};
 use text_lines::{Code, split_word};
 
 /// The first word of a line outside bodies.

@@ -9,8 +9,8 @@ ghost use Rattle.job_reader.specs.Writing.{names_of, code_lines};
 use itoa::{Buffer, Integer};
 use std::alloc::AllocError;
 use superstep_memory::arrays::{Arrays, PutKind};
-use task_lang::body::Body;
-use task_lang::code::{Action, Cell, Expr, Index, Line, Operand, Operator};
+use task_code::body::Body;
+use task_code::code::{Action, Cell, Expr, Index, Line, Operand, Operator};
 
 /// The names by which a body's lines are written.
 #[derive(Clone, Copy)]

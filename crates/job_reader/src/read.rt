@@ -1,7 +1,7 @@
 //! The text of a job, read.
 ghost use Rattle.std.specs.Prelude.{◌≡◌, ◌≤◌, ◌<◌, ◌+◌, ◌^◌, ◌∷◌, length, true, IsTrue, IfOk, IfErr, MatchResult, Err, List};
 ghost use Rattle.text_lines.specs.Text.{lines_of, words_of};
-ghost use Rattle.task_lang.specs.Rules.{is_format};
+ghost use Rattle.task_code.specs.Rules.{is_format};
 ghost use Rattle.job_words.specs.Words.{Word};
 ghost use Rattle.job_words.specs.Views.{lent};
 ghost use Rattle.job_reader.specs.Trees.{job_tree};
@@ -19,7 +19,7 @@ use crate::so_far::SoFar;
 use crate::state::State;
 use job_words::words::{is_among, is_word};
 use std::alloc::{AllocError, Global};
-use task_lang::job::Job;
+use task_code::job::Job;
 use text_lines::{Code, Refusal, bad_byte_line, first_word, split_line, split_word};
 
 /// The most bytes of a job's text.

@@ -2,8 +2,8 @@
 ghost use Rattle.std.specs.Prelude.{◌≤◌, length};
 
 use superstep_memory::arrays::Arrays;
-use task_lang::body::Body;
-use task_lang::job::Start;
+use task_code::body::Body;
+use task_code::job::Start;
 
 /// The format, the arrays, bodies and start lines that are read, and the names of the first two as they stand in the text.
 #[derive(Drop)]

@@ -4,7 +4,7 @@ ghost use Rattle.job_reader.specs.Legal.{IsJobTree};
 ghost use Rattle.job_reader.specs.Trees.{job_tree};
 ghost use Rattle.job_reader.specs.Upgrade.{upgraded, upgraded_tree};
 
-use task_lang::job::Job;
+use task_code::job::Job;
 
 /// The job as one of format 2, with the same arrays, bodies, locals in their order, and start lines. A job of format 2 is
 /// handed back as it was. No memory is taken.

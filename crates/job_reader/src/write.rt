@@ -1,7 +1,7 @@
 //! The canonical text of a job, written.
 ghost use Rattle.std.specs.Prelude.{◌≡◌, ◌++◌, ◌∷◌, [], OnOk, IfOk, map, string_bytes, length};
 ghost use Rattle.std.specs.Fmt.{signed_decimal};
-ghost use Rattle.task_lang.specs.Rules.{IsJob};
+ghost use Rattle.task_code.specs.Rules.{IsJob};
 ghost use Rattle.job_reader.specs.Legal.{IsJobTree};
 ghost use Rattle.job_reader.specs.Trees.{body_tree, job_tree};
 ghost use Rattle.job_reader.specs.Grammar as spec;
@@ -9,11 +9,12 @@ ghost use Rattle.job_reader.specs.Grammar.{spaced, line_text, text_of};
 ghost use Rattle.phase_records.specs.Written.{WritesText, WriteCause};
 
 use crate::push::{Writing, push_body_name, push_code, push_number};
-use phase_records::{CountedWrite, WriteFault, write_all};
+use devices::{CountedWrite, write_all};
+use phase_records::WriteFault;
 use std::alloc::{AllocError, Global};
 use superstep_memory::arrays::Arrays;
-use task_lang::body::Body;
-use task_lang::job::{Job, Start};
+use task_code::body::Body;
+use task_code::job::{Job, Start};
 
 // Puts values behind what is there, each behind a space.
 fn push_values(out: &mut Vec<u8>, values: &[i64]) -> Result<(), AllocError>

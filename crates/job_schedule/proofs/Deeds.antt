@@ -6,7 +6,7 @@ use Rattle.std.specs.Str.{bytes_eq}
 use Rattle.std.proofs.lemmas.Slice.Eq.{bytes_eq-Decides}
 use Rattle.superstep_memory.specs.Paths.{path_lt, is_rising}
 use Rattle.superstep_memory.proofs.PathOrder.{rising_rest, rising_all, lt_asym}
-use Rattle.task_lang.specs.JobValue.{JobValue}
+use Rattle.task_code.specs.JobValue.{JobValue}
 use Rattle.task_lang.specs.Meaning.{Task, Segment, segment_of}
 use Rattle.phase_records.specs.Status.{Status}
 use Rattle.step_core.specs.Program.{Program, program_of}

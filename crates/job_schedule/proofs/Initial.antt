@@ -1,7 +1,7 @@
 -- The world before the first step of a worker.
 use Rattle.std.proofs.Common.{◌≡◌, ℕ, zero, suc, ◌-◌, ◌<◌, List, [], ◌∷◌, ◌++◌, length, reverse, sym, ap, ◌∙◌, arith, None, Option, Result, Ok, Err}
 use Rattle.std.specs.Prelude.{OnOk, replicate}
-use Rattle.task_lang.specs.JobValue.{JobValue}
+use Rattle.task_code.specs.JobValue.{JobValue}
 use Rattle.tier_shape.specs.Leaves.{leaves_of}
 use Rattle.tier_core.specs.declared.call.Call.TheVariants as call
 use Rattle.tier_core.specs.declared.call.Step.TheVariants.{Begin, Go}
@@ -11,9 +11,9 @@ use Rattle.step_core.specs.Program.{program_of}
 use Rattle.step_core.specs.Superstep.{State, live_paths}
 use Rattle.step_core.specs.JobMeaning.{initial}
 use Rattle.step_core.specs.RoundValue.{RoundValue, Opens, state_of}
-use Rattle.job_participants.specs.declared.stage.Mode.TheVariants as mode
-use Rattle.job_participants.specs.ParticipantValue.{ParticipantValue, waiting}
-use Rattle.job_participants.specs.Moves.{leaf_at}
+use Rattle.job_schedule.specs.declared.stage.Mode.TheVariants as mode
+use Rattle.job_schedule.specs.ParticipantValue.{ParticipantValue, waiting}
+use Rattle.tier_shape.specs.Preferred.{leaf_at}
 use Rattle.job_schedule.specs.World.{World, gone, joined_at, with_start, with_starts, plan_for, empty_world, initial_world}
 
 pub gone_one : (n token : ℕ) (tree : Tree) → 0 < n → gone n token tree ≡ gone (n - 1) token (after tree (Go token))

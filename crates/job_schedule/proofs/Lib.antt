@@ -7,4 +7,5 @@ pub mod Ending
 pub mod Refused
 pub mod Participants
 pub mod Standing
+pub mod Participating
 mod Kept

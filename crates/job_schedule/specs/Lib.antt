@@ -1,5 +1,5 @@
-pub use Rattle.job_participants.specs.ParticipantValue
-pub use Rattle.job_participants.specs.Moves
+pub mod ParticipantValue
+pub mod Moves
 pub mod AnswerValue
 pub mod World
 pub mod Parts

@@ -11,7 +11,7 @@ ghost use Rattle.job_schedule.specs.World.{initial_world, answers, answer_of, wo
 use crate::schedule::Schedule;
 use crate::step::{Answer, JobStep};
 use std::alloc::{AllocError, Global};
-use task_lang::job::Job;
+use task_code::job::Job;
 use tier_shape::Shape;
 
 // Takes a step, and puts its answer behind those before.

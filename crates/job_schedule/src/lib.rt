@@ -5,7 +5,11 @@
 #![tactic(auto)]
 
 pub mod drive;
+mod hands;
 pub mod laws;
+mod next;
+pub mod participant;
 mod rounds;
 mod schedule;
+pub mod stage;
 pub mod step;

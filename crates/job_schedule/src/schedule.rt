@@ -5,22 +5,22 @@ ghost use Rattle.tier_shape.specs.Leaves.{leaves_of};
 ghost use Rattle.tier_core.specs.Machine.{opened, with_token};
 ghost use Rattle.job_schedule.specs.World.{plan_for, taking, mode_after, gone};
 
+use crate::hands::{empty_hands, hand_of, set_hand};
+use crate::next::{free_tokens, next_participants};
+use crate::participant::{Kid, Participant, all_over, copy_path, is_over};
 use crate::rounds::{close_round, hand_in};
+use crate::stage::{Mode, Move, Stage, asked};
 use crate::step::{Answer, JobStep};
 use advance_rule::EndPlan;
-use job_participants::hands::{empty_hands, hand_of, set_hand};
-use job_participants::leaves::{leaf_at, preferred};
-use job_participants::next::{free_tokens, next_participants};
-use job_participants::participant::{Kid, Participant, all_over, copy_path, is_over};
-use job_participants::stage::{Mode, Move, Stage, asked};
 use phase_records::JobStatus;
 use std::alloc::{AllocError, Global};
 use step_core::Round;
 use superstep_memory::path::Path;
-use task_lang::job::Job;
+use task_code::job::Job;
 use tier_core::call::{Answer as TreeAnswer, Call, Played, Step};
 use tier_core::tree::Core;
 use tier_shape::Shape;
+use tier_shape::leaves::{leaf_at, preferred};
 
 /// A job on a tree, worked at by numbered workers.
 #[derive(Drop)]
@@ -86,14 +86,14 @@ fn tree_of(alloc: Global, shape: Shape, limit: u32) -> Result<(Core, Vec<u16>), 
 
 impl<'j> Schedule<'j> {
     ghost use Rattle.std.specs.Prelude.{◌<◌, OnOk, None, length, map, slice_index_or};
-    ghost use Rattle.task_lang.specs.JobValue.{JobValue};
+    ghost use Rattle.task_code.specs.JobValue.{JobValue};
     ghost use Rattle.step_core.specs.Program.{program_of};
     ghost use Rattle.step_core.specs.JobMeaning.{initial};
     ghost use Rattle.step_core.specs.RoundValue.{Opens, slots_in, status_in};
     ghost use Rattle.step_core.specs.Superstep.{live_paths};
     ghost use Rattle.job_schedule.specs.AnswerValue.{answer_seen};
     ghost use Rattle.job_schedule.specs.Parts.{path_items, world_of};
-    ghost use Rattle.job_participants.specs.ParticipantValue.{participant_at};
+    ghost use Rattle.job_schedule.specs.ParticipantValue.{participant_at};
     ghost use Rattle.job_schedule.specs.World as spec;
     ghost use Rattle.job_schedule.specs.World.{
       initial_world,
@@ -110,7 +110,7 @@ impl<'j> Schedule<'j> {
       stepped,
       renewed,
     };
-    ghost use Rattle.job_participants.specs.ParticipantValue.{answered};
+    ghost use Rattle.job_schedule.specs.ParticipantValue.{answered};
     ghost use Rattle.job_schedule.specs.Parts.{IsAllowed, IsKept, IsNext, IsReached, IsTaken, IsWanted};
     ghost use Rattle.job_schedule.specs.Laws.{IsStanding};
     ghost use Rattle.step_core.specs.Slots.{first_missing};

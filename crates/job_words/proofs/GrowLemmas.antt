@@ -30,19 +30,19 @@ use Rattle.std.specs.Prelude.{if◌then◌else◌, nat_lt}
 use Rattle.std.specs.List.{list_all}
 use Rattle.std.proofs.lemmas.Bool.{ltb-true}
 use Rattle.std.proofs.lemmas.List.Folds.{list_all-append}
-use Rattle.task_lang.specs.Names.{is_among}
-use Rattle.task_lang.specs.Mentions as mentions
-use Rattle.task_lang.specs.declared.code.Index.{Index}
-use Rattle.task_lang.specs.declared.code.Index.TheVariants as index
-use Rattle.task_lang.specs.declared.code.Cell.{Cell}
-use Rattle.task_lang.specs.declared.code.Operand.{Operand}
-use Rattle.task_lang.specs.declared.code.Operand.TheVariants as operand
-use Rattle.task_lang.specs.declared.code.Expr.{Expr}
-use Rattle.task_lang.specs.declared.code.Expr.TheVariants.{One, Two}
-use Rattle.task_lang.specs.declared.code.Action.{Action}
-use Rattle.task_lang.specs.declared.code.Action.TheVariants as action
-use Rattle.task_lang.specs.declared.code.Line.{Line}
-use Rattle.task_lang.specs.declared.code.Line.TheVariants as line
+use Rattle.task_code.specs.Names.{is_among}
+use Rattle.task_code.specs.Mentions as mentions
+use Rattle.task_code.specs.declared.code.Index.{Index}
+use Rattle.task_code.specs.declared.code.Index.TheVariants as index
+use Rattle.task_code.specs.declared.code.Cell.{Cell}
+use Rattle.task_code.specs.declared.code.Operand.{Operand}
+use Rattle.task_code.specs.declared.code.Operand.TheVariants as operand
+use Rattle.task_code.specs.declared.code.Expr.{Expr}
+use Rattle.task_code.specs.declared.code.Expr.TheVariants.{One, Two}
+use Rattle.task_code.specs.declared.code.Action.{Action}
+use Rattle.task_code.specs.declared.code.Action.TheVariants as action
+use Rattle.task_code.specs.declared.code.Line.{Line}
+use Rattle.task_code.specs.declared.code.Line.TheVariants as line
 use Rattle.job_words.specs.Words.{Word, Words, name_at, index_word, noted}
 use Rattle.job_words.specs.Exprs.{Names, cell_word, operand_word, operator_word, expr_words}
 use Rattle.job_words.specs.Lines.{kind_word, action_words, line_words, line_names, line_fits}

@@ -2,8 +2,8 @@
 use Rattle.std.proofs.Common.{◌≡◌, ℕ, ◌∷◌, Result, Err, ap, sym, ◌∙◌}
 use Rattle.text_lines.specs.declared.refusal.Code.{Code}
 use Rattle.superstep_memory.specs.declared.arrays.PutKind.{PutKind}
-use Rattle.task_lang.specs.declared.code.Cell.{Cell}
-use Rattle.task_lang.specs.declared.code.Expr.{Expr}
+use Rattle.task_code.specs.declared.code.Cell.{Cell}
+use Rattle.task_code.specs.declared.code.Expr.{Expr}
 use Rattle.job_words.specs.Faults.{both, made}
 use Rattle.job_words.specs.Words.{Word, Words, declared_at}
 use Rattle.job_words.specs.Exprs.{Names, cell_of, expr_of}

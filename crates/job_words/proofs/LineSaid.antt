@@ -29,13 +29,13 @@ use Rattle.std.specs.Prelude.{if◌then◌else◌, unwrap_or}
 use Rattle.std.specs.Str.{bytes_eq}
 use Rattle.text_lines.specs.declared.refusal.Code.{Code}
 use Rattle.text_lines.specs.declared.refusal.Code.TheVariants.{BadLine}
-use Rattle.task_lang.specs.Names.{is_among}
-use Rattle.task_lang.specs.Limits.{is_expr}
-use Rattle.task_lang.specs.Mentions as mentions
-use Rattle.task_lang.specs.declared.code.Expr.{Expr}
-use Rattle.task_lang.specs.declared.code.Action.TheVariants as action
-use Rattle.task_lang.specs.declared.code.Line.{Line}
-use Rattle.task_lang.specs.declared.code.Line.TheVariants as line
+use Rattle.task_code.specs.Names.{is_among}
+use Rattle.task_code.specs.Limits.{is_expr}
+use Rattle.task_code.specs.Mentions as mentions
+use Rattle.task_code.specs.declared.code.Expr.{Expr}
+use Rattle.task_code.specs.declared.code.Action.TheVariants as action
+use Rattle.task_code.specs.declared.code.Line.{Line}
+use Rattle.task_code.specs.declared.code.Line.TheVariants as line
 use Rattle.job_words.specs.declared.lines.Keyword.{Keyword}
 use Rattle.superstep_memory.specs.declared.arrays.PutKind.{PutKind}
 use Rattle.superstep_memory.specs.declared.arrays.PutKind.TheVariants.{Set, Add}

@@ -2,7 +2,7 @@
 use Rattle.std.proofs.Common.{◌≡◌, ℕ, ◌+◌, Bool, true, false, List, [], ◌∷◌, ◌++◌, Option, Some, None, refl, sym, ap}
 use Rattle.std.specs.Prelude.{if◌then◌else◌, ◌||◌}
 use Rattle.std.specs.Str.{bytes_eq}
-use Rattle.task_lang.specs.Names.{is_among}
+use Rattle.task_code.specs.Names.{is_among}
 use Rattle.std.specs.Borrow.{Bor}
 use Rattle.job_words.specs.Views.{lent}
 use Rattle.job_words.specs.Words.{Word, place_from, noted}

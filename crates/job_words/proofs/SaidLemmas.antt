@@ -42,17 +42,17 @@ use Rattle.std.proofs.lemmas.List.Folds.{list_all-append}
 use Rattle.text_lines.specs.declared.refusal.Code.{Code}
 use Rattle.text_lines.specs.Number.{number_of}
 use Rattle.text_lines.proofs.NumbersLemmas.{numbers_law}
-use Rattle.task_lang.specs.Limits.{is_operand, is_expr}
-use Rattle.task_lang.specs.Mentions as mentions
-use Rattle.task_lang.specs.declared.code.Index.{Index}
-use Rattle.task_lang.specs.declared.code.Index.TheVariants as index
-use Rattle.task_lang.specs.declared.code.Cell.{Cell}
-use Rattle.task_lang.specs.declared.code.Operand.{Operand}
-use Rattle.task_lang.specs.declared.code.Operand.TheVariants as operand
-use Rattle.task_lang.specs.declared.code.Operator.{Operator}
-use Rattle.task_lang.specs.declared.code.Operator.TheVariants.{Add, Subtract, Multiply, Divide, Remainder, Below, AtMost, Equal, NotEqual}
-use Rattle.task_lang.specs.declared.code.Expr.{Expr}
-use Rattle.task_lang.specs.declared.code.Expr.TheVariants.{One}
+use Rattle.task_code.specs.Limits.{is_operand, is_expr}
+use Rattle.task_code.specs.Mentions as mentions
+use Rattle.task_code.specs.declared.code.Index.{Index}
+use Rattle.task_code.specs.declared.code.Index.TheVariants as index
+use Rattle.task_code.specs.declared.code.Cell.{Cell}
+use Rattle.task_code.specs.declared.code.Operand.{Operand}
+use Rattle.task_code.specs.declared.code.Operand.TheVariants as operand
+use Rattle.task_code.specs.declared.code.Operator.{Operator}
+use Rattle.task_code.specs.declared.code.Operator.TheVariants.{Add, Subtract, Multiply, Divide, Remainder, Below, AtMost, Equal, NotEqual}
+use Rattle.task_code.specs.declared.code.Expr.{Expr}
+use Rattle.task_code.specs.declared.code.Expr.TheVariants.{One}
 use Rattle.job_words.specs.Faults.{both, made}
 use Rattle.job_words.specs.Words.{
   Word,

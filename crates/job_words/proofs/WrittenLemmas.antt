@@ -34,10 +34,10 @@ use Rattle.std.proofs.lemmas.Slice.Eq.{bytes_eq-Decides}
 use Rattle.std.proofs.lemmas.Grind.{common_steps}
 use Rattle.text_lines.specs.declared.refusal.Code.{Code}
 use Rattle.text_lines.specs.declared.refusal.Code.TheVariants.{Reserved, BadName}
-use Rattle.task_lang.specs.Names.{is_lower, is_name, is_reserved, is_free, is_among, are_names}
-use Rattle.task_lang.specs.declared.code.Index.TheVariants as index
-use Rattle.task_lang.specs.declared.code.Operator.{Operator}
-use Rattle.task_lang.specs.declared.code.Operator.TheVariants.{
+use Rattle.task_code.specs.Names.{is_lower, is_name, is_reserved, is_free, is_among, are_names}
+use Rattle.task_code.specs.declared.code.Index.TheVariants as index
+use Rattle.task_code.specs.declared.code.Operator.{Operator}
+use Rattle.task_code.specs.declared.code.Operator.TheVariants.{
   Add,
   Subtract,
   Multiply,

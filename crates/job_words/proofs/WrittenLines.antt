@@ -2,15 +2,15 @@
 use Rattle.std.proofs.Common.{◌≡◌, ℕ, ◌<◌, Bool, true, false, List, [], ◌∷◌, length, Option, Some, Result, Ok, refl, ap, ◌∙◌, codes, zero-add}
 use Rattle.std.specs.Prelude.{unwrap_or}
 use Rattle.text_lines.specs.declared.refusal.Code.{Code}
-use Rattle.task_lang.specs.Names.{are_names}
+use Rattle.task_code.specs.Names.{are_names}
 use Rattle.superstep_memory.specs.declared.arrays.PutKind.{PutKind}
 use Rattle.superstep_memory.specs.declared.arrays.PutKind.TheVariants.{Set, Add}
-use Rattle.task_lang.specs.declared.code.Cell.{Cell}
-use Rattle.task_lang.specs.declared.code.Expr.{Expr}
-use Rattle.task_lang.specs.declared.code.Action.{Action}
-use Rattle.task_lang.specs.declared.code.Action.TheVariants as action
-use Rattle.task_lang.specs.declared.code.Line.{Line}
-use Rattle.task_lang.specs.declared.code.Line.TheVariants as line
+use Rattle.task_code.specs.declared.code.Cell.{Cell}
+use Rattle.task_code.specs.declared.code.Expr.{Expr}
+use Rattle.task_code.specs.declared.code.Action.{Action}
+use Rattle.task_code.specs.declared.code.Action.TheVariants as action
+use Rattle.task_code.specs.declared.code.Line.{Line}
+use Rattle.task_code.specs.declared.code.Line.TheVariants as line
 use Rattle.job_words.specs.Faults.{both, made}
 use Rattle.job_words.specs.Words.{Word, place_from, name_at}
 use Rattle.job_words.specs.Exprs.{Names, cell_word, expr_words, expr_of}

@@ -23,12 +23,12 @@ use Rattle.std.specs.Option.{option_map}
 use Rattle.std.specs.Str.{bytes_eq}
 use Rattle.text_lines.specs.declared.refusal.Code.{Code}
 use Rattle.text_lines.specs.declared.refusal.Code.TheVariants.{BadLine}
-use Rattle.task_lang.specs.declared.code.Index.{Index}
-use Rattle.task_lang.specs.declared.code.Cell.{Cell}
-use Rattle.task_lang.specs.declared.code.Operand.{Operand}
-use Rattle.task_lang.specs.declared.code.Operand.TheVariants as operand
-use Rattle.task_lang.specs.declared.code.Operator.{Operator}
-use Rattle.task_lang.specs.declared.code.Operator.TheVariants.{
+use Rattle.task_code.specs.declared.code.Index.{Index}
+use Rattle.task_code.specs.declared.code.Cell.{Cell}
+use Rattle.task_code.specs.declared.code.Operand.{Operand}
+use Rattle.task_code.specs.declared.code.Operand.TheVariants as operand
+use Rattle.task_code.specs.declared.code.Operator.{Operator}
+use Rattle.task_code.specs.declared.code.Operator.TheVariants.{
   Add,
   Subtract,
   Multiply,
@@ -39,8 +39,8 @@ use Rattle.task_lang.specs.declared.code.Operator.TheVariants.{
   Equal,
   NotEqual,
 }
-use Rattle.task_lang.specs.declared.code.Expr.{Expr}
-use Rattle.task_lang.specs.declared.code.Expr.TheVariants.{One, Two}
+use Rattle.task_code.specs.declared.code.Expr.{Expr}
+use Rattle.task_code.specs.declared.code.Expr.TheVariants.{One, Two}
 use Rattle.job_words.specs.Faults.{both, made}
 use Rattle.job_words.specs.Words.{Word, Words, name_at, declared_at, index_word, index_of, in_index}
 

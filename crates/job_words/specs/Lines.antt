@@ -27,16 +27,16 @@ use Rattle.std.specs.Str.{bytes_eq}
 use Rattle.std.specs.List.{list_all}
 use Rattle.superstep_memory.specs.declared.arrays.PutKind.{PutKind}
 use Rattle.superstep_memory.specs.declared.arrays.PutKind.TheVariants.{Set, Add}
-use Rattle.task_lang.specs.Limits.{is_expr, is_action, is_set}
-use Rattle.task_lang.specs.Mentions.{in_line}
+use Rattle.task_code.specs.Limits.{is_expr, is_action, is_set}
+use Rattle.task_code.specs.Mentions.{in_line}
 use Rattle.text_lines.specs.declared.refusal.Code.{Code}
 use Rattle.text_lines.specs.declared.refusal.Code.TheVariants.{BadLine, BadNesting, UnknownLine}
-use Rattle.task_lang.specs.declared.code.Cell.{Cell}
-use Rattle.task_lang.specs.declared.code.Expr.{Expr}
-use Rattle.task_lang.specs.declared.code.Action.{Action}
-use Rattle.task_lang.specs.declared.code.Action.TheVariants as action
-use Rattle.task_lang.specs.declared.code.Line.{Line}
-use Rattle.task_lang.specs.declared.code.Line.TheVariants as line
+use Rattle.task_code.specs.declared.code.Cell.{Cell}
+use Rattle.task_code.specs.declared.code.Expr.{Expr}
+use Rattle.task_code.specs.declared.code.Action.{Action}
+use Rattle.task_code.specs.declared.code.Action.TheVariants as action
+use Rattle.task_code.specs.declared.code.Line.{Line}
+use Rattle.task_code.specs.declared.code.Line.TheVariants as line
 use Rattle.job_words.specs.declared.lines.Keyword.{Keyword}
 use Rattle.job_words.specs.declared.lines.Keyword.TheVariants.{Let, Put, Print, Spawn, Sync, Stop, If, Else, While, End}
 use Rattle.job_words.specs.Faults.{both, made, checked}

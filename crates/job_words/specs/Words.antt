@@ -30,9 +30,9 @@ use Rattle.text_lines.specs.declared.refusal.Code.{Code}
 use Rattle.text_lines.specs.declared.refusal.Code.TheVariants.{BadName, BadNumber, UnknownName, Reserved}
 use Rattle.text_lines.specs.Number.{number_of}
 pub use Rattle.text_lines.specs.Number.{begins_number}
-use Rattle.task_lang.specs.Names.{is_name, is_reserved, is_among}
-use Rattle.task_lang.specs.declared.code.Index.{Index}
-use Rattle.task_lang.specs.declared.code.Index.TheVariants as index
+use Rattle.task_code.specs.Names.{is_name, is_reserved, is_among}
+use Rattle.task_code.specs.declared.code.Index.{Index}
+use Rattle.task_code.specs.declared.code.Index.TheVariants as index
 use Rattle.job_words.specs.Faults.{both, made}
 
 abbrev pub Word : Type 0

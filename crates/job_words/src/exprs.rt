@@ -5,7 +5,7 @@ ghost use Rattle.job_words.specs.Views.{lent, names_in};
 
 use crate::faults::both;
 use crate::words::{declared_at, index_of, is_word};
-use task_lang::code::{Cell, Expr, Operand, Operator};
+use task_code::code::{Cell, Expr, Operand, Operator};
 use text_lines::Code;
 
 /// The names that a line may use.

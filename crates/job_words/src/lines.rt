@@ -7,7 +7,7 @@ use crate::exprs::{Scope, cell_of, expr_of};
 use crate::faults::both;
 use crate::words::{declared_at, is_word, named, place, take_word};
 use superstep_memory::arrays::PutKind;
-use task_lang::code::{Action, Line};
+use task_code::code::{Action, Line};
 use text_lines::Code;
 
 /// The first word of a line in a body.

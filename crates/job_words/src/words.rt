@@ -3,12 +3,12 @@ ghost use Rattle.std.specs.Prelude.{◌≡◌, ◌≤◌, ◌<◌, ◌∷◌, []
 ghost use Rattle.std.specs.Int.{w64};
 ghost use Rattle.std.specs.Str.{bytes_eq};
 ghost use Rattle.job_words.specs.Words as spec;
-ghost use Rattle.task_lang.specs.Names.{is_among};
+ghost use Rattle.task_code.specs.Names.{is_among};
 ghost use Rattle.job_words.specs.Views.{lent};
 
 use crate::faults::both;
-use task_lang::code::Index;
-use task_lang::names::{is_name, is_reserved};
+use task_code::code::Index;
+use task_code::names::{is_name, is_reserved};
 use text_lines::{Code, begins_number, number};
 
 /// Whether two words are the same.

@@ -1,4 +1,2 @@
-pub mod PassedBytes
-pub mod ReadBytes
 pub mod ReportProofs
 pub mod ReportLawProofs

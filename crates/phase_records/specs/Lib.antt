@@ -1,4 +1,4 @@
-pub mod Device
+pub use Rattle.devices.specs.Device
 pub mod PrintValue
 pub mod Status
 pub mod StatusSeen

@@ -7,9 +7,9 @@ use Rattle.tier_steps.specs.declared.view.OpeningStage.TheVariants.{Seeking}
 use Rattle.tier_core.specs.declared.call.Progress.TheVariants.{Seeking as ToSeek}
 use Rattle.tier_core.specs.declared.call.Step.TheVariants.{Go}
 use Rattle.tier_core.specs.Machine.{view_at}
-use Rattle.tier_answers.proofs.Stepping.{fitting}
-use Rattle.tier_answers.proofs.Members.{open_tiers_admit}
-use Rattle.tier_answers.proofs.Opens.{awaited_tiers_wait}
+use Rattle.tier_laws.proofs.Stepping.{fitting}
+use Rattle.tier_laws.proofs.Members.{open_tiers_admit}
+use Rattle.tier_laws.proofs.Opens.{awaited_tiers_wait}
 use Rattle.schedule_laws.specs.Roles.{Role, Here, Seeks, Ready, Plays}
 use Rattle.schedule_laws.specs.Cast.{HomesAdmit}
 use Rattle.schedule_laws.proofs.Quiet.{is_forcing, goes_stay, keeps_the_cast}

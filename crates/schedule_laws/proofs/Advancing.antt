@@ -18,21 +18,21 @@ use Rattle.tier_core.specs.declared.call.Step.TheVariants.{Finish}
 use Rattle.tier_core.specs.Machine.{State as Tree}
 use Rattle.tier_core.specs.Run.{after, answer_to, may_finish, finish_at, plan_ends}
 use Rattle.tier_core.proofs.Turns.{not_both}
-use Rattle.tier_answers.specs.Frame.{flat_of}
-use Rattle.tier_answers.specs.Plan.{flat_ends}
-use Rattle.tier_answers.proofs.Planning.{known_due}
+use Rattle.tier_laws.specs.Frame.{flat_of}
+use Rattle.tier_laws.specs.Plan.{flat_ends}
+use Rattle.tier_laws.proofs.Planning.{known_due}
 use Rattle.step_core.specs.Superstep.{State}
 use Rattle.step_core.specs.JobMeaning.{status, status_of}
 use Rattle.schedule_laws.specs.Roles.{Role, Out, Late, Polls, Here, Looks, Passes, Owes, Leads, Past}
 use Rattle.schedule_laws.specs.Cast.{role_at, IsCast, IsTurned, members_in, is_awaited, is_leading, is_settled, turned}
 use Rattle.schedule_laws.proofs.Playing.{nobody_leads, leaders_are_alone, leads_is_due, members_are_in_roles}
 use Rattle.schedule_laws.proofs.Casting.{advances_turn_the_cast}
-use Rattle.job_participants.specs.declared.stage.Stage.{Stage}
-use Rattle.job_participants.specs.declared.stage.Stage.TheVariants.{Waits, Taken, Polling, Joining, Arriving, Leaving, Over}
-use Rattle.job_participants.specs.declared.stage.Move.TheVariants.{Advances}
-use Rattle.job_participants.specs.declared.stage.Mode.TheVariants as mode
-use Rattle.job_participants.specs.ParticipantValue.{KidValue, ParticipantValue, no_participant, participant_at, kid_at, is_over, all_over, waiting, own_participant, kid_participant, living_participants}
-use Rattle.job_participants.specs.Moves.{at_stage}
+use Rattle.job_schedule.specs.declared.stage.Stage.{Stage}
+use Rattle.job_schedule.specs.declared.stage.Stage.TheVariants.{Waits, Taken, Polling, Joining, Arriving, Leaving, Over}
+use Rattle.job_schedule.specs.declared.stage.Move.TheVariants.{Advances}
+use Rattle.job_schedule.specs.declared.stage.Mode.TheVariants as mode
+use Rattle.job_schedule.specs.ParticipantValue.{KidValue, ParticipantValue, no_participant, participant_at, kid_at, is_over, all_over, waiting, own_participant, kid_participant, living_participants}
+use Rattle.job_schedule.specs.Moves.{at_stage}
 use Rattle.job_schedule.specs.World.{World, advanced_by, has_advanced, done_by}
 use Rattle.schedule_laws.specs.Working.{passage_if, IsOwnPassing, OwnFits, SitsAt, Sits, of_participant, of_all, AreShared, IsWorking, IsTurning}
 use Rattle.schedule_laws.proofs.Sharing.{own_in, known_in, others_own}

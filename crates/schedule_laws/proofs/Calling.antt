@@ -15,8 +15,8 @@ use Rattle.tier_core.specs.declared.call.Step.TheVariants.{Begin, Go, Finish}
 use Rattle.tier_core.specs.Machine.{State, view_at, call_at, turn_at, is_active, played}
 use Rattle.tier_core.specs.Run.{after, answer_to, may_begin, may_go, may_finish, may_call, is_idle, begun, finish_at, plan_ends}
 use Rattle.tier_core.proofs.Turns.{not_both}
-use Rattle.tier_answers.specs.Frame.{flat_of}
-use Rattle.tier_answers.specs.Calls.{is_poll}
+use Rattle.tier_laws.specs.Frame.{flat_of}
+use Rattle.tier_laws.specs.Calls.{is_poll}
 use Rattle.schedule_laws.specs.Roles.{Role, Out, Joins, Seeks, Settles, GivesBack, Late, Polls, Ready, Here, Looks, Passes, Owes, Leads, Past, Plays}
 use Rattle.schedule_laws.specs.Cast.{role_at, IsCast, is_on_its_way, Follows, Begins}
 use Rattle.schedule_laws.proofs.Admitting.{homes_admit}

@@ -18,12 +18,12 @@ use Rattle.tier_core.specs.Machine.{State, IsCore, view_at, call_at, with_token,
 use Rattle.tier_core.specs.Run.{IsCall, after, may_begin, may_finish, begun, may_call, is_idle}
 use Rattle.tier_core.proofs.Turns.{not_both}
 use Rattle.tier_core.proofs.Opening.{token_core, entry_before, entry_last}
-use Rattle.tier_answers.specs.Frame.{flat_of}
-use Rattle.tier_answers.specs.Calls.{call_by, is_poll}
-use Rattle.tier_answers.proofs.Holding.{advances_are_alone}
-use Rattle.tier_answers.proofs.Stepping.{only_advances_move, fitting}
-use Rattle.tier_answers.proofs.Members.{advances_keep_members}
-use Rattle.tier_answers.proofs.Rounding.{advances_begin_the_phase}
+use Rattle.tier_laws.specs.Frame.{flat_of}
+use Rattle.tier_laws.specs.Calls.{call_by, is_poll}
+use Rattle.tier_laws.proofs.Holding.{advances_are_alone}
+use Rattle.tier_laws.proofs.Stepping.{only_advances_move, fitting}
+use Rattle.tier_laws.proofs.Members.{advances_keep_members}
+use Rattle.tier_laws.proofs.Rounding.{advances_begin_the_phase}
 use Rattle.schedule_laws.specs.Roles.{Role, Out, Joins, Seeks, Settles, GivesBack, Late, Polls, Ready, Here, Looks, Passes, Owes, Leads, Past, Plays, IsLate, IsReady}
 use Rattle.schedule_laws.specs.Cast.{role_at, IsCast, is_awaited, is_leading, is_settled, turned, BeginningsKeepTheCast, AdvancesTurnTheCast, NewTokensAreOut}
 use Rattle.schedule_laws.proofs.Playing.{kept_by_others, plays_stay, leads_is_due, due_owes, nobody_leads}

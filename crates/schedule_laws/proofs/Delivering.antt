@@ -12,11 +12,12 @@ use Rattle.step_core.specs.OrderValue.{has_synced, spawned_paths}
 use Rattle.schedule_laws.specs.Roles.{Role, Out}
 use Rattle.schedule_laws.specs.Cast.{role_at}
 use Rattle.schedule_laws.proofs.Casting.{new_tokens_are_out}
-use Rattle.job_participants.specs.declared.stage.Stage.{Stage}
-use Rattle.job_participants.specs.declared.stage.Stage.TheVariants.{Waits, Taken, Polling}
-use Rattle.job_participants.specs.declared.stage.Move.TheVariants.{Takes, Delivers}
-use Rattle.job_participants.specs.ParticipantValue.{KidValue, ParticipantValue, no_participant, no_kid, participant_at, kid_at}
-use Rattle.job_participants.specs.Moves.{at_stage, preferred, number_in, last_number}
+use Rattle.job_schedule.specs.declared.stage.Stage.{Stage}
+use Rattle.job_schedule.specs.declared.stage.Stage.TheVariants.{Waits, Taken, Polling}
+use Rattle.job_schedule.specs.declared.stage.Move.TheVariants.{Takes, Delivers}
+use Rattle.job_schedule.specs.ParticipantValue.{KidValue, ParticipantValue, no_participant, no_kid, participant_at, kid_at}
+use Rattle.tier_shape.specs.Preferred.{preferred, number_in, last_number}
+use Rattle.job_schedule.specs.Moves.{at_stage}
 use Rattle.job_schedule.specs.World.{World, with_kid, kid_from, with_kids, noted, deed_of, done_by}
 use Rattle.schedule_laws.specs.Working.{SitsAt, Sits, of_participant, of_all, IsWorking}
 use Rattle.schedule_laws.proofs.Sharing.{own_in}

@@ -11,7 +11,7 @@ use Rattle.step_core.specs.Program.{Program}
 use Rattle.step_core.specs.Superstep.{State, segments, first_fault, too_many, overflow, or_next, fault_in, superstep, closed, next_live, live_paths}
 use Rattle.step_core.specs.JobMeaning.{status, unless_ended, so_far}
 use Rattle.step_core.specs.OrderValue.{spawned_paths}
-use Rattle.job_participants.specs.ParticipantValue.{ParticipantValue, participant_at, participant_path, kid_path}
+use Rattle.job_schedule.specs.ParticipantValue.{ParticipantValue, participant_at, participant_path, kid_path}
 use Rattle.job_schedule.specs.World.{World, deed_in, deed_of}
 use Rattle.job_schedule.specs.Laws.{IsStanding}
 use Rattle.job_schedule.proofs.Jobs.{IsOf}

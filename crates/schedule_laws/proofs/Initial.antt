@@ -17,23 +17,23 @@ use Rattle.tier_core.specs.Machine.{State as Tree, IsCore, view_at, call_at, is_
 use Rattle.tier_core.specs.Run.{after}
 use Rattle.tier_core.proofs.Turns.{not_both}
 use Rattle.tier_core.proofs.Opening.{opened_core, token_core, entry_before, entry_last}
-use Rattle.tier_answers.specs.Frame.{flat_of}
-use Rattle.tier_answers.specs.Fresh.{IsFresh, IsJoined, join_alone}
-use Rattle.tier_answers.specs.Moments.{Takes, run_of, moments}
-use Rattle.tier_answers.specs.Calls.{IsPlaced}
-use Rattle.tier_answers.proofs.Opens.{joins_are_done_alone, new_trees_are_fresh, new_tokens_keep_it_fresh}
-use Rattle.tier_answers.proofs.Holding.{is_awaited as awaited_by}
-use Rattle.tier_answers.proofs.Stepping.{fitting}
+use Rattle.tier_laws.specs.Frame.{flat_of}
+use Rattle.tier_laws.specs.Fresh.{IsFresh, IsJoined, join_alone}
+use Rattle.tier_laws.specs.Moments.{Takes, run_of, moments}
+use Rattle.tier_laws.specs.Calls.{IsPlaced}
+use Rattle.tier_laws.proofs.Opens.{joins_are_done_alone, new_trees_are_fresh, new_tokens_keep_it_fresh}
+use Rattle.tier_laws.proofs.Holding.{is_awaited as awaited_by}
+use Rattle.tier_laws.proofs.Stepping.{fitting}
 use Rattle.phase_records.specs.Status.{Limit as IsAtLimit}
 use Rattle.step_core.specs.Program.{Program}
 use Rattle.step_core.specs.Superstep.{live_paths}
 use Rattle.step_core.specs.JobMeaning.{initial, start_tasks, status, status_of}
 use Rattle.task_lang.specs.Meaning.{Plan, Task}
-use Rattle.task_lang.specs.declared.job.Start.{Start}
+use Rattle.task_code.specs.declared.job.Start.{Start}
 use Rattle.schedule_laws.specs.Roles.{Role, Out, Late, Plays}
 use Rattle.schedule_laws.specs.Cast.{role_at}
-use Rattle.job_participants.specs.ParticipantValue.{ParticipantValue, no_participant, participant_at, waiting}
-use Rattle.job_participants.specs.Moves.{leaf_at}
+use Rattle.job_schedule.specs.ParticipantValue.{ParticipantValue, no_participant, participant_at, waiting}
+use Rattle.tier_shape.specs.Preferred.{leaf_at}
 use Rattle.job_schedule.specs.World.{World, gone, joined_at, plan_for, empty_world, with_start, with_starts, initial_world}
 use Rattle.schedule_laws.specs.Working.{Sits, of_participant, of_all, AreShared, IsBuilt, IsWorking, IsKept}
 use Rattle.schedule_laws.specs.Laws.{IsDriven}

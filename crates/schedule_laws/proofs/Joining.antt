@@ -20,13 +20,13 @@ use Rattle.tier_core.specs.Turn.{end_shown, claimed_by, is_refusing, is_claimabl
 use Rattle.tier_core.specs.Machine.{State, IsCore, view_at}
 use Rattle.tier_core.specs.Run.{after}
 use Rattle.tier_core.proofs.Turns.{not_both}
-use Rattle.tier_answers.specs.Frame.{flat_of}
-use Rattle.tier_answers.specs.Calls.{RootStays, view_then, call_then, answer_then, is_settling}
-use Rattle.tier_answers.proofs.Holding.{is_awaited as awaited_by}
-use Rattle.tier_answers.proofs.Memory.{by_turn}
-use Rattle.tier_answers.proofs.Stepping.{Gone, gone, fitting}
-use Rattle.tier_answers.proofs.Seeking.{joined_phase}
-use Rattle.tier_answers.proofs.Members.{joins_begin_with_a_look, settling_keeps_members, refused_size, still_going}
+use Rattle.tier_laws.specs.Frame.{flat_of}
+use Rattle.tier_laws.specs.Calls.{RootStays, view_then, call_then, answer_then, is_settling}
+use Rattle.tier_laws.proofs.Holding.{is_awaited as awaited_by}
+use Rattle.tier_laws.proofs.Memory.{by_turn}
+use Rattle.tier_laws.proofs.Stepping.{Gone, gone, fitting}
+use Rattle.tier_laws.proofs.Seeking.{joined_phase}
+use Rattle.tier_laws.proofs.Members.{joins_begin_with_a_look, settling_keeps_members, refused_size, still_going}
 use Rattle.schedule_laws.specs.Roles.{Role, Out, Joins, Seeks, Settles, GivesBack, Ready, Plays, is_refused}
 use Rattle.schedule_laws.proofs.Quiet.{core_after, Goes, known_after}
 

@@ -16,15 +16,15 @@ use Rattle.tier_core.specs.declared.call.Step.TheVariants.{Begin, Go}
 use Rattle.tier_core.specs.Machine.{State as Tree, call_at, is_due}
 use Rattle.tier_core.specs.Run.{after, answer_to, may_finish}
 use Rattle.tier_core.proofs.Turns.{not_both}
-use Rattle.tier_answers.specs.Frame.{flat_of}
-use Rattle.tier_answers.specs.Calls.{call_by}
+use Rattle.tier_laws.specs.Frame.{flat_of}
+use Rattle.tier_laws.specs.Calls.{call_by}
 use Rattle.schedule_laws.specs.Roles.{Role, Out, Joins, Seeks, Late, Polls, Ready, Here, Looks, Leads, Plays, is_refused as turns_away}
 use Rattle.schedule_laws.specs.Cast.{role_at, IsCast, is_awaited, is_leading}
 use Rattle.schedule_laws.proofs.Playing.{nobody_leads, home_within, leads_is_due}
-use Rattle.job_participants.specs.declared.stage.Stage.{Stage}
-use Rattle.job_participants.specs.declared.stage.Stage.TheVariants.{Waits, Taken, Polling, Joining, Arriving, Leaving, Over}
-use Rattle.job_participants.specs.declared.stage.Move.TheVariants.{Calls}
-use Rattle.job_participants.specs.ParticipantValue.{KidValue, ParticipantValue, participant_at, kid_at, answered}
+use Rattle.job_schedule.specs.declared.stage.Stage.{Stage}
+use Rattle.job_schedule.specs.declared.stage.Stage.TheVariants.{Waits, Taken, Polling, Joining, Arriving, Leaving, Over}
+use Rattle.job_schedule.specs.declared.stage.Move.TheVariants.{Calls}
+use Rattle.job_schedule.specs.ParticipantValue.{KidValue, ParticipantValue, participant_at, kid_at, answered}
 use Rattle.job_schedule.specs.World.{World, called_by, hand_after, done_by}
 use Rattle.schedule_laws.specs.Working.{passage_if, ComesTo, ArrivesAt, SitsAt, Sits, of_participant, IsWorking}
 use Rattle.schedule_laws.proofs.Sharing.{one, own_in, kid_in, known_in, kid_not_own, kids_differ}

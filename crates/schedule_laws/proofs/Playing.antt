@@ -14,13 +14,13 @@ use Rattle.tier_core.specs.Machine.{State, IsCore, view_at, call_at, is_due, Cal
 use Rattle.tier_core.specs.Turn.{claimed_by}
 use Rattle.tier_core.specs.Run.{after}
 use Rattle.tier_core.proofs.Turns.{not_both}
-use Rattle.tier_answers.specs.Frame.{flat_of, actor}
-use Rattle.tier_answers.specs.Hold.{IsAwaited}
-use Rattle.tier_answers.specs.Calls.{RootStays, is_poll}
-use Rattle.tier_answers.proofs.Framing.{others_stay}
-use Rattle.tier_answers.proofs.Stepping.{fitting}
+use Rattle.tier_laws.specs.Frame.{flat_of, actor}
+use Rattle.tier_laws.specs.Hold.{IsAwaited}
+use Rattle.tier_laws.specs.Calls.{RootStays, is_poll}
+use Rattle.tier_laws.proofs.Framing.{others_stay}
+use Rattle.tier_laws.proofs.Stepping.{fitting}
 use Rattle.tier_steps.specs.Told.{is_under_way}
-use Rattle.tier_answers.proofs.Holding.{awaited_tokens_hold, advances_are_alone, members_are_the_tokens, fits_at}
+use Rattle.tier_laws.proofs.Holding.{awaited_tokens_hold, advances_are_alone, members_are_the_tokens, fits_at}
 use Rattle.schedule_laws.specs.Roles.{Role, Out, Joins, Seeks, Settles, GivesBack, Late, Polls, Ready, Here, Looks, Passes, Owes, Leads, Past, Plays, IsOut, IsLate, IsReady, HasCounted}
 use Rattle.schedule_laws.specs.Cast.{role_at, members_in, is_awaited, is_leading, NobodyLeads, LeadersAreAlone, MembersAreInRoles}
 

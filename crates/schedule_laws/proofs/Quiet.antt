@@ -30,10 +30,10 @@ use Rattle.tier_core.specs.Run.{IsStepOfCalls, after, may_go}
 use Rattle.tier_core.proofs.Turns.{not_both}
 use Rattle.tier_core.proofs.Runs.{step_moves}
 use Rattle.tier_shape.specs.Parents.{parent_of}
-use Rattle.tier_answers.specs.Frame.{flat_of, actor}
-use Rattle.tier_answers.specs.Calls.{moves_root, RootStays, answer_then}
-use Rattle.tier_answers.proofs.Framing.{others_stay}
-use Rattle.tier_answers.proofs.Stepping.{only_advances_move}
+use Rattle.tier_laws.specs.Frame.{flat_of, actor}
+use Rattle.tier_laws.specs.Calls.{moves_root, RootStays, answer_then}
+use Rattle.tier_laws.proofs.Framing.{others_stay}
+use Rattle.tier_laws.proofs.Stepping.{only_advances_move}
 use Rattle.schedule_laws.specs.Roles.{Role, Out, Plays}
 use Rattle.schedule_laws.specs.Cast.{role_at, IsCast, Follows}
 use Rattle.schedule_laws.proofs.Playing.{plays_stay, kept_by_others}

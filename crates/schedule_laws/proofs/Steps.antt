@@ -13,11 +13,11 @@ use Rattle.tier_core.specs.Turn.{own_kind, end_shown}
 use Rattle.tier_core.specs.Machine.{State, IsCore, view_at, call_at}
 use Rattle.tier_core.specs.Run.{after}
 use Rattle.tier_core.proofs.Turns.{not_both}
-use Rattle.tier_answers.specs.Frame.{flat_of}
-use Rattle.tier_answers.specs.Calls.{RootStays, view_then, call_then, answer_then, is_poll, call_by, IsSame, Counts, IsOwnStep}
-use Rattle.tier_answers.proofs.Holding.{is_awaited as awaited_by, fits_at}
-use Rattle.tier_answers.proofs.Stepping.{polls_follow_the_root, fitting, gone}
-use Rattle.tier_answers.proofs.Members.{passes_begin_with_a_look, climbs_keep_members, pass_goes, counted, own_errand, still_going}
+use Rattle.tier_laws.specs.Frame.{flat_of}
+use Rattle.tier_laws.specs.Calls.{RootStays, view_then, call_then, answer_then, is_poll, call_by, IsSame, Counts, IsOwnStep}
+use Rattle.tier_laws.proofs.Holding.{is_awaited as awaited_by, fits_at}
+use Rattle.tier_laws.proofs.Stepping.{polls_follow_the_root, fitting, gone}
+use Rattle.tier_laws.proofs.Members.{passes_begin_with_a_look, climbs_keep_members, pass_goes, counted, own_errand, still_going}
 use Rattle.schedule_laws.specs.Roles.{Role, Out, Joins, Seeks, Settles, GivesBack, Late, Polls, Ready, Here, Looks, Passes, Owes, Leads, Past, Plays, IsLate, IsReady, HasCounted}
 use Rattle.schedule_laws.specs.Cast.{role_at, is_on_its_way, StepsKeepTheCast}
 use Rattle.schedule_laws.proofs.Quiet.{is_forcing, goes_stay, core_after, keeps_the_cast, Goes, known_after}

@@ -6,11 +6,11 @@ use Rattle.std.proofs.lemmas.Bool.{cases_eq}
 use Rattle.std.proofs.lemmas.List.{get_or-set_same, get_or-set_other, length-set}
 use Rattle.std.proofs.lemmas.List.Sums.{sum_by-cons}
 use Rattle.tier_core.specs.Machine.{State}
-use Rattle.tier_answers.specs.Frame.{flat_of}
+use Rattle.tier_laws.specs.Frame.{flat_of}
 use Rattle.schedule_laws.specs.Roles.{Role, Out}
 use Rattle.schedule_laws.specs.Cast.{role_at, IsCast}
-use Rattle.job_participants.specs.declared.stage.Stage.{Stage}
-use Rattle.job_participants.specs.ParticipantValue.{KidValue, ParticipantValue, no_participant, participant_at, kid_at}
+use Rattle.job_schedule.specs.declared.stage.Stage.{Stage}
+use Rattle.job_schedule.specs.ParticipantValue.{KidValue, ParticipantValue, no_participant, participant_at, kid_at}
 use Rattle.job_schedule.specs.World.{World, with_participant}
 use Rattle.schedule_laws.specs.Working.{OwnFits, KidFits, SitsAt, Sits, of_participant, AreShared, IsWorking}
 use Rattle.schedule_laws.proofs.Sharing.{one, others_own, others_kid, free_not}

@@ -12,9 +12,9 @@ use Rattle.tier_core.specs.declared.call.Played.TheVariants.{GoesOn, Done, Passe
 use Rattle.tier_core.specs.declared.call.Step.TheVariants.{Begin, Go, Finish}
 use Rattle.tier_core.specs.Machine.{State, IsCore, with_token}
 use Rattle.tier_core.specs.Run.{after, may_begin}
-use Rattle.tier_answers.specs.Frame.{flat_of}
-use Rattle.tier_answers.specs.Plan.{flat_ends}
-use Rattle.tier_answers.specs.Calls.{answer_then, call_by}
+use Rattle.tier_laws.specs.Frame.{flat_of}
+use Rattle.tier_laws.specs.Plan.{flat_ends}
+use Rattle.tier_laws.specs.Calls.{answer_then, call_by}
 use Rattle.schedule_laws.specs.Roles.{Role, Out, Joins, Seeks, Settles, GivesBack, Late, Polls, Ready, Here, Looks, Passes, Owes, Leads, Past, Plays, is_refused}
 
 abbrev pub role_at : List Role → ℕ → Role

@@ -1,12 +1,12 @@
 -- Three schedules worked out, so that no law of this crate is about nothing (own).
 use Rattle.std.specs.Prelude.{◌≡◌, pos, negsuc, List, [], ◌∷◌}
 use Rattle.phase_records.specs.Status.{Ended, Fault}
-use Rattle.task_lang.specs.declared.code.Action.TheVariants.{Print, Spawn, Sync}
-use Rattle.task_lang.specs.declared.code.Expr.TheVariants.{One, Two}
-use Rattle.task_lang.specs.declared.code.Operand.TheVariants.{Plain}
-use Rattle.task_lang.specs.declared.code.Operator.TheVariants.{Divide}
-use Rattle.task_lang.specs.declared.code.Index.TheVariants.{Number}
-use Rattle.task_lang.specs.Tree.{Done, Do}
+use Rattle.task_code.specs.declared.code.Action.TheVariants.{Print, Spawn, Sync}
+use Rattle.task_code.specs.declared.code.Expr.TheVariants.{One, Two}
+use Rattle.task_code.specs.declared.code.Operand.TheVariants.{Plain}
+use Rattle.task_code.specs.declared.code.Operator.TheVariants.{Divide}
+use Rattle.task_code.specs.declared.code.Index.TheVariants.{Number}
+use Rattle.task_code.specs.Tree.{Done, Do}
 use Rattle.tier_core.specs.declared.call.Cause.TheVariants.{AllArrived}
 use Rattle.tier_core.specs.declared.call.Played.TheVariants.{GoesOn, MustAdvance, Held, Done as IsDone, Ended as IsEnded}
 use Rattle.step_core.specs.Program.{Program}

@@ -3,15 +3,15 @@ use Rattle.std.specs.Prelude.{◌≡◌, ◌≢◌, ℕ, zero, suc, ◌+◌, ◌
 use Rattle.std.specs.List.{AllByRecursion}
 use Rattle.tier_steps.specs.declared.view.Passage.{Passage}
 use Rattle.tier_steps.specs.declared.view.Passage.TheVariants.{Arrival, Departure}
-use Rattle.tier_answers.specs.Frame.{flat_of}
+use Rattle.tier_laws.specs.Frame.{flat_of}
 use Rattle.step_core.specs.JobMeaning.{status}
 use Rattle.schedule_laws.specs.Roles.{Role, Out, Joins, Seeks, Settles, GivesBack, Late, Polls, Ready, Here, Looks, Passes, Owes, Leads, Past}
 use Rattle.schedule_laws.specs.Cast.{role_at, IsCast, turned}
-use Rattle.job_participants.specs.declared.stage.Mode.{Mode}
-use Rattle.job_participants.specs.declared.stage.Mode.TheVariants as mode
-use Rattle.job_participants.specs.declared.stage.Stage.{Stage}
-use Rattle.job_participants.specs.declared.stage.Stage.TheVariants.{Waits, Taken, Polling, Joining, Arriving, Leaving, Over}
-use Rattle.job_participants.specs.ParticipantValue.{KidValue, ParticipantValue, kid_at, participant_at, all_over, living_participants}
+use Rattle.job_schedule.specs.declared.stage.Mode.{Mode}
+use Rattle.job_schedule.specs.declared.stage.Mode.TheVariants as mode
+use Rattle.job_schedule.specs.declared.stage.Stage.{Stage}
+use Rattle.job_schedule.specs.declared.stage.Stage.TheVariants.{Waits, Taken, Polling, Joining, Arriving, Leaving, Over}
+use Rattle.job_schedule.specs.ParticipantValue.{KidValue, ParticipantValue, kid_at, participant_at, all_over, living_participants}
 use Rattle.job_schedule.specs.World.{World, plan_for}
 
 -- a task that synced arrives, any other leaves

@@ -4,7 +4,7 @@ ghost use Rattle.step_core.specs.Program.{program_of};
 ghost use Rattle.schedule_laws.specs.Laws.{IsDriven};
 ghost use Rattle.schedule_laws.specs.Worked.{SchedulesAreWorkedOut};
 
-use task_lang::job::Job;
+use task_code::job::Job;
 use tier_shape::Shape;
 
 /// Whatever job, shape and limit `drive_job` takes is one that the laws speak of: they hold in each of its schedules.

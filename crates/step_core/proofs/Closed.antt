@@ -14,9 +14,9 @@ use Rattle.step_parts.specs.Program.{Program, program_of}
 use Rattle.superstep_memory.specs.PathOrder.{in_path_order}
 use Rattle.step_parts.specs.Superstep.{State, superstep, closed, closed_by, ended_by, gone_on, segments, first_fault, too_many, overflow, or_next, fault_in, next_live, log_of, prints_of, record_of}
 use Rattle.smallvec.specs.SmallVec.{SmallVec}
-use Rattle.task_lang.specs.JobValue.{JobValue}
-use Rattle.task_lang.specs.declared.job.Start.{Start}
-use Rattle.task_lang.specs.BodyValue.{BodyValue}
+use Rattle.task_code.specs.JobValue.{JobValue}
+use Rattle.task_code.specs.declared.job.Start.{Start}
+use Rattle.task_code.specs.BodyValue.{BodyValue}
 use Rattle.step_parts.specs.declared.fault.Outcome.TheVariants.{TooMany, Landed, Overflowed}
 use Rattle.step_parts.specs.Taking.{outcome_of, outcome_by}
 use Rattle.step_parts.specs.JobMeaning.{so_far, status, initial, start_tasks}

@@ -11,10 +11,10 @@ use Rattle.phase_records.specs.declared.record.PhaseRecord.{PhaseRecord}
 use Rattle.phase_records.specs.Status.{Status, Fault, Ended, Limit}
 use Rattle.task_lang.specs.TaskValue.{TaskValue}
 use Rattle.task_lang.specs.Meaning.{Plan, Segment}
-use Rattle.task_lang.specs.declared.job.Start.{Start}
+use Rattle.task_code.specs.declared.job.Start.{Start}
 use Rattle.task_lang.specs.Views.{plans, task_of}
-use Rattle.task_lang.specs.JobValue.{JobValue}
-use Rattle.task_lang.specs.BodyValue.{BodyValue}
+use Rattle.task_code.specs.JobValue.{JobValue}
+use Rattle.task_code.specs.BodyValue.{BodyValue}
 use Rattle.step_deeds.specs.DeedValue.{DeedValue}
 use Rattle.step_parts.specs.Program.{Program, program_of}
 use Rattle.superstep_memory.specs.PathOrder.{in_path_order}

@@ -4,7 +4,7 @@ use Rattle.std.specs.Prelude.{ℤ, is_some}
 use Rattle.std.specs.Option.{option_map}
 use Rattle.step_parts.specs.SlotParts.{path_in, fresh_slot}
 use Rattle.std.proofs.lemmas.List.{length-set}
-use Rattle.task_lang.specs.JobValue.{JobValue}
+use Rattle.task_code.specs.JobValue.{JobValue}
 use Rattle.task_lang.specs.TaskValue.{TaskValue}
 use Rattle.task_lang.specs.SegmentValue.{SegmentValue}
 use Rattle.task_lang.specs.Meaning.{Plan, Task, Segment, segment_of}

@@ -21,8 +21,8 @@ use step_parts::closing::too_many;
 use step_parts::slot::Blame;
 use superstep_memory::arrays::Arrays;
 use superstep_memory::log::land_log;
-use task_lang::body::Body;
-use task_lang::job::{Job, Start};
+use task_code::body::Body;
+use task_code::job::{Job, Start};
 use task_lang::scene::Work;
 use task_lang::task::Task;
 

@@ -19,7 +19,7 @@ use step_parts::reading::{find_near, join_report, prints_of, records_of};
 use step_parts::slot::{Blame, Finished, Slots};
 use superstep_memory::arrays::Arrays;
 use superstep_memory::path::Path;
-use task_lang::job::Job;
+use task_code::job::Job;
 
 /// The supersteps of a job so far, and what was delivered of the next. Its type keeps that its arrays, prints, records,
 /// live tasks and status are those of the job's supersteps so far, and that each delivery is the segment of its order.

@@ -14,7 +14,7 @@ use std::alloc::{AllocError, Global};
 use step_parts::closing::push_prints;
 use step_parts::slot::{Blame, task_path};
 use superstep_memory::arrays::Arrays;
-use task_lang::job::Job;
+use task_code::job::Job;
 use task_lang::scene::{Ending, Work};
 use task_lang::segment::segment_into;
 use task_lang::task::Task;

@@ -1,7 +1,7 @@
 -- What supersteps read of a job (own).
 use Rattle.std.specs.Prelude.{ℕ, ℤ, List}
-use Rattle.task_lang.specs.declared.job.Start.{Start}
-use Rattle.task_lang.specs.JobValue.{JobValue}
+use Rattle.task_code.specs.declared.job.Start.{Start}
+use Rattle.task_code.specs.JobValue.{JobValue}
 use Rattle.task_lang.specs.Meaning.{Plan}
 use Rattle.task_lang.specs.Views.{plans}
 

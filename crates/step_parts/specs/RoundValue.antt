@@ -3,7 +3,7 @@ use Rattle.std.specs.Prelude.{◌≡◌, ℕ, ◌≤◌, ℤ, List, [], ◌∷�
 use Rattle.phase_records.specs.PrintValue.{PrintValue}
 use Rattle.phase_records.specs.declared.record.PhaseRecord.{PhaseRecord}
 use Rattle.phase_records.specs.Status.{Status}
-use Rattle.task_lang.specs.JobValue.{JobValue}
+use Rattle.task_code.specs.JobValue.{JobValue}
 use Rattle.task_lang.specs.Meaning.{Plan, Task, Segment, segment_of}
 use Rattle.task_lang.specs.Views.{plans}
 use Rattle.step_parts.specs.Program.{program_of}

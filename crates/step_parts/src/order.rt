@@ -10,7 +10,7 @@ use std::marker::Model;
 use std::sync::Arc;
 use superstep_memory::arrays::Arrays;
 use superstep_memory::path::Path;
-use task_lang::job::Job;
+use task_code::job::Job;
 use task_lang::segment::segment;
 use task_lang::task::{After, Segment, Task};
 

@@ -3,7 +3,7 @@ use Rattle.std.proofs.Common.{◌≡◌, ◌≤◌, ◌+◌, ◌-◌, ◌++◌, 
 use mathlib.Core.List.{reverse_aux}
 use Rattle.std.proofs.lemmas.List.{drop-map, map-append, drop-append-le, take-append-drop, reverse-append, length-drop, length-take-le}
 use Rattle.task_lang.specs.TaskValue.{TaskValue}
-use Rattle.task_lang.specs.JobValue.{JobValue}
+use Rattle.task_code.specs.JobValue.{JobValue}
 use Rattle.task_lang.specs.Views.{plans, task_of}
 use Rattle.step_parts.specs.Program.{program_of}
 use Rattle.step_parts.specs.JobMeaning.{state_at}

@@ -1,10 +1,10 @@
 -- Stretches are lent and taken back.
 use Rattle.std.proofs.Common.{◌≡◌, ℕ, zero, suc, Bool, true, false, List, [], ◌∷◌, Option, Some, None, slice_get, slice_set, get_or, map, refl, sym, ap, ◌∙◌, subst}
 use Rattle.std.specs.Prelude.{not}
-use Rattle.task_lang.specs.JobValue.{JobValue}
-use Rattle.task_lang.specs.BodyValue.{BodyValue}
+use Rattle.task_code.specs.JobValue.{JobValue}
+use Rattle.task_code.specs.BodyValue.{BodyValue}
 use Rattle.task_lang.specs.TaskValue.{TaskValue}
-use Rattle.task_lang.specs.declared.job.Start.{Start}
+use Rattle.task_code.specs.declared.job.Start.{Start}
 use Rattle.task_lang.specs.Views.{plans, task_of}
 use Rattle.step_parts.specs.Program.{program_of}
 use Rattle.step_parts.specs.JobMeaning.{start_tasks, state_at}

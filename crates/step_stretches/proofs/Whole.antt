@@ -7,7 +7,7 @@ use Rattle.superstep_memory.specs.declared.arrays.Put.{Put}
 use Rattle.superstep_memory.specs.Landing.{joined}
 use Rattle.superstep_memory.specs.Paths.{is_rising}
 use Rattle.phase_records.specs.PrintValue.{PrintValue}
-use Rattle.task_lang.specs.JobValue.{JobValue}
+use Rattle.task_code.specs.JobValue.{JobValue}
 use Rattle.task_lang.specs.TaskValue.{TaskValue}
 use Rattle.task_lang.specs.Meaning.{Plan, Task, After, Segment, Synced, Stopped, Faulted}
 use Rattle.task_lang.specs.Views.{plans, task_of}

@@ -7,7 +7,7 @@ use Rattle.step_stretches.specs.declared.fault.Unclosed.TheVariants as unclosed
 use Rattle.step_stretches.specs.PartValue.{PartValue, StretchValue}
 use Rattle.step_stretches.specs.Parts.{is_finished, deeds_in}
 use Rattle.std.specs.Option.{option_map}
-use Rattle.task_lang.specs.JobValue.{JobValue}
+use Rattle.task_code.specs.JobValue.{JobValue}
 use Rattle.task_lang.specs.TaskValue.{TaskValue}
 use Rattle.task_lang.specs.Meaning.{Segment}
 use Rattle.step_parts.specs.Program.{program_of}

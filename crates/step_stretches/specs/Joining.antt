@@ -1,6 +1,6 @@
 -- How stretches are joined into one (own).
 use Rattle.std.specs.Prelude.{◌≡◌, ℕ, ◌+◌, ◌++◌, List, true, length, Option, Some, None}
-use Rattle.task_lang.specs.JobValue.{JobValue}
+use Rattle.task_code.specs.JobValue.{JobValue}
 use Rattle.step_stretches.specs.PartValue.{PartValue}
 use Rattle.step_stretches.specs.Parts.{AreOwn, covers, is_finished, tasks_in, puts_in, deeds_in, prints_in, fault_in}
 

@@ -1,7 +1,7 @@
 -- A job whose supersteps are taken by stretches (own).
 use Rattle.std.specs.Prelude.{◌≡◌, ◌≤◌, ℕ, Bool, List, Option, Some, None, length, map}
 use Rattle.phase_records.specs.Status.{Status}
-use Rattle.task_lang.specs.JobValue.{JobValue}
+use Rattle.task_code.specs.JobValue.{JobValue}
 use Rattle.task_lang.specs.Views.{plans, task_of}
 use Rattle.step_parts.specs.Program.{program_of}
 use Rattle.step_parts.specs.Superstep.{State}

@@ -8,7 +8,7 @@ ghost use Rattle.step_stretches.specs.Parts.{AreLive, AreOwn, AreFresh, tasks_in
 
 use crate::part::Part;
 use std::alloc::Global;
-use task_lang::job::Job;
+use task_code::job::Job;
 use task_lang::task::Task;
 
 // The most tasks of a stretch.

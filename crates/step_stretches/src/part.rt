@@ -11,7 +11,7 @@ use step_deeds::in_place::{StepScene, do_range};
 use step_parts::slot::{Blame, task_path};
 use superstep_memory::arrays::{Arrays, Put};
 use superstep_memory::path::Path;
-use task_lang::job::Job;
+use task_code::job::Job;
 use task_lang::scene::Work;
 use task_lang::task::Task;
 

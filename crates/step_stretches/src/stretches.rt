@@ -21,7 +21,7 @@ use step_parts::closing::too_many;
 use step_parts::fault::Outcome;
 use step_parts::slot::Blame;
 use superstep_memory::arrays::Arrays;
-use task_lang::job::Job;
+use task_code::job::Job;
 
 /// The supersteps of a job so far, and the stretches of live tasks of the next that aren't lent. Its type keeps that its arrays,
 /// prints, records and status are those of the job's supersteps so far, and that each stretch is of the next.

@@ -4,7 +4,7 @@ use Rattle.std.proofs.lemmas.Grind.{common_steps}
 use Rattle.std.proofs.lemmas.Bool.{eqb-true, cases_order}
 use Rattle.std.specs.Prelude.{◌&&◌, ◌==◌, ◌⊎◌}
 use Rattle.std.specs.List.{filter}
-use Rattle.task_lang.specs.Mentions.{mentioned, mentions, firsts, places}
+use Rattle.task_code.specs.Mentions.{mentioned, mentions, firsts, places}
 use Rattle.task_lang.specs.Laws.{ByFirstMention}
 
 kept : (p : ℕ → Bool) (b : Bool) (x : ℕ) (ys zs : List ℕ) → filter p ys ≡ zs → filter p (if b then x ∷ ys else ys) ≡ (if b && p x then x ∷ zs else zs)

@@ -1,19 +1,9 @@
-pub mod Alls
-pub mod AskedAlong
-pub mod Begins
-pub mod Building
-pub mod Depths
 pub mod AllSegments
+pub mod Begins
+pub mod Behind
+pub mod Firsts
 pub mod Joined
-pub mod Mapped
-pub mod Mentioned
-pub mod Places
-pub mod Reading
+pub mod Played
 pub mod Runs
 pub mod Segments
 pub mod Unread
-mod Firsts
-pub mod Named
-pub mod Behind
-pub mod Said
-pub mod Played

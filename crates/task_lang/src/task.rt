@@ -3,13 +3,13 @@ ghost use Rattle.std.specs.Prelude.{◌≡◌, ◌≤◌, IfOk, length};
 ghost use Rattle.task_lang.specs.Meaning.{started, plan_at};
 ghost use Rattle.task_lang.specs.Views.{plans, task_of};
 
-use crate::body::Body;
 use crate::fault::Fault;
 use smallvec::SmallVec;
 use std::alloc::{AllocError, Global};
 use std::marker::Model;
 use superstep_memory::arrays::Put;
 use superstep_memory::path::Path;
+use task_code::body::Body;
 
 /// A task between two segments.
 #[derive(Drop)]

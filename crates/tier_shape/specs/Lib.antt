@@ -4,3 +4,4 @@ pub mod Leaves
 pub mod Faults
 pub mod Widths
 pub mod Told
+pub mod Preferred

@@ -11,6 +11,7 @@ ghost use Rattle.tier_shape.specs.Widths.{IsBadText, IsDeepText, IsWideText, IsT
 ghost use Rattle.tier_shape.specs.Widths.{TextsSayOneTree, TreesHaveTheirLevels, LeavesAreTheLastLevel, TextsSayShapes};
 ghost use Rattle.tier_shape.specs.Told.{shape_told, TextsAreTold};
 
+pub mod leaves;
 mod widths;
 
 use smallvec::SmallVec;

@@ -4,11 +4,11 @@ use Rattle.tier_steps.specs.declared.view.Errand.TheVariants.{Rest}
 use Rattle.tier_steps.specs.declared.view.Passage.{Passage}
 use Rattle.tier_steps.specs.declared.view.Passage.TheVariants.{Departure}
 use Rattle.tier_core.specs.declared.call.Played.TheVariants as played
-use Rattle.table_tiers.specs.Holding.{Named, Holding}
-use Rattle.table_tiers.specs.Passes.{IsSame, EndSeen, IsFresh}
-use Rattle.table_tiers.specs.Arrives.{IsLooked, HasPassed}
-use Rattle.table_tiers.specs.Joins.{IsJoined, Refusal}
-use Rattle.table_tiers.specs.Polls.{HasPassedOn}
+use Rattle.tier_calls.specs.Holding.{Named, Holding}
+use Rattle.tier_calls.specs.Passes.{IsSame, EndSeen, IsFresh}
+use Rattle.tier_calls.specs.Arrives.{IsLooked, HasPassed}
+use Rattle.tier_calls.specs.Joins.{IsJoined, Refusal}
+use Rattle.tier_calls.specs.Polls.{HasPassedOn}
 use Rattle.tier_table.specs.declared.waiting.Admitted.{Admitted}
 use Rattle.tier_table.specs.declared.waiting.Admitted.TheVariants as admitted
 use Rattle.tier_table.specs.declared.waiting.Counted.{Counted}

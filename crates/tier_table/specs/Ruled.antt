@@ -4,7 +4,7 @@ use Rattle.advance_rule.specs.Stored.{Stored}
 use Rattle.advance_rule.specs.declared.EndPlan.{EndPlan}
 use Rattle.tier_steps.specs.View.{new_view}
 use Rattle.tier_steps.specs.Start.{empty_word}
-use Rattle.table_tiers.specs.Holding.{Named, Holding}
+use Rattle.tier_calls.specs.Holding.{Named, Holding}
 
 -- a tree, and the closure that says when it ends
 pub record Ruled (F : Type 0) : Type 0 where

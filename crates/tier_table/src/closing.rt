@@ -1,8 +1,8 @@
 //! What closing a tree answers.
 
 use crate::tree::Tree;
-pub use table_tiers::closing::{Closed, ClosedToken};
-use table_tiers::tokens::Token;
+pub use tier_calls::closing::{Closed, ClosedToken};
+use tier_calls::tokens::Token;
 
 /// A tree that was not closed, since there was no memory, with the tokens that were handed in.
 #[derive(Drop)]

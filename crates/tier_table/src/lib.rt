@@ -5,4 +5,4 @@ pub mod closing;
 pub mod tree;
 pub mod waiting;
 
-pub use table_tiers::{arriving, forcing, in_place, joining, polling, tokens};
+pub use tier_calls::{arriving, forcing, in_place, joining, polling, tokens};

@@ -1,34 +1,34 @@
 //! The tree of phasers, shared by reference and called from any threads without a lock.
 
 ghost use Rattle.std.specs.Prelude.{◌≡◌, ◌<◌, ◌≤◌, ℕ, Some, IfOk, IfErr, All, length};
-ghost use Rattle.table_tiers.specs.Closes.{held, plain_tokens, views_in, sights_in, TallyWithOthers, IsLeftBy};
+ghost use Rattle.tier_calls.specs.Closes.{held, plain_tokens, views_in, sights_in, TallyWithOthers, IsLeftBy};
 ghost use Rattle.advance_rule.specs.Stored.{Answers};
 ghost use Rattle.advance_rule.specs.Plan.{end_ends_at};
 ghost use Rattle.tier_steps.specs.declared.view.Passage.TheVariants.{Arrival, Departure};
-ghost use Rattle.table_tiers.specs.Holding.{IsSat, split_once};
+ghost use Rattle.tier_calls.specs.Holding.{IsSat, split_once};
 ghost use Rattle.tier_table.specs.Ruled.{IsNew};
-ghost use Rattle.table_tiers.specs.Arrives.{Arrives, Resumes};
-ghost use Rattle.table_tiers.specs.Arrives as arrives;
-ghost use Rattle.table_tiers.specs.Made.{MadeOnly, HasEntered, HasLooked, is_entering};
-ghost use Rattle.table_tiers.specs.Registers.{token_of, opened_of, Registers, Opens};
-ghost use Rattle.table_tiers.specs.Registers as registers;
-ghost use Rattle.table_tiers.specs.JoinsHere.{JoinsHere};
-ghost use Rattle.table_tiers.specs.Polls.{Polls};
-ghost use Rattle.table_tiers.specs.Polls as polls;
-ghost use Rattle.table_tiers.specs.Forces.{Forces, ForcedBy};
-ghost use Rattle.table_tiers.specs.Forces as forces;
+ghost use Rattle.tier_calls.specs.Arrives.{Arrives, Resumes};
+ghost use Rattle.tier_calls.specs.Arrives as arrives;
+ghost use Rattle.tier_calls.specs.Made.{MadeOnly, HasEntered, HasLooked, is_entering};
+ghost use Rattle.tier_calls.specs.Registers.{token_of, opened_of, Registers, Opens};
+ghost use Rattle.tier_calls.specs.Registers as registers;
+ghost use Rattle.tier_calls.specs.JoinsHere.{JoinsHere};
+ghost use Rattle.tier_calls.specs.Polls.{Polls};
+ghost use Rattle.tier_calls.specs.Polls as polls;
+ghost use Rattle.tier_calls.specs.Forces.{Forces, ForcedBy};
+ghost use Rattle.tier_calls.specs.Forces as forces;
 
 use crate::closing::{Closed, Unclosed};
 use advance_rule::StoredAdvance;
 use std::alloc::{AllocError, Global};
 use std::marker::Model;
-use table_tiers::arriving::{Arrived, Resumed};
-use table_tiers::closing::plain_all;
-use table_tiers::forcing::Forced;
-use table_tiers::joining::{Opened, Registered};
-use table_tiers::polling::Polled;
-use table_tiers::tiers::Tiers;
-use table_tiers::tokens::{Crew, Door, Errand, Opening, Token};
+use tier_calls::arriving::{Arrived, Resumed};
+use tier_calls::closing::plain_all;
+use tier_calls::forcing::Forced;
+use tier_calls::joining::{Opened, Registered};
+use tier_calls::polling::Polled;
+use tier_calls::tiers::Tiers;
+use tier_calls::tokens::{Crew, Door, Errand, Opening, Token};
 use tier_shape::Shape;
 use tier_steps::view::Passage;
 

@@ -5,22 +5,22 @@ ghost use Rattle.std.specs.Prelude.{◌≡◌, ◌<◌, ◌≤◌, ℕ, Some, le
 ghost use Rattle.advance_rule.specs.Stored.{Answers};
 ghost use Rattle.advance_rule.specs.Plan.{end_ends_at};
 ghost use Rattle.tier_steps.specs.declared.view.Passage.TheVariants.{Arrival, Departure};
-ghost use Rattle.table_tiers.specs.Openings.{asked_tier, asked_size};
-ghost use Rattle.table_tiers.specs.Holding.{Holding};
-ghost use Rattle.table_tiers.specs.Arrives.{IsLooked, HasPassed};
-ghost use Rattle.table_tiers.specs.InPlace.{ArrivesInPlace};
-ghost use Rattle.table_tiers.specs.InPlace as in_place;
+ghost use Rattle.tier_calls.specs.Openings.{asked_tier, asked_size};
+ghost use Rattle.tier_calls.specs.Holding.{Holding};
+ghost use Rattle.tier_calls.specs.Arrives.{IsLooked, HasPassed};
+ghost use Rattle.tier_calls.specs.InPlace.{ArrivesInPlace};
+ghost use Rattle.tier_calls.specs.InPlace as in_place;
 ghost use Rattle.tier_table.specs.AtLast.{token_admitted, token_counted, HasSplit, RegistersAtLast, OpensAtLast, ArrivesAtLast, ResumesAtLast, AwaitsAdvance, HasEndedJoin, HasEndedArrival, HasEndedWait};
 
 use crate::tree::Tree;
 use std::sync::Wait;
 use std::thread;
-use table_tiers::arriving::{Arrived, Resumed};
-use table_tiers::in_place::Came;
-use table_tiers::joining::{Opened, Registered};
-use table_tiers::polling::Polled;
-use table_tiers::tiers::Tiers;
-use table_tiers::tokens::{Crew, Door, Errand, Opening};
+use tier_calls::arriving::{Arrived, Resumed};
+use tier_calls::in_place::Came;
+use tier_calls::joining::{Opened, Registered};
+use tier_calls::polling::Polled;
+use tier_calls::tiers::Tiers;
+use tier_calls::tokens::{Crew, Door, Errand, Opening};
 use tier_steps::view::Passage;
 
 /// How many tries a call makes before its thread lets others run.

@@ -29,11 +29,11 @@ use Rattle.tier_core.specs.Run.{is_idle, may_begin, may_go, may_finish, may_call
 use Rattle.tier_core.proofs.Turns.{by_test, not_both}
 use Rattle.tier_core.proofs.Places.{MayPlay, is_step, turn_may}
 use Rattle.tier_core.proofs.Runs.{begun_core, due_advances}
-use Rattle.tier_answers.specs.Count.{IsAnsweredWithin}
-use Rattle.tier_answers.proofs.Along.{begun_known, core_after}
-use Rattle.tier_answers.proofs.Holding.{fits_at}
-use Rattle.tier_answers.proofs.Planning.{advancing, active_owes, known_active, known_due}
-use Rattle.tier_answers.proofs.Sixteen.{sixteen_steps_are_enough}
+use Rattle.tier_laws.specs.Count.{IsAnsweredWithin}
+use Rattle.tier_laws.proofs.Along.{begun_known, core_after}
+use Rattle.tier_laws.proofs.Holding.{fits_at}
+use Rattle.tier_laws.proofs.Planning.{advancing, active_owes, known_active, known_due}
+use Rattle.tier_laws.proofs.Sixteen.{sixteen_steps_are_enough}
 use Rattle.trace_text.specs.declared.tree_words.TokenCall.{TokenCall}
 use Rattle.trace_text.specs.declared.tree_words.TokenCall.TheVariants as asked
 use Rattle.trace_text.specs.declared.tree_words.TreeCommand.{TreeCommand}

@@ -13,10 +13,10 @@ use Rattle.tier_core.specs.declared.call.Step.TheVariants as step
 use Rattle.tier_core.specs.Machine.{State, IsCore, call_at}
 use Rattle.tier_core.specs.Run.{is_idle, may_begin, begun, after, answer_to}
 use Rattle.tier_core.proofs.Runs.{begun_core}
-use Rattle.tier_answers.specs.Told.{is_last}
-use Rattle.tier_answers.specs.Count.{IsAnswered, IsAnsweredWithin}
-use Rattle.tier_answers.proofs.Along.{begun_known}
-use Rattle.tier_answers.proofs.Sixteen.{sixteen_steps_are_enough}
+use Rattle.tier_laws.specs.Told.{is_last}
+use Rattle.tier_laws.specs.Count.{IsAnswered, IsAnsweredWithin}
+use Rattle.tier_laws.proofs.Along.{begun_known}
+use Rattle.tier_laws.proofs.Sixteen.{sixteen_steps_are_enough}
 use Rattle.trace_text.specs.TreeAnswers.{call_of, has_tier, is_token, rest_text, rest_after, going_on, is_underway, advance_told, answer_text}
 use Rattle.trace_laws.specs.Enough.{RunsReachTheirAnswer, CallsDoneReachTheirAnswer}
 

@@ -1,11 +1,11 @@
 -- What a trace of a barrier prints (own), over the barrier as a machine.
 use Rattle.std.specs.Prelude.{ℕ, zero, suc, Bool, nat_le, if◌then◌else◌, List, [], ◌∷◌, ◌++◌, length, Option, ℤ, pos, negsuc, codes, decimal}
-use Rattle.cyclic_barrier.specs.declared.call.BarrierFault.{BarrierFault}
-use Rattle.cyclic_barrier.specs.declared.call.BarrierFault.TheVariants.{NoParty, AlreadyWaiting, NotWaiting, TooMany, Memory}
-use Rattle.cyclic_barrier.specs.declared.call.Call as the_call
-use Rattle.cyclic_barrier.specs.declared.call.Call.TheVariants as call
-use Rattle.cyclic_barrier.specs.Machine.{Machine, fresh}
-use Rattle.cyclic_barrier.specs.Steps.{Answer, Waiting, Trips, Fails, IsBroken, Breaks, Already, Absent, answer, after}
+use Rattle.cyclic_gate.specs.declared.call.BarrierFault.{BarrierFault}
+use Rattle.cyclic_gate.specs.declared.call.BarrierFault.TheVariants.{NoParty, AlreadyWaiting, NotWaiting, TooMany, Memory}
+use Rattle.cyclic_gate.specs.declared.call.Call as the_call
+use Rattle.cyclic_gate.specs.declared.call.Call.TheVariants as call
+use Rattle.cyclic_gate.specs.Machine.{Machine, fresh}
+use Rattle.cyclic_gate.specs.Steps.{Answer, Waiting, Trips, Fails, IsBroken, Breaks, Already, Absent, answer, after}
 use Rattle.trace_text.specs.declared.barrier_words.BarrierCommand.{BarrierCommand}
 use Rattle.trace_text.specs.declared.barrier_words.BarrierCommand.TheVariants.{Call, Show}
 use Rattle.trace_text.specs.declared.barrier_words.BarrierHead.{BarrierHead}

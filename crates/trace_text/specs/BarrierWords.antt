@@ -4,7 +4,7 @@ use Rattle.std.specs.Str.{bytes_eq}
 use Rattle.text_lines.specs.declared.refusal.Code.{Code}
 use Rattle.text_lines.specs.declared.refusal.Code.TheVariants.{UnknownLine, BadNumber, BadLine}
 use Rattle.text_lines.specs.Number.{number_of}
-use Rattle.cyclic_barrier.specs.declared.call.Call.TheVariants as call
+use Rattle.cyclic_gate.specs.declared.call.Call.TheVariants as call
 use Rattle.trace_text.specs.declared.barrier_words.BarrierCommand.{BarrierCommand}
 use Rattle.trace_text.specs.declared.barrier_words.BarrierCommand.TheVariants.{Call, Show}
 use Rattle.trace_text.specs.declared.barrier_words.BarrierHead.{BarrierHead}

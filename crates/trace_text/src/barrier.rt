@@ -1,9 +1,9 @@
 //! Commands of a trace of a barrier, done on the barrier.
 ghost use Rattle.std.specs.Prelude.{◌≡◌, ◌++◌, OnOk};
 ghost use Rattle.advance_rule.specs.Action.{AnswersAction};
-ghost use Rattle.cyclic_barrier.specs.Steps.{answer, after, Fails};
-ghost use Rattle.cyclic_barrier.specs.Seen.{answer_of};
-ghost use Rattle.cyclic_barrier.specs.declared.call.Call.TheVariants.{Await, Abandon, BreakOff, Reset};
+ghost use Rattle.cyclic_gate.specs.Steps.{answer, after, Fails};
+ghost use Rattle.cyclic_gate.specs.Seen.{answer_of};
+ghost use Rattle.cyclic_gate.specs.declared.call.Call.TheVariants.{Await, Abandon, BreakOff, Reset};
 ghost use Rattle.trace_text.specs.BarrierAnswers.{call_text, barrier_text, barrier_after};
 
 use crate::barrier_print::{
@@ -12,7 +12,7 @@ use crate::barrier_print::{
 use crate::barrier_words::BarrierCommand;
 use crate::print::push_field;
 use crate::tree_print::push_number_line;
-use cyclic_barrier::{Awaited, BarrierCore, BarrierFault, Call};
+use cyclic_gate::{Awaited, BarrierCore, BarrierFault, Call};
 use std::alloc::AllocError;
 
 // Puts the line of a failed action behind what is there.

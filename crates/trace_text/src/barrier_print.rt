@@ -3,7 +3,7 @@ ghost use Rattle.std.specs.Prelude.{◌≡◌, ◌++◌, OnOk, codes};
 ghost use Rattle.trace_text.specs.BarrierAnswers.{barrier_fault_text, callers_text, turns_text, callers_line, reset_text, broken_mark, barrier_front, barrier_rest, barrier_line};
 
 use crate::print::push_field;
-use cyclic_barrier::BarrierFault;
+use cyclic_gate::BarrierFault;
 use std::alloc::AllocError;
 
 /// The line of a refusal; want of memory has none.

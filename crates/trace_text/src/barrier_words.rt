@@ -7,7 +7,7 @@ ghost use Rattle.trace_text.specs.Parts.{barrier_words_in};
 
 use crate::tree_words::one_number;
 use crate::words::{is_word, take_behind};
-use cyclic_barrier::Call;
+use cyclic_gate::Call;
 use text_lines::{Code, first_word, number, split_word};
 
 /// A command of a trace of a barrier.

@@ -4,7 +4,7 @@ use Rattle.std.specs.List.{Contains}
 use Rattle.std.proofs.Math.Nat.{mod-lt}
 use Rattle.tier_shape.specs.Leaves.{leaves_of}
 use Rattle.tier_shape.proofs.Childless.{leaves_right}
-use Rattle.job_participants.specs.Moves.{leaf_at, number_in, last_number, preferred}
+use Rattle.tier_shape.specs.Preferred.{leaf_at, number_in, last_number, preferred}
 
 -- a leaf is a tier of its tree
 leaf_within : (ps : List ℕ) (tier : ℕ) → Contains (leaves_of ps) tier → tier < length ps

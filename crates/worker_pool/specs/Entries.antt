@@ -1,7 +1,7 @@
 -- How a registration at a tree came out, and at which leaf (own).
 use Rattle.std.specs.Prelude.{◌≡◌, ◌⊎◌, ℕ, List}
 use Rattle.tier_table.specs.Holding.{Named}
-use Rattle.job_participants.specs.Moves.{preferred}
+use Rattle.tier_shape.specs.Preferred.{preferred}
 use Rattle.worker_pool.specs.declared.tree.Entry.{Entry}
 use Rattle.worker_pool.specs.declared.tree.Entry.TheVariants.{In, Off, Over}
 

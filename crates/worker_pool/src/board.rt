@@ -19,7 +19,7 @@ use step_stretches::{Outcome, Stretches};
 /// Which job runs, within which limit, by how many workers, and at which tree they meet. Each run picks it.
 pub trait Running {
     ghost use Rattle.std.specs.Prelude.{ℕ};
-    ghost use Rattle.task_lang.specs.JobValue.{JobValue};
+    ghost use Rattle.task_code.specs.JobValue.{JobValue};
     ghost use Rattle.tier_table.specs.Holding.{Named};
 
     ghost job: { JobValue };

@@ -3,10 +3,10 @@ ghost use Rattle.std.specs.Prelude.{◌≡◌, ◌<◌, IfOk, length};
 ghost use Rattle.tier_shape.specs.Leaves.{leaves_of};
 
 use crate::board::Running;
-use job_participants::leaves::{leaf_at, preferred};
 use std::alloc::{AllocError, Global};
 use std::marker::PhantomData;
 use tier_shape::Shape;
+use tier_shape::leaves::{leaf_at, preferred};
 
 /// The tiers that are leaves of the tree of the run. Leaves are known by numbers, which go round and round.
 #[derive(Drop)]
@@ -27,7 +27,7 @@ pub(crate) fn leaves_in(alloc: Global, shape: &Shape) -> Result<Vec<u16>, AllocE
 }
 
 impl<J: Running> Leaves<J> {
-    ghost use Rattle.job_participants.specs.Moves.{leaf_at, preferred};
+    ghost use Rattle.tier_shape.specs.Preferred.{leaf_at, preferred};
 
     /// The leaves of the tree of the run.
     pub(crate) fn new(tiers: Vec<u16>) -> Self

@@ -41,7 +41,7 @@ impl<J: Running, F: Fn(u32, u32) -> bool> Meeting<J, F> {
     ghost use Rattle.advance_rule.specs.Plan.{end_ends_at};
     ghost use Rattle.tier_shape.specs.Leaves.{leaves_of};
     ghost use Rattle.tier_table.specs.Openings.{asked_tier};
-    ghost use Rattle.job_participants.specs.Moves.{leaf_at};
+    ghost use Rattle.tier_shape.specs.Preferred.{leaf_at};
     ghost use Rattle.worker_pool.specs.Entries.{IsOf, IsAtLeaf};
     ghost use Rattle.tier_table.specs.Arrives.{HasPassed};
     ghost use Rattle.tier_steps.specs.declared.view.Passage.TheVariants.{Arrival};

@@ -1,6 +1,6 @@
 use Rattle.std.proofs.Common.{◌≡◌, ◌&&◌, drop}
 use Rattle.std.specs.List.{list_all, list_any}
-use Rattle.task_lang.specs.Names.{is_name, is_reserved}
+use Rattle.task_code.specs.Names.{is_name, is_reserved}
 use Rattle.job_words.specs.Views.{lent}
 use Rattle.job_reader.proofs.outer.all_named.Given as goal
 

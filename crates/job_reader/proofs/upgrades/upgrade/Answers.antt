@@ -1,5 +1,5 @@
 use Rattle.std.proofs.Common.{refl, sym, subst}
-use Rattle.task_lang.specs.Rules.{IsJob}
+use Rattle.task_code.specs.Rules.{IsJob}
 use Rattle.job_reader.proofs.JobLemmas.{jobs}
 use Rattle.job_reader.proofs.upgrades.upgrade.Goals as goal
 

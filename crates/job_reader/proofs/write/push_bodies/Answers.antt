@@ -1,5 +1,5 @@
 use Rattle.std.proofs.Common.{◌∙◌, ℤ, List, ◌++◌, ap, sym, map}
-use Rattle.task_lang.specs.BodyValue.{BodyValue}
+use Rattle.task_code.specs.BodyValue.{BodyValue}
 use Rattle.job_words.specs.Words.{Word}
 use Rattle.job_reader.specs.Trees.{body_tree}
 use Rattle.job_reader.specs.Grammar.{text_of, bodies_lines}

@@ -1,6 +1,6 @@
 use Rattle.std.proofs.Common.{◌∙◌, ℕ, ℤ, List, ◌++◌, ap, map}
-use Rattle.task_lang.specs.declared.code.Line.{Line}
-use Rattle.task_lang.specs.BodyValue.{BodyValue}
+use Rattle.task_code.specs.declared.code.Line.{Line}
+use Rattle.task_code.specs.BodyValue.{BodyValue}
 use Rattle.job_words.specs.Words.{Word}
 use Rattle.job_words.specs.Exprs.{Names}
 use Rattle.job_reader.specs.Grammar.{listed_in, spaced, text_of}

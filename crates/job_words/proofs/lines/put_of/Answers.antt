@@ -1,6 +1,6 @@
 use Rattle.std.proofs.Common.{◌∷◌, ◌∙◌, ap, sym, Result}
 use Rattle.text_lines.specs.declared.refusal.Code.{Code}
-use Rattle.task_lang.specs.declared.code.Cell.{Cell}
+use Rattle.task_code.specs.declared.code.Cell.{Cell}
 use Rattle.job_words.specs.Exprs.{cell_of}
 use Rattle.job_words.specs.Faults.{both}
 use Rattle.job_words.specs.Views.{lent, names_in}

@@ -1,6 +1,6 @@
 use Rattle.std.proofs.Common.{◌∙◌, subst, List, length, ◌≤◌, sym}
 use Rattle.task_lang.specs.Views.{plans}
-use Rattle.task_lang.specs.declared.job.Start.{Start}
+use Rattle.task_code.specs.declared.job.Start.{Start}
 use Rattle.step_core.proofs.Course.{begun, starts_few}
 use Rattle.step_core.proofs.alone.begin.Goals as goal
 

@@ -3,7 +3,7 @@ use Rattle.std.proofs.lemmas.Int.{to_z-of_z}
 use Rattle.task_lang.specs.TaskValue.{TaskValue}
 use Rattle.task_lang.specs.Meaning.{Plan, Task, started}
 use Rattle.task_lang.specs.Views.{plans, task_of}
-use Rattle.task_lang.specs.declared.job.Start.{Start}
+use Rattle.task_code.specs.declared.job.Start.{Start}
 use Rattle.step_parts.specs.JobMeaning.{start_tasks}
 use Rattle.step_core.proofs.alone.start_all.Goals as goal
 

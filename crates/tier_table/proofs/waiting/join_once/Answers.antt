@@ -1,6 +1,6 @@
 use Rattle.std.proofs.Common.{ℕ, refl, subst, ◌∙◌, rules}
 use Rattle.tier_core.specs.declared.call.Played.TheVariants as played
-use Rattle.table_tiers.specs.Openings.{asked_tier, asked_size}
+use Rattle.tier_calls.specs.Openings.{asked_tier, asked_size}
 use Rattle.tier_table.specs.AtLast.{HasSplit}
 use Rattle.tier_table.proofs.Lasting.{opens_for, refused_for}
 use Rattle.tier_table.proofs.waiting.join_once.Goals as goal

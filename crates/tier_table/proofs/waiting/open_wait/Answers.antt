@@ -1,6 +1,6 @@
 use Rattle.std.proofs.Common.{◌∙◌, rules}
 use Rattle.std.proofs.lemmas.Bool.{false≢true}
-use Rattle.table_tiers.specs.Openings.{asked_tier, asked_size}
+use Rattle.tier_calls.specs.Openings.{asked_tier, asked_size}
 use Rattle.tier_core.specs.declared.call.Played.TheVariants as played
 use Rattle.tier_table.proofs.Lasting.{joined_for, refused_for}
 use Rattle.tier_table.proofs.waiting.open_wait.Goals as goal

@@ -1,5 +1,5 @@
 use Rattle.std.proofs.Common.{◌≡◌}
-use Rattle.table_tiers.specs.Openings.{asked_tier, asked_size}
+use Rattle.tier_calls.specs.Openings.{asked_tier, asked_size}
 use Rattle.tier_table.proofs.waiting.open_wait.Given as goal
 
 abbrev pub invariant-loop : goal.invariant-loop

@@ -1,5 +1,5 @@
 use Rattle.std.proofs.Common.{◌≡◌, ℕ, Some}
-use Rattle.table_tiers.specs.Passes.{IsSame}
+use Rattle.tier_calls.specs.Passes.{IsSame}
 use Rattle.tier_table.proofs.tree.Tree.await_advance.Given as goal
 
 abbrev pub invariant-loop : goal.invariant-loop

@@ -1,5 +1,5 @@
 use Rattle.std.proofs.Common.{◌≡◌, ℕ, Some}
-use Rattle.table_tiers.specs.Arrives.{IsLooked}
+use Rattle.tier_calls.specs.Arrives.{IsLooked}
 use Rattle.tier_table.proofs.tree.Tree.pass_wait.Given as goal
 
 abbrev pub invariant-loop : goal.invariant-loop

@@ -1,5 +1,5 @@
 use Rattle.std.proofs.Common.{ℕ, List, ap, ◌∙◌}
-use Rattle.job_participants.specs.Moves.{preferred}
+use Rattle.tier_shape.specs.Preferred.{preferred}
 use Rattle.worker_pool.proofs.Meeting.{preferred_within}
 use Rattle.worker_pool.proofs.leaves.Leaves.preferred.Goals as goal
 

@@ -1,5 +1,5 @@
 use Rattle.std.proofs.Common.{ℕ, List, ap, ◌∙◌}
-use Rattle.job_participants.specs.Moves.{leaf_at}
+use Rattle.tier_shape.specs.Preferred.{leaf_at}
 use Rattle.worker_pool.proofs.Meeting.{numbered_within}
 use Rattle.worker_pool.proofs.leaves.Leaves.tier.Goals as goal
 

@@ -1,5 +1,0 @@
-pub mod Indexed
-pub mod Replay
-pub mod Trips
-pub mod Told
-pub mod Waking

@@ -1,0 +1,259 @@
+//! A barrier without its action: each call is one step.
+ghost use Rattle.std.specs.Prelude.{◌≡◌, ◌⊎◌, ◌↔◌, true, ◌<◌, ◌≤◌, ◌+◌, ◌++◌, ◌∷◌, [], length, ◌<ℤ◌, pos, IfOk, IfErr, OnOk, OnErr, MatchResult, false};
+ghost use Rattle.advance_rule.specs.Action.{AnswersAction};
+ghost use Rattle.cyclic_gate.specs.Machine.{Machine, machine, fresh};
+ghost use Rattle.cyclic_gate.specs.Steps.{answer, after, indexed, is_in, joined, renewed, Absent, Breaks, next_generation};
+ghost use Rattle.cyclic_gate.specs.Seen.{answer_of, RefusesAwait, Ran};
+ghost use Rattle.cyclic_gate.specs.declared.call.Call.TheVariants.{Await, Abandon, BreakOff, Reset};
+
+use crate::call::{Awaited, BarrierFault, MOST_PARTIES};
+use advance_rule::StoredAction;
+use std::alloc::{AllocError, Global};
+use std::collections::HashSet;
+use std::marker::Model;
+use std::mem;
+
+/// A barrier whose action is lent at each arrival (own; for a barrier that holds its action see
+/// `BarrierCore`).
+#[derive(Drop)]
+pub struct BarrierState {
+    parties: u32,
+    generation: u64,
+    waiting: Vec<u32>,
+    // the same callers, to be found at once
+    callers: HashSet<u32>,
+    broken: bool,
+}
+
+impl Model for BarrierState {
+    ghost use Rattle.cyclic_gate.specs.Machine.{Machine, machine, IsBarrier};
+    ghost use Rattle.cyclic_gate.specs.Found.{AreFound};
+
+    ghost Value = { Machine };
+
+    ghost view = { λ s. machine s.parties s.generation s.waiting.items s.broken };
+
+    ghost invariant = { λ s. IsBarrier (machine s.parties s.generation s.waiting.items s.broken) × AreFound s.callers s.waiting.items };
+}
+
+// The generation after this one.
+fn generation_after(generation: u64) -> u64
+    ensures { result ≡ next_generation generation }
+{
+    if generation == u64::MAX {
+        0
+    } else {
+        generation + 1
+    }
+}
+
+// All callers with their arrival indices, `last` at the end.
+fn with_indices(
+    alloc: Global,
+    parties: u32,
+    waiting: &[u32],
+    last: u32,
+) -> Result<Vec<(u32, u32)>, AllocError>
+    requires { length waiting.now + 1 ≡ parties }
+    ensures { IfOk result (λ list. list.items ≡ indexed parties 0 (waiting.now ++ last ∷ [])) }
+{
+    let mut list = Vec::new(alloc);
+    let mut next = parties;
+    for caller in waiting {
+        next -= 1;
+        list.push((*caller, next))?;
+    }
+    list.push((last, 0))?;
+    Ok(list)
+}
+
+impl BarrierState {
+    /// A barrier where so many parties meet, in generation 0, where nobody waits. Refused with `NoParty`
+    /// below 1 and with `TooMany` above 65535 (own).
+    pub fn new(alloc: Global, parties: i64) -> Result<Self, BarrierFault>
+        ensures fresh { IfOk result (λ s. (pos s.parties ≡ parties) × (s ≡ fresh s.parties)) }
+        ensures no_party { (result ≡ Err BarrierFault.NoParty) ↔ (parties <ℤ pos 1) }
+        ensures too_many { (result ≡ Err BarrierFault.TooMany) ↔ (pos 65535 <ℤ parties) }
+        ensures fault { IfErr result (λ e. (e ≡ BarrierFault.NoParty) ⊎ (e ≡ BarrierFault.TooMany)) }
+    {
+        match u32::try_from(parties) {
+            Ok(parties) if parties > MOST_PARTIES => Err(BarrierFault::TooMany),
+            Ok(0) => Err(BarrierFault::NoParty),
+            Ok(parties) => Ok(BarrierState {
+                parties,
+                generation: 0,
+                waiting: Vec::new(alloc),
+                callers: HashSet::new(alloc),
+                broken: false,
+            }),
+            Err(_) if parties < 1 => Err(BarrierFault::NoParty),
+            Err(_) => Err(BarrierFault::TooMany),
+        }
+    }
+
+    /// How many parties meet, from 1 to 65535 (Java SE 21, `CyclicBarrier.getParties`).
+    pub fn parties(&self) -> u32
+        ensures answer { result ≡ self.now.parties }
+        ensures range { (0 < result) × (result ≤ 65535) }
+    {
+        self.parties
+    }
+
+    /// The generation, from 0; after 18446744073709551615 comes 0 (own).
+    pub fn generation(&self) -> u64
+        ensures { result ≡ self.now.generation }
+    {
+        self.generation
+    }
+
+    /// How many wait (Java SE 21, `CyclicBarrier.getNumberWaiting`).
+    pub fn waiting(&self) -> usize
+        ensures { result ≡ length self.now.waiting }
+    {
+        self.waiting.len()
+    }
+
+    /// Whether the barrier is broken (Java SE 21, `CyclicBarrier.isBroken`). Then nobody waits.
+    pub fn is_broken(&self) -> bool
+        ensures answer { result ≡ self.now.broken }
+        ensures nobody { self.now.broken ≡ true → self.now.waiting ≡ [] }
+    {
+        self.broken
+    }
+
+    /// Whether this caller waits.
+    pub fn is_waiting(&self, caller: u32) -> bool
+        ensures { result ≡ is_in caller self.now.waiting }
+    {
+        self.callers.contains(&caller)
+    }
+
+    // One more caller waits.
+    fn join(&mut self, caller: u32) -> Result<(), AllocError>
+        requires room { length self.old.waiting + 1 < self.old.parties }
+        requires whole { self.old.broken ≡ false }
+        ensures ok { OnOk result (self.new ≡ joined caller self.old) }
+        ensures err { OnErr result (self.new ≡ self.old) }
+    {
+        self.waiting.reserve(1)?;
+        if self.callers.insert(caller).is_err() {
+            return Err(AllocError);
+        }
+        self.waiting.push_reserved(caller);
+        Ok(())
+    }
+
+    // The next generation begins, and nobody waits.
+    fn renew(&mut self)
+        requires whole { self.old.broken ≡ false }
+        ensures { self.new ≡ renewed self.old }
+    {
+        self.waiting.clear();
+        self.callers.clear();
+        self.generation = generation_after(self.generation);
+    }
+
+    // The last caller arrives, and runs the action.
+    fn trip<F: Fn(u64) -> bool>(
+        &mut self,
+        action: &StoredAction<F>,
+        caller: u32,
+    ) -> Result<Awaited, BarrierFault>
+        requires rule { AnswersAction (F.pre action.now.closure) (F.post action.now.closure) action.now.plan }
+        requires whole { self.old.broken ≡ false }
+        requires last { length self.old.waiting + 1 ≡ self.old.parties }
+        requires stranger { is_in caller self.old.waiting ≡ false }
+        ensures answer { MatchResult result
+            (λ a. answer action.now.plan (Await caller) self.old ≡ answer_of a)
+            (λ e. e ≡ BarrierFault.Memory) }
+        ensures state { MatchResult result
+            (λ a. self.new ≡ after action.now.plan (Await caller) self.old)
+            (λ e. self.new ≡ self.old) }
+        ensures ran { IfOk result (Ran (F.post action.now.closure self.old.generation)) }
+    {
+        let alloc = *self.waiting.allocator();
+        let Ok(list) = with_indices(alloc, self.parties, &self.waiting, caller) else {
+            return Err(BarrierFault::Memory);
+        };
+        if action.call(self.generation) {
+            return Ok(Awaited::ActionFailed(self.break_off()));
+        }
+        self.renew();
+        Ok(Awaited::Tripped(list))
+    }
+
+    /// Arrives as this caller (Java SE 21, `CyclicBarrier.await`). The last to arrive runs the action.
+    /// Refused with `AlreadyWaiting` exactly where the caller waits (own).
+    pub fn await_step<F: Fn(u64) -> bool>(
+        &mut self,
+        action: &StoredAction<F>,
+        caller: u32,
+    ) -> Result<Awaited, BarrierFault>
+        requires rule { AnswersAction (F.pre action.now.closure) (F.post action.now.closure) action.now.plan }
+        ensures answer { MatchResult result
+            (λ a. answer action.now.plan (Await caller) self.old ≡ answer_of a)
+            (λ e. RefusesAwait e (answer action.now.plan (Await caller) self.old)) }
+        ensures state { MatchResult result
+            (λ a. self.new ≡ after action.now.plan (Await caller) self.old)
+            (λ e. self.new ≡ self.old) }
+        ensures ran { IfOk result (Ran (F.post action.now.closure self.old.generation)) }
+    {
+        if self.broken {
+            return Ok(Awaited::Broken);
+        }
+        if self.is_waiting(caller) {
+            return Err(BarrierFault::AlreadyWaiting);
+        }
+        let others = self.waiting.len() as u32;
+        if others + 1 < self.parties {
+            return match self.join(caller) {
+                Ok(()) => Ok(Awaited::Waits(self.parties - 1 - others)),
+                Err(_) => Err(BarrierFault::Memory),
+            };
+        }
+        self.trip(action, caller)
+    }
+
+    /// Takes a waiting caller away, which breaks the barrier, and answers the others, who get Broken, in
+    /// order of arrival (own; it stands for an interrupt or a time limit of Java's `await`). Refused with
+    /// `NotWaiting` exactly where the caller doesn't wait.
+    pub fn abandon(&mut self, caller: u32) -> Result<Vec<u32>, BarrierFault>
+        ensures answer { MatchResult result
+            (λ l. answer None (Abandon caller) self.old ≡ Breaks l.items)
+            (λ e. (e ≡ BarrierFault.NotWaiting) × (answer None (Abandon caller) self.old ≡ Absent)) }
+        ensures state { MatchResult result
+            (λ l. self.new ≡ after None (Abandon caller) self.old)
+            (λ e. self.new ≡ self.old) }
+    {
+        if !self.is_waiting(caller) {
+            return Err(BarrierFault::NotWaiting);
+        }
+        let mut others = self.break_off();
+        others.retain(|other| *other != caller);
+        Ok(others)
+    }
+
+    /// Breaks the barrier, and answers those who get Broken, in order of arrival (own).
+    pub fn break_off(&mut self) -> Vec<u32>
+        ensures answer { answer None BreakOff self.old ≡ Breaks result.items }
+        ensures state { self.new ≡ after None BreakOff self.old }
+    {
+        self.broken = true;
+        self.callers.clear();
+        let alloc = *self.waiting.allocator();
+        mem::replace(&mut self.waiting, Vec::new(alloc))
+    }
+
+    /// Begins the next generation, unbroken, and answers those who get Broken, in order of arrival (Java
+    /// SE 21, `CyclicBarrier.reset`).
+    pub fn reset(&mut self) -> Vec<u32>
+        ensures answer { answer None Reset self.old ≡ Breaks result.items }
+        ensures state { self.new ≡ after None Reset self.old }
+    {
+        self.broken = false;
+        self.generation = generation_after(self.generation);
+        self.callers.clear();
+        let alloc = *self.waiting.allocator();
+        mem::replace(&mut self.waiting, Vec::new(alloc))
+    }
+}

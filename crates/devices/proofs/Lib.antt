@@ -1,0 +1,2 @@
+pub mod PassedBytes
+pub mod ReadBytes

@@ -1,6 +1,0 @@
-use Rattle.std.proofs.Common.{◌≡◌, None}
-use Rattle.std.specs.Prelude.{replicate}
-use Rattle.job_participants.proofs.hands.empty_hands.Given as goal
-
-abbrev pub invariant-loop : goal.invariant-loop
-invariant-loop l = l.hands.items ≡ replicate l.counter None

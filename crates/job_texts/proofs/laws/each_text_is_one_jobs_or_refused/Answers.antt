@@ -1,5 +1,0 @@
-use Rattle.job_texts.proofs.Joined.{each-text}
-use Rattle.job_texts.proofs.laws.each_text_is_one_jobs_or_refused.Goals as goal
-
-pub returns : goal.returns
-returns c = each-text

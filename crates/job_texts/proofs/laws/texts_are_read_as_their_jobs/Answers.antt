@@ -1,5 +1,0 @@
-use Rattle.job_texts.proofs.Joined.{texts-are-read}
-use Rattle.job_texts.proofs.laws.texts_are_read_as_their_jobs.Goals as goal
-
-pub returns : goal.returns
-returns c = texts-are-read

@@ -1,5 +1,0 @@
-use Rattle.job_texts.proofs.Above.{lines-above-go-on}
-use Rattle.job_texts.proofs.refusals.lines_above_go_on.Goals as goal
-
-pub returns : goal.returns
-returns c = lines-above-go-on

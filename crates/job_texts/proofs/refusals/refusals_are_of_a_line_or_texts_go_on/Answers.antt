@@ -1,5 +1,0 @@
-use Rattle.job_texts.proofs.Above.{of-a-line-or-go-on}
-use Rattle.job_texts.proofs.refusals.refusals_are_of_a_line_or_texts_go_on.Goals as goal
-
-pub returns : goal.returns
-returns c = of-a-line-or-go-on

@@ -1,5 +1,0 @@
-use Rattle.job_texts.proofs.Held.{refusals-hold}
-use Rattle.job_texts.proofs.refusals.refusals_hold_for_all_that_follows.Goals as goal
-
-pub returns : goal.returns
-returns c = refusals-hold

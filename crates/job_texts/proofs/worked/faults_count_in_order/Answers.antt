@@ -1,5 +1,0 @@
-use Rattle.std.proofs.Common.{refl}
-use Rattle.job_texts.proofs.worked.faults_count_in_order.Goals as goal
-
-pub returns : goal.returns
-returns c = refl

@@ -1,5 +1,0 @@
-use Rattle.phaser_tests.specs.Holders.{EightOf}
-use Rattle.phaser_tests.proofs.lists.played.played.Given as goal
-
-abbrev pub invariant-loop-turn : goal.invariant-loop-turn
-invariant-loop-turn g l = EightOf l.tree.tree l.holders

@@ -1,5 +1,0 @@
-use Rattle.phaser_tests.specs.Holders.{ThreeOf}
-use Rattle.phaser_tests.proofs.table.rows.played.Given as goal
-
-abbrev pub invariant-loop-number : goal.invariant-loop-number
-invariant-loop-number g l = ThreeOf l.tree.tree l.holders

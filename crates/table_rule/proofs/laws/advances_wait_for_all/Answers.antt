@@ -1,5 +1,0 @@
-use Rattle.table_rule.proofs.Leaving.{advances_wait_for_all}
-use Rattle.table_rule.proofs.laws.advances_wait_for_all.Goals as goal
-
-pub returns : goal.returns
-returns c = advances_wait_for_all

@@ -1,5 +1,0 @@
-use Rattle.table_rule.proofs.Standing.{new_trees_are_empty}
-use Rattle.table_rule.proofs.laws.new_trees_are_empty.Goals as goal
-
-pub returns : goal.returns
-returns c = new_trees_are_empty

@@ -1,5 +1,0 @@
-use Rattle.table_rule.proofs.Standing.{steps_are_flat}
-use Rattle.table_rule.proofs.laws.steps_are_flat.Goals as goal
-
-pub returns : goal.returns
-returns c = steps_are_flat

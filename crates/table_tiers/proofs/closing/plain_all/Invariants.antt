@@ -1,6 +1,0 @@
-use Rattle.std.proofs.Common.{◌≡◌, take, map, vec_capacity}
-use Rattle.table_tiers.specs.Closes.{held, plain_of}
-use Rattle.table_tiers.proofs.closing.plain_all.Given as goal
-
-abbrev pub invariant-loop-token : goal.invariant-loop-token
-invariant-loop-token l = (l.plains.items ≡ map (λ t. plain_of (held t).view) (take l.token-index l.tokens)) × (vec_capacity l.plains ≡ vec_capacity l.fn.plains)

@@ -1,5 +1,0 @@
-use Rattle.table_tiers.proofs.Tries.{ran_once}
-use Rattle.table_tiers.proofs.tiers.Tiers.advance.Goals as goal
-
-pub returns : goal.returns
-returns g c = ran_once c.stand_to.ensures.stood.went c.try_turn.ensures

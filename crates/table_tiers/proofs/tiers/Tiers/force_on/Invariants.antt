@@ -1,9 +1,0 @@
-use Rattle.std.proofs.Common.{◌≡◌, None}
-use Rattle.table_tiers.specs.Made.{MadeOnly, is_glance}
-use Rattle.table_tiers.specs.Arrives.{IsSpent}
-use Rattle.table_tiers.specs.Registers.{IsLookedAround}
-use Rattle.table_tiers.specs.Forces.{IsBefore}
-use Rattle.table_tiers.proofs.tiers.Tiers.force_on.Given as goal
-
-abbrev pub invariant-loop : goal.invariant-loop
-invariant-loop l = IsSpent l.counter l.fn.door l.door × IsLookedAround l.fn.door.view l.door.view × IsBefore l.door × (l.door.view.end_seen ≡ None) × MadeOnly is_glance l.fn.door.steps l.door.steps

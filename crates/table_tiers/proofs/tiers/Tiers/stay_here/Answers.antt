@@ -1,7 +1,0 @@
-use Rattle.std.proofs.Common.{ap, ◌∙◌}
-use Rattle.table_rule.specs.Look.{glance}
-use Rattle.table_tiers.proofs.StayingHere.{stay_kept}
-use Rattle.table_tiers.proofs.tiers.Tiers.stay_here.Goals as goal
-
-pub returns : goal.returns
-returns c = stay_kept c.attempt.result c.plain_look-kind.result (c.plain_look-kind.ensures ∙ ap glance c.tier.ensures) c.requires.crew c.requires.some c.requires.tier c.attempt.ensures

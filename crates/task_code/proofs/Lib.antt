@@ -1,0 +1,11 @@
+pub mod Alls
+pub mod AskedAlong
+pub mod Building
+pub mod Depths
+pub mod Jumps
+pub mod Mapped
+pub mod Mentioned
+pub mod Named
+pub mod Places
+pub mod Reading
+pub mod Said

@@ -1,0 +1,13 @@
+pub mod Tree
+pub mod Reading
+pub mod Open
+pub mod BodyValue
+pub mod BodyView
+pub mod Names
+pub mod Operands
+pub mod Limits
+pub mod Mentions
+pub mod Operations
+pub mod Rules
+pub mod JobValue
+pub mod JobView

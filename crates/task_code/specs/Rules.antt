@@ -1,0 +1,56 @@
+-- What the types of a body and of a job keep (own).
+use Rattle.std.specs.Prelude.{◌≡◌, ◌≤◌, ℕ, ℤ, Bool, ◌&&◌, ◌||◌, ◌==◌, nat_lt, nat_le, IsTrue, List, length, map, Some}
+use Rattle.std.specs.List.{list_all, AllByRecursion}
+use Rattle.text_lines.specs.Number.{fits_i64}
+use Rattle.task_code.specs.BodyValue.{BodyValue}
+use Rattle.task_code.specs.JobValue.{JobValue}
+use Rattle.task_code.specs.Reading.{IsMatched}
+use Rattle.task_code.specs.Names.{is_free, are_names}
+use Rattle.task_code.specs.Mentions.{mentions, mentioned, are_below}
+use Rattle.task_code.specs.Limits.{statements, deepest, is_line, is_of_first, fits_line}
+
+-- the locals are those that the lines mention, by first mention
+abbrev pub IsByMention : BodyValue → Type 0
+IsByMention b = mentioned 0 (mentions b.code) ≡ Some (length b.locals)
+
+-- A body has a name, matched jumps, at most 1024 statements, at most 16 lines open at once, and at most 32 locals of names
+-- of their own. Its lines mention no other locals, and their numbers are of 64 signed bits.
+pub record IsBody (b : BodyValue) : Type 0 where
+  pub name : IsTrue (is_free b.name)
+  pub few : length b.locals ≤ 32
+  pub locals : IsTrue (are_names b.locals)
+  pub statements : statements b.code ≤ 1024
+  pub depth : deepest 0 b.code ≤ 16
+  pub mentions : IsTrue (are_below (length b.locals) (mentions b.code))
+  pub matched : IsMatched b.code
+  pub numbers : IsTrue (list_all fits_line b.code)
+
+-- an array has a name and 1 to 4096 cells
+abbrev pub is_array : List ℕ × List ℤ → Bool
+is_array a = is_free a.0 && nat_le 1 (length a.1) && nat_le (length a.1) 4096
+
+-- What a body of format 1 keeps besides: its locals stand by first mention, and no line is an add.
+pub record IsOfFirst (b : BodyValue) : Type 0 where
+  pub order : IsByMention b
+  pub lines : IsTrue (list_all is_of_first b.code)
+
+-- the formats are 1 and 2
+abbrev pub is_format : ℕ → Bool
+is_format n = (n == 1) || (n == 2)
+
+-- A job is of format 1 or 2, and of format 1 only with bodies as that has them. It has at most 16 arrays of names of their own, 64 bodies of names of their own and 4096 start lines, and its lines and
+-- start lines name what is there. Its numbers are of 64 signed bits.
+pub record IsJob (j : JobValue) : Type 0 where
+  pub format : IsTrue (is_format j.format)
+  pub first : j.format ≡ 1 → AllByRecursion IsOfFirst j.bodies
+  pub few_arrays : length j.arrays ≤ 16
+  pub few_bodies : length j.bodies ≤ 64
+  pub few_starts : length j.starts ≤ 4096
+  pub arrays : IsTrue (list_all is_array j.arrays)
+  pub named : IsTrue (are_names (map (λ a. a.0) j.arrays))
+  pub bodies : IsTrue (are_names (map (λ b. b.name) j.bodies))
+  pub each : AllByRecursion IsBody j.bodies
+  pub lines : IsTrue (list_all (λ b. list_all (is_line (length j.arrays) (length j.bodies)) b.code) j.bodies)
+  pub starts : IsTrue (list_all (λ s. nat_lt s.body (length j.bodies)) j.starts)
+  pub cells : IsTrue (list_all (λ a. list_all fits_i64 a.1) j.arrays)
+  pub args : IsTrue (list_all (λ s. fits_i64 s.arg) j.starts)

@@ -1,9 +1,0 @@
-use Rattle.std.proofs.Common.{sym, subst}
-use Rattle.std.proofs.lemmas.Result.{IfOk-weaker}
-use Rattle.task_lang.specs.declared.code.Line.{Line}
-use Rattle.task_lang.specs.Open as spec
-use Rattle.task_lang.proofs.builder.Builder.line.Goals as goal
-
-pub returns-in-Else : goal.returns-in-Else
-returns-in-Else c =
-    IfOk-weaker c.otherwise.result _ _ (λ fits told fs b h. subst (λ (x : Line). spec.IsStep fits (spec.step_of x fs b) c.otherwise.new.self) (sym c.in-Else.is) (told fs b c.in-Else.field-0 h)) c.otherwise.ensures

@@ -1,0 +1,106 @@
+//! What a gate is told: the path of each task, those of spawned ones too, and the superstep.
+use crate::left::job_of;
+use crate::pool::fixtures::left_by;
+use std::alloc::Global;
+use std::sync::atomic::AtomicU64;
+use std::sync::{Mutex, Wait};
+use std::thread::Threads;
+use superstep_memory::path::Path;
+use task_code::job::Job;
+use worker_pool::{AllStart, Gate};
+
+/// A task that spawns one, and then two. Each of those takes two supersteps.
+const SPAWNS_LATER: &str = "bsp 1
+body p
+spawn c 0
+sync
+spawn c 0
+spawn c 0
+sync
+end
+body c
+sync
+end
+start p 0
+";
+
+// What a gate is told of that job: the numbers of the path, each one more, and the superstep, as digits.
+const SEGMENTS: [u64; 9] = [10, 11, 111, 12, 112, 122, 132, 123, 133];
+
+// A path and a superstep as digits.
+fn digits_of(path: &Path, step: u32) -> u64 {
+    let mut digits = 0u64;
+    for number in path.as_slice() {
+        digits = digits.wrapping_mul(10).wrapping_add(u64::from(*number) + 1);
+    }
+    digits.wrapping_mul(10).wrapping_add(u64::from(step))
+}
+
+// Notes what it is told.
+#[derive(Drop)]
+struct Notes {
+    entered: Mutex<Vec<u64>>,
+    left: Mutex<Vec<u64>>,
+}
+
+// Adds to a list; where there is no memory it stays as it is.
+fn note<R: Wait>(rt: &R, list: &Mutex<Vec<u64>>, digits: u64) {
+    let _ = list.lock(rt).push(digits);
+}
+
+impl Gate for Notes {
+    fn enter<R: Wait>(&self, rt: &R, path: &Path, step: u32) {
+        note(rt, &self.entered, digits_of(path, step));
+    }
+
+    fn leave<R: Wait>(&self, rt: &R, path: &Path, step: u32) {
+        note(rt, &self.left, digits_of(path, step));
+    }
+}
+
+// How often a number stands in a list.
+fn count_of(list: &[u64], number: u64) -> usize {
+    let mut count = 0usize;
+    for one in list {
+        if *one == number {
+            count = count.wrapping_add(1);
+        }
+    }
+    count
+}
+
+// Whether a list has each of the segments once, in whatever order, and no other.
+fn are_all(list: &[u64]) -> bool {
+    for number in &SEGMENTS {
+        if count_of(list, *number) != 1 {
+            return false;
+        }
+    }
+    list.len() == SEGMENTS.len()
+}
+
+// Whether so many workers tell their gate of each segment, before it and after it.
+fn tell_all<R: Threads + Wait + Sync>(rt: &R, alloc: Global, job: &Job, workers: u32) -> bool {
+    let gate = Notes {
+        entered: Mutex::new(Vec::new(alloc)),
+        left: Mutex::new(Vec::new(alloc)),
+    };
+    let sum = AtomicU64::new(0);
+    let ran = left_by(
+        rt, alloc, job, "2", workers, 1000000, &gate, &AllStart, &sum,
+    );
+    ran.is_ok() && are_all(&gate.entered.lock(rt)) && are_all(&gate.left.lock(rt))
+}
+
+// Whether one worker does, and three.
+fn is_told<R: Threads + Wait + Sync>(rt: &R, alloc: Global) -> bool {
+    match job_of(alloc, SPAWNS_LATER) {
+        Ok(job) => tell_all(rt, alloc, &job, 1) && tell_all(rt, alloc, &job, 3),
+        Err(_) => false,
+    }
+}
+
+#[test]
+fn a_gate_is_told_of_each_segment(rt: HostRuntime) {
+    assert!(rt; is_told(&rt, rt.alloc()));
+}

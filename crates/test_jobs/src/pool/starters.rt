@@ -1,0 +1,67 @@
+//! Workers that can't be started.
+use crate::left::job_of;
+use crate::pool::fixtures::{SWAP, left_by};
+use crate::pool::gates::{HoldsBack, count_entered, holding};
+use phase_records::Report;
+use std::alloc::Global;
+use std::sync::Wait;
+use std::sync::atomic::AtomicU64;
+use std::thread::Threads;
+use task_code::job::Job;
+use worker_pool::{Refused, Starter};
+
+// Lets each worker be started but one.
+#[derive(Drop)]
+struct AllBut(u32);
+
+impl Starter for AllBut {
+    fn may_start(&self, k: u32) -> bool {
+        k != self.0
+    }
+}
+
+// Whether a run of eight workers is refused for the worker of this number, if it is one of them.
+fn is_refused(ran: &Result<Report, Refused>, but: u32) -> bool {
+    match ran {
+        Ok(_) => but == 8,
+        Err(Refused::NotStarted(k)) => but < 8 && *k == but,
+        Err(_) => false,
+    }
+}
+
+// Whether a run of eight workers comes to what it should of which the one of this number can't be started.
+fn is_sent_home<R: Threads + Wait + Sync>(
+    rt: &R,
+    alloc: Global,
+    job: &Job,
+    gate: &HoldsBack,
+    but: u32,
+) -> bool {
+    let sum = AtomicU64::new(0);
+    let ran = left_by(rt, alloc, job, "2x3", 8, 1000000, gate, &AllBut(but), &sum);
+    is_refused(&ran, but)
+}
+
+// Whether no task runs but where all workers are started, and then two do, twice.
+fn all_sent_home<R: Threads + Wait + Sync>(rt: &R, alloc: Global, job: &Job) -> bool {
+    let gate = holding(u16::MAX, u16::MAX);
+    for but in 0..9 {
+        if count_entered(&gate) != 0 || !is_sent_home(rt, alloc, job, &gate, but) {
+            return false;
+        }
+    }
+    count_entered(&gate) == 4
+}
+
+// Whether workers of a swap do.
+fn swaps_sent_home<R: Threads + Wait + Sync>(rt: &R, alloc: Global) -> bool {
+    match job_of(alloc, SWAP) {
+        Ok(job) => all_sent_home(rt, alloc, &job),
+        Err(_) => false,
+    }
+}
+
+#[test]
+fn a_worker_that_is_not_started_sends_all_home(rt: HostRuntime) {
+    assert!(rt; swaps_sent_home(&rt, rt.alloc()));
+}

@@ -1,0 +1,6 @@
+use Rattle.std.proofs.Common.{◌≡◌}
+use Rattle.test_phasers.specs.Holders.{tree_of}
+use Rattle.test_phasers.proofs.lists.played.settled.Given as goal
+
+abbrev pub invariant-loop : goal.invariant-loop
+invariant-loop g l = tree_of l.holder ≡ l.tree.tree

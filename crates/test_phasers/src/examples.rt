@@ -1,0 +1,78 @@
+//! The examples of use that stand above types: each text there is that of a test here.
+ghost use Rattle.std.specs.Prelude.{◌≡◌};
+
+use advance_rule::{CountPlan, EndPlan, StoredAction, StoredAdvance, StoredCount};
+use cyclic_gate::{Awaited, BarrierCore, CyclicGate};
+use phaser_one::PhaserOne;
+use tier_core::call::{Call, Played};
+use tier_core::tree::Core;
+use tier_shape::Shape;
+use tier_table::tree::Tree;
+use tier_table::waiting::{Admitted, Counted};
+
+#[test]
+fn a_single_phaser(rt: HostRuntime) {
+    // It ends where fewer than one party is left.
+    let plan = CountPlan { least: 1, at: None };
+    let rule = StoredCount::new(|_phase, parties| parties < 1, plan);
+    let mut phaser = PhaserOne::new(2, 0, rule).expect(&rt, "two parties");
+    assert!(rt; phaser.arrive().is_ok());
+    assert!(rt; phaser.phase() == 0);
+    assert!(rt; phaser.arrive().is_ok());
+    assert!(rt; phaser.phase() == 1);
+}
+
+#[test]
+fn a_barrier_as_a_value(rt: HostRuntime) {
+    // The action never fails. Callers have numbers.
+    let action = StoredAction::new(|_generation| false, None);
+    let mut barrier = BarrierCore::new(rt.alloc(), 2, action).expect(&rt, "two parties");
+    assert!(rt; matches!(barrier.await_step(7), Ok(Awaited::Waits(1))));
+    assert!(rt; matches!(barrier.await_step(9), Ok(Awaited::Tripped(_))));
+    assert!(rt; barrier.generation() == 1);
+}
+
+#[test]
+fn a_gate(rt: HostRuntime) {
+    // Each thread calls `await_turn` with a number of its own; the last to come is given 0.
+    let action = StoredAction::new(|_generation| false, None);
+    let gate = CyclicGate::new(rt.alloc(), 1, action).expect(&rt, "one party");
+    assert!(rt; gate.await_turn(&rt, 7) == Ok(0));
+}
+
+#[test]
+fn a_tree_as_a_machine(rt: HostRuntime) {
+    // A root and two leaves; the tree ends where nobody is left.
+    let shape = Shape::from_widths(rt.alloc(), "2").expect(&rt, "a shape");
+    let plan = EndPlan {
+        when_empty: true,
+        at: None,
+    };
+    let mut core = Core::new(rt.alloc(), shape, 0, plan).expect(&rt, "memory");
+    let token = core.add_token().expect(&rt, "memory");
+    assert!(rt; core.begin(token, Call::Join { tier: 1, n: 1 }).is_ok());
+    // Each step is one load or one exchange of a tier's word.
+    for _ in 0..16 {
+        if let Ok(Played::Done(phase)) = core.go(token) {
+            assert!(rt; phase == 0);
+        }
+    }
+    assert!(rt; core.root().parties == 1);
+}
+
+#[test]
+fn a_tree_without_a_lock(rt: HostRuntime) {
+    // Any threads may share the tree; each has tokens of its own.
+    let shape = Shape::from_widths(rt.alloc(), "2").expect(&rt, "a shape");
+    let plan = EndPlan {
+        when_empty: true,
+        at: None,
+    };
+    let rule = StoredAdvance::new(|_phase, parties| parties == 0, plan);
+    let (tree, door) = Tree::new(rt.alloc(), shape, 0, rule).expect(&rt, "memory");
+    assert!(rt; tree.shape().count() == 3);
+    // A member at tier 1; it is the only one, so its arrival takes the advance.
+    if let Admitted::Joined(crew, _) = tree.register_wait(&rt, door, 1, 1) {
+        assert!(rt; matches!(tree.arrive_wait(&rt, crew), Counted::Done(_, 0, true)));
+    }
+}

@@ -1,0 +1,154 @@
+-- A written line mentions the locals of its line, in their order.
+use Rattle.std.proofs.Common.{◌≡◌, ℕ, Bool, true, false, List, [], ◌∷◌, ◌++◌, map, refl, sym, ap, ◌∙◌, arith, codes}
+use Rattle.std.specs.Prelude.{if◌then◌else◌, not, ◌||◌, ◌&&◌, ◌==◌, nat_le}
+use Rattle.text_lines.proofs.NumbersLemmas.{number-begins}
+use Rattle.std.specs.Fmt.{signed_decimal}
+use Rattle.std.specs.Str.{bytes_eq}
+use Rattle.std.proofs.lemmas.List.{map-append}
+use Rattle.std.proofs.lemmas.Grind.{common_steps}
+use Rattle.task_code.specs.Names.{is_lower, is_name, is_reserved, is_free, are_names}
+use Rattle.task_code.specs.Mentions as mentions
+use Rattle.task_code.specs.declared.code.Index.{Index}
+use Rattle.task_code.specs.declared.code.Index.TheVariants as index
+use Rattle.task_code.specs.declared.code.Cell.{Cell}
+use Rattle.task_code.specs.declared.code.Operand.{Operand}
+use Rattle.task_code.specs.declared.code.Operand.TheVariants as operand
+use Rattle.task_code.specs.declared.code.Expr.{Expr}
+use Rattle.task_code.specs.declared.code.Expr.TheVariants.{One, Two}
+use Rattle.task_code.specs.declared.code.Action.{Action}
+use Rattle.task_code.specs.declared.code.Action.TheVariants as action
+use Rattle.task_code.specs.declared.code.Line.{Line}
+use Rattle.task_code.specs.declared.code.Line.TheVariants as line
+use Rattle.superstep_memory.specs.declared.arrays.PutKind.TheVariants.{Set, Add}
+use Rattle.job_words.specs.Words.{Word, begins_number, name_at, index_word, in_index}
+use Rattle.job_words.specs.Exprs.{Names, cell_parts, cell_word, has_bracket, operand_word, expr_words, in_parts, in_operand, in_expr}
+use Rattle.job_words.specs.Lines.{line_words, keyword_of, mentions_behind, mentions_of}
+use Rattle.job_words.proofs.SaidLemmas.{same-word}
+use Rattle.job_words.proofs.GrowLemmas.{and-left, and-right}
+use Rattle.job_words.proofs.WrittenLemmas.{names-free}
+use Rattle.job_words.proofs.WrittenExprs.{
+  is_plain,
+  plain-cell,
+  cell-bracket,
+  plain-bracket,
+  name-plain,
+  number-plain,
+  AreGood,
+  IndexIs,
+  CellIs,
+  OperandIs,
+  ExprIs,
+}
+use Rattle.job_words.proofs.WrittenLines.{ActionIs, LineIs}
+
+not-true : (b : Bool) → not b ≡ true → b ≡ false
+not-true true e = absurd cc
+not-true false e = refl
+
+-- a reserved word is no name that may be used
+other-word : (b : Bool) (w k : Word) → bytes_eq w k ≡ b → is_reserved k ≡ true → is_reserved w ≡ false → b ≡ false
+other-word true w k h r f = let same = ap is_reserved (same-word w k h) in let both : true ≡ false = sym r ∙ sym same ∙ f in absurd cc
+other-word false w k h r f = refl
+
+arg-reserved : is_reserved (codes "arg") ≡ true
+unfolding is_reserved
+arg-reserved = refl
+
+step-reserved : is_reserved (codes "step") ≡ true
+unfolding is_reserved
+step-reserved = refl
+
+lower-digit : (c : ℕ) → is_lower c ≡ true → ((c == 45) || (nat_le 48 c && nat_le c 57)) ≡ false
+lower-digit c e = grind (arith, common_steps)
+
+free-begins : (w : Word) → is_free w ≡ true → begins_number w ≡ false
+free-begins [] e = refl
+free-begins (c ∷ cs) e = lower-digit c (and-left _ _ (and-left _ _ (and-left _ (not (is_reserved (c ∷ cs))) e)))
+
+number-none : (w : Word) → begins_number w ≡ true → in_index w ≡ []
+unfolding in_index
+number-none w h = ap (λ (b : Bool). if b || bytes_eq w (codes "arg") || bytes_eq w (codes "step") then [] else w ∷ []) h
+
+name-one : (w : Word) → is_free w ≡ true → in_index w ≡ w ∷ []
+unfolding in_index
+name-one w free =
+    let plain : is_reserved w ≡ false = not-true (is_reserved w) (and-right (is_name w) _ free) in
+    let arg : bytes_eq w (codes "arg") ≡ false = other-word _ w (codes "arg") refl arg-reserved plain in
+    let step : bytes_eq w (codes "step") ≡ false = other-word _ w (codes "step") refl step-reserved plain in
+    ap (λ (b : Bool). if b || bytes_eq w (codes "arg") || bytes_eq w (codes "step") then [] else w ∷ []) (free-begins w free)
+    ∙ ap (λ (b : Bool). if b || bytes_eq w (codes "step") then [] else w ∷ []) arg
+    ∙ ap (λ (b : Bool). if b then [] else w ∷ []) step
+
+arg-none : in_index (codes "arg") ≡ []
+unfolding in_index
+arg-none = refl
+
+step-none : in_index (codes "step") ≡ []
+unfolding in_index
+step-none = refl
+
+-- the names of locals
+abbrev pub named_at : List Word → List ℕ → List Word
+named_at locals is = map (name_at locals) is
+
+index-mentions : (locals : List Word) (i : Index) → are_names locals ≡ true → IndexIs locals i → in_index (index_word locals i) ≡ named_at locals (mentions.in_index i)
+index-mentions locals (index.Number n) e h = number-none (signed_decimal n) (number-begins n h)
+index-mentions locals (index.Local i) e h = name-one (name_at locals i) (names-free locals i e h)
+index-mentions locals index.Arg e h = arg-none
+index-mentions locals index.Step e h = step-none
+
+index-plain : (locals : List Word) (i : Index) → are_names locals ≡ true → IndexIs locals i → is_plain (index_word locals i) ≡ true
+index-plain locals (index.Number n) e h = number-plain n h
+index-plain locals (index.Local i) e h = name-plain (name_at locals i) (names-free locals i e h)
+index-plain locals index.Arg e h = refl
+index-plain locals index.Step e h = refl
+
+operand-by : (w : Word) (b : Bool) → has_bracket w ≡ b → in_operand w ≡ (if b then in_parts (cell_parts w) else in_index w)
+unfolding in_operand
+operand-by w b h = ap (λ (t : Bool). if t then in_parts (cell_parts w) else in_index w) h
+
+cell-mentions : (s : Names) (c : Cell) → AreGood s → CellIs s c → in_operand (cell_word s c) ≡ named_at s.locals (mentions.in_index c.index)
+cell-mentions s c g h =
+    let name : Word = name_at s.arrays c.array in
+    let at : Word = index_word s.locals c.index in
+    operand-by (cell_word s c) true (cell-bracket name (at ++ 93 ∷ []))
+    ∙ ap in_parts (plain-cell name at (name-plain name (names-free s.arrays c.array g.arrays h.0)) (index-plain s.locals c.index g.locals h.1))
+    ∙ index-mentions s.locals c.index g.locals h.1
+
+operand-mentions : (s : Names) (o : Operand) → AreGood s → OperandIs s o → in_operand (operand_word s o) ≡ named_at s.locals (mentions.in_operand o)
+operand-mentions s (operand.Plain i) g h =
+    operand-by (index_word s.locals i) false (plain-bracket (index_word s.locals i) (index-plain s.locals i g.locals h))
+    ∙ index-mentions s.locals i g.locals h
+operand-mentions s (operand.Cell c) g h = cell-mentions s c g h
+
+expr-mentions : (s : Names) (e : Expr) → AreGood s → ExprIs s e → in_expr (expr_words s e) ≡ named_at s.locals (mentions.in_expr e)
+expr-mentions s (One a) g h = operand-mentions s a g h
+expr-mentions s (Two a op b) g h =
+    ap (λ (x : List Word). x ++ in_operand (operand_word s b)) (operand-mentions s a g h.0)
+    ∙ ap (λ (x : List Word). named_at s.locals (mentions.in_operand a) ++ x) (operand-mentions s b g h.1)
+    ∙ sym (map-append (name_at s.locals) (mentions.in_operand a) (mentions.in_operand b))
+
+action-mentions : (s : Names) (a : Action) → AreGood s → ActionIs s a → mentions_of (line_words s (line.Do a)) ≡ named_at s.locals (mentions.in_action a)
+unfolding keyword_of mentions_behind
+action-mentions s (action.Let i e) g h = ap (λ (x : List Word). name_at s.locals i ∷ x) (expr-mentions s e g h.1)
+action-mentions s (action.Put Set c e) g h =
+    ap (λ (x : List Word). x ++ in_expr (expr_words s e)) (cell-mentions s c g h.0)
+    ∙ ap (λ (x : List Word). named_at s.locals (mentions.in_index c.index) ++ x) (expr-mentions s e g h.1)
+    ∙ sym (map-append (name_at s.locals) (mentions.in_index c.index) (mentions.in_expr e))
+action-mentions s (action.Put Add c e) g h =
+    ap (λ (x : List Word). x ++ in_expr (expr_words s e)) (cell-mentions s c g h.0)
+    ∙ ap (λ (x : List Word). named_at s.locals (mentions.in_index c.index) ++ x) (expr-mentions s e g h.1)
+    ∙ sym (map-append (name_at s.locals) (mentions.in_index c.index) (mentions.in_expr e))
+action-mentions s (action.Print e) g h = expr-mentions s e g h
+action-mentions s (action.Spawn b e) g h = expr-mentions s e g h.1
+action-mentions s action.Sync g h = refl
+action-mentions s action.Stop g h = refl
+
+pub line-mentions : (s : Names) (fits : Bool) (l : Line) → AreGood s → LineIs s fits l → mentions_of (line_words s l) ≡ named_at s.locals (mentions.in_line l)
+unfolding keyword_of mentions_behind
+line-mentions s fits (line.Do a) g h = action-mentions s a g h
+line-mentions s fits (line.If e n) g h = expr-mentions s e g h
+line-mentions s fits (line.Else n) g h = refl
+line-mentions s fits line.EndIf g h = refl
+line-mentions s fits (line.While e n) g h = expr-mentions s e g h
+line-mentions s fits (line.EndWhile e n) g h = refl

@@ -1,0 +1,23 @@
+use Rattle.std.proofs.Common.{refl}
+use Rattle.std.specs.Fmt as fmt
+use Rattle.task_code.specs.Names as names
+use Rattle.job_words.specs.Words as words
+use Rattle.job_words.specs.Exprs as exprs
+use Rattle.job_words.specs.Lines as lines
+use Rattle.job_reader.specs.Reading as reading
+use Rattle.text_laws.proofs.upgrades.second_format_is_worked_out.Goals as goal
+
+pub returns : goal.returns
+unfolding fmt.digits names.is_reserved reading.job_in reading.outer_of words.index_of words.in_index exprs.cell_of exprs.operand_of exprs.in_operand exprs.operator_of lines.keyword_of lines.line_behind lines.mentions_behind
+returns c = record {
+  read = refl;
+  written = refl;
+  first = refl;
+  upgraded = refl;
+  own_name = refl;
+  not_listed = refl;
+  listed_twice = refl;
+  first_has_no_add = refl;
+  first_lists_none = refl;
+  no_other_format = refl;
+}

@@ -1,0 +1,47 @@
+//! Laws on texts that are a job's. Each function does nothing: its contract is the law.
+ghost use Rattle.text_laws.specs.Laws.{
+  TextsOfJobsAreRead,
+  OneJobAText,
+  TextsAreReadAsTheirJobs,
+  EachTextIsOneJobsOrRefused,
+  CanonicalTextsAreRead,
+  WritingTwiceIsWritingOnce,
+};
+ghost use Rattle.text_laws.specs.Worked.{TextsAreWorkedOut};
+
+/// A text of a job, which is short, has allowed bytes only, and whose lines that aren't skipped are the job's as they
+/// are written, is read as that job.
+pub fn texts_of_jobs_are_read()
+    ensures { TextsOfJobsAreRead }
+{}
+
+/// A text is of one job at most.
+pub fn one_job_a_text()
+    ensures { OneJobAText }
+{}
+
+/// A text is read as a job exactly where it is a text of that job.
+pub fn texts_are_read_as_their_jobs()
+    ensures { TextsAreReadAsTheirJobs }
+{}
+
+/// Each text is a job's or is refused, and never both.
+pub fn each_text_is_one_jobs_or_refused()
+    ensures { EachTextIsOneJobsOrRefused }
+{}
+
+/// The canonical text of a job, where it has no more bytes than a text may have, is read as that job.
+pub fn canonical_texts_are_read()
+    ensures { CanonicalTextsAreRead }
+{}
+
+/// What the canonical text of a read job is read as is that same job, and so has that same canonical text.
+pub fn writing_twice_is_writing_once()
+    ensures { WritingTwiceIsWritingOnce }
+{}
+
+/// What a text with each statement is read as, and written as again, is written down and not said by a rule; so are two
+/// refusals.
+pub fn texts_are_worked_out()
+    ensures { TextsAreWorkedOut }
+{}

@@ -1,0 +1,33 @@
+//! Laws on names and on refusals, in numbers and worked out. Each function does nothing: its contract is the law.
+ghost use Rattle.text_laws.specs.WorkedNames.{BytesAreTold, NamesAreTold, NamesAreWorkedOut};
+ghost use Rattle.text_laws.specs.WorkedRefusals.{FaultsCountInOrder, CodesAreNumbered, RefusalsAreWorkedOut};
+
+/// A text may have the line end and the 95 bytes from the space to the tilde, and no others.
+pub fn bytes_are_told()
+    ensures { BytesAreTold }
+{}
+
+/// A name has 1 to 16 of 37 bytes, of which 26 may come first, and is none of 17 words.
+pub fn names_are_told()
+    ensures { NamesAreTold }
+{}
+
+/// Why some lines are refused that have a word which is no name is written down and not said by a rule.
+pub fn names_are_worked_out()
+    ensures { NamesAreWorkedOut }
+{}
+
+/// Of two faults of a line that counts whose code comes first in one list.
+pub fn faults_count_in_order()
+    ensures { FaultsCountInOrder }
+{}
+
+/// Each code has its number, from 1 to 14.
+pub fn codes_are_numbered()
+    ensures { CodesAreNumbered }
+{}
+
+/// Which fault counts of lines that have several, and of texts in which bodies are missing, is written down and not said by a rule.
+pub fn refusals_are_worked_out()
+    ensures { RefusalsAreWorkedOut }
+{}

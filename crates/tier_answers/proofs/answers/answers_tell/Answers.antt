@@ -1,5 +1,0 @@
-use Rattle.tier_answers.proofs.Telling.{answers_tell}
-use Rattle.tier_answers.proofs.answers.answers_tell.Goals as goal
-
-pub returns : goal.returns
-returns c = answers_tell

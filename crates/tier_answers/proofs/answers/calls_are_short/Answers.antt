@@ -1,5 +1,0 @@
-use Rattle.tier_answers.proofs.Short.{calls_are_short}
-use Rattle.tier_answers.proofs.answers.calls_are_short.Goals as goal
-
-pub returns : goal.returns
-returns c = calls_are_short

@@ -1,5 +1,0 @@
-use Rattle.tier_answers.proofs.Once.{calls_count_once}
-use Rattle.tier_answers.proofs.answers.calls_count_once.Goals as goal
-
-pub returns : goal.returns
-returns c = calls_count_once

@@ -1,5 +1,0 @@
-use Rattle.tier_answers.proofs.Answering.{moments_are_answers}
-use Rattle.tier_answers.proofs.answers.moments_are_answers.Goals as goal
-
-pub returns : goal.returns
-returns c = moments_are_answers

@@ -1,5 +1,0 @@
-use Rattle.tier_answers.proofs.Reached.{moments_look_like_the_tree}
-use Rattle.tier_answers.proofs.answers.moments_look_like_the_tree.Goals as goal
-
-pub returns : goal.returns
-returns c = moments_look_like_the_tree

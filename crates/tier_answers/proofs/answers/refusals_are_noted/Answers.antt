@@ -1,5 +1,0 @@
-use Rattle.tier_answers.proofs.Once.{refusals_are_noted}
-use Rattle.tier_answers.proofs.answers.refusals_are_noted.Goals as goal
-
-pub returns : goal.returns
-returns c = refusals_are_noted

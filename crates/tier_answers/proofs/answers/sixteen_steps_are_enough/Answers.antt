@@ -1,5 +1,0 @@
-use Rattle.tier_answers.proofs.Sixteen.{sixteen_steps_are_enough}
-use Rattle.tier_answers.proofs.answers.sixteen_steps_are_enough.Goals as goal
-
-pub returns : goal.returns
-returns c = sixteen_steps_are_enough

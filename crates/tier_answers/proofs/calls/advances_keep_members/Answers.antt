@@ -1,5 +1,0 @@
-use Rattle.tier_answers.proofs.Members.{advances_keep_members}
-use Rattle.tier_answers.proofs.calls.advances_keep_members.Goals as goal
-
-pub returns : goal.returns
-returns c = advances_keep_members

@@ -1,5 +1,0 @@
-use Rattle.tier_answers.proofs.Members.{climbs_keep_members}
-use Rattle.tier_answers.proofs.calls.climbs_keep_members.Goals as goal
-
-pub returns : goal.returns
-returns c = climbs_keep_members

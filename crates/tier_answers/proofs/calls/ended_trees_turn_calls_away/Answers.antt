@@ -1,5 +1,0 @@
-use Rattle.tier_answers.proofs.Ended.{ended_trees_turn_calls_away}
-use Rattle.tier_answers.proofs.calls.ended_trees_turn_calls_away.Goals as goal
-
-pub returns : goal.returns
-returns c = ended_trees_turn_calls_away

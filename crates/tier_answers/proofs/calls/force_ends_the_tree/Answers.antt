@@ -1,5 +1,0 @@
-use Rattle.tier_answers.proofs.Ended.{force_ends_the_tree}
-use Rattle.tier_answers.proofs.calls.force_ends_the_tree.Goals as goal
-
-pub returns : goal.returns
-returns c = force_ends_the_tree

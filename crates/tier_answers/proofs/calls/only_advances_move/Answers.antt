@@ -1,5 +1,0 @@
-use Rattle.tier_answers.proofs.Stepping.{only_advances_move}
-use Rattle.tier_answers.proofs.calls.only_advances_move.Goals as goal
-
-pub returns : goal.returns
-returns c = only_advances_move

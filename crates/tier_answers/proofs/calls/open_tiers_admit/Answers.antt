@@ -1,5 +1,0 @@
-use Rattle.tier_answers.proofs.Members.{open_tiers_admit}
-use Rattle.tier_answers.proofs.calls.open_tiers_admit.Goals as goal
-
-pub returns : goal.returns
-returns c = open_tiers_admit

@@ -1,5 +1,0 @@
-use Rattle.tier_answers.proofs.Members.{passes_count}
-use Rattle.tier_answers.proofs.calls.passes_count.Goals as goal
-
-pub returns : goal.returns
-returns c = passes_count

@@ -1,5 +1,0 @@
-use Rattle.tier_answers.proofs.Stepping.{polls_follow_the_root}
-use Rattle.tier_answers.proofs.calls.polls_follow_the_root.Goals as goal
-
-pub returns : goal.returns
-returns c = polls_follow_the_root

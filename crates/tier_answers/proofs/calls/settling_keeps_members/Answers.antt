@@ -1,5 +1,0 @@
-use Rattle.tier_answers.proofs.Members.{settling_keeps_members}
-use Rattle.tier_answers.proofs.calls.settling_keeps_members.Goals as goal
-
-pub returns : goal.returns
-returns c = settling_keeps_members

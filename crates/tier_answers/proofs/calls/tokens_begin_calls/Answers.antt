@@ -1,5 +1,0 @@
-use Rattle.tier_answers.proofs.Ended.{tokens_begin_calls}
-use Rattle.tier_answers.proofs.calls.tokens_begin_calls.Goals as goal
-
-pub returns : goal.returns
-returns c = tokens_begin_calls

@@ -1,5 +1,0 @@
-use Rattle.tier_answers.proofs.Waiting.{advances_are_awaited}
-use Rattle.tier_answers.proofs.holds.advances_are_awaited.Goals as goal
-
-pub returns : goal.returns
-returns c = advances_are_awaited

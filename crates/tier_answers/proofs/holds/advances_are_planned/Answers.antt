@@ -1,5 +1,0 @@
-use Rattle.tier_answers.proofs.Planning.{advances_are_planned}
-use Rattle.tier_answers.proofs.holds.advances_are_planned.Goals as goal
-
-pub returns : goal.returns
-returns c = advances_are_planned

@@ -1,5 +1,0 @@
-use Rattle.tier_answers.proofs.Holding.{awaited_tokens_hold}
-use Rattle.tier_answers.proofs.holds.awaited_tokens_hold.Goals as goal
-
-pub returns : goal.returns
-returns c = awaited_tokens_hold

@@ -1,5 +1,0 @@
-use Rattle.tier_answers.proofs.Rounding.{awaited_tokens_stay}
-use Rattle.tier_answers.proofs.holds.awaited_tokens_stay.Goals as goal
-
-pub returns : goal.returns
-returns c = awaited_tokens_stay

@@ -1,5 +1,0 @@
-use Rattle.tier_answers.proofs.Holding.{members_are_the_tokens}
-use Rattle.tier_answers.proofs.holds.members_are_the_tokens.Goals as goal
-
-pub returns : goal.returns
-returns c = members_are_the_tokens

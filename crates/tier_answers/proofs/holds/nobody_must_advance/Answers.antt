@@ -1,5 +1,0 @@
-use Rattle.tier_answers.proofs.Alone.{nobody_must_advance}
-use Rattle.tier_answers.proofs.holds.nobody_must_advance.Goals as goal
-
-pub returns : goal.returns
-returns c = nobody_must_advance

@@ -1,5 +1,0 @@
-use Rattle.tier_answers.proofs.Framing.{others_stay}
-use Rattle.tier_answers.proofs.holds.others_stay.Goals as goal
-
-pub returns : goal.returns
-returns c = others_stay

@@ -1,5 +1,0 @@
-use Rattle.tier_answers.proofs.Planning.{quiet_trees_wait}
-use Rattle.tier_answers.proofs.holds.quiet_trees_wait.Goals as goal
-
-pub returns : goal.returns
-returns c = quiet_trees_wait

@@ -1,5 +1,0 @@
-use Rattle.tier_answers.proofs.Planning.{the_last_one_advances}
-use Rattle.tier_answers.proofs.holds.the_last_one_advances.Goals as goal
-
-pub returns : goal.returns
-returns c = the_last_one_advances

@@ -1,5 +1,0 @@
-use Rattle.tier_answers.proofs.Waiting.{the_root_waits}
-use Rattle.tier_answers.proofs.holds.the_root_waits.Goals as goal
-
-pub returns : goal.returns
-returns c = the_root_waits

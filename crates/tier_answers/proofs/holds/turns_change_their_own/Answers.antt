@@ -1,5 +1,0 @@
-use Rattle.tier_answers.proofs.Framing.{turns_change_their_own}
-use Rattle.tier_answers.proofs.holds.turns_change_their_own.Goals as goal
-
-pub returns : goal.returns
-returns c = turns_change_their_own

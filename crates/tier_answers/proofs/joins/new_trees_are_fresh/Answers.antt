@@ -1,5 +1,0 @@
-use Rattle.tier_answers.proofs.Opens.{new_trees_are_fresh}
-use Rattle.tier_answers.proofs.joins.new_trees_are_fresh.Goals as goal
-
-pub returns : goal.returns
-returns c = new_trees_are_fresh

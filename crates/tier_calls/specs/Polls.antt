@@ -1,0 +1,29 @@
+-- What a poll answers, by the view of its token (own).
+use Rattle.std.specs.Prelude.{◌≡◌, ◌<◌}
+use Rattle.tier_steps.specs.Word.{next_phase_of}
+use Rattle.tier_calls.specs.Holding.{Holding}
+use Rattle.tier_calls.specs.Passes.{EndSeen, IsFresh}
+use Rattle.tier_calls.specs.Made.{HasLooked}
+use Rattle.tier_calls.specs.Arrives.{IsLooked, IsSoon}
+use Rattle.tier_calls.specs.declared.polling.Polled.{Polled}
+use Rattle.tier_calls.specs.declared.polling.Polled.TheVariants.{Passed, Waiting, Here, Ended}
+
+-- all members had arrived in the phase before, and this one is the next
+pub record HasPassedOn (old new : Holding) : Type 0 where
+  pub all : old.view.arrived ≡ old.view.size
+  pub next : new.view.phase ≡ next_phase_of old.view.phase
+  pub nobody : new.view.arrived ≡ 0
+
+-- All but Ended come of a look that has cleared the mark of an advance, and has seen no end.
+abbrev pub Polls : Holding → Holding → Polled → Type 0
+Polls old new (Passed phase) = IsSoon 1 old new × IsLooked old.view new.view × IsFresh new.view × HasPassedOn old new × (phase ≡ new.view.phase) × HasLooked old.steps new.steps
+Polls old new Waiting = IsSoon 1 old new × IsLooked old.view new.view × IsFresh new.view × (new.view.arrived ≡ new.view.size) × HasLooked old.steps new.steps
+Polls old new (Here phase) = IsSoon 1 old new × IsLooked old.view new.view × IsFresh new.view × (new.view.arrived < new.view.size) × (phase ≡ new.view.phase) × HasLooked old.steps new.steps
+Polls old new (Ended shown) = IsSoon 1 old new × IsLooked old.view new.view × EndSeen new.view shown × HasLooked old.steps new.steps
+
+-- it tells that the tree has ended
+abbrev pub HasEnded : Polled → Type 0
+HasEnded (Ended shown) = Unit {0}
+HasEnded (Passed phase) = ⊥
+HasEnded Waiting = ⊥
+HasEnded (Here phase) = ⊥

@@ -1,0 +1,75 @@
+//! Polling.
+
+ghost use Rattle.std.specs.Prelude.{◌≡◌, ◌<◌, ◌≤◌, ◌+◌, ℕ, Some};
+ghost use Rattle.tier_rule.specs.Tell.{Beside};
+ghost use Rattle.tier_calls.specs.Holding.{IsCrew, shape_of};
+ghost use Rattle.tier_calls.specs.Made.{MadeOnly, is_quiet};
+ghost use Rattle.tier_calls.specs.Polls.{Polls, HasEnded};
+
+use crate::seated::Seated;
+use crate::tiers::Tiers;
+use crate::tokens::Crew;
+use tier_core::turn::is_behind;
+use tier_steps::kind::Kind;
+
+/// What a poll answers.
+#[derive(Clone, Copy)]
+pub enum Polled {
+    /// The phase in which all members had arrived has passed, and this one is the next.
+    Passed(u32),
+    /// All members have arrived, and others have not.
+    Waiting,
+    /// A member has not arrived in this phase.
+    Here(u32),
+    /// The tree has ended; the phase that is shown.
+    Ended(i32),
+}
+
+impl Tiers {
+    /// Brings the token's own tier into its phase where it lags, by one try at most.
+    fn catch_up(&self, token: &mut Seated)
+        requires own { token.old.tree ≡ self.now }
+        requires crew { IsCrew token.old }
+        requires known { Beside (shape_of token.old) token.old.tier token.old.word token.old.view }
+        requires some { token.old.view.arrived < token.old.view.size }
+        ensures tree { token.new.tree ≡ token.old.tree }
+        ensures view { token.new.view ≡ token.old.view }
+        ensures tried { token.new.tried ≤ token.old.tried + 1 }
+        ensures opened { token.new.opened ≡ token.old.opened }
+        ensures made { MadeOnly is_quiet token.old.steps token.new.steps }
+    {
+        let view = token.view();
+        if view.tier == 0 {
+            return;
+        }
+        self.look(token, view.tier, Kind::Look);
+        if is_behind(token.word(), &view) {
+            self.attempt(token, Kind::Refresh);
+        }
+    }
+
+    /// Sees whether the crew's phase has passed.
+    pub fn poll(&self, crew: &mut Crew) -> Polled
+        requires own { crew.old.tree ≡ self.now }
+        ensures tree { crew.new.tree ≡ crew.old.tree }
+        ensures answer { Polls crew.old crew.new result }
+        ensures ended { (phase : ℕ) → crew.old.view.end_seen ≡ Some phase → HasEnded result }
+    {
+        let token = &mut crew.token;
+        let before = token.view();
+        self.look_at_root(token);
+        let word = token.word();
+        let view = token.view();
+        if word.ended {
+            return Polled::Ended(word.shown());
+        }
+        if view.arrived == view.size {
+            return Polled::Waiting;
+        }
+        self.catch_up(token);
+        if view.phase == before.phase {
+            return Polled::Here(view.phase);
+        }
+        Polled::Passed(view.phase)
+    }
+}

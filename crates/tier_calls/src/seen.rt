@@ -1,0 +1,70 @@
+//! Words as the numbers that lie in the table.
+
+ghost use Rattle.std.specs.Prelude.{◌≡◌};
+ghost use Rattle.phaser_word.specs.Fields.{Fields, IsLegal};
+ghost use Rattle.phaser_word.specs.Packed.{packed};
+
+use phaser_word::Word;
+use std::marker::Model;
+
+/// A word by its number, of which only what is asked for is unpacked.
+#[derive(Clone, Copy)]
+pub(crate) struct Seen {
+    number: u64,
+}
+
+impl Model for Seen {
+    ghost use Rattle.std.specs.Prelude.{◌≡◌};
+    ghost use Rattle.phaser_word.specs.Fields.{Fields, IsLegal};
+    ghost use Rattle.phaser_word.specs.Packed.{packed};
+    ghost use Rattle.tier_calls.specs.Told.{told};
+
+    ghost Value = { Fields };
+
+    ghost view = { λ s. told s.number };
+
+    ghost invariant = { λ s. IsLegal (told s.number) × (packed (told s.number) ≡ s.number) };
+
+    ghost inverse = { λ w. record { number = packed w } };
+}
+
+impl Seen {
+    /// The word that has this number.
+    #[inline(always)]
+    pub(crate) fn at(number: u64) -> Seen
+        requires { (w : Fields) × IsLegal w × (packed w ≡ number) }
+        ensures { (w : Fields) → IsLegal w → packed w ≡ number → result ≡ w }
+    {
+        Seen { number }
+    }
+
+    /// This word.
+    #[inline(always)]
+    pub(crate) fn of(word: Word) -> Seen
+        ensures { result ≡ word }
+    {
+        let number = word.pack();
+        Seen::at(number)
+    }
+
+    /// Its number.
+    #[inline(always)]
+    pub(crate) fn number(&self) -> u64
+        ensures { result ≡ packed self.now }
+    {
+        self.number
+    }
+
+    /// The word itself.
+    #[inline(always)]
+    pub(crate) fn word(&self) -> Word
+        ensures { result ≡ self.now }
+    {
+        Word {
+            phase: (self.number / 4294967296 % 2147483648) as u32,
+            parties: (self.number / 65536 % 65536) as u32,
+            unarrived: (self.number % 65536) as u32,
+            ended: self.number / 9223372036854775808 != 0,
+        }
+    }
+}

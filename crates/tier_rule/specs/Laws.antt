@@ -1,0 +1,99 @@
+-- What holds of any number of threads' steps (own).
+use Rattle.std.specs.Prelude.{◌≡◌, ◌≢◌, ℕ, ◌<◌, ◌==◌, Bool, true, false, List, [], ◌∷◌, length, set, take}
+use Rattle.std.specs.List.{AllByRecursion}
+use mathlib.Core.Option.{some}
+use lib.ListN.{get_elem?}
+use Rattle.phaser_word.specs.Fields.{Fields}
+use Rattle.tier_steps.specs.declared.view.View.{View}
+use Rattle.tier_steps.specs.declared.kind.Kind.{Kind}
+use Rattle.tier_steps.specs.declared.kind.Kind.TheVariants.{Look, Glance, Refuse, Join, Arrive, Leave, Advance, Force, Claim, Settle, SettleBack, Climb, Refresh}
+use Rattle.tier_steps.specs.Tally.{word_at}
+use Rattle.tier_steps.specs.Step.{Needs}
+use Rattle.tier_steps.specs.Laws.{words_after, stepped_view}
+use Rattle.tier_steps.specs.Image.{image, label, labelled, IsAllowedLabel, LooksAlike}
+use Rattle.tier_steps.specs.Start.{empty_words}
+use Rattle.flat_phaser.specs.Flat.{Flat, registered}
+use Rattle.advance_rule.specs.Plan.{end_ends}
+use Rattle.tier_rule.specs.declared.sight.Key.{Key}
+use Rattle.tier_rule.specs.declared.sight.Sight.{Sight}
+use Rattle.tier_rule.specs.Reach.{views_of, PlanSays, Reached}
+
+-- all members of a token have arrived in this phase
+abbrev pub HasArrived : ℕ → View → Type 0
+HasArrived phase v = 0 < v.size → (v.phase ≡ phase) × (v.arrived ≡ v.size)
+
+-- Wherever steps of any tokens, in whatever order, have led: a step by which the root leaves its phase finds that every member of every
+-- token has arrived in that phase.
+abbrev pub AdvancesWaitForAll : Type 0
+AdvancesWaitForAll =
+    (k : Key) (words : List Fields) (seats : List (List Sight)) (id t : ℕ) (x : Sight) (kind : Kind)
+    → Reached k words seats → get_elem? seats id ≡ some (x ∷ []) → t < length words → Needs k.shape kind t (word_at words t) x.view
+    → (word_at (words_after words kind t x.view) 0).phase ≢ (word_at words 0).phase
+    → AllByRecursion (HasArrived (word_at words 0).phase) (views_of seats)
+
+-- Wherever the steps of any tokens have led, a step that a seat may take.
+pub record MayStep (k : Key) (words : List Fields) (seats : List (List Sight)) (id t : ℕ) (x : Sight) (kind : Kind) : Type 0 where
+  pub reached : Reached k words seats
+  pub seat : get_elem? seats id ≡ some (x ∷ [])
+  pub within : t < length words
+  pub needs : Needs k.shape kind t (word_at words t) x.view
+  pub says : PlanSays k kind (word_at words t)
+
+-- the number of a seat's token: how many views stand before it
+abbrev pub number_of : List (List Sight) → ℕ → ℕ
+number_of seats id = length (views_of (take id seats))
+
+-- It is the flat phaser's step of its label, or none: any flat phaser that looked like the tree before may take it, and what that leaves looks
+-- like the tree afterwards.
+abbrev pub StepsAreFlat : Type 0
+StepsAreFlat =
+    (k : Key) (words : List Fields) (seats : List (List Sight)) (id t : ℕ) (x y : Sight) (kind : Kind) (f : Flat)
+    → MayStep k words seats id t x kind → y.view ≡ stepped_view k.shape words kind t x.view
+    → LooksAlike f (image words (views_of seats))
+    → IsAllowedLabel (label (number_of seats id) kind) f
+    × LooksAlike (labelled (label (number_of seats id) kind) f) (image (words_after words kind t x.view) (views_of (set seats id (y ∷ []))))
+
+-- whether the tree has ended after a step: by force; by an advance as the plan says of the phase and of whether there is no member; else as before
+abbrev pub ended_by : Key → List Fields → List (List Sight) → Kind → Bool
+ended_by k words seats Look = (word_at words 0).ended
+ended_by k words seats Glance = (word_at words 0).ended
+ended_by k words seats (Refuse tier claimed size) = (word_at words 0).ended
+ended_by k words seats (Join tier claimed size) = (word_at words 0).ended
+ended_by k words seats Arrive = (word_at words 0).ended
+ended_by k words seats Leave = (word_at words 0).ended
+ended_by k words seats (Advance ends) = end_ends k.plan (word_at words 0).phase (registered (image words (views_of seats)) == 0)
+ended_by k words seats Force = true
+ended_by k words seats (Claim tier claimed size) = (word_at words 0).ended
+ended_by k words seats (Settle tier claimed size) = (word_at words 0).ended
+ended_by k words seats (SettleBack tier claimed size) = (word_at words 0).ended
+ended_by k words seats (Climb passage) = (word_at words 0).ended
+ended_by k words seats Refresh = (word_at words 0).ended
+
+abbrev pub EndsAreForcedOrPlanned : Type 0
+EndsAreForcedOrPlanned =
+    (k : Key) (words : List Fields) (seats : List (List Sight)) (id t : ℕ) (x : Sight) (kind : Kind)
+    → MayStep k words seats id t x kind
+    → (word_at (words_after words kind t x.view) 0).ended ≡ ended_by k words seats kind
+
+-- the step that ended a tree, at a moment when it went on
+pub record IsEnd (k : Key) : Type 0 where
+  pub words : List Fields
+  pub seats : List (List Sight)
+  pub id : ℕ
+  pub tier : ℕ
+  pub sight : Sight
+  pub kind : Kind
+  pub may : MayStep k words seats id tier sight kind
+  pub going : (word_at words 0).ended ≡ false
+  pub ends : ended_by k words seats kind ≡ true
+
+-- Wherever the steps have led: a tree that has ended was ended by a step, which was a force, or an advance of which the plan said so.
+abbrev pub EndsHaveAStep : Type 0
+EndsHaveAStep = (k : Key) (words : List Fields) (seats : List (List Sight)) → Reached k words seats → (word_at words 0).ended ≡ true → IsEnd k
+
+-- A new tree is empty: as long as its first token has made no step, and no seat was cut off its own, all words are as at first, and there is no other seat.
+abbrev pub NewTreesAreEmpty : Type 0
+NewTreesAreEmpty =
+    (k : Key) (words : List Fields) (seats : List (List Sight)) (id : ℕ) (x : Sight)
+    → Reached k words seats → get_elem? seats id ≡ some (x ∷ []) → x.steps ≡ [] → x.opened ≡ 0
+    → (words ≡ empty_words k.shape k.phase) × (seats ≡ (x ∷ []) ∷ [])
