@@ -29,9 +29,9 @@ use Rattle.job_schedule.specs.declared.step.JobStep.{JobStep}
 use Rattle.job_schedule.specs.declared.step.JobStep.TheVariants.{Take, Deliver, Tree as TreeStep, Advance, Close}
 use Rattle.job_schedule.specs.AnswerValue.{AnswerValue, Stepped, Finished, NotNow}
 use Rattle.job_schedule.specs.ParticipantValue.{participant_at, all_over}
-use Rattle.job_schedule.specs.World.{World, with_start, with_starts, empty_world, initial_world, kid_from, with_kids, noted, deed_of, called_by, advanced_by, ended_by, next_job, mode_after, closed_as, done_by, kind_of, kind_for, if_asked, by_mode, move_of, worker_of, step_of, answer_of, world_after, answers, reached}
+use Rattle.job_schedule.specs.World.{World, with_start, with_starts, empty_world, initial_world, child_from, with_children, noted, deed_of, called_by, advanced_by, ended_by, next_job, mode_after, closed_as, done_by, kind_of, kind_for, if_asked, by_mode, move_of, worker_of, step_of, answer_of, world_after, answers, reached}
 use Rattle.job_schedule.specs.Laws.{is_tree_step, behind_the_end, has_faulted, end_of, FinishedIsTheEnd}
-use Rattle.job_schedule.proofs.Jobs.{kids_keep, initial_job}
+use Rattle.job_schedule.proofs.Jobs.{children_keep, initial_job}
 use Rattle.job_schedule.proofs.Closing.{closes_by, closes_round, from_mode}
 
 -- this worker may end the tree by this token
@@ -252,11 +252,11 @@ IsReady v = Ready v v.mode
 goes_on : (v : World) → v.mode ≡ mode.Runs → v.job.fault ≡ None → IsReady v
 goes_on v runs none = subst (λ (m : Mode). Ready v m) (sym runs) none
 
-kids_mode : (w : World) (place : ℕ) (paths : List (List ℕ)) → (with_kids w place paths).mode ≡ w.mode
-kids_mode w place [] = refl
-kids_mode w place (path ∷ paths) = kids_mode (kid_from w place path w.free) place paths ∙ by w.free
+children_mode : (w : World) (place : ℕ) (paths : List (List ℕ)) → (with_children w place paths).mode ≡ w.mode
+children_mode w place [] = refl
+children_mode w place (path ∷ paths) = children_mode (child_from w place path w.free) place paths ∙ by w.free
   where
-    by : (free : List ℕ) → (kid_from w place path free).mode ≡ w.mode
+    by : (free : List ℕ) → (child_from w place path free).mode ≡ w.mode
     by [] = refl
     by (token ∷ free) = refl
 
@@ -363,9 +363,9 @@ done_ready w worker (Takes place) e ready =
     goes_on (done_by w worker (Takes place)).1 runs (in_runs w runs ready)
 done_ready w worker (Delivers place) e ready =
     let runs = only_in_runs w worker (Delivers place) e refl in
-    let k = kids_keep (noted w place (has_synced (deed_of w (participant_at w.participants place).path))) place (spawned_paths (deed_of w (participant_at w.participants place).path)) in
+    let k = children_keep (noted w place (has_synced (deed_of w (participant_at w.participants place).path))) place (spawned_paths (deed_of w (participant_at w.participants place).path)) in
     goes_on (done_by w worker (Delivers place)).1
-    (kids_mode (noted w place (has_synced (deed_of w (participant_at w.participants place).path))) place (spawned_paths (deed_of w (participant_at w.participants place).path)) ∙ runs)
+    (children_mode (noted w place (has_synced (deed_of w (participant_at w.participants place).path))) place (spawned_paths (deed_of w (participant_at w.participants place).path)) ∙ runs)
     (ap (λ (st : State). st.fault) k.job ∙ in_runs w runs ready)
 done_ready w worker (Calls place token c) e ready =
     let runs = only_in_runs w worker (Calls place token c) e refl in

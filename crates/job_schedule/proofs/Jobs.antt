@@ -20,7 +20,7 @@ use Rattle.job_schedule.specs.declared.stage.Move.TheVariants.{Takes, Delivers, 
 use Rattle.job_schedule.specs.declared.step.JobStep.{JobStep}
 use Rattle.job_schedule.specs.AnswerValue.{AnswerValue, Finished, NotNow}
 use Rattle.job_schedule.specs.ParticipantValue.{participant_at}
-use Rattle.job_schedule.specs.World.{World, with_starts, with_start, empty_world, initial_world, kid_from, with_kids, noted, deed_of, called_by, advanced_by, ended_by, next_job, closed_as, done_by, kind_of, kind_for, if_asked, move_of, worker_of, step_of, world_after, answer_of, answers, reached}
+use Rattle.job_schedule.specs.World.{World, with_starts, with_start, empty_world, initial_world, child_from, with_children, noted, deed_of, called_by, advanced_by, ended_by, next_job, closed_as, done_by, kind_of, kind_for, if_asked, move_of, worker_of, step_of, world_after, answer_of, answers, reached}
 use Rattle.job_schedule.specs.Laws.{FinishedTellsTheJob}
 
 pub record SameJob (w v : World) : Type 0 where
@@ -39,15 +39,15 @@ starts_keep w [] = same w
 starts_keep w (path ∷ paths) =
     and_then w (with_start w path) (with_starts w (path ∷ paths)) (record { program = refl; limit = refl; job = refl }) (starts_keep (with_start w path) paths)
 
-kid_keeps : (w : World) (place : ℕ) (path free : List ℕ) → SameJob w (kid_from w place path free)
-kid_keeps w place path [] = record { program = refl; limit = refl; job = refl }
-kid_keeps w place path (token ∷ free) = record { program = refl; limit = refl; job = refl }
+child_keeps : (w : World) (place : ℕ) (path free : List ℕ) → SameJob w (child_from w place path free)
+child_keeps w place path [] = record { program = refl; limit = refl; job = refl }
+child_keeps w place path (token ∷ free) = record { program = refl; limit = refl; job = refl }
 
-pub kids_keep : (w : World) (place : ℕ) (paths : List (List ℕ)) → SameJob w (with_kids w place paths)
-kids_keep w place [] = same w
-kids_keep w place (path ∷ paths) =
-    and_then w (kid_from w place path w.free) (with_kids w place (path ∷ paths)) (kid_keeps w place path w.free)
-    (kids_keep (kid_from w place path w.free) place paths)
+pub children_keep : (w : World) (place : ℕ) (paths : List (List ℕ)) → SameJob w (with_children w place paths)
+children_keep w place [] = same w
+children_keep w place (path ∷ paths) =
+    and_then w (child_from w place path w.free) (with_children w place (path ∷ paths)) (child_keeps w place path w.free)
+    (children_keep (child_from w place path w.free) place paths)
 
 called_keeps : (w : World) (worker place : ℕ) (tree : Tree) (a : TreeAnswer) → SameJob w (called_by w worker place tree a).1
 called_keeps w worker place tree answer.Begun = record { program = refl; limit = refl; job = refl }
@@ -80,7 +80,7 @@ closed_goes w worker token (Some report) = record { program = refl; limit = refl
 done_goes : (w : World) (worker : ℕ) (m : Move) → GoesOn w (done_by w worker m).1
 done_goes w worker (Takes place) = stays w (done_by w worker (Takes place)).1 (record { program = refl; limit = refl; job = refl })
 done_goes w worker (Delivers place) =
-    let k = kids_keep (noted w place (has_synced (deed_of w (participant_at w.participants place).path))) place (spawned_paths (deed_of w (participant_at w.participants place).path)) in
+    let k = children_keep (noted w place (has_synced (deed_of w (participant_at w.participants place).path))) place (spawned_paths (deed_of w (participant_at w.participants place).path)) in
     stays w (done_by w worker (Delivers place)).1 (record { program = k.program; limit = k.limit; job = k.job })
 done_goes w worker (Calls place token c) = stays w (done_by w worker (Calls place token c)).1
     (called_keeps w worker place (after (after w.tree (Begin token c)) (Go token)) (answer_to (after w.tree (Begin token c)) (Go token)))

@@ -33,7 +33,7 @@ use Rattle.job_schedule.specs.declared.stage.Stage.TheVariants.{Waits, Taken, Po
 use Rattle.job_schedule.specs.ParticipantValue.{ParticipantValue, no_participant, participant_at, participant_path, is_delivered, all_over, is_done as is_over_by, is_refused, next_stage, sent_home, answered, arriving, joining}
 use Rattle.job_schedule.specs.declared.step.JobStep.{JobStep}
 use Rattle.job_schedule.specs.Laws.{IsStanding}
-use Rattle.job_schedule.specs.World.{World, has_advanced, took, with_kid, kid_from, with_kids, noted, called_by, advanced_by, ended_by, closed_as, mode_after, initial_world, empty_world, reached, world_after}
+use Rattle.job_schedule.specs.World.{World, has_advanced, took, with_child, child_from, with_children, noted, called_by, advanced_by, ended_by, closed_as, mode_after, initial_world, empty_world, reached, world_after}
 use Rattle.job_schedule.specs.Moves.{at_stage}
 use Rattle.job_schedule.specs.Parts.{IsAsBefore, IsKept, IsNext, IsReached, IsTaken, IsWanted}
 use Rattle.job_schedule.proofs.Deeds.{as_before, not_itself}
@@ -119,9 +119,9 @@ home_delivered g Over = refl
 answer_delivered : (g : ParticipantValue) (a : Played) → is_delivered (answered g a).stage ≡ is_delivered g.stage
 answer_delivered g a = by (is_over_by a) (is_refused a)
   where
-    by : (b c : Bool) → is_delivered (if b then record g { stage = next_stage g.stage (length g.kids) } else (if c then sent_home g g.stage else g)).stage
+    by : (b c : Bool) → is_delivered (if b then record g { stage = next_stage g.stage (length g.children) } else (if c then sent_home g g.stage else g)).stage
         ≡ is_delivered g.stage
-    by true c = next_delivered g.stage (length g.kids)
+    by true c = next_delivered g.stage (length g.children)
     by false true = ap is_delivered (home_delivered g g.stage)
     by false false = refl
 
@@ -261,25 +261,25 @@ set_same (x ∷ gs) zero (suc q) g e = refl
 set_same (x ∷ gs) (suc place) zero g e = refl
 set_same (x ∷ gs) (suc place) (suc q) g e = set_same gs place q g e
 
-kid_same : (w : World) (place : ℕ) (path free : List ℕ) → SameStages w (kid_from w place path free)
-kid_same w place path [] = record {
-  count = length-set w.participants place (with_kid (participant_at w.participants place) w.leaves path (length w.tree.views));
-  stage = λ q. set_same w.participants place q (with_kid (participant_at w.participants place) w.leaves path (length w.tree.views)) refl;
+child_same : (w : World) (place : ℕ) (path free : List ℕ) → SameStages w (child_from w place path free)
+child_same w place path [] = record {
+  count = length-set w.participants place (with_child (participant_at w.participants place) w.leaves path (length w.tree.views));
+  stage = λ q. set_same w.participants place q (with_child (participant_at w.participants place) w.leaves path (length w.tree.views)) refl;
   taken = refl;
   mode = refl;
 }
-kid_same w place path (token ∷ free) = record {
-  count = length-set w.participants place (with_kid (participant_at w.participants place) w.leaves path token);
-  stage = λ q. set_same w.participants place q (with_kid (participant_at w.participants place) w.leaves path token) refl;
+child_same w place path (token ∷ free) = record {
+  count = length-set w.participants place (with_child (participant_at w.participants place) w.leaves path token);
+  stage = λ q. set_same w.participants place q (with_child (participant_at w.participants place) w.leaves path token) refl;
   taken = refl;
   mode = refl;
 }
 
-kids_same : (w : World) (place : ℕ) (paths : List (List ℕ)) → SameStages w (with_kids w place paths)
-kids_same w place [] = record { count = refl; stage = λ q. refl; taken = refl; mode = refl }
-kids_same w place (path ∷ paths) =
-    let one = kid_same w place path w.free in
-    let more = kids_same (kid_from w place path w.free) place paths in
+children_same : (w : World) (place : ℕ) (paths : List (List ℕ)) → SameStages w (with_children w place paths)
+children_same w place [] = record { count = refl; stage = λ q. refl; taken = refl; mode = refl }
+children_same w place (path ∷ paths) =
+    let one = child_same w place path w.free in
+    let more = children_same (child_from w place path w.free) place paths in
     record { count = more.count ∙ one.count; stage = λ q. more.stage q ∙ one.stage q; taken = more.taken ∙ one.taken; mode = more.mode ∙ one.mode }
 
 status_stays : (r new : RoundValue) → IsAsBefore r new → status_in new ≡ status_in r
@@ -287,9 +287,9 @@ status_stays r new same = ap (λ (n : ℕ). status n (state_of new)) same.limit 
 
 pub delivered_kept : (r new : RoundValue) (w : World) (place : ℕ) (synced : Bool) (paths : List (List ℕ)) → IsRound r → w.job ≡ state_of r
     → (status_in r ≡ None → IsStanding w) → place < length w.participants → (participant_at w.participants place).stage ≡ Taken → w.mode ≡ mode.Runs
-    → IsTaken r (participant_at w.participants place).path new → IsKept r w → IsKept new (with_kids (noted w place synced) place paths)
+    → IsTaken r (participant_at w.participants place).path new → IsKept r w → IsKept new (with_children (noted w place synced) place paths)
 delivered_kept r new w place synced paths is job stands below stage m h k =
-    let g : ParticipantValue = record (at_stage (participant_at w.participants place) Polling) { synced = synced; kids = [] } in
+    let g : ParticipantValue = record (at_stage (participant_at w.participants place) Polling) { synced = synced; children = [] } in
     let on : status_in r ≡ None = k.runs m (omega arith) in
     let mine = slot_of_participant r.slots w.participants place (standing_slots r w job (stands on)) below in
     let own : IsFor (participant_at w.participants place).path (slice_get r.slots h.delivery.place) =
@@ -297,8 +297,8 @@ delivered_kept r new w place synced paths is job stands below stage m h k =
     let at : h.delivery.place ≡ place = one_place r.slots (participant_at w.participants place).path h.delivery.place place (slots_rise r is) own mine in
     let slots : new.slots ≡ with_segment r.slots place h.delivery.segment =
     ap (λ (x : RoundValue). x.slots) h.added ∙ ap (λ (n : ℕ). with_segment r.slots n h.delivery.segment) at in
-    let same = kids_same (noted w place synced) place paths in
-    let len : length (with_kids (noted w place synced) place paths).participants ≡ length w.participants = same.count ∙ length-set w.participants place _ in
+    let same = children_same (noted w place synced) place paths in
+    let len : length (with_children (noted w place synced) place paths).participants ≡ length w.participants = same.count ∙ length-set w.participants place _ in
     let taken : place < w.taken = ⊎_elim (λ h. h) (λ (f : w.taken ≤ place). let bad : Waits ≡ Taken = sym (k.waiting place f below) ∙ stage in absurd cc) (apart place w.taken) in
     record {
       handed = λ _ q l. ap (λ (ss : List SlotValue). is_done (slice_get ss q)) slots ∙ ⊎_elim

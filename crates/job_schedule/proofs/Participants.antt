@@ -16,7 +16,7 @@ use Rattle.step_core.specs.Laws.{paths_on, synced_path}
 use Rattle.step_parts.proofs.InOrder.{put_all_mapped}
 use Rattle.job_schedule.specs.declared.stage.Stage.{Stage}
 use Rattle.job_schedule.specs.declared.stage.Stage.TheVariants.{Waits, Taken, Polling, Joining, Arriving, Leaving, Over}
-use Rattle.job_schedule.specs.ParticipantValue.{KidValue, ParticipantValue, participant_at, participant_path, kid_path, waiting, own_participant, kid_participant, living_participants, next_participants, is_over, all_over, is_delivered}
+use Rattle.job_schedule.specs.ParticipantValue.{ChildValue, ParticipantValue, participant_at, participant_path, child_path, waiting, own_participant, child_participant, living_participants, next_participants, is_over, all_over, is_delivered}
 use Rattle.job_schedule.specs.World.{deed_in}
 use Rattle.job_schedule.proofs.Deeds.{not_itself}
 
@@ -29,7 +29,7 @@ map_set f (x ∷ xs) (suc i) y d h = ap (λ zs. f x ∷ zs) (map_set f xs i y d 
 -- a participant's part in what its segment says
 pub record Notes (ss : List (List ℕ × Segment)) (g : ParticipantValue) : Type 0 where
   pub synced : g.synced ≡ has_synced (deed_in ss g.path)
-  pub kids : map kid_path g.kids ≡ spawned_paths (deed_in ss g.path)
+  pub children : map child_path g.children ≡ spawned_paths (deed_in ss g.path)
 
 over_delivered : (s : Stage) → is_over s ≡ true → is_delivered s ≡ true
 over_delivered Waits h = h
@@ -55,9 +55,9 @@ later_path p [] place a l = absurd (omega arith)
 later_path p (g ∷ gs) zero a l = a.0
 later_path p (g ∷ gs) (suc place) a l = later_path p gs place a.1 (omega arith)
 
-kids_paths : (ks : List KidValue) → map participant_path (map kid_participant ks) ≡ map kid_path ks
-kids_paths [] = refl
-kids_paths (k ∷ ks) = ap (λ ps. k.path ∷ ps) (kids_paths ks)
+children_paths : (ks : List ChildValue) → map participant_path (map child_participant ks) ≡ map child_path ks
+children_paths [] = refl
+children_paths (k ∷ ks) = ap (λ ps. k.path ∷ ps) (children_paths ks)
 
 own_paths : (g : ParticipantValue) → map participant_path (own_participant g) ≡ (if g.synced then g.path ∷ [] else [])
 own_paths g = by g.synced
@@ -84,16 +84,16 @@ living_paths p arrays n (g ∷ gs) (t ∷ ts) e r notes =
     let synced : (if g.synced then g.path ∷ [] else []) ≡ synced_path (t.path, segment_of p.plans t arrays n) =
     ap (λ (b : Bool). if b then g.path ∷ [] else []) (mine.synced ∙ ap has_synced found)
     ∙ ap (λ (q : List ℕ). if has_synced (segment_of p.plans t arrays n) then q ∷ [] else []) here in
-    let kids : map participant_path (map kid_participant g.kids) ≡ spawned_paths (segment_of p.plans t arrays n) =
-    kids_paths g.kids ∙ mine.kids ∙ ap spawned_paths found in
+    let children : map participant_path (map child_participant g.children) ≡ spawned_paths (segment_of p.plans t arrays n) =
+    children_paths g.children ∙ mine.children ∙ ap spawned_paths found in
     let later : AllByRecursion (λ q. path_lt t.path q ≡ true) (map participant_path gs) =
     subst (λ (qs : List (List ℕ)). AllByRecursion (λ q. path_lt t.path q ≡ true) qs) (sym rest) (rising_all t.path (map (λ (u : Task). u.path) ts) r) in
     let more = living_paths p arrays n gs ts rest (rising_rest t.path (map (λ (u : Task). u.path) ts) r)
     (λ place l. passed place l (notes (suc place) (omega arith)) (not_itself t.path (participant_at gs place).path (later_path t.path gs place later l))) in
-    map-append participant_path (own_participant g ++ map kid_participant g.kids) (living_participants gs)
-    ∙ ap (λ (qs : List (List ℕ)). qs ++ map participant_path (living_participants gs)) (map-append participant_path (own_participant g) (map kid_participant g.kids))
-    ∙ ap (λ (qs : List (List ℕ)). (qs ++ map participant_path (map kid_participant g.kids)) ++ map participant_path (living_participants gs)) (own_paths g ∙ synced)
-    ∙ ap (λ (qs : List (List ℕ)). (synced_path (t.path, segment_of p.plans t arrays n) ++ qs) ++ map participant_path (living_participants gs)) kids
+    map-append participant_path (own_participant g ++ map child_participant g.children) (living_participants gs)
+    ∙ ap (λ (qs : List (List ℕ)). qs ++ map participant_path (living_participants gs)) (map-append participant_path (own_participant g) (map child_participant g.children))
+    ∙ ap (λ (qs : List (List ℕ)). (qs ++ map participant_path (map child_participant g.children)) ++ map participant_path (living_participants gs)) (own_paths g ∙ synced)
+    ∙ ap (λ (qs : List (List ℕ)). (synced_path (t.path, segment_of p.plans t arrays n) ++ qs) ++ map participant_path (living_participants gs)) children
     ∙ ap (λ (qs : List (List ℕ)). (synced_path (t.path, segment_of p.plans t arrays n) ++ spawned_paths (segment_of p.plans t arrays n)) ++ qs) more
   where
     passed : (place : ℕ) → place < length gs → Notes (segments p arrays n (t ∷ ts)) (participant_at gs place) → bytes_eq t.path (participant_at gs place).path ≡ false
@@ -101,7 +101,7 @@ living_paths p arrays n (g ∷ gs) (t ∷ ts) e r notes =
     passed place l h no_match =
         let same : deed_in (segments p arrays n (t ∷ ts)) (participant_at gs place).path ≡ deed_in (segments p arrays n ts) (participant_at gs place).path =
         ap (λ (b : Bool). if b then segment_of p.plans t arrays n else deed_in (segments p arrays n ts) (participant_at gs place).path) no_match in
-        record { synced = h.synced ∙ ap has_synced same; kids = h.kids ∙ ap spawned_paths same }
+        record { synced = h.synced ∙ ap has_synced same; children = h.children ∙ ap spawned_paths same }
 
 -- so stand the next participants
 pub next_paths : (gs : List ParticipantValue) (qs : List (List ℕ)) → map participant_path (living_participants gs) ≡ qs → map participant_path (next_participants gs) ≡ in_path_order (λ (q : List ℕ). q) qs
@@ -129,9 +129,9 @@ fresh_append : (xs ys : List ParticipantValue) → AllByRecursion Fresh xs → A
 fresh_append [] ys a b = b
 fresh_append (x ∷ xs) ys a b = (a.0, fresh_append xs ys a.1 b)
 
-kids_fresh : (ks : List KidValue) → AllByRecursion Fresh (map kid_participant ks)
-kids_fresh [] = tt
-kids_fresh (k ∷ ks) = (refl, kids_fresh ks)
+children_fresh : (ks : List ChildValue) → AllByRecursion Fresh (map child_participant ks)
+children_fresh [] = tt
+children_fresh (k ∷ ks) = (refl, children_fresh ks)
 
 own_fresh : (g : ParticipantValue) → AllByRecursion Fresh (own_participant g)
 own_fresh g = by g.synced
@@ -142,8 +142,8 @@ own_fresh g = by g.synced
 
 living_fresh : (gs : List ParticipantValue) → AllByRecursion Fresh (living_participants gs)
 living_fresh [] = tt
-living_fresh (g ∷ gs) = fresh_append (own_participant g ++ map kid_participant g.kids) (living_participants gs)
-    (fresh_append (own_participant g) (map kid_participant g.kids) (own_fresh g) (kids_fresh g.kids)) (living_fresh gs)
+living_fresh (g ∷ gs) = fresh_append (own_participant g ++ map child_participant g.children) (living_participants gs)
+    (fresh_append (own_participant g) (map child_participant g.children) (own_fresh g) (children_fresh g.children)) (living_fresh gs)
 
 fresh_at : (gs : List ParticipantValue) (place : ℕ) → AllByRecursion Fresh gs → place < length gs → (participant_at gs place).stage ≡ Waits
 fresh_at [] place a l = absurd (omega arith)

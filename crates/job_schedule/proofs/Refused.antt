@@ -28,7 +28,7 @@ use Rattle.job_schedule.specs.declared.step.JobStep.{JobStep}
 use Rattle.job_schedule.specs.AnswerValue.{NotNow}
 use Rattle.job_schedule.specs.ParticipantValue.{participant_at}
 use Rattle.tier_shape.specs.Preferred.{leaf_at}
-use Rattle.job_schedule.specs.World.{World, gone, joined_at, plan_for, empty_world, initial_world, with_start, with_starts, kid_from, with_kids, noted, deed_of, called_by, advanced_by, ended_by, next_job, closed_as, done_by, kind_of, kind_for, if_asked, move_of, worker_of, answer_of, world_after, reached}
+use Rattle.job_schedule.specs.World.{World, gone, joined_at, plan_for, empty_world, initial_world, with_start, with_starts, child_from, with_children, noted, deed_of, called_by, advanced_by, ended_by, next_job, closed_as, done_by, kind_of, kind_for, if_asked, move_of, worker_of, answer_of, world_after, reached}
 use Rattle.job_schedule.specs.Parts.{IsAllowed}
 use Rattle.job_schedule.specs.Laws.{RefusedStepsChangeNothing}
 use Rattle.job_schedule.proofs.Moves.{Allowed, move_allowed}
@@ -154,13 +154,13 @@ starts_core : (w : World) (paths : List (List ℕ)) → IsCore w.tree → IsCore
 starts_core w [] core = core
 starts_core w (path ∷ paths) core = starts_core (with_start w path) paths (joined_core w.tree (leaf_at w.leaves (length w.participants)) core)
 
-kid_core : (w : World) (place : ℕ) (path free : List ℕ) → IsCore w.tree → IsCore (kid_from w place path free).tree
-kid_core w place path [] core = token_core w.tree core
-kid_core w place path (token ∷ free) core = core
+child_core : (w : World) (place : ℕ) (path free : List ℕ) → IsCore w.tree → IsCore (child_from w place path free).tree
+child_core w place path [] core = token_core w.tree core
+child_core w place path (token ∷ free) core = core
 
-kids_core : (w : World) (place : ℕ) (paths : List (List ℕ)) → IsCore w.tree → IsCore (with_kids w place paths).tree
-kids_core w place [] core = core
-kids_core w place (path ∷ paths) core = kids_core (kid_from w place path w.free) place paths (kid_core w place path w.free core)
+children_core : (w : World) (place : ℕ) (paths : List (List ℕ)) → IsCore w.tree → IsCore (with_children w place paths).tree
+children_core w place [] core = core
+children_core w place (path ∷ paths) core = children_core (child_from w place path w.free) place paths (child_core w place path w.free core)
 
 called_core : (w : World) (worker place : ℕ) (tree : Tree) (a : TreeAnswer) → IsCore tree → IsCore (called_by w worker place tree a).1.tree
 called_core w worker place tree answer.Begun core = core
@@ -180,7 +180,7 @@ ended_core w tree answer.NotNow core = core
 move_core : (w : World) (worker : ℕ) (m : Move) → IsAllowed w m → IsCore w.tree → IsCore (done_by w worker m).1.tree
 move_core w worker (Takes place) is core = core
 move_core w worker (Delivers place) is core =
-    kids_core (noted w place (has_synced (deed_of w (participant_at w.participants place).path))) place (spawned_paths (deed_of w (participant_at w.participants place).path)) core
+    children_core (noted w place (has_synced (deed_of w (participant_at w.participants place).path))) place (spawned_paths (deed_of w (participant_at w.participants place).path)) core
 move_core w worker (Calls place token c) is core =
     called_core w worker place (after (after w.tree (Begin token c)) (Go token)) (answer_to (after w.tree (Begin token c)) (Go token))
     (core_after (after w.tree (Begin token c)) (Go token) (core_after w.tree (Begin token c) core is.0.1) tt)

@@ -28,10 +28,10 @@ use Rattle.job_schedule.specs.declared.step.JobStep.{JobStep}
 use Rattle.job_schedule.specs.AnswerValue.{NotNow}
 use Rattle.job_schedule.specs.declared.stage.Stage.{Stage}
 use Rattle.job_schedule.specs.declared.stage.Stage.TheVariants.{Waits, Taken, Polling, Joining, Arriving, Leaving, Over}
-use Rattle.job_schedule.specs.ParticipantValue.{ParticipantValue, waiting, no_participant, no_kid, participant_at, participant_path, kid_path, kid_at, is_done, is_refused, next_stage, sent_home, answered, next_participants, all_over, is_delivered}
+use Rattle.job_schedule.specs.ParticipantValue.{ParticipantValue, waiting, no_participant, no_child, participant_at, participant_path, child_path, child_at, is_done, is_refused, next_stage, sent_home, answered, next_participants, all_over, is_delivered}
 use Rattle.tier_shape.specs.Preferred.{leaf_at}
 use Rattle.job_schedule.specs.Moves.{at_stage, by_stage, passing}
-use Rattle.job_schedule.specs.World.{World, deed_in, deed_of, with_participant, with_kid, kid_from, with_kids, noted, handed_in, called_by, advanced_by, ended_by, next_job, closed_as, done_by, kind_of, kind_for, if_asked, move_of, worker_of, world_after, reached, by_mode, by_hand, with_start, with_starts, empty_world, initial_world}
+use Rattle.job_schedule.specs.World.{World, deed_in, deed_of, with_participant, with_child, child_from, with_children, noted, handed_in, called_by, advanced_by, ended_by, next_job, closed_as, done_by, kind_of, kind_for, if_asked, move_of, worker_of, world_after, reached, by_mode, by_hand, with_start, with_starts, empty_world, initial_world}
 use Rattle.job_schedule.specs.Laws.{ParticipantsAreTheLiveTasks}
 use Rattle.job_schedule.proofs.Participants.{Notes, map_set, all_delivered, living_paths, next_paths, next_fresh}
 use Rattle.job_schedule.proofs.Closing.{one_superstep, from_mode}
@@ -68,11 +68,11 @@ one_participant w place g e n h =
 record Keeps (g h : ParticipantValue) : Type 0 where
   path : h.path ≡ g.path
   synced : h.synced ≡ g.synced
-  kids : map kid_path h.kids ≡ map kid_path g.kids
+  children : map child_path h.children ≡ map child_path g.children
   delivered : is_delivered h.stage ≡ true → is_delivered g.stage ≡ true
 
 keeps_itself : (g : ParticipantValue) → Keeps g g
-keeps_itself g = record { path = refl; synced = refl; kids = refl; delivered = λ h. h }
+keeps_itself g = record { path = refl; synced = refl; children = refl; delivered = λ h. h }
 
 next_delivered : (s : Stage) (n : ℕ) → is_delivered (next_stage s n) ≡ true → is_delivered s ≡ true
 next_delivered Waits n h = h
@@ -90,7 +90,7 @@ home_keeps g Polling = keeps_itself g
 home_keeps g (Joining joined) = record {
   path = refl;
   synced = refl;
-  kids = map_set kid_path g.kids joined (record (kid_at g.kids joined) { home = g.home }) no_kid refl;
+  children = map_set child_path g.children joined (record (child_at g.children joined) { home = g.home }) no_child refl;
   delivered = λ h. h;
 }
 home_keeps g (Arriving arrived) = keeps_itself g
@@ -100,15 +100,15 @@ home_keeps g Over = keeps_itself g
 answer_keeps : (g : ParticipantValue) (a : Played) → Keeps g (answered g a)
 answer_keeps g a = by (is_done a) (is_refused a)
   where
-    by : (b c : Bool) → Keeps g (if b then record g { stage = next_stage g.stage (length g.kids) } else (if c then sent_home g g.stage else g))
-    by true c = record { path = refl; synced = refl; kids = refl; delivered = next_delivered g.stage (length g.kids) }
+    by : (b c : Bool) → Keeps g (if b then record g { stage = next_stage g.stage (length g.children) } else (if c then sent_home g g.stage else g))
+    by true c = record { path = refl; synced = refl; children = refl; delivered = next_delivered g.stage (length g.children) }
     by false true = home_keeps g g.stage
     by false false = keeps_itself g
 
 notes_kept : (ss : List (List ℕ × Segment)) (g h : ParticipantValue) → Keeps g h → Notes ss g → Notes ss h
 notes_kept ss g h k n = record {
   synced = k.synced ∙ n.synced ∙ ap (λ q. has_synced (deed_in ss q)) (sym k.path);
-  kids = k.kids ∙ n.kids ∙ ap (λ q. spawned_paths (deed_in ss q)) (sym k.path);
+  children = k.children ∙ n.children ∙ ap (λ q. spawned_paths (deed_in ss q)) (sym k.path);
 }
 
 called_stands : (w : World) (worker place : ℕ) (tree : Tree) (a : TreeAnswer) → Stands w → Stands (called_by w worker place tree a).1
@@ -171,7 +171,7 @@ advanced_stands : (w : World) (worker place : ℕ) (tree : Tree) (a : TreeAnswer
 advanced_stands w worker place tree answer.Begun d h = record { paths = h.paths; noted = h.noted }
 advanced_stands w worker place tree (answer.Played a) d h =
     let one = one_participant w place (at_stage (participant_at w.participants place) Over) refl
-    (λ l e. let n = h.noted place l d in record { synced = n.synced; kids = n.kids }) h in
+    (λ l e. let n = h.noted place l d in record { synced = n.synced; children = n.children }) h in
     record { paths = one.paths; noted = one.noted }
 advanced_stands w worker place tree answer.NotNow d h = record { paths = h.paths; noted = h.noted }
 
@@ -184,7 +184,7 @@ ended_stands w tree answer.NotNow h = record { paths = h.paths; noted = h.noted 
 record Mine (ss : List (List ℕ × Segment)) (p : List ℕ) (rest : List (List ℕ)) (g : ParticipantValue) : Type 0 where
   path : g.path ≡ p
   synced : g.synced ≡ has_synced (deed_in ss p)
-  kids : map kid_path g.kids ++ rest ≡ spawned_paths (deed_in ss p)
+  children : map child_path g.children ++ rest ≡ spawned_paths (deed_in ss p)
 
 record Half (w : World) (place : ℕ) (p : List ℕ) (rest : List (List ℕ)) (v : World) : Type 0 where
   program : v.program ≡ w.program
@@ -210,30 +210,30 @@ half_set w v place p rest more g e mine h =
           subst (λ (x : ParticipantValue). Mine (deeds w) p more x) (sym (get_or-set_same v.participants place g no_participant known)) (mine (h.mine known));
     }
 
-one_kid : (ss : List (List ℕ × Segment)) (p path : List ℕ) (rest : List (List ℕ)) (g : ParticipantValue) (leaves : List ℕ) (token : ℕ) → Mine ss p (path ∷ rest) g
-    → Mine ss p rest (with_kid g leaves path token)
-one_kid ss p path rest g leaves token m = record {
+one_child : (ss : List (List ℕ × Segment)) (p path : List ℕ) (rest : List (List ℕ)) (g : ParticipantValue) (leaves : List ℕ) (token : ℕ) → Mine ss p (path ∷ rest) g
+    → Mine ss p rest (with_child g leaves path token)
+one_child ss p path rest g leaves token m = record {
   path = m.path;
   synced = m.synced;
-  kids =
-      ap (λ (qs : List (List ℕ)). qs ++ rest) (map-append kid_path g.kids (_ ∷ []))
-      ∙ append_assoc (map kid_path g.kids) (path ∷ []) rest
-      ∙ m.kids;
+  children =
+      ap (λ (qs : List (List ℕ)). qs ++ rest) (map-append child_path g.children (_ ∷ []))
+      ∙ append_assoc (map child_path g.children) (path ∷ []) rest
+      ∙ m.children;
 }
 
-half_kid : (w v : World) (place : ℕ) (p path : List ℕ) (rest : List (List ℕ)) (free : List ℕ) → Half w place p (path ∷ rest) v → Half w place p rest (kid_from v place path free)
-half_kid w v place p path rest [] h =
-    let k = half_set w v place p (path ∷ rest) rest (with_kid (participant_at v.participants place) v.leaves path (length v.tree.views)) refl
-    (one_kid (deeds w) p path rest (participant_at v.participants place) v.leaves (length v.tree.views)) h in
+half_child : (w v : World) (place : ℕ) (p path : List ℕ) (rest : List (List ℕ)) (free : List ℕ) → Half w place p (path ∷ rest) v → Half w place p rest (child_from v place path free)
+half_child w v place p path rest [] h =
+    let k = half_set w v place p (path ∷ rest) rest (with_child (participant_at v.participants place) v.leaves path (length v.tree.views)) refl
+    (one_child (deeds w) p path rest (participant_at v.participants place) v.leaves (length v.tree.views)) h in
     record { program = k.program; job = k.job; paths = k.paths; others = k.others; mine = k.mine }
-half_kid w v place p path rest (token ∷ free) h =
-    let k = half_set w v place p (path ∷ rest) rest (with_kid (participant_at v.participants place) v.leaves path token) refl
-    (one_kid (deeds w) p path rest (participant_at v.participants place) v.leaves token) h in
+half_child w v place p path rest (token ∷ free) h =
+    let k = half_set w v place p (path ∷ rest) rest (with_child (participant_at v.participants place) v.leaves path token) refl
+    (one_child (deeds w) p path rest (participant_at v.participants place) v.leaves token) h in
     record { program = k.program; job = k.job; paths = k.paths; others = k.others; mine = k.mine }
 
-half_kids : (w v : World) (place : ℕ) (p : List ℕ) (paths : List (List ℕ)) → Half w place p paths v → Half w place p [] (with_kids v place paths)
-half_kids w v place p [] h = h
-half_kids w v place p (path ∷ paths) h = half_kids w (kid_from v place path v.free) place p paths (half_kid w v place p path paths v.free h)
+half_children : (w v : World) (place : ℕ) (p : List ℕ) (paths : List (List ℕ)) → Half w place p paths v → Half w place p [] (with_children v place paths)
+half_children w v place p [] h = h
+half_children w v place p (path ∷ paths) h = half_children w (child_from v place path v.free) place p paths (half_child w v place p path paths v.free h)
 
 whole : (w v : World) (place : ℕ) (p : List ℕ) → Half w place p [] v → Stands v
 whole w v place p h =
@@ -248,7 +248,7 @@ whole w v place p h =
           let m = h.mine known in
           subst (λ (n : ℕ). Notes (deeds w) (participant_at v.participants n)) (sym s) (record {
             synced = m.synced ∙ ap (λ x. has_synced (deed_in (deeds w) x)) (sym m.path);
-            kids = sym (nothing_behind (map kid_path (participant_at v.participants place).kids)) ∙ m.kids ∙ ap (λ x. spawned_paths (deed_in (deeds w) x)) (sym m.path);
+            children = sym (nothing_behind (map child_path (participant_at v.participants place).children)) ∙ m.children ∙ ap (λ x. spawned_paths (deed_in (deeds w) x)) (sym m.path);
           }))
           (λ (o : q ≢ place). h.others q l o d)
           (cases_eq q place));
@@ -262,11 +262,11 @@ handed_stands : (w : World) (place : ℕ) → Stands w → Stands (handed_in w p
 handed_stands w place h =
     let p : List ℕ = (participant_at w.participants place).path in
     let s : Segment = deed_of w (participant_at w.participants place).path in
-    let g : ParticipantValue = record (at_stage (participant_at w.participants place) Polling) { synced = has_synced (deed_of w (participant_at w.participants place).path); kids = [] } in
-    let len : length (set w.participants place (record (at_stage (participant_at w.participants place) Polling) { synced = has_synced (deed_of w (participant_at w.participants place).path); kids = [] })) ≡ length w.participants =
-    length-set w.participants place (record (at_stage (participant_at w.participants place) Polling) { synced = has_synced (deed_of w (participant_at w.participants place).path); kids = [] }) in
+    let g : ParticipantValue = record (at_stage (participant_at w.participants place) Polling) { synced = has_synced (deed_of w (participant_at w.participants place).path); children = [] } in
+    let len : length (set w.participants place (record (at_stage (participant_at w.participants place) Polling) { synced = has_synced (deed_of w (participant_at w.participants place).path); children = [] })) ≡ length w.participants =
+    length-set w.participants place (record (at_stage (participant_at w.participants place) Polling) { synced = has_synced (deed_of w (participant_at w.participants place).path); children = [] }) in
     whole w (handed_in w place (deed_of w (participant_at w.participants place).path)) place (participant_at w.participants place).path
-    (half_kids w (noted w place (has_synced (deed_of w (participant_at w.participants place).path))) place (participant_at w.participants place).path (spawned_paths (deed_of w (participant_at w.participants place).path)) (record {
+    (half_children w (noted w place (has_synced (deed_of w (participant_at w.participants place).path))) place (participant_at w.participants place).path (spawned_paths (deed_of w (participant_at w.participants place).path)) (record {
       program = refl;
       job = refl;
       paths = map_set participant_path w.participants place g no_participant refl ∙ h.paths;
@@ -277,7 +277,7 @@ handed_stands w place h =
       mine = λ l.
           let known : place < length w.participants = omega arith in
           subst (λ (x : ParticipantValue). Mine (deeds w) (participant_at w.participants place).path (spawned_paths (deed_of w (participant_at w.participants place).path)) x)
-          (sym (get_or-set_same w.participants place g no_participant known)) (record { path = refl; synced = refl; kids = refl });
+          (sym (get_or-set_same w.participants place g no_participant known)) (record { path = refl; synced = refl; children = refl });
     }))
 
 -- The round is closed, and the job goes on.
@@ -331,17 +331,17 @@ move_stands p limit w worker (Delivers place) is e h = λ run. handed_stands w p
   where
     handed_status : (w : World) (place : ℕ) → is_some (status (done_by w worker (Delivers place)).1.limit (done_by w worker (Delivers place)).1.job) ≡ false
         → is_some (status w.limit w.job) ≡ false
-    handed_status w place r = kids_status (noted w place (has_synced (deed_of w (participant_at w.participants place).path))) place (spawned_paths (deed_of w (participant_at w.participants place).path)) r
+    handed_status w place r = children_status (noted w place (has_synced (deed_of w (participant_at w.participants place).path))) place (spawned_paths (deed_of w (participant_at w.participants place).path)) r
       where
-        kid_status : (v : World) (place : ℕ) (path free : List ℕ) → is_some (status (kid_from v place path free).limit (kid_from v place path free).job) ≡ false
+        child_status : (v : World) (place : ℕ) (path free : List ℕ) → is_some (status (child_from v place path free).limit (child_from v place path free).job) ≡ false
             → is_some (status v.limit v.job) ≡ false
-        kid_status v place path [] r = r
-        kid_status v place path (token ∷ free) r = r
+        child_status v place path [] r = r
+        child_status v place path (token ∷ free) r = r
 
-        kids_status : (v : World) (place : ℕ) (paths : List (List ℕ)) → is_some (status (with_kids v place paths).limit (with_kids v place paths).job) ≡ false
+        children_status : (v : World) (place : ℕ) (paths : List (List ℕ)) → is_some (status (with_children v place paths).limit (with_children v place paths).job) ≡ false
             → is_some (status v.limit v.job) ≡ false
-        kids_status v place [] r = r
-        kids_status v place (path ∷ paths) r = kid_status v place path v.free (kids_status (kid_from v place path v.free) place paths r)
+        children_status v place [] r = r
+        children_status v place (path ∷ paths) r = child_status v place path v.free (children_status (child_from v place path v.free) place paths r)
 move_stands p limit w worker (Calls place token c) is e h = by (answer_to (after w.tree (Begin token c)) (Go token))
   where
     by : (a : TreeAnswer) → Standing (called_by w worker place (after (after w.tree (Begin token c)) (Go token)) a).1
@@ -418,7 +418,7 @@ participants_are_the_live_tasks p parents limit xs run =
     let is = initial_is_of p parents limit in
     let all = run_stands p limit (initial_world p parents limit) xs is (initial_stands p parents limit) in
     let stands = all (running run) in
-    record { paths = stands.paths; noted = λ place l d. let n = stands.noted place l d in record { synced = n.synced; kids = n.kids } }
+    record { paths = stands.paths; noted = λ place l d. let n = stands.noted place l d in record { synced = n.synced; children = n.children } }
   where
     running : status limit (reached (initial_world p parents limit) xs).job ≡ None
         → is_some (status (reached (initial_world p parents limit) xs).limit (reached (initial_world p parents limit) xs).job) ≡ false

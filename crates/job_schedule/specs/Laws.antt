@@ -14,7 +14,7 @@ use Rattle.step_core.specs.JobMeaning.{status, report_of}
 use Rattle.job_schedule.specs.declared.stage.Mode.TheVariants as mode
 use Rattle.job_schedule.specs.declared.step.JobStep.{JobStep}
 use Rattle.job_schedule.specs.declared.step.JobStep.TheVariants.{Take, Deliver, Tree as TreeStep, Advance, Close}
-use Rattle.job_schedule.specs.ParticipantValue.{ParticipantValue, all_over, is_delivered, kid_path, participant_path, participant_at}
+use Rattle.job_schedule.specs.ParticipantValue.{ParticipantValue, all_over, is_delivered, child_path, participant_path, participant_at}
 use Rattle.job_schedule.specs.AnswerValue.{AnswerValue, Stepped, Closed, Finished, NotNow}
 use Rattle.job_schedule.specs.World.{World, deed_of, initial_world, worker_of, next_job, answer_of, answers, world_after, reached}
 
@@ -33,7 +33,7 @@ pub record IsClosing (w : World) (x : JobStep) : Type 0 where
   pub runs : (world_after w x).mode ≡ mode.Runs
   pub step : (world_after w x).job ≡ superstep w.program w.job
 
--- So it is where the job is finished; only a job that is over as it begins is closed by anybody, and takes no superstep.
+-- The same holds when the job is finished. Only a job that is over as it begins may be closed by any worker; that takes no superstep.
 pub record IsFinishing (w : World) (x : JobStep) : Type 0 where
   pub by : x ≡ Close (worker_of x)
   pub from : (is_some (status w.limit w.job) ≡ true) ⊎ (((token : ℕ) × (w.mode ≡ mode.Advanced (worker_of x) token)) × (all_over w.participants ≡ true))
@@ -48,11 +48,8 @@ RoundsAreClosedOnce =
 
 -- Behind the end each step answers NotNow, but one: after a fault the closer's first step in the tree answers the tree's end.
 abbrev pub is_tree_step : ℕ → JobStep → Bool
-is_tree_step closer (Take worker) = false
-is_tree_step closer (Deliver worker) = false
 is_tree_step closer (TreeStep worker) = worker == closer
-is_tree_step closer (Advance worker) = false
-is_tree_step closer (Close worker) = false
+is_tree_step _ _ = false
 
 abbrev pub behind_the_end : ℕ → Played → Bool → List JobStep → List AnswerValue
 behind_the_end closer end due [] = []
@@ -85,7 +82,7 @@ RefusedStepsChangeNothing =
 -- what that segment spawned, and whether the task synced.
 pub record IsNoted (w : World) (g : ParticipantValue) : Type 0 where
   pub synced : g.synced ≡ has_synced (deed_of w g.path)
-  pub kids : map kid_path g.kids ≡ spawned_paths (deed_of w g.path)
+  pub children : map child_path g.children ≡ spawned_paths (deed_of w g.path)
 
 pub record IsStanding (w : World) : Type 0 where
   pub paths : map participant_path w.participants ≡ live_paths w.job

@@ -3,7 +3,7 @@ use Rattle.std.specs.Prelude.{ℕ, Bool, true, false, ◌==◌, if◌then◌else
 use Rattle.tier_core.specs.declared.call.Call.TheVariants as call
 use Rattle.job_schedule.specs.declared.stage.Move.{Move}
 use Rattle.job_schedule.specs.declared.stage.Move.TheVariants.{Takes, Delivers, Calls, Advances, Closes, Ends}
-use Rattle.job_schedule.specs.ParticipantValue.{Stage, Waits, Taken, Polling, Joining, Arriving, Leaving, Over, ParticipantValue, kid_at}
+use Rattle.job_schedule.specs.ParticipantValue.{Stage, Waits, Taken, Polling, Joining, Arriving, Leaving, Over, ParticipantValue, child_at}
 
 -- Its task is delivered; then come the calls of the task's tree, and the advance where that is due.
 abbrev pub passing : Bool → ℕ → ℕ → Bool → Option Move
@@ -14,8 +14,8 @@ abbrev pub by_stage : ParticipantValue → ℕ → Bool → Stage → Option Mov
 by_stage g place due Waits = None
 by_stage g place due Taken = Some (Delivers place)
 by_stage g place due Polling = Some (Calls place g.token call.Poll)
-by_stage g place due (Joining joined) = Some (Calls place (kid_at g.kids joined).token (call.Join (kid_at g.kids joined).home 1))
-by_stage g place due (Arriving arrived) = Some (Calls place (kid_at g.kids arrived).token call.Arrive)
+by_stage g place due (Joining joined) = Some (Calls place (child_at g.children joined).token (call.Join (child_at g.children joined).home 1))
+by_stage g place due (Arriving arrived) = Some (Calls place (child_at g.children arrived).token call.Arrive)
 by_stage g place due Leaving = passing due place g.token g.synced
 by_stage g place due Over = None
 

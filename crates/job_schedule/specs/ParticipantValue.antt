@@ -7,7 +7,7 @@ pub use Rattle.job_schedule.specs.declared.stage.Stage.{Stage}
 pub use Rattle.job_schedule.specs.declared.stage.Stage.TheVariants.{Waits, Taken, Polling, Joining, Arriving, Leaving, Over}
 
 -- a spawned task: its token, and the tier at which that has its member or is to join
-pub record KidValue : Type 0 where
+pub record ChildValue : Type 0 where
   pub path : List ℕ
   pub token : ℕ
   pub home : ℕ
@@ -18,7 +18,7 @@ pub record ParticipantValue : Type 0 where
   pub path : List ℕ
   pub token : ℕ
   pub home : ℕ
-  pub kids : List KidValue
+  pub children : List ChildValue
   pub synced : Bool
   pub stage : Stage
 
@@ -27,41 +27,32 @@ participant_path g = g.path
 
 -- a task that begins its superstep
 abbrev pub waiting : List ℕ → ℕ → ℕ → ParticipantValue
-waiting path token home = record { path = path; token = token; home = home; kids = []; synced = false; stage = Waits }
+waiting path token home = record { path = path; token = token; home = home; children = []; synced = false; stage = Waits }
 
-abbrev pub no_kid : KidValue
-no_kid = record { path = []; token = 0; home = 0 }
+abbrev pub no_child : ChildValue
+no_child = record { path = []; token = 0; home = 0 }
 
-abbrev pub kid_at : List KidValue → ℕ → KidValue
-kid_at kids n = slice_index_or kids n no_kid
+abbrev pub child_at : List ChildValue → ℕ → ChildValue
+child_at children n = slice_index_or children n no_child
 
 abbrev pub no_participant : ParticipantValue
-no_participant = record { path = []; token = 0; home = 0; kids = []; synced = false; stage = Over }
+no_participant = record { path = []; token = 0; home = 0; children = []; synced = false; stage = Over }
 
 abbrev pub participant_at : List ParticipantValue → ℕ → ParticipantValue
 participant_at participants place = slice_index_or participants place no_participant
 
 abbrev pub is_over : Stage → Bool
-is_over Waits = false
-is_over Taken = false
-is_over Polling = false
-is_over (Joining joined) = false
-is_over (Arriving arrived) = false
-is_over Leaving = false
 is_over Over = true
+is_over _ = false
 
 -- whether its segment was handed in
 abbrev pub is_delivered : Stage → Bool
 is_delivered Waits = false
 is_delivered Taken = false
-is_delivered Polling = true
-is_delivered (Joining joined) = true
-is_delivered (Arriving arrived) = true
-is_delivered Leaving = true
-is_delivered Over = true
+is_delivered _ = true
 
-abbrev pub kid_path : KidValue → List ℕ
-kid_path k = k.path
+abbrev pub child_path : ChildValue → List ℕ
+child_path k = k.path
 
 abbrev pub all_over : List ParticipantValue → Bool
 all_over [] = true
@@ -69,26 +60,14 @@ all_over (g ∷ gs) = is_over g.stage && all_over gs
 
 -- the answers of a call that is over: it was done, or it was refused
 abbrev pub is_done : Played → Bool
-is_done GoesOn = false
 is_done (Done phase) = true
 is_done (Passed phase) = true
-is_done Waiting = false
-is_done (Held phase why) = false
-is_done (Full parties) = false
-is_done (AlreadyArrived phase) = false
-is_done (Ended number) = false
-is_done (MustAdvance phase parties) = false
+is_done _ = false
 
 abbrev pub is_refused : Played → Bool
-is_refused GoesOn = false
-is_refused (Done phase) = false
-is_refused (Passed phase) = false
-is_refused Waiting = false
 is_refused (Held phase why) = true
 is_refused (Full parties) = true
-is_refused (AlreadyArrived phase) = false
-is_refused (Ended number) = false
-is_refused (MustAdvance phase parties) = false
+is_refused _ = false
 
 -- so many of the spawned tasks have joined, or arrived; when all have, the next calls follow
 abbrev pub arriving : ℕ → ℕ → Stage
@@ -112,7 +91,7 @@ abbrev pub sent_home : ParticipantValue → Stage → ParticipantValue
 sent_home g Waits = g
 sent_home g Taken = g
 sent_home g Polling = g
-sent_home g (Joining joined) = record g { kids = slice_set g.kids joined record (kid_at g.kids joined) { home = g.home } }
+sent_home g (Joining joined) = record g { children = slice_set g.children joined record (child_at g.children joined) { home = g.home } }
 sent_home g (Arriving arrived) = g
 sent_home g Leaving = g
 sent_home g Over = g
@@ -120,18 +99,18 @@ sent_home g Over = g
 -- a task after such an answer of its call
 abbrev pub answered : ParticipantValue → Played → ParticipantValue
 answered g a =
-    if is_done a then record g { stage = next_stage g.stage (length g.kids) } else (if is_refused a then sent_home g g.stage else g)
+    if is_done a then record g { stage = next_stage g.stage (length g.children) } else (if is_refused a then sent_home g g.stage else g)
 
 -- The next participants: a task that synced keeps its token, a spawned task has the one that joined for it; in path order.
 abbrev pub own_participant : ParticipantValue → List ParticipantValue
 own_participant g = if g.synced then waiting g.path g.token g.home ∷ [] else []
 
-abbrev pub kid_participant : KidValue → ParticipantValue
-kid_participant k = waiting k.path k.token k.home
+abbrev pub child_participant : ChildValue → ParticipantValue
+child_participant k = waiting k.path k.token k.home
 
 abbrev pub living_participants : List ParticipantValue → List ParticipantValue
 living_participants [] = []
-living_participants (g ∷ gs) = (own_participant g ++ map kid_participant g.kids) ++ living_participants gs
+living_participants (g ∷ gs) = (own_participant g ++ map child_participant g.children) ++ living_participants gs
 
 abbrev pub next_participants : List ParticipantValue → List ParticipantValue
 next_participants gs = in_path_order participant_path (living_participants gs)

@@ -145,25 +145,25 @@ abbrev pub deed_of : World → List ℕ → Segment
 deed_of w path = deed_in (segments w.program w.job.arrays w.job.step w.job.live) path
 
 -- A spawned task has a token: a free one, else a new one.
-abbrev pub with_kid : ParticipantValue → List ℕ → List ℕ → ℕ → ParticipantValue
-with_kid g leaves path token = record g { kids = g.kids ++ record { path = path; token = token; home = preferred leaves g.home path } ∷ [] }
+abbrev pub with_child : ParticipantValue → List ℕ → List ℕ → ℕ → ParticipantValue
+with_child g leaves path token = record g { children = g.children ++ record { path = path; token = token; home = preferred leaves g.home path } ∷ [] }
 
-abbrev pub kid_from : World → ℕ → List ℕ → List ℕ → World
-kid_from w place path [] =
-    record (with_participant w place (with_kid (participant_at w.participants place) w.leaves path (length w.tree.views))) { tree = with_token w.tree }
-kid_from w place path (token ∷ free) =
-    record (with_participant w place (with_kid (participant_at w.participants place) w.leaves path token)) { free = free }
+abbrev pub child_from : World → ℕ → List ℕ → List ℕ → World
+child_from w place path [] =
+    record (with_participant w place (with_child (participant_at w.participants place) w.leaves path (length w.tree.views))) { tree = with_token w.tree }
+child_from w place path (token ∷ free) =
+    record (with_participant w place (with_child (participant_at w.participants place) w.leaves path token)) { free = free }
 
-abbrev pub with_kids : World → ℕ → List (List ℕ) → World
-with_kids w place [] = w
-with_kids w place (path ∷ paths) = with_kids (kid_from w place path w.free) place paths
+abbrev pub with_children : World → ℕ → List (List ℕ) → World
+with_children w place [] = w
+with_children w place (path ∷ paths) = with_children (child_from w place path w.free) place paths
 
 -- A worker hands in the segment of its task: whether it synced and what it spawned is known from then on.
 abbrev pub noted : World → ℕ → Bool → World
-noted w place synced = with_participant w place record (at_stage (participant_at w.participants place) Polling) { synced = synced; kids = [] }
+noted w place synced = with_participant w place record (at_stage (participant_at w.participants place) Polling) { synced = synced; children = [] }
 
 abbrev pub handed_in : World → ℕ → Segment → World
-handed_in w place s = with_kids (noted w place (has_synced s)) place (spawned_paths s)
+handed_in w place s = with_children (noted w place (has_synced s)) place (spawned_paths s)
 
 -- A step of a call: the call begins, if none has, and takes one step.
 abbrev pub hand_after : Stage → List (Option ℕ) → ℕ → List (Option ℕ)

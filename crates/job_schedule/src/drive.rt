@@ -14,7 +14,7 @@ use std::alloc::{AllocError, Global};
 use task_code::job::Job;
 use tier_shape::Shape;
 
-// Takes a step, and puts its answer behind those before.
+// Takes a step, and appends its answer.
 fn take_step(
     alloc: Global,
     schedule: &mut Schedule<'_>,
@@ -67,9 +67,11 @@ fn take_steps(
     take_each(alloc, &mut schedule, steps)
 }
 
-/// Runs a job with this limit of supersteps on a tree of phasers of this shape, by steps of its workers in this order,
-/// and answers each. The start tasks are joined first, task i at the leaf of number i, from 0 again behind the last
-/// leaf; the tree ends when it is empty, and in phase limit - 1 at the latest (own).
+/// Runs a job with this limit of supersteps on a tree of phasers of this shape, by these steps of its workers. Returns
+/// the answer of each step (own).
+///
+/// Start tasks join before the first step, task i at leaf i modulo the number of leaves. The tree ends when it is empty,
+/// and in phase `limit - 1` at the latest.
 pub fn drive_job(
     alloc: Global,
     job: &Job,

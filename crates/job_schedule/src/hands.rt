@@ -1,9 +1,9 @@
-//! What each worker has.
+//! Which task each worker has.
 ghost use Rattle.std.specs.Prelude.{◌≡◌, ℕ, Option, None, OnOk, IfOk, replicate, slice_index_or, slice_set};
 
 use std::alloc::{AllocError, Global};
 
-/// So many workers, none of which has a task.
+/// Makes the hands of this number of workers, none of which has a task.
 pub fn empty_hands(alloc: Global, workers: usize) -> Result<Vec<Option<usize>>, AllocError>
     ensures { IfOk result (λ hands. hands.items ≡ replicate workers None) }
 {
@@ -14,7 +14,7 @@ pub fn empty_hands(alloc: Global, workers: usize) -> Result<Vec<Option<usize>>, 
     Ok(hands)
 }
 
-/// The place of the task that a worker has.
+/// The place of the task that a worker has, if it has one.
 pub fn hand_of(hands: &[Option<usize>], worker: usize) -> Option<usize>
     ensures { result ≡ slice_index_or hands.now worker None }
 {
@@ -24,7 +24,7 @@ pub fn hand_of(hands: &[Option<usize>], worker: usize) -> Option<usize>
     hands[worker]
 }
 
-/// A worker has this from now on.
+/// Sets which task a worker has.
 pub fn set_hand(hands: &mut Vec<Option<usize>>, worker: usize, hand: Option<usize>)
     ensures { hands.new.items ≡ slice_set hands.old.items worker hand }
 {

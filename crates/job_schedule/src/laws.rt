@@ -8,14 +8,14 @@ pub fn finished_tells_the_job()
     ensures { FinishedTellsTheJob }
 {}
 
-/// Behind that answer each step is answered `NotNow`, but one: after a fault the first step in the tree of the worker that
+/// After that answer each step is answered `NotNow`, but one: after a fault the first step in the tree of the worker that
 /// closed the round answers the end of the tree.
 pub fn finished_is_the_end()
     ensures { FinishedIsTheEnd }
 {}
 
-/// A round is closed by the worker that advanced the root last, once: then the next tasks are ready, or the job is finished.
-/// It is one superstep of the job. Only a job that is over as it begins is closed by anybody.
+/// A round is closed once, by the worker that advanced the root last. Then the next tasks are ready, or the job is
+/// finished. A round is one superstep of the job. Only a job that is over as it begins may be closed by any worker.
 pub fn rounds_are_closed_once()
     ensures { RoundsAreClosedOnce }
 {}
@@ -25,7 +25,7 @@ pub fn refused_steps_change_nothing()
     ensures { RefusedStepsChangeNothing }
 {}
 
-/// While a job runs its participants are those of its live tasks, in path order, and note what was handed in.
+/// While a job runs, its participants are those of its live tasks, in path order, and note what was delivered.
 pub fn participants_are_the_live_tasks()
     ensures { ParticipantsAreTheLiveTasks }
 {}

@@ -2,16 +2,16 @@
 ghost use Rattle.std.specs.Prelude.{◌≡◌, ◌≤◌, ◌++◌, [], OnOk, IfOk, map, length, reverse};
 ghost use Rattle.std.specs.List.{insert};
 ghost use Rattle.superstep_memory.specs.PathOrder.{put_in, put_all, in_path_order};
-ghost use Rattle.job_schedule.specs.ParticipantValue.{ParticipantValue, participant_path, own_participant, kid_participant, living_participants, next_participants, freed};
+ghost use Rattle.job_schedule.specs.ParticipantValue.{ParticipantValue, participant_path, own_participant, child_participant, living_participants, next_participants, freed};
 
-use crate::participant::{Kid, Participant};
+use crate::participant::{Child, Participant};
 use std::alloc::{AllocError, Global};
 use superstep_memory::path::is_before;
 
 // The next participants are collected with the last by path first. They come from the last participant to the first, so that each
 // passes only those that its path begins.
 
-// The place for a participant of this path.
+// The place of a participant with this path.
 fn place_for(living: &[Participant], path: &[u16]) -> usize
     ensures place { (g : ParticipantValue) → g.path ≡ path.now
         → insert living.now result g ≡ reverse (put_in participant_path g (reverse living.now)) }
@@ -27,7 +27,7 @@ fn place_for(living: &[Participant], path: &[u16]) -> usize
     rest.len()
 }
 
-// Puts a participant in its place.
+// Inserts a participant at its place.
 fn put_participant(
     living: &mut Vec<Participant>,
     participant: Participant,
@@ -41,42 +41,46 @@ fn put_participant(
     }
 }
 
-// Puts the participants of spawned tasks in their places.
-fn put_kids(alloc: Global, living: &mut Vec<Participant>, kids: Vec<Kid>) -> Result<(), AllocError>
-    ensures { OnOk result (living.new.items ≡ reverse (put_all participant_path (map kid_participant kids.items) (reverse living.old.items))) }
+// Inserts the participants of spawned tasks at their places.
+fn put_children(
+    alloc: Global,
+    living: &mut Vec<Participant>,
+    children: Vec<Child>,
+) -> Result<(), AllocError>
+    ensures { OnOk result (living.new.items ≡ reverse (put_all participant_path (map child_participant children.items) (reverse living.old.items))) }
 {
-    let mut rest = kids;
-    while let Some(kid) = rest.pop() {
-        put_participant(living, kid.into_participant(alloc))?;
+    let mut rest = children;
+    while let Some(child) = rest.pop() {
+        put_participant(living, child.into_participant(alloc))?;
     }
     Ok(())
 }
 
-// Puts what a task leaves in its place.
+// Inserts the participants that a task leaves: its spawned tasks, and itself if it synced.
 fn put_living(
     alloc: Global,
     living: &mut Vec<Participant>,
     participant: Participant,
 ) -> Result<(), AllocError>
     ensures { OnOk result (living.new.items
-        ≡ reverse (put_all participant_path (own_participant participant ++ map kid_participant participant.kids) (reverse living.old.items))) }
+        ≡ reverse (put_all participant_path (own_participant participant ++ map child_participant participant.children) (reverse living.old.items))) }
 {
     let Participant {
         path,
         token,
         home,
-        kids,
+        children,
         synced,
         stage: _,
     } = participant;
-    put_kids(alloc, living, kids)?;
+    put_children(alloc, living, children)?;
     if synced {
         put_participant(living, Participant::new(alloc, path, token, home))?;
     }
     Ok(())
 }
 
-// What the tasks leave, the last by path first.
+// Collects the participants that all tasks leave, the last by path first.
 fn collect(alloc: Global, participants: Vec<Participant>) -> Result<Vec<Participant>, AllocError>
     ensures { IfOk result (λ living. living.items ≡ reverse (next_participants participants.items)) }
 {
@@ -88,7 +92,7 @@ fn collect(alloc: Global, participants: Vec<Participant>) -> Result<Vec<Particip
     Ok(living)
 }
 
-/// The next participants.
+/// Returns the next superstep's participants, in path order.
 pub fn next_participants(
     alloc: Global,
     participants: Vec<Participant>,
@@ -100,7 +104,7 @@ pub fn next_participants(
     Ok(living)
 }
 
-/// The tokens of tasks that left are free from now on.
+/// Frees the tokens of tasks that left.
 pub fn free_tokens(participants: &[Participant], free: &mut Vec<usize>) -> Result<(), AllocError>
     ensures { OnOk result (reverse free.new.items ≡ freed participants.now (reverse free.old.items)) }
 {

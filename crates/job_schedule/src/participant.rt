@@ -1,4 +1,4 @@
-//! Live tasks as participants at a tree.
+//! Live tasks as participants of a tree.
 ghost use Rattle.std.specs.Prelude.{◌≡◌, IfOk};
 ghost use Rattle.job_schedule.specs.ParticipantValue as spec;
 ghost use Rattle.job_schedule.specs.ParticipantValue.{all_over};
@@ -11,31 +11,39 @@ use std::marker::Model;
 use superstep_memory::path::Path;
 use tier_core::call::{Call, Played};
 
-/// A task that a live task has spawned: its path, its token, and the tier at which that has its member or is to join.
+/// A child: a task that a live task has spawned in this superstep.
 #[derive(Drop)]
-pub struct Kid {
+pub struct Child {
+    /// Its path.
     pub path: Path,
+    /// The number of its token.
     pub token: usize,
+    /// The tier at which it has its member or is to join.
     pub home: u16,
 }
 
-impl Model for Kid {
-    ghost use Rattle.job_schedule.specs.ParticipantValue.{KidValue};
+impl Model for Child {
+    ghost use Rattle.job_schedule.specs.ParticipantValue.{ChildValue};
 
-    ghost Value = { KidValue };
+    ghost Value = { ChildValue };
 
     ghost view = { λ k. record { path = k.path.items; token = k.token; home = k.home } };
 }
 
-/// A live task: its path, its token, the tier at which that has its member, the tasks that it has spawned, whether it
-/// synced, and how far it has come.
+/// A live task on the tree.
 #[derive(Drop)]
 pub struct Participant {
+    /// Its path.
     pub path: Path,
+    /// The number of its token.
     pub token: usize,
+    /// The tier at which it has its member.
     pub home: u16,
-    pub kids: Vec<Kid>,
+    /// The tasks that it has spawned in this superstep, by spawn.
+    pub children: Vec<Child>,
+    /// Whether its segment ended with a `sync`.
     pub synced: bool,
+    /// How far it has come.
     pub stage: Stage,
 }
 
@@ -48,27 +56,27 @@ impl Model for Participant {
       path = s.path.items;
       token = s.token;
       home = s.home;
-      kids = s.kids.items;
+      children = s.children.items;
       synced = s.synced;
       stage = s.stage;
     } };
 }
 
-/// A path of its own, like this one.
+/// Copies a path.
 pub fn copy_path(path: &Path) -> Result<Path, AllocError>
     ensures { IfOk result (λ copy. copy.items ≡ path.now.items) }
 {
     SmallVec::from_slice(*path.allocator(), path.as_slice())
 }
 
-/// Whether a task has come to its end.
+/// Returns whether a task is done with its superstep.
 pub fn is_over(stage: Stage) -> bool
     ensures { result ≡ spec.is_over stage }
 {
     matches!(stage, Stage::Over)
 }
 
-/// Whether all tasks have.
+/// Returns whether all tasks are done with their superstep.
 pub fn all_over(participants: &[Participant]) -> bool
     ensures { result ≡ all_over participants.now }
 {
@@ -82,21 +90,21 @@ pub fn all_over(participants: &[Participant]) -> bool
     true
 }
 
-// Whether a call was done.
+// Returns whether a call is done.
 fn is_done(played: Played) -> bool
     ensures { result ≡ spec.is_done played }
 {
     matches!(played, Played::Done(_) | Played::Passed(_))
 }
 
-// Whether a join was refused.
+// Returns whether a join was refused.
 fn is_refused(played: Played) -> bool
     ensures { result ≡ spec.is_refused played }
 {
     matches!(played, Played::Held(_, _) | Played::Full(_))
 }
 
-// So many of the spawned tasks have arrived.
+// The stage after `arrived` of the spawned tasks have arrived.
 fn arriving(arrived: usize, spawned: usize) -> Stage
     ensures { result ≡ spec.arriving arrived spawned }
 {
@@ -107,7 +115,7 @@ fn arriving(arrived: usize, spawned: usize) -> Stage
     }
 }
 
-// So many of them have joined.
+// The stage after `joined` of the spawned tasks have joined.
 fn joining(joined: usize, spawned: usize) -> Stage
     ensures { result ≡ spec.joining joined spawned }
 {
@@ -144,7 +152,7 @@ fn next_stage(stage: Stage, spawned: usize) -> Stage
     }
 }
 
-// The own arrival or departure, or the advance where that is due.
+// The move of a task itself: its arrival or departure, or the advance if that is due.
 fn passing(due: bool, place: usize, token: usize, synced: bool) -> Option<Move>
     ensures { result ≡ passing due place token synced }
 {
@@ -155,20 +163,20 @@ fn passing(due: bool, place: usize, token: usize, synced: bool) -> Option<Move>
     Some(Move::Calls(place, token, call))
 }
 
-impl Kid {
+impl Child {
     ghost use Rattle.std.specs.Prelude.{◌≡◌};
-    ghost use Rattle.job_schedule.specs.ParticipantValue.{kid_participant};
+    ghost use Rattle.job_schedule.specs.ParticipantValue.{child_participant};
 
-    /// It is to join at this tier.
+    /// Sets the tier at which it is to join.
     pub(crate) fn set_home(&mut self, home: u16)
         ensures { self.new ≡ record self.old { home = home } }
     {
         self.home = home;
     }
 
-    /// A task that begins its superstep.
+    /// Makes the participant of the child, at the begin of its first superstep.
     pub(crate) fn into_participant(self, alloc: Global) -> Participant
-        ensures { result ≡ kid_participant self }
+        ensures { result ≡ child_participant self }
     {
         Participant::new(alloc, self.path, self.token, self.home)
     }
@@ -177,10 +185,10 @@ impl Kid {
 impl Participant {
     ghost use Rattle.std.specs.Prelude.{◌≡◌, ◌++◌, ◌∷◌, [], OnOk, slice_set};
     ghost use Rattle.job_schedule.specs.ParticipantValue as spec;
-    ghost use Rattle.job_schedule.specs.ParticipantValue.{kid_at, waiting, answered, sent_home};
+    ghost use Rattle.job_schedule.specs.ParticipantValue.{child_at, waiting, answered, sent_home};
     ghost use Rattle.job_schedule.specs.Moves.{by_stage, at_stage};
 
-    /// A task that begins its superstep.
+    /// Makes the participant of a task at the begin of a superstep.
     pub fn new(alloc: Global, path: Path, token: usize, home: u16) -> Self
         ensures { result ≡ waiting path.items token home }
     {
@@ -188,59 +196,59 @@ impl Participant {
             path,
             token,
             home,
-            kids: Vec::new(alloc),
+            children: Vec::new(alloc),
             synced: false,
             stage: Stage::Waits,
         }
     }
 
-    /// It has come so far.
+    /// Sets how far it has come.
     pub fn set_stage(&mut self, stage: Stage)
         ensures { self.new ≡ at_stage self.old stage }
     {
         self.stage = stage;
     }
 
-    /// Its segment was handed in.
+    /// Notes that its segment was delivered, and whether it synced.
     pub fn note(&mut self, synced: bool)
-        ensures { self.new ≡ record (at_stage self.old spec.Polling) { synced = synced; kids = [] } }
+        ensures { self.new ≡ record (at_stage self.old spec.Polling) { synced = synced; children = [] } }
     {
-        self.kids.clear();
+        self.children.clear();
         self.stage = Stage::Polling;
         self.synced = synced;
     }
 
-    /// It has spawned a task.
-    pub fn add_kid(&mut self, kid: Kid) -> Result<(), AllocError>
-        ensures { OnOk result (self.new ≡ record self.old { kids = self.old.kids ++ kid ∷ [] }) }
+    /// Adds a spawned task.
+    pub fn add_child(&mut self, child: Child) -> Result<(), AllocError>
+        ensures { OnOk result (self.new ≡ record self.old { children = self.old.children ++ child ∷ [] }) }
     {
-        self.kids.push(kid)?;
+        self.children.push(child)?;
         Ok(())
     }
 
-    // The token of the spawned task of this number.
-    fn kid_token(&self, number: usize) -> usize
-        ensures { result ≡ (kid_at self.now.kids number).token }
+    // The token of the spawned task with this number.
+    fn child_token(&self, number: usize) -> usize
+        ensures { result ≡ (child_at self.now.children number).token }
     {
-        if number < self.kids.len() {
-            self.kids[number].token
+        if number < self.children.len() {
+            self.children[number].token
         } else {
             0
         }
     }
 
-    // The tier at which that task is to join.
-    fn kid_home(&self, number: usize) -> u16
-        ensures { result ≡ (kid_at self.now.kids number).home }
+    // The tier at which the spawned task with this number is to join.
+    fn child_home(&self, number: usize) -> u16
+        ensures { result ≡ (child_at self.now.children number).home }
     {
-        if number < self.kids.len() {
-            self.kids[number].home
+        if number < self.children.len() {
+            self.children[number].home
         } else {
             0
         }
     }
 
-    /// What its worker may do next.
+    /// The next move of its worker.
     pub fn next_move(&self, place: usize, due: bool) -> Option<Move>
         ensures { result ≡ by_stage self.now place due self.now.stage }
     {
@@ -249,36 +257,36 @@ impl Participant {
             Stage::Taken => Some(Move::Delivers(place)),
             Stage::Polling => Some(Move::Calls(place, self.token, Call::Poll)),
             Stage::Joining(joined) => {
-                let tier = self.kid_home(joined);
-                let token = self.kid_token(joined);
+                let tier = self.child_home(joined);
+                let token = self.child_token(joined);
                 Some(Move::Calls(place, token, Call::Join { tier, n: 1 }))
             }
             Stage::Arriving(arrived) => {
-                let token = self.kid_token(arrived);
+                let token = self.child_token(arrived);
                 Some(Move::Calls(place, token, Call::Arrive))
             }
             Stage::Leaving => passing(due, place, self.token, self.synced),
         }
     }
 
-    // The spawned task that is to join is to join at its spawner's tier.
+    // Lets the spawned task that is to join next join at its spawner's tier.
     fn send_home(&mut self)
         ensures { self.new ≡ sent_home self.old self.old.stage }
     {
         if let Stage::Joining(joined) = self.stage {
-            if joined < self.kids.len() {
+            if joined < self.children.len() {
                 let home = self.home;
-                self.kids[joined].set_home(home);
+                self.children[joined].set_home(home);
             }
         }
     }
 
-    /// Its call answers so.
+    /// Notes the answer of its call.
     pub fn answer(&mut self, played: Played)
         ensures { self.new ≡ answered self.old played }
     {
         if is_done(played) {
-            self.stage = next_stage(self.stage, self.kids.len());
+            self.stage = next_stage(self.stage, self.children.len());
         } else if is_refused(played) {
             self.send_home();
         }

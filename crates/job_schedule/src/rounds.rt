@@ -1,4 +1,4 @@
-//! What a round takes for the schedule.
+//! What the schedule does with its round: a delivery, and the close.
 ghost use Rattle.std.specs.Prelude.{◌≡◌, None, OnOk, IfOk, map};
 ghost use Rattle.step_core.specs.OrderValue.{delivered_segment, has_synced, spawned_paths};
 ghost use Rattle.step_core.specs.RoundValue.{slots_in, status_in};
@@ -9,7 +9,7 @@ use std::alloc::{AllocError, Global};
 use step_core::{CloseFault, Delivery, Order, Round};
 use superstep_memory::path::Path;
 
-// The order of the live task of this path.
+// Orders the segment of the live task with this path.
 fn order_for<'j>(alloc: Global, round: &Round<'j>, path: &[u16]) -> Result<Order<'j>, AllocError>
     requires wanted { IsWanted round.now path.now }
     ensures job { IfOk result (λ o. o.job ≡ round.now.job) }
@@ -22,7 +22,7 @@ fn order_for<'j>(alloc: Global, round: &Round<'j>, path: &[u16]) -> Result<Order
     }
 }
 
-// The segment of the live task of this path.
+// Runs the segment of the live task with this path.
 fn segment_for<'j>(
     alloc: Global,
     round: &Round<'j>,
@@ -34,15 +34,17 @@ fn segment_for<'j>(
     ensures path { IfOk result (λ d. d.path ≡ path.now) }
     ensures deed { IfOk result (λ d. delivered_segment d ≡ deed_by round.now path.now) }
 {
+    // For the prover: the contract of `has_ended` names the round's status.
     let _known = round.has_ended();
     let order = order_for(alloc, round, path)?;
     let delivery = Delivery::of(alloc, order)?;
+    // For the prover: the contract of `path` says that the delivery is of its order's task.
     let _own = delivery.path();
     Ok(delivery)
 }
 
-/// Hands in the segment of the live task of this path, for which nothing was handed in yet, and tells whether it synced, and the
-/// paths that it spawned.
+/// Delivers the segment of the live task with this path, for which nothing was delivered yet. Returns whether the task
+/// synced, and the paths that it spawned.
 pub(crate) fn hand_in<'j>(
     alloc: Global,
     round: &mut Round<'j>,
@@ -63,7 +65,7 @@ pub(crate) fn hand_in<'j>(
     }
 }
 
-/// Closes the round, for all of whose tasks something was handed in, unless the job has ended.
+/// Closes the round, in which a segment was delivered for each task. Does nothing if the job has ended.
 pub(crate) fn close_round(alloc: Global, round: &mut Round<'_>) -> Result<(), AllocError>
     requires whole { status_in round.old ≡ None → first_missing (slots_in round.old) ≡ None }
     ensures { OnOk result (IsNext round.old round.new) }

@@ -1,4 +1,4 @@
-//! A job on a tree between two steps of its workers.
+//! A job on a tree of phasers, between two steps of its workers.
 ghost use Rattle.std.specs.Prelude.{◌≡◌, ◌≤◌, IfOk};
 ghost use Rattle.phase_records.specs.StatusSeen.{status_seen};
 ghost use Rattle.tier_shape.specs.Leaves.{leaves_of};
@@ -7,7 +7,7 @@ ghost use Rattle.job_schedule.specs.World.{plan_for, taking, mode_after, gone};
 
 use crate::hands::{empty_hands, hand_of, set_hand};
 use crate::next::{free_tokens, next_participants};
-use crate::participant::{Kid, Participant, all_over, copy_path, is_over};
+use crate::participant::{Child, Participant, all_over, copy_path, is_over};
 use crate::rounds::{close_round, hand_in};
 use crate::stage::{Mode, Move, Stage, asked};
 use crate::step::{Answer, JobStep};
@@ -22,7 +22,7 @@ use tier_core::tree::Core;
 use tier_shape::Shape;
 use tier_shape::leaves::{leaf_at, preferred};
 
-/// A job on a tree, worked at by numbered workers.
+/// A job on a tree of phasers, on which numbered workers work. Its round holds what was delivered, its core the tree.
 #[derive(Drop)]
 pub(crate) struct Schedule<'j> {
     round: Round<'j>,
@@ -35,7 +35,7 @@ pub(crate) struct Schedule<'j> {
     mode: Mode,
 }
 
-// What a worker without a task may do.
+// The move of a worker without a task.
 fn taking(taken: usize, live: usize, over: bool) -> Option<Move>
     ensures { result ≡ taking taken live over }
 {
@@ -48,7 +48,7 @@ fn taking(taken: usize, live: usize, over: bool) -> Option<Move>
     }
 }
 
-// How a job that is over goes on.
+// The mode after the job has ended: after a fault the tree is ended by force.
 fn mode_after(closer: usize, token: usize, status: &JobStatus) -> Mode
     ensures { result ≡ mode_after closer token (status_seen status.now) }
 {
@@ -58,7 +58,7 @@ fn mode_after(closer: usize, token: usize, status: &JobStatus) -> Mode
     }
 }
 
-// So many steps of a call.
+// Takes `steps` steps of a token's call.
 fn go_on(core: &mut Core, token: usize, steps: u32)
     ensures { core.new ≡ gone steps token core.old }
 {
@@ -69,7 +69,7 @@ fn go_on(core: &mut Core, token: usize, steps: u32)
     }
 }
 
-// A tree of this shape that ends in the last phase of a limit, and its leaves.
+// Makes a tree of this shape, which ends in the last phase of a limit, and lists its leaves.
 fn tree_of(alloc: Global, shape: Shape, limit: u32) -> Result<(Core, Vec<u16>), AllocError>
     requires some { 1 ≤ limit }
     ensures tree { IfOk result (λ t. t.0 ≡ opened shape 0 (plan_for limit)) }
@@ -105,8 +105,8 @@ impl<'j> Schedule<'j> {
       answer_of,
       world_after,
       done_by,
-      kid_from,
-      with_kids,
+      child_from,
+      with_children,
       stepped,
       renewed,
     };
@@ -116,7 +116,7 @@ impl<'j> Schedule<'j> {
     ghost use Rattle.step_core.specs.Slots.{first_missing};
     ghost use Rattle.tier_core.specs.Run.{IsCall};
 
-    /// A job with this limit, on a tree of this shape, before the first step of a worker.
+    /// Makes the schedule of a job with this limit, on a tree of this shape, before the first step of a worker.
     pub(crate) fn new(
         alloc: Global,
         job: &'j Job,
@@ -133,7 +133,7 @@ impl<'j> Schedule<'j> {
         Ok(schedule)
     }
 
-    // A round on a tree of this shape, before its start tasks come in.
+    // Puts a round on a tree of this shape, before its start tasks are registered.
     fn around(alloc: Global, round: Round<'j>, shape: Shape, limit: u32) -> Result<Self, AllocError>
         requires some { 1 ≤ limit }
         ensures round { IfOk result (λ s. s.round ≡ round.entry) }
@@ -153,7 +153,7 @@ impl<'j> Schedule<'j> {
         })
     }
 
-    // The tokens of the live tasks come in and join their leaves.
+    // Registers each live task at its leaf.
     fn start_live(&mut self, alloc: Global) -> Result<(), AllocError>
         ensures world { OnOk result (world_of self.new ≡ with_starts (world_of self.old) (live_paths (world_of self.old).job)) }
         ensures round { OnOk result (self.new.round ≡ self.old.round) }
@@ -162,7 +162,7 @@ impl<'j> Schedule<'j> {
         self.start_all(alloc, &paths)
     }
 
-    // The token of a start task comes in and joins its leaf.
+    // Adds a token for a start task, which joins its leaf.
     fn start(&mut self, alloc: Global, path: Path) -> Result<(), AllocError>
         ensures world { OnOk result (world_of self.new ≡ with_start (world_of self.old) path.items) }
         ensures round { OnOk result (self.new.round ≡ self.old.round) }
@@ -177,7 +177,7 @@ impl<'j> Schedule<'j> {
         Ok(())
     }
 
-    // So does that of a start task of this path.
+    // Adds a token for the start task with a copy of this path.
     fn start_copy(&mut self, alloc: Global, path: &Path) -> Result<(), AllocError>
         ensures world { OnOk result (world_of self.new ≡ with_start (world_of self.old) path.now.items) }
         ensures round { OnOk result (self.new.round ≡ self.old.round) }
@@ -186,7 +186,7 @@ impl<'j> Schedule<'j> {
         self.start(alloc, path)
     }
 
-    // So do those of all start tasks.
+    // Adds a token for each start task.
     fn start_all(&mut self, alloc: Global, paths: &[Path]) -> Result<(), AllocError>
         ensures world { OnOk result (world_of self.new ≡ with_starts (world_of self.old) (map path_items paths.now)) }
         ensures round { OnOk result (self.new.round ≡ self.old.round) }
@@ -199,7 +199,7 @@ impl<'j> Schedule<'j> {
         Ok(())
     }
 
-    // What a worker may do next with the task at this place.
+    // The next move of a worker that has the task at this place.
     fn move_at(&self, place: usize) -> Option<Move>
         ensures { result ≡ by_participant (world_of self.now) (participant_at self.now.participants.items place) place }
     {
@@ -210,7 +210,7 @@ impl<'j> Schedule<'j> {
         participant.next_move(place, self.core.must_advance(participant.token))
     }
 
-    // What it may do next in a superstep.
+    // The next move of a worker within a superstep.
     fn move_in(&self, worker: usize) -> Option<Move>
         ensures { result ≡ by_hand (world_of self.now) (slice_index_or self.now.hands.items worker None) }
     {
@@ -220,7 +220,7 @@ impl<'j> Schedule<'j> {
         }
     }
 
-    // What it may do next.
+    // The next move of a worker.
     fn next_move(&self, worker: usize) -> Option<Move>
         ensures { result ≡ move_of (world_of self.now) worker }
     {
@@ -236,7 +236,7 @@ impl<'j> Schedule<'j> {
         }
     }
 
-    // It takes the task at this place.
+    // Gives a worker the task at this place.
     fn take(&mut self, worker: usize, place: usize) -> Result<Answer, AllocError>
         requires place { place < length self.old.participants.items }
         ensures answer { IfOk result (λ a. answer_seen a ≡ (done_by (world_of self.old) worker (spec.Takes place)).0) }
@@ -250,10 +250,10 @@ impl<'j> Schedule<'j> {
         Ok(Answer::Took(path))
     }
 
-    // A spawned task has a token.
-    fn add_kid(&mut self, place: usize, path: Path) -> Result<(), AllocError>
+    // Adds a child to the task at this place: a free token, or a new one.
+    fn add_child(&mut self, place: usize, path: Path) -> Result<(), AllocError>
         requires place { place < length self.old.participants.items }
-        ensures world { OnOk result (world_of self.new ≡ kid_from (world_of self.old) place path.items (world_of self.old).free) }
+        ensures world { OnOk result (world_of self.new ≡ child_from (world_of self.old) place path.items (world_of self.old).free) }
         ensures round { OnOk result (self.new.round ≡ self.old.round) }
     {
         let home = preferred(&self.leaves, self.participants[place].home, path.as_slice());
@@ -261,24 +261,24 @@ impl<'j> Schedule<'j> {
             Some(token) => token,
             None => self.core.add_token()?,
         };
-        self.participants[place].add_kid(Kid { path, token, home })
+        self.participants[place].add_child(Child { path, token, home })
     }
 
-    // So have all of these.
-    fn add_kids(&mut self, place: usize, paths: &[Path]) -> Result<(), AllocError>
+    // Adds children with these paths to the task at this place.
+    fn add_children(&mut self, place: usize, paths: &[Path]) -> Result<(), AllocError>
         requires place { place < length self.old.participants.items }
-        ensures world { OnOk result (world_of self.new ≡ with_kids (world_of self.old) place (map path_items paths.now)) }
+        ensures world { OnOk result (world_of self.new ≡ with_children (world_of self.old) place (map path_items paths.now)) }
         ensures round { OnOk result (self.new.round ≡ self.old.round) }
     {
         let mut rest = paths;
         while let Some((path, after)) = rest.split_first() {
-            self.add_kid(place, copy_path(path)?)?;
+            self.add_child(place, copy_path(path)?)?;
             rest = after;
         }
         Ok(())
     }
 
-    // The segment of the task at this place is handed in.
+    // Delivers the segment of the task at this place.
     fn deliver(&mut self, alloc: Global, worker: usize, place: usize) -> Result<Answer, AllocError>
         requires place { place < length self.old.participants.items }
         requires wanted { IsWanted self.old.round (participant_at self.old.participants.items place).path }
@@ -289,11 +289,11 @@ impl<'j> Schedule<'j> {
         let path = copy_path(&self.participants[place].path)?;
         let (synced, spawns) = hand_in(alloc, &mut self.round, path.as_slice())?;
         self.participants[place].note(synced);
-        self.add_kids(place, &spawns)?;
+        self.add_children(place, &spawns)?;
         Ok(Answer::Delivered)
     }
 
-    // Its call answers so.
+    // Notes the answer of a call of the task at this place.
     fn note_answer(&mut self, worker: usize, place: usize, played: Played)
         requires place { place < length self.old.participants.items }
         ensures world { world_of self.new ≡ stepped (world_of self.old) worker place self.old.core (answered (participant_at self.old.participants.items place) played) }
@@ -305,7 +305,7 @@ impl<'j> Schedule<'j> {
         }
     }
 
-    // A step of a call.
+    // Takes a step of a call.
     fn call(&mut self, worker: usize, place: usize, token: usize, call: Call) -> Answer
         requires place { place < length self.old.participants.items }
         requires size { IsCall call }
@@ -323,7 +323,7 @@ impl<'j> Schedule<'j> {
         }
     }
 
-    // The root advances.
+    // Advances the root.
     fn advance(&mut self, worker: usize, place: usize) -> Answer
         requires place { place < length self.old.participants.items }
         ensures answer { answer_seen result ≡ (done_by (world_of self.old) worker (spec.Advances place)).0 }
@@ -345,7 +345,7 @@ impl<'j> Schedule<'j> {
         }
     }
 
-    // The next tasks are ready.
+    // Makes the next tasks ready.
     fn renew(&mut self, alloc: Global) -> Result<(), AllocError>
         ensures world { OnOk result (world_of self.new ≡ renewed (world_of self.old)) }
         ensures round { OnOk result (self.new.round ≡ self.old.round) }
@@ -358,7 +358,7 @@ impl<'j> Schedule<'j> {
         Ok(())
     }
 
-    // The round is closed.
+    // Closes the round.
     fn close(&mut self, alloc: Global, worker: usize, token: usize) -> Result<Answer, AllocError>
         requires whole { status_in self.old.round ≡ None → first_missing (slots_in self.old.round) ≡ None }
         ensures answer { IfOk result (λ a. answer_seen a ≡ (done_by (world_of self.old) worker (spec.Closes token)).0) }
@@ -378,7 +378,7 @@ impl<'j> Schedule<'j> {
         }
     }
 
-    // The tree ends by force.
+    // Ends the tree by force.
     fn end(&mut self, worker: usize, token: usize) -> Answer
         ensures answer { answer_seen result ≡ (done_by (world_of self.old) worker (spec.Ends token)).0 }
         ensures after { world_of self.new ≡ (done_by (world_of self.old) worker (spec.Ends token)).1 }
@@ -394,7 +394,7 @@ impl<'j> Schedule<'j> {
         }
     }
 
-    // A worker does this.
+    // Makes a worker's move.
     fn make(&mut self, alloc: Global, worker: usize, next: Move) -> Result<Answer, AllocError>
         requires allowed { IsAllowed (world_of self.old) next }
         requires kept { IsKept self.old.round (world_of self.old) }
@@ -403,6 +403,7 @@ impl<'j> Schedule<'j> {
         ensures after { OnOk result (world_of self.new ≡ (done_by (world_of self.old) worker next).1) }
         ensures kept { OnOk result (IsKept self.new.round (world_of self.new)) }
     {
+        // For the prover: the contract of `has_ended` names the round's status.
         let _known = self.round.has_ended();
         match next {
             Move::Takes(place) => self.take(worker, place),
@@ -414,7 +415,7 @@ impl<'j> Schedule<'j> {
         }
     }
 
-    /// A worker takes a step.
+    /// Takes a step of a worker.
     pub(crate) fn step(&mut self, alloc: Global, step: JobStep) -> Result<Answer, AllocError>
         requires reached { IsReached (world_of self.old) }
         requires kept { IsKept self.old.round (world_of self.old) }

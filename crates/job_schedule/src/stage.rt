@@ -13,9 +13,9 @@ pub enum Stage {
     Taken,
     /// Its segment was delivered, and its token polls.
     Polling,
-    /// The tokens of the tasks that it has spawned join: so many have.
+    /// The tasks that it has spawned join. The number says how many have joined.
     Joining(usize),
-    /// They arrive: so many have.
+    /// The tasks that it has spawned arrive. The number says how many have arrived.
     Arriving(usize),
     /// Its own token arrives or leaves.
     Leaving,
@@ -23,10 +23,10 @@ pub enum Stage {
     Over,
 }
 
-/// What goes on between two steps of workers (own).
+/// The mode of a schedule between two steps of workers (own).
 #[derive(Clone, Copy)]
 pub enum Mode {
-    /// A superstep.
+    /// A superstep runs.
     Runs,
     /// The root has advanced, and the worker that advanced it closes the round.
     Advanced {
@@ -64,7 +64,7 @@ pub enum Move {
 }
 
 impl Move {
-    /// By which of a worker's five steps it is taken, from 0.
+    /// Which of the five kinds of step takes it, from 0.
     pub fn kind(self) -> u8
         ensures { result ≡ spec.kind_for self }
     {
@@ -78,7 +78,7 @@ impl Move {
     }
 }
 
-/// What a step of this kind does: its worker's next move, where it is taken by such a step, and else nothing.
+/// The move of a step of this kind: its worker's next move, if steps of this kind take it.
 pub fn asked(kind: u8, next: Option<Move>) -> Option<Move>
     ensures { result ≡ spec.asked kind next }
 {

@@ -1,4 +1,4 @@
-//! Steps of workers, and their answers.
+//! The steps of workers, and their answers.
 ghost use Rattle.std.specs.Prelude.{◌≡◌};
 ghost use Rattle.job_schedule.specs.World.{worker_of, kind_of};
 
@@ -6,23 +6,23 @@ use phase_records::Report;
 use superstep_memory::path::Path;
 use tier_core::call::Played;
 
-/// A step of a worker, by its number from 0 to 63 (own).
+/// A step of a worker, which is known by its number from 0 to 63 (own).
 #[derive(Clone, Copy)]
 pub enum JobStep {
-    /// It takes the front ready task.
+    /// The worker takes the first ready task.
     Take(usize),
-    /// It hands in the segment of its task.
+    /// The worker delivers the segment of its task.
     Deliver(usize),
-    /// It takes a step of its task's calls in the tree; after a fault, it ends the tree by force.
+    /// The worker takes a step of its task's calls of the tree. After a fault, it ends the tree by force.
     Tree(usize),
-    /// It advances the root.
+    /// The worker advances the root.
     Advance(usize),
-    /// It closes the round.
+    /// The worker closes the round.
     Close(usize),
 }
 
 impl JobStep {
-    /// The number of its worker.
+    /// The number of the worker.
     pub fn worker(self) -> usize
         ensures { result ≡ worker_of self }
     {
@@ -35,7 +35,7 @@ impl JobStep {
         }
     }
 
-    /// Which of the five it is, from 0.
+    /// Which of the five kinds it is, from 0.
     pub(crate) fn kind(self) -> u8
         ensures { result ≡ kind_of self }
     {
@@ -49,20 +49,20 @@ impl JobStep {
     }
 }
 
-/// What a step answers (own).
+/// The answer of a step (own).
 #[derive(Drop)]
 pub enum Answer {
     /// The worker has taken the task of this path.
     Took(Path),
-    /// The segment was handed in.
+    /// The segment was delivered.
     Delivered,
-    /// A step of a call was taken, and answered so.
+    /// A step of a call was taken, with this answer.
     Stepped(Played),
-    /// The root was advanced, and the call answered so.
+    /// The root was advanced; the call has this answer.
     Advanced(Played),
     /// The round was closed, and the next tasks are ready.
     Closed,
-    /// The job is over, and leaves this.
+    /// The job has ended, with this report.
     Finished(Report),
     /// The step isn't the worker's next one, and changed nothing.
     NotNow,

@@ -31,14 +31,14 @@ use Rattle.job_schedule.specs.declared.stage.Stage.{Stage}
 use Rattle.job_schedule.specs.declared.stage.Stage.TheVariants.{Waits, Taken, Polling, Joining, Arriving, Leaving, Over}
 use Rattle.job_schedule.specs.declared.stage.Move.TheVariants.{Advances}
 use Rattle.job_schedule.specs.declared.stage.Mode.TheVariants as mode
-use Rattle.job_schedule.specs.ParticipantValue.{KidValue, ParticipantValue, no_participant, participant_at, kid_at, is_over, all_over, waiting, own_participant, kid_participant, living_participants}
+use Rattle.job_schedule.specs.ParticipantValue.{ChildValue, ParticipantValue, no_participant, participant_at, child_at, is_over, all_over, waiting, own_participant, child_participant, living_participants}
 use Rattle.job_schedule.specs.Moves.{at_stage}
 use Rattle.job_schedule.specs.World.{World, advanced_by, has_advanced, done_by}
 use Rattle.schedule_laws.specs.Working.{passage_if, IsOwnPassing, OwnFits, SitsAt, Sits, of_participant, of_all, AreShared, IsWorking, IsTurning}
 use Rattle.schedule_laws.proofs.Sharing.{own_in, known_in, others_own}
 use Rattle.schedule_laws.proofs.Calling.{one_step}
 use Rattle.schedule_laws.proofs.Turning.{IsNext, next_sits, next_shared, next_free, sum_set_same}
-use Rattle.schedule_laws.proofs.Moving.{kids_stay, now_plays, sits_at}
+use Rattle.schedule_laws.proofs.Moving.{children_stay, now_plays, sits_at}
 
 -- what all roles count, their tasks' do, where free tokens count nothing
 
@@ -66,25 +66,25 @@ total f roles participants free n z shared long outs =
 
 -- a task that is over
 
-kids_zero : (f : Role → ℕ) (roles : List Role) (ks : List KidValue) → ((k : ℕ) → k < length ks → f (role_at roles (kid_at ks k).token) ≡ 0)
-    → sum_by (λ (k : KidValue). f (role_at roles k.token)) ks ≡ 0
-kids_zero f roles [] h = refl
-kids_zero f roles (k ∷ ks) h =
-    let a = sum_by-cons (λ (k : KidValue). f (role_at roles k.token)) k ks in
-    let b = h 0 (omega arith) in let c = kids_zero f roles ks (λ j l. h (suc j) (omega arith)) in omega arith
+children_zero : (f : Role → ℕ) (roles : List Role) (ks : List ChildValue) → ((k : ℕ) → k < length ks → f (role_at roles (child_at ks k).token) ≡ 0)
+    → sum_by (λ (k : ChildValue). f (role_at roles k.token)) ks ≡ 0
+children_zero f roles [] h = refl
+children_zero f roles (k ∷ ks) h =
+    let a = sum_by-cons (λ (k : ChildValue). f (role_at roles k.token)) k ks in
+    let b = h 0 (omega arith) in let c = children_zero f roles ks (λ j l. h (suc j) (omega arith)) in omega arith
 
-kids_one : (f : Role → ℕ) (roles : List Role) (ks : List KidValue) → ((k : ℕ) → k < length ks → f (role_at roles (kid_at ks k).token) ≡ 1)
-    → sum_by (λ (k : KidValue). f (role_at roles k.token)) ks ≡ length ks
-kids_one f roles [] h = refl
-kids_one f roles (k ∷ ks) h =
-    let a = sum_by-cons (λ (k : KidValue). f (role_at roles k.token)) k ks in
-    let b = h 0 (omega arith) in let c = kids_one f roles ks (λ j l. h (suc j) (omega arith)) in omega arith
+children_one : (f : Role → ℕ) (roles : List Role) (ks : List ChildValue) → ((k : ℕ) → k < length ks → f (role_at roles (child_at ks k).token) ≡ 1)
+    → sum_by (λ (k : ChildValue). f (role_at roles k.token)) ks ≡ length ks
+children_one f roles [] h = refl
+children_one f roles (k ∷ ks) h =
+    let a = sum_by-cons (λ (k : ChildValue). f (role_at roles k.token)) k ks in
+    let b = h 0 (omega arith) in let c = children_one f roles ks (λ j l. h (suc j) (omega arith)) in omega arith
 
 abbrev pub unsettled : Role → ℕ
 unsettled r = cond (is_settled r) 0 1
 
 abbrev pub AllOver : List Role → ℕ → List ParticipantValue → Type 0
-AllOver roles tiers gs = (q : ℕ) → q < length gs → SitsAt Over roles tiers (participant_at gs q).token (participant_at gs q).home (participant_at gs q).kids (participant_at gs q).synced
+AllOver roles tiers gs = (q : ℕ) → q < length gs → SitsAt Over roles tiers (participant_at gs q).token (participant_at gs q).home (participant_at gs q).children (participant_at gs q).synced
 
 over_settled : (roles : List Role) (tiers : ℕ) (gs : List ParticipantValue) → AllOver roles tiers gs → sum_by (of_participant (λ t. unsettled (role_at roles t))) gs ≡ 0
 over_settled roles tiers [] h = refl
@@ -92,7 +92,7 @@ over_settled roles tiers (g ∷ gs) h =
     let a = sum_by-cons (of_participant (λ t. unsettled (role_at roles t))) g gs in
     let s = h 0 (omega arith) in
     let b : unsettled (role_at roles g.token) ≡ 0 = ap unsettled s.own in
-    let c = kids_zero unsettled roles g.kids (λ k l. ap unsettled (s.each k l)) in
+    let c = children_zero unsettled roles g.children (λ k l. ap unsettled (s.each k l)) in
     let d = over_settled roles tiers gs (λ q l. h (suc q) (omega arith)) in omega arith
 
 own_members : (home : ℕ) (b : Bool) (g : ParticipantValue) → members_in (Past home (passage_if b)) ≡ length (if b then g ∷ [] else [])
@@ -106,11 +106,11 @@ over_members roles tiers (g ∷ gs) h =
     let a = sum_by-cons (of_participant (λ t. members_in (role_at roles t))) g gs in
     let s = h 0 (omega arith) in
     let b : members_in (role_at roles g.token) ≡ length (own_participant g) = ap members_in s.own ∙ own_members g.home g.synced (waiting g.path g.token g.home) in
-    let c = kids_one members_in roles g.kids (λ k l. ap members_in (s.each k l)) in
+    let c = children_one members_in roles g.children (λ k l. ap members_in (s.each k l)) in
     let d = over_members roles tiers gs (λ q l. h (suc q) (omega arith)) in
-    let e : length (map kid_participant g.kids) ≡ length g.kids = length-map g.kids kid_participant in
-    let i = length-append (own_participant g) (map kid_participant g.kids) in
-    let j = length-append (own_participant g ++ map kid_participant g.kids) (living_participants gs) in omega arith
+    let e : length (map child_participant g.children) ≡ length g.children = length-map g.children child_participant in
+    let i = length-append (own_participant g) (map child_participant g.children) in
+    let j = length-append (own_participant g ++ map child_participant g.children) (living_participants gs) in omega arith
 
 none_at : (f : Role → ℕ) (rs : List Role) (j : ℕ) → sum_by f rs ≡ 0 → j < length rs → f (role_at rs j) ≡ 0
 none_at f [] j e h = absurd (omega arith)
@@ -234,7 +234,7 @@ module _ (parents : List ℕ) (w : World) (roles : List Role) (worker place : �
         count = λ measure. refl;
         sits = record {
           own = now_plays parents w roles worker place is h (participant_at w.participants place).token r (own_in (participant_at w.participants place));
-          each = λ k l. kids_stay parents w roles worker place is h r k l ∙ sits.each k l;
+          each = λ k l. children_stay parents w roles worker place is h r k l ∙ sits.each k l;
           turn = tt;
           homes = sits.homes;
         };
@@ -257,7 +257,7 @@ module _ (parents : List ℕ) (w : World) (roles : List Role) (worker place : �
   all_done : AllOver done_roles (length parents) done_participants
   all_done q l =
       let g : ParticipantValue = participant_at done_participants q in
-      subst (λ (s : Stage). SitsAt s done_roles (length parents) g.token g.home g.kids g.synced) (stages_over q l) (done_sits q l)
+      subst (λ (s : Stage). SitsAt s done_roles (length parents) g.token g.home g.children g.synced) (stages_over q l) (done_sits q l)
 
   done_shared : AreShared done_participants w.free (length w.tree.views)
   done_shared = next_shared w roles done_roles (length parents) place (participant_at w.participants place).token (length w.tree.views)

@@ -18,7 +18,7 @@ use Rattle.job_schedule.specs.declared.stage.Mode.TheVariants as mode
 use Rattle.job_schedule.specs.declared.stage.Move.{Move}
 use Rattle.job_schedule.specs.declared.stage.Move.TheVariants.{Takes, Calls, Advances, Closes, Ends}
 use Rattle.job_schedule.specs.AnswerValue.{AnswerValue, Stepped, Advanced, NotNow}
-use Rattle.job_schedule.specs.ParticipantValue.{ParticipantValue, participant_at, kid_at, all_over}
+use Rattle.job_schedule.specs.ParticipantValue.{ParticipantValue, participant_at, child_at, all_over}
 use Rattle.job_schedule.specs.Moves.{by_stage}
 use Rattle.job_schedule.specs.World.{World, called_by, advanced_by, next_job, done_by, kind_of, kind_for, if_asked, by_participant, by_hand, by_mode, move_of, worker_of, reached, initial_world}
 use Rattle.job_schedule.proofs.Ending.{Ready, force_done, reached_ready}
@@ -26,7 +26,7 @@ use Rattle.schedule_laws.specs.Working.{IsWorking, IsKept}
 use Rattle.schedule_laws.specs.Laws.{NextStepsAreAnswered}
 use Rattle.schedule_laws.proofs.Sharing.{no_participant_beyond}
 use Rattle.schedule_laws.proofs.Calling.{IsCalled}
-use Rattle.schedule_laws.proofs.Moving.{sits_at, poll_step, kid_step, arrival_step, own_step, passage_call}
+use Rattle.schedule_laws.proofs.Moving.{sits_at, poll_step, child_step, arrival_step, own_step, passage_call}
 use Rattle.schedule_laws.proofs.Room.{AreFew, has_room}
 use Rattle.schedule_laws.proofs.Claiming.{kept, light}
 use Rattle.schedule_laws.proofs.Following.{closed_answer}
@@ -65,11 +65,11 @@ module _ (parents : List ℕ) (w : World) (worker : ℕ) (tiers : length parents
       call_told roles place (participant_at w.participants place).token call.Poll _ step.0 step.1.0 step.1.1
   stage_told roles place due (Joining n) is below h at e =
       let room = has_room parents w roles place tiers (few below) is h (sits_at parents w roles worker place is h (Joining n) at).own in
-      let step = kid_step parents w roles worker place is h n at room in
-      call_told roles place (kid_at (participant_at w.participants place).kids n).token (call.Join (kid_at (participant_at w.participants place).kids n).home 1) step.role step.next step.a step.called
+      let step = child_step parents w roles worker place is h n at room in
+      call_told roles place (child_at (participant_at w.participants place).children n).token (call.Join (child_at (participant_at w.participants place).children n).home 1) step.role step.next step.a step.called
   stage_told roles place due (Arriving n) is below h at e =
       let step = arrival_step parents w roles worker place is h n at in
-      call_told roles place (kid_at (participant_at w.participants place).kids n).token call.Arrive step.0 step.1.1.0 step.1.1.1.0 step.1.1.1.1
+      call_told roles place (child_at (participant_at w.participants place).children n).token call.Arrive step.0 step.1.1.0 step.1.1.1.0 step.1.1.1.1
   stage_told roles place true Leaving is below h at e = advance_told place e
   stage_told roles place false Leaving is below h at e =
       let step = own_step parents w roles worker place is h at e in

@@ -11,8 +11,8 @@ use Rattle.job_schedule.specs.ParticipantValue.{ParticipantValue, is_done, is_re
 use Rattle.schedule_laws.specs.Working.{ComesTo}
 
 -- an answer that is done; that is refused; that is neither
-pub done_answer : (g : ParticipantValue) (a : Played) → is_done a ≡ true → answered g a ≡ record g { stage = next_stage g.stage (length g.kids) }
-done_answer g a e = ap (λ (b : Bool). if b then record g { stage = next_stage g.stage (length g.kids) } else (if is_refused a then sent_home g g.stage else g)) e
+pub done_answer : (g : ParticipantValue) (a : Played) → is_done a ≡ true → answered g a ≡ record g { stage = next_stage g.stage (length g.children) }
+done_answer g a e = ap (λ (b : Bool). if b then record g { stage = next_stage g.stage (length g.children) } else (if is_refused a then sent_home g g.stage else g)) e
 
 refusals : (a : Played) → turns_away a ≡ true → (is_done a ≡ false) × (is_refused a ≡ true)
 refusals GoesOn e = not_both false e refl
@@ -40,7 +40,7 @@ done_stays (MustAdvance phase parties) e = refl
 pub refused_answer : (g : ParticipantValue) (a : Played) → turns_away a ≡ true → answered g a ≡ sent_home g g.stage
 refused_answer g a e =
     let r = refusals a e in
-    ap (λ (b : Bool). if b then record g { stage = next_stage g.stage (length g.kids) } else (if is_refused a then sent_home g g.stage else g)) r.0
+    ap (λ (b : Bool). if b then record g { stage = next_stage g.stage (length g.children) } else (if is_refused a then sent_home g g.stage else g)) r.0
     ∙ ap (λ (b : Bool). if b then sent_home g g.stage else g) r.1
 
 -- what follows a step, by the role that took it
@@ -92,7 +92,7 @@ goes_same a = (is_done a ≡ false) × (is_refused a ≡ false)
 
 pub kept_answer : (g : ParticipantValue) (a : Played) → goes_same a → answered g a ≡ g
 kept_answer g a e =
-    ap (λ (b : Bool). if b then record g { stage = next_stage g.stage (length g.kids) } else (if is_refused a then sent_home g g.stage else g)) e.0
+    ap (λ (b : Bool). if b then record g { stage = next_stage g.stage (length g.children) } else (if is_refused a then sent_home g g.stage else g)) e.0
     ∙ ap (λ (b : Bool). if b then sent_home g g.stage else g) e.1
 
 pub goes_on_same : (a : Played) → a ≡ GoesOn → goes_same a

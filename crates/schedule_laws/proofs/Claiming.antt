@@ -32,7 +32,7 @@ use Rattle.job_schedule.specs.declared.stage.Move.{Move}
 use Rattle.job_schedule.specs.declared.stage.Move.TheVariants.{Takes, Calls, Closes, Ends}
 use Rattle.job_schedule.specs.declared.step.JobStep.{JobStep}
 use Rattle.job_schedule.specs.AnswerValue.{Advanced, NotNow}
-use Rattle.job_schedule.specs.ParticipantValue.{ParticipantValue, participant_at, participant_path, all_over, is_delivered, kid_at, own_participant, kid_participant, living_participants}
+use Rattle.job_schedule.specs.ParticipantValue.{ParticipantValue, participant_at, participant_path, all_over, is_delivered, child_at, own_participant, child_participant, living_participants}
 use Rattle.job_schedule.specs.Moves.{at_stage, by_stage}
 use Rattle.job_schedule.specs.World.{World, called_by, ended_by, next_job, closed_as, done_by, kind_of, kind_for, if_asked, by_participant, by_hand, by_mode, move_of, worker_of, answer_of, reached, initial_world}
 use Rattle.job_schedule.specs.Laws.{IsStanding}
@@ -131,7 +131,7 @@ parties (s ∷ ss) e =
 living_same : (gs : List ParticipantValue) (place : ℕ) (stage : Stage) → living_participants (set gs place (at_stage (participant_at gs place) stage)) ≡ living_participants gs
 living_same [] place stage = refl
 living_same (g ∷ gs) zero stage = refl
-living_same (g ∷ gs) (suc place) stage = ap (λ (xs : List ParticipantValue). (own_participant g ++ map kid_participant g.kids) ++ xs) (living_same gs place stage)
+living_same (g ∷ gs) (suc place) stage = ap (λ (xs : List ParticipantValue). (own_participant g ++ map child_participant g.children) ++ xs) (living_same gs place stage)
 
 over_delivered : (stage : Stage) → (stage ≡ Over) ⊎ (stage ≡ Leaving) → is_delivered stage ≡ true
 over_delivered stage e = ⊎_elim (λ q. ap is_delivered q) (λ q. ap is_delivered q) e
@@ -146,7 +146,7 @@ counted parents p limit w roles worker place is stands of h at due = record {
       let paths : map participant_path (living_participants w.participants) ≡ paths_on (deeds w) =
       living_paths w.program w.job.arrays w.job.step w.participants w.job.live stands.paths rising
       (λ q l. let n = stands.noted q l (over_delivered (participant_at w.participants q).stage (all_delivered parents w roles worker place is h at due q l)) in
-      record { synced = n.synced; kids = n.kids }) in
+      record { synced = n.synced; children = n.children }) in
       let a : registered (flat_of w.tree) ≡ length (living_participants w.participants) =
       members_live_on parents w roles worker place is h at due ∙ ap length (living_same w.participants place Over) in
       let b : length (map participant_path (living_participants w.participants)) ≡ length (living_participants w.participants) = length-map (living_participants w.participants) participant_path in
@@ -186,8 +186,8 @@ module _ (parents : List ℕ) (p : Program) (limit : ℕ) (w : World) (worker : 
   stage_tells roles place due Taken is below h at e = λ played k. cc
   stage_tells roles place due Polling is below h at e = calls_tell place (participant_at w.participants place).token call.Poll
   stage_tells roles place due (Joining n) is below h at e =
-      calls_tell place (kid_at (participant_at w.participants place).kids n).token (call.Join (kid_at (participant_at w.participants place).kids n).home 1)
-  stage_tells roles place due (Arriving n) is below h at e = calls_tell place (kid_at (participant_at w.participants place).kids n).token call.Arrive
+      calls_tell place (child_at (participant_at w.participants place).children n).token (call.Join (child_at (participant_at w.participants place).children n).home 1)
+  stage_tells roles place due (Arriving n) is below h at e = calls_tell place (child_at (participant_at w.participants place).children n).token call.Arrive
   stage_tells roles place true Leaving is below h at e = λ played k. counted parents p limit w roles worker place is (stands below) of h at e
   stage_tells roles place false Leaving is below h at e =
       calls_tell place (participant_at w.participants place).token (if (participant_at w.participants place).synced then call.Arrive else call.Leave)

@@ -11,7 +11,7 @@ use Rattle.step_core.specs.Program.{Program}
 use Rattle.step_core.specs.Superstep.{State, segments, first_fault, too_many, overflow, or_next, fault_in, superstep, closed, next_live, live_paths}
 use Rattle.step_core.specs.JobMeaning.{status, unless_ended, so_far}
 use Rattle.step_core.specs.OrderValue.{spawned_paths}
-use Rattle.job_schedule.specs.ParticipantValue.{ParticipantValue, participant_at, participant_path, kid_path}
+use Rattle.job_schedule.specs.ParticipantValue.{ParticipantValue, participant_at, participant_path, child_path}
 use Rattle.job_schedule.specs.World.{World, deed_in, deed_of}
 use Rattle.job_schedule.specs.Laws.{IsStanding}
 use Rattle.job_schedule.proofs.Jobs.{IsOf}
@@ -71,13 +71,13 @@ are_few p limit w h of stands = record {
       let d = live_few p limit of.job.0 h in
       let e : length w.job.live ≡ length (so_far p limit of.job.0).live = ap (λ (st : State). length st.live) of.job.1 in
       omega arith;
-  kids = λ q l d.
+  children = λ q l d.
       let n = stands.noted q l d in
       let g : ParticipantValue = participant_at w.participants q in
       let s : Segment = deed_of w (participant_at w.participants q).path in
-      let a : length (map kid_path g.kids) ≡ length g.kids = length-map g.kids kid_path in
+      let a : length (map child_path g.children) ≡ length g.children = length-map g.children child_path in
       let b : length (spawned_paths s) ≡ length s.spawns = length-map (deed_of w (participant_at w.participants q).path).spawns (λ (t : Task). t.path) in
-      let c : length (map kid_path g.kids) ≡ length (spawned_paths s) = ap length n.kids in
+      let c : length (map child_path g.children) ≡ length (spawned_paths s) = ap length n.children in
       let e = deed_few w.program w.job.arrays w.job.step w.job.live (participant_at w.participants q).path in
       omega arith;
 }

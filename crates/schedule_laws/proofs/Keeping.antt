@@ -26,9 +26,9 @@ use Rattle.job_schedule.specs.declared.stage.Move.{Move}
 use Rattle.job_schedule.specs.declared.stage.Move.TheVariants.{Takes, Delivers, Calls, Advances, Closes, Ends}
 use Rattle.job_schedule.specs.declared.step.JobStep.{JobStep}
 use Rattle.job_schedule.specs.AnswerValue.{NotNow}
-use Rattle.job_schedule.specs.ParticipantValue.{ParticipantValue, participant_at, participant_path, kid_at, all_over}
+use Rattle.job_schedule.specs.ParticipantValue.{ParticipantValue, participant_at, participant_path, child_at, all_over}
 use Rattle.job_schedule.specs.Moves.{by_stage}
-use Rattle.job_schedule.specs.World.{World, deed_of, kid_from, with_kids, noted, called_by, advanced_by, ended_by, next_job, mode_after, closed_as, done_by, kind_of, kind_for, if_asked, by_participant, by_hand, by_mode, move_of, worker_of, world_after, reached}
+use Rattle.job_schedule.specs.World.{World, deed_of, child_from, with_children, noted, called_by, advanced_by, ended_by, next_job, mode_after, closed_as, done_by, kind_of, kind_for, if_asked, by_participant, by_hand, by_mode, move_of, worker_of, world_after, reached}
 use Rattle.schedule_laws.specs.Working.{IsWorking, IsKept}
 use Rattle.schedule_laws.proofs.Sharing.{no_participant_beyond}
 use Rattle.schedule_laws.proofs.Moving.{Works, sits_at, polling_works, joining_works, arriving_works, leaving_works}
@@ -46,14 +46,14 @@ pub record IsSame (w v : World) : Type 0 where
 and_then : (u v w : World) → IsSame u v → IsSame v w → IsSame u w
 and_then u v w h k = record { mode = k.mode ∙ h.mode; limit = k.limit ∙ h.limit; job = k.job ∙ h.job }
 
-kid_same : (w : World) (place : ℕ) (path free : List ℕ) → IsSame w (kid_from w place path free)
-kid_same w place path [] = record { mode = refl; limit = refl; job = refl }
-kid_same w place path (token ∷ free) = record { mode = refl; limit = refl; job = refl }
+child_same : (w : World) (place : ℕ) (path free : List ℕ) → IsSame w (child_from w place path free)
+child_same w place path [] = record { mode = refl; limit = refl; job = refl }
+child_same w place path (token ∷ free) = record { mode = refl; limit = refl; job = refl }
 
-kids_same : (w : World) (place : ℕ) (paths : List (List ℕ)) → IsSame w (with_kids w place paths)
-kids_same w place [] = record { mode = refl; limit = refl; job = refl }
-kids_same w place (path ∷ paths) =
-    and_then w (kid_from w place path w.free) (with_kids w place (path ∷ paths)) (kid_same w place path w.free) (kids_same (kid_from w place path w.free) place paths)
+children_same : (w : World) (place : ℕ) (paths : List (List ℕ)) → IsSame w (with_children w place paths)
+children_same w place [] = record { mode = refl; limit = refl; job = refl }
+children_same w place (path ∷ paths) =
+    and_then w (child_from w place path w.free) (with_children w place (path ∷ paths)) (child_same w place path w.free) (children_same (child_from w place path w.free) place paths)
 
 called_same : (w : World) (worker place : ℕ) (tree : Tree) (a : TreeAnswer) → IsSame w (called_by w worker place tree a).1
 called_same w worker place tree answer.Begun = record { mode = refl; limit = refl; job = refl }
@@ -110,13 +110,13 @@ module _ (parents : List ℕ) (w : World) (worker : ℕ) (few : w.limit ≤ 2147
     stage_keeps place due Waits h at e = tt
     stage_keeps place due Taken h at e = λ s.
         works_kept parents w (done_by w worker (Delivers place)).1 runs below
-        (let k = kids_same (noted w place (has_synced (deed_of w (participant_at w.participants place).path))) place (spawned_paths (deed_of w (participant_at w.participants place).path)) in
+        (let k = children_same (noted w place (has_synced (deed_of w (participant_at w.participants place).path))) place (spawned_paths (deed_of w (participant_at w.participants place).path)) in
         record { mode = k.mode; limit = k.limit; job = k.job })
         (delivering_works parents w roles worker place is h at)
     stage_keeps place due Polling h at e = λ s. call_kept place (participant_at w.participants place).token call.Poll (polling_works parents w roles worker place is h at)
-    stage_keeps place due (Joining n) h at e = λ s. call_kept place (kid_at (participant_at w.participants place).kids n).token (call.Join (kid_at (participant_at w.participants place).kids n).home 1)
+    stage_keeps place due (Joining n) h at e = λ s. call_kept place (child_at (participant_at w.participants place).children n).token (call.Join (child_at (participant_at w.participants place).children n).home 1)
         (joining_works parents w roles worker place is h n at (join_room place n h at))
-    stage_keeps place due (Arriving n) h at e = λ s. call_kept place (kid_at (participant_at w.participants place).kids n).token call.Arrive (arriving_works parents w roles worker place is h n at)
+    stage_keeps place due (Arriving n) h at e = λ s. call_kept place (child_at (participant_at w.participants place).children n).token call.Arrive (arriving_works parents w roles worker place is h n at)
     stage_keeps place true Leaving h at e = λ s.
         subst (λ (m : Mode). IsKept parents (done_by w worker (Advances place)).1 m) (sym (advancing_mode parents w roles worker place is h at e)) (
           advanced_status w worker place (after w.tree (Finish (participant_at w.participants place).token)) (answer_to w.tree (Finish (participant_at w.participants place).token)) below,

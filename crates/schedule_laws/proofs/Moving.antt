@@ -24,10 +24,10 @@ use Rattle.schedule_laws.proofs.Playing.{nobody_leads, home_within, leads_is_due
 use Rattle.job_schedule.specs.declared.stage.Stage.{Stage}
 use Rattle.job_schedule.specs.declared.stage.Stage.TheVariants.{Waits, Taken, Polling, Joining, Arriving, Leaving, Over}
 use Rattle.job_schedule.specs.declared.stage.Move.TheVariants.{Calls}
-use Rattle.job_schedule.specs.ParticipantValue.{KidValue, ParticipantValue, participant_at, kid_at, answered}
+use Rattle.job_schedule.specs.ParticipantValue.{ChildValue, ParticipantValue, participant_at, child_at, answered}
 use Rattle.job_schedule.specs.World.{World, called_by, hand_after, done_by}
 use Rattle.schedule_laws.specs.Working.{passage_if, ComesTo, ArrivesAt, SitsAt, Sits, of_participant, IsWorking}
-use Rattle.schedule_laws.proofs.Sharing.{one, own_in, kid_in, known_in, kid_not_own, kids_differ}
+use Rattle.schedule_laws.proofs.Sharing.{one, own_in, child_in, known_in, child_not_own, children_differ}
 use Rattle.schedule_laws.proofs.Calling.{two_steps, IsCalled, call_goes_on, call_begins, call_admitted}
 use Rattle.schedule_laws.proofs.Turning.{turn_works}
 use Rattle.schedule_laws.proofs.Answering.{done_stays, poll_next, goes_on_same, IsClaiming, claiming_goes, JoinEnds, look_next, claim_next, IsPassing, passing_goes, pass_next}
@@ -84,28 +84,28 @@ module _ (parents : List ℕ) (w : World) (roles : List Role) (worker place : �
   now_plays i next mine =
       let a = known i mine in let b = is.cast.long in get_or-set_same roles i next Out (omega arith)
 
-  pub kids_stay : (next : Role) (k : ℕ) → k < length (participant_at w.participants place).kids
-      → role_at (set roles (participant_at w.participants place).token next) (kid_at (participant_at w.participants place).kids k).token
-      ≡ role_at roles (kid_at (participant_at w.participants place).kids k).token
-  kids_stay next k l =
-      get_or-set_other roles (participant_at w.participants place).token (kid_at (participant_at w.participants place).kids k).token next Out
-      (kid_not_own w.participants w.free (length w.tree.views) is.shared place k h l)
+  pub children_stay : (next : Role) (k : ℕ) → k < length (participant_at w.participants place).children
+      → role_at (set roles (participant_at w.participants place).token next) (child_at (participant_at w.participants place).children k).token
+      ≡ role_at roles (child_at (participant_at w.participants place).children k).token
+  children_stay next k l =
+      get_or-set_other roles (participant_at w.participants place).token (child_at (participant_at w.participants place).children k).token next Out
+      (child_not_own w.participants w.free (length w.tree.views) is.shared place k h l)
 
-  own_stays : (next : Role) (k : ℕ) → k < length (participant_at w.participants place).kids
-      → role_at (set roles (kid_at (participant_at w.participants place).kids k).token next) (participant_at w.participants place).token ≡ role_at roles (participant_at w.participants place).token
+  own_stays : (next : Role) (k : ℕ) → k < length (participant_at w.participants place).children
+      → role_at (set roles (child_at (participant_at w.participants place).children k).token next) (participant_at w.participants place).token ≡ role_at roles (participant_at w.participants place).token
   own_stays next k l =
-      get_or-set_other roles (kid_at (participant_at w.participants place).kids k).token (participant_at w.participants place).token next Out
-      (λ e. kid_not_own w.participants w.free (length w.tree.views) is.shared place k h l (sym e))
+      get_or-set_other roles (child_at (participant_at w.participants place).children k).token (participant_at w.participants place).token next Out
+      (λ e. child_not_own w.participants w.free (length w.tree.views) is.shared place k h l (sym e))
 
-  others_stay : (next : Role) (n k : ℕ) → n < length (participant_at w.participants place).kids → k < length (participant_at w.participants place).kids → k ≢ n
-      → role_at (set roles (kid_at (participant_at w.participants place).kids n).token next) (kid_at (participant_at w.participants place).kids k).token
-      ≡ role_at roles (kid_at (participant_at w.participants place).kids k).token
+  others_stay : (next : Role) (n k : ℕ) → n < length (participant_at w.participants place).children → k < length (participant_at w.participants place).children → k ≢ n
+      → role_at (set roles (child_at (participant_at w.participants place).children n).token next) (child_at (participant_at w.participants place).children k).token
+      ≡ role_at roles (child_at (participant_at w.participants place).children k).token
   others_stay next n k l m o =
-      get_or-set_other roles (kid_at (participant_at w.participants place).kids n).token (kid_at (participant_at w.participants place).kids k).token next Out
-      (kids_differ w.participants w.free (length w.tree.views) is.shared place k n h m l o)
+      get_or-set_other roles (child_at (participant_at w.participants place).children n).token (child_at (participant_at w.participants place).children k).token next Out
+      (children_differ w.participants w.free (length w.tree.views) is.shared place k n h m l o)
 
   abbrev pub At : Stage → Type 0
-  At stage = SitsAt stage roles (length parents) (participant_at w.participants place).token (participant_at w.participants place).home (participant_at w.participants place).kids (participant_at w.participants place).synced
+  At stage = SitsAt stage roles (length parents) (participant_at w.participants place).token (participant_at w.participants place).home (participant_at w.participants place).children (participant_at w.participants place).synced
 
   pub sits_at : (stage : Stage) → (participant_at w.participants place).stage ≡ stage → At stage
   sits_at stage at = subst (λ (s : Stage). At s) at (is.sits place h)
@@ -131,7 +131,7 @@ module _ (parents : List ℕ) (w : World) (roles : List Role) (worker place : �
       let step = poll_step at in
       let next = poll_next (flat_of w.tree).phase g.home step.1.0 step.0 step.1.1.follows in
       call_works i call.Poll (Polls g.home) step.0 step.1.0 (ap is_ready at) mine step.1.1
-      (after_poll (participant_at w.participants place) roles (set roles i step.0) (length parents) step.0 step.1.0 (now_plays i step.0 mine) (kids_stay step.0) at sits
+      (after_poll (participant_at w.participants place) roles (set roles i step.0) (length parents) step.0 step.1.0 (now_plays i step.0 mine) (children_stay step.0) at sits
       (⊎_elim (λ q. inl (goes_on_same step.1.0 q.0, q.1)) (λ q. inr q) next))
 
   -- a join of a spawned task's token
@@ -198,36 +198,36 @@ module _ (parents : List ℕ) (w : World) (roles : List Role) (worker place : �
             ends = claim_next (flat_of w.tree).phase (participant_at w.participants place).home home (role_at roles i) step.1.0 step.0 n q step.1.1.follows;
           }
 
-  pub kid_step : (n : ℕ) → (participant_at w.participants place).stage ≡ Joining n → HasRoom
-      → IsJoinStep (kid_at (participant_at w.participants place).kids n).home (kid_at (participant_at w.participants place).kids n).token
-  kid_step n at room =
-      let k : KidValue = kid_at (participant_at w.participants place).kids n in
+  pub child_step : (n : ℕ) → (participant_at w.participants place).stage ≡ Joining n → HasRoom
+      → IsJoinStep (child_at (participant_at w.participants place).children n).home (child_at (participant_at w.participants place).children n).token
+  child_step n at room =
+      let k : ChildValue = child_at (participant_at w.participants place).children n in
       let sits = sits_at (Joining n) at in
-      let turn : n < length (participant_at w.participants place).kids = sits.turn in
+      let turn : n < length (participant_at w.participants place).children = sits.turn in
       let there : k.home < length w.tree.parents = (let a = sits.homes n turn in let b : length w.tree.parents ≡ length parents = ap length is.built.shape in omega arith) in
-      join_step k.token k.home (known k.token (kid_in (participant_at w.participants place) n turn)) there sits.own room ((sits.each n turn).1 refl)
+      join_step k.token k.home (known k.token (child_in (participant_at w.participants place) n turn)) there sits.own room ((sits.each n turn).1 refl)
 
   pub joining_works : (n : ℕ) → (participant_at w.participants place).stage ≡ Joining n → HasRoom
-      → Works parents (done_by w worker (Calls place (kid_at (participant_at w.participants place).kids n).token (call.Join (kid_at (participant_at w.participants place).kids n).home 1))).1
+      → Works parents (done_by w worker (Calls place (child_at (participant_at w.participants place).children n).token (call.Join (child_at (participant_at w.participants place).children n).home 1))).1
   joining_works n at room =
       let g : ParticipantValue = participant_at w.participants place in
-      let k : KidValue = kid_at (participant_at w.participants place).kids n in
+      let k : ChildValue = child_at (participant_at w.participants place).children n in
       let sits = sits_at (Joining n) at in
-      let turn : n < length g.kids = sits.turn in
-      let mine = kid_in (participant_at w.participants place) n turn in
-      let step = kid_step n at room in
+      let turn : n < length g.children = sits.turn in
+      let mine = child_in (participant_at w.participants place) n turn in
+      let step = child_step n at room in
       call_works k.token (call.Join k.home 1) step.role step.next step.a (ap is_ready at) mine step.called
       (after_join (participant_at w.participants place) roles (set roles k.token step.next) (length parents) n step.next step.a (own_stays step.next n turn)
       (now_plays k.token step.next mine) (λ j l o. others_stay step.next n j turn l o) at sits (own_tier sits.own) step.ends)
 
   -- at the tier of its spawner it is never refused
   pub home_admits : (n : ℕ) (played : Played) → (participant_at w.participants place).stage ≡ Joining n → HasRoom
-      → (kid_at (participant_at w.participants place).kids n).home ≡ (participant_at w.participants place).home
-      → answer_to (after w.tree (Begin (kid_at (participant_at w.participants place).kids n).token (call.Join (kid_at (participant_at w.participants place).kids n).home 1)))
-      (Go (kid_at (participant_at w.participants place).kids n).token) ≡ answer.Played played
+      → (child_at (participant_at w.participants place).children n).home ≡ (participant_at w.participants place).home
+      → answer_to (after w.tree (Begin (child_at (participant_at w.participants place).children n).token (call.Join (child_at (participant_at w.participants place).children n).home 1)))
+      (Go (child_at (participant_at w.participants place).children n).token) ≡ answer.Played played
       → turns_away played ≡ false
   home_admits n played at room e told =
-      let step = kid_step n at room in
+      let step = child_step n at room in
       let same : step.a ≡ played = played_same (sym step.called.told ∙ told) in
       ap turns_away (sym same) ∙ ⊎_elim (λ q. done_stays step.a q.0) (λ q. ⊎_elim (λ q. absurd (q.1 e)) (λ q. ap turns_away q.0) q) step.ends
     where
@@ -254,22 +254,22 @@ module _ (parents : List ℕ) (w : World) (roles : List Role) (worker place : �
       f
 
   pub arrival_step : (n : ℕ) → (participant_at w.participants place).stage ≡ Arriving n
-      → IsPassingStep (kid_at (participant_at w.participants place).kids n).token (kid_at (participant_at w.participants place).kids n).home Arrival
+      → IsPassingStep (child_at (participant_at w.participants place).children n).token (child_at (participant_at w.participants place).children n).home Arrival
   arrival_step n at =
-      let k : KidValue = kid_at (participant_at w.participants place).kids n in
+      let k : ChildValue = child_at (participant_at w.participants place).children n in
       let sits = sits_at (Arriving n) at in
       let way : ArrivesAt k.home (role_at roles k.token) = (sits.each n sits.turn).1 refl in
-      passing k.token k.home Arrival (known k.token (kid_in (participant_at w.participants place) n sits.turn)) (⊎_elim (λ q. inl (inr q)) (λ q. inr q) way)
+      passing k.token k.home Arrival (known k.token (child_in (participant_at w.participants place) n sits.turn)) (⊎_elim (λ q. inl (inr q)) (λ q. inr q) way)
 
   -- an arrival of a spawned task's token: while its spawner is awaited it never has to advance the root
   pub arriving_works : (n : ℕ) → (participant_at w.participants place).stage ≡ Arriving n
-      → Works parents (done_by w worker (Calls place (kid_at (participant_at w.participants place).kids n).token call.Arrive)).1
+      → Works parents (done_by w worker (Calls place (child_at (participant_at w.participants place).children n).token call.Arrive)).1
   arriving_works n at =
       let g : ParticipantValue = participant_at w.participants place in
-      let k : KidValue = kid_at (participant_at w.participants place).kids n in
+      let k : ChildValue = child_at (participant_at w.participants place).children n in
       let sits = sits_at (Arriving n) at in
-      let turn : n < length g.kids = sits.turn in
-      let mine = kid_in (participant_at w.participants place) n turn in
+      let turn : n < length g.children = sits.turn in
+      let mine = child_in (participant_at w.participants place) n turn in
       let step = arrival_step n at in
       let called = step.1.1.1.1 in
       call_works k.token call.Arrive step.0 step.1.1.0 step.1.1.1.0 (ap is_ready at) mine called
@@ -284,15 +284,15 @@ module _ (parents : List ℕ) (w : World) (roles : List Role) (worker place : �
       ))
       (pass_next (flat_of w.tree).phase k.home Arrival step.0 step.1.1.1.0 step.1.1.0 step.1.0 called.follows)))
     where
-      leads_not : (n : ℕ) (next : Role) (tree : Tree) → n < length (participant_at w.participants place).kids
-          → IsCast tree (set roles (kid_at (participant_at w.participants place).kids n).token next) → length tree.views ≡ length w.tree.views
+      leads_not : (n : ℕ) (next : Role) (tree : Tree) → n < length (participant_at w.participants place).children
+          → IsCast tree (set roles (child_at (participant_at w.participants place).children n).token next) → length tree.views ≡ length w.tree.views
           → role_at roles (participant_at w.participants place).token ≡ Here (participant_at w.participants place).home → is_leading next ≡ false
       leads_not n next tree turn cast same own =
-          let i : ℕ = (kid_at (participant_at w.participants place).kids n).token in
-          let mine = kid_in (participant_at w.participants place) n turn in
+          let i : ℕ = (child_at (participant_at w.participants place).children n).token in
+          let mine = child_in (participant_at w.participants place) n turn in
           let a = known i mine in let b = known (participant_at w.participants place).token (own_in (participant_at w.participants place)) in
           ap is_leading (sym (now_plays i next mine))
-          ∙ nobody_leads tree (set roles (kid_at (participant_at w.participants place).kids n).token next) (participant_at w.participants place).token i cast (omega arith) (omega arith)
+          ∙ nobody_leads tree (set roles (child_at (participant_at w.participants place).children n).token next) (participant_at w.participants place).token i cast (omega arith) (omega arith)
           (ap is_awaited (own_stays next n turn ∙ own))
 
   -- its own arrival or departure, until it has to advance the root
@@ -327,5 +327,5 @@ module _ (parents : List ℕ) (w : World) (roles : List Role) (worker place : �
       let called = step.1.1.1.1 in
       subst (λ (c : Call). Works parents (done_by w worker (Calls place i c)).1) (sym (passage_call (participant_at w.participants place).synced))
       (call_works i (call_by (passage_if (participant_at w.participants place).synced)) step.0 step.1.1.0 step.1.1.1.0 (ap is_ready at) mine called
-      (after_pass (participant_at w.participants place) roles (set roles i step.1.1.0) (length parents) step.1.1.0 step.1.1.1.0 (now_plays i step.1.1.0 mine) (kids_stay step.1.1.0) at sits
+      (after_pass (participant_at w.participants place) roles (set roles i step.1.1.0) (length parents) step.1.1.0 step.1.1.1.0 (now_plays i step.1.1.0 mine) (children_stay step.1.1.0) at sits
       (pass_next (flat_of w.tree).phase g.home (passage_if (participant_at w.participants place).synced) step.0 step.1.1.1.0 step.1.1.0 step.1.0 called.follows)))

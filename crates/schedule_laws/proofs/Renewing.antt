@@ -18,7 +18,7 @@ use Rattle.schedule_laws.specs.Roles.{Role, Out, Late, Past}
 use Rattle.schedule_laws.specs.Cast.{role_at, turned}
 use Rattle.job_schedule.specs.declared.stage.Stage.{Stage}
 use Rattle.job_schedule.specs.declared.stage.Stage.TheVariants.{Waits, Taken, Polling, Joining, Arriving, Leaving, Over}
-use Rattle.job_schedule.specs.ParticipantValue.{KidValue, ParticipantValue, participant_at, kid_at, participant_path, is_over, all_over, waiting, own_participant, kid_participant, living_participants, next_participants, freed}
+use Rattle.job_schedule.specs.ParticipantValue.{ChildValue, ParticipantValue, participant_at, child_at, participant_path, is_over, all_over, waiting, own_participant, child_participant, living_participants, next_participants, freed}
 use Rattle.job_schedule.specs.World.{World, next_job, renewed}
 use Rattle.job_schedule.proofs.Closing.{one_superstep}
 use Rattle.schedule_laws.specs.Working.{passage_if, SitsAt, Sits, of_participant, IsWorking, IsTurning}
@@ -64,26 +64,26 @@ module _ (P : ParticipantValue → Type 0) where
 
 -- what lives on counts the same, with what is freed
 
-kids_sum : (m : ℕ → ℕ) (ks : List KidValue) → sum_by (of_participant m) (map kid_participant ks) ≡ sum_by (λ (k : KidValue). m k.token) ks
-kids_sum m [] = refl
-kids_sum m (k ∷ ks) =
-    let a = sum_by-cons (of_participant m) (kid_participant k) (map kid_participant ks) in
-    let b = sum_by-cons (λ (k : KidValue). m k.token) k ks in let c = kids_sum m ks in omega arith
+children_sum : (m : ℕ → ℕ) (ks : List ChildValue) → sum_by (of_participant m) (map child_participant ks) ≡ sum_by (λ (k : ChildValue). m k.token) ks
+children_sum m [] = refl
+children_sum m (k ∷ ks) =
+    let a = sum_by-cons (of_participant m) (child_participant k) (map child_participant ks) in
+    let b = sum_by-cons (λ (k : ChildValue). m k.token) k ks in let c = children_sum m ks in omega arith
 
 living_sum : (m : ℕ → ℕ) (gs : List ParticipantValue) (free : List ℕ) → sum_by (of_participant m) (living_participants gs) + sum_by m (freed gs free) ≡ sum_by (of_participant m) gs + sum_by m free
 living_sum m [] free = refl
 living_sum m (g ∷ gs) free = by g.synced (living_sum m gs)
   where
     by : (b : Bool) → ((ts : List ℕ) → sum_by (of_participant m) (living_participants gs) + sum_by m (freed gs ts) ≡ sum_by (of_participant m) gs + sum_by m ts)
-        → sum_by (of_participant m) (((if b then waiting g.path g.token g.home ∷ [] else []) ++ map kid_participant g.kids) ++ living_participants gs)
+        → sum_by (of_participant m) (((if b then waiting g.path g.token g.home ∷ [] else []) ++ map child_participant g.children) ++ living_participants gs)
         + sum_by m (freed gs (if b then free else g.token ∷ free)) ≡ sum_by (of_participant m) (g ∷ gs) + sum_by m free
     by true rest =
-        let a = sum_by-cons (of_participant m) (waiting g.path g.token g.home) (map kid_participant g.kids ++ living_participants gs) in
-        let b = sum_by-append (of_participant m) (map kid_participant g.kids) (living_participants gs) in
-        let c = kids_sum m g.kids in let d = rest free in let e = sum_by-cons (of_participant m) g gs in omega arith
+        let a = sum_by-cons (of_participant m) (waiting g.path g.token g.home) (map child_participant g.children ++ living_participants gs) in
+        let b = sum_by-append (of_participant m) (map child_participant g.children) (living_participants gs) in
+        let c = children_sum m g.children in let d = rest free in let e = sum_by-cons (of_participant m) g gs in omega arith
     by false rest =
-        let b = sum_by-append (of_participant m) (map kid_participant g.kids) (living_participants gs) in
-        let c = kids_sum m g.kids in let d = rest (g.token ∷ free) in let e = sum_by-cons (of_participant m) g gs in
+        let b = sum_by-append (of_participant m) (map child_participant g.children) (living_participants gs) in
+        let c = children_sum m g.children in let d = rest (g.token ∷ free) in let e = sum_by-cons (of_participant m) g gs in
         let i = sum_by-cons m g.token free in omega arith
 
 -- each of them is awaited in the next phase
@@ -104,20 +104,20 @@ own_new : (roles : List Role) (tiers : ℕ) (g : ParticipantValue) (b : Bool) �
 own_new roles tiers g true e = (new (map turned roles) tiers g.path g.token g.home (map_at roles g.token ∙ ap turned e), tt)
 own_new roles tiers g false e = tt
 
-kids_new : (roles : List Role) (tiers : ℕ) (ks : List KidValue) → ((k : ℕ) → k < length ks → role_at roles (kid_at ks k).token ≡ Past (kid_at ks k).home Arrival)
-    → AllByRecursion (IsNew (map turned roles) tiers) (map kid_participant ks)
-kids_new roles tiers [] h = tt
-kids_new roles tiers (k ∷ ks) h = (
+children_new : (roles : List Role) (tiers : ℕ) (ks : List ChildValue) → ((k : ℕ) → k < length ks → role_at roles (child_at ks k).token ≡ Past (child_at ks k).home Arrival)
+    → AllByRecursion (IsNew (map turned roles) tiers) (map child_participant ks)
+children_new roles tiers [] h = tt
+children_new roles tiers (k ∷ ks) h = (
   new (map turned roles) tiers k.path k.token k.home (map_at roles k.token ∙ ap turned (h 0 (omega arith))),
-  kids_new roles tiers ks (λ j l. h (suc j) (omega arith)),
+  children_new roles tiers ks (λ j l. h (suc j) (omega arith)),
 )
 
 living_new : (roles : List Role) (tiers : ℕ) (gs : List ParticipantValue) → AllOver roles tiers gs → AllByRecursion (IsNew (map turned roles) tiers) (living_participants gs)
 living_new roles tiers [] h = tt
 living_new roles tiers (g ∷ gs) h =
     let s = h 0 (omega arith) in
-    all_append (IsNew (map turned roles) tiers) (own_participant g ++ map kid_participant g.kids) (living_participants gs)
-    (all_append (IsNew (map turned roles) tiers) (own_participant g) (map kid_participant g.kids) (own_new roles tiers g g.synced s.own) (kids_new roles tiers g.kids s.each))
+    all_append (IsNew (map turned roles) tiers) (own_participant g ++ map child_participant g.children) (living_participants gs)
+    (all_append (IsNew (map turned roles) tiers) (own_participant g) (map child_participant g.children) (own_new roles tiers g g.synced s.own) (children_new roles tiers g.children s.each))
     (living_new roles tiers gs (λ q l. h (suc q) (omega arith)))
 
 own_free : (roles : List Role) (g : ParticipantValue) (free : List ℕ) (b : Bool) → role_at roles g.token ≡ Past g.home (passage_if b)
@@ -225,7 +225,7 @@ closing_works parents w roles is on paths = (running, works)
     all : AllOver roles (length parents) w.participants
     all q l =
         let g : ParticipantValue = participant_at w.participants q in
-        subst (λ (s : Stage). SitsAt s roles (length parents) g.token g.home g.kids g.synced) (over_at w.participants q is.over l) (is.sits q l)
+        subst (λ (s : Stage). SitsAt s roles (length parents) g.token g.home g.children g.synced) (over_at w.participants q is.over l) (is.sits q l)
 
     fresh : AllByRecursion (IsNew (map turned roles) (length parents)) (next_participants w.participants)
     fresh = all_order (IsNew (map turned roles) (length parents)) (living_participants w.participants) (living_new roles (length parents) w.participants all)

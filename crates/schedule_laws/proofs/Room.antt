@@ -25,7 +25,7 @@ use Rattle.schedule_laws.specs.Cast.{role_at, members_in}
 use Rattle.schedule_laws.proofs.Playing.{size_of, sums_alike, home_within}
 use Rattle.job_schedule.specs.declared.stage.Stage.{Stage}
 use Rattle.job_schedule.specs.declared.stage.Stage.TheVariants.{Waits, Taken, Polling, Joining, Arriving, Leaving, Over}
-use Rattle.job_schedule.specs.ParticipantValue.{KidValue, ParticipantValue, participant_at, kid_at, is_delivered}
+use Rattle.job_schedule.specs.ParticipantValue.{ChildValue, ParticipantValue, participant_at, child_at, is_delivered}
 use Rattle.job_schedule.specs.World.{World}
 use Rattle.schedule_laws.specs.Working.{passage_if, ComesTo, ArrivesAt, SitsAt, of_participant, IsWorking}
 use Rattle.schedule_laws.proofs.Sharing.{own_in, known_in}
@@ -81,28 +81,28 @@ sum_both (r ∷ rs) =
     let a = sum_by-cons weight r rs in let b = sum_by-cons members_in r rs in let c = sum_by-cons climbs r rs in let d = sum_both rs in omega arith
 
 -- a task with its spawned ones
-kids_light : (roles : List Role) (ks : List KidValue) → ((k : ℕ) → k < length ks → weight (role_at roles (kid_at ks k).token) ≤ 1)
-    → sum_by (λ (k : KidValue). weight (role_at roles k.token)) ks ≤ length ks
-kids_light roles [] h = omega arith
-kids_light roles (k ∷ ks) h =
-    let a = sum_by-cons (λ (k : KidValue). weight (role_at roles k.token)) k ks in
-    let b = h 0 (omega arith) in let c = kids_light roles ks (λ j l. h (suc j) (omega arith)) in omega arith
+children_light : (roles : List Role) (ks : List ChildValue) → ((k : ℕ) → k < length ks → weight (role_at roles (child_at ks k).token) ≤ 1)
+    → sum_by (λ (k : ChildValue). weight (role_at roles k.token)) ks ≤ length ks
+children_light roles [] h = omega arith
+children_light roles (k ∷ ks) h =
+    let a = sum_by-cons (λ (k : ChildValue). weight (role_at roles k.token)) k ks in
+    let b = h 0 (omega arith) in let c = children_light roles ks (λ j l. h (suc j) (omega arith)) in omega arith
 
-one_heavy : (roles : List Role) (ks : List KidValue) (n : ℕ) → ((k : ℕ) → k < length ks → k ≢ n → weight (role_at roles (kid_at ks k).token) ≤ 1)
-    → ((k : ℕ) → k < length ks → k ≡ n → weight (role_at roles (kid_at ks k).token) ≤ 2)
-    → sum_by (λ (k : KidValue). weight (role_at roles k.token)) ks ≤ length ks + 1
+one_heavy : (roles : List Role) (ks : List ChildValue) (n : ℕ) → ((k : ℕ) → k < length ks → k ≢ n → weight (role_at roles (child_at ks k).token) ≤ 1)
+    → ((k : ℕ) → k < length ks → k ≡ n → weight (role_at roles (child_at ks k).token) ≤ 2)
+    → sum_by (λ (k : ChildValue). weight (role_at roles k.token)) ks ≤ length ks + 1
 one_heavy roles [] n h i = omega arith
 one_heavy roles (k ∷ ks) zero h i =
-    let a = sum_by-cons (λ (k : KidValue). weight (role_at roles k.token)) k ks in
-    let b = i 0 (omega arith) refl in let c = kids_light roles ks (λ j l. h (suc j) (omega arith) (λ e. absurd (omega arith))) in omega arith
+    let a = sum_by-cons (λ (k : ChildValue). weight (role_at roles k.token)) k ks in
+    let b = i 0 (omega arith) refl in let c = children_light roles ks (λ j l. h (suc j) (omega arith) (λ e. absurd (omega arith))) in omega arith
 one_heavy roles (k ∷ ks) (suc n) h i =
-    let a = sum_by-cons (λ (k : KidValue). weight (role_at roles k.token)) k ks in
+    let a = sum_by-cons (λ (k : ChildValue). weight (role_at roles k.token)) k ks in
     let b = h 0 (omega arith) (λ e. absurd (omega arith)) in
     let c = one_heavy roles ks n (λ j l o. h (suc j) (omega arith) (λ e. o (omega arith))) (λ j l e. i (suc j) (omega arith) (ap suc e)) in omega arith
 
-no_kids : (ks : List KidValue) → ((k : ℕ) → k < length ks → ⊥) → length ks ≡ 0
-no_kids [] h = refl
-no_kids (k ∷ ks) h = absurd (h 0 (omega arith))
+no_children : (ks : List ChildValue) → ((k : ℕ) → k < length ks → ⊥) → length ks ≡ 0
+no_children [] h = refl
+no_children (k ∷ ks) h = absurd (h 0 (omega arith))
 
 passage_weight : (home : ℕ) (passage : Passage) → (weight (Owes home passage) ≤ 2) × (weight (Leads home passage) ≤ 2) × (weight (Past home passage) ≤ 1)
 passage_weight home Arrival = (omega arith, omega arith, omega arith)
@@ -120,40 +120,40 @@ arriving_light : (home : ℕ) (r : Role) → ArrivesAt home r → weight r ≤ 2
 arriving_light home r f = ⊎_elim (λ q. is_at r (Ready home) 2 q (omega arith)) (λ q. ⊎_elim (λ q. is_at r (Looks home Arrival) 2 q (omega arith))
     (λ q. ⊎_elim (λ q. is_at r (Passes home Arrival) 2 q (omega arith)) (λ q. is_at r (Owes home Arrival) 2 q (omega arith)) q) q) f
 
-module _ (roles : List Role) (tiers token home : ℕ) (kids : List KidValue) (synced : Bool) where
-  abbrev kid_role : ℕ → Role
-  kid_role k = role_at roles (kid_at kids k).token
+module _ (roles : List Role) (tiers token home : ℕ) (children : List ChildValue) (synced : Bool) where
+  abbrev child_role : ℕ → Role
+  child_role k = role_at roles (child_at children k).token
 
   abbrev all : ℕ
-  all = weight (role_at roles token) + sum_by (λ (k : KidValue). weight (role_at roles k.token)) kids
+  all = weight (role_at roles token) + sum_by (λ (k : ChildValue). weight (role_at roles k.token)) children
 
-  by_stage : (stage : Stage) → SitsAt stage roles tiers token home kids synced → (is_delivered stage ≡ true → length kids ≤ 8) → all ≤ 10
+  by_stage : (stage : Stage) → SitsAt stage roles tiers token home children synced → (is_delivered stage ≡ true → length children ≤ 8) → all ≤ 10
   by_stage Waits is few =
-      let a = is_at (role_at roles token) (Late home) 1 is.own (omega arith) in let b = no_kids kids is.each in
-      let c = kids_light roles kids (λ k l. absurd (is.each k l)) in omega arith
+      let a = is_at (role_at roles token) (Late home) 1 is.own (omega arith) in let b = no_children children is.each in
+      let c = children_light roles children (λ k l. absurd (is.each k l)) in omega arith
   by_stage Taken is few =
-      let a = is_at (role_at roles token) (Late home) 1 is.own (omega arith) in let b = no_kids kids is.each in
-      let c = kids_light roles kids (λ k l. absurd (is.each k l)) in omega arith
+      let a = is_at (role_at roles token) (Late home) 1 is.own (omega arith) in let b = no_children children is.each in
+      let c = children_light roles children (λ k l. absurd (is.each k l)) in omega arith
   by_stage Polling is few =
       let a = ⊎_elim (λ q. is_at (role_at roles token) (Late home) 1 q (omega arith)) (λ q. is_at (role_at roles token) (Polls home) 1 q (omega arith)) is.own in
       let b = few refl in
-      let c = kids_light roles kids (λ k l. is_at (kid_role k) Out 1 (is.each k l) (omega arith)) in omega arith
+      let c = children_light roles children (λ k l. is_at (child_role k) Out 1 (is.each k l) (omega arith)) in omega arith
   by_stage (Joining n) is few =
       let a = is_at (role_at roles token) (Here home) 1 is.own (omega arith) in
       let b = few refl in
-      let c = kids_light roles kids (λ k l. ⊎_elim
-      (λ (q : k < n). is_at (kid_role k) (Ready (kid_at kids k).home) 1 ((is.each k l).0 q) (omega arith))
-      (λ (q : n ≤ k). ⊎_elim (λ (e : k ≡ n). coming_light home (kid_at kids k).home (kid_role k) ((is.each k l).1 e))
-      (λ (o : k ≢ n). is_at (kid_role k) Out 1 ((is.each k l).2 (omega arith)) (omega arith)) (cases_eq k n))
+      let c = children_light roles children (λ k l. ⊎_elim
+      (λ (q : k < n). is_at (child_role k) (Ready (child_at children k).home) 1 ((is.each k l).0 q) (omega arith))
+      (λ (q : n ≤ k). ⊎_elim (λ (e : k ≡ n). coming_light home (child_at children k).home (child_role k) ((is.each k l).1 e))
+      (λ (o : k ≢ n). is_at (child_role k) Out 1 ((is.each k l).2 (omega arith)) (omega arith)) (cases_eq k n))
       (cases_lt k n)) in omega arith
   by_stage (Arriving n) is few =
       let a = is_at (role_at roles token) (Here home) 1 is.own (omega arith) in
       let b = few refl in
-      let c = one_heavy roles kids n (λ k l o. ⊎_elim
-      (λ (q : k < n). is_at (kid_role k) (Past (kid_at kids k).home Arrival) 1 ((is.each k l).0 q) (omega arith))
-      (λ (q : n ≤ k). is_at (kid_role k) (Ready (kid_at kids k).home) 1 ((is.each k l).2 (omega arith)) (omega arith))
+      let c = one_heavy roles children n (λ k l o. ⊎_elim
+      (λ (q : k < n). is_at (child_role k) (Past (child_at children k).home Arrival) 1 ((is.each k l).0 q) (omega arith))
+      (λ (q : n ≤ k). is_at (child_role k) (Ready (child_at children k).home) 1 ((is.each k l).2 (omega arith)) (omega arith))
       (cases_lt k n))
-      (λ k l e. arriving_light (kid_at kids k).home (kid_role k) ((is.each k l).1 e)) in omega arith
+      (λ k l e. arriving_light (child_at children k).home (child_role k) ((is.each k l).1 e)) in omega arith
   by_stage Leaving is few =
       let w = passage_weight home (passage_if synced) in
       let a = ⊎_elim (λ q. is_at (role_at roles token) (Here home) 2 q (omega arith))
@@ -161,12 +161,12 @@ module _ (roles : List Role) (tiers token home : ℕ) (kids : List KidValue) (sy
       (λ q. ⊎_elim (λ q. is_at (role_at roles token) (Passes home (passage_if synced)) 2 q (omega arith))
       (λ q. ⊎_elim (λ q. is_at (role_at roles token) (Owes home (passage_if synced)) 2 q w.0) (λ q. is_at (role_at roles token) (Leads home (passage_if synced)) 2 q w.1) q) q) q) is.own in
       let b = few refl in
-      let c = kids_light roles kids (λ k l. is_at (kid_role k) (Past (kid_at kids k).home Arrival) 1 (is.each k l) (omega arith)) in omega arith
+      let c = children_light roles children (λ k l. is_at (child_role k) (Past (child_at children k).home Arrival) 1 (is.each k l) (omega arith)) in omega arith
   by_stage Over is few =
       let w = passage_weight home (passage_if synced) in
       let a = is_at (role_at roles token) (Past home (passage_if synced)) 1 is.own w.2 in
       let b = few refl in
-      let c = kids_light roles kids (λ k l. is_at (kid_role k) (Past (kid_at kids k).home Arrival) 1 (is.each k l) (omega arith)) in omega arith
+      let c = children_light roles children (λ k l. is_at (child_role k) (Past (child_at children k).home Arrival) 1 (is.each k l) (omega arith)) in omega arith
 
 participants_light : (f : ParticipantValue → ℕ) (gs : List ParticipantValue) → ((q : ℕ) → q < length gs → f (participant_at gs q) ≤ 10) → sum_by f gs ≤ 10 * length gs
 participants_light f [] h = omega arith
@@ -176,7 +176,7 @@ participants_light f (g ∷ gs) h =
 -- at most 4096 live tasks, each with at most 8 spawned ones
 pub record AreFew (w : World) : Type 0 where
   pub participants : length w.participants ≤ 4096
-  pub kids : (place : ℕ) → place < length w.participants → is_delivered (participant_at w.participants place).stage ≡ true → length (participant_at w.participants place).kids ≤ 8
+  pub children : (place : ℕ) → place < length w.participants → is_delivered (participant_at w.participants place).stage ≡ true → length (participant_at w.participants place).children ≤ 8
 
 pub has_room : (parents : List ℕ) (w : World) (roles : List Role) (place : ℕ) → length parents ≤ 64 → AreFew w → IsWorking parents w roles
     → place < length w.participants → role_at roles (participant_at w.participants place).token ≡ Here (participant_at w.participants place).home
@@ -198,7 +198,7 @@ has_room parents w roles place tiers few is h here =
     let held = total weight roles w.participants w.free (length w.tree.views) refl is.shared is.cast.long is.free in
     let light = participants_light (of_participant (λ t. weight (role_at roles t))) w.participants
     (λ q l. let g : ParticipantValue = participant_at w.participants q in
-    by_stage roles (length parents) g.token g.home g.kids g.synced g.stage (is.sits q l) (few.kids q l)) in
+    by_stage roles (length parents) g.token g.home g.children g.synced g.stage (is.sits q l) (few.children q l)) in
     let many = few.participants in
     let same : length w.tree.parents ≡ length parents = ap length is.built.shape in
     omega arith

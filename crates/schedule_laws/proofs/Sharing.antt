@@ -4,7 +4,7 @@ use Rattle.std.specs.Prelude.{sum_by}
 use Rattle.std.specs.List.{AllByRecursion}
 use Rattle.std.proofs.lemmas.Bool.{eq-eqb, eqb-true, cases_eq, cases_lt}
 use Rattle.std.proofs.lemmas.List.Sums.{sum_by-cons}
-use Rattle.job_schedule.specs.ParticipantValue.{KidValue, ParticipantValue, no_participant, no_kid, participant_at, kid_at}
+use Rattle.job_schedule.specs.ParticipantValue.{ChildValue, ParticipantValue, no_participant, no_child, participant_at, child_at}
 use Rattle.schedule_laws.specs.Working.{of_participant, of_all, AreShared}
 
 -- no task stands behind the last
@@ -67,10 +67,10 @@ two_parts f (x ∷ xs) (suc p) (suc q) d h k n =
 pub own_in : (g : ParticipantValue) → 1 ≤ of_participant (one g.token) g
 own_in g = let a = one_itself g.token in omega arith
 
-pub kid_in : (g : ParticipantValue) (k : ℕ) → k < length g.kids → 1 ≤ of_participant (one (kid_at g.kids k).token) g
-kid_in g k h =
-    let i : ℕ = (kid_at g.kids k).token in
-    let a = part (λ (c : KidValue). one i c.token) g.kids k no_kid h in let b = one_itself i in omega arith
+pub child_in : (g : ParticipantValue) (k : ℕ) → k < length g.children → 1 ≤ of_participant (one (child_at g.children k).token) g
+child_in g k h =
+    let i : ℕ = (child_at g.children k).token in
+    let a = part (λ (c : ChildValue). one i c.token) g.children k no_child h in let b = one_itself i in omega arith
 
 module _ (participants : List ParticipantValue) (free : List ℕ) (n : ℕ) (shared : AreShared participants free n) where
   -- it is one that is known
@@ -92,28 +92,28 @@ module _ (participants : List ParticipantValue) (free : List ℕ) (n : ℕ) (sha
   others_own p q i h k m has =
       let a = none_in p q i h k m has in none_of i (participant_at participants q).token (omega arith)
 
-  pub others_kid : (p q i j : ℕ) → p < length participants → q < length participants → q ≢ p → 1 ≤ of_participant (one i) (participant_at participants p) → j < length (participant_at participants q).kids
-      → (kid_at (participant_at participants q).kids j).token ≢ i
-  others_kid p q i j h k m has l =
+  pub others_child : (p q i j : ℕ) → p < length participants → q < length participants → q ≢ p → 1 ≤ of_participant (one i) (participant_at participants p) → j < length (participant_at participants q).children
+      → (child_at (participant_at participants q).children j).token ≢ i
+  others_child p q i j h k m has l =
       let a = none_in p q i h k m has in
-      let b = part (λ (c : KidValue). one i c.token) (participant_at participants q).kids j no_kid l in
-      none_of i (kid_at (participant_at participants q).kids j).token (omega arith)
+      let b = part (λ (c : ChildValue). one i c.token) (participant_at participants q).children j no_child l in
+      none_of i (child_at (participant_at participants q).children j).token (omega arith)
 
   -- its own token is none of its spawned tasks', and these differ
-  pub kid_not_own : (p j : ℕ) → p < length participants → j < length (participant_at participants p).kids → (kid_at (participant_at participants p).kids j).token ≢ (participant_at participants p).token
-  kid_not_own p j h l =
+  pub child_not_own : (p j : ℕ) → p < length participants → j < length (participant_at participants p).children → (child_at (participant_at participants p).children j).token ≢ (participant_at participants p).token
+  child_not_own p j h l =
       let i : ℕ = (participant_at participants p).token in
       let a = once_in p i h in let b = one_itself i in
-      let c = part (λ (k : KidValue). one i k.token) (participant_at participants p).kids j no_kid l in
-      none_of i (kid_at (participant_at participants p).kids j).token (omega arith)
+      let c = part (λ (k : ChildValue). one i k.token) (participant_at participants p).children j no_child l in
+      none_of i (child_at (participant_at participants p).children j).token (omega arith)
 
-  pub kids_differ : (p j k : ℕ) → p < length participants → j < length (participant_at participants p).kids → k < length (participant_at participants p).kids → j ≢ k
-      → (kid_at (participant_at participants p).kids j).token ≢ (kid_at (participant_at participants p).kids k).token
-  kids_differ p j k h l m n =
-      let i : ℕ = (kid_at (participant_at participants p).kids k).token in
+  pub children_differ : (p j k : ℕ) → p < length participants → j < length (participant_at participants p).children → k < length (participant_at participants p).children → j ≢ k
+      → (child_at (participant_at participants p).children j).token ≢ (child_at (participant_at participants p).children k).token
+  children_differ p j k h l m n =
+      let i : ℕ = (child_at (participant_at participants p).children k).token in
       let a = once_in p i h in let b = one_itself i in
-      let c = two_parts (λ (x : KidValue). one i x.token) (participant_at participants p).kids j k no_kid l m n in
-      none_of i (kid_at (participant_at participants p).kids j).token (omega arith)
+      let c = two_parts (λ (x : ChildValue). one i x.token) (participant_at participants p).children j k no_child l m n in
+      none_of i (child_at (participant_at participants p).children j).token (omega arith)
 
   -- no free token is a task's
   pub free_not : (p i : ℕ) → p < length participants → 1 ≤ of_participant (one i) (participant_at participants p) → AllByRecursion (λ t. t ≢ i) free

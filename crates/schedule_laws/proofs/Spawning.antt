@@ -21,7 +21,7 @@ use Rattle.job_schedule.specs.declared.stage.Move.{Move}
 use Rattle.job_schedule.specs.declared.stage.Move.TheVariants.{Takes, Calls, Closes, Ends}
 use Rattle.job_schedule.specs.declared.step.JobStep.{JobStep}
 use Rattle.job_schedule.specs.AnswerValue.{Stepped, NotNow}
-use Rattle.job_schedule.specs.ParticipantValue.{ParticipantValue, participant_at, kid_at, is_refused, all_over}
+use Rattle.job_schedule.specs.ParticipantValue.{ParticipantValue, participant_at, child_at, is_refused, all_over}
 use Rattle.job_schedule.specs.Moves.{by_stage}
 use Rattle.job_schedule.specs.World.{World, called_by, done_by, kind_of, kind_for, if_asked, by_participant, by_hand, by_mode, move_of, worker_of, answer_of, reached, initial_world}
 use Rattle.schedule_laws.specs.Working.{IsWorking, IsKept}
@@ -63,15 +63,15 @@ same_home a b e = cc
 module _ (parents : List ℕ) (w : World) (worker : ℕ) (tiers : length parents ≤ 64) (few : is_some (status w.limit w.job) ≡ false → AreFew w) where
   join_admits : (roles : List Role) (at n : ℕ) → IsWorking parents w roles → is_some (status w.limit w.job) ≡ false → at < length w.participants
       → (participant_at w.participants at).stage ≡ Joining n
-      → Admits w worker (Some (Calls at (kid_at (participant_at w.participants at).kids n).token (call.Join (kid_at (participant_at w.participants at).kids n).home 1)))
+      → Admits w worker (Some (Calls at (child_at (participant_at w.participants at).children n).token (call.Join (child_at (participant_at w.participants at).children n).home 1)))
   join_admits roles at n is below h stage place token played e told =
-      let same = same_place at place (kid_at (participant_at w.participants at).kids n).token token (call.Join (kid_at (participant_at w.participants at).kids n).home 1)
+      let same = same_place at place (child_at (participant_at w.participants at).children n).token token (call.Join (child_at (participant_at w.participants at).children n).home 1)
       (call.Join (participant_at w.participants place).home 1) e in
-      let home : (kid_at (participant_at w.participants at).kids n).home ≡ (participant_at w.participants at).home =
-      same_home (kid_at (participant_at w.participants at).kids n).home (participant_at w.participants place).home same.2 ∙ ap (λ (q : ℕ). (participant_at w.participants q).home) (sym same.0) in
-      let i : ℕ = (kid_at (participant_at w.participants at).kids n).token in
-      let c : Call = call.Join (kid_at (participant_at w.participants at).kids n).home 1 in
-      let here : (done_by w worker (Calls at (kid_at (participant_at w.participants at).kids n).token (call.Join (kid_at (participant_at w.participants at).kids n).home 1))).0 ≡ Stepped played =
+      let home : (child_at (participant_at w.participants at).children n).home ≡ (participant_at w.participants at).home =
+      same_home (child_at (participant_at w.participants at).children n).home (participant_at w.participants place).home same.2 ∙ ap (λ (q : ℕ). (participant_at w.participants q).home) (sym same.0) in
+      let i : ℕ = (child_at (participant_at w.participants at).children n).token in
+      let c : Call = call.Join (child_at (participant_at w.participants at).children n).home 1 in
+      let here : (done_by w worker (Calls at (child_at (participant_at w.participants at).children n).token (call.Join (child_at (participant_at w.participants at).children n).home 1))).0 ≡ Stepped played =
       ap (λ (q : ℕ). (done_by w worker (Calls q i c)).0) same.0
       ∙ ap (λ (j : ℕ). (done_by w worker (Calls place j c)).0) same.1
       ∙ ap (λ (d : Call). (done_by w worker (Calls place token d)).0) same.2

@@ -10,20 +10,20 @@ use Rattle.tier_laws.specs.Frame.{flat_of}
 use Rattle.schedule_laws.specs.Roles.{Role, Out}
 use Rattle.schedule_laws.specs.Cast.{role_at, IsCast}
 use Rattle.job_schedule.specs.declared.stage.Stage.{Stage}
-use Rattle.job_schedule.specs.ParticipantValue.{KidValue, ParticipantValue, no_participant, participant_at, kid_at}
+use Rattle.job_schedule.specs.ParticipantValue.{ChildValue, ParticipantValue, no_participant, participant_at, child_at}
 use Rattle.job_schedule.specs.World.{World, with_participant}
-use Rattle.schedule_laws.specs.Working.{OwnFits, KidFits, SitsAt, Sits, of_participant, AreShared, IsWorking}
-use Rattle.schedule_laws.proofs.Sharing.{one, others_own, others_kid, free_not}
+use Rattle.schedule_laws.specs.Working.{OwnFits, ChildFits, SitsAt, Sits, of_participant, AreShared, IsWorking}
+use Rattle.schedule_laws.proofs.Sharing.{one, others_own, others_child, free_not}
 use Rattle.schedule_laws.proofs.Calling.{IsSameTree}
 
 -- the same roles for its tokens
-pub sits_stay : (stage : Stage) (roles roles' : List Role) (tiers token home : ℕ) (kids : List KidValue) (synced : Bool)
+pub sits_stay : (stage : Stage) (roles roles' : List Role) (tiers token home : ℕ) (children : List ChildValue) (synced : Bool)
     → role_at roles' token ≡ role_at roles token
-    → ((k : ℕ) → k < length kids → role_at roles' (kid_at kids k).token ≡ role_at roles (kid_at kids k).token)
-    → SitsAt stage roles tiers token home kids synced → SitsAt stage roles' tiers token home kids synced
-sits_stay stage roles roles' tiers token home kids synced e each is = record {
+    → ((k : ℕ) → k < length children → role_at roles' (child_at children k).token ≡ role_at roles (child_at children k).token)
+    → SitsAt stage roles tiers token home children synced → SitsAt stage roles' tiers token home children synced
+sits_stay stage roles roles' tiers token home children synced e each is = record {
   own = subst (λ (r : Role). OwnFits stage home synced r) (sym e) is.own;
-  each = λ k h. subst (λ (r : Role). KidFits stage home k (kid_at kids k).home r) (sym (each k h)) (is.each k h);
+  each = λ k h. subst (λ (r : Role). ChildFits stage home k (child_at children k).home r) (sym (each k h)) (is.each k h);
   turn = is.turn;
   homes = is.homes;
 }
@@ -53,9 +53,9 @@ next_sits w roles roles' tiers place i n g shared h sits is q l =
     (λ (o : q ≢ place).
     let x : ParticipantValue = participant_at w.participants q in
     subst (λ (y : ParticipantValue). Sits roles' tiers y) (sym (get_or-set_other w.participants place q g no_participant o))
-    (sits_stay x.stage roles roles' tiers x.token x.home x.kids x.synced
+    (sits_stay x.stage roles roles' tiers x.token x.home x.children x.synced
     (is.same x.token (others_own w.participants w.free n shared place q i h m o is.mine))
-    (λ k d. is.same (kid_at x.kids k).token (others_kid w.participants w.free n shared place q i k h m o is.mine d))
+    (λ k d. is.same (child_at x.children k).token (others_child w.participants w.free n shared place q i k h m o is.mine d))
     (sits q m)))
     (cases_eq q place)
 

@@ -32,53 +32,25 @@ abbrev pub members_in : Role → ℕ
 members_in Out = 0
 members_in (Joins home) = 0
 members_in (Seeks home claimed) = 0
-members_in (Settles home) = 1
 members_in GivesBack = 0
-members_in (Late home) = 1
-members_in (Polls home) = 1
-members_in (Ready home) = 1
-members_in (Here home) = 1
-members_in (Looks home passage) = 1
-members_in (Passes home passage) = 1
-members_in (Owes home Arrival) = 1
 members_in (Owes home Departure) = 0
-members_in (Leads home Arrival) = 1
 members_in (Leads home Departure) = 0
-members_in (Past home Arrival) = 1
 members_in (Past home Departure) = 0
+members_in _ = 1
 
 -- whether a member of the token is awaited
 abbrev pub is_awaited : Role → Bool
-is_awaited Out = false
-is_awaited (Joins home) = false
-is_awaited (Seeks home claimed) = false
-is_awaited (Settles home) = false
-is_awaited GivesBack = false
 is_awaited (Late home) = true
 is_awaited (Polls home) = true
 is_awaited (Ready home) = true
 is_awaited (Here home) = true
 is_awaited (Looks home passage) = true
 is_awaited (Passes home passage) = true
-is_awaited (Owes home passage) = false
-is_awaited (Leads home passage) = false
-is_awaited (Past home passage) = false
+is_awaited _ = false
 
 abbrev pub is_leading : Role → Bool
-is_leading Out = false
-is_leading (Joins home) = false
-is_leading (Seeks home claimed) = false
-is_leading (Settles home) = false
-is_leading GivesBack = false
-is_leading (Late home) = false
-is_leading (Polls home) = false
-is_leading (Ready home) = false
-is_leading (Here home) = false
-is_leading (Looks home passage) = false
-is_leading (Passes home passage) = false
-is_leading (Owes home passage) = false
 is_leading (Leads home passage) = true
-is_leading (Past home passage) = false
+is_leading _ = false
 
 -- what the next step of a call answers, and the role that it leaves
 abbrev pub Follows : ℕ → Role → Played → Role → Type 0
@@ -104,19 +76,12 @@ Follows now (Past home passage) answer next = ⊥
 -- whether the role has such a next step
 abbrev pub is_on_its_way : Role → Bool
 is_on_its_way Out = false
-is_on_its_way (Joins home) = true
-is_on_its_way (Seeks home claimed) = true
-is_on_its_way (Settles home) = true
-is_on_its_way GivesBack = true
 is_on_its_way (Late home) = false
-is_on_its_way (Polls home) = true
 is_on_its_way (Ready home) = false
 is_on_its_way (Here home) = false
-is_on_its_way (Looks home passage) = true
-is_on_its_way (Passes home passage) = true
-is_on_its_way (Owes home passage) = true
 is_on_its_way (Leads home passage) = false
 is_on_its_way (Past home passage) = false
+is_on_its_way _ = true
 
 -- The next step of a token leaves a cast tree, in which only its own role has gone on; the root is in its phase.
 pub record GoesTo (s : State) (roles : List Role) (token : ℕ) (next : Role) : Type 0 where
@@ -157,7 +122,6 @@ LeadersAreAlone =
 
 -- the role at the beginning of the next superstep
 abbrev pub turned : Role → Role
-turned Out = Out
 turned (Joins home) = Joins home
 turned (Seeks home claimed) = Seeks home claimed
 turned (Settles home) = Settles home
@@ -170,9 +134,8 @@ turned (Looks home passage) = Looks home passage
 turned (Passes home passage) = Passes home passage
 turned (Owes home passage) = Owes home passage
 turned (Leads home Arrival) = Late home
-turned (Leads home Departure) = Out
 turned (Past home Arrival) = Late home
-turned (Past home Departure) = Out
+turned _ = Out
 
 -- The advance turns all roles.
 pub record IsTurned (s : State) (roles : List Role) (token : ℕ) : Type 0 where
@@ -182,20 +145,11 @@ pub record IsTurned (s : State) (roles : List Role) (token : ℕ) : Type 0 where
 
 -- no token is in a join: before an advance
 abbrev pub is_settled : Role → Bool
-is_settled Out = true
 is_settled (Joins home) = false
 is_settled (Seeks home claimed) = false
 is_settled (Settles home) = false
 is_settled GivesBack = false
-is_settled (Late home) = true
-is_settled (Polls home) = true
-is_settled (Ready home) = true
-is_settled (Here home) = true
-is_settled (Looks home passage) = true
-is_settled (Passes home passage) = true
-is_settled (Owes home passage) = true
-is_settled (Leads home passage) = true
-is_settled (Past home passage) = true
+is_settled _ = true
 
 abbrev pub AdvancesTurnTheCast : Type 0
 AdvancesTurnTheCast =

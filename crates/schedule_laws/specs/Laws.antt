@@ -42,7 +42,7 @@ ClosingMissesNothing =
     → (reached (initial_world p parents limit) xs).mode ≡ mode.Advanced worker token
     → IsWhole (reached (initial_world p parents limit) xs) worker token
 
--- So whoever has advanced the root is answered to its next step, where that is to close the round.
+-- The worker that has advanced the root gets an answer to its next step, if that is to close the round.
 abbrev pub ClosesFollowAdvances : Type 0
 ClosesFollowAdvances =
     (p : Program) (parents : List ℕ) (limit : ℕ) (xs : List JobStep) (x : JobStep) (played : Played) → IsDriven p parents limit
@@ -67,7 +67,7 @@ pub record IsCounted (w : World) : Type 0 where
   pub members : first_fault (deeds w) ≡ None
       → (record_of w.job.step (deeds w)).parties ≡ registered (flat_of w.tree) + (record_of w.job.step (deeds w)).left
 
--- So it is at each advance.
+-- The same holds at each advance.
 abbrev pub AdvancesAreCounted : Type 0
 AdvancesAreCounted =
     (p : Program) (parents : List ℕ) (limit : ℕ) (xs : List JobStep) (x : JobStep) (played : Played) → IsDriven p parents limit

@@ -11,7 +11,7 @@ use Rattle.job_schedule.specs.declared.stage.Mode.{Mode}
 use Rattle.job_schedule.specs.declared.stage.Mode.TheVariants as mode
 use Rattle.job_schedule.specs.declared.stage.Stage.{Stage}
 use Rattle.job_schedule.specs.declared.stage.Stage.TheVariants.{Waits, Taken, Polling, Joining, Arriving, Leaving, Over}
-use Rattle.job_schedule.specs.ParticipantValue.{KidValue, ParticipantValue, kid_at, participant_at, all_over, living_participants}
+use Rattle.job_schedule.specs.ParticipantValue.{ChildValue, ParticipantValue, child_at, participant_at, all_over, living_participants}
 use Rattle.job_schedule.specs.World.{World, plan_for}
 
 -- a task that synced arrives, any other leaves
@@ -36,49 +36,45 @@ OwnFits Over home synced own = own ≡ Past home (passage_if synced)
 -- A token that is to join at this tier, or is on its way. At the tier of its own spawner it joins at once: only elsewhere it may have claimed
 -- tiers on its way, settle them, or give them back.
 abbrev pub ComesTo : ℕ → ℕ → Role → Type 0
-ComesTo own home kid =
-    (kid ≡ Out) ⊎ (kid ≡ Joins home) ⊎ (kid ≡ Seeks home 0)
-    ⊎ ((home ≢ own) × (((claimed : ℕ) × (kid ≡ Seeks home claimed)) ⊎ (kid ≡ Settles home) ⊎ (kid ≡ GivesBack)))
+ComesTo own home child =
+    (child ≡ Out) ⊎ (child ≡ Joins home) ⊎ (child ≡ Seeks home 0)
+    ⊎ ((home ≢ own) × (((claimed : ℕ) × (child ≡ Seeks home claimed)) ⊎ (child ≡ Settles home) ⊎ (child ≡ GivesBack)))
 
 -- one that is to arrive there, or is on its way
 abbrev pub ArrivesAt : ℕ → Role → Type 0
-ArrivesAt home kid = (kid ≡ Ready home) ⊎ (kid ≡ Looks home Arrival) ⊎ (kid ≡ Passes home Arrival) ⊎ (kid ≡ Owes home Arrival)
+ArrivesAt home child = (child ≡ Ready home) ⊎ (child ≡ Looks home Arrival) ⊎ (child ≡ Passes home Arrival) ⊎ (child ≡ Owes home Arrival)
 
 -- the role of the token of the spawned task of this number, one after another
-abbrev pub KidFits : Stage → ℕ → ℕ → ℕ → Role → Type 0
-KidFits Waits own number home kid = ⊥
-KidFits Taken own number home kid = ⊥
-KidFits Polling own number home kid = kid ≡ Out
-KidFits (Joining joined) own number home kid =
-    (number < joined → kid ≡ Ready home) × (number ≡ joined → ComesTo own home kid) × (joined < number → kid ≡ Out)
-KidFits (Arriving arrived) own number home kid =
-    (number < arrived → kid ≡ Past home Arrival) × (number ≡ arrived → ArrivesAt home kid) × (arrived < number → kid ≡ Ready home)
-KidFits Leaving own number home kid = kid ≡ Past home Arrival
-KidFits Over own number home kid = kid ≡ Past home Arrival
+abbrev pub ChildFits : Stage → ℕ → ℕ → ℕ → Role → Type 0
+ChildFits Waits own number home child = ⊥
+ChildFits Taken own number home child = ⊥
+ChildFits Polling own number home child = child ≡ Out
+ChildFits (Joining joined) own number home child =
+    (number < joined → child ≡ Ready home) × (number ≡ joined → ComesTo own home child) × (joined < number → child ≡ Out)
+ChildFits (Arriving arrived) own number home child =
+    (number < arrived → child ≡ Past home Arrival) × (number ≡ arrived → ArrivesAt home child) × (arrived < number → child ≡ Ready home)
+ChildFits Leaving own number home child = child ≡ Past home Arrival
+ChildFits Over own number home child = child ≡ Past home Arrival
 
 -- the one that joins, or arrives, is one of them
 abbrev pub HasTurn : Stage → ℕ → Type 0
-HasTurn Waits kids = Unit {0}
-HasTurn Taken kids = Unit {0}
-HasTurn Polling kids = Unit {0}
-HasTurn (Joining joined) kids = joined < kids
-HasTurn (Arriving arrived) kids = arrived < kids
-HasTurn Leaving kids = Unit {0}
-HasTurn Over kids = Unit {0}
+HasTurn (Joining joined) children = joined < children
+HasTurn (Arriving arrived) children = arrived < children
+HasTurn _ _ = Unit {0}
 
 -- a task at this stage, whose token has its member at this tier, and those of the spawned tasks each at theirs, of so many tiers
-pub record SitsAt (stage : Stage) (roles : List Role) (tiers token home : ℕ) (kids : List KidValue) (synced : Bool) : Type 0 where
+pub record SitsAt (stage : Stage) (roles : List Role) (tiers token home : ℕ) (children : List ChildValue) (synced : Bool) : Type 0 where
   pub own : OwnFits stage home synced (role_at roles token)
-  pub each : (number : ℕ) → number < length kids → KidFits stage home number (kid_at kids number).home (role_at roles (kid_at kids number).token)
-  pub turn : HasTurn stage (length kids)
-  pub homes : (number : ℕ) → number < length kids → (kid_at kids number).home < tiers
+  pub each : (number : ℕ) → number < length children → ChildFits stage home number (child_at children number).home (role_at roles (child_at children number).token)
+  pub turn : HasTurn stage (length children)
+  pub homes : (number : ℕ) → number < length children → (child_at children number).home < tiers
 
 abbrev pub Sits : List Role → ℕ → ParticipantValue → Type 0
-Sits roles tiers g = SitsAt g.stage roles tiers g.token g.home g.kids g.synced
+Sits roles tiers g = SitsAt g.stage roles tiers g.token g.home g.children g.synced
 
 -- a measure of tokens over those of a task, and over all of so many
 abbrev pub of_participant : (ℕ → ℕ) → ParticipantValue → ℕ
-of_participant measure g = measure g.token + sum_by (λ (k : KidValue). measure k.token) g.kids
+of_participant measure g = measure g.token + sum_by (λ (k : ChildValue). measure k.token) g.children
 
 abbrev pub of_all : ℕ → (ℕ → ℕ) → ℕ
 of_all zero measure = 0

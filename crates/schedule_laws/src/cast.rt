@@ -24,7 +24,7 @@ pub fn steps_keep_the_cast()
     ensures { StepsKeepTheCast }
 {}
 
-/// So does a call that begins where the role says so.
+/// A call that begins in a state that the role allows keeps the cast too.
 pub fn beginnings_keep_the_cast()
     ensures { BeginningsKeepTheCast }
 {}

@@ -13,6 +13,7 @@ pub fn jobs_are_driven(job: &Job, shape: &Shape, limit: u32)
     requires few { limit ≤ 2147483648 }
     ensures { IsDriven (program_of job.now) shape.now limit }
 {
+    // For the prover: these calls give the rules that the types of a job and a shape keep.
     let _bodies = job.bodies();
     let _tiers = shape.count();
 }

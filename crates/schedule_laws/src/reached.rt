@@ -15,7 +15,7 @@ pub fn closing_misses_nothing()
     ensures { ClosingMissesNothing }
 {}
 
-/// So an advance is answered, and then the close of the same worker is: never NotNow.
+/// An advance is answered, and then the close of the same worker is: neither answers `NotNow`.
 pub fn closes_follow_advances()
     ensures { ClosesFollowAdvances }
 {}

@@ -308,6 +308,7 @@ impl<'j> Round<'j> {
             return Some(AcceptFault::WrongStep);
         }
         let place = delivery.place();
+        // For the prover: the contract of `path` says that the delivery is of its order's task.
         let _known = delivery.path();
         if self.live.is_done(place) {
             return Some(AcceptFault::Double);

@@ -51,7 +51,7 @@ impl<'a> Slots<'a> {
         Slots { tasks, done }
     }
 
-    /// The same once more.
+    /// A copy.
     pub(crate) fn again(&self) -> Self
         ensures { result ≡ self.now }
     {

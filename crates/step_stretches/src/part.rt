@@ -64,7 +64,7 @@ fn move_behind<T: Drop>(all: &mut Vec<T>, more: &mut Vec<T>)
     }
 }
 
-// The same blame once more. It takes no memory.
+// Copies a blame. It takes no memory.
 fn blame_again(blame: &Blame) -> Blame
     ensures { result ≡ blame.now }
 {

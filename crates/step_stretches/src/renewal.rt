@@ -6,7 +6,7 @@ ghost use Rattle.step_stretches.specs.Parts.{of_slot, prints_in, renewed, IsAhea
 use crate::part::Part;
 use phase_records::Print;
 
-// The same stretch at the next step, and its prints behind those that are there.
+// Moves a stretch to the next step, and appends its prints to those before.
 fn renew_one(slot: &mut Option<Part<'_>>, prints: &mut Vec<Print>)
     requires ahead { IsAhead slot.old }
     requires below { IsBelow slot.old }
@@ -20,7 +20,7 @@ fn renew_one(slot: &mut Option<Part<'_>>, prints: &mut Vec<Print>)
     }
 }
 
-/// The same stretches at the next step, and their prints behind those that are there, for which there is room.
+/// Moves the stretches to the next step, and appends their prints to those before. There is room for them.
 pub(crate) fn renew_all(parts: &mut Vec<Option<Part<'_>>>, prints: &mut Vec<Print>)
     requires ahead { AreAhead parts.old.items }
     requires below { AreBelow parts.old.items }

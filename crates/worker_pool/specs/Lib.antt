@@ -1,5 +1,5 @@
-pub mod BoardValue
+pub mod QueueValue
 pub mod Entries
 pub mod JobPlan
 pub mod Refusals
-pub mod Turnouts
+pub mod Changes

@@ -10,7 +10,7 @@ refusal_number Memory = 1
 refusal_number (NotStarted k) = 2
 refusal_number Internal = 3
 
--- what a run answers where this sent a worker home
+-- the refusal of a run in which a worker stopped for this reason
 abbrev pub refusal_of : Reason → Refused
 refusal_of reason.Memory = Memory
 refusal_of reason.Internal = Internal

@@ -7,15 +7,17 @@ use step_stretches::{Unclosed, Unwanted};
 use thiserror::Error;
 
 /// Why a run gives no report (own). All workers that were started have been joined.
+///
+/// A caller may run the job again after [`Refused::Memory`] or [`Refused::NotStarted`]; the job is unchanged.
 #[derive(Clone, Copy, Debug, PartialEq, Eq, Error)]
 pub enum Refused {
-    /// There was no memory.
+    /// Out of memory.
     #[error("out of memory")]
     Memory,
-    /// The worker of this number, from 0, couldn't be started, and no segment has run.
+    /// The worker of this number, counted from 0, couldn't be started. No segment has run.
     #[error("worker {0} not started")]
     NotStarted(u32),
-    /// A refusal that workers never meet was met.
+    /// An internal error: a bug in this crate. That it never comes is tested, not proved.
     #[error("internal")]
     Internal,
 }
@@ -39,17 +41,17 @@ impl From<AllocError> for Refused {
     }
 }
 
-/// Why a worker went home before the job's end.
+/// Why a worker stopped before the end of the job.
 #[derive(Clone, Copy)]
 pub(crate) enum Reason {
-    /// It found no memory.
+    /// It ran out of memory.
     Memory,
-    /// It met a refusal that workers never meet.
+    /// The queue or the tree refused what it never refuses.
     Internal,
 }
 
 impl Reason {
-    /// What the run then answers.
+    /// The refusal that the run returns for this reason.
     pub(crate) fn refusal(self) -> Refused
         ensures told { result ≡ refusal_of self }
         ensures workers { (workers : ℕ) → IsOfWorkers workers result }
@@ -67,7 +69,8 @@ impl From<AllocError> for Reason {
     }
 }
 
-/// What a worker notes whose stretch isn't taken back: each is lent to one worker, who delivers it once, done.
+/// The reason to note if a stretch isn't taken back. It never comes: one worker holds a stretch, and delivers it once,
+/// finished.
 pub(crate) fn reason_of_delivery(fault: Unwanted) -> Reason
     ensures { result ≡ Reason.Internal }
 {
@@ -78,7 +81,8 @@ pub(crate) fn reason_of_delivery(fault: Unwanted) -> Reason
     }
 }
 
-/// What a worker notes that can't close a superstep: where all have arrived each stretch is back.
+/// The reason to note if a superstep can't be closed. Only memory can be the cause: once all tasks have arrived, each
+/// stretch was delivered.
 pub(crate) fn reason_of_closing(fault: Unclosed) -> Reason {
     match fault {
         Unclosed::Missing => Reason::Internal,

@@ -1,24 +1,24 @@
-//! What a worker has in hand.
+//! A stretch that a worker holds.
 ghost use Rattle.std.specs.Prelude.{◌≡◌, ◌+◌, true, false, IfOk, OnOk};
 ghost use Rattle.step_stretches.specs.Parts.{IsDoneTo, is_finished};
-ghost use Rattle.worker_pool.specs.Turnouts.{Tells};
+ghost use Rattle.worker_pool.specs.Changes.{Tells};
 
-use crate::board::Running;
 use crate::fault::Reason;
 use crate::hooks::Gate;
+use crate::queue::Running;
 use std::alloc::{AllocError, Global};
 use std::marker::{Model, PhantomData};
 use std::sync::Wait;
 use step_stretches::{Change, Stretch};
 
-/// A stretch that a worker has. Its type keeps that it is of the job that runs.
+/// A stretch that a worker holds. Its type keeps that it is of the job that runs.
 #[derive(Drop)]
-pub(crate) struct Lent<'j, J: Running> {
+pub(crate) struct HeldStretch<'j, J: Running> {
     stretch: Stretch<'j>,
     of: PhantomData<J>,
 }
 
-impl<'j, J: Running> Model for Lent<'j, J> {
+impl<'j, J: Running> Model for HeldStretch<'j, J> {
     ghost use Rattle.std.specs.Prelude.{◌≡◌};
     ghost use Rattle.step_stretches.specs.PartValue.{StretchValue};
 
@@ -29,16 +29,16 @@ impl<'j, J: Running> Model for Lent<'j, J> {
     ghost invariant = { λ l. l.stretch.part.job ≡ J.job };
 }
 
-/// What the tasks of a stretch did to the list of tasks: all live on and none came, or what each did.
+/// How the tasks of a stretch changed the list of live tasks.
 #[derive(Drop)]
-pub(crate) enum Turnout {
-    /// The same tasks live on.
+pub(crate) enum Changes {
+    /// Not at all: each task goes on, and none was spawned.
     Same,
-    /// What each did, up to the first fault.
+    /// What each task did, up to the first fault.
     Each(Vec<Change>),
 }
 
-// Does the next segment of a stretch.
+// Runs the next segment of a stretch.
 fn do_one(alloc: Global, stretch: &mut Stretch<'_>) -> Result<(), AllocError>
     requires { is_finished stretch.old.part ≡ false }
     ensures more { OnOk result (IsDoneTo (stretch.old.part.done + 1) stretch.old.part stretch.new.part) }
@@ -47,7 +47,7 @@ fn do_one(alloc: Global, stretch: &mut Stretch<'_>) -> Result<(), AllocError>
     stretch.do_next(alloc)
 }
 
-// Does the next segment of a stretch between the two calls of a gate.
+// Runs the next segment of a stretch between the two calls of a gate.
 fn do_gated<R: Wait, G: Gate>(
     rt: &R,
     alloc: Global,
@@ -68,7 +68,7 @@ fn do_gated<R: Wait, G: Gate>(
     done
 }
 
-// Does all segments of a stretch that are left, by one call.
+// Runs all segments that are left, by one call.
 fn do_rest(alloc: Global, stretch: &mut Stretch<'_>) -> Result<(), AllocError>
     requires { is_finished stretch.old.part ≡ false }
     ensures done { OnOk result (is_finished stretch.new.part ≡ true) }
@@ -77,8 +77,9 @@ fn do_rest(alloc: Global, stretch: &mut Stretch<'_>) -> Result<(), AllocError>
     stretch.do_rest(alloc)
 }
 
-// Does all segments of a stretch, or the one that it has between the two calls of a gate that isn't open. At such a gate a
-// stretch has more only where there was no memory to cut it, and is given up: one of its tasks could wait for another.
+// Runs all segments of a stretch. If the gate isn't open, the stretch has one task, whose segment runs between the two
+// calls of the gate. There it has more only if there was no memory to cut it; then the call fails, since one of the tasks
+// could wait for another.
 fn do_all<R: Wait, G: Gate>(
     rt: &R,
     alloc: Global,
@@ -100,39 +101,39 @@ fn do_all<R: Wait, G: Gate>(
     do_gated(rt, alloc, gate, stretch)
 }
 
-impl<'j, J: Running> Lent<'j, J> {
+impl<'j, J: Running> HeldStretch<'j, J> {
     ghost use Rattle.std.specs.Prelude.{◌≡◌, true, IfOk, OnOk};
     ghost use Rattle.step_stretches.specs.Parts.{is_finished};
-    ghost use Rattle.worker_pool.specs.Turnouts.{Tells};
+    ghost use Rattle.worker_pool.specs.Changes.{Tells};
 
-    /// A stretch of the job that runs.
+    /// Holds a stretch of the job that runs.
     pub(crate) fn new(stretch: Stretch<'j>) -> Self
         requires { stretch.part.job ≡ J.job }
         ensures { result ≡ stretch.entry }
     {
-        Lent {
+        HeldStretch {
             stretch,
             of: PhantomData,
         }
     }
 
-    /// Its superstep, from 0.
+    /// Its superstep, counted from 0.
     pub(crate) fn step(&self) -> u32
         ensures { result ≡ self.now.part.step }
     {
         self.stretch.step()
     }
 
-    /// Runs its segments, with no lock held, each between the two calls of a gate that isn't open. What its tasks did to the
-    /// list of tasks.
+    /// Runs its segments, with no lock held; if the gate isn't open, between the two calls of the gate. Returns how its
+    /// tasks changed the list of live tasks.
     pub(crate) fn run<R: Wait, G: Gate>(
         &mut self,
         rt: &R,
         alloc: Global,
         gate: &G,
-    ) -> Result<Turnout, Reason>
+    ) -> Result<Changes, Reason>
         ensures done { OnOk result (is_finished self.new.part ≡ true) }
-        ensures told { IfOk result (λ turnout. Tells self.new.part turnout) }
+        ensures told { IfOk result (λ changes. Tells self.new.part changes) }
     {
         match do_all(rt, alloc, gate, &mut self.stretch) {
             Ok(()) => changes_of(alloc, &self.stretch),
@@ -140,7 +141,7 @@ impl<'j, J: Running> Lent<'j, J> {
         }
     }
 
-    /// The stretch.
+    /// Gives up the stretch.
     pub(crate) fn into_stretch(self) -> Stretch<'j>
         ensures stretch { result ≡ self.entry }
         ensures job { result.part.job ≡ J.job }
@@ -149,15 +150,15 @@ impl<'j, J: Running> Lent<'j, J> {
     }
 }
 
-// What the tasks of a stretch did to the list of tasks.
-fn changes_of(alloc: Global, stretch: &Stretch<'_>) -> Result<Turnout, Reason>
-    ensures { IfOk result (λ turnout. Tells stretch.now.part turnout) }
+// Returns how the tasks of a stretch changed the list of live tasks.
+fn changes_of(alloc: Global, stretch: &Stretch<'_>) -> Result<Changes, Reason>
+    ensures { IfOk result (λ changes. Tells stretch.now.part changes) }
 {
     if stretch.all_stay() && !stretch.has_faulted() {
-        return Ok(Turnout::Same);
+        return Ok(Changes::Same);
     }
     match stretch.changes(alloc) {
-        Ok(changes) => Ok(Turnout::Each(changes)),
+        Ok(changes) => Ok(Changes::Each(changes)),
         Err(_) => Err(Reason::Memory),
     }
 }

@@ -1,23 +1,26 @@
-//! What a caller may hook into a run: what is called round each segment, and whether a worker may be started.
+//! Hooks of a run: a gate round each segment, and a starter that says which workers may be started.
 use std::sync::Wait;
 use superstep_memory::path::Path;
 
-/// What is called round the segment of each task, by the worker that runs it and with no lock held. A worker calls
-/// `leave` of one task before it calls `enter` of another, and has no other task meanwhile (own).
+/// A hook round the segment of each task (own). It isn't a barrier; for that see `CyclicGate` of the crate `cyclic_gate`.
+///
+/// The worker that runs the segment calls `enter` before it and `leave` after it, with no lock held. It calls `leave` for
+/// one task before it calls `enter` for another, and holds no other task meanwhile. So two tasks on two workers may wait
+/// for each other in these calls.
 pub trait Gate {
-    /// Whether it lets each segment pass at once. Then it isn't called, and a worker has several tasks at a time.
+    /// Returns true if the gate needn't see segments. Then neither call is made, and a worker holds many tasks at a time.
     fn is_open(&self) -> bool {
         false
     }
 
-    /// Called before the segment of the task of this path in this superstep, counted from 0.
+    /// Called before the segment of the task with this path, in this superstep, counted from 0.
     fn enter<R: Wait>(&self, rt: &R, path: &Path, step: u32);
 
-    /// Called after it.
+    /// Called after that segment.
     fn leave<R: Wait>(&self, rt: &R, path: &Path, step: u32);
 }
 
-/// Lets each segment pass (own).
+/// A gate that is open: it sees no segment (own).
 #[derive(Clone, Copy, Drop)]
 pub struct OpenGate;
 
@@ -31,13 +34,13 @@ impl Gate for OpenGate {
     fn leave<R: Wait>(&self, _rt: &R, _path: &Path, _step: u32) {}
 }
 
-/// Says which workers may be started (own).
+/// A hook that says which workers may be started (own).
 pub trait Starter {
-    /// Whether the worker of this number, from 0, may be started.
+    /// Returns whether worker `k`, counted from 0, may be started. If not, the run ends with `NotStarted(k)`.
     fn may_start(&self, k: u32) -> bool;
 }
 
-/// Lets each worker be started (own).
+/// Starts every worker (own).
 #[derive(Clone, Copy, Drop)]
 pub struct AllStart;
 

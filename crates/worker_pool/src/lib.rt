@@ -1,15 +1,23 @@
-//! Jobs on worker threads: tasks are shared among the workers, who meet superstep by superstep at a tree of phasers.
+//! Runs jobs on worker threads, which synchronize at a tree of phasers, superstep by superstep.
+//!
+//! * `run`, `start`: one run, from its first registration to the report.
+//! * `work`: the loop of one worker.
+//! * `shared`: what all workers share: the queue under a lock, and the tree without one.
+//! * `queue`, `groups`: which stretches are ready, and which participants are back from the tree.
+//! * `hand`: a stretch while a worker holds it. `participant`: a task's token on the tree.
+//! * `tree`, `leaves`: the calls of the tree, and the leaves of its tasks.
+//! * `hooks`: what a caller hooks into a run. `fault`: why a run gives no report.
 #![tactic(auto)]
 
-mod board;
-mod cohorts;
 mod fault;
+mod groups;
 mod hand;
 mod hooks;
 mod leaves;
 mod participant;
+mod queue;
 mod run;
-mod shop;
+mod shared;
 mod start;
 mod tree;
 mod work;

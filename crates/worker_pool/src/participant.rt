@@ -1,14 +1,14 @@
-//! Tasks as workers hand them on.
+//! Tasks as parties of the tree.
 ghost use Rattle.std.specs.Prelude.{◌≡◌};
 
-use crate::board::Running;
+use crate::queue::Running;
 use std::collections::VecDeque;
 use std::marker::PhantomData;
 use superstep_memory::path::Path;
 use tier_table::tokens::{Crew, Door};
 
-/// A live task on the tree, as workers hand it on: its path, and the crew whose one member arrives for it at its tier. Its
-/// type keeps that the crew is of the tree of the run.
+/// A live task on the tree: its path, and the crew whose one member arrives for it. Its type keeps that the crew is of
+/// the tree of the run.
 #[derive(Drop)]
 pub(crate) struct Participant<J: Running> {
     pub(crate) path: Path,
@@ -18,7 +18,7 @@ pub(crate) struct Participant<J: Running> {
 }
 
 impl<J: Running> Participant<J> {
-    /// A task with this crew.
+    /// Makes the participant of a task with this path and crew.
     pub(crate) fn new(path: Path, crew: Crew) -> Self
         requires { crew.tree ≡ J.tree }
         ensures { result.crew ≡ crew }
@@ -31,14 +31,14 @@ impl<J: Running> Participant<J> {
     }
 }
 
-/// The participants of the tasks of a stretch, in their order, and the number of the stretch.
+/// The participants of the tasks of one stretch, in their order, with the number of that stretch.
 #[derive(Drop)]
-pub(crate) struct Cohort<J: Running> {
+pub(crate) struct Group<J: Running> {
     pub(crate) number: usize,
     pub(crate) participants: VecDeque<Participant<J>>,
 }
 
-/// A worker's own token, by which it ends the tree where it must. Its type keeps that it is of the tree of the run.
+/// A worker's own token without members, by which it can end the tree. Its type keeps that it is of the tree of the run.
 #[derive(Drop)]
 pub(crate) struct OwnToken<J: Running> {
     pub(crate) door: Door,
@@ -47,7 +47,7 @@ pub(crate) struct OwnToken<J: Running> {
 }
 
 impl<J: Running> OwnToken<J> {
-    /// A worker's token.
+    /// Makes a worker's own token.
     pub(crate) fn new(door: Door) -> Self
         requires { door.tree ≡ J.tree }
     {

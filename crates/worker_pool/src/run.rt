@@ -1,4 +1,4 @@
-//! A job on worker threads.
+//! Runs a job on worker threads.
 ghost use Rattle.std.specs.Prelude.{◌≡◌, ◌≤◌, ◌<◌, ◌++◌, ◌∷◌, [], false, Some, IfOk, IfErr, OnOk, map, length};
 ghost use Rattle.advance_rule.specs.Stored.{Answers};
 ghost use Rattle.advance_rule.specs.Action.{AnswersAction};
@@ -11,15 +11,15 @@ ghost use Rattle.tier_table.specs.Ruled.{IsNew};
 ghost use Rattle.worker_pool.specs.JobPlan.{limit_of, IsJobPlan};
 ghost use Rattle.worker_pool.specs.Refusals.{IsOfWorkers};
 
-use crate::board::{Board, Running};
-use crate::cohorts::cohorts_of;
 use crate::fault::{Reason, Refused};
+use crate::groups::groups_of;
 use crate::hooks::{Gate, Starter};
 use crate::leaves::{Leaves, leaves_in};
-use crate::participant::{Cohort, OwnToken, Participant};
-use crate::shop::Shop;
-use crate::start::start_all;
-use crate::tree::Meeting;
+use crate::participant::{Group, OwnToken, Participant};
+use crate::queue::{Queue, Running};
+use crate::shared::Shared;
+use crate::start::{Setup, start_all};
+use crate::tree::WorkerTree;
 use advance_rule::{EndPlan, StoredAction, StoredAdvance};
 use cyclic_gate::{BarrierFault, CyclicGate};
 use phase_records::Report;
@@ -38,23 +38,33 @@ use tier_shape::Shape;
 use tier_table::tokens::Door;
 use tier_table::tree::Tree;
 
-// About how many stretches there are for each worker.
-const PIECES_EACH: usize = 8;
+// About how many stretches each worker gets in a superstep.
+const STRETCHES_EACH: usize = 8;
 
-// How often a worker looks for a ready stretch before it sleeps, or stands back for another: for some 100 microseconds.
-const MOST_LOOKS: u32 = 2000;
+// How often a worker looks for a ready stretch before it sleeps, or backs off for another worker: some 100
+// microseconds.
+const MOST_SPINS: u32 = 2000;
 
-// The action of the barrier: none, and it never fails.
+// What a run begins with: the job's stretches, the tree at which workers meet, its first token, and its leaves.
+#[derive(Drop)]
+struct Opening<'j, F: Fn(u32, u32) -> bool> {
+    stretches: Stretches<'j>,
+    tree: Tree<F>,
+    door: Door,
+    leaves: Vec<u16>,
+}
+
+// The barrier's action: it does nothing and never fails.
 fn do_nothing(_generation: u64) -> bool
     ensures { result ≡ false }
 {
     false
 }
 
-// Registers the next start task, whose number is that of those before it, at the leaf of that number.
+// Registers the next start task, at the leaf whose number is that of the start line.
 fn register_one<J: Running, R: Wait, F: Fn(u32, u32) -> bool>(
     rt: &R,
-    meeting: &Meeting<J, F>,
+    tree: &WorkerTree<J, F>,
     own: &mut OwnToken<J>,
     path: Path,
     participants: &mut Vec<Participant<J>>,
@@ -62,19 +72,19 @@ fn register_one<J: Running, R: Wait, F: Fn(u32, u32) -> bool>(
     ensures { OnOk result (map (λ participant. participant.crew.view.tier) participants.new.items
         ≡ map (λ participant. participant.crew.view.tier) participants.old.items ++ leaf_at (leaves_of J.tree.key.shape) (length participants.old.items) ∷ []) }
 {
-    let participant = meeting.register_start(rt, own, path, participants.len())?;
+    let participant = tree.register_start(rt, own, path, participants.len())?;
     match participants.push(participant) {
         Ok(()) => Ok(()),
         Err(_) => Err(Reason::Memory),
     }
 }
 
-// Registers the start tasks, one leaf after another, before any worker is started. `participants` has been empty. The path of a
+// Registers the start tasks, in order, before any worker is started. `participants` is empty at first. The path of a
 // start task is the number of its start line.
 fn register_all<J: Running, R: Wait, F: Fn(u32, u32) -> bool>(
     rt: &R,
     alloc: Global,
-    meeting: &Meeting<J, F>,
+    tree: &WorkerTree<J, F>,
     own: &mut OwnToken<J>,
     stretches: &Stretches<'_>,
     participants: &mut Vec<Participant<J>>,
@@ -84,48 +94,47 @@ fn register_all<J: Running, R: Wait, F: Fn(u32, u32) -> bool>(
             return Err(Reason::Internal);
         };
         let path = SmallVec::from_slice(alloc, &[line])?;
-        register_one(rt, meeting, own, path, participants)?;
+        register_one(rt, tree, own, path, participants)?;
     }
     Ok(())
 }
 
-// Registers the start tasks, and puts their participants in the cohorts of their stretches.
+// Registers the start tasks, and groups their participants by stretch.
 fn registered<J: Running, R: Wait, F: Fn(u32, u32) -> bool>(
     rt: &R,
     alloc: Global,
-    meeting: &Meeting<J, F>,
+    tree: &WorkerTree<J, F>,
     own: &mut OwnToken<J>,
     stretches: &Stretches<'_>,
-) -> Result<VecDeque<Cohort<J>>, Reason> {
+) -> Result<VecDeque<Group<J>>, Reason> {
     let mut participants = Vec::new(alloc);
-    register_all(rt, alloc, meeting, own, stretches, &mut participants)?;
-    cohorts_of(stretches, &mut participants)
+    register_all(rt, alloc, tree, own, stretches, &mut participants)?;
+    groups_of(stretches, &mut participants)
 }
 
-// What the workers of these stretches share, whose tasks are registered so at this tree.
-fn shop_of<'j, J: Running, F: Fn(u32, u32) -> bool>(
+// What the workers share.
+fn shared_by<'j, J: Running, F: Fn(u32, u32) -> bool>(
     alloc: Global,
     stretches: Stretches<'j>,
-    meeting: Meeting<J, F>,
-    cohorts: VecDeque<Cohort<J>>,
-    looks: u32,
-) -> Shop<'j, J, F>
+    tree: WorkerTree<J, F>,
+    groups: VecDeque<Group<J>>,
+    spins: u32,
+) -> Shared<'j, J, F>
     requires job { stretches.job ≡ J.job }
     requires limit { stretches.limit ≡ J.limit }
-    ensures { result.meeting ≡ meeting }
+    ensures { result.tree ≡ tree }
 {
-    Shop {
-        board: Mutex::new(Board::new(alloc, stretches, cohorts)),
+    Shared {
+        queue: Mutex::new(Queue::new(alloc, stretches, groups)),
         changed: Condvar::new(),
-        rings: AtomicU64::new(0),
+        wakeups: AtomicU64::new(0),
         passing: AtomicBool::new(false),
-        looks,
-        meeting,
+        spins,
+        tree,
     }
 }
 
-// Registers the tasks of these stretches, lets the workers work, who wait for each other at the barrier first, and concludes when
-// all have gone.
+// Registers the start tasks, starts the workers, and returns the report once all workers have stopped.
 fn run_at<
     'j,
     J: Running + Send + Sync,
@@ -138,35 +147,32 @@ fn run_at<
     rt: &R,
     alloc: Global,
     stretches: Stretches<'j>,
-    meeting: Meeting<J, F>,
+    tree: WorkerTree<J, F>,
     door: Door,
     barrier: &Result<CyclicGate<A>, BarrierFault>,
-    workers: u32,
-    gate: &G,
-    starter: &S,
+    setup: Setup<'_, G, S>,
 ) -> Result<Report, Refused>
     requires job { stretches.job ≡ J.job }
     requires limit { stretches.limit ≡ J.limit }
-    requires workers { workers ≡ J.workers }
+    requires workers { setup.workers ≡ J.workers }
     requires tree { door.tree ≡ J.tree }
-    requires rule { Answers (F.pre meeting.tree.rule.closure) (F.post meeting.tree.rule.closure) (end_ends_at meeting.tree.rule.plan) }
+    requires rule { Answers (F.pre tree.phaser.rule.closure) (F.post tree.phaser.rule.closure) (end_ends_at tree.phaser.rule.plan) }
     requires action { IfOk barrier.now (λ barrier. AnswersAction (A.pre barrier.action.closure) (A.post barrier.action.closure) barrier.action.plan) }
     ensures report { IfOk result (λ report. report_of (program_of J.job) J.limit ≡ Some report) }
-    ensures started { IfErr result (IsOfWorkers workers) }
+    ensures started { IfErr result (IsOfWorkers setup.workers) }
 {
     let mut own = OwnToken::new(door);
-    let (cohorts, fault) = match registered(rt, alloc, &meeting, &mut own, &stretches) {
-        Ok(cohorts) => (cohorts, None),
+    let (groups, fault) = match registered(rt, alloc, &tree, &mut own, &stretches) {
+        Ok(groups) => (groups, None),
         Err(reason) => (VecDeque::new(alloc), Some(reason)),
     };
-    let shop = shop_of(alloc, stretches, meeting, cohorts, looks_of(rt, workers));
-    start_registered(
-        rt, alloc, &shop, &mut own, gate, barrier, starter, workers, fault,
-    );
-    shop.conclude(alloc)
+    let spins = spins_of(rt, setup.workers);
+    let shared = shared_by(alloc, stretches, tree, groups, spins);
+    start_registered(rt, alloc, &shared, &mut own, barrier, setup, fault);
+    shared.conclude(alloc)
 }
 
-// Starts the workers where the start tasks were registered and there is a barrier; else why not is noted.
+// Starts the workers if the start tasks were registered and there is a barrier. Otherwise notes why not.
 fn start_registered<
     'j,
     J: Running + Send + Sync,
@@ -178,30 +184,28 @@ fn start_registered<
 >(
     rt: &R,
     alloc: Global,
-    shop: &Shop<'j, J, F>,
+    shared: &Shared<'j, J, F>,
     own: &mut OwnToken<J>,
-    gate: &G,
     barrier: &Result<CyclicGate<A>, BarrierFault>,
-    starter: &S,
-    workers: u32,
+    setup: Setup<'_, G, S>,
     fault: Option<Reason>,
 )
-    requires workers { workers ≡ J.workers }
-    requires rule { Answers (F.pre shop.now.meeting.tree.rule.closure) (F.post shop.now.meeting.tree.rule.closure) (end_ends_at shop.now.meeting.tree.rule.plan) }
+    requires workers { setup.workers ≡ J.workers }
+    requires rule { Answers (F.pre shared.now.tree.phaser.rule.closure) (F.post shared.now.tree.phaser.rule.closure) (end_ends_at shared.now.tree.phaser.rule.plan) }
     requires action { IfOk barrier.now (λ barrier. AnswersAction (A.pre barrier.action.closure) (A.post barrier.action.closure) barrier.action.plan) }
 {
     if let Some(reason) = fault {
-        shop.board.lock(rt).note(reason);
+        shared.queue.lock(rt).note(reason);
         return;
     }
     match barrier {
-        Ok(barrier) => start_all(rt, alloc, shop, own, gate, barrier, starter, workers),
-        Err(BarrierFault::Memory) => shop.board.lock(rt).note(Reason::Memory),
-        Err(_) => shop.board.lock(rt).note(Reason::Internal),
+        Ok(barrier) => start_all(rt, alloc, shared, own, barrier, setup),
+        Err(BarrierFault::Memory) => shared.queue.lock(rt).note(Reason::Memory),
+        Err(_) => shared.queue.lock(rt).note(Reason::Internal),
     }
 }
 
-// Runs the job of these stretches at this tree.
+// Runs the job that was opened.
 fn run_shared<
     'j,
     J: Running + Send + Sync,
@@ -209,40 +213,36 @@ fn run_shared<
     F: Fn(u32, u32) -> bool + Sync + Drop,
     G: Gate + Sync,
     S: Starter,
->(
-    rt: &R,
-    alloc: Global,
-    stretches: Stretches<'j>,
-    tree: Tree<F>,
-    door: Door,
-    leaves: Vec<u16>,
-    workers: u32,
-    gate: &G,
-    starter: &S,
-) -> Result<Report, Refused>
-    requires job { stretches.job ≡ J.job }
-    requires limit { stretches.limit ≡ J.limit }
-    requires workers { workers ≡ J.workers }
-    requires tree { (tree.tree ≡ J.tree) × (door.tree ≡ J.tree) }
-    requires leaves { (leaves.items ≡ leaves_of J.tree.key.shape) × (0 < length leaves.items) }
-    requires rule { Answers (F.pre tree.rule.closure) (F.post tree.rule.closure) (end_ends_at tree.rule.plan) }
+>(rt: &R, alloc: Global, opening: Opening<'j, F>, setup: Setup<'_, G, S>) -> Result<Report, Refused>
+    requires job { opening.stretches.job ≡ J.job }
+    requires limit { opening.stretches.limit ≡ J.limit }
+    requires workers { setup.workers ≡ J.workers }
+    requires tree { (opening.tree.tree ≡ J.tree) × (opening.door.tree ≡ J.tree) }
+    requires leaves { (opening.leaves.items ≡ leaves_of J.tree.key.shape) × (0 < length opening.leaves.items) }
+    requires rule { Answers (F.pre opening.tree.rule.closure) (F.post opening.tree.rule.closure) (end_ends_at opening.tree.rule.plan) }
     ensures report { IfOk result (λ report. report_of (program_of J.job) J.limit ≡ Some report) }
-    ensures started { IfErr result (IsOfWorkers workers) }
+    ensures started { IfErr result (IsOfWorkers setup.workers) }
 {
-    let meeting = Meeting::<J, F>::new(tree, Leaves::new(leaves));
+    let Opening {
+        stretches,
+        tree,
+        door,
+        leaves,
+    } = opening;
+    let tree = WorkerTree::<J, F>::new(tree, Leaves::new(leaves));
     let action = StoredAction::new(do_nothing, None);
-    let barrier = CyclicGate::new(alloc, i64::from(workers), action);
-    run_at(
-        rt, alloc, stretches, meeting, door, &barrier, workers, gate, starter,
-    )
+    let barrier = CyclicGate::new(alloc, i64::from(setup.workers), action);
+    run_at(rt, alloc, stretches, tree, door, &barrier, setup)
 }
 
-/// Runs a job on so many worker threads, which meet at a tree of this shape, superstep by superstep: what it answers is
-/// what the job leaves, within the limit that the plan stands for (own). The closure that ends the tree is called once a
-/// superstep, after the last arrival, with the phase and the number of parties at the root. `gate` is called round each
-/// segment, and `starter` before each worker is started.
+/// Runs `job` on `workers` threads that synchronize at a tree of phasers of this shape. The report is the one that a
+/// single thread produces within the same limit (own).
 ///
-/// It returns once all workers have been joined. That it ends is no part of its contract.
+/// The limit of supersteps is that of `advance`'s plan: its last phase, plus one. The closure of `advance` is called
+/// once a superstep, after the last arrival, with the phase and the number of parties at the root. `gate` is called
+/// round each segment, and `starter` before each worker is started.
+///
+/// Returns after joining all workers that were started. Termination is not part of the contract.
 ///
 /// ```
 /// let text = b"bsp 1\narray a 1\nbody b\nput a[0] = 7\nend\nstart b 0\n";
@@ -280,63 +280,58 @@ pub fn run_job<
     ensures report { IfOk result (λ report. report_of (program_of job.now) (limit_of advance.plan) ≡ Some report) }
     ensures started { IfErr result (IsOfWorkers workers) }
 {
-    match opened(alloc, job, shape, advance, pieces_of(gate, workers)) {
-        Ok((stretches, tree, door, leaves)) => run_shared::<Brand, R, F, G, S>(
-            rt, alloc, stretches, tree, door, leaves, workers, gate, starter,
-        ),
+    let setup = Setup {
+        workers,
+        gate,
+        starter,
+    };
+    match opening_of(alloc, job, shape, advance, stretches_wanted(gate, workers)) {
+        Ok(opening) => run_shared::<Brand, R, F, G, S>(rt, alloc, opening, setup),
         Err(_) => Err(Refused::Memory),
     }
 }
 
-// The stretches of a job, with the tree at which workers meet, its first token, and its leaves.
-fn opened<'j, F: Fn(u32, u32) -> bool + Drop>(
+// Cuts a job into about `count` stretches, and makes the tree at which workers meet.
+fn opening_of<'j, F: Fn(u32, u32) -> bool + Drop>(
     alloc: Global,
     job: &'j Job,
     shape: Shape,
     advance: StoredAdvance<F>,
-    pieces: usize,
-) -> Result<(Stretches<'j>, Tree<F>, Door, Vec<u16>), AllocError>
+    count: usize,
+) -> Result<Opening<'j, F>, AllocError>
     requires plan { IsJobPlan advance.plan }
-    requires pieces { 1 ≤ pieces }
-    ensures stretches { IfOk result (λ all. (all.0.job ≡ job.now) × (all.0.limit ≡ limit_of advance.plan)) }
-    ensures tree { IfOk result (λ all. IsNew shape 0 advance all.1 all.2) }
-    ensures leaves { IfOk result (λ all. (all.3.items ≡ leaves_of shape) × (0 < length all.3.items)) }
+    requires count { 1 ≤ count }
+    ensures stretches { IfOk result (λ o. (o.stretches.job ≡ job.now) × (o.stretches.limit ≡ limit_of advance.plan)) }
+    ensures tree { IfOk result (λ o. IsNew shape 0 advance o.tree o.door) }
+    ensures leaves { IfOk result (λ o. (o.leaves.items ≡ leaves_of shape) × (0 < length o.leaves.items)) }
 {
-    let stretches = Stretches::new(alloc, job, limit_in(advance.plan()), pieces)?;
-    let (tree, door, leaves) = tree_of(alloc, shape, advance)?;
-    Ok((stretches, tree, door, leaves))
-}
-
-// A tree of this shape, its first token, and its leaves.
-fn tree_of<F: Fn(u32, u32) -> bool + Drop>(
-    alloc: Global,
-    shape: Shape,
-    advance: StoredAdvance<F>,
-) -> Result<(Tree<F>, Door, Vec<u16>), AllocError>
-    ensures tree { IfOk result (λ all. IsNew shape 0 advance all.0 all.1) }
-    ensures leaves { IfOk result (λ all. (all.2.items ≡ leaves_of shape) × (0 < length all.2.items)) }
-{
+    let stretches = Stretches::new(alloc, job, limit_in(advance.plan()), count)?;
     let leaves = leaves_in(alloc, &shape)?;
     let (tree, door) = Tree::new(alloc, shape, 0, advance)?;
-    Ok((tree, door, leaves))
+    Ok(Opening {
+        stretches,
+        tree,
+        door,
+        leaves,
+    })
 }
 
-// About how many stretches the live tasks are cut into: a task each, where a gate wants to be told of it.
-fn pieces_of<G: Gate>(gate: &G, workers: u32) -> usize
+// About how many stretches the live tasks are cut into: one for each task if the gate wants to see each segment.
+fn stretches_wanted<G: Gate>(gate: &G, workers: u32) -> usize
     requires { 1 ≤ workers }
     ensures { 1 ≤ result }
 {
     if gate.is_open() {
-        workers as usize * PIECES_EACH
+        workers as usize * STRETCHES_EACH
     } else {
         usize::MAX
     }
 }
 
-// How often a worker looks before it sleeps or calls the tree: not at all where there are more workers than processors.
-fn looks_of<R: Threads>(rt: &R, workers: u32) -> u32 {
+// How often a worker spins before it sleeps or calls the tree: not at all if there are more workers than processors.
+fn spins_of<R: Threads>(rt: &R, workers: u32) -> u32 {
     match thread::available_parallelism(rt) {
-        Ok(count) if workers as usize <= count.get() => MOST_LOOKS,
+        Ok(count) if workers as usize <= count.get() => MOST_SPINS,
         Ok(_) | Err(_) => 0,
     }
 }

@@ -1,4 +1,4 @@
-//! Starting workers, who wait for each other at a barrier before the first task is taken.
+//! Starts the workers, which wait for each other at a barrier before any of them takes a task.
 ghost use Rattle.std.specs.Prelude.{◌≡◌, ◌<◌, ℕ, IfErr, OnOk, length, vec_capacity};
 ghost use Rattle.std.specs.Thread.{IsSync};
 ghost use Rattle.advance_rule.specs.Action.{AnswersAction};
@@ -6,11 +6,11 @@ ghost use Rattle.advance_rule.specs.Stored.{Answers};
 ghost use Rattle.advance_rule.specs.Plan.{end_ends_at};
 ghost use Rattle.worker_pool.specs.Refusals.{IsOfWorkers};
 
-use crate::board::Running;
 use crate::fault::Refused;
 use crate::hooks::{Gate, Starter};
 use crate::participant::OwnToken;
-use crate::shop::Shop;
+use crate::queue::Running;
+use crate::shared::Shared;
 use crate::work::work;
 use cyclic_gate::{CyclicGate, GateFault};
 use std::alloc::Global;
@@ -18,43 +18,50 @@ use std::sync::Wait;
 use std::thread;
 use std::thread::{JoinHandle, Threads};
 
-// Notes why the run is refused before all workers have come to the barrier, and sends those home who wait there.
+/// How a run is set up: the number of workers, the gate round each segment, and who may be started.
+pub(crate) struct Setup<'a, G: Gate, S: Starter> {
+    pub(crate) workers: u32,
+    pub(crate) gate: &'a G,
+    pub(crate) starter: &'a S,
+}
+
+// Notes why the run is refused before all workers have come to the barrier, and stops those that wait there.
 fn call_off<'j, J: Running, R: Wait, F: Fn(u32, u32) -> bool, A: Fn(u64) -> bool>(
     rt: &R,
-    shop: &Shop<'j, J, F>,
+    shared: &Shared<'j, J, F>,
     barrier: &CyclicGate<A>,
     refused: Refused,
 )
     requires refused { IsOfWorkers J.workers refused }
     requires action { AnswersAction (A.pre barrier.now.action.closure) (A.post barrier.now.action.closure) barrier.now.action.plan }
 {
-    shop.board.lock(rt).refuse(refused);
+    shared.queue.lock(rt).refuse(refused);
     barrier.break_off(rt);
 }
 
-// What a worker does once it was started: it waits for the others at the barrier, and works. Where it finds no memory there,
-// it sends the others home.
+// What a started worker does: it waits for the others at the barrier, then works. If it runs out of memory there, it
+// stops the others.
 fn wait_and_work<'j, J: Running, R: Wait, F: Fn(u32, u32) -> bool, A: Fn(u64) -> bool, G: Gate>(
     rt: &R,
     alloc: Global,
-    shop: &Shop<'j, J, F>,
+    shared: &Shared<'j, J, F>,
     gate: &G,
     barrier: &CyclicGate<A>,
     k: u32,
     own: OwnToken<J>,
 )
-    requires rule { Answers (F.pre shop.now.meeting.tree.rule.closure) (F.post shop.now.meeting.tree.rule.closure) (end_ends_at shop.now.meeting.tree.rule.plan) }
+    requires rule { Answers (F.pre shared.now.tree.phaser.rule.closure) (F.post shared.now.tree.phaser.rule.closure) (end_ends_at shared.now.tree.phaser.rule.plan) }
     requires action { AnswersAction (A.pre barrier.now.action.closure) (A.post barrier.now.action.closure) barrier.now.action.plan }
 {
     let mut own = own;
     match barrier.await_turn(rt, k) {
-        Ok(_) => work(rt, alloc, shop, gate, &mut own),
-        Err(GateFault::Memory) => call_off(rt, shop, barrier, Refused::Memory),
+        Ok(_) => work(rt, alloc, shared, gate, &mut own),
+        Err(GateFault::Memory) => call_off(rt, shared, barrier, Refused::Memory),
         Err(_) => {}
     }
 }
 
-// Makes room for a worker's thread, unless the worker may not be started.
+// Makes room for the handle of a worker's thread, unless the worker may not be started.
 fn may_start<S: Starter>(
     starter: &S,
     k: u32,
@@ -72,15 +79,15 @@ fn may_start<S: Starter>(
     }
 }
 
-// Joins these threads.
+// Joins the threads that were started.
 fn join_all<R: Threads + Wait>(rt: &R, started: Vec<JoinHandle<()>>) {
     for thread in started {
         thread.join(rt);
     }
 }
 
-/// Starts the workers, and returns once all that were started have been joined. Where one can't be started that is noted, and
-/// the others are sent home before they take a task.
+/// Starts the workers, and returns after joining all that were started. If one can't be started, that is noted and the
+/// others stop before they take a task.
 pub(crate) fn start_all<
     'j,
     J: Running + Send + Sync,
@@ -92,35 +99,38 @@ pub(crate) fn start_all<
 >(
     rt: &R,
     alloc: Global,
-    shop: &Shop<'j, J, F>,
+    shared: &Shared<'j, J, F>,
     own: &mut OwnToken<J>,
-    gate: &G,
     barrier: &CyclicGate<A>,
-    starter: &S,
-    workers: u32,
+    setup: Setup<'_, G, S>,
 )
-    requires workers { workers ≡ J.workers }
-    requires rule { Answers (F.pre shop.now.meeting.tree.rule.closure) (F.post shop.now.meeting.tree.rule.closure) (end_ends_at shop.now.meeting.tree.rule.plan) }
+    requires workers { setup.workers ≡ J.workers }
+    requires rule { Answers (F.pre shared.now.tree.phaser.rule.closure) (F.post shared.now.tree.phaser.rule.closure) (end_ends_at shared.now.tree.phaser.rule.plan) }
     requires action { AnswersAction (A.pre barrier.now.action.closure) (A.post barrier.now.action.closure) barrier.now.action.plan }
 {
+    let Setup {
+        workers,
+        gate,
+        starter,
+    } = setup;
     thread::scope(
         thread::scope_env(),
         rt,
         move |scope|
-            requires { (workers ≡ J.workers) × Answers (F.pre shop.now.meeting.tree.rule.closure) (F.post shop.now.meeting.tree.rule.closure) (end_ends_at shop.now.meeting.tree.rule.plan)
+            requires { (workers ≡ J.workers) × Answers (F.pre shared.now.tree.phaser.rule.closure) (F.post shared.now.tree.phaser.rule.closure) (end_ends_at shared.now.tree.phaser.rule.plan)
                 × AnswersAction (A.pre barrier.now.action.closure) (A.post barrier.now.action.closure) barrier.now.action.plan }
         {
             let mut started = Vec::new(alloc);
             for k in 0..workers {
                 if let Err(refused) = may_start(starter, k, &mut started) {
-                    call_off(rt, shop, barrier, refused);
+                    call_off(rt, shared, barrier, refused);
                     break;
                 }
-                let own = shop.meeting.own_token(own);
-                match scope.spawn(move || wait_and_work(rt, alloc, shop, gate, barrier, k, own)) {
+                let own = shared.tree.own_token(own);
+                match scope.spawn(move || wait_and_work(rt, alloc, shared, gate, barrier, k, own)) {
                     Ok(thread) => started.push_reserved(thread),
                     Err(_) => {
-                        call_off(rt, shop, barrier, Refused::NotStarted(k));
+                        call_off(rt, shared, barrier, Refused::NotStarted(k));
                         break;
                     }
                 }

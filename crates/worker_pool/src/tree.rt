@@ -1,10 +1,10 @@
-//! The tree at which workers meet: calls of a task's crew, taken to their answers.
+//! The tree at which workers synchronize. Each call is repeated until it has an answer that lasts.
 ghost use Rattle.std.specs.Prelude.{◌≡◌};
 
-use crate::board::Running;
 use crate::fault::Reason;
 use crate::leaves::Leaves;
 use crate::participant::{OwnToken, Participant};
+use crate::queue::Running;
 use std::sync::Wait;
 use superstep_memory::path::Path;
 use tier_table::forcing::Forced;
@@ -14,28 +14,28 @@ use tier_table::tokens::{Crew, Door, Opening};
 use tier_table::tree::Tree;
 use tier_table::waiting::Counted;
 
-// So many tries are enough for a call that nobody else disturbs.
+// Enough tries for any call that no other thread disturbs: the law `calls_are_short` counts at most 16 steps.
 const TRIES: u32 = 16;
 
-/// The tree of the run, and its leaves. Its type keeps that the tree is the run's.
+/// The tree of phasers of the run, and its leaves. Its type keeps that it is the run's tree.
 #[derive(Drop)]
-pub(crate) struct Meeting<J: Running, F: Fn(u32, u32) -> bool> {
-    tree: Tree<F>,
+pub(crate) struct WorkerTree<J: Running, F: Fn(u32, u32) -> bool> {
+    phaser: Tree<F>,
     leaves: Leaves<J>,
-    ghost own: { tree.tree ≡ J.tree },
+    ghost own: { phaser.tree ≡ J.tree },
 }
 
-/// How a registration came out.
+/// How a registration ended.
 enum Entry {
     // The member has joined.
     In(Crew),
-    // It was refused for now.
+    // The tier is held, full or busy; another tier may do.
     Off(Door),
     // The tree has ended.
     Over,
 }
 
-impl<J: Running, F: Fn(u32, u32) -> bool> Meeting<J, F> {
+impl<J: Running, F: Fn(u32, u32) -> bool> WorkerTree<J, F> {
     ghost use Rattle.std.specs.Prelude.{◌≡◌, ◌<◌, true, is_some, IfOk, IfSome, OnOk, length};
     ghost use Rattle.advance_rule.specs.Stored.{Answers};
     ghost use Rattle.advance_rule.specs.Plan.{end_ends_at};
@@ -46,27 +46,27 @@ impl<J: Running, F: Fn(u32, u32) -> bool> Meeting<J, F> {
     ghost use Rattle.tier_table.specs.Arrives.{HasPassed};
     ghost use Rattle.tier_steps.specs.declared.view.Passage.TheVariants.{Arrival};
 
-    /// A tree, with its leaves.
-    pub(crate) fn new(tree: Tree<F>, leaves: Leaves<J>) -> Self
-        requires { tree.tree ≡ J.tree }
-        ensures { result.tree ≡ tree }
+    /// Keeps the tree of the run with its leaves.
+    pub(crate) fn new(phaser: Tree<F>, leaves: Leaves<J>) -> Self
+        requires { phaser.tree ≡ J.tree }
+        ensures { result.phaser ≡ phaser }
     {
-        Meeting { tree, leaves }
+        WorkerTree { phaser, leaves }
     }
 
-    /// A worker's own token.
+    /// Splits off a worker's own token.
     pub(crate) fn own_token(&self, own: &mut OwnToken<J>) -> OwnToken<J> {
-        OwnToken::new(self.tree.split(&mut own.door))
+        OwnToken::new(self.phaser.split(&mut own.door))
     }
 
-    // Goes on with the opening of a path until it is done.
+    // Resumes the opening of a path until it is done.
     fn open<R: Wait>(&self, rt: &R, opening: Opening) -> Entry
         requires { opening.token.tree ≡ J.tree }
         ensures { IsOf J.tree (asked_tier opening.token.view.errand) result }
     {
         let mut opening = opening;
         for _ in rt.forever() {
-            match self.tree.resume_opening(opening, TRIES) {
+            match self.phaser.resume_opening(opening, TRIES) {
                 Opened::Joined(crew, _phase) => return Entry::In(crew),
                 Opened::Held(door, _phase, _cause) => return Entry::Off(door),
                 Opened::Full(door, _count) => return Entry::Off(door),
@@ -77,13 +77,13 @@ impl<J: Running, F: Fn(u32, u32) -> bool> Meeting<J, F> {
         unreachable!()
     }
 
-    // Registers a member at a tier, opening the path to it.
+    // Registers a member at a tier, and opens the path to the tier if it is empty.
     fn register<R: Wait>(&self, rt: &R, door: Door, tier: u16) -> Entry
         requires own { door.tree ≡ J.tree }
         requires tier { tier < length J.tree.key.shape }
         ensures { IsOf J.tree tier result }
     {
-        match self.tree.register(door, tier, 1, TRIES) {
+        match self.phaser.register(door, tier, 1, TRIES) {
             Registered::Joined(crew, _phase) => Entry::In(crew),
             Registered::Held(door, _phase, _cause) => Entry::Off(door),
             Registered::Full(door, _count) => Entry::Off(door),
@@ -93,17 +93,17 @@ impl<J: Running, F: Fn(u32, u32) -> bool> Meeting<J, F> {
         }
     }
 
-    // Registers a member beside a crew one of whose members is unarrived.
+    // Registers a member at the tier of a crew that has an unarrived member.
     fn join_here<R: Wait>(&self, rt: &R, crew: &mut Crew, door: Door) -> Result<Crew, Reason>
         requires own { (crew.old.tree ≡ J.tree) × (door.tree ≡ J.tree) }
         requires unarrived { crew.old.view.arrived < crew.old.view.size }
         ensures same { (crew.new.tree ≡ J.tree) × (crew.new.view.arrived < crew.new.view.size) × (crew.new.view.tier ≡ crew.old.view.tier) }
-        ensures joined { IfOk result (λ kid. (kid.tree ≡ J.tree) × (kid.view.tier ≡ crew.old.view.tier)) }
+        ensures joined { IfOk result (λ child. (child.tree ≡ J.tree) × (child.view.tier ≡ crew.old.view.tier)) }
     {
         let mut door = door;
         for _ in rt.forever() {
-            match self.tree.join_here(crew, door, 1, TRIES) {
-                Registered::Joined(kid, _phase) => return Ok(kid),
+            match self.phaser.join_here(crew, door, 1, TRIES) {
+                Registered::Joined(child, _phase) => return Ok(child),
                 Registered::Busy(rest) => door = rest,
                 Registered::Full(_door, _count) => return Err(Reason::Internal),
                 Registered::Ended(_door, _shown) => return Err(Reason::Internal),
@@ -113,7 +113,8 @@ impl<J: Running, F: Fn(u32, u32) -> bool> Meeting<J, F> {
         unreachable!()
     }
 
-    /// Registers the start task of this number at the leaf of this number, from 0 again behind the last leaf. Nothing refuses it, since nobody has arrived there.
+    /// Registers the start task with this number, at the leaf with this number modulo the number of leaves. Nothing refuses
+    /// it, since no task has arrived yet.
     pub(crate) fn register_start<R: Wait>(
         &self,
         rt: &R,
@@ -123,14 +124,15 @@ impl<J: Running, F: Fn(u32, u32) -> bool> Meeting<J, F> {
     ) -> Result<Participant<J>, Reason>
         ensures { IfOk result (λ participant. participant.crew.view.tier ≡ leaf_at (leaves_of J.tree.key.shape) number) }
     {
-        let fresh = self.tree.split(&mut own.door);
+        let fresh = self.phaser.split(&mut own.door);
         match self.register(rt, fresh, self.leaves.tier(number)) {
             Entry::In(crew) => Ok(Participant::new(path, crew)),
             Entry::Off(_) | Entry::Over => Err(Reason::Internal),
         }
     }
 
-    /// Registers a task that a crew's task has spawned: at its preferred leaf, or where that refuses it beside its spawner.
+    /// Registers a task that the task of `crew` has spawned: at its preferred leaf, or if that is refused, at its spawner's
+    /// tier.
     pub(crate) fn register_spawned<R: Wait>(
         &self,
         rt: &R,
@@ -142,51 +144,51 @@ impl<J: Running, F: Fn(u32, u32) -> bool> Meeting<J, F> {
         ensures same { (crew.new.tree ≡ J.tree) × (crew.new.view.arrived < crew.new.view.size) × (crew.new.view.tier ≡ crew.old.view.tier) }
         ensures leaf { IfOk result (λ participant. IsAtLeaf (leaves_of J.tree.key.shape) crew.old.view.tier path.items participant.crew.view.tier) }
     {
-        let fresh = self.tree.split_crew(crew);
+        let fresh = self.phaser.split_crew(crew);
         let tier = self.leaves.preferred(crew.tier(), path.as_slice());
         match self.register(rt, fresh, tier) {
-            Entry::In(kid) => Ok(Participant::new(path, kid)),
+            Entry::In(child) => Ok(Participant::new(path, child)),
             Entry::Off(door) => {
-                let kid = self.join_here(rt, crew, door)?;
-                Ok(Participant::new(path, kid))
+                let child = self.join_here(rt, crew, door)?;
+                Ok(Participant::new(path, child))
             }
             Entry::Over => Err(Reason::Internal),
         }
     }
 
-    /// Lets a crew see the phase in which its task runs, in which no member of it has arrived.
+    /// Brings a crew up to date with the phase in which its task runs, and in which it hasn't arrived.
     pub(crate) fn come_in(&self, crew: &mut Crew) -> Result<(), Reason>
         requires { crew.old.tree ≡ J.tree }
         ensures same { crew.new.tree ≡ J.tree }
         ensures unarrived { OnOk result (crew.new.view.arrived < crew.new.view.size) }
     {
-        let _polled = self.tree.poll(crew);
+        let _polled = self.phaser.poll(crew);
         if crew.unarrived() == 0 {
             return Err(Reason::Internal);
         }
         Ok(())
     }
 
-    /// Lets the member of a crew arrive. Whether it took the advance.
+    /// Arrives for the member of a crew. Returns true if this arrival advanced the tree.
     pub(crate) fn arrive<R: Wait>(&self, rt: &R, crew: &mut Crew) -> Result<bool, Reason>
         requires own { crew.old.tree ≡ J.tree }
-        requires rule { Answers (F.pre self.now.tree.rule.closure) (F.post self.now.tree.rule.closure) (end_ends_at self.now.tree.rule.plan) }
+        requires rule { Answers (F.pre self.now.phaser.rule.closure) (F.post self.now.phaser.rule.closure) (end_ends_at self.now.phaser.rule.plan) }
         ensures same { crew.new.tree ≡ J.tree }
         ensures passed { IfOk result (λ led. (led ≡ crew.new.view.led) × HasPassed Arrival crew.old.view crew.new.view) }
     {
-        match self.tree.arrive_in_place(rt, crew) {
+        match self.phaser.arrive_in_place(rt, crew) {
             Came::Done(_phase, led) => Ok(led),
             Came::AlreadyArrived(_phase) => Err(Reason::Internal),
             Came::Ended(_shown) => Err(Reason::Internal),
         }
     }
 
-    /// Lets the one member of a crew leave. Whether it took the advance.
+    /// Leaves for the only member of a crew. Returns true if that advanced the tree.
     pub(crate) fn leave<R: Wait>(&self, rt: &R, crew: Crew) -> Result<bool, Reason>
         requires own { crew.tree ≡ J.tree }
-        requires rule { Answers (F.pre self.now.tree.rule.closure) (F.post self.now.tree.rule.closure) (end_ends_at self.now.tree.rule.plan) }
+        requires rule { Answers (F.pre self.now.phaser.rule.closure) (F.post self.now.phaser.rule.closure) (end_ends_at self.now.phaser.rule.plan) }
     {
-        match self.tree.leave_wait(rt, crew) {
+        match self.phaser.leave_wait(rt, crew) {
             Counted::Left(_door, _phase, led) => Ok(led),
             Counted::Done(_crew, _phase, _led) => Err(Reason::Internal),
             Counted::AlreadyArrived(_crew, _phase) => Err(Reason::Internal),
@@ -194,12 +196,12 @@ impl<J: Running, F: Fn(u32, u32) -> bool> Meeting<J, F> {
         }
     }
 
-    /// Ends the tree. Where it has ended nothing changes.
+    /// Ends the tree. Changes nothing if it has ended.
     pub(crate) fn force<R: Wait>(&self, rt: &R, own: &mut OwnToken<J>)
         ensures ended { is_some own.new.door.view.end_seen ≡ true }
     {
         for _ in rt.forever() {
-            match self.tree.force(&mut own.door, TRIES) {
+            match self.phaser.force(&mut own.door, TRIES) {
                 Forced::Ended(_) => return,
                 Forced::Busy => {}
             }

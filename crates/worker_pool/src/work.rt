@@ -1,69 +1,69 @@
-//! What a worker does.
+//! The loop of a worker.
 ghost use Rattle.advance_rule.specs.Stored.{Answers};
 ghost use Rattle.advance_rule.specs.Plan.{end_ends_at};
 
-use crate::board::{Next, Running};
 use crate::fault::Reason;
-use crate::hand::Lent;
+use crate::hand::HeldStretch;
 use crate::hooks::Gate;
-use crate::participant::{Cohort, OwnToken};
-use crate::shop::Shop;
+use crate::participant::{Group, OwnToken};
+use crate::queue::{Next, Running};
+use crate::shared::Shared;
 use std::alloc::Global;
 use std::sync::Wait;
 
-/// Does stretches until the workers go home. `own` is the worker's own token, by which it ends the tree where it must.
+/// Runs stretches until workers stop. `own` is the worker's own token, by which it can end the tree.
 pub(crate) fn work<'j, J: Running, R: Wait, F: Fn(u32, u32) -> bool, G: Gate>(
     rt: &R,
     alloc: Global,
-    shop: &Shop<'j, J, F>,
+    shared: &Shared<'j, J, F>,
     gate: &G,
     own: &mut OwnToken<J>,
 )
-    requires rule { Answers (F.pre shop.now.meeting.tree.rule.closure) (F.post shop.now.meeting.tree.rule.closure) (end_ends_at shop.now.meeting.tree.rule.plan) }
+    requires rule { Answers (F.pre shared.now.tree.phaser.rule.closure) (F.post shared.now.tree.phaser.rule.closure) (end_ends_at shared.now.tree.phaser.rule.plan) }
 {
     for _ in rt.forever() {
-        match do_next(rt, alloc, shop, gate, own) {
+        match do_next(rt, alloc, shared, gate, own) {
             Ok(true) => {}
             Ok(false) => return,
-            Err(reason) => return shop.give_up(rt, own, reason),
+            Err(reason) => return shared.give_up(rt, own, reason),
         }
     }
 }
 
-// Does the next stretch. False where workers go home.
+// Runs the next stretch. Returns false if workers stop.
 fn do_next<'j, J: Running, R: Wait, F: Fn(u32, u32) -> bool, G: Gate>(
     rt: &R,
     alloc: Global,
-    shop: &Shop<'j, J, F>,
+    shared: &Shared<'j, J, F>,
     gate: &G,
     own: &mut OwnToken<J>,
 ) -> Result<bool, Reason>
-    requires rule { Answers (F.pre shop.now.meeting.tree.rule.closure) (F.post shop.now.meeting.tree.rule.closure) (end_ends_at shop.now.meeting.tree.rule.plan) }
+    requires rule { Answers (F.pre shared.now.tree.phaser.rule.closure) (F.post shared.now.tree.phaser.rule.closure) (end_ends_at shared.now.tree.phaser.rule.plan) }
 {
-    match shop.next(rt)? {
-        Next::Run(lent, cohort) => {
-            do_stretch(rt, alloc, shop, gate, own, lent, cohort)?;
+    match shared.next(rt)? {
+        Next::Run(held, group) => {
+            do_stretch(rt, alloc, shared, gate, own, held, group)?;
             Ok(true)
         }
-        Next::Home => Ok(false),
+        Next::Stop => Ok(false),
     }
 }
 
-// Runs the segments of a stretch, delivers it, and passes its tasks through the tree.
+// Runs the segments of a stretch, delivers it, and then synchronizes its tasks.
 fn do_stretch<'j, J: Running, R: Wait, F: Fn(u32, u32) -> bool, G: Gate>(
     rt: &R,
     alloc: Global,
-    shop: &Shop<'j, J, F>,
+    shared: &Shared<'j, J, F>,
     gate: &G,
     own: &mut OwnToken<J>,
-    lent: Lent<'j, J>,
-    cohort: Cohort<J>,
+    held: HeldStretch<'j, J>,
+    group: Group<J>,
 ) -> Result<(), Reason>
-    requires rule { Answers (F.pre shop.now.meeting.tree.rule.closure) (F.post shop.now.meeting.tree.rule.closure) (end_ends_at shop.now.meeting.tree.rule.plan) }
+    requires rule { Answers (F.pre shared.now.tree.phaser.rule.closure) (F.post shared.now.tree.phaser.rule.closure) (end_ends_at shared.now.tree.phaser.rule.plan) }
 {
-    let mut lent = lent;
-    let step = lent.step();
-    let turnout = lent.run(rt, alloc, gate)?;
-    shop.deliver(rt, lent, &turnout)?;
-    shop.pass_all(rt, alloc, own, step, cohort, turnout)
+    let mut held = held;
+    let step = held.step();
+    let changes = held.run(rt, alloc, gate)?;
+    shared.deliver(rt, held, &changes)?;
+    shared.pass_all(rt, alloc, own, step, group, changes)
 }

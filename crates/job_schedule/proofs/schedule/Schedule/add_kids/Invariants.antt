@@ -1,11 +1,11 @@
 use Rattle.std.proofs.Common.{◌≡◌, ◌<◌, length, map}
 use Rattle.job_schedule.specs.Parts.{path_items, world_of}
-use Rattle.job_schedule.specs.World.{with_kids}
-use Rattle.job_schedule.proofs.schedule.Schedule.add_kids.Given as goal
+use Rattle.job_schedule.specs.World.{with_children}
+use Rattle.job_schedule.proofs.schedule.Schedule.add_children.Given as goal
 
 abbrev pub invariant-loop-path : goal.invariant-loop-path
 invariant-loop-path l = record {
-  kids : with_kids (world_of l.self) l.place (map path_items l.rest) ≡ with_kids (world_of l.fn.self) l.place (map path_items l.fn.paths);
+  children : with_children (world_of l.self) l.place (map path_items l.rest) ≡ with_children (world_of l.fn.self) l.place (map path_items l.fn.paths);
   place : l.place < length l.self.participants.items;
   round : l.self.round ≡ l.fn.self.round;
 }

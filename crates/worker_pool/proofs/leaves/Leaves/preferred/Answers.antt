@@ -1,6 +1,6 @@
 use Rattle.std.proofs.Common.{ℕ, List, ap, ◌∙◌}
 use Rattle.tier_shape.specs.Preferred.{preferred}
-use Rattle.worker_pool.proofs.Meeting.{preferred_within}
+use Rattle.worker_pool.proofs.LeafTiers.{preferred_within}
 use Rattle.worker_pool.proofs.leaves.Leaves.preferred.Goals as goal
 
 pub returns-clause-within : goal.returns-clause-within

@@ -1,25 +1,25 @@
-//! Participants in the cohorts of stretches.
-use crate::board::Running;
+//! Participants, grouped by the stretch of their tasks.
 use crate::fault::Reason;
-use crate::participant::{Cohort, Participant};
+use crate::participant::{Group, Participant};
+use crate::queue::Running;
 use std::alloc::AllocError;
 use std::cmp::Ordering;
 use std::collections::VecDeque;
 use step_stretches::Stretches;
 
-/// Puts participants in path order.
+/// Sorts participants by path.
 pub(crate) fn in_path_order<J: Running>(participants: &mut Vec<Participant<J>>) {
     participants.sort_unstable_by(|one: &Participant<J>, other: &Participant<J>| by_path(
         one, other,
     ));
 }
 
-// The order of two participants by path.
+// Compares two participants by path.
 fn by_path<J: Running>(one: &Participant<J>, other: &Participant<J>) -> Ordering {
     one.path.as_slice().cmp(&other.path.as_slice())
 }
 
-// Puts a participant behind others.
+// Appends a participant.
 fn push_participant<J: Running>(
     participants: &mut Vec<Participant<J>>,
     participant: Participant<J>,
@@ -30,77 +30,78 @@ fn push_participant<J: Running>(
     }
 }
 
-/// Moves the participants of a cohort behind others.
+/// Moves the participants of a group to the end of `participants`.
 pub(crate) fn move_participants<J: Running>(
-    cohort: Cohort<J>,
+    group: Group<J>,
     participants: &mut Vec<Participant<J>>,
 ) -> Result<(), AllocError> {
-    let mut cohort = cohort;
-    participants.reserve(cohort.participants.len())?;
-    for _ in 0..cohort.participants.len() {
-        if let Some(participant) = cohort.participants.pop_front() {
+    let mut group = group;
+    participants.reserve(group.participants.len())?;
+    for _ in 0..group.participants.len() {
+        if let Some(participant) = group.participants.pop_front() {
             push_participant(participants, participant)?;
         }
     }
     Ok(())
 }
 
-/// Moves the participants of cohorts behind others.
-pub(crate) fn move_cohorts<J: Running>(
-    cohorts: &mut VecDeque<Cohort<J>>,
+/// Moves the participants of all groups to the end of `participants`.
+pub(crate) fn move_groups<J: Running>(
+    groups: &mut VecDeque<Group<J>>,
     participants: &mut Vec<Participant<J>>,
 ) -> Result<(), AllocError> {
-    for _ in 0..cohorts.len() {
-        if let Some(cohort) = cohorts.pop_front() {
-            move_participants(cohort, participants)?;
+    for _ in 0..groups.len() {
+        if let Some(group) = groups.pop_front() {
+            move_participants(group, participants)?;
         }
     }
     Ok(())
 }
 
-/// Puts a cohort behind others.
-pub(crate) fn push_cohort<J: Running>(
-    cohorts: &mut VecDeque<Cohort<J>>,
-    cohort: Cohort<J>,
+/// Appends a group.
+pub(crate) fn push_group<J: Running>(
+    groups: &mut VecDeque<Group<J>>,
+    group: Group<J>,
 ) -> Result<(), AllocError> {
-    match cohorts.push_back(cohort) {
+    match groups.push_back(group) {
         Ok(()) => Ok(()),
         Err(_) => Err(AllocError),
     }
 }
 
-// Puts a cohort in front of others.
+// Puts a group in front of the others.
 fn push_first<J: Running>(
-    cohorts: &mut VecDeque<Cohort<J>>,
-    cohort: Cohort<J>,
+    groups: &mut VecDeque<Group<J>>,
+    group: Group<J>,
 ) -> Result<(), AllocError> {
-    match cohorts.push_front(cohort) {
+    match groups.push_front(group) {
         Ok(()) => Ok(()),
         Err(_) => Err(AllocError),
     }
 }
 
-/// The cohorts of stretches none of which is lent, of these participants in path order. No participant is left.
-pub(crate) fn cohorts_of<J: Running>(
+/// Groups participants, which are in path order, by the stretches of their tasks. No worker holds a stretch. Takes all
+/// participants.
+pub(crate) fn groups_of<J: Running>(
     stretches: &Stretches<'_>,
     participants: &mut Vec<Participant<J>>,
-) -> Result<VecDeque<Cohort<J>>, Reason> {
-    let mut cohorts = VecDeque::new(*participants.allocator());
+) -> Result<VecDeque<Group<J>>, Reason> {
+    let mut groups = VecDeque::new(*participants.allocator());
     let count = stretches.len();
     for behind in 0..count {
         let number = count - 1 - behind;
         let Some(at) = participants.len().checked_sub(stretches.length(number)) else {
             return Err(Reason::Internal);
         };
-        let cohort = participants.split_off(at)?;
-        let participants = VecDeque::from_vec(cohort);
+        let group = participants.split_off(at)?;
+        let participants = VecDeque::from_vec(group);
         push_first(
-            &mut cohorts,
-            Cohort {
+            &mut groups,
+            Group {
                 number,
                 participants,
             },
         )?;
     }
-    Ok(cohorts)
+    Ok(groups)
 }

@@ -1,5 +1,5 @@
 use Rattle.std.proofs.Common.{◌<◌}
-use Rattle.worker_pool.proofs.shop.Shop.bring_in.Given as goal
+use Rattle.worker_pool.proofs.shared.Shared.bring_in.Given as goal
 
 abbrev pub invariant-loop-path : goal.invariant-loop-path
 invariant-loop-path g l =

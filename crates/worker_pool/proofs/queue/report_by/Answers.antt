@@ -1,6 +1,6 @@
 use Rattle.std.proofs.Common.{sym, ◌∙◌}
 use Rattle.worker_pool.proofs.Concluding.{reported}
-use Rattle.worker_pool.proofs.board.report_by.Goals as goal
+use Rattle.worker_pool.proofs.queue.report_by.Goals as goal
 
 pub returns-in-Ok-Some-clause-report : goal.returns-in-Ok-Some-clause-report
 returns-in-Ok-Some-clause-report c =

@@ -1,5 +1,5 @@
 use Rattle.std.proofs.Common.{◌≡◌, ◌<◌}
-use Rattle.worker_pool.proofs.tree.Meeting.join_here.Given as goal
+use Rattle.worker_pool.proofs.tree.WorkerTree.join_here.Given as goal
 
 abbrev pub invariant-loop : goal.invariant-loop
 invariant-loop g l =

@@ -1,4 +1,4 @@
-//! The stretches as workers share them, with those that are ready.
+//! The stretches of a job as workers share them, and which of them are ready.
 ghost use Rattle.std.specs.Prelude.{◌≡◌, ℕ, Some, true, IfOk, IfErr, OnOk, OnErr};
 ghost use Rattle.step_core.specs.Program.{program_of};
 ghost use Rattle.step_core.specs.JobMeaning.{report_of};
@@ -6,17 +6,17 @@ ghost use Rattle.step_stretches.specs.StretchesValue.{state_of, is_whole};
 ghost use Rattle.step_stretches.specs.Closing.{Takes, with_slot, IsClosed, IsAt};
 ghost use Rattle.worker_pool.specs.Refusals.{IsOfWorkers};
 
-use crate::cohorts::{cohorts_of, in_path_order, move_cohorts, move_participants, push_cohort};
 use crate::fault::{Reason, Refused, reason_of_closing, reason_of_delivery};
-use crate::hand::Lent;
-use crate::participant::{Cohort, Participant};
+use crate::groups::{groups_of, in_path_order, move_groups, move_participants, push_group};
+use crate::hand::HeldStretch;
+use crate::participant::{Group, Participant};
 use phase_records::Report;
 use std::alloc::Global;
 use std::collections::VecDeque;
 use std::marker::{Brand, Model, PhantomData};
 use step_stretches::{Outcome, Stretches};
 
-/// Which job runs, within which limit, by how many workers, and at which tree they meet. Each run picks it.
+/// What a run is of: the job, the limit, the number of workers, and the tree at which they meet. Each run picks its own.
 pub trait Running {
     ghost use Rattle.std.specs.Prelude.{ℕ};
     ghost use Rattle.task_code.specs.JobValue.{JobValue};
@@ -46,22 +46,22 @@ impl Running for Brand {
     } };
 }
 
-/// The stretches of the job that runs, the cohorts of their tasks, and the first refusal. Its type keeps that the stretches are of
-/// that job and limit, and that a worker that couldn't be started is one of the run's.
+/// The stretches of the job that runs, the groups of their participants, and the first refusal. Its type keeps that the
+/// stretches are of that job and limit, and that a worker that couldn't be started is one of the run's.
 #[derive(Drop)]
-pub(crate) struct Board<'j, J: Running> {
+pub(crate) struct Queue<'j, J: Running> {
     stretches: Stretches<'j>,
-    // The cohorts whose stretches nobody has taken.
-    ready: VecDeque<Cohort<J>>,
-    // The cohorts of this superstep that are back from the tree. Once it is closed they are ready, where all tasks stay.
-    back: VecDeque<Cohort<J>>,
-    // The participants of the next superstep's tasks, as far as they are back from the tree, where tasks came or left.
+    // The groups of stretches that are ready and that no worker has taken.
+    ready: VecDeque<Group<J>>,
+    // The groups of this superstep that are back from the tree. If all tasks stay, they are ready once it is closed.
+    back: VecDeque<Group<J>>,
+    // If tasks came or left: the participants of the next superstep's tasks that are back from the tree.
     coming: Vec<Participant<J>>,
-    // Whether a task came or left in this superstep, as far as was delivered.
+    // Whether a task came or left in the part of this superstep that was delivered.
     moves: bool,
     // Whether the live tasks were cut anew when the last superstep was closed.
     is_cut: bool,
-    // What came first of all that refused the run.
+    // The first refusal of the run.
     first: Option<Refused>,
     of: PhantomData<J>,
 }
@@ -69,51 +69,51 @@ pub(crate) struct Board<'j, J: Running> {
 /// What a worker does next.
 #[derive(Drop)]
 pub(crate) enum Next<'j, J: Running> {
-    /// To run the segments of this stretch, whose tasks have these participants.
-    Run(Lent<'j, J>, Cohort<J>),
-    /// To go home.
-    Home,
+    /// Run the segments of this stretch, whose tasks have these participants.
+    Run(HeldStretch<'j, J>, Group<J>),
+    /// Stop.
+    Stop,
 }
 
-/// What a worker that handed participants back has done to the board.
+/// What handing back a group of participants has changed.
 #[derive(Clone, Copy)]
-pub(crate) enum Turned {
-    /// No stretch is ready that was not.
-    Goes,
-    /// Stretches are ready, or the job has ended as its plan or its tasks say.
-    Opened,
-    /// A fault has ended the job.
+pub(crate) enum HandedBack {
+    /// No stretch became ready.
+    Unchanged,
+    /// Stretches became ready, or the job has ended without a fault.
+    Ready,
+    /// A fault has ended the job; the tree has to be ended too.
     Ended,
 }
 
-impl<'j, J: Running> Model for Board<'j, J> {
+impl<'j, J: Running> Model for Queue<'j, J> {
     ghost use Rattle.std.specs.Prelude.{◌≡◌, IfSome};
-    ghost use Rattle.worker_pool.specs.BoardValue.{BoardValue};
+    ghost use Rattle.worker_pool.specs.QueueValue.{QueueValue};
     ghost use Rattle.worker_pool.specs.Refusals.{IsOfWorkers};
 
-    ghost Value = { BoardValue };
+    ghost Value = { QueueValue };
 
     ghost view = { λ b. record { stretches = b.stretches; first = b.first } };
 
     ghost invariant = { λ b. (b.stretches.job ≡ J.job) × (b.stretches.limit ≡ J.limit) × IfSome b.first (IsOfWorkers J.workers) };
 }
 
-impl<'j, J: Running> Board<'j, J> {
+impl<'j, J: Running> Queue<'j, J> {
     ghost use Rattle.std.specs.Prelude.{◌≡◌, ◌||◌, Some, None, Err, true, false, is_some, IfOk, IfSome, IfErr, OnOk, OnErr};
     ghost use Rattle.step_core.specs.Program.{program_of};
     ghost use Rattle.step_core.specs.JobMeaning.{report_of};
     ghost use Rattle.step_stretches.specs.StretchesValue.{state_of, status_in, is_whole};
     ghost use Rattle.step_stretches.specs.Closing.{Takes, with_slot, IsClosed, IsAt};
-    ghost use Rattle.worker_pool.specs.BoardValue.{with_stretches, refused_by};
+    ghost use Rattle.worker_pool.specs.QueueValue.{with_stretches, refused_by};
     ghost use Rattle.worker_pool.specs.Refusals.{IsOfWorkers, refusal_of};
 
-    /// A board for these stretches, with these cohorts for their tasks.
-    pub(crate) fn new(alloc: Global, stretches: Stretches<'j>, ready: VecDeque<Cohort<J>>) -> Self
+    /// Makes a queue of these stretches, whose participants are in these groups. All of them are ready.
+    pub(crate) fn new(alloc: Global, stretches: Stretches<'j>, ready: VecDeque<Group<J>>) -> Self
         requires job { stretches.job ≡ J.job }
         requires limit { stretches.limit ≡ J.limit }
         ensures { result ≡ record { stretches = stretches.entry; first = None } }
     {
-        Board {
+        Queue {
             stretches,
             ready,
             back: VecDeque::new(alloc),
@@ -125,45 +125,45 @@ impl<'j, J: Running> Board<'j, J> {
         }
     }
 
-    /// Whether workers go home: the job has ended, or the run is refused.
+    /// Returns whether workers stop: the job has ended, or the run is refused.
     pub(crate) fn is_over(&self) -> bool
         ensures { result ≡ (is_some self.now.first || is_some (status_in self.now.stretches)) }
     {
         self.first.is_some() || self.stretches.has_ended()
     }
 
-    /// Whether there is nothing to do here for now.
+    /// Returns whether a worker has to wait: no stretch is ready, and workers don't stop.
     pub(crate) fn is_idle(&self) -> bool {
         self.ready.is_empty() && !self.is_over()
     }
 
-    // Lends the stretch of a cohort that was ready.
-    fn lend(&mut self, cohort: Cohort<J>) -> Result<Next<'j, J>, Reason> {
-        match self.stretches.take(cohort.number) {
-            Ok(Some(stretch)) => Ok(Next::Run(Lent::new(stretch), cohort)),
+    // Hands out the stretch of a group that was ready.
+    fn hand_out(&mut self, group: Group<J>) -> Result<Next<'j, J>, Reason> {
+        match self.stretches.take(group.number) {
+            Ok(Some(stretch)) => Ok(Next::Run(HeldStretch::new(stretch), group)),
             Ok(None) => Err(Reason::Internal),
             Err(_) => Err(Reason::Memory),
         }
     }
 
-    /// What a worker does next: it takes the first ready stretch, or goes home.
+    /// Hands out the first ready stretch, or tells the worker to stop.
     pub(crate) fn next(&mut self) -> Result<Next<'j, J>, Reason> {
         if self.is_over() {
-            return Ok(Next::Home);
+            return Ok(Next::Stop);
         }
         match self.ready.pop_front() {
-            Some(cohort) => self.lend(cohort),
+            Some(group) => self.hand_out(group),
             None => Err(Reason::Internal),
         }
     }
 
-    /// Takes a stretch back, whose tasks have done their segments and all stay, or not.
-    pub(crate) fn deliver(&mut self, lent: Lent<'j, J>, stay: bool) -> Result<(), Reason>
-        ensures taken { OnOk result (Takes self.old.stretches lent.entry) }
-        ensures added { OnOk result (self.new ≡ with_stretches self.old (with_slot self.old.stretches lent.entry.number (Some lent.entry.part))) }
+    /// Takes a stretch back whose segments have run. `stay` says whether each task goes on and none was spawned.
+    pub(crate) fn deliver(&mut self, held: HeldStretch<'j, J>, stay: bool) -> Result<(), Reason>
+        ensures taken { OnOk result (Takes self.old.stretches held.entry) }
+        ensures added { OnOk result (self.new ≡ with_stretches self.old (with_slot self.old.stretches held.entry.number (Some held.entry.part))) }
         ensures unchanged { OnErr result (self.new ≡ self.old) }
     {
-        match self.stretches.accept(lent.into_stretch()) {
+        match self.stretches.accept(held.into_stretch()) {
             Ok(()) => {
                 self.moves = self.moves || !stay;
                 Ok(())
@@ -172,7 +172,7 @@ impl<'j, J: Running> Board<'j, J> {
         }
     }
 
-    /// Notes why the run is refused; what was noted first stays.
+    /// Notes why the run is refused. The first note stays.
     pub(crate) fn refuse(&mut self, refused: Refused)
         requires { IsOfWorkers J.workers refused }
         ensures { self.new ≡ refused_by self.old refused }
@@ -182,42 +182,43 @@ impl<'j, J: Running> Board<'j, J> {
         }
     }
 
-    /// Notes why a worker can't go on; what was noted first stays.
+    /// Notes why a worker can't go on. The first note stays.
     pub(crate) fn note(&mut self, reason: Reason)
         ensures { self.new ≡ refused_by self.old (refusal_of reason) }
     {
         self.refuse(reason.refusal());
     }
 
-    // Makes the stretches of tasks that were cut anew ready, once all participants are back. Whether they are.
-    fn man(&mut self) -> Result<bool, Reason>
+    // After the tasks were cut anew: pairs stretches up with their participants, once all participants are back. Returns
+    // whether they are.
+    fn pair_up(&mut self) -> Result<bool, Reason>
         ensures { self.new ≡ self.old }
     {
         if self.coming.len() < self.stretches.count() {
             return Ok(false);
         }
         in_path_order(&mut self.coming);
-        self.ready = cohorts_of(&self.stretches, &mut self.coming)?;
+        self.ready = groups_of(&self.stretches, &mut self.coming)?;
         Ok(true)
     }
 
-    // Takes back a cohort whose tasks have passed through the tree in a superstep that was closed meanwhile. One whose tasks have
-    // all left may come later still, and nobody waits for it. Whether a stretch is ready that was not.
-    fn take_late(&mut self, cohort: Cohort<J>) -> Result<bool, Reason>
+    // Takes back a group whose superstep was closed meanwhile. A group whose tasks have all left may come even later; nothing
+    // waits for it. Returns whether a stretch became ready.
+    fn take_back_late(&mut self, group: Group<J>) -> Result<bool, Reason>
         ensures { self.new ≡ self.old }
     {
-        if cohort.participants.is_empty() {
+        if group.participants.is_empty() {
             return Ok(false);
         }
         if !self.is_cut {
-            push_cohort(&mut self.ready, cohort)?;
+            push_group(&mut self.ready, group)?;
             return Ok(true);
         }
-        move_participants(cohort, &mut self.coming)?;
-        self.man()
+        move_participants(group, &mut self.coming)?;
+        self.pair_up()
     }
 
-    // Takes the superstep.
+    // Closes the superstep.
     fn close(&mut self, alloc: Global) -> Result<Outcome, Reason>
         ensures whole { OnOk result (is_whole self.old.stretches ≡ true) }
         ensures closed { IfOk result (λ outcome. IsClosed self.old.stretches self.new.stretches outcome) }
@@ -229,7 +230,7 @@ impl<'j, J: Running> Board<'j, J> {
         Ok(outcome)
     }
 
-    // Makes stretches ready whose superstep was closed. Whether some are.
+    // Makes the next superstep's stretches ready, as far as their participants are back. Returns whether some are.
     fn open(&mut self) -> Result<bool, Reason>
         ensures { self.new ≡ self.old }
     {
@@ -237,44 +238,44 @@ impl<'j, J: Running> Board<'j, J> {
             self.ready.append(&mut self.back)?;
             return Ok(true);
         }
-        move_cohorts(&mut self.back, &mut self.coming)?;
-        self.man()
+        move_groups(&mut self.back, &mut self.coming)?;
+        self.pair_up()
     }
 
-    /// Takes back the cohort of a stretch whose tasks have passed through the tree in this superstep, and closes the superstep
-    /// where one of them took the advance.
-    pub(crate) fn turn(
+    /// Takes back the group of a stretch whose tasks have arrived or left in this superstep. If one of them advanced the
+    /// tree (`led`), closes the superstep.
+    pub(crate) fn hand_back(
         &mut self,
         alloc: Global,
         step: u32,
-        cohort: Cohort<J>,
+        group: Group<J>,
         led: bool,
-    ) -> Result<Turned, Reason>
+    ) -> Result<HandedBack, Reason>
         ensures unled { led ≡ false → self.new ≡ self.old }
     {
         if self.stretches.step() != step {
-            return opened(self.take_late(cohort));
+            return after_late(self.take_back_late(group));
         }
-        push_cohort(&mut self.back, cohort)?;
+        push_group(&mut self.back, group)?;
         if !led {
-            return Ok(Turned::Goes);
+            return Ok(HandedBack::Unchanged);
         }
         match self.close(alloc)? {
             Outcome::Landed => {
                 let _ready = self.open()?;
-                Ok(Turned::Opened)
+                Ok(HandedBack::Ready)
             }
-            Outcome::Faulted | Outcome::TooMany | Outcome::Overflowed => Ok(Turned::Ended),
+            Outcome::Faulted | Outcome::TooMany | Outcome::Overflowed => Ok(HandedBack::Ended),
         }
     }
 
-    /// What the job left, once it has ended, unless the run is refused: then what refused it first.
+    /// Returns the report of the job that has ended, or the first refusal of the run.
     pub(crate) fn conclude(self, alloc: Global) -> Result<Report, Refused>
         ensures report { IfOk result (λ report. report_of (program_of J.job) J.limit ≡ Some report) }
         ensures first { IfSome self.entry.first (λ refused. result ≡ Err refused) }
         ensures started { IfErr result (IsOfWorkers J.workers) }
     {
-        let Board {
+        let Queue {
             stretches,
             first,
             ..
@@ -286,20 +287,21 @@ impl<'j, J: Running> Board<'j, J> {
     }
 }
 
-// Whether a cohort that came late has made stretches ready.
-fn opened(ready: Result<bool, Reason>) -> Result<Turned, Reason> {
+// What a group that came late has changed.
+fn after_late(ready: Result<bool, Reason>) -> Result<HandedBack, Reason> {
     match ready {
-        Ok(true) => Ok(Turned::Opened),
-        Ok(false) => Ok(Turned::Goes),
+        Ok(true) => Ok(HandedBack::Ready),
+        Ok(false) => Ok(HandedBack::Unchanged),
         Err(reason) => Err(reason),
     }
 }
 
-// What the job of these stretches left, once it has ended.
+// Returns the report of a job that has ended.
 fn report_by(alloc: Global, stretches: Stretches<'_>) -> Result<Report, Refused>
     ensures report { IfOk result (λ report. report_of (program_of stretches.entry.job) stretches.entry.limit ≡ Some report) }
     ensures started { (workers : ℕ) → IfErr result (IsOfWorkers workers) }
 {
+    // For the prover: the contract of `has_ended` says that the stretches are on the course of their job.
     let _ = stretches.has_ended();
     match stretches.into_report(alloc) {
         Ok(Some(report)) => Ok(report),
@@ -308,7 +310,7 @@ fn report_by(alloc: Global, stretches: Stretches<'_>) -> Result<Report, Refused>
     }
 }
 
-// Takes the superstep of a job that has not ended.
+// Closes a superstep of a job that hasn't ended.
 fn close_superstep(stretches: &mut Stretches<'_>, alloc: Global) -> Result<Outcome, Reason>
     ensures whole { OnOk result (is_whole stretches.old ≡ true) }
     ensures closed { IfOk result (λ outcome. IsClosed stretches.old stretches.new outcome) }

@@ -1,6 +1,6 @@
 use Rattle.std.proofs.Common.{◌≡◌}
 use Rattle.tier_table.specs.Openings.{asked_tier}
-use Rattle.worker_pool.proofs.tree.Meeting.open.Given as goal
+use Rattle.worker_pool.proofs.tree.WorkerTree.open.Given as goal
 
 abbrev pub invariant-loop : goal.invariant-loop
 invariant-loop g l =

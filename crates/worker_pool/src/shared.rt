@@ -1,0 +1,294 @@
+//! What the workers of a run share.
+use crate::fault::{Reason, Refused};
+use crate::hand::{Changes, HeldStretch};
+use crate::participant::{Group, OwnToken, Participant};
+use crate::queue::{HandedBack, Next, Queue, Running};
+use crate::tree::WorkerTree;
+use phase_records::Report;
+use std::alloc::Global;
+use std::collections::VecDeque;
+use std::hint::spin_loop;
+use std::sync::atomic::{AtomicBool, AtomicU64, Ordering};
+use std::sync::{Condvar, Mutex, MutexGuard, Wait};
+use step_stretches::Change;
+use superstep_memory::path::Path;
+
+/// The queue under a lock, and the tree without one. No call of the tree is made while the lock is held. A worker that
+/// waits for a ready stretch first spins, then sleeps until the queue has changed.
+#[derive(Drop)]
+pub(crate) struct Shared<'j, J: Running, F: Fn(u32, u32) -> bool> {
+    pub(crate) queue: Mutex<Queue<'j, J>>,
+    pub(crate) changed: Condvar,
+    // Counts wake-ups: stretches became ready, or workers must stop. It wraps around.
+    pub(crate) wakeups: AtomicU64,
+    // Whether a worker updates the tree, and others back off for it.
+    pub(crate) passing: AtomicBool,
+    // How often a worker looks at either before it goes on.
+    pub(crate) spins: u32,
+    pub(crate) tree: WorkerTree<J, F>,
+}
+
+impl<'j, J: Running, F: Fn(u32, u32) -> bool> Shared<'j, J, F> {
+    ghost use Rattle.std.specs.Prelude.{◌≡◌, ◌<◌, Some, IfOk, IfErr};
+    ghost use Rattle.advance_rule.specs.Stored.{Answers};
+    ghost use Rattle.advance_rule.specs.Plan.{end_ends_at};
+    ghost use Rattle.step_core.specs.Program.{program_of};
+    ghost use Rattle.step_core.specs.JobMeaning.{report_of};
+    ghost use Rattle.worker_pool.specs.Refusals.{IsOfWorkers};
+
+    /// Returns what a worker does next. Waits until a stretch is ready or workers stop.
+    pub(crate) fn next<R: Wait>(&self, rt: &R) -> Result<Next<'j, J>, Reason> {
+        let queue = self.queue.lock(rt);
+        let queue = if queue.is_idle() {
+            self.spin(rt, queue)
+        } else {
+            queue
+        };
+        let mut queue = self.changed.wait_while(rt, queue, |queue| queue.is_idle());
+        queue.next()
+    }
+
+    // Spins without the lock until the queue has changed, or for `spins` looks.
+    fn spin<'a, R: Wait>(
+        &'a self,
+        rt: &R,
+        queue: MutexGuard<'a, Queue<'j, J>>,
+    ) -> MutexGuard<'a, Queue<'j, J>> {
+        let seen = self.wakeups.load(Ordering::SeqCst);
+        drop(queue);
+        for _ in 0..self.spins {
+            if self.wakeups.load(Ordering::SeqCst) != seen {
+                break;
+            }
+            spin_loop();
+        }
+        self.queue.lock(rt)
+    }
+
+    // Backs off while another worker updates the tree, because simultaneous compare-and-swaps on one word make each other
+    // fail. Returns true if others now back off for this worker. Only a hint: using the tree is correct either way.
+    fn back_off(&self) -> bool {
+        for _ in 0..self.spins {
+            if !self.passing.load(Ordering::SeqCst) && !self.passing.swap(true, Ordering::SeqCst) {
+                return true;
+            }
+            spin_loop();
+        }
+        false
+    }
+
+    // Wakes all workers that wait for the queue to change.
+    fn wake_all(&self) {
+        self.wakeups.fetch_add(1, Ordering::SeqCst);
+        self.changed.notify_all();
+    }
+
+    /// Delivers a stretch whose segments have run.
+    pub(crate) fn deliver<R: Wait>(
+        &self,
+        rt: &R,
+        held: HeldStretch<'j, J>,
+        changes: &Changes,
+    ) -> Result<(), Reason> {
+        let stay = matches!(changes, Changes::Same);
+        self.queue.lock(rt).deliver(held, stay)
+    }
+
+    // Arrives for a task that stays alive. Returns true if this arrival advanced the tree.
+    fn arrive<R: Wait>(
+        &self,
+        rt: &R,
+        participant: Participant<J>,
+        passed: &mut VecDeque<Participant<J>>,
+    ) -> Result<bool, Reason>
+        requires rule { Answers (F.pre self.now.tree.phaser.rule.closure) (F.post self.now.tree.phaser.rule.closure) (end_ends_at self.now.tree.phaser.rule.plan) }
+    {
+        let mut participant = participant;
+        let led = self.tree.arrive(rt, &mut participant.crew)?;
+        match passed.push_back(participant) {
+            Ok(()) => Ok(led),
+            Err(_) => Err(Reason::Memory),
+        }
+    }
+
+    // Registers a spawned task, and arrives for it.
+    fn bring_spawned<R: Wait>(
+        &self,
+        rt: &R,
+        participant: &mut Participant<J>,
+        path: Path,
+        passed: &mut VecDeque<Participant<J>>,
+    ) -> Result<(), Reason>
+        requires rule { Answers (F.pre self.now.tree.phaser.rule.closure) (F.post self.now.tree.phaser.rule.closure) (end_ends_at self.now.tree.phaser.rule.plan) }
+        requires unarrived { participant.old.crew.view.arrived < participant.old.crew.view.size }
+        ensures same { participant.new.crew.view.arrived < participant.new.crew.view.size }
+    {
+        let child = self.tree.register_spawned(rt, &mut participant.crew, path)?;
+        self.arrive(rt, child, passed)?;
+        Ok(())
+    }
+
+    // Registers the tasks that a task has spawned, and arrives for each. The spawner itself hasn't arrived.
+    fn bring_in<R: Wait>(
+        &self,
+        rt: &R,
+        participant: &mut Participant<J>,
+        spawned: Vec<Path>,
+        passed: &mut VecDeque<Participant<J>>,
+    ) -> Result<(), Reason>
+        requires rule { Answers (F.pre self.now.tree.phaser.rule.closure) (F.post self.now.tree.phaser.rule.closure) (end_ends_at self.now.tree.phaser.rule.plan) }
+    {
+        if spawned.is_empty() {
+            return Ok(());
+        }
+        self.tree.come_in(&mut participant.crew)?;
+        passed.reserve(spawned.len())?;
+        for path in spawned {
+            self.bring_spawned(rt, participant, path, passed)?;
+        }
+        Ok(())
+    }
+
+    // Leaves for a task that has stopped. Returns true if that advanced the tree.
+    fn leave<R: Wait>(&self, rt: &R, participant: Participant<J>) -> Result<bool, Reason>
+        requires rule { Answers (F.pre self.now.tree.phaser.rule.closure) (F.post self.now.tree.phaser.rule.closure) (end_ends_at self.now.tree.phaser.rule.plan) }
+    {
+        let Participant {
+            path: _,
+            crew,
+            of: _,
+        } = participant;
+        self.tree.leave(rt, crew)
+    }
+
+    // Brings a task's spawned tasks in, then arrives or leaves for it. Returns true if that advanced the tree.
+    fn pass<R: Wait>(
+        &self,
+        rt: &R,
+        participant: Participant<J>,
+        change: Change,
+        passed: &mut VecDeque<Participant<J>>,
+    ) -> Result<bool, Reason>
+        requires rule { Answers (F.pre self.now.tree.phaser.rule.closure) (F.post self.now.tree.phaser.rule.closure) (end_ends_at self.now.tree.phaser.rule.plan) }
+    {
+        let Change { synced, spawned } = change;
+        let mut participant = participant;
+        self.bring_in(rt, &mut participant, spawned, passed)?;
+        if !synced {
+            return self.leave(rt, participant);
+        }
+        passed.reserve(1)?;
+        self.arrive(rt, participant, passed)
+    }
+
+    // Arrives for each task of a group, all of which stay alive. Returns true if one of them advanced the tree.
+    fn arrive_each<R: Wait>(
+        &self,
+        rt: &R,
+        participants: &mut VecDeque<Participant<J>>,
+    ) -> Result<bool, Reason>
+        requires rule { Answers (F.pre self.now.tree.phaser.rule.closure) (F.post self.now.tree.phaser.rule.closure) (end_ends_at self.now.tree.phaser.rule.plan) }
+    {
+        let mut led = false;
+        for participant in participants.iter_mut() {
+            led = self.tree.arrive(rt, &mut participant.crew)? || led;
+        }
+        Ok(led)
+    }
+
+    // Arrives or leaves for each task of a group, by what it did; after a fault tasks leave. Returns true if one of them
+    // advanced the tree.
+    fn pass_each<R: Wait>(
+        &self,
+        rt: &R,
+        participants: &mut VecDeque<Participant<J>>,
+        changes: Vec<Change>,
+    ) -> Result<bool, Reason>
+        requires rule { Answers (F.pre self.now.tree.phaser.rule.closure) (F.post self.now.tree.phaser.rule.closure) (end_ends_at self.now.tree.phaser.rule.plan) }
+    {
+        let mut led = false;
+        let mut changes = VecDeque::from_vec(changes);
+        for _ in 0..participants.len() {
+            let Some(participant) = participants.pop_front() else {
+                return Err(Reason::Internal);
+            };
+            let one_led = match changes.pop_front() {
+                Some(change) => self.pass(rt, participant, change, participants)?,
+                None => self.leave(rt, participant)?,
+            };
+            led = one_led || led;
+        }
+        Ok(led)
+    }
+
+    // Arrives or leaves for the tasks of a group. Returns true if one of them advanced the tree.
+    fn pass_group<R: Wait>(
+        &self,
+        rt: &R,
+        participants: &mut VecDeque<Participant<J>>,
+        changes: Changes,
+    ) -> Result<bool, Reason>
+        requires rule { Answers (F.pre self.now.tree.phaser.rule.closure) (F.post self.now.tree.phaser.rule.closure) (end_ends_at self.now.tree.phaser.rule.plan) }
+    {
+        match changes {
+            Changes::Same => self.arrive_each(rt, participants),
+            Changes::Each(changes) => self.pass_each(rt, participants, changes),
+        }
+    }
+
+    /// Synchronizes the tasks of a stretch that was delivered: the tasks that they spawned join and arrive, then they arrive
+    /// or leave. Hands back the participants of those that stay alive. If one of them advanced the tree, the superstep is
+    /// closed.
+    pub(crate) fn pass_all<R: Wait>(
+        &self,
+        rt: &R,
+        alloc: Global,
+        own: &mut OwnToken<J>,
+        step: u32,
+        group: Group<J>,
+        changes: Changes,
+    ) -> Result<(), Reason>
+        requires rule { Answers (F.pre self.now.tree.phaser.rule.closure) (F.post self.now.tree.phaser.rule.closure) (end_ends_at self.now.tree.phaser.rule.plan) }
+    {
+        let mut group = group;
+        let alone = self.back_off();
+        let passed = self.pass_group(rt, &mut group.participants, changes);
+        if alone {
+            self.passing.store(false, Ordering::SeqCst);
+        }
+        let led = passed?;
+        let handed_back = self.queue.lock(rt).hand_back(alloc, step, group, led)?;
+        match handed_back {
+            HandedBack::Unchanged => {}
+            HandedBack::Ready => self.wake_all(),
+            HandedBack::Ended => {
+                self.wake_all();
+                self.tree.force(rt, own);
+            }
+        }
+        Ok(())
+    }
+
+    /// Notes why a worker can't go on, and stops all workers.
+    pub(crate) fn give_up<R: Wait>(&self, rt: &R, own: &mut OwnToken<J>, reason: Reason) {
+        self.queue.lock(rt).note(reason);
+        self.wake_all();
+        self.tree.force(rt, own);
+    }
+
+    /// Returns the report, or why there is none, once all workers have stopped.
+    pub(crate) fn conclude(self, alloc: Global) -> Result<Report, Refused>
+        ensures report { IfOk result (λ report. report_of (program_of J.job) J.limit ≡ Some report) }
+        ensures started { IfErr result (IsOfWorkers J.workers) }
+    {
+        let Shared {
+            queue,
+            changed: _,
+            wakeups: _,
+            passing: _,
+            spins: _,
+            tree: _,
+        } = self;
+        queue.into_inner().conclude(alloc)
+    }
+}
