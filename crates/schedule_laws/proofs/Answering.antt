@@ -5,7 +5,7 @@ use Rattle.tier_steps.specs.declared.view.Passage.{Passage}
 use Rattle.tier_core.specs.declared.call.Played.{Played}
 use Rattle.tier_core.specs.declared.call.Played.TheVariants.{GoesOn, Done, Passed, Waiting, Held, Full, AlreadyArrived, Ended, MustAdvance}
 use Rattle.tier_core.proofs.Turns.{not_both}
-use Rattle.schedule_laws.specs.Roles.{Role, Out, Joins, Seeks, Settles, GivesBack, Polls, Ready, Here, Looks, Passes, Owes, Leads, Past, is_refused as turns_away}
+use Rattle.schedule_laws.specs.Roles.{Role, Out, Joins, Seeks, Settles, GivesBack, Polls, Ready, Here, Looks, Passes, Owes, Leads, Past}
 use Rattle.schedule_laws.specs.Cast.{Follows, is_on_its_way}
 use Rattle.job_schedule.specs.ParticipantValue.{ParticipantValue, is_done, is_refused, next_stage, sent_home, answered}
 use Rattle.schedule_laws.specs.Working.{ComesTo}
@@ -14,7 +14,7 @@ use Rattle.schedule_laws.specs.Working.{ComesTo}
 pub done_answer : (g : ParticipantValue) (a : Played) → is_done a ≡ true → answered g a ≡ record g { stage = next_stage g.stage (length g.children) }
 done_answer g a e = ap (λ (b : Bool). if b then record g { stage = next_stage g.stage (length g.children) } else (if is_refused a then sent_home g g.stage else g)) e
 
-refusals : (a : Played) → turns_away a ≡ true → (is_done a ≡ false) × (is_refused a ≡ true)
+refusals : (a : Played) → is_refused a ≡ true → (is_done a ≡ false) × (is_refused a ≡ true)
 refusals GoesOn e = not_both false e refl
 refusals (Done phase) e = not_both false e refl
 refusals (Passed phase) e = not_both false e refl
@@ -26,7 +26,7 @@ refusals (Ended number) e = not_both false e refl
 refusals (MustAdvance phase parties) e = not_both false e refl
 
 -- what is done isn't refused
-pub done_stays : (a : Played) → is_done a ≡ true → turns_away a ≡ false
+pub done_stays : (a : Played) → is_done a ≡ true → is_refused a ≡ false
 done_stays GoesOn e = refl
 done_stays (Done phase) e = refl
 done_stays (Passed phase) e = refl
@@ -37,7 +37,7 @@ done_stays (AlreadyArrived phase) e = refl
 done_stays (Ended number) e = refl
 done_stays (MustAdvance phase parties) e = refl
 
-pub refused_answer : (g : ParticipantValue) (a : Played) → turns_away a ≡ true → answered g a ≡ sent_home g g.stage
+pub refused_answer : (g : ParticipantValue) (a : Played) → is_refused a ≡ true → answered g a ≡ sent_home g g.stage
 refused_answer g a e =
     let r = refusals a e in
     ap (λ (b : Bool). if b then record g { stage = next_stage g.stage (length g.children) } else (if is_refused a then sent_home g g.stage else g)) r.0
@@ -58,7 +58,7 @@ claiming_goes home r is = ⊎_elim (λ q. ap is_on_its_way q.1) (λ q. ⊎_elim 
 -- a join is done, or is refused elsewhere than at the tier of the spawner, or goes on
 abbrev pub JoinEnds : ℕ → ℕ → Played → Role → Type 0
 JoinEnds own home a next =
-    ((is_done a ≡ true) × (next ≡ Ready home)) ⊎ ((turns_away a ≡ true) × (home ≢ own) × (next ≡ Out)) ⊎ ((a ≡ GoesOn) × ComesTo own home next)
+    ((is_done a ≡ true) × (next ≡ Ready home)) ⊎ ((is_refused a ≡ true) × (home ≢ own) × (next ≡ Out)) ⊎ ((a ≡ GoesOn) × ComesTo own home next)
 
 pub look_next : (now own home : ℕ) (a : Played) (next : Role) → Follows now (Joins home) a next → JoinEnds own home a next
 look_next now own home a next f = inr (inr (f.0, inr (inr (inl f.1))))

@@ -18,13 +18,13 @@ use Rattle.tier_core.specs.Run.{after, answer_to, may_finish}
 use Rattle.tier_core.proofs.Turns.{not_both}
 use Rattle.tier_laws.specs.Frame.{flat_of}
 use Rattle.tier_laws.specs.Calls.{call_by}
-use Rattle.schedule_laws.specs.Roles.{Role, Out, Joins, Seeks, Late, Polls, Ready, Here, Looks, Leads, Plays, is_refused as turns_away}
+use Rattle.schedule_laws.specs.Roles.{Role, Out, Joins, Seeks, Late, Polls, Ready, Here, Looks, Leads, Plays}
 use Rattle.schedule_laws.specs.Cast.{role_at, IsCast, is_awaited, is_leading}
 use Rattle.schedule_laws.proofs.Playing.{nobody_leads, home_within, leads_is_due}
 use Rattle.job_schedule.specs.declared.stage.Stage.{Stage}
 use Rattle.job_schedule.specs.declared.stage.Stage.TheVariants.{Waits, Taken, Polling, Joining, Arriving, Leaving, Over}
 use Rattle.job_schedule.specs.declared.stage.Move.TheVariants.{Calls}
-use Rattle.job_schedule.specs.ParticipantValue.{ChildValue, ParticipantValue, participant_at, child_at, answered}
+use Rattle.job_schedule.specs.ParticipantValue.{ChildValue, ParticipantValue, participant_at, child_at, answered, is_refused}
 use Rattle.job_schedule.specs.World.{World, called_by, hand_after, done_by}
 use Rattle.schedule_laws.specs.Working.{passage_if, ComesTo, ArrivesAt, SitsAt, Sits, of_participant, IsWorking}
 use Rattle.schedule_laws.proofs.Sharing.{one, own_in, child_in, known_in, child_not_own, children_differ}
@@ -225,11 +225,11 @@ module _ (parents : List ℕ) (w : World) (roles : List Role) (worker place : �
       → (child_at (participant_at w.participants place).children n).home ≡ (participant_at w.participants place).home
       → answer_to (after w.tree (Begin (child_at (participant_at w.participants place).children n).token (call.Join (child_at (participant_at w.participants place).children n).home 1)))
       (Go (child_at (participant_at w.participants place).children n).token) ≡ answer.Played played
-      → turns_away played ≡ false
+      → is_refused played ≡ false
   home_admits n played at room e told =
       let step = child_step n at room in
       let same : step.a ≡ played = played_same (sym step.called.told ∙ told) in
-      ap turns_away (sym same) ∙ ⊎_elim (λ q. done_stays step.a q.0) (λ q. ⊎_elim (λ q. absurd (q.1 e)) (λ q. ap turns_away q.0) q) step.ends
+      ap is_refused (sym same) ∙ ⊎_elim (λ q. done_stays step.a q.0) (λ q. ⊎_elim (λ q. absurd (q.1 e)) (λ q. ap is_refused q.0) q) step.ends
     where
       played_same : {a b : Played} → ◌≡◌ {A = TreeAnswer} (answer.Played a) (answer.Played b) → a ≡ b
       played_same e = cc

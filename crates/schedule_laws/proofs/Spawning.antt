@@ -12,7 +12,7 @@ use Rattle.tier_core.specs.declared.call.Step.TheVariants.{Begin, Go}
 use Rattle.tier_core.specs.Machine.{State as Tree}
 use Rattle.tier_core.specs.Run.{after, answer_to}
 use Rattle.step_core.specs.JobMeaning.{status}
-use Rattle.schedule_laws.specs.Roles.{Role, is_refused as turns_away}
+use Rattle.schedule_laws.specs.Roles.{Role}
 use Rattle.job_schedule.specs.declared.stage.Stage.{Stage}
 use Rattle.job_schedule.specs.declared.stage.Stage.TheVariants.{Waits, Taken, Polling, Joining, Arriving, Leaving, Over}
 use Rattle.job_schedule.specs.declared.stage.Mode.{Mode}
@@ -30,17 +30,6 @@ use Rattle.schedule_laws.proofs.Sharing.{no_participant_beyond}
 use Rattle.schedule_laws.proofs.Moving.{home_admits, sits_at}
 use Rattle.schedule_laws.proofs.Room.{AreFew, has_room}
 use Rattle.schedule_laws.proofs.Claiming.{kept, light}
-
-same_refusal : (a : Played) → is_refused a ≡ turns_away a
-same_refusal GoesOn = refl
-same_refusal (Done phase) = refl
-same_refusal (Passed phase) = refl
-same_refusal Waiting = refl
-same_refusal (Held phase why) = refl
-same_refusal (Full parties) = refl
-same_refusal (AlreadyArrived phase) = refl
-same_refusal (Ended number) = refl
-same_refusal (MustAdvance phase parties) = refl
 
 -- what a step of a call was answered
 stepped_is : (w : World) (worker place : ℕ) (tree : Tree) (a : TreeAnswer) (played : Played) → (called_by w worker place tree a).0 ≡ Stepped played
@@ -77,8 +66,7 @@ module _ (parents : List ℕ) (w : World) (worker : ℕ) (tiers : length parents
       ∙ ap (λ (d : Call). (done_by w worker (Calls place token d)).0) same.2
       ∙ told in
       let room = has_room parents w roles at tiers (few below) is h (sits_at parents w roles worker at is h (Joining n) stage).own in
-      same_refusal played
-      ∙ home_admits parents w roles worker at is h n played stage room home
+      home_admits parents w roles worker at is h n played stage room home
       (stepped_is w worker at (after (after w.tree (Begin i c)) (Go i)) (answer_to (after w.tree (Begin i c)) (Go i)) played here)
 
   stage_admits : (roles : List Role) (at : ℕ) (due : Bool) (stage : Stage) → IsWorking parents w roles → is_some (status w.limit w.job) ≡ false

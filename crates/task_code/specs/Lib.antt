@@ -6,6 +6,7 @@ pub mod BodyView
 pub mod Names
 pub mod Operands
 pub mod Limits
+pub mod Most
 pub mod Mentions
 pub mod Operations
 pub mod Rules

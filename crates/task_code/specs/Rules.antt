@@ -5,6 +5,7 @@ use Rattle.text_lines.specs.Number.{fits_i64}
 use Rattle.task_code.specs.BodyValue.{BodyValue}
 use Rattle.task_code.specs.JobValue.{JobValue}
 use Rattle.task_code.specs.Reading.{IsMatched}
+use Rattle.task_code.specs.Most.{most_locals, most_statements, most_open, most_arrays, most_bodies, most_tasks, most_cells}
 use Rattle.task_code.specs.Names.{is_free, are_names}
 use Rattle.task_code.specs.Mentions.{mentions, mentioned, are_below}
 use Rattle.task_code.specs.Limits.{statements, deepest, is_line, is_of_first, fits_line}
@@ -17,17 +18,17 @@ IsByMention b = mentioned 0 (mentions b.code) ≡ Some (length b.locals)
 -- of their own. Its lines mention no other locals, and their numbers are of 64 signed bits.
 pub record IsBody (b : BodyValue) : Type 0 where
   pub name : IsTrue (is_free b.name)
-  pub few : length b.locals ≤ 32
+  pub few : length b.locals ≤ most_locals
   pub locals : IsTrue (are_names b.locals)
-  pub statements : statements b.code ≤ 1024
-  pub depth : deepest 0 b.code ≤ 16
+  pub statements : statements b.code ≤ most_statements
+  pub depth : deepest 0 b.code ≤ most_open
   pub mentions : IsTrue (are_below (length b.locals) (mentions b.code))
   pub matched : IsMatched b.code
   pub numbers : IsTrue (list_all fits_line b.code)
 
 -- an array has a name and 1 to 4096 cells
 abbrev pub is_array : List ℕ × List ℤ → Bool
-is_array a = is_free a.0 && nat_le 1 (length a.1) && nat_le (length a.1) 4096
+is_array a = is_free a.0 && nat_le 1 (length a.1) && nat_le (length a.1) most_cells
 
 -- What a body of format 1 keeps besides: its locals stand by first mention, and no line is an add.
 pub record IsOfFirst (b : BodyValue) : Type 0 where
@@ -43,9 +44,9 @@ is_format n = (n == 1) || (n == 2)
 pub record IsJob (j : JobValue) : Type 0 where
   pub format : IsTrue (is_format j.format)
   pub first : j.format ≡ 1 → AllByRecursion IsOfFirst j.bodies
-  pub few_arrays : length j.arrays ≤ 16
-  pub few_bodies : length j.bodies ≤ 64
-  pub few_starts : length j.starts ≤ 4096
+  pub few_arrays : length j.arrays ≤ most_arrays
+  pub few_bodies : length j.bodies ≤ most_bodies
+  pub few_starts : length j.starts ≤ most_tasks
   pub arrays : IsTrue (list_all is_array j.arrays)
   pub named : IsTrue (are_names (map (λ a. a.0) j.arrays))
   pub bodies : IsTrue (are_names (map (λ b. b.name) j.bodies))

@@ -15,6 +15,18 @@ use crate::same::{same_bodies, same_starts};
 use std::marker::Model;
 use superstep_memory::arrays::Arrays;
 
+/// The most arrays of a job (own).
+pub const MOST_ARRAYS: usize = 16;
+
+/// The most cells of an array (own).
+pub const MOST_CELLS: usize = 4096;
+
+/// The most bodies of a job (own).
+pub const MOST_BODIES: usize = 64;
+
+/// The most start lines of a job, and the most tasks alive at once (own).
+pub const MOST_TASKS: usize = 4096;
+
 /// A task that a job begins with: its body by its place in the job, and its argument.
 #[derive(Clone, Copy, PartialEq, Eq)]
 pub struct Start {
@@ -71,7 +83,7 @@ fn are_cells(arrays: &Arrays) -> bool
 fn is_array(name: &[u8], cells: &[i64]) -> bool
     ensures { result ≡ is_array (name.now, cells.now) }
 {
-    is_free(name) && !cells.is_empty() && cells.len() <= 4096
+    is_free(name) && !cells.is_empty() && cells.len() <= MOST_CELLS
 }
 
 // Whether a job may have each of these arrays, which have names of their own.
@@ -190,7 +202,7 @@ fn is_job(format: u32, arrays: &Arrays, bodies: &Vec<Body>, starts: &Vec<Start>)
     if !has_format(format, bodies) {
         return false;
     }
-    if arrays.len() > 16 || count > 64 || starts.len() > 4096 {
+    if arrays.len() > MOST_ARRAYS || count > MOST_BODIES || starts.len() > MOST_TASKS {
         return false;
     }
     if !are_arrays(arrays) || !are_named_apart(bodies) {
@@ -206,7 +218,8 @@ impl Job {
     /// A job of this format, 1 or 2, with these arrays, bodies and start lines. `None` where there is no such format, where
     /// in format 1 a line is an add or the locals of a body don't stand by first mention, where a name isn't one or a body
     /// has the name of another, where an array has no cell or over 4096, where a line names an array or a body that isn't
-    /// there, where a start line names no body, and above 16 arrays, 64 bodies and 4096 start lines (all own).
+    /// there, where a start line names no body, and above [`MOST_ARRAYS`] arrays, [`MOST_BODIES`] bodies and [`MOST_TASKS`]
+    /// start lines (all own).
     pub fn new(format: u32, arrays: Arrays, bodies: Vec<Body>, starts: Vec<Start>) -> Option<Job>
         ensures refused { IsSome result ↔ IsJob (job_value format arrays bodies starts) }
         ensures made { IfSome result (λ job. job ≡ job_value format arrays bodies starts) }
