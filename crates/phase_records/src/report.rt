@@ -103,12 +103,11 @@ fn push_record(out: &mut Vec<u8>, told: PhaseRecord) -> Result<(), AllocError>
 // Puts the lines of supersteps behind what is there.
 fn push_steps(
     out: &mut Vec<u8>,
-    prints: &[Print],
+    mut prints: &[Print],
     records: &[PhaseRecord],
 ) -> Result<(), AllocError>
     ensures { OnOk result (out.new.items ≡ out.old.items ++ steps_text prints.now records.now) }
 {
-    let mut prints = prints;
     let mut rest = records;
     while let Some((told, after)) = rest.split_first() {
         prints = push_prints(out, prints, told.phase)?;

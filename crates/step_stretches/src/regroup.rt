@@ -13,7 +13,7 @@ use task_lang::task::Task;
 // Moves what was printed behind the prints, for which there is room, and regroups the tasks.
 fn regroup_handed(
     handed: Handed,
-    room: Vec<Task>,
+    mut room: Vec<Task>,
     prints: &mut Vec<Print>,
     count: usize,
 ) -> Vec<Task>
@@ -29,7 +29,6 @@ fn regroup_handed(
         mut deeds,
         prints: mut printed,
     } = handed;
-    let mut room = room;
     match prints.append(&mut printed) {
         Ok(()) => {}
         Err(_) => unreachable!(),

@@ -32,10 +32,9 @@ fn push_participant<J: Running>(
 
 /// Moves the participants of a group to the end of `participants`.
 pub(crate) fn move_participants<J: Running>(
-    group: Group<J>,
+    mut group: Group<J>,
     participants: &mut Vec<Participant<J>>,
 ) -> Result<(), AllocError> {
-    let mut group = group;
     participants.reserve(group.participants.len())?;
     for _ in 0..group.participants.len() {
         if let Some(participant) = group.participants.pop_front() {

@@ -289,11 +289,11 @@ impl<'j, J: Running> Queue<'j, J> {
 
 // What a group that came late has changed.
 fn after_late(ready: Result<bool, Reason>) -> Result<HandedBack, Reason> {
-    match ready {
-        Ok(true) => Ok(HandedBack::Ready),
-        Ok(false) => Ok(HandedBack::Unchanged),
-        Err(reason) => Err(reason),
-    }
+    Ok(if ready? {
+        HandedBack::Ready
+    } else {
+        HandedBack::Unchanged
+    })
 }
 
 // Returns the report of a job that has ended.

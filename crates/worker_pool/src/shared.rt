@@ -98,12 +98,11 @@ impl<'j, J: Running, F: Fn(u32, u32) -> bool> Shared<'j, J, F> {
     fn arrive<R: Wait>(
         &self,
         rt: &R,
-        participant: Participant<J>,
+        mut participant: Participant<J>,
         passed: &mut VecDeque<Participant<J>>,
     ) -> Result<bool, Reason>
         requires rule { Answers (F.pre self.now.tree.phaser.rule.closure) (F.post self.now.tree.phaser.rule.closure) (end_ends_at self.now.tree.phaser.rule.plan) }
     {
-        let mut participant = participant;
         let led = self.tree.arrive(rt, &mut participant.crew)?;
         match passed.push_back(participant) {
             Ok(()) => Ok(led),
@@ -165,14 +164,13 @@ impl<'j, J: Running, F: Fn(u32, u32) -> bool> Shared<'j, J, F> {
     fn pass<R: Wait>(
         &self,
         rt: &R,
-        participant: Participant<J>,
+        mut participant: Participant<J>,
         change: Change,
         passed: &mut VecDeque<Participant<J>>,
     ) -> Result<bool, Reason>
         requires rule { Answers (F.pre self.now.tree.phaser.rule.closure) (F.post self.now.tree.phaser.rule.closure) (end_ends_at self.now.tree.phaser.rule.plan) }
     {
         let Change { synced, spawned } = change;
-        let mut participant = participant;
         self.bring_in(rt, &mut participant, spawned, passed)?;
         if !synced {
             return self.leave(rt, participant);
@@ -245,12 +243,11 @@ impl<'j, J: Running, F: Fn(u32, u32) -> bool> Shared<'j, J, F> {
         alloc: Global,
         own: &mut OwnToken<J>,
         step: u32,
-        group: Group<J>,
+        mut group: Group<J>,
         changes: Changes,
     ) -> Result<(), Reason>
         requires rule { Answers (F.pre self.now.tree.phaser.rule.closure) (F.post self.now.tree.phaser.rule.closure) (end_ends_at self.now.tree.phaser.rule.plan) }
     {
-        let mut group = group;
         let alone = self.back_off();
         let passed = self.pass_group(rt, &mut group.participants, changes);
         if alone {

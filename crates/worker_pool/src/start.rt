@@ -48,12 +48,11 @@ fn wait_and_work<'j, J: Running, R: Wait, F: Fn(u32, u32) -> bool, A: Fn(u64) ->
     gate: &G,
     barrier: &CyclicGate<A>,
     k: u32,
-    own: OwnToken<J>,
+    mut own: OwnToken<J>,
 )
     requires rule { Answers (F.pre shared.now.tree.phaser.rule.closure) (F.post shared.now.tree.phaser.rule.closure) (end_ends_at shared.now.tree.phaser.rule.plan) }
     requires action { AnswersAction (A.pre barrier.now.action.closure) (A.post barrier.now.action.closure) barrier.now.action.plan }
 {
-    let mut own = own;
     match barrier.await_turn(rt, k) {
         Ok(_) => work(rt, alloc, shared, gate, &mut own),
         Err(GateFault::Memory) => call_off(rt, shared, barrier, Refused::Memory),

@@ -60,11 +60,10 @@ impl<J: Running, F: Fn(u32, u32) -> bool> WorkerTree<J, F> {
     }
 
     // Resumes the opening of a path until it is done.
-    fn open<R: Wait>(&self, rt: &R, opening: Opening) -> Entry
+    fn open<R: Wait>(&self, rt: &R, mut opening: Opening) -> Entry
         requires { opening.token.tree ≡ J.tree }
         ensures { IsOf J.tree (asked_tier opening.token.view.errand) result }
     {
-        let mut opening = opening;
         for _ in rt.forever() {
             match self.phaser.resume_opening(opening, TRIES) {
                 Opened::Joined(crew, _phase) => return Entry::In(crew),
@@ -94,13 +93,12 @@ impl<J: Running, F: Fn(u32, u32) -> bool> WorkerTree<J, F> {
     }
 
     // Registers a member at the tier of a crew that has an unarrived member.
-    fn join_here<R: Wait>(&self, rt: &R, crew: &mut Crew, door: Door) -> Result<Crew, Reason>
+    fn join_here<R: Wait>(&self, rt: &R, crew: &mut Crew, mut door: Door) -> Result<Crew, Reason>
         requires own { (crew.old.tree ≡ J.tree) × (door.tree ≡ J.tree) }
         requires unarrived { crew.old.view.arrived < crew.old.view.size }
         ensures same { (crew.new.tree ≡ J.tree) × (crew.new.view.arrived < crew.new.view.size) × (crew.new.view.tier ≡ crew.old.view.tier) }
         ensures joined { IfOk result (λ child. (child.tree ≡ J.tree) × (child.view.tier ≡ crew.old.view.tier)) }
     {
-        let mut door = door;
         for _ in rt.forever() {
             match self.phaser.join_here(crew, door, 1, TRIES) {
                 Registered::Joined(child, _phase) => return Ok(child),

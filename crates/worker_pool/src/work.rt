@@ -56,12 +56,11 @@ fn do_stretch<'j, J: Running, R: Wait, F: Fn(u32, u32) -> bool, G: Gate>(
     shared: &Shared<'j, J, F>,
     gate: &G,
     own: &mut OwnToken<J>,
-    held: HeldStretch<'j, J>,
+    mut held: HeldStretch<'j, J>,
     group: Group<J>,
 ) -> Result<(), Reason>
     requires rule { Answers (F.pre shared.now.tree.phaser.rule.closure) (F.post shared.now.tree.phaser.rule.closure) (end_ends_at shared.now.tree.phaser.rule.plan) }
 {
-    let mut held = held;
     let step = held.step();
     let changes = held.run(rt, alloc, gate)?;
     shared.deliver(rt, held, &changes)?;
