@@ -19,6 +19,7 @@ use std::thread;
 use std::thread::{JoinHandle, Threads};
 
 /// How a run is set up: the number of workers, the gate round each segment, and who may be started.
+#[derive(Drop)]
 pub(crate) struct Setup<'a, G: Gate, S: Starter> {
     pub(crate) workers: u32,
     pub(crate) gate: &'a G,
