@@ -5,6 +5,7 @@
 mod barrier;
 mod call;
 mod gate;
+mod gate_state;
 mod laws;
 mod ledger;
 mod state;
@@ -12,6 +13,7 @@ mod state;
 pub use barrier::BarrierCore;
 pub use call::{Awaited, BarrierFault, Call, MOST_PARTIES};
 pub use gate::{CyclicGate, GateFault};
+pub use gate_state::GateState;
 pub use laws::{
     ends_name_the_told, generations_follow, late_wakers_are_told, trips_give_each_once,
 };
