@@ -1,19 +1,5 @@
-use Rattle.std.proofs.Common.{◌∙◌, rules, ap, sym, subst}
-use Rattle.advance_rule.specs.Stored.{Answers}
-use Rattle.advance_rule.specs.Plan.{end_ends_at}
-use Rattle.tier_table.specs.Ruled.{Ruled}
-use Rattle.tier_table.proofs.tree.Tree.pass_once.Goals as goal
-
-pub pass-requires-clause-own : goal.pass-requires-clause-own
-pass-requires-clause-own g c = c.requires.own ∙ ap (λ (t : Ruled g.row.F.Denot). t.tree) (sym c.self.view_is)
-
-pub pass-requires-clause-rule : goal.pass-requires-clause-rule
-pass-requires-clause-rule g c =
-    let Rule = λ (t : Ruled g.row.F.Denot). Answers (λ x y. g.F.Fn.pre t.rule.closure (x, (y, tt))) (λ x y r. g.F.Fn.post t.rule.closure (x, (y, tt)) r) (end_ends_at t.rule.plan) in
-    subst Rule (sym c.self.view_is) c.requires.rule
-
-pub pass-requires-clause-plan : goal.pass-requires-clause-plan
-pass-requires-clause-plan g c = sym c.self.invariant
+use Rattle.std.proofs.Common.{◌∙◌, rules}
+use Rattle.tier_table.proofs.waiting.pass_once.Goals as goal
 
 pub settle_wait-requires-clause-own : goal.settle_wait-requires-clause-own
 settle_wait-requires-clause-own g c = c.in-Owing.ensures.answer.0.tree ∙ c.requires.own

@@ -1,6 +1,6 @@
 use Rattle.std.proofs.Common.{◌∙◌}
 use Rattle.tier_table.proofs.Lasting.{passed_same, left_departs, counted_at_last}
-use Rattle.tier_table.proofs.tree.Tree.settle_wait.Goals as goal
+use Rattle.tier_table.proofs.waiting.settle_wait.Goals as goal
 
 pub returns-in-Left-clause-answer : goal.returns-in-Left-clause-answer
 returns-in-Left-clause-answer g c = λ h some tree counted.

@@ -1,6 +1,6 @@
 use Rattle.std.proofs.Common.{◌≡◌}
 use Rattle.tier_calls.specs.Passes.{IsSame}
-use Rattle.tier_table.proofs.tree.Tree.resume_wait.Given as goal
+use Rattle.tier_table.proofs.waiting.resume_wait.Given as goal
 
 abbrev pub invariant-loop : goal.invariant-loop
 invariant-loop g l =

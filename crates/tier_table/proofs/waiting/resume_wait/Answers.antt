@@ -1,13 +1,13 @@
 use Rattle.std.proofs.Common.{◌∙◌}
 use Rattle.std.proofs.lemmas.Bool.{false≢true}
 use Rattle.tier_table.proofs.Lasting.{same_then}
-use Rattle.tier_table.proofs.tree.Tree.resume_wait.Goals as goal
+use Rattle.tier_table.proofs.waiting.resume_wait.Goals as goal
 
-pub resume-requires-clause-own : goal.resume-requires-clause-own
-resume-requires-clause-own g c = c.loop.invariant.2 ∙ c.requires.own
+pub pass_on-requires-clause-own : goal.pass_on-requires-clause-own
+pass_on-requires-clause-own g c = c.loop.invariant.2 ∙ c.requires.own
 
-pub resume-requires-clause-rule : goal.resume-requires-clause-rule
-resume-requires-clause-rule g c = c.requires.rule
+pub pass_on-requires-clause-rule : goal.pass_on-requires-clause-rule
+pass_on-requires-clause-rule g c = c.requires.rule
 
 pub returns-in-Done : goal.returns-in-Done
 returns-in-Done g c =

@@ -1,7 +1,7 @@
 use Rattle.std.proofs.Common.{refl, ◌∙◌}
 use Rattle.std.proofs.lemmas.Bool.{false≢true}
 use Rattle.tier_table.proofs.Lasting.{arrives_then, looked_first, looked_then}
-use Rattle.tier_table.proofs.tree.Tree.pass_wait.Goals as goal
+use Rattle.tier_table.proofs.waiting.pass_wait.Goals as goal
 
 pub loop-init : goal.loop-init
 loop-init g c = (tt, tt, refl, looked_first c.args.crew.view, λ p e. e, refl)

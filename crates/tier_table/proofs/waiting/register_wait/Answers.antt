@@ -1,21 +1,19 @@
-use Rattle.std.proofs.Common.{◌∙◌, ◌<◌, ap, sym, subst, length}
+use Rattle.std.proofs.Common.{◌∙◌}
 use Rattle.std.proofs.lemmas.Bool.{false≢true}
-use Rattle.tier_table.specs.Ruled.{Ruled}
-use Rattle.tier_table.specs.AtLast.{RegistersAtLast}
-use Rattle.tier_table.proofs.tree.Tree.register_wait.Goals as goal
+use Rattle.tier_table.proofs.waiting.register_wait.Goals as goal
 
 pub join_once-requires-clause-own : goal.join_once-requires-clause-own
-join_once-requires-clause-own g c = c.loop.invariant.2 ∙ ap (λ (t : Ruled g.row.F.Denot). t.tree) (sym c.self.view_is)
+join_once-requires-clause-own g c = c.loop.invariant.2
 
 pub join_once-requires-clause-tier : goal.join_once-requires-clause-tier
-join_once-requires-clause-tier g c = subst (λ (t : Ruled g.row.F.Denot). c.args.tier < length t.tree.key.shape) (sym c.self.view_is) c.requires.tier
+join_once-requires-clause-tier g c = c.requires.tier
 
 pub join_once-requires-clause-members : goal.join_once-requires-clause-members
 join_once-requires-clause-members g c = c.requires.members
 
 pub returns-in-Ok : goal.returns-in-Ok
 returns-in-Ok g c = record {
-  answer = subst (λ (t : Ruled g.row.F.Denot). RegistersAtLast t.tree c.args.tier c.args.n c.in-Ok.answer) c.self.view_is c.in-Ok.ensures.answer;
+  answer = c.in-Ok.ensures.answer;
   unsplit = c.in-Ok.ensures.unsplit ∙ c.loop.invariant.4;
   ended = λ p e. c.in-Ok.ensures.ended p (c.loop.invariant.3 p e);
 }
@@ -24,7 +22,7 @@ pub loop-preserved : goal.loop-preserved
 loop-preserved g c = (
   tt,
   tt,
-  c.in-Err.ensures.answer ∙ ap (λ (t : Ruled g.row.F.Denot). t.tree) c.self.view_is,
+  c.in-Err.ensures.answer,
   λ p e. absurd (c.in-Err.ensures.ended p (c.loop.invariant.3 p e)),
   c.in-Err.ensures.unsplit ∙ c.loop.invariant.4,
 )

@@ -1,7 +1,7 @@
 use Rattle.std.proofs.Common.{◌∙◌, arith, rules}
 use Rattle.std.proofs.lemmas.Bool.{false≢true}
 use Rattle.tier_table.proofs.Lasting.{same_then, waits_same, same_looked, same_passed_on}
-use Rattle.tier_table.proofs.tree.Tree.await_advance.Goals as goal
+use Rattle.tier_table.proofs.waiting.await_advance.Goals as goal
 
 pub loop-preserved : goal.loop-preserved
 loop-preserved g c =
