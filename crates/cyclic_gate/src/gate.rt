@@ -39,7 +39,7 @@ pub enum GateFault {
 /// was when a call took the lock. So the clauses say that some list of calls leaves a barrier that answers so.
 ///
 /// ```
-/// // Each thread calls `await_turn` with a number of its own; the last to arrive gets 0.
+/// // Each thread calls `await_turn` with a number of its own; the last to come is given 0.
 /// let action = StoredAction::new(|_generation| false, None);
 /// let gate = CyclicGate::new(rt.alloc(), 1, action).expect(&rt, "one party");
 /// assert!(rt; gate.await_turn(&rt, 7) == Ok(0));

@@ -45,6 +45,7 @@ fn turn_after(end: Outcome, index: u32, parties: u32) -> Result<u32, GateFault>
 ///
 /// ```
 /// let gate = GateState::new(rt.alloc(), 1, None).expect(&rt, "one party");
+/// // The action is passed in at each arrival; the last caller runs it.
 /// let action = StoredAction::new(|_generation| false, None);
 /// assert!(rt; gate.await_turn(&rt, 7, &action) == Ok(0));
 /// ```

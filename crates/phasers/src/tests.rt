@@ -1,8 +1,6 @@
 //! What no clause says: threads meet, and a hook runs once at each advance.
 use crate::barrier::{Barrier, GateFault, NoAction};
-use crate::tree::{
-    Awaited, Came, Departed, EndPlan, Forced, Joined, OnAdvance, Party, PhaserTree, Shape,
-};
+use crate::tree::{Came, Departed, EndPlan, Forced, Joined, OnAdvance, Party, PhaserTree, Shape};
 use std::process::Abort;
 use std::sync::Wait;
 use std::sync::atomic::{AtomicU64, Ordering};
@@ -51,18 +49,6 @@ fn a_tree_by_one(rt: HostRuntime) {
     let plan = EndPlan::when_empty();
     let mut tree = PhaserTree::from_widths(rt.alloc(), "2", plan).expect(&rt, "a tree");
     calls(&rt, &mut tree);
-}
-
-#[test]
-fn a_tree_ends_at_its_phase(rt: HostRuntime) {
-    let plan = EndPlan::at_phase(2);
-    let mut tree = PhaserTree::from_widths(rt.alloc(), "2", plan).expect(&rt, "a tree");
-    let mut guest = tree.guest();
-    if let Joined::Joined(mut party, _) = guest.split().join(&rt, 0) {
-        assert!(rt; party.meet(&rt) == Awaited::Passed(1));
-        assert!(rt; party.meet(&rt) == Awaited::Passed(2));
-        assert!(rt; matches!(party.meet(&rt), Awaited::Ended(_)));
-    }
 }
 
 #[test]

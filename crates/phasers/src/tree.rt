@@ -43,8 +43,8 @@ use tier_table::waiting::{Admitted, Counted, await_advance, open_wait, register_
 /// let plan = EndPlan::at_phase(2);
 /// let mut tree = PhaserTree::from_widths(rt.alloc(), "2", plan).expect(&rt, "a tree");
 /// let mut guest = tree.guest();
+/// // The only member meets in phases 0 and 1; the tree ends with phase 2.
 /// if let Joined::Joined(mut party, _) = guest.split().join(&rt, 0) {
-///     // The only member meets in phases 0 and 1; the tree ends with phase 2.
 ///     assert!(rt; party.meet(&rt) == Awaited::Passed(1));
 ///     assert!(rt; party.meet(&rt) == Awaited::Passed(2));
 ///     assert!(rt; matches!(party.meet(&rt), Awaited::Ended(_)));
