@@ -1,5 +1,13 @@
-//! A cyclic barrier after Java's `CyclicBarrier`: as a value, beside the history of its calls, and as a gate at
-//! which threads wait.
+//! A cyclic barrier after Java's `CyclicBarrier`.
+//!
+//! * [`BarrierCore`]: the barrier with its action, as a value that one thread steps; [`BarrierState`] is the same without
+//!   its action.
+//! * [`Ledger`]: that state beside the history of its calls, as it is under the gate's lock.
+//! * [`CyclicGate`]: the barrier with its action under a lock, at which threads wait; [`GateState`] is the same without its
+//!   action.
+//!
+//! Not part of Java's API: callers are numbers, an action answers true if it fails, and `abandon` and `break_off` are in
+//! place of interrupts, timeouts and broken threads.
 #![tactic(auto)]
 
 mod barrier;

@@ -105,7 +105,12 @@
 //! fn main(rt: HostRuntime) -> anyhow::Result<()> {
 //!     let count = AtomicU64::new(0);
 //!     let barrier = Barrier::new(rt.alloc(), 3, Counting(&count))?;
-//!     let sums = thread::map_indices(&rt, rt.alloc(), 3, &|i: usize| turns(&rt, &barrier, i as u32))?;
+//!     let sums = thread::map_indices(
+//!         &rt,
+//!         rt.alloc(),
+//!         3,
+//!         &|i: usize| turns(&rt, &barrier, i as u32),
+//!     )?;
 //!     let mut all = 0u64;
 //!     for sum in sums {
 //!         all = all.saturating_add(sum?);

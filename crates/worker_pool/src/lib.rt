@@ -12,8 +12,10 @@ mod run;
 mod shop;
 mod start;
 mod tree;
+mod within;
 mod work;
 
 pub use fault::Refused;
 pub use hooks::{AllStart, Gate, OpenGate, Starter};
 pub use run::run_job;
+pub use within::run_within;
