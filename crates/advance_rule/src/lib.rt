@@ -2,7 +2,7 @@
 //! says what it answers.
 #![tactic(auto)]
 
-ghost use Rattle.std.specs.Prelude.{◌≡◌, ◌≤◌};
+ghost use Rattle.std.specs.Prelude.{◌≡◌, ◌≤◌, None, Some, true};
 ghost use Rattle.advance_rule.specs.Plan.{count_ends, end_ends, end_ends_at};
 ghost use Rattle.advance_rule.specs.Stored.{Stored, Answers};
 ghost use Rattle.advance_rule.specs.declared.CountPlan.{CountPlan};
@@ -89,6 +89,27 @@ pub struct EndPlan {
 }
 
 impl EndPlan {
+    /// Ends the tree at the first advance after which nobody is registered, as Java SE 21's `Phaser` does by default.
+    pub fn when_empty() -> EndPlan
+        ensures { result ≡ record { when_empty = true; at = None } }
+    {
+        EndPlan {
+            when_empty: true,
+            at: None,
+        }
+    }
+
+    /// Ends the tree at the end of `phase`, counted from 0, or earlier at the first advance after which nobody is
+    /// registered.
+    pub fn at_phase(phase: u32) -> EndPlan
+        ensures { result ≡ record { when_empty = true; at = Some phase } }
+    {
+        EndPlan {
+            when_empty: true,
+            at: Some(phase),
+        }
+    }
+
     /// Whether it ends at the advance of this phase, where nobody is registered or somebody is.
     pub fn ends(&self, phase: u32, empty: bool) -> bool
         ensures { result ≡ end_ends self.now phase empty }

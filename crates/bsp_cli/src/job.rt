@@ -12,7 +12,6 @@ ghost use Rattle.bsp_cli.specs.Ends.{TakesJob, Checks, Upgrades, IsOfPool, Repor
 use crate::fault::RunFault;
 use crate::progress::{NoProgress, Progress, WatchEnd};
 use crate::status::{LIMIT_REACHED, TASK_FAULT};
-use advance_rule::{EndPlan, StoredAdvance};
 use devices::{CountedRead, CountedWrite, ReadFault, read_all, write_all};
 use job_picture::picture_of;
 use job_reader::{Code, ReadJobFault, Refusal, read_job, upgrade as upgraded, write_job};
@@ -23,7 +22,7 @@ use std::thread::Threads;
 use step_core::{run_alone, run_watched};
 use task_code::job::Job;
 use tier_shape::Shape;
-use worker_pool::{AllStart, Gate, OpenGate, Refused, run_job};
+use worker_pool::{AllStart, Gate, OpenGate, Refused, run_within};
 
 // Reads a job to the reader's end.
 fn take_job<R: CountedRead>(alloc: Global, reader: &mut R) -> Result<Job, RunFault>
@@ -124,13 +123,7 @@ fn share<T: Threads + Wait + Sync, G: Gate + Sync>(
     ensures report { IfOk result (λ report. report_of (program_of job.now) limit ≡ Some report) }
     ensures started { IfErr result (IsOfWorkers workers) }
 {
-    let last = limit - 1;
-    let plan = EndPlan {
-        when_empty: true,
-        at: Some(last),
-    };
-    let advance = StoredAdvance::new(|phase: u32, count: u32| count == 0 || phase == last, plan);
-    run_job(rt, alloc, job, shape, workers, advance, gate, &AllStart)
+    run_within(rt, alloc, job, shape, workers, limit, gate, &AllStart)
 }
 
 // What a job leaves within this limit on one thread, where progress is asked for or not.

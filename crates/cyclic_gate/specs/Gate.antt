@@ -4,8 +4,8 @@ use Rattle.advance_rule.specs.Stored.{Stored}
 use Rattle.cyclic_gate.specs.Steps.{Answer, Waiting, Trips, Fails, IsBroken, Already, is_change}
 use Rattle.cyclic_gate.specs.Ledger.{Book, booked}
 use Rattle.cyclic_gate.specs.declared.call.Call.TheVariants.{Await}
-use Rattle.cyclic_gate.specs.declared.gate.Arrival.{Arrival}
-use Rattle.cyclic_gate.specs.declared.gate.Arrival.TheVariants as arrival
+use Rattle.cyclic_gate.specs.declared.gate_state.Arrival.{Arrival}
+use Rattle.cyclic_gate.specs.declared.gate_state.Arrival.TheVariants as arrival
 use Rattle.cyclic_gate.specs.declared.gate.GateFault.{GateFault}
 use Rattle.cyclic_gate.specs.declared.gate.GateFault.TheVariants as gate
 
@@ -13,6 +13,11 @@ use Rattle.cyclic_gate.specs.declared.gate.GateFault.TheVariants as gate
 pub record Gate (F : Type 0) : Type 0 where
   pub action : Stored F (Option ℕ)
   pub parties : ℕ
+
+-- how many parties meet at a gate, and the generation in which its action fails
+pub record GatePlan : Type 0 where
+  pub parties : ℕ
+  pub fails : Option ℕ
 
 -- the turn that a caller was given: its index, or 0 where it was the last
 abbrev pub GivesTurn : ℕ → Answer → Type 0

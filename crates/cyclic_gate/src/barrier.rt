@@ -14,8 +14,8 @@ use std::marker::Model;
 
 /// A cyclic barrier with its action, as a value that one thread steps (Java SE 21, `CyclicBarrier`).
 ///
-/// An arrival answers at once whether its caller waits; the call that ends a generation names, in one
-/// list, everyone who waited.
+/// An arrival returns at once, and says whether its caller waits. The call that ends a generation returns one list of
+/// everyone who waited.
 ///
 /// ```
 /// // The action never fails. Callers have numbers.
@@ -40,8 +40,8 @@ impl<F: Fn(u64) -> bool> Model for BarrierCore<F> {
 }
 
 impl<F: Fn(u64) -> bool> BarrierCore<F> {
-    /// A barrier where so many parties meet, in generation 0, where nobody waits. Refused with `NoParty`
-    /// below 1 and with `TooMany` above 65535 (own).
+    /// Creates a barrier where `parties` callers meet, in generation 0, where nobody waits. Fails with `NoParty` if
+    /// `parties` is below 1, and with `TooMany` if it is above 65535.
     pub fn new(alloc: Global, parties: i64, action: StoredAction<F>) -> Result<Self, BarrierFault>
     where
         F: Drop,
@@ -57,7 +57,7 @@ impl<F: Fn(u64) -> bool> BarrierCore<F> {
         }
     }
 
-    /// How many parties meet, from 1 to 65535 (Java SE 21, `CyclicBarrier.getParties`).
+    /// Returns how many parties meet, from 1 to 65535 (Java SE 21, `CyclicBarrier.getParties`).
     pub fn parties(&self) -> u32
         ensures answer { result ≡ self.now.barrier.parties }
         ensures range { (0 < result) × (result ≤ 65535) }
@@ -65,21 +65,21 @@ impl<F: Fn(u64) -> bool> BarrierCore<F> {
         self.state.parties()
     }
 
-    /// The generation, from 0; after 18446744073709551615 comes 0 (own).
+    /// Returns the generation, counted from 0; after 18446744073709551615 comes 0.
     pub fn generation(&self) -> u64
         ensures { result ≡ self.now.barrier.generation }
     {
         self.state.generation()
     }
 
-    /// How many wait (Java SE 21, `CyclicBarrier.getNumberWaiting`).
+    /// Returns how many callers wait (Java SE 21, `CyclicBarrier.getNumberWaiting`).
     pub fn waiting(&self) -> usize
         ensures { result ≡ length self.now.barrier.waiting }
     {
         self.state.waiting()
     }
 
-    /// Whether the barrier is broken (Java SE 21, `CyclicBarrier.isBroken`). Then nobody waits.
+    /// Returns true if the barrier is broken (Java SE 21, `CyclicBarrier.isBroken`). Then nobody waits.
     pub fn is_broken(&self) -> bool
         ensures answer { result ≡ self.now.barrier.broken }
         ensures nobody { self.now.barrier.broken ≡ true → self.now.barrier.waiting ≡ [] }
@@ -87,8 +87,8 @@ impl<F: Fn(u64) -> bool> BarrierCore<F> {
         self.state.is_broken()
     }
 
-    /// Arrives as this caller (Java SE 21, `CyclicBarrier.await`). The last to arrive runs the action.
-    /// Refused with `AlreadyWaiting` exactly where the caller waits (own).
+    /// Arrives as `caller` (Java SE 21, `CyclicBarrier.await`). The last to arrive runs the action. Fails with
+    /// `AlreadyWaiting` if and only if the caller waits already.
     pub fn await_step(&mut self, caller: u32) -> Result<Awaited, BarrierFault>
         requires rule { AnswersAction (F.pre self.old.action.closure) (F.post self.old.action.closure) self.old.action.plan }
         ensures answer { MatchResult result
@@ -103,9 +103,9 @@ impl<F: Fn(u64) -> bool> BarrierCore<F> {
         self.state.await_step(&self.action, caller)
     }
 
-    /// Takes a waiting caller away, which breaks the barrier, and answers the others, who get Broken, in
-    /// order of arrival (own; it stands for an interrupt or a time limit of Java's `await`). Refused with
-    /// `NotWaiting` exactly where the caller doesn't wait.
+    /// Removes a waiting caller, which breaks the barrier. Returns the others, whose wait failed, in order of arrival.
+    /// (Java's `await` does this on an interrupt or a timeout.) Fails with `NotWaiting` if and only if the caller doesn't
+    /// wait.
     pub fn abandon(&mut self, caller: u32) -> Result<Vec<u32>, BarrierFault>
         ensures answer { MatchResult result
             (λ l. answer self.old.action.plan (Abandon caller) self.old.barrier ≡ Breaks l.items)
@@ -118,7 +118,7 @@ impl<F: Fn(u64) -> bool> BarrierCore<F> {
         self.state.abandon(caller)
     }
 
-    /// Breaks the barrier, and answers those who get Broken, in order of arrival (own).
+    /// Breaks the barrier. Returns the callers who waited, whose wait failed, in order of arrival.
     pub fn break_off(&mut self) -> Vec<u32>
         ensures answer { answer self.old.action.plan BreakOff self.old.barrier ≡ Breaks result.items }
         ensures barrier { self.new.barrier ≡ after self.old.action.plan BreakOff self.old.barrier }
@@ -127,8 +127,8 @@ impl<F: Fn(u64) -> bool> BarrierCore<F> {
         self.state.break_off()
     }
 
-    /// Begins the next generation, unbroken, and answers those who get Broken, in order of arrival (Java
-    /// SE 21, `CyclicBarrier.reset`).
+    /// Starts the next generation, unbroken. Returns the callers who waited, whose wait failed, in order of arrival
+    /// (Java SE 21, `CyclicBarrier.reset`).
     pub fn reset(&mut self) -> Vec<u32>
         ensures answer { answer self.old.action.plan Reset self.old.barrier ≡ Breaks result.items }
         ensures barrier { self.new.barrier ≡ after self.old.action.plan Reset self.old.barrier }

@@ -1,52 +1,54 @@
-//! The calls of a barrier as data, and what they answer.
+//! The calls of a barrier as data, and their answers.
 
 use thiserror::Error;
 
-/// The most parties of a barrier (own).
+/// The largest number of parties of a barrier.
 pub const MOST_PARTIES: u32 = 65535;
 
-/// A call of a barrier. Callers are numbers (own; Java SE 21's `CyclicBarrier` knows them by their threads).
+/// A call of a barrier. Callers are numbers; Java SE 21's `CyclicBarrier` knows them by their threads.
 #[derive(Clone, Copy)]
 pub enum Call {
-    /// This caller arrives.
+    /// The caller of this number arrives.
     Await(u32),
-    /// This caller, which waits, leaves early.
+    /// The caller of this number, which waits, leaves early.
     Abandon(u32),
     /// A party that will never come breaks the barrier.
     BreakOff,
-    /// The barrier begins anew.
+    /// The next generation starts, unbroken.
     Reset,
 }
 
-/// What an arrival came to.
+/// The answer of an arrival. `tier_table` has another enum of this name: the answer of a crew that waits for the next
+/// phase of a tree.
 #[derive(Drop)]
 pub enum Awaited {
-    /// The caller waits, with this arrival index.
+    /// The caller waits, with this arrival index. It passes when another call returns a list with its number.
     Waits(u32),
-    /// The caller was the last: all callers with their arrival indices, in order of arrival.
+    /// The caller was the last. The list has all callers with their arrival indices, in order of arrival: let them pass.
     Tripped(Vec<(u32, u32)>),
-    /// The caller was the last, and the action failed: the others, who get Broken, in order of arrival.
+    /// The caller was the last, and the action failed. The barrier is broken now. The list has the others, whose wait
+    /// failed, in order of arrival: report `Broken` to them.
     ActionFailed(Vec<u32>),
-    /// The barrier was broken before.
+    /// The barrier was broken before, and the caller doesn't wait. Call `reset` before the next arrival.
     Broken,
 }
 
-/// Why a call was refused.
+/// Why a call failed. Nothing changed then.
 #[derive(Clone, Copy, Debug, PartialEq, Eq, Error)]
 pub enum BarrierFault {
-    /// Fewer than 1 party, when a barrier is made.
+    /// A barrier was to have fewer than 1 party.
     #[error("fewer than 1 party")]
     NoParty,
-    /// An arrival of a caller that waits.
+    /// The caller that arrives waits already. Give each thread a number of its own.
     #[error("the caller waits already")]
     AlreadyWaiting,
-    /// A caller that leaves early and does not wait.
+    /// The caller that leaves early does not wait: it never arrived, or its wait is over.
     #[error("the caller does not wait")]
     NotWaiting,
-    /// More than 65535 parties, when a barrier is made.
+    /// A barrier was to have more than 65535 parties.
     #[error("more than 65535 parties")]
     TooMany,
-    /// There was no memory, and nothing changed.
+    /// There was no memory. The caller may try again.
     #[error("out of memory")]
     Memory,
 }

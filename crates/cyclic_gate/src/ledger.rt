@@ -1,4 +1,4 @@
-//! The barrier beside the history of its calls: what lies under the gate's lock.
+//! The barrier beside the history of its calls, as it is under the gate's lock.
 ghost use Rattle.std.specs.Prelude.{◌≡◌, ◌⊎◌, ◌↔◌, ◌<◌, ◌≤◌, if◌then◌else◌, true, false, [], drop, length, ◌<ℤ◌, pos, IfOk, IfErr, IsTrue, MatchOption, MatchResult};
 ghost use Rattle.advance_rule.specs.Action.{AnswersAction};
 ghost use Rattle.cyclic_gate.specs.Machine.{fresh};
@@ -15,14 +15,14 @@ use advance_rule::StoredAction;
 use std::alloc::Global;
 use std::marker::Model;
 
-/// What a call did to the generation in which it came.
+/// What a call did to the generation in which it was made.
 #[derive(Clone, Copy, PartialEq, Eq)]
 pub enum Outcome {
-    /// It goes on.
+    /// The generation goes on.
     GoesOn,
-    /// It tripped: all who waited go on.
+    /// The generation tripped: all who waited pass.
     Tripped,
-    /// All who waited get Broken.
+    /// The generation broke: the wait of all who waited failed.
     Broken,
 }
 
@@ -35,10 +35,10 @@ pub struct LedgerEntry {
     pub outcome: Outcome,
 }
 
-/// A barrier and the history of the calls that changed it: the barrier is what these calls leave of a
-/// new one, whenever the ledger is looked at (own).
+/// A barrier and the history of the calls that changed it. At any time the barrier is what these calls leave of a new
+/// one.
 ///
-/// One place of the history's memory is kept free for `break_off` unless the barrier is broken.
+/// Unless the barrier is broken, one place of the history's memory is kept free for `break_off`.
 #[derive(Drop)]
 pub struct Ledger {
     fails: Option<u64>,
@@ -58,7 +58,7 @@ impl Model for Ledger {
 }
 
 impl Awaited {
-    // What the arrival did to the generation; nothing is to be noted where the barrier was broken before.
+    // Returns what the arrival did to the generation. An arrival at a broken barrier isn't noted.
     fn outcome(&self) -> Option<Outcome>
         ensures { MatchOption result
             (is_change (answer_of self.now) ≡ false)
@@ -74,8 +74,8 @@ impl Awaited {
 }
 
 impl Ledger {
-    /// A barrier where so many parties meet, and whose action fails in this generation, with an empty
-    /// history. Refused with `NoParty` below 1 and with `TooMany` above 65535 (own).
+    /// Creates a barrier where `parties` callers meet, and whose action fails in generation `fails`, with an empty
+    /// history. Fails with `NoParty` if `parties` is below 1, and with `TooMany` if it is above 65535.
     pub fn new(alloc: Global, parties: i64, fails: Option<u64>) -> Result<Self, BarrierFault>
         ensures fresh { IfOk result (λ l. (pos l.barrier.parties ≡ parties) × (l ≡ book fails (fresh l.barrier.parties) [])) }
         ensures no_party { (result ≡ Err BarrierFault.NoParty) ↔ (parties <ℤ pos 1) }
@@ -96,7 +96,7 @@ impl Ledger {
         }
     }
 
-    /// How many parties meet, from 1 to 65535.
+    /// Returns how many parties meet, from 1 to 65535.
     pub fn parties(&self) -> u32
         ensures answer { result ≡ self.now.barrier.parties }
         ensures range { (0 < result) × (result ≤ 65535) }
@@ -104,8 +104,8 @@ impl Ledger {
         self.state.parties()
     }
 
-    /// Whether so many parties meet, and the action fails in this generation. In any case some list of
-    /// calls leaves the barrier as it is.
+    /// Returns true if `parties` callers meet, and the action fails in generation `fails`. In any case some list of calls
+    /// leaves the barrier as it is.
     pub fn is_of(&self, parties: u32, fails: Option<u64>) -> bool
         ensures answer { IsTrue result ↔ ((self.now.barrier.parties ≡ parties) × (self.now.fails ≡ fails)) }
         ensures reached { AfterSome self.now.barrier.parties self.now.fails (λ m. m ≡ self.now.barrier) }
@@ -113,14 +113,14 @@ impl Ledger {
         self.state.parties() == parties && self.fails == fails
     }
 
-    /// How many calls are noted.
+    /// Returns how many calls are noted.
     pub fn noted(&self) -> usize
         ensures { result ≡ length self.now.history }
     {
         self.history.len()
     }
 
-    /// The first end of a generation that is noted from this place on: how the wait of the caller ended
+    /// Returns the first end of a generation that is noted at `place` or later. That is how the wait ended of the caller
     /// whose arrival is the entry before that place.
     pub fn end_since(&self, place: usize) -> Outcome
         ensures { result ≡ first_end (drop place self.now.history) }
@@ -138,8 +138,8 @@ impl Ledger {
         Outcome::GoesOn
     }
 
-    /// Arrives as this caller, and notes it where it changes something; the last to arrive runs the
-    /// action. Refused with `AlreadyWaiting` exactly where the caller waits.
+    /// Arrives as `caller`, and notes the call if it changes something. The last to arrive runs the action. Fails with
+    /// `AlreadyWaiting` if the caller waits already, and with `Memory` if memory runs out.
     pub fn await_step<F: Fn(u64) -> bool>(
         &mut self,
         action: &StoredAction<F>,
@@ -177,8 +177,8 @@ impl Ledger {
         }
     }
 
-    /// Takes a waiting caller away, which breaks the barrier, notes it, and answers the others, who get
-    /// Broken, in order of arrival. Refused with `NotWaiting` exactly where the caller doesn't wait.
+    /// Removes a waiting caller, which breaks the barrier, and notes the call. Returns the others, whose wait failed, in
+    /// order of arrival. Fails with `NotWaiting` if the caller doesn't wait, and with `Memory` if memory runs out.
     pub fn abandon(&mut self, caller: u32) -> Result<Vec<u32>, BarrierFault>
         ensures answer { MatchResult result
             (λ l. answer self.old.fails (Abandon caller) self.old.barrier ≡ Breaks l.items)
@@ -204,8 +204,8 @@ impl Ledger {
         }
     }
 
-    /// Breaks the barrier, notes it, and answers those who get Broken, in order of arrival. It needs no
-    /// memory. A broken barrier, where nobody waits, it leaves as it is, and notes nothing.
+    /// Breaks the barrier, and notes the call. Returns the callers who waited, whose wait failed, in order of arrival. It
+    /// needs no memory. A broken barrier, where nobody waits, stays as it is, and nothing is noted.
     pub fn break_off(&mut self) -> Vec<u32>
         ensures answer { answer self.old.fails BreakOff self.old.barrier ≡ Breaks result.items }
         ensures book { self.new ≡ (if self.old.barrier.broken then self.old else booked BreakOff self.old) }
@@ -220,8 +220,8 @@ impl Ledger {
         self.state.break_off()
     }
 
-    /// Begins the next generation, unbroken, notes it, and answers those who get Broken, in order of
-    /// arrival.
+    /// Starts the next generation, unbroken, and notes the call. Returns the callers who waited, whose wait failed, in
+    /// order of arrival. Fails with `Memory` if memory runs out.
     pub fn reset(&mut self) -> Result<Vec<u32>, BarrierFault>
         ensures answer { MatchResult result
             (λ l. answer self.old.fails Reset self.old.barrier ≡ Breaks l.items)

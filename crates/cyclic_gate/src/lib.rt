@@ -1,10 +1,19 @@
-//! A cyclic barrier after Java's `CyclicBarrier`: as a value, beside the history of its calls, and as a gate at
-//! which threads wait.
+//! A cyclic barrier after Java's `CyclicBarrier`.
+//!
+//! * [`BarrierCore`]: the barrier with its action, as a value that one thread steps; [`BarrierState`] is the same without
+//!   its action.
+//! * [`Ledger`]: that state beside the history of its calls, as it is under the gate's lock.
+//! * [`CyclicGate`]: the barrier with its action under a lock, at which threads wait; [`GateState`] is the same without its
+//!   action.
+//!
+//! Not part of Java's API: callers are numbers, an action answers true if it fails, and `abandon` and `break_off` are in
+//! place of interrupts, timeouts and broken threads.
 #![tactic(auto)]
 
 mod barrier;
 mod call;
 mod gate;
+mod gate_state;
 mod laws;
 mod ledger;
 mod state;
@@ -12,6 +21,7 @@ mod state;
 pub use barrier::BarrierCore;
 pub use call::{Awaited, BarrierFault, Call, MOST_PARTIES};
 pub use gate::{CyclicGate, GateFault};
+pub use gate_state::GateState;
 pub use laws::{
     ends_name_the_told, generations_follow, late_wakers_are_told, trips_give_each_once,
 };

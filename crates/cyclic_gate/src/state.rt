@@ -13,14 +13,14 @@ use std::collections::HashSet;
 use std::marker::Model;
 use std::mem;
 
-/// A barrier whose action is lent at each arrival (own; for a barrier that holds its action see
-/// `BarrierCore`).
+/// A barrier without its action: each arrival passes the action in. For a barrier that holds its action see
+/// `BarrierCore`.
 #[derive(Drop)]
 pub struct BarrierState {
     parties: u32,
     generation: u64,
     waiting: Vec<u32>,
-    // the same callers, to be found at once
+    // The same callers, so that one is found at once.
     callers: HashSet<u32>,
     broken: bool,
 }
@@ -36,7 +36,7 @@ impl Model for BarrierState {
     ghost invariant = { λ s. IsBarrier (machine s.parties s.generation s.waiting.items s.broken) × AreFound s.callers s.waiting.items };
 }
 
-// The generation after this one.
+// Returns the generation after this one.
 fn generation_after(generation: u64) -> u64
     ensures { result ≡ next_generation generation }
 {
@@ -47,7 +47,7 @@ fn generation_after(generation: u64) -> u64
     }
 }
 
-// All callers with their arrival indices, `last` at the end.
+// Returns all callers with their arrival indices, `last` at the end.
 fn with_indices(
     alloc: Global,
     parties: u32,
@@ -68,8 +68,8 @@ fn with_indices(
 }
 
 impl BarrierState {
-    /// A barrier where so many parties meet, in generation 0, where nobody waits. Refused with `NoParty`
-    /// below 1 and with `TooMany` above 65535 (own).
+    /// Creates a barrier where `parties` callers meet, in generation 0, where nobody waits. Fails with `NoParty` if
+    /// `parties` is below 1, and with `TooMany` if it is above 65535.
     pub fn new(alloc: Global, parties: i64) -> Result<Self, BarrierFault>
         ensures fresh { IfOk result (λ s. (pos s.parties ≡ parties) × (s ≡ fresh s.parties)) }
         ensures no_party { (result ≡ Err BarrierFault.NoParty) ↔ (parties <ℤ pos 1) }
@@ -91,7 +91,7 @@ impl BarrierState {
         }
     }
 
-    /// How many parties meet, from 1 to 65535 (Java SE 21, `CyclicBarrier.getParties`).
+    /// Returns how many parties meet, from 1 to 65535 (Java SE 21, `CyclicBarrier.getParties`).
     pub fn parties(&self) -> u32
         ensures answer { result ≡ self.now.parties }
         ensures range { (0 < result) × (result ≤ 65535) }
@@ -99,21 +99,21 @@ impl BarrierState {
         self.parties
     }
 
-    /// The generation, from 0; after 18446744073709551615 comes 0 (own).
+    /// Returns the generation, counted from 0; after 18446744073709551615 comes 0.
     pub fn generation(&self) -> u64
         ensures { result ≡ self.now.generation }
     {
         self.generation
     }
 
-    /// How many wait (Java SE 21, `CyclicBarrier.getNumberWaiting`).
+    /// Returns how many callers wait (Java SE 21, `CyclicBarrier.getNumberWaiting`).
     pub fn waiting(&self) -> usize
         ensures { result ≡ length self.now.waiting }
     {
         self.waiting.len()
     }
 
-    /// Whether the barrier is broken (Java SE 21, `CyclicBarrier.isBroken`). Then nobody waits.
+    /// Returns true if the barrier is broken (Java SE 21, `CyclicBarrier.isBroken`). Then nobody waits.
     pub fn is_broken(&self) -> bool
         ensures answer { result ≡ self.now.broken }
         ensures nobody { self.now.broken ≡ true → self.now.waiting ≡ [] }
@@ -121,14 +121,14 @@ impl BarrierState {
         self.broken
     }
 
-    /// Whether this caller waits.
+    /// Returns true if this caller waits.
     pub fn is_waiting(&self, caller: u32) -> bool
         ensures { result ≡ is_in caller self.now.waiting }
     {
         self.callers.contains(&caller)
     }
 
-    // One more caller waits.
+    // Lets one more caller wait.
     fn join(&mut self, caller: u32) -> Result<(), AllocError>
         requires room { length self.old.waiting + 1 < self.old.parties }
         requires whole { self.old.broken ≡ false }
@@ -143,7 +143,7 @@ impl BarrierState {
         Ok(())
     }
 
-    // The next generation begins, and nobody waits.
+    // Starts the next generation, where nobody waits.
     fn renew(&mut self)
         requires whole { self.old.broken ≡ false }
         ensures { self.new ≡ renewed self.old }
@@ -153,7 +153,7 @@ impl BarrierState {
         self.generation = generation_after(self.generation);
     }
 
-    // The last caller arrives, and runs the action.
+    // Arrives as the last caller, and runs the action.
     fn trip<F: Fn(u64) -> bool>(
         &mut self,
         action: &StoredAction<F>,
@@ -182,8 +182,8 @@ impl BarrierState {
         Ok(Awaited::Tripped(list))
     }
 
-    /// Arrives as this caller (Java SE 21, `CyclicBarrier.await`). The last to arrive runs the action.
-    /// Refused with `AlreadyWaiting` exactly where the caller waits (own).
+    /// Arrives as `caller` (Java SE 21, `CyclicBarrier.await`). The last to arrive runs the action. Fails with
+    /// `AlreadyWaiting` if and only if the caller waits already.
     pub fn await_step<F: Fn(u64) -> bool>(
         &mut self,
         action: &StoredAction<F>,
@@ -214,9 +214,9 @@ impl BarrierState {
         self.trip(action, caller)
     }
 
-    /// Takes a waiting caller away, which breaks the barrier, and answers the others, who get Broken, in
-    /// order of arrival (own; it stands for an interrupt or a time limit of Java's `await`). Refused with
-    /// `NotWaiting` exactly where the caller doesn't wait.
+    /// Removes a waiting caller, which breaks the barrier. Returns the others, whose wait failed, in order of arrival.
+    /// (Java's `await` does this on an interrupt or a timeout.) Fails with `NotWaiting` if and only if the caller doesn't
+    /// wait.
     pub fn abandon(&mut self, caller: u32) -> Result<Vec<u32>, BarrierFault>
         ensures answer { MatchResult result
             (λ l. answer None (Abandon caller) self.old ≡ Breaks l.items)
@@ -233,7 +233,7 @@ impl BarrierState {
         Ok(others)
     }
 
-    /// Breaks the barrier, and answers those who get Broken, in order of arrival (own).
+    /// Breaks the barrier. Returns the callers who waited, whose wait failed, in order of arrival.
     pub fn break_off(&mut self) -> Vec<u32>
         ensures answer { answer None BreakOff self.old ≡ Breaks result.items }
         ensures state { self.new ≡ after None BreakOff self.old }
@@ -244,8 +244,8 @@ impl BarrierState {
         mem::replace(&mut self.waiting, Vec::new(alloc))
     }
 
-    /// Begins the next generation, unbroken, and answers those who get Broken, in order of arrival (Java
-    /// SE 21, `CyclicBarrier.reset`).
+    /// Starts the next generation, unbroken. Returns the callers who waited, whose wait failed, in order of arrival
+    /// (Java SE 21, `CyclicBarrier.reset`).
     pub fn reset(&mut self) -> Vec<u32>
         ensures answer { answer None Reset self.old ≡ Breaks result.items }
         ensures state { self.new ≡ after None Reset self.old }

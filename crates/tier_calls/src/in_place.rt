@@ -22,8 +22,10 @@ use std::thread;
 use tier_core::call::{Played, Progress};
 use tier_steps::view::Passage;
 
-/// How many tries a call makes before its thread lets others run.
-const TRIES: u32 = 16;
+/// How many tries a call that waits makes before its thread lets others run. No call takes more than 16 steps: the law
+/// `calls_are_short` of `tier_laws` counts them. So 16 tries are enough for a call whose exchanges no other thread
+/// makes fail.
+pub const TRIES: u32 = 16;
 
 /// What an arrival answers whose crew stays where it is.
 #[derive(Clone, Copy, PartialEq, Eq)]

@@ -8,3 +8,4 @@ pub mod TreeShape
 pub mod Refusals
 pub mod LastLevel
 pub mod Telling
+pub mod Numbered

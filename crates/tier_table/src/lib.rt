@@ -1,4 +1,9 @@
-//! A tree of phasers on atomic words.
+//! A tree of phasers on atomic words, called from any threads without a lock.
+//!
+//! * [`tree`]: the tree, and its calls that never wait.
+//! * [`waiting`]: its calls that wait, and the same as functions over the tiers and the rule.
+//! * [`tokens`]: who calls: doors, without members, and crews, with members.
+//! * [`arriving`], [`in_place`], [`joining`], [`polling`], [`forcing`], [`closing`]: the answers.
 #![tactic(auto)]
 
 pub mod closing;

@@ -1,4 +1,10 @@
 //! The tree of phasers, shared by reference and called from any threads without a lock.
+//!
+//! A thread calls the tree by tokens of its own: a door has no members, a crew has some, all at one tier. `tries` limits
+//! how many exchanges a call makes, since an exchange fails if another thread got there first. 16 is always enough for a
+//! call that no other thread disturbs ([`TRIES`](crate::in_place::TRIES)); a call that ran out of tries says so, and
+//! hands its token back. The calls in [`waiting`](crate::waiting) need no number of tries: they try until they have an
+//! answer.
 
 ghost use Rattle.std.specs.Prelude.{◌≡◌, ◌<◌, ◌≤◌, ℕ, Some, IfOk, IfErr, All, length};
 ghost use Rattle.tier_calls.specs.Closes.{held, plain_tokens, views_in, sights_in, TallyWithOthers, IsLeftBy};
@@ -32,7 +38,7 @@ use tier_calls::tokens::{Crew, Door, Errand, Opening, Token};
 use tier_shape::Shape;
 use tier_steps::view::Passage;
 
-/// A tree of phasers: one atomic word for each tier, and the rule that says when it ends. Its calls take it
+/// A tree of phasers: one atomic word for each tier, and the rule that says when the tree ends. Its calls take it
 /// by shared reference, take no lock, and never wait.
 ///
 /// ```
@@ -68,7 +74,8 @@ impl<F: Fn(u32, u32) -> bool> Model for Tree<F> {
 }
 
 impl<F: Fn(u32, u32) -> bool> Tree<F> {
-    /// A tree of empty tiers in this phase, and its first token.
+    /// Creates a tree of empty tiers in `phase`, and its first token. The tree ends as `advance` says. Its closure is
+    /// called once at each advance, by the thread that takes it, and must not call the tree.
     pub fn new(
         alloc: Global,
         shape: Shape,
@@ -88,14 +95,15 @@ impl<F: Fn(u32, u32) -> bool> Tree<F> {
         Ok((tree, door))
     }
 
-    /// The shape of the tree.
+    /// Returns the shape of the tree.
     pub fn shape(&self) -> &Shape
         ensures { result.now ≡ self.now.tree.key.shape }
     {
         self.tiers.shape()
     }
 
-    /// A new token without members, in the root's phase. The door stays as it is, and has split off one token more.
+    /// Splits a new token off `door`, a token of this tree. The new token has no members and is in the root's current
+    /// phase. Give each thread a token of its own.
     pub fn split(&self, door: &mut Door) -> Door
         requires own { door.old.tree ≡ self.now.tree }
         ensures same { door.new ≡ split_once door.old }
@@ -104,7 +112,8 @@ impl<F: Fn(u32, u32) -> bool> Tree<F> {
         self.tiers.open_door(door)
     }
 
-    /// The same, split off a crew.
+    /// Splits a new token off `crew`, a token of this tree. The new token has no members and is in the root's current
+    /// phase.
     pub fn split_crew(&self, crew: &mut Crew) -> Door
         requires own { crew.old.tree ≡ self.now.tree }
         ensures same { crew.new ≡ split_once crew.old }
@@ -113,20 +122,31 @@ impl<F: Fn(u32, u32) -> bool> Tree<F> {
         self.tiers.open_beside(crew)
     }
 
-    /// Registers so many members at a tier, opening the path to it where it is empty.
-    pub fn register(&self, door: Door, tier: u16, n: u32, tries: u32) -> Registered
+    /// Registers `members` new members at `tier` by `door`, a token of this tree, with at most `tries` tries. If the
+    /// tier is empty, first opens the path to it from the nearest tier above that has parties.
+    ///
+    /// * `Joined`: they have joined, and the crew has them.
+    /// * `Held`: all parties of a tier on the path have arrived, so a newcomer has to wait for the next phase. Call again
+    ///   later.
+    /// * `Full`: a tier of the path has no room for them. Choose another tier, or wait until members have left.
+    /// * `Ended`: the tree has ended, and nobody can join any more.
+    /// * `Busy`: all tries failed and nothing changed. Call again.
+    /// * `Owing`: all tries were used, and the path is half open. Call `resume_opening`: until then no other thread can
+    ///   join there.
+    pub fn register(&self, door: Door, tier: u16, members: u32, tries: u32) -> Registered
         requires own { door.tree ≡ self.now.tree }
         requires tier { tier < length self.now.tree.key.shape }
-        requires members { (0 < n) × (n ≤ 65535) }
-        ensures answer { Registers door tier n tries result }
+        requires members { (0 < members) × (members ≤ 65535) }
+        ensures answer { Registers door tier members tries result }
         ensures made { HasEntered door.steps (token_of result).steps }
         ensures ended { (phase : ℕ) → door.view.end_seen ≡ Some phase → registers.HasEnded result }
     {
-        self.tiers.join(door, tier, n, tries)
+        self.tiers.join(door, tier, members, tries)
     }
 
-    /// Goes on with the opening of a path. Where the token has seen the end, and its members have not
-    /// joined yet, the path is given back, and the answer is `Ended`.
+    /// Resumes a registration that ran out of tries, with at most `tries` tries more. If the tree has ended before the
+    /// members joined, releases the claimed tiers and returns `Ended`. Call again on `Owing`; the other answers are those
+    /// of `register`.
     pub fn resume_opening(&self, opening: Opening, tries: u32) -> Opened
         requires own { opening.token.tree ≡ self.now.tree }
         ensures answer { Opens opening tries result }
@@ -136,21 +156,31 @@ impl<F: Fn(u32, u32) -> bool> Tree<F> {
         self.tiers.open_on(opening, tries)
     }
 
-    /// Registers so many members at the crew's own tier. Since a member of the crew is unarrived there, this
-    /// is never held off, and opens no path. The tries of both tokens count together.
-    pub fn join_here(&self, crew: &mut Crew, door: Door, n: u32, tries: u32) -> Registered
+    /// Registers `members` new members by `door` at the tier of `crew`, both tokens of this tree, with at most `tries`
+    /// tries, of both tokens together. A member of the crew has not arrived there, so the phase can't end meanwhile, and
+    /// the call never returns `Held` or `Owing`. Call again on `Busy`.
+    pub fn join_here(&self, crew: &mut Crew, door: Door, members: u32, tries: u32) -> Registered
         requires own { (crew.old.tree ≡ self.now.tree) × (door.tree ≡ self.now.tree) }
         requires unarrived { crew.old.view.arrived < crew.old.view.size }
-        requires members { (0 < n) × (n ≤ 65535) }
-        ensures answer { JoinsHere crew.old crew.new door n tries result }
+        requires members { (0 < members) × (members ≤ 65535) }
+        ensures answer { JoinsHere crew.old crew.new door members tries result }
         ensures made { HasEntered door.steps (token_of result).steps × HasLooked crew.old.steps crew.new.steps }
         ensures ended { (phase : ℕ) → door.view.end_seen ≡ Some phase → registers.HasEnded result }
         ensures crew_ended { (phase : ℕ) → crew.old.view.end_seen ≡ Some phase → registers.HasEnded result }
     {
-        self.tiers.join_beside(crew, door, n, tries)
+        self.tiers.join_beside(crew, door, members, tries)
     }
 
-    /// Lets a member arrive.
+    /// Lets a member of `crew`, a token of this tree, arrive, with at most `tries` tries. The flag `led` of an answer is
+    /// true if the call itself took the advance of the tree.
+    ///
+    /// * `Done`: the member has arrived. If `led` is false, other parties may still have to arrive: call `poll`.
+    /// * `AlreadyArrived`: all members had arrived in this phase before, and nobody was counted. Call `poll`.
+    /// * `Ended`: the tree has ended, and nobody was counted. Stop.
+    /// * `Busy`: all tries failed, and nobody was counted. Call again.
+    /// * `Owing`: the member was counted, all tries were used, and the tiers above don't know of it yet. Call `resume`:
+    ///   until then all others wait.
+    /// * `Left`: never returned.
     pub fn arrive(&self, crew: Crew, tries: u32) -> Arrived
         requires own { crew.tree ≡ self.now.tree }
         requires rule { Answers (F.pre self.now.rule.closure) (F.post self.now.rule.closure) (end_ends_at self.now.rule.plan) }
@@ -160,7 +190,8 @@ impl<F: Fn(u32, u32) -> bool> Tree<F> {
         self.tiers.pass(crew, Passage::Arrival, &self.rule, tries)
     }
 
-    /// Lets a member leave, which counts as its arrival.
+    /// Lets a member of `crew`, a token of this tree, leave, with at most `tries` tries. Its departure counts as its
+    /// arrival. The answers are those of `arrive`, and `Left`, with a door, if the member was the last of the crew.
     pub fn arrive_and_deregister(&self, crew: Crew, tries: u32) -> Arrived
         requires own { crew.tree ≡ self.now.tree }
         requires rule { Answers (F.pre self.now.rule.closure) (F.post self.now.rule.closure) (end_ends_at self.now.rule.plan) }
@@ -170,7 +201,8 @@ impl<F: Fn(u32, u32) -> bool> Tree<F> {
         self.tiers.pass(crew, Passage::Departure, &self.rule, tries)
     }
 
-    /// Goes on with an arrival or a departure that was counted.
+    /// Resumes an arrival or a departure that was counted but ran out of tries, with at most `tries` tries more. Call
+    /// again on `Owing`.
     pub fn resume(&self, errand: Errand, tries: u32) -> Resumed
         requires own { errand.token.tree ≡ self.now.tree }
         requires rule { Answers (F.pre self.now.rule.closure) (F.post self.now.rule.closure) (end_ends_at self.now.rule.plan) }
@@ -179,8 +211,13 @@ impl<F: Fn(u32, u32) -> bool> Tree<F> {
         self.tiers.pass_on(errand, &self.rule, tries)
     }
 
-    /// Sees whether the crew's phase has passed. It brings the crew's own tier into its phase where that
-    /// lags, by one try at most.
+    /// Checks whether the phase of `crew`, a token of this tree, is over. Doesn't wait. Brings the crew's own tier into
+    /// the root's phase if that tier lags, with at most one try.
+    ///
+    /// * `Passed`: the phase in which all members had arrived is over. Arrive in the next.
+    /// * `Waiting`: all members have arrived, and other parties haven't. Call again later.
+    /// * `Here`: a member has not arrived in this phase. Arrive first.
+    /// * `Ended`: the tree has ended. Stop.
     pub fn poll(&self, crew: &mut Crew) -> Polled
         requires own { crew.old.tree ≡ self.now.tree }
         ensures tree { crew.new.tree ≡ crew.old.tree }
@@ -190,7 +227,8 @@ impl<F: Fn(u32, u32) -> bool> Tree<F> {
         self.tiers.poll(crew)
     }
 
-    /// Ends the tree by force.
+    /// Ends the tree by `door`, a token of this tree, whoever has arrived, with at most `tries` tries. Returns `Ended` if
+    /// the tree has ended, by this call or before. On `Busy` all tries failed and nothing changed: call again.
     pub fn force(&self, door: &mut Door, tries: u32) -> Forced
         requires own { door.old.tree ≡ self.now.tree }
         ensures tree { door.new.tree ≡ door.old.tree }
@@ -201,7 +239,8 @@ impl<F: Fn(u32, u32) -> bool> Tree<F> {
         self.tiers.force(door, tries)
     }
 
-    /// Closes the tree. Without memory the tree and the tokens are handed back.
+    /// Closes the tree, and returns the words of its tiers and what its tokens were. Pass the tokens of this tree that
+    /// are left; those that were dropped count as others. If memory runs out, hands the tree and the tokens back.
     pub fn close(self, alloc: Global, tokens: Vec<Token>) -> Result<Closed, Unclosed<F>>
     where
         F: Drop,

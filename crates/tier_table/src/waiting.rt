@@ -1,5 +1,8 @@
-//! Calls that wait: they repeat a call of the tree until it has an answer that lasts, and let other threads
-//! run between. That they come to an end is not claimed: a tier may be held by others for ever.
+//! Calls that wait. Each repeats a call of the tree, [`TRIES`] tries at a time, until it has an answer that lasts, and
+//! lets other threads run in between. That such a call returns is not part of its contract: others may hold a tier for
+//! ever.
+//!
+//! The functions take the tiers, and the rule where an advance may be due. [`Tree`] passes its own.
 
 ghost use Rattle.std.specs.Prelude.{◌≡◌, ◌<◌, ◌≤◌, ℕ, Some, length, MatchResult};
 ghost use Rattle.advance_rule.specs.Stored.{Answers};
@@ -13,57 +16,60 @@ ghost use Rattle.tier_calls.specs.InPlace as in_place;
 ghost use Rattle.tier_table.specs.AtLast.{token_admitted, token_counted, HasSplit, RegistersAtLast, OpensAtLast, ArrivesAtLast, ResumesAtLast, AwaitsAdvance, HasEndedJoin, HasEndedArrival, HasEndedWait};
 
 use crate::tree::Tree;
+use advance_rule::StoredAdvance;
 use std::sync::Wait;
 use std::thread;
 use tier_calls::arriving::{Arrived, Resumed};
-use tier_calls::in_place::Came;
+use tier_calls::in_place::{Came, TRIES};
 use tier_calls::joining::{Opened, Registered};
 use tier_calls::polling::Polled;
 use tier_calls::tiers::Tiers;
 use tier_calls::tokens::{Crew, Door, Errand, Opening};
 use tier_steps::view::Passage;
 
-/// How many tries a call makes before its thread lets others run.
-const TRIES: u32 = 16;
-
-/// What a registration that waits answers.
+/// The answer of a registration that waits.
 #[derive(Drop)]
 pub enum Admitted {
-    /// The members have joined, in this phase.
+    /// The members have joined. The crew has them, and the number is its phase: arrive by the crew.
     Joined(Crew, u32),
-    /// There is no room: a tier of the path has so many parties.
+    /// There is no room: a tier of the path has this many parties, and 65535 is the most. Nobody has joined. Try
+    /// another tier, or wait until members have left.
     Full(Door, u32),
-    /// The tree has ended; the phase that is shown.
+    /// The tree has ended, and shows this number as its phase, which is negative. Nobody has joined, and nobody can
+    /// join any more.
     Ended(Door, i32),
 }
 
-/// What an arrival or a departure that waits answers.
+/// The answer of an arrival or a departure that waits.
 #[derive(Drop)]
 pub enum Counted {
-    /// A member has arrived or left in this phase; whether the call took the advance.
+    /// One member has arrived, or has left, in this phase. The flag `led` is true if the call itself took the advance.
+    /// If it is false, other parties may still have to arrive: call `await_advance`.
     Done(Crew, u32, bool),
-    /// The last member has left in this phase; whether the call took the advance.
+    /// The last member has left, in this phase, so the token has no members now; `led` as for `Done`. Register by the
+    /// door to take part again, or drop it.
     Left(Door, u32, bool),
-    /// All members had arrived in this phase before.
+    /// All members had arrived in this phase before, so the call counted nobody. Call `await_advance` first.
     AlreadyArrived(Crew, u32),
-    /// The tree has ended; the phase that is shown.
+    /// The tree has ended, and shows this number as its phase, which is negative. The call counted nobody. Stop.
     Ended(Crew, i32),
 }
 
-/// What a crew that waits for the next phase is told.
+/// The answer of a crew that waits for the next phase. `cyclic_gate` has another enum of this name: the answer of an
+/// arrival at a barrier.
 #[derive(Clone, Copy, PartialEq, Eq)]
 pub enum Awaited {
-    /// The phase in which all members had arrived has passed, and this one is the next.
+    /// The phase in which all members had arrived is over, and this is the next one. Arrive in it.
     Passed(u32),
-    /// A member has not arrived in this phase.
+    /// The call didn't wait, since a member has not arrived in this phase. Let each member arrive first.
     Here(u32),
-    /// The tree has ended; the phase that is shown.
+    /// The tree has ended, and shows this number as its phase, which is negative. Stop.
     Ended(i32),
 }
 
-// Goes on with the opening of a path until that is over. Where the members were held off, the door is
-// an error.
-fn open_wait<R: Wait>(tiers: &Tiers, rt: &R, opening: Opening) -> Result<Admitted, Door>
+/// Resumes a registration that ran out of tries until it is over. Returns the door as an error if the members may not
+/// join now: all parties of a tier on the path have arrived, so a newcomer has to wait for the next phase.
+pub fn open_wait<R: Wait>(tiers: &Tiers, rt: &R, opening: Opening) -> Result<Admitted, Door>
     requires own { opening.token.tree ≡ tiers.now }
     ensures answer { OpensAtLast tiers.now (asked_tier opening.token.view.errand) (asked_size opening.token.view.errand) result }
     ensures unsplit { HasSplit opening.token.opened result }
@@ -82,23 +88,23 @@ fn open_wait<R: Wait>(tiers: &Tiers, rt: &R, opening: Opening) -> Result<Admitte
     unreachable!()
 }
 
-// Registers so many members, by so many tries, and opens the path to the tier where it is empty. Where the
-// registration was held off, or the tries did not suffice, the door is an error.
+// Tries once to register `members` members. If the tier is empty, opens the path to it. Returns the door as an error if
+// the members may not join now, or the tries were used up.
 fn join_once<R: Wait>(
     tiers: &Tiers,
     rt: &R,
     door: Door,
     tier: u16,
-    n: u32,
+    members: u32,
 ) -> Result<Admitted, Door>
     requires own { door.tree ≡ tiers.now }
     requires tier { tier < length tiers.now.key.shape }
-    requires members { (0 < n) × (n ≤ 65535) }
-    ensures answer { OpensAtLast tiers.now tier n result }
+    requires members { (0 < members) × (members ≤ 65535) }
+    ensures answer { OpensAtLast tiers.now tier members result }
     ensures unsplit { HasSplit door.opened result }
     ensures ended { (phase : ℕ) → door.view.end_seen ≡ Some phase → MatchResult result HasEndedJoin (λ next. ⊥) }
 {
-    match tiers.join(door, tier, n, TRIES) {
+    match tiers.join(door, tier, members, TRIES) {
         Registered::Joined(crew, phase) => Ok(Admitted::Joined(crew, phase)),
         Registered::Full(next, count) => Ok(Admitted::Full(next, count)),
         Registered::Ended(next, shown) => Ok(Admitted::Ended(next, shown)),
@@ -107,103 +113,182 @@ fn join_once<R: Wait>(
     }
 }
 
+/// Registers `members` new members at `tier`. If the tier is empty, first opens the path to it from the nearest tier
+/// above that has parties. Tries again, and lets other threads run in between, while all parties of a tier on the path
+/// have arrived: a newcomer then has to wait for the next phase.
+pub fn register_wait<R: Wait>(
+    tiers: &Tiers,
+    rt: &R,
+    door: Door,
+    tier: u16,
+    members: u32,
+) -> Admitted
+    requires own { door.tree ≡ tiers.now }
+    requires tier { tier < length tiers.now.key.shape }
+    requires members { (0 < members) × (members ≤ 65535) }
+    ensures answer { RegistersAtLast tiers.now tier members result }
+    ensures unsplit { (token_admitted result).opened ≡ door.opened }
+    ensures ended { (phase : ℕ) → door.view.end_seen ≡ Some phase → HasEndedJoin result }
+{
+    let mut door = door;
+    for _ in rt.forever() {
+        match join_once(tiers, rt, door, tier, members) {
+            Ok(answer) => return answer,
+            Err(next) => door = next,
+        }
+        thread::yield_now();
+    }
+    unreachable!()
+}
+
+// Resumes an arrival or a departure that was counted, until it is over.
+fn resume_wait<R: Wait, F: Fn(u32, u32) -> bool>(
+    tiers: &Tiers,
+    rt: &R,
+    errand: Errand,
+    rule: &StoredAdvance<F>,
+) -> Counted
+    requires own { errand.token.tree ≡ tiers.now }
+    requires rule { Answers (F.pre rule.now.closure) (F.post rule.now.closure) (end_ends_at rule.now.plan) }
+    requires plan { rule.now.plan ≡ tiers.now.key.plan }
+    ensures answer { ResumesAtLast errand.token result }
+    ensures unsplit { (token_counted result).opened ≡ errand.token.opened }
+{
+    let mut errand = errand;
+    for _ in rt.forever() {
+        match tiers.pass_on(errand, rule, TRIES) {
+            Resumed::Done(crew, phase, led) => return Counted::Done(crew, phase, led),
+            Resumed::Left(door, phase, led) => return Counted::Left(door, phase, led),
+            Resumed::Owing(next) => errand = next,
+        }
+        thread::yield_now();
+    }
+    unreachable!()
+}
+
+// Resumes an errand of this kind until it is over.
+fn settle_wait<R: Wait, F: Fn(u32, u32) -> bool>(
+    tiers: &Tiers,
+    rt: &R,
+    errand: Errand,
+    own: Passage,
+    rule: &StoredAdvance<F>,
+) -> Counted
+    requires own { errand.token.tree ≡ tiers.now }
+    requires rule { Answers (F.pre rule.now.closure) (F.post rule.now.closure) (end_ends_at rule.now.plan) }
+    requires plan { rule.now.plan ≡ tiers.now.key.plan }
+    ensures answer { (h : Holding) → 0 < h.view.size → errand.token.tree ≡ h.tree → HasPassed own h.view errand.token.view → ArrivesAtLast own h result }
+    ensures unsplit { (token_counted result).opened ≡ errand.token.opened }
+{
+    match resume_wait(tiers, rt, errand, rule) {
+        Counted::Left(door, phase, led) => {
+            // For the prover: a door has no members.
+            let _ = door.phase();
+            Counted::Left(door, phase, led)
+        }
+        answer => answer,
+    }
+}
+
+// Tries once to let a member arrive or leave. Returns the crew as an error if the tries were used up.
+fn pass_once<R: Wait, F: Fn(u32, u32) -> bool>(
+    tiers: &Tiers,
+    rt: &R,
+    crew: Crew,
+    own: Passage,
+    rule: &StoredAdvance<F>,
+) -> Result<Counted, Crew>
+    requires own { crew.tree ≡ tiers.now }
+    requires rule { Answers (F.pre rule.now.closure) (F.post rule.now.closure) (end_ends_at rule.now.plan) }
+    requires plan { rule.now.plan ≡ tiers.now.key.plan }
+    ensures some { 0 < crew.view.size }
+    ensures answer { MatchResult result (λ a. ArrivesAtLast own crew a) (λ next. (next.tree ≡ crew.tree) × IsLooked crew.view next.view) }
+    ensures unsplit { MatchResult result (λ a. (token_counted a).opened ≡ crew.opened) (λ next. next.opened ≡ crew.opened) }
+    ensures ended { (phase : ℕ) → crew.view.end_seen ≡ Some phase → MatchResult result HasEndedArrival (λ next. ⊥) }
+{
+    // For the prover: a crew has members.
+    let _ = crew.size();
+    match tiers.pass(crew, own, rule, TRIES) {
+        Arrived::Done(crew, phase, led) => Ok(Counted::Done(crew, phase, led)),
+        Arrived::Left(door, phase, led) => Ok(Counted::Left(door, phase, led)),
+        Arrived::AlreadyArrived(crew, phase) => Ok(Counted::AlreadyArrived(crew, phase)),
+        Arrived::Ended(crew, shown) => Ok(Counted::Ended(crew, shown)),
+        Arrived::Busy(next) => Err(next),
+        Arrived::Owing(errand) => Ok(settle_wait(tiers, rt, errand, own, rule)),
+    }
+}
+
+/// Lets a member arrive or leave, whichever `own` says.
+pub fn pass_wait<R: Wait, F: Fn(u32, u32) -> bool>(
+    tiers: &Tiers,
+    rt: &R,
+    crew: Crew,
+    own: Passage,
+    rule: &StoredAdvance<F>,
+) -> Counted
+    requires own { crew.tree ≡ tiers.now }
+    requires rule { Answers (F.pre rule.now.closure) (F.post rule.now.closure) (end_ends_at rule.now.plan) }
+    requires plan { rule.now.plan ≡ tiers.now.key.plan }
+    ensures answer { ArrivesAtLast own crew result }
+    ensures unsplit { (token_counted result).opened ≡ crew.opened }
+    ensures ended { (phase : ℕ) → crew.view.end_seen ≡ Some phase → HasEndedArrival result }
+{
+    let mut crew = crew;
+    for _ in rt.forever() {
+        match pass_once(tiers, rt, crew, own, rule) {
+            Ok(answer) => return answer,
+            Err(next) => crew = next,
+        }
+        thread::yield_now();
+    }
+    unreachable!()
+}
+
+/// Waits until the phase in which all members of `crew` have arrived is over. Returns at once if a member has not
+/// arrived, or the tree has ended.
+pub fn await_advance<R: Wait>(tiers: &Tiers, rt: &R, crew: &mut Crew) -> Awaited
+    requires own { crew.old.tree ≡ tiers.now }
+    ensures tree { crew.new.tree ≡ crew.old.tree }
+    ensures answer { AwaitsAdvance crew.old crew.new result }
+    ensures unsplit { crew.new.opened ≡ crew.old.opened }
+    ensures ended { (phase : ℕ) → crew.old.view.end_seen ≡ Some phase → HasEndedWait result }
+{
+    // For the prover: a crew has members.
+    let _ = crew.size();
+    for _ in rt.forever() {
+        match tiers.poll(crew) {
+            Polled::Passed(phase) => return Awaited::Passed(phase),
+            Polled::Here(phase) => return Awaited::Here(phase),
+            Polled::Ended(shown) => return Awaited::Ended(shown),
+            Polled::Waiting => thread::yield_now(),
+        }
+    }
+    unreachable!()
+}
+
 impl<F: Fn(u32, u32) -> bool> Tree<F> {
-    /// Registers so many members at a tier, opening the path to it where it is empty. While the
-    /// registration is held off, other threads run, and it is tried again.
-    pub fn register_wait<R: Wait>(&self, rt: &R, door: Door, tier: u16, n: u32) -> Admitted
+    /// Registers `members` new members at `tier` by `door`, a token of this tree. If the tier is empty, first opens the
+    /// path to it from the nearest tier above that has parties. Tries again, and lets other threads run in between,
+    /// while all parties of a tier on the path have arrived: a newcomer then has to wait for the next phase.
+    ///
+    /// That wait never ends if those parties wait in turn for the caller, as they do if another token of the caller's
+    /// has a member that hasn't arrived. Such a caller registers by `join_here`.
+    pub fn register_wait<R: Wait>(&self, rt: &R, door: Door, tier: u16, members: u32) -> Admitted
         requires own { door.tree ≡ self.now.tree }
         requires tier { tier < length self.now.tree.key.shape }
-        requires members { (0 < n) × (n ≤ 65535) }
-        ensures answer { RegistersAtLast self.now.tree tier n result }
+        requires members { (0 < members) × (members ≤ 65535) }
+        ensures answer { RegistersAtLast self.now.tree tier members result }
         ensures unsplit { (token_admitted result).opened ≡ door.opened }
         ensures ended { (phase : ℕ) → door.view.end_seen ≡ Some phase → HasEndedJoin result }
     {
-        let mut door = door;
-        for _ in rt.forever() {
-            match join_once(&self.tiers, rt, door, tier, n) {
-                Ok(answer) => return answer,
-                Err(next) => door = next,
-            }
-            thread::yield_now();
-        }
-        unreachable!()
+        register_wait(&self.tiers, rt, door, tier, members)
     }
 
-    /// Goes on with an arrival or a departure that was counted, until that is over.
-    fn resume_wait<R: Wait>(&self, rt: &R, errand: Errand) -> Counted
-        requires own { errand.token.tree ≡ self.now.tree }
-        requires rule { Answers (F.pre self.now.rule.closure) (F.post self.now.rule.closure) (end_ends_at self.now.rule.plan) }
-        ensures answer { ResumesAtLast errand.token result }
-        ensures unsplit { (token_counted result).opened ≡ errand.token.opened }
-    {
-        let mut errand = errand;
-        for _ in rt.forever() {
-            match self.resume(errand, TRIES) {
-                Resumed::Done(crew, phase, led) => return Counted::Done(crew, phase, led),
-                Resumed::Left(door, phase, led) => return Counted::Left(door, phase, led),
-                Resumed::Owing(next) => errand = next,
-            }
-            thread::yield_now();
-        }
-        unreachable!()
-    }
-
-    /// Goes on with an errand of this kind until that is over.
-    fn settle_wait<R: Wait>(&self, rt: &R, errand: Errand, own: Passage) -> Counted
-        requires own { errand.token.tree ≡ self.now.tree }
-        requires rule { Answers (F.pre self.now.rule.closure) (F.post self.now.rule.closure) (end_ends_at self.now.rule.plan) }
-        ensures answer { (h : Holding) → 0 < h.view.size → errand.token.tree ≡ h.tree → HasPassed own h.view errand.token.view → ArrivesAtLast own h result }
-        ensures unsplit { (token_counted result).opened ≡ errand.token.opened }
-    {
-        match self.resume_wait(rt, errand) {
-            Counted::Left(door, phase, led) => {
-                let _ = door.phase();
-                Counted::Left(door, phase, led)
-            }
-            answer => answer,
-        }
-    }
-
-    /// Lets a member arrive or leave, by so many tries. Where they did not suffice, the crew is an error.
-    fn pass_once<R: Wait>(&self, rt: &R, crew: Crew, own: Passage) -> Result<Counted, Crew>
-        requires own { crew.tree ≡ self.now.tree }
-        requires rule { Answers (F.pre self.now.rule.closure) (F.post self.now.rule.closure) (end_ends_at self.now.rule.plan) }
-        ensures some { 0 < crew.view.size }
-        ensures answer { MatchResult result (λ a. ArrivesAtLast own crew a) (λ next. (next.tree ≡ crew.tree) × IsLooked crew.view next.view) }
-        ensures unsplit { MatchResult result (λ a. (token_counted a).opened ≡ crew.opened) (λ next. next.opened ≡ crew.opened) }
-        ensures ended { (phase : ℕ) → crew.view.end_seen ≡ Some phase → MatchResult result HasEndedArrival (λ next. ⊥) }
-    {
-        let _ = crew.size();
-        match self.tiers.pass(crew, own, &self.rule, TRIES) {
-            Arrived::Done(crew, phase, led) => Ok(Counted::Done(crew, phase, led)),
-            Arrived::Left(door, phase, led) => Ok(Counted::Left(door, phase, led)),
-            Arrived::AlreadyArrived(crew, phase) => Ok(Counted::AlreadyArrived(crew, phase)),
-            Arrived::Ended(crew, shown) => Ok(Counted::Ended(crew, shown)),
-            Arrived::Busy(next) => Err(next),
-            Arrived::Owing(errand) => Ok(self.settle_wait(rt, errand, own)),
-        }
-    }
-
-    /// Lets a member arrive or leave.
-    fn pass_wait<R: Wait>(&self, rt: &R, crew: Crew, own: Passage) -> Counted
-        requires own { crew.tree ≡ self.now.tree }
-        requires rule { Answers (F.pre self.now.rule.closure) (F.post self.now.rule.closure) (end_ends_at self.now.rule.plan) }
-        ensures answer { ArrivesAtLast own crew result }
-        ensures unsplit { (token_counted result).opened ≡ crew.opened }
-        ensures ended { (phase : ℕ) → crew.view.end_seen ≡ Some phase → HasEndedArrival result }
-    {
-        let mut crew = crew;
-        for _ in rt.forever() {
-            match self.pass_once(rt, crew, own) {
-                Ok(answer) => return answer,
-                Err(next) => crew = next,
-            }
-            thread::yield_now();
-        }
-        unreachable!()
-    }
-
-    /// Lets a member arrive. It is never answered `Left`.
+    /// Lets a member of `crew`, a token of this tree, arrive. Never returns `Left`.
+    ///
+    /// It takes the crew and returns it, so that the crew can't be used while its call is under way. Use it if the
+    /// crew is moved anyway, as between threads, or where the answer holds it. Else use `arrive_in_place`, which has
+    /// the same effect and moves nothing.
     pub fn arrive_wait<R: Wait>(&self, rt: &R, crew: Crew) -> Counted
         requires own { crew.tree ≡ self.now.tree }
         requires rule { Answers (F.pre self.now.rule.closure) (F.post self.now.rule.closure) (end_ends_at self.now.rule.plan) }
@@ -211,10 +296,11 @@ impl<F: Fn(u32, u32) -> bool> Tree<F> {
         ensures unsplit { (token_counted result).opened ≡ crew.opened }
         ensures ended { (phase : ℕ) → crew.view.end_seen ≡ Some phase → HasEndedArrival result }
     {
-        self.pass_wait(rt, crew, Passage::Arrival)
+        pass_wait(&self.tiers, rt, crew, Passage::Arrival, &self.rule)
     }
 
-    /// Lets a member of a crew arrive that stays where it is. It waits as `arrive_wait` does, and moves nothing.
+    /// Lets a member of `crew`, a token of this tree, arrive. The crew stays where it is: this is `arrive_wait` for a
+    /// caller that keeps its crew in a variable or in a list. It waits as `arrive_wait` does.
     #[inline]
     pub fn arrive_in_place<R: Wait>(&self, rt: &R, crew: &mut Crew) -> Came
         requires own { crew.old.tree ≡ self.now.tree }
@@ -225,7 +311,8 @@ impl<F: Fn(u32, u32) -> bool> Tree<F> {
         self.tiers.arrive_in_place(rt, crew, &self.rule)
     }
 
-    /// Lets a member leave, which counts as its arrival.
+    /// Lets a member of `crew`, a token of this tree, leave. Its departure counts as its arrival. Returns `Left`, with a
+    /// door, if the member was the last of the crew.
     pub fn leave_wait<R: Wait>(&self, rt: &R, crew: Crew) -> Counted
         requires own { crew.tree ≡ self.now.tree }
         requires rule { Answers (F.pre self.now.rule.closure) (F.post self.now.rule.closure) (end_ends_at self.now.rule.plan) }
@@ -233,11 +320,13 @@ impl<F: Fn(u32, u32) -> bool> Tree<F> {
         ensures unsplit { (token_counted result).opened ≡ crew.opened }
         ensures ended { (phase : ℕ) → crew.view.end_seen ≡ Some phase → HasEndedArrival result }
     {
-        self.pass_wait(rt, crew, Passage::Departure)
+        pass_wait(&self.tiers, rt, crew, Passage::Departure, &self.rule)
     }
 
-    /// Waits until the phase has passed in which all members of the crew have arrived. Where a member has
-    /// not arrived, or the tree has ended, it does not wait.
+    /// Waits until the phase in which all members of `crew`, a token of this tree, have arrived is over. Returns at once
+    /// if a member has not arrived, or the tree has ended.
+    ///
+    /// A thread that sees `Passed` sees all that any member's thread did before it arrived in that phase.
     pub fn await_advance<R: Wait>(&self, rt: &R, crew: &mut Crew) -> Awaited
         requires own { crew.old.tree ≡ self.now.tree }
         ensures tree { crew.new.tree ≡ crew.old.tree }
@@ -245,15 +334,6 @@ impl<F: Fn(u32, u32) -> bool> Tree<F> {
         ensures unsplit { crew.new.opened ≡ crew.old.opened }
         ensures ended { (phase : ℕ) → crew.old.view.end_seen ≡ Some phase → HasEndedWait result }
     {
-        let _ = crew.size();
-        for _ in rt.forever() {
-            match self.poll(crew) {
-                Polled::Passed(phase) => return Awaited::Passed(phase),
-                Polled::Here(phase) => return Awaited::Here(phase),
-                Polled::Ended(shown) => return Awaited::Ended(shown),
-                Polled::Waiting => thread::yield_now(),
-            }
-        }
-        unreachable!()
+        await_advance(&self.tiers, rt, crew)
     }
 }

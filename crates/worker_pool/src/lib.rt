@@ -20,8 +20,10 @@ mod run;
 mod shared;
 mod start;
 mod tree;
+mod within;
 mod work;
 
 pub use fault::Refused;
 pub use hooks::{AllStart, Gate, OpenGate, Starter};
 pub use run::run_job;
+pub use within::run_within;

@@ -25,7 +25,7 @@ returns-in-Full g c =
     record {
       answer = (
         told.0.tree ∙ c.requires.own,
-        refused_for c.args.tiers.now c.args.door c.args.tier c.args.tier c.args.n c.args.n c.in-Full.next.view (played.Full c.in-Full.count) c.requires.own refl refl
+        refused_for c.args.tiers.now c.args.door c.args.tier c.args.tier c.args.members c.args.members c.in-Full.next.view (played.Full c.in-Full.count) c.requires.own refl refl
             told.1,
       );
       unsplit = told.0.opened;
@@ -44,7 +44,7 @@ returns-in-Owing g c =
     let asked = c.in-Owing.ensures.answer.1 in
     let errand = c.in-Owing.opening.token.view.errand in
     record {
-      answer = opens_for c.args.tiers.now (asked_tier errand) c.args.tier (asked_size errand) c.args.n c.open_wait.result asked.place asked.members c.open_wait.ensures.answer;
+      answer = opens_for c.args.tiers.now (asked_tier errand) c.args.tier (asked_size errand) c.args.members c.open_wait.result asked.place asked.members c.open_wait.ensures.answer;
       unsplit = subst (λ (n : ℕ). HasSplit n c.open_wait.result) c.in-Owing.ensures.answer.0.opened c.open_wait.ensures.unsplit;
       ended = λ p e. absurd (c.in-Owing.ensures.ended p e);
     }

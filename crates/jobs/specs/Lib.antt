@@ -1,0 +1,17 @@
+pub use Rattle.advance_rule.specs.Plan
+pub use Rattle.advance_rule.specs.Stored
+pub use Rattle.job_reader.specs.Grammar
+pub use Rattle.job_reader.specs.Legal
+pub use Rattle.job_reader.specs.Reading
+pub use Rattle.job_reader.specs.Writing
+pub use Rattle.job_reader.specs.Upgrade
+pub use Rattle.phase_records.specs.ReportText
+pub use Rattle.phase_records.specs.ReportValue
+pub use Rattle.phase_records.specs.StatusSeen
+pub use Rattle.step_core.specs.JobMeaning
+pub use Rattle.step_core.specs.Program
+pub use Rattle.step_core.specs.RoundView
+pub use Rattle.tier_shape.specs.Faults
+pub use Rattle.tier_shape.specs.Told
+pub use Rattle.worker_pool.specs.JobPlan
+pub use Rattle.worker_pool.specs.Refusals

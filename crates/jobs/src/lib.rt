@@ -1,0 +1,76 @@
+//! Jobs: read, run on one thread or on several, written.
+//!
+//! A program of your own is a crate of this repository, `crates/NAME`. The command `tools/new NAME` makes one; name `jobs` in
+//! its line of `crates.txt`.
+//!
+//! * [`read_job`] reads a [`Job`] from its text, and [`write_job`] writes it.
+//! * [`run_alone`] runs a job on the caller's thread, and [`run_watched`] does so under the eyes of a [`Watch`].
+//! * [`run_within`] runs it on 1 to 64 worker threads, which meet at a tree of phasers after each superstep. The [`Report`] is
+//!   the same whatever the number of workers and the shape of the tree. [`run_job`] is the call below it, for an advance rule
+//!   of your own.
+//! * [`Round`] runs a job superstep by superstep, by deliveries in any order.
+//!
+//! Four workers run four tasks, which shift the cells of an array three times round:
+//!
+//! ```
+//! use jobs::{AllStart, OpenGate, Shape, read_job, run_within};
+//!
+//! // Each task moves its cell to the next, three times.
+//! const SHIFT: &[u8] = b"bsp 1
+//! array a 4 5 6 7 8
+//! body shift
+//! let to = arg + 1
+//! let to = to % 4
+//! let turn = 0
+//! while turn < 3
+//! put a[to] = a[arg]
+//! sync
+//! let turn = turn + 1
+//! end
+//! end
+//! start shift 0
+//! start shift 1
+//! start shift 2
+//! start shift 3
+//! ";
+//!
+//! fn main(rt: HostRuntime) -> anyhow::Result<()> {
+//!     let Ok(job) = read_job(rt.alloc(), SHIFT) else {
+//!         println!(rt; "not a job")?;
+//!         return Ok(());
+//!     };
+//!     // At most 1000 supersteps. The tree has a root with two leaves.
+//!     let shape = Shape::from_widths(rt.alloc(), "2")?;
+//!     let report = run_within(&rt, rt.alloc(), &job, shape, 4, 1000, &OpenGate, &AllStart)?;
+//!     let mut cells = Vec::new(rt.alloc());
+//!     for index in 0..4 {
+//!         cells.push(report.arrays.cell(0, index).unwrap_or(0))?;
+//!     }
+//!     println!(rt; "{cells:?}")?;
+//!     Ok(())
+//! }
+//! ```
+//!
+//! It prints `[6, 7, 8, 5]`.
+//!
+//! # What is in it
+//!
+//! * Texts: [`read_job`], [`write_job`], [`canonical`], [`upgrade`], [`ReadJobFault`], [`Refusal`], [`Code`].
+//! * Runs: [`run_alone`], [`run_watched`], [`run_within`], [`run_job`], [`Refused`], why a run gives no report.
+//! * Hooks: [`Watch`] and [`NoWatch`] of a run on one thread; [`Gate`] and [`OpenGate`], called before and after each task's
+//!   part of a superstep; [`Starter`] and [`AllStart`], asked before each worker is started.
+//! * Reports: [`Report`], with its [`Print`]s, [`PhaseRecord`]s, arrays and [`JobStatus`]; [`write_report`], [`text_of`].
+//! * Supersteps: [`Round`], [`Order`], [`Delivery`], [`AcceptFault`], [`CloseFault`], [`Outcome`].
+//! * What the calls take: [`Job`], [`Shape`], [`EndPlan`], [`StoredAdvance`].
+#![tactic(auto)]
+
+pub use advance_rule::{EndPlan, StoredAdvance};
+pub use job_reader::{Code, ReadJobFault, Refusal, canonical, read_job, upgrade, write_job};
+pub use phase_records::{JobStatus, PhaseRecord, Print, Report, WriteFault, text_of, write_report};
+pub use step_core::{
+    AcceptFault, CloseFault, Delivery, NoWatch, Order, Outcome, Round, Watch, run_alone,
+    run_watched,
+};
+pub use task_code::job::Job;
+pub use tier_shape::{Shape, ShapeFault};
+pub use worker_pool::{AllStart, Gate, OpenGate, Refused, Starter, run_job, run_within};

@@ -1,0 +1,64 @@
+-- What the calls of a tree's tokens answer, as what the calls of `tier_table` answer: a guest or a party is the token that it keeps.
+use Rattle.std.specs.Prelude.{◌≡◌, ℕ}
+use Rattle.tier_calls.specs.Holding.{Holding, IsSat, split_once}
+use Rattle.tier_calls.specs.InPlace.{ArrivesInPlace}
+use Rattle.tier_calls.specs.JoinsHere.{JoinsHere}
+use Rattle.tier_calls.specs.Made.{HasEntered, HasLooked}
+use Rattle.tier_calls.specs.Registers.{token_of}
+use Rattle.tier_calls.specs.declared.in_place.Came.{Came}
+use Rattle.tier_calls.specs.declared.joining.Registered.{Registered}
+use Rattle.tier_calls.specs.declared.joining.Registered.TheVariants as registered
+use Rattle.tier_table.specs.AtLast.{AwaitsAdvance}
+use Rattle.tier_table.specs.declared.waiting.Awaited.{Awaited}
+use Rattle.tier_table.specs.declared.waiting.Admitted.{Admitted}
+use Rattle.tier_table.specs.declared.waiting.Admitted.TheVariants as admitted
+use Rattle.tier_table.specs.declared.waiting.Counted.{Counted}
+use Rattle.tier_table.specs.declared.waiting.Counted.TheVariants as counted
+use Rattle.phasers.specs.declared.tree.Brought.{Brought}
+use Rattle.phasers.specs.declared.tree.Brought.TheVariants as brought
+use Rattle.phasers.specs.declared.tree.Joined.{Joined}
+use Rattle.phasers.specs.declared.tree.Joined.TheVariants as joined
+use Rattle.phasers.specs.declared.tree.Departed.{Departed}
+use Rattle.phasers.specs.declared.tree.Departed.TheVariants as departed
+
+abbrev pub admitted_of : {A : Type 0} → Joined A → Admitted
+admitted_of (joined.Joined party phase) = admitted.Joined party phase
+admitted_of (joined.Full guest count) = admitted.Full guest count
+admitted_of (joined.Ended guest shown) = admitted.Ended guest shown
+
+abbrev pub counted_of : {A : Type 0} → Departed A → Counted
+counted_of (departed.Done party phase led) = counted.Done party phase led
+counted_of (departed.Left guest phase led) = counted.Left guest phase led
+counted_of (departed.AlreadyArrived party phase) = counted.AlreadyArrived party phase
+counted_of (departed.Ended party shown) = counted.Ended party shown
+
+-- an arrival, and then a wait
+pub record Meets (old new : Holding) (answer : Awaited) : Type 0 where
+  pub between : Holding
+  pub came : Came
+  pub arrives : ArrivesInPlace old between came
+  pub awaits : AwaitsAdvance between new answer
+
+-- a token that was split off a party, by which others joined at its tier
+pub record BringsBy (old new : Holding) (n tries : ℕ) (answer : Registered) : Type 0 where
+  pub door : Holding
+  pub sat : IsSat old.tree door
+  pub joins : JoinsHere (split_once old) new door n tries answer
+  pub entered : HasEntered door.steps (token_of answer).steps
+  pub looked : HasLooked old.steps new.steps
+
+-- what a party answers that brings others, `n` of them
+abbrev pub Brings : {A : Type 0} → Holding → Holding → ℕ → ℕ → Brought A → Type 0
+Brings old new n tries (brought.Joined party phase) = BringsBy old new n tries (registered.Joined party phase)
+Brings old new n tries (brought.Full guest count) = BringsBy old new n tries (registered.Full guest count)
+Brings old new n tries (brought.Ended guest shown) = BringsBy old new n tries (registered.Ended guest shown)
+Brings old new n tries (brought.Busy guest) = BringsBy old new n tries (registered.Busy guest)
+Brings old new n tries brought.AllArrived = (new ≡ old) × (old.view.arrived ≡ old.view.size)
+
+-- the answer says that the tree has ended, unless the call did nothing
+abbrev pub HasEndedBringing : {A : Type 0} → Brought A → Type 0
+HasEndedBringing (brought.Ended guest shown) = Unit {0}
+HasEndedBringing brought.AllArrived = Unit {0}
+HasEndedBringing (brought.Joined party phase) = ⊥
+HasEndedBringing (brought.Full guest count) = ⊥
+HasEndedBringing (brought.Busy guest) = ⊥

@@ -1,0 +1,162 @@
+//! Phasers, trees of phasers and barriers.
+//!
+//! A program of your own is a crate of this repository, `crates/NAME`. The command `tools/new NAME` makes one, with its line
+//! in `crates.txt`; `rt run` in its folder proves it and runs it. None of your functions needs a clause for the calls below,
+//! because the types keep what the calls rely on.
+//!
+//! # A tree of phasers
+//!
+//! * [`PhaserTree`](tree::PhaserTree): the tree. It ends as its [`EndPlan`](tree::EndPlan) says: `EndPlan::when_empty()`, or
+//!   `EndPlan::at_phase(p)` with the end of phase `p`. Then each call returns `Ended`.
+//! * [`Guest`](tree::Guest): a token without members. `split` makes another, one for each thread; `join` registers one
+//!   member at the leaf of a number, `register` several at a tier; `force` ends the tree.
+//! * [`Party`](tree::Party): a token with members, all at one tier. `meet` arrives and waits; `arrive` and `await_advance`
+//!   are its two halves, and `poll` doesn't wait. `bring` registers more members, `leave` takes one away.
+//! * [`OnAdvance`](tree::OnAdvance): a hook of your own, which `PhaserTree::with_hook` runs at each advance.
+//!
+//! Four threads meet on a root with two children that have two leaves each. Thread 0 brings a member in phase 3, thread 1
+//! leaves in phase 5, and the plan ends the tree:
+//!
+//! ```
+//! use phasers::tree::{Awaited, Brought, EndPlan, Joined, Party, PhaserTree};
+//! use std::sync::Wait;
+//! use std::thread;
+//!
+//! // Meets the others until the tree ends, and returns the last phase in which this thread took part.
+//! fn last_phase<R: Wait>(rt: &R, (number, mut own): (usize, Party<'_>)) -> u32 {
+//!     let mut other = Brought::AllArrived;
+//!     for _ in rt.forever() {
+//!         match (number, own.phase()) {
+//!             (0, 3) => other = own.bring(rt, 1, 1000),
+//!             (1, 5) => break,
+//!             _ => {}
+//!         }
+//!         if let Brought::Joined(party, _) = &mut other {
+//!             party.arrive(rt);
+//!         }
+//!         if let Awaited::Ended(_) = own.meet(rt) {
+//!             break;
+//!         }
+//!     }
+//!     let last = own.phase();
+//!     own.leave(rt);
+//!     last
+//! }
+//!
+//! fn main(rt: HostRuntime) -> anyhow::Result<()> {
+//!     let mut tree = PhaserTree::from_widths(rt.alloc(), "2x2", EndPlan::at_phase(9))?;
+//!     let mut guest = tree.guest();
+//!     let mut parties = Vec::new(rt.alloc());
+//!     for number in 0..4 {
+//!         if let Joined::Joined(party, _) = guest.split().join(&rt, number) {
+//!             parties.push((number, party))?;
+//!         }
+//!     }
+//!     let last = thread::map_vec(&rt, parties, &|it: (usize, Party<'_>)| last_phase(&rt, it))?;
+//!     println!(rt; "{last:?}")?;
+//!     Ok(())
+//! }
+//! ```
+//!
+//! It prints `[9, 5, 9, 9]`.
+//!
+//! Register all who meet in phase 0 before the first thread starts: who joins later joins the phase that runs then.
+//!
+//! # A barrier
+//!
+//! * [`Barrier`](barrier::Barrier): `await_turn` waits until all parties have arrived. Each thread calls it with a number of
+//!   its own. `break_off`, `abandon` and `reset` break the barrier or start it again.
+//! * [`Action`](barrier::Action): what the last caller of a generation runs, before any caller passes.
+//!   [`NoAction`](barrier::NoAction) does nothing.
+//!
+//! Three threads meet twenty times:
+//!
+//! ```
+//! use phasers::barrier::{Action, Barrier, GateFault};
+//! use std::sync::Wait;
+//! use std::sync::atomic::{AtomicU64, Ordering};
+//! use std::thread;
+//!
+//! #[derive(Drop)]
+//! struct Counting<'a>(&'a AtomicU64);
+//!
+//! impl Action for Counting<'_> {
+//!     fn run(&self, _generation: u64) {
+//!         self.0.fetch_add(1, Ordering::SeqCst);
+//!     }
+//! }
+//!
+//! // Meets the others twenty times, and returns the sum of the arrival indices.
+//! fn turns<R: Wait, A: Action>(rt: &R, barrier: &Barrier<A>, caller: u32) -> Result<u64, GateFault> {
+//!     let mut sum = 0u64;
+//!     for _ in 0..20 {
+//!         match barrier.await_turn(rt, caller) {
+//!             Ok(index) => sum = sum.saturating_add(u64::from(index)),
+//!             Err(fault) => {
+//!                 // The others would wait for this thread.
+//!                 barrier.break_off(rt);
+//!                 return Err(fault);
+//!             }
+//!         }
+//!     }
+//!     Ok(sum)
+//! }
+//!
+//! fn main(rt: HostRuntime) -> anyhow::Result<()> {
+//!     let count = AtomicU64::new(0);
+//!     let barrier = Barrier::new(rt.alloc(), 3, Counting(&count))?;
+//!     let sums = thread::map_indices(
+//!         &rt,
+//!         rt.alloc(),
+//!         3,
+//!         &|i: usize| turns(&rt, &barrier, i as u32),
+//!     )?;
+//!     let mut all = 0u64;
+//!     for sum in sums {
+//!         all = all.saturating_add(sum?);
+//!     }
+//!     println!(rt; "{all} {}", count.load(Ordering::SeqCst))?;
+//!     Ok(())
+//! }
+//! ```
+//!
+//! It prints `60 20`: in each generation the three indices 0, 1 and 2, and one call of the action.
+//!
+//! # What a thread that passes may rely on
+//!
+//! A thread that sees an advance (`Passed`, or a turn at a barrier) sees all that each member's thread wrote before its
+//! arrival in that phase, and all that the hook or the action wrote. Each value that threads share is atomic or under a
+//! lock, as everywhere in Rattle.
+//!
+//! What the calls return is proved; that a call returns at all is not. It waits for ever if the others never arrive.
+//!
+//! # What deadlocks
+//!
+//! * A member that a thread brings while its own member has not arrived belongs at its own tier: use `bring`. A `join` or
+//!   `register` at another tier waits for the next phase if all parties there have arrived, and they wait for the caller.
+//! * A thread that gives up without a word. A party that is dropped stays registered, and the others wait for it: call
+//!   `leave` first, or `force` the tree to end. At a barrier, call `break_off`.
+//! * A hook that calls its tree, or an action that calls its barrier.
+//!
+//! # What is in it
+//!
+//! * [`tree`]: the types above; their answers, [`Joined`](tree::Joined), [`Departed`](tree::Departed),
+//!   [`Brought`](tree::Brought), [`Came`](tree::Came), [`Polled`](tree::Polled), [`Awaited`](tree::Awaited) and
+//!   [`Forced`](tree::Forced); [`Shape`](tree::Shape), which tier is whose parent; [`Tree`](tree::Tree), the same tree with a
+//!   closure that ends it and calls that never wait; [`Core`](tree::Core), the tree as a value, one step at a time.
+//! * [`barrier`]: the types above; [`CyclicGate`](barrier::CyclicGate), the same barrier with a closure that may fail;
+//!   [`BarrierCore`](barrier::BarrierCore), the barrier as a value.
+//! * [`phaser`]: [`PhaserOne`](phaser::PhaserOne), a single phaser as a value, with [`StoredCount`](phaser::StoredCount), the
+//!   closure that ends it.
+//!
+//! A clause of yours may cite those of the calls. A `Guest` or a `Party` is a `Holding` there, as the token that it keeps.
+#![tactic(auto)]
+
+pub mod barrier;
+#[cfg(test)]
+mod examples;
+pub mod phaser;
+mod shared;
+#[cfg(test)]
+mod tests;
+pub mod tree;

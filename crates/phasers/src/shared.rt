@@ -1,0 +1,140 @@
+//! What the tokens of a tree share: its tiers, the plan that ends it, its leaves, and the hook of its advances.
+
+ghost use Rattle.std.specs.Prelude.{◌≡◌, ◌<◌, ◌≤◌, ℕ, Some, [], length, IfOk};
+ghost use Rattle.advance_rule.specs.Plan.{end_ends_at};
+ghost use Rattle.tier_steps.specs.View.{new_view};
+ghost use Rattle.tier_steps.specs.Start.{empty_word};
+ghost use Rattle.tier_calls.specs.Arrives.{Arrives, Resumes};
+ghost use Rattle.tier_calls.specs.Arrives as arrives;
+ghost use Rattle.tier_calls.specs.InPlace.{ArrivesInPlace};
+ghost use Rattle.tier_calls.specs.InPlace as in_place;
+ghost use Rattle.tier_shape.specs.Leaves.{leaves_of};
+ghost use Rattle.tier_shape.specs.Preferred.{leaf_at};
+ghost use Rattle.tier_steps.specs.declared.view.Passage.TheVariants.{Departure};
+ghost use Rattle.tier_table.specs.AtLast.{token_counted, ArrivesAtLast, HasEndedArrival};
+
+use advance_rule::{EndPlan, StoredAdvance};
+use std::alloc::{AllocError, Global};
+use std::marker::Model;
+use std::sync::Wait;
+use tier_calls::in_place::Came;
+use tier_calls::tiers::Tiers;
+use tier_calls::tokens::{Crew, Door};
+use tier_shape::Shape;
+use tier_shape::leaves::leaf_at;
+use tier_steps::view::Passage;
+use tier_table::waiting::{Counted, pass_wait};
+
+/// An action at each advance of a tree (Java SE 21, `Phaser.onAdvance`).
+///
+/// The thread that takes the advance runs it before the next phase starts, so no party passes meanwhile. It must not
+/// call the tree.
+pub trait OnAdvance {
+    /// Runs at the end of `phase`, with the number of parties registered at the root.
+    fn run(&self, phase: u32, parties: u32);
+}
+
+/// Does nothing at an advance.
+#[derive(Clone, Copy)]
+pub struct NoHook;
+
+impl OnAdvance for NoHook {
+    fn run(&self, _phase: u32, _parties: u32) {}
+}
+
+/// The tiers of a tree, the plan that ends it, its leaves, and the hook of its advances.
+#[derive(Drop)]
+pub(crate) struct SharedTree<A: OnAdvance> {
+    pub(crate) tiers: Tiers,
+    plan: EndPlan,
+    leaves: Vec<u16>,
+    hook: A,
+}
+
+impl<A: OnAdvance> Model for SharedTree<A> {
+    ghost use Rattle.std.specs.Prelude.{◌≡◌, ◌<◌, length};
+    ghost use Rattle.tier_calls.specs.Holding.{Named};
+    ghost use Rattle.tier_shape.specs.Leaves.{leaves_of};
+
+    ghost Value = { Named };
+
+    ghost view = { λ s. s.tiers };
+
+    ghost invariant = { λ s. (s.tiers.key.plan ≡ s.plan) × (s.leaves.items ≡ leaves_of s.tiers.key.shape) × (0 < length s.leaves.items) };
+}
+
+// The tiers that are leaves of a shape.
+fn leaves_in(alloc: Global, shape: &Shape) -> Result<Vec<u16>, AllocError>
+    ensures { IfOk result (λ tiers. (tiers.items ≡ leaves_of shape.now) × (0 < length tiers.items)) }
+{
+    // For the prover: these are the tiers of a shape.
+    let _tiers = shape.count();
+    let tiers = shape.leaves(alloc)?;
+    Ok(tiers)
+}
+
+impl<A: OnAdvance> SharedTree<A> {
+    /// Creates empty tiers in `phase`, and the first token.
+    pub(crate) fn new(
+        alloc: Global,
+        shape: Shape,
+        phase: u32,
+        plan: EndPlan,
+        hook: A,
+    ) -> Result<(SharedTree<A>, Door), AllocError>
+    where
+        A: Drop,
+        requires { phase ≤ 2147483647 }
+        ensures tree { IfOk result (λ r. r.0.key ≡ record { shape = shape; phase = phase; plan = plan }) }
+        ensures token { IfOk result (λ r. (r.1.tree ≡ r.0) × (r.1.view ≡ new_view phase) × (r.1.tier ≡ 0) × (r.1.word ≡ empty_word phase) × (r.1.tried ≡ 0) × (r.1.steps ≡ []) × (r.1.opened ≡ 0)) }
+    {
+        let leaves = leaves_in(alloc, &shape)?;
+        let (tiers, door) = Tiers::new(alloc, shape, phase, plan)?;
+        Ok((
+            SharedTree {
+                tiers,
+                plan,
+                leaves,
+                hook,
+            },
+            door,
+        ))
+    }
+
+    /// Returns the tier of the leaf of this number. After the last leaf, numbers start again at the first.
+    pub(crate) fn leaf(&self, number: usize) -> u16
+        ensures leaf { result ≡ leaf_at (leaves_of self.now.key.shape) number }
+        ensures within { result < length self.now.key.shape }
+    {
+        leaf_at(&self.leaves, number)
+    }
+
+    // Runs the hook, and returns true if the tree ends at this advance.
+    fn ends(&self, phase: u32, count: u32) -> bool
+        ensures { result ≡ end_ends_at self.now.key.plan phase count }
+    {
+        self.hook.run(phase, count);
+        self.plan.ends(phase, count == 0)
+    }
+
+    /// Lets a member of `crew` arrive. The crew stays where it is.
+    pub(crate) fn arrive_in_place<R: Wait>(&self, rt: &R, crew: &mut Crew) -> Came
+        requires own { crew.old.tree ≡ self.now }
+        ensures answer { ArrivesInPlace crew.old crew.new result }
+        ensures ended { (phase : ℕ) → crew.old.view.end_seen ≡ Some phase → in_place.HasEnded result }
+    {
+        let rule = StoredAdvance::new(|phase: u32, count: u32| self.ends(phase, count), self.plan);
+        self.tiers.arrive_in_place(rt, crew, &rule)
+    }
+
+    /// Lets a member of `crew` leave.
+    pub(crate) fn leave_wait<R: Wait>(&self, rt: &R, crew: Crew) -> Counted
+        requires own { crew.tree ≡ self.now }
+        ensures answer { ArrivesAtLast Departure crew result }
+        ensures unsplit { (token_counted result).opened ≡ crew.opened }
+        ensures ended { (phase : ℕ) → crew.view.end_seen ≡ Some phase → HasEndedArrival result }
+    {
+        let rule = StoredAdvance::new(|phase: u32, count: u32| self.ends(phase, count), self.plan);
+        pass_wait(&self.tiers, rt, crew, Passage::Departure, &rule)
+    }
+}

@@ -1,0 +1,429 @@
+//! A tree of phasers whose callers owe nothing: the tree ends by its plan, and each token holds on to its tree.
+
+ghost use Rattle.std.specs.Prelude.{◌≡◌, ◌<◌, ◌≤◌, ◌+◌, ℕ, None, Some, Ok, Err, [], ◌∷◌, length, IfOk, IfErr};
+ghost use Rattle.tier_calls.specs.Holding.{Holding, IsSat, split_once};
+ghost use Rattle.tier_calls.specs.InPlace.{ArrivesInPlace};
+ghost use Rattle.tier_calls.specs.InPlace as in_place;
+ghost use Rattle.tier_calls.specs.Polls.{Polls};
+ghost use Rattle.tier_calls.specs.Polls as polls;
+ghost use Rattle.tier_calls.specs.Forces.{Forces, ForcedBy};
+ghost use Rattle.tier_calls.specs.Forces as forces;
+ghost use Rattle.tier_calls.specs.Registers.{Registers};
+ghost use Rattle.tier_steps.specs.declared.view.Passage.TheVariants.{Departure};
+ghost use Rattle.tier_table.specs.AtLast.{token_admitted, token_counted, RegistersAtLast, ArrivesAtLast, AwaitsAdvance, HasEndedJoin, HasEndedArrival, HasEndedWait};
+ghost use Rattle.tier_shape.specs.Leaves.{leaves_of};
+ghost use Rattle.tier_shape.specs.Preferred.{leaf_at};
+ghost use Rattle.tier_shape.specs.Faults.{fault_number};
+ghost use Rattle.tier_shape.specs.Told.{shape_told};
+ghost use Rattle.phasers.specs.Thin.{admitted_of, counted_of, Meets, Brings, HasEndedBringing};
+
+use crate::shared::SharedTree;
+pub use crate::shared::{NoHook, OnAdvance};
+pub use advance_rule::{EndPlan, StoredAdvance};
+use std::alloc::{AllocError, Global};
+use std::marker::Model;
+use std::sync::Wait;
+pub use tier_calls::forcing::Forced;
+pub use tier_calls::in_place::Came;
+use tier_calls::joining::Registered;
+pub use tier_calls::polling::Polled;
+use tier_calls::tokens::{Crew, Door};
+pub use tier_core::tree::Core;
+pub use tier_shape::{Shape, ShapeFault};
+pub use tier_table::tree::Tree;
+pub use tier_table::waiting::Awaited;
+use tier_table::waiting::{Admitted, Counted, await_advance, open_wait, register_wait};
+
+/// A tree of phasers that ends as its plan says (Java SE 21, tiered `Phaser`s).
+///
+/// Any threads share it, each by tokens of its own: a [`Guest`] has no members, a [`Party`] has some, all at one tier.
+/// A token refers to its tree, so the tree outlives its tokens.
+///
+/// ```
+/// let plan = EndPlan::at_phase(2);
+/// let mut tree = PhaserTree::from_widths(rt.alloc(), "2", plan).expect(&rt, "a tree");
+/// let mut guest = tree.guest();
+/// // The only member meets in phases 0 and 1; the tree ends with phase 2.
+/// if let Joined::Joined(mut party, _) = guest.split().join(&rt, 0) {
+///     assert!(rt; party.meet(&rt) == Awaited::Passed(1));
+///     assert!(rt; party.meet(&rt) == Awaited::Passed(2));
+///     assert!(rt; matches!(party.meet(&rt), Awaited::Ended(_)));
+/// }
+/// ```
+#[derive(Drop)]
+pub struct PhaserTree<A: OnAdvance = NoHook> {
+    shared: SharedTree<A>,
+    first: Door,
+}
+
+impl<A: OnAdvance> Model for PhaserTree<A> {
+    ghost use Rattle.std.specs.Prelude.{◌≡◌};
+    ghost use Rattle.tier_calls.specs.Holding.{Named};
+
+    ghost Value = { Named };
+
+    ghost view = { λ t. t.shared };
+
+    ghost invariant = { λ t. t.first.tree ≡ t.shared };
+}
+
+/// A token without members, which can register some.
+#[derive(Drop)]
+pub struct Guest<'a, A: OnAdvance = NoHook> {
+    shared: &'a SharedTree<A>,
+    door: Door,
+}
+
+impl<'a, A: OnAdvance> Model for Guest<'a, A> {
+    ghost use Rattle.std.specs.Prelude.{◌≡◌};
+    ghost use Rattle.tier_calls.specs.Holding.{Holding};
+
+    ghost Value = { Holding };
+
+    ghost view = { λ g. g.door };
+
+    ghost invariant = { λ g. g.door.tree ≡ g.shared.now };
+}
+
+/// A token with members, all at one tier. Its members arrive, and leave, one after another.
+#[derive(Drop)]
+pub struct Party<'a, A: OnAdvance = NoHook> {
+    shared: &'a SharedTree<A>,
+    crew: Crew,
+}
+
+impl<'a, A: OnAdvance> Model for Party<'a, A> {
+    ghost use Rattle.std.specs.Prelude.{◌≡◌};
+    ghost use Rattle.tier_calls.specs.Holding.{Holding};
+
+    ghost Value = { Holding };
+
+    ghost view = { λ p. p.crew };
+
+    ghost invariant = { λ p. p.crew.tree ≡ p.shared.now };
+}
+
+/// The answer of a registration.
+#[derive(Drop)]
+pub enum Joined<'a, A: OnAdvance = NoHook> {
+    /// The members have joined. The party has them, and the number is its phase: meet by the party.
+    Joined(Party<'a, A>, u32),
+    /// There is no room: a tier of the path has this many parties, and 65535 is the most. Nobody has joined. Try another
+    /// tier, or wait until members have left.
+    Full(Guest<'a, A>, u32),
+    /// The tree has ended, and shows this number as its phase, which is negative. Nobody can join any more.
+    Ended(Guest<'a, A>, i32),
+}
+
+/// The answer of a departure.
+#[derive(Drop)]
+pub enum Departed<'a, A: OnAdvance = NoHook> {
+    /// A member has left, and the party has others.
+    Done {
+        /// The party without that member.
+        party: Party<'a, A>,
+        /// The phase in which it left.
+        phase: u32,
+        /// Whether the call took the advance.
+        led: bool,
+    },
+    /// The last member has left. Register by the guest to take part again, or drop it.
+    Left {
+        /// The token, without members now.
+        guest: Guest<'a, A>,
+        /// The phase in which the member left.
+        phase: u32,
+        /// Whether the call took the advance.
+        led: bool,
+    },
+    /// All members had arrived in this phase before, so none could leave in it. Call `await_advance` first.
+    AlreadyArrived(Party<'a, A>, u32),
+    /// The tree has ended, and shows this number as its phase, which is negative. Nobody has to leave any more.
+    Ended(Party<'a, A>, i32),
+}
+
+/// The answer of a party that brings new members.
+#[derive(Drop)]
+pub enum Brought<'a, A: OnAdvance = NoHook> {
+    /// The members have joined. The new party has them, and the number is its phase.
+    Joined(Party<'a, A>, u32),
+    /// There is no room: the tier has this many parties, and 65535 is the most. Nobody has joined.
+    Full(Guest<'a, A>, u32),
+    /// The tree has ended, and shows this number as its phase, which is negative. Nobody can join any more.
+    Ended(Guest<'a, A>, i32),
+    /// All tries failed, and nobody has joined. Call again.
+    Busy(Guest<'a, A>),
+    /// All members of the party have arrived, and nothing was done. Bring others before the last member arrives, or in
+    /// the next phase.
+    AllArrived,
+}
+
+impl PhaserTree {
+    /// Creates a tree of empty tiers in `phase`, which ends as `plan` says.
+    pub fn new(
+        alloc: Global,
+        shape: Shape,
+        phase: u32,
+        plan: EndPlan,
+    ) -> Result<PhaserTree, AllocError>
+        requires { phase ≤ 2147483647 }
+        ensures { IfOk result (λ t. t.key ≡ record { shape = shape; phase = phase; plan = plan }) }
+    {
+        PhaserTree::with_hook(alloc, shape, phase, plan, NoHook)
+    }
+
+    /// Creates a tree of empty tiers in phase 0, which ends as `plan` says. The text `widths` says its shape: `flat` is
+    /// the root alone, and `2x3` is a root with two children that have three children each. Fails with the fault of
+    /// `Shape::from_widths`.
+    pub fn from_widths(alloc: Global, widths: &str, plan: EndPlan) -> Result<PhaserTree, ShapeFault>
+        ensures shape { IfOk result (λ t. shape_told widths.now ≡ Ok t.key.shape) }
+        ensures same { IfOk result (λ t. (t.key.phase ≡ 0) × (t.key.plan ≡ plan)) }
+        ensures refused { IfErr result (λ fault. (fault_number fault ≡ None → ⊥) → shape_told widths.now ≡ Err fault) }
+    {
+        let shape = match Shape::from_widths(alloc, widths) {
+            Ok(shape) => shape,
+            Err(fault) => return Err(fault),
+        };
+        match PhaserTree::new(alloc, shape, 0, plan) {
+            Ok(tree) => Ok(tree),
+            Err(fault) => Err(ShapeFault::Memory(fault)),
+        }
+    }
+}
+
+impl<A: OnAdvance> PhaserTree<A> {
+    /// Creates a tree of empty tiers in `phase`, which ends as `plan` says, and runs `hook` at each advance.
+    pub fn with_hook(
+        alloc: Global,
+        shape: Shape,
+        phase: u32,
+        plan: EndPlan,
+        hook: A,
+    ) -> Result<PhaserTree<A>, AllocError>
+    where
+        A: Drop,
+        requires { phase ≤ 2147483647 }
+        ensures { IfOk result (λ t. t.key ≡ record { shape = shape; phase = phase; plan = plan }) }
+    {
+        let (shared, first) = SharedTree::new(alloc, shape, phase, plan, hook)?;
+        Ok(PhaserTree { shared, first })
+    }
+
+    /// Returns the shape of the tree.
+    pub fn shape(&self) -> &Shape
+        ensures { result.now ≡ self.now.key.shape }
+    {
+        self.shared.tiers.shape()
+    }
+
+    /// Returns a new token without members. Split further tokens off it, one for each thread.
+    pub fn guest(&mut self) -> Guest<'_, A>
+        ensures { IsSat self.old result }
+    {
+        let PhaserTree { shared, first } = self;
+        let door = shared.tiers.open_door(first);
+        Guest { shared, door }
+    }
+}
+
+impl<'a, A: OnAdvance> Guest<'a, A> {
+    /// Splits a new token off this one. The new token has no members and is in the root's current phase. This one stays
+    /// as it is.
+    pub fn split(&mut self) -> Guest<'a, A>
+        ensures same { self.new ≡ split_once self.old }
+        ensures new { IsSat self.old.tree result }
+    {
+        let shared = self.shared;
+        let door = shared.tiers.open_door(&mut self.door);
+        Guest { shared, door }
+    }
+
+    /// Returns the phase of this token, as it saw the root last.
+    pub fn phase(&self) -> u32
+        ensures phase { result ≡ self.now.view.phase }
+        ensures none { self.now.view.size ≡ 0 }
+    {
+        self.door.phase()
+    }
+
+    /// Registers `members` new members at `tier`. If the tier is empty, first opens the path to it from the nearest tier
+    /// above that has parties. Tries again, and lets other threads run in between, while all parties of a tier on the
+    /// path have arrived: a newcomer then has to wait for the next phase.
+    pub fn register<R: Wait>(self, rt: &R, tier: u16, members: u32) -> Joined<'a, A>
+        requires tier { tier < length self.tree.key.shape }
+        requires members { (0 < members) × (members ≤ 65535) }
+        ensures answer { RegistersAtLast self.entry.tree tier members (admitted_of result) }
+        ensures unsplit { (token_admitted (admitted_of result)).opened ≡ self.entry.opened }
+        ensures ended { (phase : ℕ) → self.entry.view.end_seen ≡ Some phase → HasEndedJoin (admitted_of result) }
+    {
+        let Guest { shared, door } = self;
+        match register_wait(&shared.tiers, rt, door, tier, members) {
+            Admitted::Joined(crew, phase) => Joined::Joined(Party { shared, crew }, phase),
+            Admitted::Full(door, count) => Joined::Full(Guest { shared, door }, count),
+            Admitted::Ended(door, shown) => Joined::Ended(Guest { shared, door }, shown),
+        }
+    }
+
+    /// Registers one member at the leaf of this number, and waits as `register` does. Leaves are numbered from 0; after
+    /// the last, numbers start again at the first.
+    ///
+    /// Call it before the threads start, or from a thread none of whose members is unarrived: while it waits for an
+    /// advance, such a member would hold that advance up for ever. A thread with an unarrived member brings others by
+    /// [`Party::bring`].
+    pub fn join<R: Wait>(self, rt: &R, number: usize) -> Joined<'a, A>
+        ensures answer { RegistersAtLast self.entry.tree (leaf_at (leaves_of self.entry.tree.key.shape) number) 1 (admitted_of result) }
+        ensures unsplit { (token_admitted (admitted_of result)).opened ≡ self.entry.opened }
+        ensures ended { (phase : ℕ) → self.entry.view.end_seen ≡ Some phase → HasEndedJoin (admitted_of result) }
+    {
+        let tier = self.shared.leaf(number);
+        self.register(rt, tier, 1)
+    }
+
+    /// Ends the tree, whoever has arrived, with at most `tries` tries; 16 are enough if no other thread is inside a call.
+    /// Returns `Ended` if the tree has ended, by this call or before. On `Busy` all tries failed and nothing changed:
+    /// call again.
+    pub fn force(&mut self, tries: u32) -> Forced
+        ensures tree { self.new.tree ≡ self.old.tree }
+        ensures answer { Forces self.old tries self.new result }
+        ensures made { ForcedBy result self.old.steps self.new.steps }
+        ensures ended { (phase : ℕ) → self.old.view.end_seen ≡ Some phase → forces.HasEnded result }
+    {
+        let shared = self.shared;
+        shared.tiers.force(&mut self.door, tries)
+    }
+}
+
+impl<'a, A: OnAdvance> Party<'a, A> {
+    /// Splits a new token off this one. The new token has no members and is in the root's current phase. This one stays
+    /// as it is.
+    pub fn split(&mut self) -> Guest<'a, A>
+        ensures same { self.new ≡ split_once self.old }
+        ensures new { IsSat self.old.tree result }
+    {
+        let shared = self.shared;
+        let door = shared.tiers.open_beside(&mut self.crew);
+        Guest { shared, door }
+    }
+
+    /// Returns the tier of the members.
+    pub fn tier(&self) -> u16
+        ensures { result ≡ self.now.view.tier }
+    {
+        self.crew.tier()
+    }
+
+    /// Returns how many members the party has, from 1 to 65535.
+    pub fn size(&self) -> u32
+        ensures size { result ≡ self.now.view.size }
+        ensures some { 0 < self.now.view.size }
+    {
+        self.crew.size()
+    }
+
+    /// Returns how many members have not arrived in the party's phase.
+    pub fn unarrived(&self) -> u32
+        ensures { result + self.now.view.arrived ≡ self.now.view.size }
+    {
+        self.crew.unarrived()
+    }
+
+    /// Returns the phase of the party, as it saw the root last.
+    pub fn phase(&self) -> u32
+        ensures { result ≡ self.now.view.phase }
+    {
+        self.crew.phase()
+    }
+
+    /// Lets a member arrive. Doesn't wait for others to arrive.
+    pub fn arrive<R: Wait>(&mut self, rt: &R) -> Came
+        ensures answer { ArrivesInPlace self.old self.new result }
+        ensures ended { (phase : ℕ) → self.old.view.end_seen ≡ Some phase → in_place.HasEnded result }
+    {
+        self.shared.arrive_in_place(rt, &mut self.crew)
+    }
+
+    /// Checks whether the phase in which all members have arrived is over. Doesn't wait.
+    pub fn poll(&mut self) -> Polled
+        ensures tree { self.new.tree ≡ self.old.tree }
+        ensures answer { Polls self.old self.new result }
+        ensures ended { (phase : ℕ) → self.old.view.end_seen ≡ Some phase → polls.HasEnded result }
+    {
+        let shared = self.shared;
+        shared.tiers.poll(&mut self.crew)
+    }
+
+    /// Waits until the phase in which all members have arrived is over. Returns at once if a member has not arrived, or
+    /// the tree has ended.
+    pub fn await_advance<R: Wait>(&mut self, rt: &R) -> Awaited
+        ensures tree { self.new.tree ≡ self.old.tree }
+        ensures answer { AwaitsAdvance self.old self.new result }
+        ensures unsplit { self.new.opened ≡ self.old.opened }
+        ensures ended { (phase : ℕ) → self.old.view.end_seen ≡ Some phase → HasEndedWait result }
+    {
+        let shared = self.shared;
+        await_advance(&shared.tiers, rt, &mut self.crew)
+    }
+
+    /// Lets a member arrive, and waits until the phase in which all members have arrived is over. A party of one member
+    /// meets all others by this call. With several members, each but the last only arrives, and the call returns `Here`.
+    pub fn meet<R: Wait>(&mut self, rt: &R) -> Awaited
+        ensures tree { self.new.tree ≡ self.old.tree }
+        ensures answer { Meets self.old self.new result }
+        ensures unsplit { self.new.opened ≡ self.old.opened }
+    {
+        self.arrive(rt);
+        self.await_advance(rt)
+    }
+
+    /// Registers `members` new members at this party's tier, as a party of their own, with at most `tries` tries. A
+    /// member of this party has not arrived, so the phase can't end meanwhile, and the call doesn't wait for an advance.
+    /// If all members have arrived, does nothing and returns `AllArrived`.
+    pub fn bring<R: Wait>(&mut self, rt: &R, members: u32, tries: u32) -> Brought<'a, A>
+        requires members { (0 < members) × (members ≤ 65535) }
+        ensures answer { Brings self.old self.new members tries result }
+        ensures ended { (phase : ℕ) → self.old.view.end_seen ≡ Some phase → HasEndedBringing result }
+    {
+        if self.unarrived() == 0 {
+            return Brought::AllArrived;
+        }
+        let Guest { shared, door } = self.split();
+        match shared
+            .tiers
+            .join_beside(&mut self.crew, door, members, tries)
+        {
+            Registered::Joined(crew, phase) => Brought::Joined(Party { shared, crew }, phase),
+            Registered::Full(door, count) => Brought::Full(Guest { shared, door }, count),
+            Registered::Ended(door, shown) => Brought::Ended(Guest { shared, door }, shown),
+            Registered::Busy(door) => Brought::Busy(Guest { shared, door }),
+            Registered::Held(_, _, _) => unreachable!(),
+            Registered::Owing(opening) => {
+                // Never taken. For the prover: an opening can't be dropped.
+                let _ = open_wait(&shared.tiers, rt, opening);
+                unreachable!()
+            }
+        }
+    }
+
+    /// Lets a member leave. Its departure counts as its arrival.
+    pub fn leave<R: Wait>(self, rt: &R) -> Departed<'a, A>
+        ensures answer { ArrivesAtLast Departure self.entry (counted_of result) }
+        ensures unsplit { (token_counted (counted_of result)).opened ≡ self.entry.opened }
+        ensures ended { (phase : ℕ) → self.entry.view.end_seen ≡ Some phase → HasEndedArrival (counted_of result) }
+    {
+        let Party { shared, crew } = self;
+        match shared.leave_wait(rt, crew) {
+            Counted::Done(crew, phase, led) => {
+                let party = Party { shared, crew };
+                Departed::Done { party, phase, led }
+            }
+            Counted::Left(door, phase, led) => {
+                let guest = Guest { shared, door };
+                Departed::Left { guest, phase, led }
+            }
+            Counted::AlreadyArrived(crew, phase) => {
+                Departed::AlreadyArrived(Party { shared, crew }, phase)
+            }
+            Counted::Ended(crew, shown) => Departed::Ended(Party { shared, crew }, shown),
+        }
+    }
+}

@@ -1,0 +1,42 @@
+use Rattle.std.proofs.Common.{◌∙◌, rules}
+use Rattle.tier_table.proofs.waiting.pass_once.Goals as goal
+
+pub settle_wait-requires-clause-own : goal.settle_wait-requires-clause-own
+settle_wait-requires-clause-own g c = c.in-Owing.ensures.answer.0.tree ∙ c.requires.own
+
+pub settle_wait-requires-clause-rule : goal.settle_wait-requires-clause-rule
+settle_wait-requires-clause-rule g c = c.requires.rule
+
+pub returns-in-Done : goal.returns-in-Done
+returns-in-Done g c =
+    let told = c.in-Done.ensures.answer in
+    record { some = c.size.ensures.some; answer = (told.0.tree, told.1, told.2, told.3, told.4); unsplit = told.0.opened; ended = λ p e. absurd (c.in-Done.ensures.ended p e) }
+
+pub returns-in-Left : goal.returns-in-Left
+returns-in-Left g c =
+    let told = c.in-Left.ensures.answer in
+    record { some = c.size.ensures.some; answer = (told.0, told.1.tree, told.2, told.3, told.4, told.5); unsplit = told.1.opened; ended = λ p e. absurd (c.in-Left.ensures.ended p e) }
+
+pub returns-in-AlreadyArrived : goal.returns-in-AlreadyArrived
+returns-in-AlreadyArrived g c =
+    let told = c.in-AlreadyArrived.ensures.answer in
+    record { some = c.size.ensures.some; answer = (told.0.tree, told.1, told.2, told.3, told.4); unsplit = told.0.opened; ended = λ p e. absurd (c.in-AlreadyArrived.ensures.ended p e) }
+
+pub returns-in-Ended : goal.returns-in-Ended
+returns-in-Ended g c = let told = c.in-Ended.ensures.answer in record { some = c.size.ensures.some; answer = (told.0.tree, told.1, (told.2.0, told.2.1, search rules)); unsplit = told.0.opened; ended = λ p e. tt }
+
+pub returns-in-Busy : goal.returns-in-Busy
+returns-in-Busy g c =
+    let told = c.in-Busy.ensures.answer in
+    record { some = c.size.ensures.some; answer = (told.0.tree, told.1); unsplit = told.0.opened; ended = λ p e. absurd (c.in-Busy.ensures.ended p e) }
+
+pub returns-in-Owing : goal.returns-in-Owing
+returns-in-Owing g c =
+    let some = c.size.ensures.some in
+    let owed = c.in-Owing.ensures.answer in
+    record {
+      some = some;
+      answer = c.settle_wait.ensures.answer c.args.crew some owed.0.tree owed.1;
+      unsplit = c.settle_wait.ensures.unsplit ∙ owed.0.opened;
+      ended = λ p e. absurd (c.in-Owing.ensures.ended p e);
+    }

@@ -1,0 +1,34 @@
+use Rattle.std.proofs.Common.{◌∙◌}
+use Rattle.std.proofs.lemmas.Bool.{false≢true}
+use Rattle.tier_table.proofs.waiting.register_wait.Goals as goal
+
+pub join_once-requires-clause-own : goal.join_once-requires-clause-own
+join_once-requires-clause-own g c = c.loop.invariant.2
+
+pub join_once-requires-clause-tier : goal.join_once-requires-clause-tier
+join_once-requires-clause-tier g c = c.requires.tier
+
+pub join_once-requires-clause-members : goal.join_once-requires-clause-members
+join_once-requires-clause-members g c = c.requires.members
+
+pub returns-in-Ok : goal.returns-in-Ok
+returns-in-Ok g c = record {
+  answer = c.in-Ok.ensures.answer;
+  unsplit = c.in-Ok.ensures.unsplit ∙ c.loop.invariant.4;
+  ended = λ p e. c.in-Ok.ensures.ended p (c.loop.invariant.3 p e);
+}
+
+pub loop-preserved : goal.loop-preserved
+loop-preserved g c = (
+  tt,
+  tt,
+  c.in-Err.ensures.answer,
+  λ p e. absurd (c.in-Err.ensures.ended p (c.loop.invariant.3 p e)),
+  c.in-Err.ensures.unsplit ∙ c.loop.invariant.4,
+)
+
+pub loop-preserved-derived : goal.loop-preserved-derived
+loop-preserved-derived g c = (tt, tt)
+
+pub unreachable-requires : goal.unreachable-requires
+unreachable-requires g c = false≢true c.in-None.ensures.steps

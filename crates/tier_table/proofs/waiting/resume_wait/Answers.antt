@@ -1,0 +1,27 @@
+use Rattle.std.proofs.Common.{◌∙◌}
+use Rattle.std.proofs.lemmas.Bool.{false≢true}
+use Rattle.tier_table.proofs.Lasting.{same_then}
+use Rattle.tier_table.proofs.waiting.resume_wait.Goals as goal
+
+pub pass_on-requires-clause-own : goal.pass_on-requires-clause-own
+pass_on-requires-clause-own g c = c.loop.invariant.2 ∙ c.requires.own
+
+pub pass_on-requires-clause-rule : goal.pass_on-requires-clause-rule
+pass_on-requires-clause-rule g c = c.requires.rule
+
+pub returns-in-Done : goal.returns-in-Done
+returns-in-Done g c =
+    let told = c.in-Done.ensures in let kept = c.loop.invariant in record { answer = (told.0.tree ∙ kept.2, same_then kept.3 told.1, told.2, told.3, told.4); unsplit = told.0.opened ∙ kept.4 }
+
+pub returns-in-Left : goal.returns-in-Left
+returns-in-Left g c =
+    let told = c.in-Left.ensures in let kept = c.loop.invariant in record { answer = (told.0.tree ∙ kept.2, same_then kept.3 told.1, told.2, told.3, told.4); unsplit = told.0.opened ∙ kept.4 }
+
+pub loop-preserved : goal.loop-preserved
+loop-preserved g c = let told = c.in-Owing.ensures in let kept = c.loop.invariant in (tt, tt, told.0.tree ∙ kept.2, same_then kept.3 told.1, told.0.opened ∙ kept.4)
+
+pub loop-preserved-derived : goal.loop-preserved-derived
+loop-preserved-derived g c = (tt, tt)
+
+pub unreachable-requires : goal.unreachable-requires
+unreachable-requires g c = false≢true c.in-None.ensures.steps
