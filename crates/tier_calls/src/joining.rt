@@ -5,10 +5,10 @@ ghost use Rattle.tier_calls.specs.Made.{MadeOnly, HasEntered, is_entering};
 ghost use Rattle.tier_calls.specs.Registers.{token_of, opened_of, Registers, Opens, HasEnded, IsEndedOrOwed, NoBusy, MayAnswer, AnswersJoin, SameAnswer};
 
 use crate::going::Going;
-use crate::next::claims;
 use crate::tiers::Tiers;
 use crate::tokens::{Crew, Door, Opening};
 use tier_core::call::{Cause, Played, Progress};
+use tier_core::turn::claims;
 use tier_steps::kind::Kind;
 
 /// What a registration answers.

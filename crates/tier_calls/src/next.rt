@@ -1,24 +1,14 @@
 //! What a call looks for, and which steps are looks.
 
 ghost use Rattle.std.specs.Prelude.{◌≡◌};
-ghost use Rattle.tier_core.specs.Turn.{claimed_by};
 ghost use Rattle.tier_core.specs.Machine.{is_going};
 ghost use Rattle.tier_calls.specs.Next.{meant, is_look};
 ghost use Rattle.tier_calls.specs.Goes.{is_back};
 
 use tier_core::call::Progress;
+use tier_core::turn::claims;
 use tier_steps::kind::Kind;
-use tier_steps::view::{Errand, View};
-
-/// How many tiers an errand has claimed.
-pub(crate) fn claims(errand: Errand) -> u16
-    ensures { result ≡ claimed_by errand }
-{
-    match errand {
-        Errand::Opening { claimed, .. } => claimed,
-        Errand::Rest | Errand::Climbing { .. } | Errand::Advancing => 0,
-    }
-}
+use tier_steps::view::View;
 
 /// The step in place of which a call looks.
 pub fn meant_step(progress: Progress, view: View) -> Kind

@@ -4,7 +4,6 @@ ghost use Rattle.std.specs.Prelude.{◌≡◌, true, false, if◌then◌else◌}
 ghost use Rattle.advance_rule.specs.Stored.{Answers};
 ghost use Rattle.advance_rule.specs.Plan.{end_ends_at};
 ghost use Rattle.tier_core.specs.Machine.{is_going};
-ghost use Rattle.tier_core.specs.Turn as spec;
 ghost use Rattle.tier_core.specs.Turn.{place, turn_by, pass_turn};
 ghost use Rattle.tier_core.specs.declared.call.Played.{Played};
 ghost use Rattle.tier_core.specs.declared.call.Played.TheVariants as played;
@@ -21,34 +20,10 @@ use crate::tiers::Tiers;
 use advance_rule::StoredAdvance;
 use phaser_word::Word;
 use tier_core::call::{Played, Progress, Turn};
-use tier_core::turn::{above, is_behind};
+use tier_core::turn::{above, is_behind, passed_answer, then_climb};
 use tier_steps::kind::Kind;
 use tier_steps::step::{errand_after, word_passed};
 use tier_steps::view::{Errand, Passage};
-
-/// How an arrival or a departure goes on from what it owes.
-#[inline(always)]
-fn then_climb(own: Passage, errand: Errand) -> Progress
-    ensures { result ≡ spec.goes_on own errand }
-{
-    match errand {
-        Errand::Rest | Errand::Opening { .. } => Progress::Idle,
-        Errand::Advancing => Progress::Due(own),
-        Errand::Climbing { .. } => Progress::Owing(own),
-    }
-}
-
-/// What it answers.
-#[inline(always)]
-fn passed_answer(phase: u32, parties: u32, errand: Errand) -> Played
-    ensures { result ≡ spec.told phase parties errand }
-{
-    match errand {
-        Errand::Rest => Played::Done(phase),
-        Errand::Advancing => Played::MustAdvance(phase, parties),
-        Errand::Climbing { .. } | Errand::Opening { .. } => Played::GoesOn,
-    }
-}
 
 /// How it stands after a look in place of its step, which found this word, and before which its token was in this phase.
 #[inline(always)]
