@@ -1,4 +1,4 @@
-//! The steps of arrivals and departures, each tried by the kind that it has.
+//! The single steps of arrivals and departures, each with its kind known beforehand.
 
 ghost use Rattle.std.specs.Prelude.{◌≡◌, true, false, if◌then◌else◌};
 ghost use Rattle.advance_rule.specs.Stored.{Answers};
@@ -25,7 +25,7 @@ use tier_steps::kind::Kind;
 use tier_steps::step::{errand_after, word_passed};
 use tier_steps::view::{Errand, Passage};
 
-/// How it stands after a look in place of its step, which found this word, and before which its token was in this phase.
+/// Records that a call's step was lost and only looked. It found `word`, and the token was in `phase` before.
 #[inline(always)]
 fn missed(course: &mut Course, phase: u32, word: Word)
     ensures progress { course.new.progress ≡ (if word.ended then progress.Idle else course.old.progress) }
@@ -43,7 +43,7 @@ fn missed(course: &mut Course, phase: u32, word: Word)
 }
 
 impl Tiers {
-    /// Looks at the tier of its next step, where its token doesn't stand there.
+    /// Looks at the tier of the call's next step, unless the token saw that tier last.
     #[inline(always)]
     fn stand_to(&self, token: &mut Seated, course: &mut Course, tier: u16)
         requires at { IsAt self.now (under token.old course.old) }
@@ -60,7 +60,7 @@ impl Tiers {
         missed(course, phase, token.word());
     }
 
-    /// One try of its next step.
+    /// Makes one try of the call's next step.
     #[inline(always)]
     fn try_turn(&self, token: &mut Seated, course: &mut Course, turn: Turn, ends: bool)
         requires at { IsAt self.now (under token.old course.old) }
@@ -79,7 +79,8 @@ impl Tiers {
         }
     }
 
-    /// One try of the step by which a party passes the tier where its token stands, or of the refresh before it.
+    /// Makes one try of the step by which a party passes the tier that its token saw last. If that tier lags, the try
+    /// refreshes it instead.
     #[inline(always)]
     fn pass_tier(
         &self,
@@ -120,8 +121,8 @@ impl Tiers {
         self.try_turn(token, course, turn, false);
     }
 
-    /// One try of an arrival at the tier where its token stands, or of the refresh before it. Where others are still to
-    /// arrive there, nothing is owed afterwards; where it is the last at the root, the advance is.
+    /// Makes one try of an arrival at the tier that its token saw last. If that tier lags, the try refreshes it instead.
+    /// If others are still to arrive there, the call is then over. If it was the last at the root, the advance is due.
     #[inline(always)]
     fn arrive_at(&self, token: &mut Seated, course: &mut Course)
         requires at { IsAt self.now (under token.old course.old) }
@@ -159,7 +160,7 @@ impl Tiers {
         );
     }
 
-    /// The own step of an arrival or a departure, by one try at most.
+    /// Takes the step of an arrival or a departure at its own tier. Makes at most one try.
     #[inline(always)]
     pub(crate) fn pass_own(&self, token: &mut Seated, course: &mut Course, own: Passage)
         requires at { IsAt self.now (under token.old course.old) }
@@ -193,7 +194,8 @@ impl Tiers {
         }
     }
 
-    /// The own step of an arrival, with a straight way where others are still to arrive at its tier.
+    /// Takes the step of an arrival at its own tier. Makes at most one try, and decides at once if others are still to
+    /// arrive there.
     #[inline(always)]
     pub(crate) fn arrive_own(&self, token: &mut Seated, course: &mut Course)
         requires at { IsAt self.now (under token.old course.old) }
@@ -208,7 +210,7 @@ impl Tiers {
         self.arrive_at(token, course);
     }
 
-    /// The next step of its climb, by one try at most.
+    /// Takes the next step of the call's climb. Makes at most one try.
     #[inline(always)]
     pub(crate) fn climb(&self, token: &mut Seated, course: &mut Course, own: Passage)
         requires at { IsAt self.now (under token.old course.old) }
@@ -243,7 +245,7 @@ impl Tiers {
         }
     }
 
-    /// The advance that it has to take, by one try at most.
+    /// Takes the advance that is due. Makes at most one try.
     #[inline(always)]
     pub(crate) fn advance<F: Fn(u32, u32) -> bool>(
         &self,
