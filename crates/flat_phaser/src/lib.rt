@@ -1,5 +1,8 @@
-//! The flat phaser: one list of members, without counts and without tiers. What every other phaser here
-//! is proved to do is told by it. Beside the definitions stands a plain, slow program that is one.
+//! The flat phaser: one list of members, without counts and without tiers.
+//!
+//! It defines what every other phaser here is proved to do. Its rules are those of Java SE 21's `Phaser`. That members
+//! have owners, and that the advance is a step of its own, is not part of Java's API. [`FlatPhaser`] is a plain, slow
+//! program that follows the definitions.
 #![tactic(auto)]
 
 ghost use Rattle.std.specs.Prelude.{◌≡◌, ◌↔◌, ◌≤◌, IsSome, IfOk, IfSome, IfNone, OnErr, position};
@@ -22,31 +25,31 @@ use phaser_word::next_phase;
 use std::alloc::{AllocError, Global};
 use std::marker::Model;
 
-/// One registered party: whose it is, and the phase in which it last arrived, if it has (own).
+/// One registered party.
 #[derive(Clone, Copy, PartialEq, Eq)]
 pub struct Member {
-    /// Whose member this is.
+    /// The number of its owner.
     pub owner: u32,
-    /// The phase in which it last arrived.
+    /// The phase in which it last arrived, if it ever did.
     pub mark: Option<u32>,
 }
 
-/// What can happen to a flat phaser (Java SE 21, `Phaser`; the advance as a step of its own is own).
+/// A step of a flat phaser.
 #[derive(Clone, Copy)]
 pub enum FlatStep {
-    /// An owner registers so many members, none of which has arrived.
+    /// Registers this many members of an owner, all unarrived: the owner, then the number.
     Join(u32, u32),
-    /// A member of this owner that has not arrived does.
+    /// Arrives with an unarrived member of this owner.
     Arrive(u32),
-    /// A member of this owner that has not arrived is taken away.
+    /// Removes an unarrived member of this owner.
     Leave(u32),
-    /// The next phase comes, and the phaser ends if this says so.
+    /// Begins the next phase. If true, this ends the phaser.
     Advance(bool),
-    /// The phaser ends.
+    /// Ends the phaser.
     Force,
 }
 
-/// A flat phaser by its list of members: plain and slow, and to be compared with.
+/// A flat phaser as a list of members: plain and slow, for comparison with other phasers.
 #[derive(Drop)]
 pub struct FlatPhaser {
     phase: u32,
@@ -66,7 +69,7 @@ impl Model for FlatPhaser {
     ghost invariant = { λ f. f.phase ≤ 2147483647 };
 }
 
-// So many members of an owner, none of which has arrived.
+// Returns `count` members of an owner, all unarrived.
 fn newcomers(alloc: Global, owner: u32, count: u32) -> Result<Vec<Member>, AllocError>
     ensures { IfOk result (λ v. v.items ≡ newcomers_of owner count) }
 {
@@ -78,14 +81,14 @@ fn newcomers(alloc: Global, owner: u32, count: u32) -> Result<Vec<Member>, Alloc
     Ok(members)
 }
 
-// The place of the first member of this owner that has not arrived in this phase.
+// Returns the index of the first unarrived member of this owner.
 fn awaited(members: &[Member], owner: u32, phase: u32) -> Option<usize>
     ensures { result ≡ position (is_awaited owner phase) members.now }
 {
     members.iter().position(|member| member.owner == owner && member.mark != Some(phase))
 }
 
-// The first member of this owner that has not arrived in this phase does, if there is one.
+// Arrives with the first unarrived member of this owner. Returns false if there is none.
 fn mark_first(members: &mut Vec<Member>, owner: u32, phase: u32) -> bool
     ensures found { OnTrue result (IsWaitedFor owner phase members.old.items) }
     ensures none { OnFalse result (¬ IsWaitedFor owner phase members.old.items) }
@@ -99,7 +102,7 @@ fn mark_first(members: &mut Vec<Member>, owner: u32, phase: u32) -> bool
     true
 }
 
-// That member is taken away, if there is one.
+// Removes the first unarrived member of this owner. Returns false if there is none.
 fn drop_first(members: &mut Vec<Member>, owner: u32, phase: u32) -> bool
     ensures found { OnTrue result (IsWaitedFor owner phase members.old.items) }
     ensures none { OnFalse result (¬ IsWaitedFor owner phase members.old.items) }
@@ -113,7 +116,7 @@ fn drop_first(members: &mut Vec<Member>, owner: u32, phase: u32) -> bool
     true
 }
 
-// Whether each of these members has arrived in this phase.
+// Returns true if all members have arrived in this phase.
 fn all_arrived(members: &[Member], phase: u32) -> bool
     ensures { result ≡ everyone_arrived phase members.now }
 {
@@ -121,7 +124,7 @@ fn all_arrived(members: &[Member], phase: u32) -> bool
 }
 
 impl FlatPhaser {
-    /// A phaser without members in this phase.
+    /// Creates a phaser without members, in `phase`.
     pub fn new(alloc: Global, phase: u32) -> Self
         requires { phase ≤ 2147483647 }
         ensures { result ≡ empty_in phase }
@@ -134,8 +137,9 @@ impl FlatPhaser {
         }
     }
 
-    /// Takes a step and answers the phase it was taken in, or `None` where the step isn't allowed: an
-    /// arrival or a departure of an owner without an unarrived member, or an advance that isn't due.
+    /// Takes a step and returns the phase in which it was taken. Returns `None` if the step isn't allowed, and changes
+    /// nothing: an arrival or a departure of an owner without an unarrived member, or an advance that isn't due. If
+    /// memory runs out, the phaser is unchanged.
     pub fn step(&mut self, alloc: Global, step: FlatStep) -> Result<Option<u32>, AllocError>
         ensures allowed { IfOk result (λ answer. IsSome answer ↔ IsAllowed step self.old) }
         ensures taken { IfOk result (λ answer. IfSome answer
@@ -181,35 +185,35 @@ impl FlatPhaser {
         Ok(Some(phase))
     }
 
-    /// The phase number.
+    /// Returns the phase number.
     pub fn phase(&self) -> u32
         ensures { result ≡ self.now.phase }
     {
         self.phase
     }
 
-    /// Whether it has ended.
+    /// Returns true if the phaser has ended.
     pub fn ended(&self) -> bool
         ensures { result ≡ self.now.ended }
     {
         self.ended
     }
 
-    /// Whether an advance is due.
+    /// Returns true if an advance is due.
     pub fn is_due(&self) -> bool
         ensures { result ≡ self.now.due }
     {
         self.due
     }
 
-    /// How many members there are.
+    /// Returns the number of members.
     pub fn registered(&self) -> usize
         ensures { result ≡ registered self.now }
     {
         self.members.len()
     }
 
-    /// How many members have not arrived.
+    /// Returns the number of members that have not arrived in the current phase.
     pub fn unarrived(&self) -> usize
         ensures { result ≡ unarrived self.now }
     {
@@ -221,47 +225,47 @@ impl FlatPhaser {
     }
 }
 
-/// In every run an advance comes only where everyone who is registered has arrived.
+/// In every run, an advance comes only after everyone who is registered has arrived.
 pub fn advances_when_all_arrived()
     ensures { AdvancesWhenAllArrived }
 {}
 
-/// Everyone has arrived exactly where the members of each owner have.
+/// Everyone has arrived exactly if all members of each owner have.
 pub fn everyone_is_each_owner()
     ensures { EveryoneIsEachOwner }
 {}
 
-/// An arrival counts in one phase only: after an advance nobody has arrived.
+/// An arrival counts in one phase only: right after an advance, nobody has arrived.
 pub fn arrivals_count_once()
     ensures { ArrivalsCountOnce }
 {}
 
-/// Between two advances no arrival is lost, and none comes but by an arrival.
+/// Between two advances no arrival is lost, and nobody has arrived except by an arrival.
 pub fn no_arrival_is_lost()
     ensures { NoArrivalIsLost }
 {}
 
-/// A step takes some member of its owner that has not arrived.
+/// An arrival or a departure takes some unarrived member of its owner.
 pub fn steps_are_taken()
     ensures { StepsAreTaken }
 {}
 
-/// Flat phasers that are alike stay alike under every step, whichever member each step takes.
+/// Alike flat phasers stay alike after every step, whichever member the step takes in each.
 pub fn alike_stays_alike()
     ensures { AlikeStaysAlike }
 {}
 
-/// After an arrival or a departure an advance is due exactly where all members of every owner have arrived.
+/// After an arrival or a departure, an advance is due exactly if all members of every owner have arrived.
 pub fn due_tells_everyone()
     ensures { DueTellsEveryone }
 {}
 
-/// Where the last member that has not arrived arrives or leaves, the advance comes, into the next phase.
+/// After the last unarrived member arrives or leaves, the advance into the next phase is due.
 pub fn the_last_brings_the_advance()
     ensures { TheLastBringsTheAdvance }
 {}
 
-/// A phaser of one member is one to which these laws apply.
+/// A phaser of one member exists, and these laws apply to it.
 pub fn one_member_is_last()
     ensures { OneMemberIsLast }
 {}

@@ -14,6 +14,9 @@ use Rattle.flat_phaser.specs.Step.{flat_step, taken, with_members, mark_one, dro
 use Rattle.flat_phaser.specs.Alike.{IsAlike}
 use Rattle.phaser_one.specs.Calls.{Call, Reply, Number, Refused, Full, NobodyUnarrived, Bulk, Arrive, Leave, Force, answer, room_for, someone_in, called, taken_by, step_of, is_refused, settled, after}
 use Rattle.phaser_one.specs.Seen.{flat_of, Follows, IsSettled}
+use Rattle.phaser_one.specs.Arrivals.{call_of, left_by}
+use Rattle.phaser_one.specs.declared.step.Arrival.{Arrival}
+use Rattle.phaser_one.specs.declared.step.Arrival.TheVariants.{Stays, Leaves}
 use Rattle.phaser_one.proofs.Counting.{Counts, alike_counts, counts_alike, length_is, absent_is, everyone_is, joined_counts, marked_counts, dropped_counts, next_counts}
 
 pub registered_is : (f : Flat) (w : Fields) → w.unarrived ≤ w.parties → IsAlike f (flat_of w) → registered f ≡ w.parties
@@ -161,6 +164,17 @@ leave_follows plan w v z h e some shown s f a =
     let s' : IsSettled plan f.phase (w.parties - 1) (w.unarrived - 1) v = rw a.phase s in
     let counts : Counts f.phase (w.parties - 1) (w.parties - 1 - (w.unarrived - 1)) ms = rw (← left) c in
     (rw same (settled_members plan f ms (w.parties - 1) (w.unarrived - 1) v open' (omega arith) counts s'), number_is f w z a e shown ∙ sym reply)
+
+-- an arrival after which the party stays or leaves
+pub arrival_follows : (arrival : Arrival) (plan : CountPlan) (w v : Fields) (z : ℤ) → w.unarrived ≤ w.parties → w.ended ≡ false → 0 < w.unarrived → z ≡ shown_of w.phase w.ended
+    → IsSettled plan w.phase (left_by arrival w.parties) (w.unarrived - 1) v → Follows plan (call_of arrival) w v (Number z)
+arrival_follows Stays plan w v z h e some shown s = arrive_follows plan w v z h e some shown s
+arrival_follows Leaves plan w v z h e some shown s = leave_follows plan w v z h e some shown s
+
+-- every such call is answered alike
+pub arrival_answer : (arrival : Arrival) (f : Flat) → answer (call_of arrival) f ≡ someone_in f
+arrival_answer Stays f = refl
+arrival_answer Leaves f = refl
 
 -- a number shown keeps within its type
 pub same_shown : (z : ℤ) (phase : ℕ) (ended : Bool) → z ≡ shown_of phase ended → phase ≤ 2147483647 → to_z w32 (of_z w32 z) ≡ shown_of phase ended

@@ -1,20 +1,21 @@
-//! The calls of a single phaser as data, and what they answer.
+//! The calls of a single phaser as data, and their answers.
 
 use thiserror::Error;
 
-/// Why a call was refused.
+/// Why a call failed. The phaser is unchanged.
 #[derive(Clone, Copy, Debug, PartialEq, Eq, Error)]
 pub enum OneFault {
-    /// Fewer than 0 parties, or more than 65535, when a phaser is made.
+    /// From [`PhaserOne::new`](crate::PhaserOne::new): fewer than 0 parties, or more than 65535.
     #[error("fewer than 0 parties, or more than 65535")]
     TooMany,
-    /// More than 65535 parties with those that would be added.
+    /// From a registration: with the new parties there would be more than 65535. Register fewer, or wait until some have
+    /// left.
     #[error("no room for so many more parties")]
     Full,
-    /// An arrival or a departure where nobody is unarrived.
+    /// From an arrival or a departure: no party is unarrived. Register a party first.
     #[error("nobody is unarrived")]
     NobodyUnarrived,
-    /// Fewer than 0 parties to be added.
+    /// From a registration: fewer than 0 parties to add.
     #[error("fewer than 0 parties to add")]
     Negative,
 }
@@ -22,45 +23,46 @@ pub enum OneFault {
 /// A call of a single phaser.
 #[derive(Clone, Copy, PartialEq, Eq)]
 pub enum Call {
-    /// One party registers.
+    /// Registers one party.
     Register,
-    /// So many parties register.
+    /// Registers this many parties.
     Bulk(i64),
-    /// One party arrives.
+    /// Arrives with one party.
     Arrive,
-    /// One party arrives and deregisters.
+    /// Arrives with one party and deregisters it.
     Leave,
-    /// Whether this phase is over.
+    /// Asks whether this phase has passed.
     Await(i32),
-    /// The phaser ends.
+    /// Ends the phaser.
     Force,
 }
 
-/// What a call of a single phaser answers.
+/// The answer of a call that is given as data.
 #[derive(Clone, Copy, PartialEq, Eq)]
 pub enum Reply {
-    /// A phase, as it is shown.
+    /// The phase that the call returns, negative if the phaser has ended.
     Number(i32),
-    /// The phase asked for isn't over.
+    /// The phase that was asked for has not passed.
     Waiting,
-    /// The call was refused, and nothing changed.
+    /// The call failed for this reason, and the phaser is unchanged.
     Refused(OneFault),
 }
 
-/// What asking for the end of a phase answers.
+/// The answer of [`PhaserOne::poll_await`](crate::PhaserOne::poll_await).
 #[derive(Clone, Copy)]
 pub enum Awaited {
-    /// It is over, or never was: the phase now, as it is shown, or the negative number asked for.
+    /// There is nothing to wait for. The number is the current phase, negative if the phaser has ended, or the negative
+    /// number that was asked for.
     Now(i32),
-    /// It isn't over.
+    /// The phase has not passed. Ask again after other parties have arrived.
     Waiting,
 }
 
-/// An advance that a call brought.
+/// An advance that a call took.
 #[derive(Clone, Copy)]
 pub struct Advance {
     /// The phase that ended.
     pub phase: u32,
-    /// How many were registered as it did.
+    /// The number of parties registered when it ended.
     pub parties: u32,
 }

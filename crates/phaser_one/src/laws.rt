@@ -1,4 +1,5 @@
-//! What a single phaser promises, in the words of those who use it.
+//! Laws of a single phaser in its user's terms. Each law is the contract of a function without parameters that does
+//! nothing.
 ghost use Rattle.phaser_one.specs.Laws.{
   PhaseMovesByOne,
   EndedStays,
@@ -12,54 +13,54 @@ ghost use Rattle.phaser_one.specs.Laws.{
   RefusalsLeaveAll,
 };
 
-/// While a phaser hasn't ended its phase takes one step at each advance, which comes only where everyone
-/// registered has arrived, and moves at no other time.
+/// Before the end, each advance moves the phase by one, and comes only after everyone registered has arrived. The phase
+/// moves at no other time.
 pub fn phase_moves_by_one()
     ensures { PhaseMovesByOne }
 {}
 
-/// Once a phaser has ended nothing changes its phase or its counts.
+/// After the end, no call changes the phase or the counts.
 pub fn ended_stays()
     ensures { EndedStays }
 {}
 
-/// While two or more parties have not arrived, no call advances.
+/// While two or more parties are unarrived, no call advances the phaser.
 pub fn not_all_arrived()
     ensures { NotAllArrived }
 {}
 
-/// Every word with no more unarrived than parties stands for a flat phaser.
+/// Every word with no more unarrived parties than parties is the word of a flat phaser.
 pub fn words_are_seen()
     ensures { WordsAreSeen }
 {}
 
-/// What waiting for the end of a phase answers: a negative number, the end, another phase, or that it goes on.
+/// What `poll_await` answers for a negative number, after the end, for another phase and for the current one.
 pub fn awaits_are_told()
     ensures { AwaitsAreTold }
 {}
 
-/// When registering several is refused, and what it answers else.
+/// When a registration fails, and what it returns otherwise.
 pub fn registrations_are_told()
     ensures { RegistrationsAreTold }
 {}
 
-/// When an arrival or a departure is refused, and what it answers else.
+/// When an arrival or a departure fails, and what it returns otherwise.
 pub fn arrivals_are_told()
     ensures { ArrivalsAreTold }
 {}
 
-/// Two words that stand for alike phasers are one word.
+/// Two words of alike flat phasers are equal.
 pub fn alike_words_are_one()
     ensures { AlikeWordsAreOne }
 {}
 
-/// Only arrivals and departures ask the plan that says when the phaser ends; any other call leaves the same by
-/// each plan.
+/// Only arrivals and departures ask the plan that says when the phaser ends. Any other call does the same under every
+/// plan.
 pub fn only_arrivals_ask_the_plan()
     ensures { OnlyArrivalsAskThePlan }
 {}
 
-/// A call that is refused or told to wait leaves the phaser as it is.
+/// A call that fails, or answers that a phase has not passed, leaves the phaser as it is.
 pub fn refusals_leave_all()
     ensures { RefusalsLeaveAll }
 {}

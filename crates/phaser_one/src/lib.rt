@@ -1,4 +1,8 @@
-//! A single phaser after Java's `Phaser` without a parent: one word of counts and a stored rule.
+//! A single phaser as Java SE 21's `Phaser` without a parent: one word of counts, and a stored rule that says when it
+//! ends.
+//!
+//! Three things are not part of Java's API: the number of a phase that an ended phaser shows, that the end is looked at
+//! before the limit of parties, and a first phase other than 0.
 #![tactic(auto)]
 
 mod call;

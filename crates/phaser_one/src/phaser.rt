@@ -13,20 +13,20 @@ ghost use Rattle.phaser_one.specs.Runs.{FollowsAll, advance_of};
 ghost use Rattle.std.specs.Prelude.{◌==◌, if◌then◌else◌};
 
 use crate::call::{Advance, Awaited, Call, OneFault, Reply};
-use crate::step::{Stepped, absent, arrived, forced, joined, left, members, present};
+use crate::step::{Arrival, Stepped, absent, arrived, forced, joined, members, present};
 use advance_rule::StoredCount;
 use phaser_word::{MOST_PARTIES, Word};
 use std::alloc::{AllocError, Global};
 use std::marker::Model;
 
-/// A phaser without tiers, by its counts, and the rule that says when it ends (Java SE 21, `Phaser`).
+/// A phaser without tiers, and the rule that says when it ends (Java SE 21, `Phaser`).
 ///
-/// Its parties are anonymous: any of those that have not arrived may arrive or leave. An advance comes
-/// within the call that makes it due. Once it has ended, calls answer the phase shown, a negative number,
-/// and change nothing (own: the end is looked at before the limit of parties).
+/// Its parties are anonymous: an arrival or a departure is that of any unarrived party. The call that makes an advance
+/// due also takes it, and asks the rule whether the phaser ends. After the end, every call returns the phase that the
+/// phaser shows, a negative number, and changes nothing.
 ///
 /// ```
-/// // It ends where fewer than one party is left.
+/// // It ends when fewer than one party is left.
 /// let plan = CountPlan { least: 1, at: None };
 /// let rule = StoredCount::new(|_phase, parties| parties < 1, plan);
 /// let mut phaser = PhaserOne::new(2, 0, rule).expect(&rt, "two parties");
@@ -53,8 +53,11 @@ impl<F: Fn(u32, u32) -> bool> Model for PhaserOne<F> {
 }
 
 impl<F: Fn(u32, u32) -> bool> PhaserOne<F> {
-    /// A phaser with so many parties, none of which has arrived, in this phase (a start at another phase
-    /// than 0 is own). Refused with `TooMany` below 0 and above 65535.
+    /// Creates a phaser with `parties` parties, all unarrived, in `phase`.
+    ///
+    /// # Errors
+    ///
+    /// `TooMany` if `parties` is below 0 or above 65535.
     pub fn new(parties: i64, phase: u32, rule: StoredCount<F>) -> Result<Self, OneFault>
     where
         F: Drop,
@@ -78,7 +81,7 @@ impl<F: Fn(u32, u32) -> bool> PhaserOne<F> {
         }
     }
 
-    /// The phaser in this state: no more are unarrived than there are parties.
+    /// Returns a phaser in the state of `word`, in which no more parties may be unarrived than there are.
     pub fn of_word(word: Word, rule: StoredCount<F>) -> Self
         requires counted { word.unarrived ≤ word.parties }
         ensures word { result.word ≡ word }
@@ -87,7 +90,7 @@ impl<F: Fn(u32, u32) -> bool> PhaserOne<F> {
         PhaserOne { word, rule }
     }
 
-    /// Its state.
+    /// Returns the state as a word.
     pub fn word(&self) -> Word
         ensures word { result ≡ self.now.word }
         ensures counted { result.unarrived ≤ result.parties }
@@ -95,8 +98,11 @@ impl<F: Fn(u32, u32) -> bool> PhaserOne<F> {
         self.word
     }
 
-    /// Registers one party, and answers the phase to which this applied, or the phase shown once ended.
-    /// Refused with `Full` exactly where 65535 are registered and it has not ended.
+    /// Registers one unarrived party. Returns the phase to which this applies, or after the end the phase shown.
+    ///
+    /// # Errors
+    ///
+    /// `Full` if 65535 parties are registered and the phaser has not ended.
     pub fn register(&mut self) -> Result<i32, OneFault>
         ensures flat { Follows self.old.rule.plan spec.Register self.old.word self.new.word (reply_of result) }
         ensures rule { self.new.rule ≡ self.old.rule }
@@ -104,9 +110,12 @@ impl<F: Fn(u32, u32) -> bool> PhaserOne<F> {
         self.join(1)
     }
 
-    /// Registers so many parties, and answers as `register`; with 0 it adds nobody. Refused with
-    /// `Negative` exactly below 0, whether it has ended or not, and with `Full` exactly where there is
-    /// no room for all of them and it has not ended.
+    /// Registers `count` unarrived parties. Returns as [`register`](PhaserOne::register). With 0 this adds nobody.
+    ///
+    /// # Errors
+    ///
+    /// `Negative` if `count` is below 0, whether the phaser has ended or not. `Full` if there is no room for all of them
+    /// and the phaser has not ended.
     pub fn bulk_register(&mut self, count: i64) -> Result<i32, OneFault>
         ensures flat { Follows self.old.rule.plan (spec.Bulk count) self.old.word self.new.word (reply_of result) }
         ensures rule { self.new.rule ≡ self.old.rule }
@@ -117,7 +126,7 @@ impl<F: Fn(u32, u32) -> bool> PhaserOne<F> {
         }
     }
 
-    // Registers so many parties.
+    // Registers `count` parties.
     fn join(&mut self, count: u64) -> Result<i32, OneFault>
         requires { count < 2 ^ 63 }
         ensures flat { Follows self.old.rule.plan (spec.Bulk (pos count)) self.old.word self.new.word (reply_of result) }
@@ -128,10 +137,15 @@ impl<F: Fn(u32, u32) -> bool> PhaserOne<F> {
         Ok(shown)
     }
 
-    /// Arrives with one party, and answers the arrival phase, or the phase shown once ended. The last to
-    /// arrive brings the next phase. Refused with `NobodyUnarrived` exactly where nobody is unarrived and
-    /// it has not ended. Where the phase moves, whether it has ended is what the closure answered of the phase
-    /// before and of the parties.
+    /// Arrives with one party, and doesn't wait for others. Returns the phase of the arrival, or after the end the phase
+    /// shown.
+    ///
+    /// The last party to arrive advances the phaser: the closure, called with the phase and the number of parties, says
+    /// whether the phaser ends.
+    ///
+    /// # Errors
+    ///
+    /// `NobodyUnarrived` if no party is unarrived and the phaser has not ended.
     pub fn arrive(&mut self) -> Result<i32, OneFault>
         requires rule { Answers (F.pre self.old.rule.closure) (F.post self.old.rule.closure) (count_ends self.old.rule.plan) }
         ensures flat { Follows self.old.rule.plan spec.Arrive self.old.word self.new.word (reply_of result) }
@@ -139,13 +153,13 @@ impl<F: Fn(u32, u32) -> bool> PhaserOne<F> {
             → F.post self.old.rule.closure self.old.word.phase self.new.word.parties self.new.word.ended }
         ensures rule { self.new.rule ≡ self.old.rule }
     {
-        let Stepped { word, shown } = arrived(&self.rule, self.word)?;
+        let Stepped { word, shown } = arrived(&self.rule, self.word, Arrival::Stays)?;
         self.word = word;
         Ok(shown)
     }
 
-    /// Arrives with one party and takes it away, and answers as `arrive`. The rule is called with the
-    /// parties that are left.
+    /// Arrives with one party and deregisters it. Returns and fails as [`arrive`](PhaserOne::arrive). The closure is
+    /// called with the number of parties that are left.
     pub fn arrive_and_deregister(&mut self) -> Result<i32, OneFault>
         requires rule { Answers (F.pre self.old.rule.closure) (F.post self.old.rule.closure) (count_ends self.old.rule.plan) }
         ensures flat { Follows self.old.rule.plan spec.Leave self.old.word self.new.word (reply_of result) }
@@ -153,14 +167,16 @@ impl<F: Fn(u32, u32) -> bool> PhaserOne<F> {
             → F.post self.old.rule.closure self.old.word.phase self.new.word.parties self.new.word.ended }
         ensures rule { self.new.rule ≡ self.old.rule }
     {
-        let Stepped { word, shown } = left(&self.rule, self.word)?;
+        let Stepped { word, shown } = arrived(&self.rule, self.word, Arrival::Leaves)?;
         self.word = word;
         Ok(shown)
     }
 
-    /// Whether a phase is over: a negative number is answered as it is, then the phase shown once ended,
-    /// then the current phase if it is another; else it is still to be waited for (Java SE 21,
-    /// `Phaser.awaitAdvance`; the order is own).
+    /// Asks whether `phase` has passed, as Java's `awaitAdvance`, but doesn't wait.
+    ///
+    /// Returns `phase` if it is negative. Otherwise returns the phase shown if the phaser has ended, and the current
+    /// phase if that is another one. Returns `Waiting` if `phase` is the current phase. This order is not part of Java's
+    /// API.
     pub fn poll_await(&self, phase: i32) -> Awaited
         ensures { (f : Flat) → IsAlike f (flat_of self.now.word) → reply_of_awaited result ≡ spec.answer (spec.Await phase) f }
     {
@@ -174,7 +190,8 @@ impl<F: Fn(u32, u32) -> bool> PhaserOne<F> {
         }
     }
 
-    /// Ends the phaser at once. It keeps its phase and its counts (own); ending it again does nothing.
+    /// Ends the phaser at once, as Java's `forceTermination`. The phase and the counts stay as they are. If the phaser has
+    /// ended, nothing changes.
     pub fn force(&mut self)
         ensures word { self.new.word ≡ record self.old.word { ended = true } }
         ensures flat { Follows self.old.rule.plan spec.Force self.old.word self.new.word (spec.Number (shown_of self.new.word.phase true)) }
@@ -183,35 +200,36 @@ impl<F: Fn(u32, u32) -> bool> PhaserOne<F> {
         self.word = forced(&self.rule, self.word);
     }
 
-    /// The phase shown: negative once ended (Java SE 21, `Phaser.getPhase`; the number is own).
+    /// Returns the current phase, as Java's `getPhase`. After the end, this is the last phase less 2147483648, a negative
+    /// number.
     pub fn phase(&self) -> i32
         ensures { (f : Flat) → IsAlike f (flat_of self.now.word) → result ≡ shown f }
     {
         self.word.shown()
     }
 
-    /// How many are registered.
+    /// Returns the number of registered parties.
     pub fn registered(&self) -> u32
         ensures { (f : Flat) → IsAlike f (flat_of self.now.word) → result ≡ registered f }
     {
         members(self.word)
     }
 
-    /// How many of them have arrived in this phase.
+    /// Returns the number of parties that have arrived in the current phase.
     pub fn arrived(&self) -> u32
         ensures { (f : Flat) → IsAlike f (flat_of self.now.word) → result + unarrived f ≡ registered f }
     {
         present(self.word)
     }
 
-    /// How many of them have not arrived in this phase.
+    /// Returns the number of parties that have not arrived in the current phase.
     pub fn unarrived(&self) -> u32
         ensures { (f : Flat) → IsAlike f (flat_of self.now.word) → result ≡ unarrived f }
     {
         absent(self.word)
     }
 
-    /// Whether the phaser has ended.
+    /// Returns true if the phaser has ended.
     pub fn ended(&self) -> bool
         ensures { (f : Flat) → IsAlike f (flat_of self.now.word) → result ≡ f.ended }
     {
@@ -220,7 +238,7 @@ impl<F: Fn(u32, u32) -> bool> PhaserOne<F> {
 }
 
 impl<F: Fn(u32, u32) -> bool> PhaserOne<F> {
-    /// Makes a call that is given as data, and answers what that call answers.
+    /// Makes a call that is given as data, and returns its answer.
     pub fn call(&mut self, call: Call) -> Reply
         requires rule { Answers (F.pre self.old.rule.closure) (F.post self.old.rule.closure) (count_ends self.old.rule.plan) }
         ensures flat { Follows self.old.rule.plan call self.old.word self.new.word result }
@@ -242,8 +260,7 @@ impl<F: Fn(u32, u32) -> bool> PhaserOne<F> {
         }
     }
 
-    /// Makes a call that is given as data, and answers what that call answers and the advance that it
-    /// brought, if it did.
+    /// Makes a call that is given as data, and returns its answer and the advance that it took, if any.
     pub fn call_told(&mut self, call: Call) -> (Reply, Option<Advance>)
         requires rule { Answers (F.pre self.old.rule.closure) (F.post self.old.rule.closure) (count_ends self.old.rule.plan) }
         ensures flat { Follows self.old.rule.plan call self.old.word self.new.word result.0 }
@@ -256,8 +273,8 @@ impl<F: Fn(u32, u32) -> bool> PhaserOne<F> {
         (reply, advance_between(before, after))
     }
 
-    /// Makes the calls one after another, and answers what each of them answers. Without memory for the
-    /// answers it makes no call.
+    /// Makes the calls one after another, and returns the answer of each. If memory for the answers runs out, makes no
+    /// call.
     pub fn call_all(&mut self, alloc: Global, calls: &[Call]) -> Result<Vec<Reply>, AllocError>
         requires rule { Answers (F.pre self.old.rule.closure) (F.post self.old.rule.closure) (count_ends self.old.rule.plan) }
         ensures flat { IfOk result (λ replies. FollowsAll self.old.rule.plan calls.now self.old.word self.new.word replies.items) }
@@ -273,7 +290,7 @@ impl<F: Fn(u32, u32) -> bool> PhaserOne<F> {
     }
 }
 
-// The answer of a call that may be refused.
+// Returns the answer of a call that can fail.
 fn reply(outcome: Result<i32, OneFault>) -> Reply
     ensures { result ≡ reply_of outcome }
 {
@@ -283,7 +300,7 @@ fn reply(outcome: Result<i32, OneFault>) -> Reply
     }
 }
 
-// The advance between the words before and after a call.
+// Returns the advance between the words before and after a call, if there is one.
 fn advance_between(before: Word, after: Word) -> Option<Advance>
     ensures { result ≡ (if before.phase == after.phase then None else Some (record { phase = before.phase; parties = after.parties })) }
 {

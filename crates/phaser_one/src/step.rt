@@ -1,10 +1,11 @@
-//! What each call does to the word of a single phaser.
+//! The effect of each call on the word of a single phaser.
 ghost use Rattle.std.specs.Prelude.{◌≡◌, ◌≢◌, ◌+◌, ◌≤◌, ◌<◌, ◌^◌, pos, true, IfOk, MatchResult};
 ghost use Rattle.advance_rule.specs.Plan.{count_ends};
 ghost use Rattle.advance_rule.specs.Stored.{Answers};
 ghost use Rattle.phaser_word.specs.Phase.{shown_of};
 ghost use Rattle.flat_phaser.specs.Flat.{Flat, registered, unarrived};
 ghost use Rattle.flat_phaser.specs.Alike.{IsAlike};
+ghost use Rattle.phaser_one.specs.Arrivals.{call_of};
 ghost use Rattle.phaser_one.specs.Calls as spec;
 ghost use Rattle.phaser_one.specs.Seen.{flat_of, Follows, IsSettled};
 
@@ -12,13 +13,22 @@ use crate::call::OneFault;
 use advance_rule::StoredCount;
 use phaser_word::{MOST_PARTIES, Word, next_phase};
 
-/// The word after a call, and the phase that the call answers, as it is shown.
+/// Whether a party that arrives stays registered.
+#[derive(Clone, Copy)]
+pub(crate) enum Arrival {
+    /// It stays for the next phase.
+    Stays,
+    /// It deregisters.
+    Leaves,
+}
+
+/// The word after a call, and the phase that the call returns, as it is shown.
 pub(crate) struct Stepped {
     pub word: Word,
     pub shown: i32,
 }
 
-// The word after these numbers of parties: the next phase where nobody is unarrived.
+// Returns the word with these counts. If nobody is unarrived, advances it.
 fn settle<F: Fn(u32, u32) -> bool>(
     rule: &StoredCount<F>,
     phase: u32,
@@ -48,7 +58,7 @@ fn settle<F: Fn(u32, u32) -> bool>(
     }
 }
 
-// Registers so many parties.
+// Registers `count` parties.
 pub(crate) fn joined<F: Fn(u32, u32) -> bool>(
     rule: &StoredCount<F>,
     word: Word,
@@ -78,16 +88,32 @@ pub(crate) fn joined<F: Fn(u32, u32) -> bool>(
     Ok(Stepped { word, shown })
 }
 
-// One party arrives.
+impl Arrival {
+    ghost use Rattle.phaser_one.specs.Arrivals.{left_by};
+
+    /// Returns how many of `parties` are registered after the arrival.
+    fn left_of(self, parties: u32) -> u32
+        requires { 0 < parties }
+        ensures { result ≡ left_by self parties }
+    {
+        match self {
+            Arrival::Stays => parties,
+            Arrival::Leaves => parties - 1,
+        }
+    }
+}
+
+/// Arrives with one party. If it is the last, advances the phaser.
 pub(crate) fn arrived<F: Fn(u32, u32) -> bool>(
     rule: &StoredCount<F>,
     word: Word,
+    arrival: Arrival,
 ) -> Result<Stepped, OneFault>
     requires counted { word.unarrived ≤ word.parties }
     requires rule { Answers (F.pre rule.now.closure) (F.post rule.now.closure) (count_ends rule.now.plan) }
     ensures flat { MatchResult result
-        (λ s. Follows rule.now.plan spec.Arrive word s.word (spec.Number s.shown))
-        (λ e. Follows rule.now.plan spec.Arrive word word (spec.Refused e)) }
+        (λ s. Follows rule.now.plan (call_of arrival) word s.word (spec.Number s.shown))
+        (λ e. Follows rule.now.plan (call_of arrival) word word (spec.Refused e)) }
     ensures called { IfOk result (λ s. s.word.phase ≢ word.phase → F.post rule.now.closure word.phase s.word.parties s.word.ended) }
     ensures counted { IfOk result (λ s. s.word.unarrived ≤ s.word.parties) }
 {
@@ -104,41 +130,11 @@ pub(crate) fn arrived<F: Fn(u32, u32) -> bool>(
     if unarrived == 0 {
         return Err(OneFault::NobodyUnarrived);
     }
-    let word = settle(rule, phase, parties, unarrived - 1);
+    let word = settle(rule, phase, arrival.left_of(parties), unarrived - 1);
     Ok(Stepped { word, shown })
 }
 
-// One party arrives and leaves.
-pub(crate) fn left<F: Fn(u32, u32) -> bool>(
-    rule: &StoredCount<F>,
-    word: Word,
-) -> Result<Stepped, OneFault>
-    requires counted { word.unarrived ≤ word.parties }
-    requires rule { Answers (F.pre rule.now.closure) (F.post rule.now.closure) (count_ends rule.now.plan) }
-    ensures flat { MatchResult result
-        (λ s. Follows rule.now.plan spec.Leave word s.word (spec.Number s.shown))
-        (λ e. Follows rule.now.plan spec.Leave word word (spec.Refused e)) }
-    ensures called { IfOk result (λ s. s.word.phase ≢ word.phase → F.post rule.now.closure word.phase s.word.parties s.word.ended) }
-    ensures counted { IfOk result (λ s. s.word.unarrived ≤ s.word.parties) }
-{
-    let shown = word.shown();
-    let Word {
-        phase,
-        parties,
-        unarrived,
-        ended,
-    } = word;
-    if ended {
-        return Ok(Stepped { word, shown });
-    }
-    if unarrived == 0 {
-        return Err(OneFault::NobodyUnarrived);
-    }
-    let word = settle(rule, phase, parties - 1, unarrived - 1);
-    Ok(Stepped { word, shown })
-}
-
-// The phaser ends.
+// Ends the phaser.
 pub(crate) fn forced<F: Fn(u32, u32) -> bool>(rule: &StoredCount<F>, word: Word) -> Word
     requires counted { word.unarrived ≤ word.parties }
     ensures word { result ≡ record word { ended = true } }
@@ -150,7 +146,7 @@ pub(crate) fn forced<F: Fn(u32, u32) -> bool>(rule: &StoredCount<F>, word: Word)
     }
 }
 
-// How many are registered.
+// Returns the number of registered parties.
 pub(crate) fn members(word: Word) -> u32
     requires counted { word.unarrived ≤ word.parties }
     ensures { (f : Flat) → IsAlike f (flat_of word) → result ≡ registered f }
@@ -158,7 +154,7 @@ pub(crate) fn members(word: Word) -> u32
     word.parties
 }
 
-// How many have arrived.
+// Returns the number of parties that have arrived.
 pub(crate) fn present(word: Word) -> u32
     requires counted { word.unarrived ≤ word.parties }
     ensures { (f : Flat) → IsAlike f (flat_of word) → result + unarrived f ≡ registered f }
@@ -166,7 +162,7 @@ pub(crate) fn present(word: Word) -> u32
     word.parties - word.unarrived
 }
 
-// How many have not arrived.
+// Returns the number of parties that have not arrived.
 pub(crate) fn absent(word: Word) -> u32
     requires counted { word.unarrived ≤ word.parties }
     ensures { (f : Flat) → IsAlike f (flat_of word) → result ≡ unarrived f }

@@ -1,4 +1,7 @@
-//! The state of one tier of a phaser, and the one 64-bit number that it is packed into.
+//! The state of one tier of a phaser, and the 64-bit number that it is packed into.
+//!
+//! Phases and the limit of parties are those of Java SE 21's `Phaser`. The packed form, the marks of a tier without
+//! parties, and the number that an ended phaser shows are not part of Java's API.
 #![tactic(auto)]
 
 ghost use Rattle.std.specs.Prelude.{◌≡◌, ◌≤◌, IfSome};
@@ -8,24 +11,26 @@ ghost use Rattle.phaser_word.specs.Phase.{next_phase_of, shown_of};
 
 use std::marker::Model;
 
-/// The greatest phase number; after it comes 0 (Java SE 21, `Phaser`).
+/// The greatest phase number. After it comes 0.
 pub const LAST_PHASE: u32 = 2147483647;
 
-/// The most parties that a tier, and so a phaser, may have (Java SE 21, `Phaser`).
+/// The most parties that a tier, and so a phaser, can have.
 pub const MOST_PARTIES: u32 = 65535;
 
-/// The state of one tier, always a legal one: the phase is at most [`LAST_PHASE`], the parties are at
-/// most [`MOST_PARTIES`], and no more parties are unarrived than there are. A tier without parties has
-/// 0 (its root is still to advance), 1 (it is empty) or 2 (it is being opened) in `unarrived` (own).
+/// The state of one tier.
+///
+/// Its type keeps that the phase is at most [`LAST_PHASE`], that there are at most [`MOST_PARTIES`] parties, and that no
+/// more of them are unarrived than there are. Without parties, `unarrived` is a mark instead: 0 if the root is still to
+/// advance, 1 if the tier is empty, and 2 if it is being opened.
 #[derive(Clone, Copy, Debug, PartialEq, Eq)]
 pub struct Word {
     /// The phase number.
     pub phase: u32,
-    /// How many are registered.
+    /// The number of registered parties.
     pub parties: u32,
-    /// How many of them have not arrived in this phase; without parties a mark.
+    /// The number of parties that have not arrived in this phase, or a mark if there are no parties.
     pub unarrived: u32,
-    /// Whether the phaser has ended.
+    /// True if the phaser has ended.
     pub ended: bool,
 }
 
@@ -40,8 +45,8 @@ impl Model for Word {
 }
 
 impl Word {
-    /// The packed number: `unarrived` in bits 0 to 15, `parties` in 16 to 31, `phase` in 32 to 62,
-    /// `ended` in 63 (own).
+    /// Packs the word into a number: `unarrived` in bits 0 to 15, `parties` in 16 to 31, `phase` in 32 to 62 and `ended`
+    /// in 63.
     pub fn pack(&self) -> u64
         ensures { result ≡ packed self.now }
     {
@@ -52,7 +57,7 @@ impl Word {
             + ended
     }
 
-    /// The word of this number, or `None` exactly where no legal word has it.
+    /// Unpacks a number. Returns `None` if no word is packed into it.
     pub fn unpack(bits: u64) -> Option<Word>
         ensures found { IfSome result (λ w. IsLegal w × (packed w ≡ bits)) }
         ensures again { (w : Fields) → IsLegal w → packed w ≡ bits → result ≡ Some w }
@@ -73,8 +78,8 @@ impl Word {
         })
     }
 
-    /// The phase as a caller is shown it: less 2147483648, and so negative, once the phaser has ended
-    /// (Java SE 21, `Phaser.getPhase`; the number is own).
+    /// Returns the phase as callers see it (Java's `getPhase`): if the phaser has ended, `phase` less 2147483648, a
+    /// negative number, else `phase`.
     pub fn shown(&self) -> i32
         ensures { result ≡ shown_of self.now.phase self.now.ended }
     {
@@ -87,7 +92,7 @@ impl Word {
     }
 }
 
-/// The phase after this one: 0 after [`LAST_PHASE`] (Java SE 21, `Phaser`).
+/// Returns the phase after this one, which is 0 after [`LAST_PHASE`].
 pub fn next_phase(phase: u32) -> u32
     requires { phase ≤ LAST_PHASE }
     ensures { result ≡ next_phase_of phase }
@@ -95,7 +100,8 @@ pub fn next_phase(phase: u32) -> u32
     if phase == LAST_PHASE { 0 } else { phase + 1 }
 }
 
-/// Which words there are, in numbers: of a tier without parties exactly the marks 0, 1 and 2. It does nothing: its contract is a law.
+/// Which words there are, in numbers: of a tier without parties exactly the marks 0, 1 and 2. The function does nothing,
+/// and its contract is a law.
 pub fn words_are_told()
     ensures { WordsAreTold }
 {}

@@ -15,33 +15,41 @@ use tier_core::call::{Played, Progress};
 use tier_steps::kind::Kind;
 use tier_steps::view::Passage;
 
-/// What an arrival or a departure answers.
+/// The answer of an arrival or a departure: [`Tiers::pass`](crate::tiers::Tiers::pass).
+///
+/// `Done` and `Left` have counted the member, and so has `Owing`. The other answers have counted nothing. The flag in
+/// `Done` and `Left` is `led`: true if this call took the advance.
 pub enum Arrived {
-    /// A member has arrived or left in this phase; whether the call took the advance.
+    /// The member has arrived in this phase, or has left in it and others remain. Then `led`. To learn when the phase
+    /// has passed, poll the crew.
     Done(Crew, u32, bool),
-    /// The last member has left in this phase; whether the call took the advance.
+    /// The last member has left in this phase. Then `led`. The door can register new members.
     Left(Door, u32, bool),
-    /// All members had arrived in this phase before.
+    /// All members had arrived in this phase before the call. Arrive again once a poll answers that the phase has
+    /// passed.
     AlreadyArrived(Crew, u32),
-    /// The tree has ended; the phase that is shown.
+    /// The tree has ended and shows this phase, a negative number. No later call on it counts anything.
     Ended(Crew, i32),
-    /// All tries were made, and nothing was counted.
+    /// The tries ran out before the member was counted. Make the call again.
     Busy(Crew),
-    /// A member was counted, all tries were made, and the tiers above have to be told.
+    /// The tries ran out after the member was counted: the tiers above don't know of it yet, or the root is still to
+    /// advance. Everyone waits for that, so resume soon: [`Tiers::pass_on`](crate::tiers::Tiers::pass_on).
     Owing(Errand),
 }
 
-/// What a call answers that goes on with an arrival or a departure.
+/// The answer of a resumed arrival or departure: [`Tiers::pass_on`](crate::tiers::Tiers::pass_on).
+///
+/// Its member was counted before. The flag in `Done` and `Left` is `led`: true if this call took the advance.
 pub enum Resumed {
-    /// A member has arrived or left in this phase; whether the call took the advance.
+    /// The call is over. The member arrived in this phase, or left in it and others remain. Then `led`.
     Done(Crew, u32, bool),
-    /// The last member has left in this phase; whether the call took the advance.
+    /// The call is over. The last member left in this phase. Then `led`. The door can register new members.
     Left(Door, u32, bool),
-    /// All tries were made, and the tiers above have to be told.
+    /// The tries ran out again. Everyone waits for the rest of the call, so resume soon.
     Owing(Errand),
 }
 
-/// A token in a call that has come so far.
+/// Joins a token and how far its call has come.
 #[inline(always)]
 fn going(token: Seated, course: Course) -> Going
     ensures { result ≡ under token course }
@@ -54,7 +62,7 @@ fn going(token: Seated, course: Course) -> Going
     }
 }
 
-/// What a call that has made its tries answers.
+/// Returns the answer of an arrival or a departure that is over or has run out of tries.
 fn answer_settled(at: Going) -> Arrived
     requires { MaySettle at }
     ensures { Settles at result }
@@ -83,7 +91,7 @@ fn answer_settled(at: Going) -> Arrived
     }
 }
 
-/// What a call that has made its tries answers, after its member was counted.
+/// Returns the answer of a resumed arrival or departure that is over or has run out of tries.
 fn answer_resumed(at: Going) -> Resumed
     requires { MayEnd at }
     ensures { Ends at result }
@@ -108,7 +116,11 @@ fn answer_resumed(at: Going) -> Resumed
 }
 
 impl Tiers {
-    /// Lets a member arrive or leave.
+    /// Arrives with one member, as Java's `arrive`, or deregisters it, as Java's `arriveAndDeregister`: `own` says which.
+    /// Doesn't wait for the phase to pass. The last party to arrive advances the tree within this call.
+    ///
+    /// Makes at most `tries` tries, of which 16 are enough if no other token takes a step meanwhile. See [`Arrived`] for
+    /// what to do after each answer.
     pub fn pass<F: Fn(u32, u32) -> bool>(
         &self,
         crew: Crew,
@@ -140,7 +152,9 @@ impl Tiers {
         answer_settled(going(token, course))
     }
 
-    /// Goes on with what is owed.
+    /// Resumes an arrival or a departure that ran out of tries after its member was counted. Makes at most `tries` more,
+    /// of which 16 are enough if no other token takes a step meanwhile. See [`Resumed`] for what to do after each
+    /// answer.
     pub fn pass_on<F: Fn(u32, u32) -> bool>(
         &self,
         errand: Errand,

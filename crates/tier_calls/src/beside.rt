@@ -18,15 +18,15 @@ use tier_core::turn::{is_behind, turns_away};
 use tier_rule::look::plain_look;
 use tier_steps::kind::Kind;
 
-/// What the door's part of a try comes to.
+/// The outcome of the door's part of a try.
 enum Met {
-    /// An answer of the registration.
+    /// The registration has this answer.
     Answer(Registered),
-    /// Another step came between the two looks.
+    /// The word changed between the crew's look and the door's.
     Late(Door),
 }
 
-/// Whether two words are one.
+/// Returns true if the two words are equal.
 fn is_same(one: Word, other: Word) -> bool
     ensures { result ≡ true → one ≡ other }
 {
@@ -37,7 +37,7 @@ fn is_same(one: Word, other: Word) -> bool
 }
 
 impl Tiers {
-    /// A look of a crew at its own tier; whether that lags.
+    /// Looks at the crew's own tier. Returns true if that tier lags.
     fn look_here(&self, token: &mut Seated) -> bool
         requires own { token.old.tree ≡ self.now }
         requires crew { IsCrew token.old }
@@ -46,6 +46,7 @@ impl Tiers {
         ensures lags { result ≡ lags token.new.word token.new.view }
         ensures beside { Beside (shape_of token.new) token.new.tier token.new.word token.new.view }
     {
+        // Only for the prover: brings in what the token knows of its tier.
         let _ = token.word();
         let tier = token.view().tier;
         self.look(token, tier, Kind::Look);
@@ -53,7 +54,7 @@ impl Tiers {
         is_behind(token.word(), &view)
     }
 
-    /// A try of a crew that brings its own tier into its phase.
+    /// Makes one try to bring the crew's own tier into its phase.
     fn refresh_here(&self, token: &mut Seated)
         requires own { token.old.tree ≡ self.now }
         requires crew { IsCrew token.old }
@@ -65,7 +66,7 @@ impl Tiers {
         self.attempt(token, Kind::Refresh);
     }
 
-    /// A try of a crew at its own tier that changes nothing.
+    /// Makes one try at the crew's own tier that changes nothing, so that the round counts as a try.
     fn stay_here(&self, token: &mut Seated)
         requires own { token.old.tree ≡ self.now }
         requires crew { IsCrew token.old }
@@ -77,7 +78,7 @@ impl Tiers {
         self.attempt(token, kind);
     }
 
-    /// The door's part of a try at a tier where a crew with an unarrived member has just seen this word.
+    /// Makes the door's part of a try, at a tier where a crew with an unarrived member has just seen the word `seen`.
     fn meet(&self, door: Door, tier: u16, size: u32, seen: Word) -> Met
         requires own { door.tree ≡ self.now }
         requires tier { tier < length self.now.key.shape }
@@ -113,7 +114,7 @@ impl Tiers {
         Met::Answer(Registered::Busy(Door { token }))
     }
 
-    /// One try of a registration at the crew's own tier.
+    /// Makes one try of a registration at the crew's own tier.
     fn join_once(&self, crew: &mut Crew, door: Door, size: u32) -> Registered
         requires own { (crew.old.tree ≡ self.now) × (door.tree ≡ self.now) }
         requires some { crew.old.view.arrived < crew.old.view.size }
@@ -137,7 +138,7 @@ impl Tiers {
         }
     }
 
-    /// So many tries at most of it.
+    /// Makes at most `tries` tries of a registration at the crew's own tier.
     fn keep_joining(&self, crew: &mut Crew, door: Door, size: u32, tries: u32) -> Registered
         requires own { (crew.old.tree ≡ self.now) × (door.tree ≡ self.now) }
         requires some { crew.old.view.arrived < crew.old.view.size }
@@ -155,7 +156,11 @@ impl Tiers {
         Registered::Busy(door)
     }
 
-    /// Lets so many members join at the crew's own tier.
+    /// Registers `size` new members at the crew's own tier. The crew must have an unarrived member, so its tier is not
+    /// empty and can't pass to the next phase meanwhile.
+    ///
+    /// Makes at most `tries` tries, of both tokens together. The answers are those of [`Registered`], but never `Held`
+    /// or `Owing`.
     pub fn join_beside(&self, crew: &mut Crew, door: Door, size: u32, tries: u32) -> Registered
         requires own { (crew.old.tree ≡ self.now) × (door.tree ≡ self.now) }
         requires some { crew.old.view.arrived < crew.old.view.size }

@@ -1,4 +1,4 @@
-//! Closing the tiers of a tree.
+//! Closing a tree.
 
 ghost use Rattle.std.specs.Prelude.{◌≡◌, ◌≤◌, ◌-◌, [], ◌++◌, All, length, vec_capacity};
 ghost use Rattle.std.specs.Slots.{slots_items, slots_len, IsFull};
@@ -13,29 +13,29 @@ use tier_rule::rule::Joins;
 use tier_rule::sight::Sights;
 use tier_steps::kind::Kind;
 
-/// A token after its tree was closed.
+/// What a token had when its tree was closed.
 #[derive(Clone, Copy)]
 pub struct ClosedToken {
     /// The tier of its members.
     pub tier: u16,
-    /// How many members it had.
+    /// The number of its members.
     pub size: u32,
-    /// How many of them had not arrived in its phase.
+    /// The number of members that had not arrived in its phase.
     pub unarrived: u32,
-    /// The phase that it was in.
+    /// The phase that the token was in.
     pub phase: u32,
 }
 
-/// What is left of a tree that was closed.
+/// What remains of a tree after it was closed.
 #[derive(Drop)]
 pub struct Closed {
-    /// The words of its tiers.
+    /// The words of the tiers, by tier number.
     pub words: Vec<Word>,
-    /// The tokens that were handed in, in their order.
+    /// The tokens that the caller handed in, in their order.
     pub tokens: Vec<ClosedToken>,
 }
 
-/// A token as plain numbers.
+/// Returns a token as plain numbers.
 fn plain(token: &Token) -> ClosedToken
     ensures { result ≡ plain_of (held token.now).view }
 {
@@ -48,7 +48,8 @@ fn plain(token: &Token) -> ClosedToken
     }
 }
 
-/// All tokens as plain numbers, in their order.
+/// Writes all tokens as plain numbers into `plains`, in their order. `plains` must be empty and have room for
+/// them.
 pub fn plain_all(tokens: &[Token], plains: &mut Vec<ClosedToken>)
     requires empty { plains.old.items ≡ [] }
     requires room { length tokens.now ≤ vec_capacity plains.old }
@@ -60,7 +61,7 @@ pub fn plain_all(tokens: &[Token], plains: &mut Vec<ClosedToken>)
 }
 
 impl Tiers {
-    /// A seat that knows what the seats of all these tokens know, and then what another knows.
+    /// Joins the seats of all tokens with another seat, whose knowledge comes last.
     fn gather(&self, seat: Seat<Kind, Sights>, mut tokens: Vec<Token>) -> Seat<Kind, Sights>
         requires own { (seat.table_id ≡ self.now.id) × (seat.me.1 ≡ []) }
         requires tokens { All (λ t. (held t).tree ≡ self.now) tokens.items }
@@ -76,7 +77,7 @@ impl Tiers {
         seat
     }
 
-    /// The table at the end, when all these tokens are one.
+    /// Closes the table with the joined seats of all tokens.
     fn shut(self, tokens: Vec<Token>) -> ClosedTable<Kind, Global>
         requires tokens { All (λ t. (held t).tree ≡ self) tokens.items }
         ensures empty { (slots_len result.slots ≡ 0) × IsFull result.words }
@@ -93,7 +94,8 @@ impl Tiers {
         }
     }
 
-    /// The words at the end.
+    /// Closes the tree and writes the words of its tiers into `words`, by tier number. `words` must be empty and have
+    /// room for them. Takes no memory.
     pub fn close(self, tokens: Vec<Token>, words: Vec<Word>) -> Vec<Word>
         requires tokens { All (λ t. (held t).tree ≡ self) tokens.items }
         requires empty { words.items ≡ [] }

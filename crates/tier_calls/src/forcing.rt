@@ -1,4 +1,4 @@
-//! The end by force.
+//! Ending a tree by force.
 
 ghost use Rattle.std.specs.Prelude.{◌≡◌, ℕ, None, Some};
 ghost use Rattle.tier_calls.specs.Forces.{Forces, ForcedBy, ForcesOnce, HasEnded, IsBefore};
@@ -7,17 +7,17 @@ use crate::tiers::Tiers;
 use crate::tokens::Door;
 use tier_steps::kind::Kind;
 
-/// What a call that ends the tree answers.
+/// The answer of [`Tiers::force`](crate::tiers::Tiers::force).
 #[derive(Clone, Copy)]
 pub enum Forced {
-    /// The tree has ended; the phase that is shown.
+    /// The tree has ended, by this call or before it, and shows this phase, a negative number. It stays ended.
     Ended(i32),
-    /// All tries were made, and no word was changed.
+    /// The tries ran out, and the tree has not ended. No word has changed. Call `force` again.
     Busy,
 }
 
 impl Tiers {
-    /// One try to end the tree.
+    /// Makes one try to end the tree.
     fn force_once(&self, door: &mut Door) -> Forced
         requires own { door.old.tree ≡ self.now }
         requires root { IsBefore door.old }
@@ -34,7 +34,7 @@ impl Tiers {
         Forced::Busy
     }
 
-    /// So many tries at most to end the tree.
+    /// Makes at most `tries` tries to end the tree.
     fn force_on(&self, door: &mut Door, tries: u32) -> Forced
         requires own { door.old.tree ≡ self.now }
         requires root { IsBefore door.old }
@@ -52,7 +52,11 @@ impl Tiers {
         Forced::Busy
     }
 
-    /// Ends the tree by force.
+    /// Ends the tree at once, as Java's `forceTermination`. The phase and the counts stay as they are, and a tree that
+    /// has ended stays as it is.
+    ///
+    /// Makes at most `tries` tries. Two are enough if no other token takes a step meanwhile. `Busy` means that each
+    /// lost against another token's step: call again.
     pub fn force(&self, door: &mut Door, tries: u32) -> Forced
         requires own { door.old.tree ≡ self.now }
         ensures tree { door.new.tree ≡ door.old.tree }

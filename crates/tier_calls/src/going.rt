@@ -1,4 +1,4 @@
-//! Calls that go on step by step.
+//! The loops that take the steps of a call.
 
 ghost use Rattle.std.specs.Prelude.{◌≡◌, ◌≤◌, true};
 ghost use Rattle.tier_rule.specs.Tell.{Beside};
@@ -21,12 +21,12 @@ use tier_core::call::{Played, Progress};
 use tier_core::turn::{tier_of, turn_here};
 use tier_steps::view::{Passage, View};
 
-/// How far a call has come, beside its token.
+/// How far a call has come, apart from its token.
 #[derive(Clone, Copy)]
 pub struct Course {
-    /// How far.
+    /// How far the call has come.
     pub progress: Progress,
-    /// What its last step answered.
+    /// The answer of its last step.
     pub answer: Played,
 }
 
@@ -36,12 +36,12 @@ pub struct Going {
     pub token: Seated,
     /// How far its call has come.
     pub progress: Progress,
-    /// What its last step answered.
+    /// The answer of its last step.
     pub answer: Played,
 }
 
 impl Tiers {
-    /// A look of a call at the tier of its next step.
+    /// Loads the word of the tier of the call's next step.
     fn look_next(&self, token: &mut Seated, progress: Progress)
         requires own { token.old.tree ≡ self.now }
         requires going { is_going progress ≡ true }
@@ -55,7 +55,7 @@ impl Tiers {
         self.look(token, tier, kind);
     }
 
-    /// How a call stands after a look.
+    /// Records how far a call has come after a look, before which its token's view was `before`.
     fn looked(&self, at: &mut Going, before: View)
         ensures token { at.new.token ≡ at.old.token }
         ensures next { After self.now.key.shape at.old.progress before at.new }
@@ -69,7 +69,7 @@ impl Tiers {
         }
     }
 
-    /// A look of a call at the tier of its next step.
+    /// Looks at the tier of the call's next step, and records how far the call has come.
     fn look_on(&self, at: &mut Going)
         requires at { IsAt self.now at.old }
         requires going { is_going at.old.progress ≡ true }
@@ -80,7 +80,7 @@ impl Tiers {
         self.looked(at, before);
     }
 
-    /// Whether the token of a call stands at the tier of its next step, which is no look.
+    /// Returns true if the token last saw the tier of the call's next step, and that step changes a word.
     fn stands(&self, at: &Going) -> bool
         requires going { is_going at.now.progress ≡ true }
         ensures { result ≡ true → Stands self.now.key at.now }
@@ -92,7 +92,7 @@ impl Tiers {
         at.token.tier() == tier && !only_looks(turn.kind)
     }
 
-    /// Looks until the token stands at the tier of the call's next step, or the call is over.
+    /// Looks until the token has seen the tier of the call's next step, or the call is over.
     fn stand(&self, at: &mut Going)
         requires at { IsAt self.now at.old }
         requires going { is_going at.old.progress ≡ true }
@@ -108,7 +108,7 @@ impl Tiers {
         self.look_on(at);
     }
 
-    /// One try of a call's next step, at whose tier its token stands.
+    /// Makes one try of the call's next step. The token must have seen the tier of that step last.
     fn try_on(&self, at: &mut Going, ends: bool)
         requires at { IsAt self.now at.old }
         requires stands { Stands self.now.key at.old }
@@ -131,7 +131,7 @@ impl Tiers {
         }
     }
 
-    /// What the plan says of the advance that a call has to take, by its closure.
+    /// Asks the rule's closure whether the advance that a call must take ends the tree.
     #[inline(always)]
     pub(crate) fn planned<F: Fn(u32, u32) -> bool>(
         &self,
@@ -150,7 +150,7 @@ impl Tiers {
         rule.call(word.phase, word.parties)
     }
 
-    /// Takes the steps of an arrival or a departure until it is over, or so many tries were made.
+    /// Takes the steps of an arrival or a departure until it is over, or `tries` tries were made.
     #[inline]
     pub(crate) fn go_on<F: Fn(u32, u32) -> bool>(
         &self,
@@ -178,7 +178,8 @@ impl Tiers {
         }
     }
 
-    /// The same of one that has passed its own tier.
+    /// Takes the steps of an arrival or a departure that was counted at its own tier, until it is over, or `tries` tries
+    /// were made.
     pub(crate) fn go_owing<F: Fn(u32, u32) -> bool>(
         &self,
         token: &mut Seated,
@@ -204,8 +205,8 @@ impl Tiers {
         }
     }
 
-    /// The own step of an arrival or a departure, and the advance where that is owed then; how many tries
-    /// that took, at most so many.
+    /// Takes the step of an arrival or a departure at its own tier, and the advance if that is due then. Returns the
+    /// number of tries used, at most `tries`.
     #[inline(always)]
     fn start<F: Fn(u32, u32) -> bool>(
         &self,
@@ -233,8 +234,8 @@ impl Tiers {
         2
     }
 
-    /// Takes the steps of an arrival or a departure from its own step on, with a straight way where that step, or the
-    /// advance behind it, is the last.
+    /// Takes the steps of an arrival or a departure, from the one at its own tier on. If that step, or the advance after
+    /// it, is the last, this takes no loop.
     #[inline(always)]
     pub(crate) fn go_straight<F: Fn(u32, u32) -> bool>(
         &self,
@@ -257,7 +258,7 @@ impl Tiers {
         self.go_on(token, course, rule, tries - used);
     }
 
-    /// Takes the steps of a call that never advances the root, until it is over, or so many tries were made.
+    /// Takes the steps of a registration until it is over, or `tries` tries were made.
     pub(crate) fn go_joining(&self, at: Going, tries: u32) -> Going
         requires at { IsAt self.now at }
         requires going { is_going at.progress ≡ true }

@@ -1,5 +1,5 @@
-//! Arrivals whose crew stays where it is. They go on until they are over, and let other threads run between:
-//! that they come to an end is not claimed.
+//! Arrivals that leave their crew in place. They repeat until they have an answer and let other threads run between
+//! tries. Termination is not part of their contracts.
 
 ghost use Rattle.std.specs.Prelude.{◌≡◌, ℕ, Some, true};
 ghost use Rattle.advance_rule.specs.Stored.{Answers};
@@ -27,18 +27,25 @@ use tier_steps::view::Passage;
 /// makes fail.
 pub const TRIES: u32 = 16;
 
-/// What an arrival answers whose crew stays where it is.
+/// The answer of [`Tiers::arrive_in_place`](crate::tiers::Tiers::arrive_in_place).
 #[derive(Clone, Copy, PartialEq, Eq)]
 pub enum Came {
-    /// A member has arrived in this phase; whether the call took the advance.
-    Done(u32, bool),
-    /// All members had arrived in this phase before.
+    /// A member has arrived. To learn when the phase has passed, poll the crew.
+    Done {
+        /// The phase in which the member arrived.
+        phase: u32,
+        /// True if this call took the advance of that phase.
+        led: bool,
+    },
+    /// All members had arrived in this phase before the call, which counted nothing. Arrive again once a poll answers
+    /// that the phase has passed.
     AlreadyArrived(u32),
-    /// The tree has ended; the phase that is shown.
+    /// The tree has ended and shows this phase, a negative number. Nothing was counted, and no later call on the tree
+    /// counts anything.
     Ended(i32),
 }
 
-/// What an arrival answers that is over.
+/// Returns the answer of an arrival that is over.
 #[inline(always)]
 fn answer_over(token: &Seated, course: Course) -> Came
     requires { MayCome (under token.now course) }
@@ -46,7 +53,10 @@ fn answer_over(token: &Seated, course: Course) -> Came
 {
     let view = token.view();
     match course.answer {
-        Played::Done(phase) => Came::Done(phase, view.led),
+        Played::Done(phase) => Came::Done {
+            phase,
+            led: view.led,
+        },
         Played::Ended(shown) => Came::Ended(shown),
         _ => unreachable!(),
     }
@@ -78,7 +88,7 @@ impl Tiers {
         unreachable!()
     }
 
-    /// The own step of an arrival, and the advance where that is owed then.
+    /// Takes the step of an arrival at its own tier, and the advance if that is due then.
     #[inline(always)]
     fn begin_arrival<F: Fn(u32, u32) -> bool>(
         &self,
@@ -99,8 +109,8 @@ impl Tiers {
         self.advance(token, course, rule);
     }
 
-    /// Takes the steps of an arrival from its own step on until it is over, with a straight way where that step, or
-    /// the advance behind it, is the last.
+    /// Takes the steps of an arrival, from the one at its own tier on, until it is over. If that step, or the advance
+    /// after it, is the last, this takes no loop.
     #[inline(always)]
     fn go_to_end<R: Wait, F: Fn(u32, u32) -> bool>(
         &self,
@@ -122,7 +132,10 @@ impl Tiers {
         self.go_through(rt, token, course, rule);
     }
 
-    /// Lets a member of a crew arrive that stays where it is.
+    /// Arrives with one member of the crew, as Java's `arrive`, and leaves the crew in place.
+    ///
+    /// Repeats until it has an answer, and lets other threads run after every 16 tries. Termination is not part of the
+    /// contract. Doesn't wait for the phase to pass.
     pub fn arrive_in_place<R: Wait, F: Fn(u32, u32) -> bool>(
         &self,
         rt: &R,

@@ -1,47 +1,57 @@
-//! Registrations.
+//! Registrations at any tier.
 
 ghost use Rattle.std.specs.Prelude.{◌≡◌, ◌<◌, ◌≤◌, ℕ, Some, length};
 ghost use Rattle.tier_calls.specs.Made.{MadeOnly, HasEntered, is_entering};
 ghost use Rattle.tier_calls.specs.Registers.{token_of, opened_of, Registers, Opens, HasEnded, IsEndedOrOwed, NoBusy, MayAnswer, AnswersJoin, SameAnswer};
 
 use crate::going::Going;
-use crate::next::claims;
 use crate::tiers::Tiers;
 use crate::tokens::{Crew, Door, Opening};
 use tier_core::call::{Cause, Played, Progress};
+use tier_core::turn::claims;
 use tier_steps::kind::Kind;
 
-/// What a registration answers.
+/// The answer of a registration: [`Tiers::join`](crate::tiers::Tiers::join) or
+/// [`Tiers::join_beside`](crate::tiers::Tiers::join_beside).
+///
+/// Only `Joined` has registered anybody. `Held`, `Full`, `Ended` and `Busy` return the door without members.
 pub enum Registered {
-    /// The members have joined, in this phase.
+    /// The members have registered, and are unarrived in this phase. They can arrive now.
     Joined(Crew, u32),
-    /// The registration is held off for now, in this phase.
+    /// The registration is held off in this phase, for this cause. Causes go away as other tokens take their steps:
+    /// let other threads run and register again.
     Held(Door, u32, Cause),
-    /// There is no room: a tier of the path has so many parties.
+    /// A tier of the path has this many parties already and would have over 65535. Register fewer members, or at
+    /// another tier.
     Full(Door, u32),
-    /// The tree has ended; the phase that is shown.
+    /// The tree has ended and shows this phase, a negative number. No later call on it counts anything.
     Ended(Door, i32),
-    /// All tries were made, and no word was changed.
+    /// The tries ran out, and the registration has changed nothing. Register again.
     Busy(Door),
-    /// All tries were made, and the path to the tier is being opened or given back.
+    /// The tries ran out while the path to the tier was opened or released. Nobody else can register at the claimed
+    /// tiers meanwhile, so resume soon: [`Tiers::open_on`](crate::tiers::Tiers::open_on).
     Owing(Opening),
 }
 
-/// What a registration answers that goes on with the opening of a path.
+/// The answer of a resumed registration: [`Tiers::open_on`](crate::tiers::Tiers::open_on).
+///
+/// Only `Joined` has registered anybody. All answers but `Owing` hold no tier any more.
 pub enum Opened {
-    /// The members have joined, in this phase.
+    /// The members have registered, and are unarrived in this phase. They can arrive now.
     Joined(Crew, u32),
-    /// The registration is held off for now, in this phase.
+    /// The registration is held off in this phase, for this cause. Causes go away as other tokens take their steps:
+    /// let other threads run and register again.
     Held(Door, u32, Cause),
-    /// There is no room: a tier of the path has so many parties.
+    /// A tier of the path has this many parties already and would have over 65535. Register fewer members, or at
+    /// another tier.
     Full(Door, u32),
-    /// The tree has ended; the phase that is shown.
+    /// The tree has ended and shows this phase, a negative number. No later call on it counts anything.
     Ended(Door, i32),
-    /// All tries were made, and the path to the tier is being opened or given back.
+    /// The tries ran out again. Nobody else can register at the claimed tiers meanwhile, so resume soon.
     Owing(Opening),
 }
 
-/// What a join that has made its tries answers.
+/// Returns the answer of a join that is over or has run out of tries.
 fn answer_join(at: Going) -> Registered
     requires { MayAnswer at }
     ensures { AnswersJoin at result }
@@ -71,7 +81,7 @@ fn answer_join(at: Going) -> Registered
     }
 }
 
-/// The same answer, where it is not that nothing was done.
+/// Returns an answer other than `Busy` as that of a resumed registration.
 fn answer_opening(answer: Registered) -> Opened
     requires { NoBusy answer }
     ensures { SameAnswer answer result }
@@ -87,7 +97,11 @@ fn answer_opening(answer: Registered) -> Opened
 }
 
 impl Tiers {
-    /// Lets so many members join a tier, opening the path to it where it is empty.
+    /// Registers `size` new members at a tier, as Java's `bulkRegister`. If the tier is empty, first opens the path from
+    /// it to the nearest ancestor that has parties.
+    ///
+    /// Makes at most `tries` tries, of which 16 are enough if no other token takes a step meanwhile. See
+    /// [`Registered`] for what to do after each answer.
     pub fn join(&self, door: Door, tier: u16, size: u32, tries: u32) -> Registered
         requires own { door.tree ≡ self.now }
         requires tier { tier < length self.now.key.shape }
@@ -110,7 +124,11 @@ impl Tiers {
         answer_join(self.go_joining(at, tries))
     }
 
-    /// Goes on with the opening of a path.
+    /// Resumes a registration that ran out of tries. Makes at most `tries` more, of which 16 are enough if no other
+    /// token takes a step meanwhile.
+    ///
+    /// If the token has seen that the tree ended before the members joined, releases the claimed tiers and returns
+    /// `Ended`. See [`Opened`] for what to do after each answer.
     pub fn open_on(&self, opening: Opening, tries: u32) -> Opened
         requires own { opening.token.tree ≡ self.now }
         ensures answer { Opens opening tries result }

@@ -1,4 +1,32 @@
-//! The tiers of a tree of phasers as atomic words, and the tokens of those who step on them.
+//! The tiers of a tree of phasers as atomic words, the tokens that call it, and each call as its steps.
+//!
+//! The calls are those of Java SE 21's `Phaser`. Tokens, tries and polls are not part of Java's API.
+//!
+//! # Tokens
+//!
+//! A thread calls a tree by a token. A [`Door`](tokens::Door) has no members and can register some. A
+//! [`Crew`](tokens::Crew) has members, all at one tier, which arrive and leave one at a time. A new tree comes
+//! with one token, and every other token is split off one that the tree already has. These are the tokens of the
+//! tree, and a call takes only tokens of the tree that it is made on.
+//!
+//! # Tries
+//!
+//! A try is one compare-and-swap of the word of one tier, won or lost. `tries` is the most that a call makes. No
+//! call waits for another thread. If the tries run out before the call has its answer, it returns one of these:
+//!
+//! * `Busy`: the call has counted nothing and claimed nothing. Make it again, best after other threads have run.
+//! * `Owing`: the call has counted a member or claimed a tier, and other threads may wait for the rest. Resume it
+//!   soon.
+//!
+//! 16 tries are enough if no other token takes a step meanwhile, because no call has more than 16 steps (law
+//! `calls_are_short` counts them: a registration has at most 14, an arrival or a departure at most 15). So 16 is
+//! the right number for most callers. More tries help only if other threads often change the same words, and
+//! fewer return earlier. With 0 tries a call only looks at the tree.
+//!
+//! # Who advances the tree
+//!
+//! The last party to arrive takes the advance within its own call. The answers `Done` and `Left` say so by a flag,
+//! `led`: it is true if this call, or the one that resumed it, took the advance.
 #![tactic(auto)]
 
 pub mod arriving;

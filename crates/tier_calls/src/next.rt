@@ -1,26 +1,16 @@
-//! What a call looks for, and which steps are looks.
+//! What a call looks for, and which steps only look.
 
 ghost use Rattle.std.specs.Prelude.{◌≡◌};
-ghost use Rattle.tier_core.specs.Turn.{claimed_by};
 ghost use Rattle.tier_core.specs.Machine.{is_going};
 ghost use Rattle.tier_calls.specs.Next.{meant, is_look};
 ghost use Rattle.tier_calls.specs.Goes.{is_back};
 
 use tier_core::call::Progress;
+use tier_core::turn::claims;
 use tier_steps::kind::Kind;
-use tier_steps::view::{Errand, View};
+use tier_steps::view::View;
 
-/// How many tiers an errand has claimed.
-pub(crate) fn claims(errand: Errand) -> u16
-    ensures { result ≡ claimed_by errand }
-{
-    match errand {
-        Errand::Opening { claimed, .. } => claimed,
-        Errand::Rest | Errand::Climbing { .. } | Errand::Advancing => 0,
-    }
-}
-
-/// The step in place of which a call looks.
+/// Returns the step that a call means to take when it looks.
 pub fn meant_step(progress: Progress, view: View) -> Kind
     ensures { result ≡ meant progress view }
 {
@@ -34,21 +24,21 @@ pub fn meant_step(progress: Progress, view: View) -> Kind
     }
 }
 
-/// Whether a call goes on by tries.
+/// Returns true if the call has looked at the root and still has steps to take.
 pub fn goes_on(progress: Progress) -> bool
     ensures { result ≡ is_going progress }
 {
     !matches!(progress, Progress::Idle | Progress::Begun(_))
 }
 
-/// Whether a call gives a path back.
+/// Returns true if the call is releasing a path that it claimed.
 pub fn gives_back(progress: Progress) -> bool
     ensures { result ≡ is_back progress }
 {
     matches!(progress, Progress::GivingBack(_))
 }
 
-/// Whether a step is a look.
+/// Returns true if a step of this kind changes no word.
 pub fn only_looks(kind: Kind) -> bool
     ensures { result ≡ is_look kind }
 {

@@ -1,4 +1,4 @@
-//! Polling.
+//! Asking whether a phase has passed.
 
 ghost use Rattle.std.specs.Prelude.{◌≡◌, ◌<◌, ◌≤◌, ◌+◌, ℕ, Some};
 ghost use Rattle.tier_rule.specs.Tell.{Beside};
@@ -12,21 +12,22 @@ use crate::tokens::Crew;
 use tier_core::turn::is_behind;
 use tier_steps::kind::Kind;
 
-/// What a poll answers.
+/// The answer of [`Tiers::poll`](crate::tiers::Tiers::poll).
 #[derive(Clone, Copy)]
 pub enum Polled {
-    /// The phase in which all members had arrived has passed, and this one is the next.
+    /// All members had arrived, and that phase has passed. The crew is in this phase now, and none of its members has
+    /// arrived in it.
     Passed(u32),
-    /// All members have arrived, and others have not.
+    /// All members have arrived, and the phase has not passed. Poll again later.
     Waiting,
-    /// A member has not arrived in this phase.
+    /// A member has not arrived in this phase, so the tree waits for this crew. Arrive before the next poll.
     Here(u32),
-    /// The tree has ended; the phase that is shown.
+    /// The tree has ended and shows this phase, a negative number. No later call on it counts anything.
     Ended(i32),
 }
 
 impl Tiers {
-    /// Brings the token's own tier into its phase where it lags, by one try at most.
+    /// Brings the token's own tier into its phase if it lags. Makes at most one try.
     fn catch_up(&self, token: &mut Seated)
         requires own { token.old.tree ≡ self.now }
         requires crew { IsCrew token.old }
@@ -48,7 +49,10 @@ impl Tiers {
         }
     }
 
-    /// Sees whether the crew's phase has passed.
+    /// Asks whether the crew's phase has passed. Doesn't wait.
+    ///
+    /// If the crew's own tier lags, this also brings it into the root's phase, by at most one try. The answer doesn't
+    /// depend on that try.
     pub fn poll(&self, crew: &mut Crew) -> Polled
         requires own { crew.old.tree ≡ self.now }
         ensures tree { crew.new.tree ≡ crew.old.tree }

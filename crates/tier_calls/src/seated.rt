@@ -1,4 +1,4 @@
-//! A token: a seat at the table, and the part of its view that steps use.
+//! A token: its seat at the table of words, and what it knows of the tree.
 
 ghost use Rattle.std.specs.Prelude.{◌≡◌};
 
@@ -10,7 +10,7 @@ use tier_rule::sight::Sights;
 use tier_steps::kind::Kind;
 use tier_steps::view::View;
 
-/// A token of a tree, whatever it may be asked.
+/// A token of a tree, in a call or not.
 pub struct Seated {
     pub(crate) seat: Seat<Kind, Sights>,
     pub(crate) view: View,
@@ -33,21 +33,21 @@ impl Seated {
     ghost use Rattle.tier_calls.specs.Holding.{shape_of};
     ghost use Rattle.tier_rule.specs.Tell.{Beside};
 
-    /// What it knows and owes.
+    /// Returns what the token knows and owes.
     pub fn view(&self) -> View
         ensures { result ≡ self.now.view }
     {
         self.view
     }
 
-    /// The tier of its last step.
+    /// Returns the tier of its last step.
     pub fn tier(&self) -> u16
         ensures { result ≡ self.now.tier }
     {
         self.tier
     }
 
-    /// The word of that tier, as that step left it.
+    /// Returns the word of that tier, as its last step left it.
     pub fn word(&self) -> Word
         ensures word { result ≡ self.now.word }
         ensures beside { Beside (shape_of self.now) self.now.tier self.now.word self.now.view }
@@ -60,7 +60,7 @@ impl Seated {
     ghost use Rattle.std.specs.Prelude.{◌≡◌, [], ◌∷◌};
     ghost use Rattle.tier_calls.specs.Holding.{sight_held};
 
-    /// Its seat.
+    /// Returns its seat.
     pub(crate) fn into_seat(self) -> Seat<Kind, Sights>
         ensures table { result.table_id ≡ self.tree.id }
         ensures seat { result.me ≡ (sight_held self ∷ [], []) }

@@ -1,4 +1,4 @@
-//! Words as the numbers that lie in the table.
+//! Words as the packed numbers that the table holds.
 
 ghost use Rattle.std.specs.Prelude.{◌≡◌};
 ghost use Rattle.phaser_word.specs.Fields.{Fields, IsLegal};
@@ -7,7 +7,7 @@ ghost use Rattle.phaser_word.specs.Packed.{packed};
 use phaser_word::Word;
 use std::marker::Model;
 
-/// A word by its number, of which only what is asked for is unpacked.
+/// A word as its packed number. Each reader unpacks only what it needs.
 #[derive(Clone, Copy)]
 pub(crate) struct Seen {
     number: u64,
@@ -29,7 +29,7 @@ impl Model for Seen {
 }
 
 impl Seen {
-    /// The word that has this number.
+    /// Returns the word that is packed into this number.
     #[inline(always)]
     pub(crate) fn at(number: u64) -> Seen
         requires { (w : Fields) × IsLegal w × (packed w ≡ number) }
@@ -38,7 +38,7 @@ impl Seen {
         Seen { number }
     }
 
-    /// This word.
+    /// Packs a word.
     #[inline(always)]
     pub(crate) fn of(word: Word) -> Seen
         ensures { result ≡ word }
@@ -47,7 +47,7 @@ impl Seen {
         Seen::at(number)
     }
 
-    /// Its number.
+    /// Returns the packed number.
     #[inline(always)]
     pub(crate) fn number(&self) -> u64
         ensures { result ≡ packed self.now }
@@ -55,7 +55,7 @@ impl Seen {
         self.number
     }
 
-    /// The word itself.
+    /// Unpacks the word.
     #[inline(always)]
     pub(crate) fn word(&self) -> Word
         ensures { result ≡ self.now }

@@ -1,10 +1,9 @@
-//! The steps of arrivals and departures, each tried by the kind that it has.
+//! The single steps of arrivals and departures, each with its kind known beforehand.
 
 ghost use Rattle.std.specs.Prelude.{◌≡◌, true, false, if◌then◌else◌};
 ghost use Rattle.advance_rule.specs.Stored.{Answers};
 ghost use Rattle.advance_rule.specs.Plan.{end_ends_at};
 ghost use Rattle.tier_core.specs.Machine.{is_going};
-ghost use Rattle.tier_core.specs.Turn as spec;
 ghost use Rattle.tier_core.specs.Turn.{place, turn_by, pass_turn};
 ghost use Rattle.tier_core.specs.declared.call.Played.{Played};
 ghost use Rattle.tier_core.specs.declared.call.Played.TheVariants as played;
@@ -21,36 +20,12 @@ use crate::tiers::Tiers;
 use advance_rule::StoredAdvance;
 use phaser_word::Word;
 use tier_core::call::{Played, Progress, Turn};
-use tier_core::turn::{above, is_behind};
+use tier_core::turn::{above, is_behind, passed_answer, then_climb};
 use tier_steps::kind::Kind;
 use tier_steps::step::{errand_after, word_passed};
 use tier_steps::view::{Errand, Passage};
 
-/// How an arrival or a departure goes on from what it owes.
-#[inline(always)]
-fn then_climb(own: Passage, errand: Errand) -> Progress
-    ensures { result ≡ spec.goes_on own errand }
-{
-    match errand {
-        Errand::Rest | Errand::Opening { .. } => Progress::Idle,
-        Errand::Advancing => Progress::Due(own),
-        Errand::Climbing { .. } => Progress::Owing(own),
-    }
-}
-
-/// What it answers.
-#[inline(always)]
-fn passed_answer(phase: u32, parties: u32, errand: Errand) -> Played
-    ensures { result ≡ spec.told phase parties errand }
-{
-    match errand {
-        Errand::Rest => Played::Done(phase),
-        Errand::Advancing => Played::MustAdvance(phase, parties),
-        Errand::Climbing { .. } | Errand::Opening { .. } => Played::GoesOn,
-    }
-}
-
-/// How it stands after a look in place of its step, which found this word, and before which its token was in this phase.
+/// Records that a call's step was lost and only looked. It found `word`, and the token was in `phase` before.
 #[inline(always)]
 fn missed(course: &mut Course, phase: u32, word: Word)
     ensures progress { course.new.progress ≡ (if word.ended then progress.Idle else course.old.progress) }
@@ -68,7 +43,7 @@ fn missed(course: &mut Course, phase: u32, word: Word)
 }
 
 impl Tiers {
-    /// Looks at the tier of its next step, where its token doesn't stand there.
+    /// Looks at the tier of the call's next step, unless the token saw that tier last.
     #[inline(always)]
     fn stand_to(&self, token: &mut Seated, course: &mut Course, tier: u16)
         requires at { IsAt self.now (under token.old course.old) }
@@ -85,7 +60,7 @@ impl Tiers {
         missed(course, phase, token.word());
     }
 
-    /// One try of its next step.
+    /// Makes one try of the call's next step.
     #[inline(always)]
     fn try_turn(&self, token: &mut Seated, course: &mut Course, turn: Turn, ends: bool)
         requires at { IsAt self.now (under token.old course.old) }
@@ -104,7 +79,8 @@ impl Tiers {
         }
     }
 
-    /// One try of the step by which a party passes the tier where its token stands, or of the refresh before it.
+    /// Makes one try of the step by which a party passes the tier that its token saw last. If that tier lags, the try
+    /// refreshes it instead.
     #[inline(always)]
     fn pass_tier(
         &self,
@@ -145,8 +121,8 @@ impl Tiers {
         self.try_turn(token, course, turn, false);
     }
 
-    /// One try of an arrival at the tier where its token stands, or of the refresh before it. Where others are still to
-    /// arrive there, nothing is owed afterwards; where it is the last at the root, the advance is.
+    /// Makes one try of an arrival at the tier that its token saw last. If that tier lags, the try refreshes it instead.
+    /// If others are still to arrive there, the call is then over. If it was the last at the root, the advance is due.
     #[inline(always)]
     fn arrive_at(&self, token: &mut Seated, course: &mut Course)
         requires at { IsAt self.now (under token.old course.old) }
@@ -184,7 +160,7 @@ impl Tiers {
         );
     }
 
-    /// The own step of an arrival or a departure, by one try at most.
+    /// Takes the step of an arrival or a departure at its own tier. Makes at most one try.
     #[inline(always)]
     pub(crate) fn pass_own(&self, token: &mut Seated, course: &mut Course, own: Passage)
         requires at { IsAt self.now (under token.old course.old) }
@@ -218,7 +194,8 @@ impl Tiers {
         }
     }
 
-    /// The own step of an arrival, with a straight way where others are still to arrive at its tier.
+    /// Takes the step of an arrival at its own tier. Makes at most one try, and decides at once if others are still to
+    /// arrive there.
     #[inline(always)]
     pub(crate) fn arrive_own(&self, token: &mut Seated, course: &mut Course)
         requires at { IsAt self.now (under token.old course.old) }
@@ -233,7 +210,7 @@ impl Tiers {
         self.arrive_at(token, course);
     }
 
-    /// The next step of its climb, by one try at most.
+    /// Takes the next step of the call's climb. Makes at most one try.
     #[inline(always)]
     pub(crate) fn climb(&self, token: &mut Seated, course: &mut Course, own: Passage)
         requires at { IsAt self.now (under token.old course.old) }
@@ -268,7 +245,7 @@ impl Tiers {
         }
     }
 
-    /// The advance that it has to take, by one try at most.
+    /// Takes the advance that is due. Makes at most one try.
     #[inline(always)]
     pub(crate) fn advance<F: Fn(u32, u32) -> bool>(
         &self,

@@ -1,4 +1,4 @@
-//! The tiers of a tree as atomic words, and its single steps.
+//! The tiers of a tree as atomic words, and single loads and compare-and-swaps of them.
 
 ghost use Rattle.std.specs.Prelude.{◌≡◌, ◌≤◌, ◌<◌, IfOk, MatchBool, [], length, replicate};
 ghost use Rattle.tier_shape.specs.Paths.{IsTiers};
@@ -28,7 +28,8 @@ use tier_steps::kind::Kind;
 use tier_steps::step::step_word;
 use tier_steps::view::View;
 
-/// The tiers of a tree, one atomic word each.
+/// The tiers of a tree, one atomic word each. Any number of threads may call it by shared reference, each by its own
+/// tokens.
 #[derive(Drop)]
 pub struct Tiers {
     pub(crate) table: Table<Kind, Sights, Key, Rule, Global>,
@@ -45,7 +46,7 @@ impl Model for Tiers {
     ghost invariant = { λ t. IsTable t.table.shared.table_id.words t.table.shared.table_id.slots t.key t.table.shared.key };
 }
 
-/// So many equal numbers.
+/// Returns `count` copies of `number`.
 fn numbers_of(alloc: Global, count: usize, number: u64) -> Result<Vec<u64>, AllocError>
     ensures { IfOk result (λ numbers. numbers.items ≡ replicate count number) }
 {
@@ -57,7 +58,7 @@ fn numbers_of(alloc: Global, count: usize, number: u64) -> Result<Vec<u64>, Allo
 }
 
 impl Tiers {
-    /// Empty tiers in this phase, and one who is seated at them.
+    /// Creates empty tiers in `phase`, and the first token.
     fn seated(
         alloc: Global,
         shape: Shape,
@@ -89,7 +90,7 @@ impl Tiers {
         ))
     }
 
-    /// A tree of empty tiers in this phase, and its first token.
+    /// Creates a tree of empty tiers in `phase`, and its first token. It ends at an advance if `plan` says so.
     pub fn new(
         alloc: Global,
         shape: Shape,
@@ -104,7 +105,7 @@ impl Tiers {
         Ok((tiers, Door { token }))
     }
 
-    /// The shape of the tree.
+    /// Returns the shape of the tree.
     pub fn shape(&self) -> &Shape
         ensures value { result.now ≡ self.now.key.shape }
         ensures tiers { IsTiers result.now }
@@ -112,7 +113,7 @@ impl Tiers {
         &self.key.shape
     }
 
-    /// A load of the word of a tier.
+    /// Loads the word of a tier. `J` names the step that the token means to take there, for the table's rule.
     #[inline(always)]
     fn look_as<J: Meant>(&self, token: &mut Seated, tier: u16, kind: Kind)
         requires own { token.old.tree ≡ self.now }
@@ -133,7 +134,7 @@ impl Tiers {
         token.word = seen;
     }
 
-    /// A load of the word of a tier, by a token that means to take a step of this kind there.
+    /// Loads the word of a tier where the token means to take a step of this kind.
     #[inline(always)]
     pub(crate) fn look(&self, token: &mut Seated, tier: u16, kind: Kind)
         requires own { token.old.tree ≡ self.now }
@@ -144,20 +145,22 @@ impl Tiers {
         self.look_as::<Brand>(token, tier, kind);
     }
 
-    /// A load of the root.
+    /// Loads the word of the root.
     pub(crate) fn look_at_root(&self, token: &mut Seated)
         requires own { token.old.tree ≡ self.now }
         ensures { Looked Look 0 token.old token.new }
     {
+        // Only for the prover: brings in that the tree has a root.
         let _ = self.shape();
         self.look(token, 0, Kind::Look);
     }
 
-    /// A look at the root by two tokens at once.
+    /// Loads the word of the root once for two tokens. Returns the second one.
     pub(crate) fn look_together(&self, one: &mut Seated, other: Seated) -> Seated
         requires own { (one.old.tree ≡ self.now) × (other.tree ≡ self.now) }
         ensures { HaveLooked one.old one.new other result }
     {
+        // Only for the prover: brings in what the other token knows of its tier.
         let _ = other.word();
         let mut view = other.view();
         self.table
@@ -179,8 +182,8 @@ impl Tiers {
         }
     }
 
-    /// One try of a step at the tier where the token looked last, from the word that it saw there. A lost
-    /// try is a look.
+    /// Makes one try of a step at the tier that the token saw last, from the word that it saw there. Returns true if
+    /// the try won. A lost try only looks.
     #[inline(always)]
     pub(crate) fn attempt(&self, token: &mut Seated, kind: Kind) -> bool
         requires own { token.old.tree ≡ self.now }
@@ -214,7 +217,7 @@ impl Tiers {
         }
     }
 
-    /// The first look of a seat that knows nothing, by which a token comes in.
+    /// Makes a token of a new seat, by a first load of the root. `J` names the tree, for the table's rule.
     fn sit_as<J: Keyed>(&self, seat: Seat<Kind, Sights>) -> Seated
         requires own { seat.table_id ≡ self.now.id }
         requires blank { seat.me ≡ ([], []) }
@@ -234,7 +237,7 @@ impl Tiers {
         }
     }
 
-    /// The same, of this tree.
+    /// Makes a token of this tree from a new seat, by a first load of the root.
     fn sit(&self, seat: Seat<Kind, Sights>) -> Seated
         requires own { seat.table_id ≡ self.now.id }
         requires blank { seat.me ≡ ([], []) }
@@ -243,7 +246,7 @@ impl Tiers {
         self.sit_as::<Brand>(seat)
     }
 
-    /// A new token without members, in the root's phase, split off another.
+    /// Splits a new token off another. The new token has no members and is in the root's current phase.
     fn split_off(&self, token: &mut Seated) -> Seated
         requires own { token.old.tree ≡ self.now }
         ensures counted { token.new ≡ split_once token.old }
@@ -253,7 +256,7 @@ impl Tiers {
         self.sit(seat)
     }
 
-    /// A new token without members, split off one that has none.
+    /// Splits a new door off a door. The new one is in the root's current phase.
     pub fn open_door(&self, door: &mut Door) -> Door
         requires own { door.old.tree ≡ self.now }
         ensures counted { door.new ≡ split_once door.old }
@@ -264,7 +267,7 @@ impl Tiers {
         }
     }
 
-    /// A new token without members, split off a crew.
+    /// Splits a new door off a crew. The new one is in the root's current phase.
     pub fn open_beside(&self, crew: &mut Crew) -> Door
         requires own { crew.old.tree ≡ self.now }
         ensures counted { crew.new ≡ split_once crew.old }

@@ -1,4 +1,4 @@
-//! The tokens of a tree, by what they may be asked: doors, crews, and those in a call that is not over.
+//! The tokens of a tree: doors, crews, and tokens in a call that has run out of tries.
 
 ghost use Rattle.std.specs.Prelude.{◌≡◌, ◌+◌, ◌<◌};
 
@@ -7,7 +7,9 @@ use crate::seated::Seated;
 use std::marker::Model;
 use tier_steps::view::View;
 
-/// A token without members, which may join (own).
+/// A token without members. It can register some at a tier, be split, and end the tree.
+///
+/// Dropping it changes nothing for others.
 #[derive(Drop)]
 pub struct Door {
     pub(crate) token: Seated,
@@ -23,7 +25,9 @@ impl Model for Door {
     ghost invariant = { λ d. IsDoor d.token };
 }
 
-/// A token with members, all at one tier, which may arrive and leave one after another (own).
+/// A token with members, all at one tier. They arrive and leave one at a time.
+///
+/// If it is dropped, its members stay registered, and the tree waits for them for ever. Let all of them leave first.
 #[derive(Drop)]
 pub struct Crew {
     pub(crate) token: Seated,
@@ -39,8 +43,10 @@ impl Model for Crew {
     ghost invariant = { λ c. IsCrew c.token };
 }
 
-/// A token one of whose members has arrived or left, and which has to tell the tiers above, or to
-/// advance the root (own). Until it has, the others wait; so it can't be let go, only resumed.
+/// A token in an arrival or a departure that ran out of tries after its member was counted.
+///
+/// The tiers above don't know of it yet, or the root is still to advance, and everyone else waits for that. So it
+/// can't be dropped, only resumed: see [`Tiers::pass_on`](crate::tiers::Tiers::pass_on).
 pub struct Errand {
     pub(crate) going: Going,
 }
@@ -56,8 +62,10 @@ impl Model for Errand {
     ghost invariant = { λ e. IsErrand e.going };
 }
 
-/// A token that opens the path to a tier for members that are to join there, and has claimed a tier of
-/// it (own). Until it is done no other can join there; so it can't be let go, only resumed.
+/// A token in a registration that ran out of tries while it opened the path to an empty tier.
+///
+/// It has claimed tiers of that path, and nobody else can register at them until it is done. So it can't be
+/// dropped, only resumed: see [`Tiers::open_on`](crate::tiers::Tiers::open_on).
 pub struct Opening {
     pub(crate) going: Going,
 }
@@ -73,12 +81,12 @@ impl Model for Opening {
     ghost invariant = { λ o. IsOpening o.going };
 }
 
-/// A token that is in no call.
+/// A token that is in no call, as [`Tiers::close`](crate::tiers::Tiers::close) takes them.
 #[derive(Drop)]
 pub enum Token {
-    /// One with members.
+    /// A token with members.
     Crew(Crew),
-    /// One without.
+    /// A token without members.
     Door(Door),
 }
 
@@ -86,7 +94,7 @@ impl Token {
     ghost use Rattle.std.specs.Prelude.{◌≡◌};
     ghost use Rattle.tier_calls.specs.Closes.{held};
 
-    /// What it knows and owes.
+    /// Returns what the token knows and owes.
     pub(crate) fn view(&self) -> View
         ensures { result ≡ (held self.now).view }
     {
@@ -96,7 +104,7 @@ impl Token {
         }
     }
 
-    /// The token itself.
+    /// Returns the token itself.
     pub(crate) fn into_seated(self) -> Seated
         ensures { result ≡ held self }
     {
@@ -114,7 +122,7 @@ impl Token {
 }
 
 impl Door {
-    /// The phase that it is in, as it saw the root last.
+    /// Returns the phase of the root when this token last looked at it.
     pub fn phase(&self) -> u32
         ensures phase { result ≡ self.now.view.phase }
         ensures none { self.now.view.size ≡ 0 }
@@ -124,14 +132,14 @@ impl Door {
 }
 
 impl Crew {
-    /// The tier of its members.
+    /// Returns the tier of the members.
     pub fn tier(&self) -> u16
         ensures { result ≡ self.now.view.tier }
     {
         self.token.view().tier
     }
 
-    /// How many members it has, from 1 to 65535.
+    /// Returns the number of members, from 1 to 65535.
     pub fn size(&self) -> u32
         ensures size { result ≡ self.now.view.size }
         ensures some { 0 < self.now.view.size }
@@ -139,7 +147,7 @@ impl Crew {
         self.token.view().size
     }
 
-    /// How many of them have not arrived in its phase.
+    /// Returns the number of members that have not arrived in the crew's [`phase`](Crew::phase).
     pub fn unarrived(&self) -> u32
         ensures { result + self.now.view.arrived ≡ self.now.view.size }
     {
@@ -147,7 +155,7 @@ impl Crew {
         view.size - view.arrived
     }
 
-    /// The phase that it is in, as it saw the root last.
+    /// Returns the phase that the crew is in, as of its token's last look at the root.
     pub fn phase(&self) -> u32
         ensures { result ≡ self.now.view.phase }
     {

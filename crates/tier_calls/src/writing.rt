@@ -1,4 +1,4 @@
-//! What a step leaves of a view, written into it.
+//! What a step changes in a token's view, written in place.
 
 ghost use Rattle.std.specs.Prelude.{◌≡◌};
 ghost use Rattle.tier_steps.specs.Step.{looked, view_after, IsRunnable};
@@ -8,7 +8,7 @@ use tier_steps::kind::Kind;
 use tier_steps::step::{errand_after, look, step_view};
 use tier_steps::view::{Errand, Passage, View};
 
-/// Writes what a look at the root leaves.
+/// Writes what a look at the root changes in a view.
 #[inline(always)]
 fn look_in(root: Word, view: &mut View)
     ensures { view.new ≡ looked root view.old }
@@ -25,7 +25,7 @@ fn look_in(root: Word, view: &mut View)
     }
 }
 
-/// Writes what a step leaves, where `above` is the parent of the tier. Only what the step changes is written.
+/// Writes what a step changes in a view, and nothing else. `above` is the parent of the tier.
 #[inline(always)]
 pub(crate) fn step_in(kind: Kind, tier: u16, above: u16, word: Word, view: &mut View)
     requires { IsRunnable kind tier word view.old }

@@ -13,13 +13,18 @@ use tier_shape::Shape;
 use tier_steps::step::{step_view, step_word};
 use tier_steps::view::View;
 
-/// A tree of phasers with its tokens (own; a tree of Java's `Phaser`s, whose parties are tokens' members).
+/// A tree of phasers with its tokens.
 ///
-/// Each call of a token is taken in steps, one at a time, and steps of different tokens may come in any
-/// order. A step takes no time that grows with the number of tokens.
+/// A token has members, all registered at one tier, or none. Its number is the number of tokens that were
+/// added before it. A token takes each call in steps, and steps of different tokens may come in any order.
+/// The time of a step doesn't depend on the number of tokens.
+///
+/// [`begin`](Core::begin) starts a call, [`go`](Core::go) takes its next step, and
+/// [`finish_advance`](Core::finish_advance) takes the advance after the answer `MustAdvance`. A call is over
+/// after at most 16 steps.
 ///
 /// ```
-/// // A root and two leaves; the tree ends where nobody is left.
+/// // A root and two leaves; the tree ends when nobody is left.
 /// let shape = Shape::from_widths(rt.alloc(), "2").expect(&rt, "a shape");
 /// let plan = EndPlan {
 ///     when_empty: true,
@@ -28,7 +33,7 @@ use tier_steps::view::View;
 /// let mut core = Core::new(rt.alloc(), shape, 0, plan).expect(&rt, "memory");
 /// let token = core.add_token().expect(&rt, "memory");
 /// assert!(rt; core.begin(token, Call::Join { tier: 1, n: 1 }).is_ok());
-/// // Each step is one load or one exchange of a tier's word.
+/// // Each step is one load or one compare-and-swap of a tier's word.
 /// for _ in 0..16 {
 ///     if let Ok(Played::Done(phase)) = core.go(token) {
 ///         assert!(rt; phase == 0);
@@ -57,7 +62,7 @@ impl Model for Core {
     ghost invariant = { IsCoreInside };
 }
 
-/// Whether a token may begin this call in a tree of so many tiers.
+/// Returns true if a token with this view may begin the call in a tree of `tiers` tiers.
 fn may_take(tiers: usize, call: Call, view: &View) -> bool
     ensures { result ≡ may_call tiers call view.now }
 {
@@ -68,7 +73,7 @@ fn may_take(tiers: usize, call: Call, view: &View) -> bool
     }
 }
 
-/// So many equal words.
+/// Returns `count` copies of `word`.
 fn words_of(alloc: Global, count: usize, word: Word) -> Result<Vec<Word>, AllocError>
     ensures { IfOk result (λ words. words.items ≡ replicate count word) }
 {
@@ -89,8 +94,8 @@ impl Core {
     ghost use Rattle.tier_steps.specs.Image.{image, LooksAlike};
     ghost use Rattle.flat_phaser.specs.Flat.{Flat};
 
-    /// A tree of this shape whose tiers are empty, in this phase, and which ends at an advance if the plan
-    /// says so. It has no tokens.
+    /// Creates a tree of this shape in `phase`, with empty tiers and no tokens. It ends at an advance if `plan`
+    /// says so.
     pub fn new(alloc: Global, shape: Shape, phase: u32, plan: EndPlan) -> Result<Self, AllocError>
         requires { phase ≤ 2147483647 }
         ensures { IfOk result (λ c. c ≡ opened shape phase plan) }
@@ -111,7 +116,8 @@ impl Core {
         })
     }
 
-    /// A token without members comes in, in the root's phase. Its number is how many were there before.
+    /// Adds a token without members, in the root's phase, and returns its number: the number of tokens before.
+    /// If memory runs out, the tree is unchanged.
     pub fn add_token(&mut self) -> Result<usize, AllocError>
         ensures token { IfOk result (λ token. token ≡ length self.old.views) }
         ensures added { OnOk result (self.new ≡ with_token self.old) }
@@ -125,7 +131,7 @@ impl Core {
         Ok(token)
     }
 
-    /// Takes a turn of a token.
+    /// Takes a step of a token.
     fn play(&mut self, token: usize, turn: Turn)
         requires known { token < length self.old.views }
         requires next { IsNext self.old.parents self.old.words (view_at self.old.views token) turn.kind turn.tier turn.next }
@@ -140,7 +146,7 @@ impl Core {
         self.calls[token] = turn.next;
     }
 
-    /// Whether a token may begin a call.
+    /// Returns true if the token may begin the call.
     fn may_begin(&self, token: usize, call: Call) -> bool
         ensures { result ≡ may_begin self.now token call }
     {
@@ -149,22 +155,27 @@ impl Core {
             && may_take(self.tiers(), call, &self.views[token])
     }
 
-    /// Whether a token has a step of its call to take.
+    /// Returns true if the token has a step of its call to take.
     fn may_go(&self, token: usize) -> bool
         ensures { result ≡ may_go self.now token }
     {
         token < self.tokens() && !matches!(self.calls[token], Progress::Idle | Progress::Due(_))
     }
 
-    /// Whether a token has to advance the root.
+    /// Returns true if the token must advance the root. Its next step is then
+    /// [`finish_advance`](Core::finish_advance).
     pub fn must_advance(&self, token: usize) -> bool
         ensures { result ≡ may_finish self.now token }
     {
         token < self.tokens() && matches!(self.calls[token], Progress::Due(_))
     }
 
-    /// Begins a call. A token that is unknown or in a call, a join of an unknown tier or by a token with
-    /// members, and an arrival, a departure or a poll by a token without members can't begin now.
+    /// Begins a call of the token. Its steps follow by [`go`](Core::go).
+    ///
+    /// # Errors
+    ///
+    /// `NotNow` if there is no such token, if it is in a call, for a join if it has members or there is no such
+    /// tier, and for an arrival, a departure or a poll if it has no members. The tree is unchanged.
     pub fn begin(&mut self, token: usize, call: Call) -> Result<(), NotNow>
         requires size { IsCall call }
         ensures not_now { IsErr result ↔ (may_begin self.old token call ≡ false) }
@@ -177,7 +188,7 @@ impl Core {
         Ok(())
     }
 
-    /// The next turn of a token.
+    /// Returns the next step of a token.
     fn turn(&self, token: usize) -> Turn
         requires { token < length self.now.views }
         ensures turn { result ≡ turn_at self.now token }
@@ -191,8 +202,13 @@ impl Core {
         )
     }
 
-    /// Takes exactly one step of the token's call. A token that is unknown, in no call, or has to advance
-    /// the root can't go now. `MustAdvance` tells a phase up to 2147483647 and up to 65535 parties.
+    /// Takes exactly one step of the token's call. In the answer `MustAdvance` the phase is at most 2147483647
+    /// and the parties at most 65535.
+    ///
+    /// # Errors
+    ///
+    /// `NotNow` if there is no such token, if it is in no call, or if it must advance the root. The tree is
+    /// unchanged.
     pub fn go(&mut self, token: usize) -> Result<Played, NotNow>
         ensures not_now { IsErr result ↔ (may_go self.old token ≡ false) }
         ensures answer { IfOk result (λ a. a ≡ (turn_at self.old token).answer) }
@@ -207,8 +223,12 @@ impl Core {
         Ok(turn.answer)
     }
 
-    /// Takes the advance that the token has to take, which ends the tree if `ends` says so, or a look where
-    /// the root has ended.
+    /// Takes the advance that the token must take. If `ends` is true, this ends the tree. If the tree has ended
+    /// meanwhile, the step is a look.
+    ///
+    /// # Errors
+    ///
+    /// `NotNow` unless the token must advance the root. The tree is unchanged.
     pub fn finish_advance(&mut self, token: usize, ends: bool) -> Result<Played, NotNow>
         ensures not_now { IsErr result ↔ (may_finish self.old token ≡ false) }
         ensures answer { IfOk result (λ a. a ≡ (finish_at self.old token ends).answer) }
@@ -222,7 +242,7 @@ impl Core {
         Ok(turn.answer)
     }
 
-    /// How many tiers the tree has, from 1 to 64.
+    /// Returns the number of tiers, from 1 to 64.
     pub fn tiers(&self) -> usize
         ensures value { result ≡ length self.now.parents }
         ensures few { result ≤ 64 }
@@ -231,7 +251,7 @@ impl Core {
         self.shape.count()
     }
 
-    /// The word of the root.
+    /// Returns the word of the root.
     pub fn root(&self) -> Word
         ensures { result ≡ word_at self.now.words 0 }
     {
@@ -239,14 +259,14 @@ impl Core {
         word_of(&self.words, root)
     }
 
-    /// How many tokens it has.
+    /// Returns the number of tokens.
     pub fn tokens(&self) -> usize
         ensures { result ≡ length self.now.views }
     {
         self.views.len()
     }
 
-    /// The word of a tier.
+    /// Returns the word of a tier.
     pub fn word(&self, tier: u16) -> Word
         requires { tier < length self.now.parents }
         ensures { result ≡ word_at self.now.words tier }
@@ -254,7 +274,7 @@ impl Core {
         word_of(&self.words, tier)
     }
 
-    /// What the token with this number knows and owes.
+    /// Returns what the token with this number knows and owes.
     pub fn view(&self, number: usize) -> View
         requires { number < length self.now.views }
         ensures { result ≡ view_at self.now.views number }
@@ -262,7 +282,7 @@ impl Core {
         self.views[number]
     }
 
-    /// Takes one step of a run, an advance as the plan says, and answers it.
+    /// Takes one step of a run and returns its answer. An advance ends the tree if the plan says so.
     pub fn step(&mut self, step: Step) -> Answer
         requires { IsStepOfCalls step }
         ensures answer { result ≡ answer_to self.old step }
@@ -284,7 +304,7 @@ impl Core {
         }
     }
 
-    /// Takes the advance that the token has to take, as the plan says.
+    /// Takes the advance that the token must take. It ends the tree if the plan says so.
     fn finish(&mut self, token: usize) -> Result<Played, NotNow>
         ensures not_now { IsErr result ↔ (may_finish self.old token ≡ false) }
         ensures answer { IfOk result (λ a. a ≡ (finish_at self.old token (plan_ends self.old)).answer) }
@@ -295,10 +315,10 @@ impl Core {
         self.finish_advance(token, ends)
     }
 
-    /// Takes a whole list of steps, and answers each. Without memory for the answers no step is taken.
+    /// Takes a list of steps and returns the answer of each. If memory for the answers runs out, no step is taken.
     ///
-    /// The tree is flat: whatever the steps of whatever tokens, on whatever tree, they are the run of one
-    /// flat phaser over all members of all tokens, each counted at the step that admits it.
+    /// The tree is flat: on every tree, any steps of any tokens are a run of one flat phaser over all members of
+    /// all tokens. A member counts from the step that admits it.
     pub fn drive(&mut self, alloc: Global, steps: &[Step]) -> Result<Vec<Answer>, AllocError>
         requires { AreSteps steps.now }
         ensures answers { IfOk result (λ v. v.items ≡ answers steps.now self.old) }
@@ -306,6 +326,7 @@ impl Core {
         ensures memory { OnErr result (self.new ≡ self.old) }
         ensures flat { (f : Flat) → LooksAlike f (image self.old.words self.old.views) → IsFlat self.old steps.now f }
     {
+        // Only for the prover: brings in what every `Core` keeps.
         let _ = &self.shape;
         let mut told = Vec::with_capacity(alloc, steps.len())?;
         for step in steps {

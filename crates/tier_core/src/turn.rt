@@ -1,4 +1,4 @@
-//! The next step of a call in code: what a token looks at, and the kind of step that it picks.
+//! The next step of a call: the tier that a token looks at, and the kind of step that it picks.
 
 ghost use Rattle.std.specs.Prelude.{◌≡◌, ◌==◌, ℕ, Bool, List, if◌then◌else◌};
 ghost use Rattle.tier_core.specs.declared.call.Call.TheVariants as call;
@@ -49,7 +49,7 @@ use tier_steps::kind::Kind;
 use tier_steps::step::{errand_after, look, parties_added, refuse, word_passed};
 use tier_steps::view::{Errand, Passage, View};
 
-/// The tier above another; the root's is itself.
+/// Returns the parent of a tier. The root is its own parent.
 pub fn above(shape: &Shape, tier: u16) -> u16
     requires { IsShape shape.now }
     ensures { result ≡ parent_of shape.now tier }
@@ -57,7 +57,7 @@ pub fn above(shape: &Shape, tier: u16) -> u16
     shape.parent(tier).unwrap_or(0)
 }
 
-/// The tier so many steps above another.
+/// Returns the tier that is `steps` levels above another.
 fn far_above(shape: &Shape, tier: u16, steps: u16) -> u16
     requires { IsShape shape.now }
     ensures { result ≡ ancestor shape.now tier steps }
@@ -69,7 +69,7 @@ fn far_above(shape: &Shape, tier: u16, steps: u16) -> u16
     at
 }
 
-/// The word of a tier.
+/// Returns the word of a tier.
 pub fn word_of(words: &[Word], tier: u16) -> Word
     ensures { result ≡ word_at words.now tier }
 {
@@ -84,14 +84,14 @@ pub fn word_of(words: &[Word], tier: u16) -> Word
     }
 }
 
-/// Whether the word is behind a token that counts there.
+/// Returns true if the tier lags: its parties have all arrived, in another phase than the token's.
 pub fn is_behind(word: Word, view: &View) -> bool
     ensures { result ≡ lags word view.now }
 {
     word.parties > 0 && word.unarrived == 0 && word.phase != view.phase
 }
 
-/// The phase that an ended root shows.
+/// Returns the answer `Ended` with the phase that an ended root shows.
 fn shown_end(root: Word) -> Played
     ensures { result ≡ end_shown root }
 {
@@ -102,21 +102,22 @@ fn shown_end(root: Word) -> Played
     Played::Ended(root.shown())
 }
 
-/// Whether there is no room for so many parties.
+/// Returns true if the tier has no room for `parties` more.
 fn lacks_room(parties: u32, word: Word) -> bool
     ensures { result ≡ has_no_room parties word }
 {
     parties > MOST_PARTIES - word.parties
 }
 
-/// Whether a word that has not ended refuses so many parties.
+/// Returns true if a tier that has not ended refuses `parties` more: it has no room, all its parties have
+/// arrived, or it is being opened.
 pub fn turns_away(parties: u32, word: Word) -> bool
     ensures { result ≡ is_refusing parties word }
 {
     lacks_room(parties, word) || word.unarrived == 0 || word.parties == 0 && word.unarrived == 2
 }
 
-/// Why a join is held off, in the phase of the call's last look at the root.
+/// Returns why a join is held off. `phase` is the phase of the call's last look at the root.
 fn cause(tier: u16, phase: u32, word: Word) -> Cause
     ensures { result ≡ cause_of tier phase word }
 {
@@ -131,7 +132,7 @@ fn cause(tier: u16, phase: u32, word: Word) -> Cause
     }
 }
 
-/// What a join that is refused answers.
+/// Returns the answer of a refused join.
 fn refused_answer(tier: u16, parties: u32, phase: u32, word: Word) -> Played
     ensures { result ≡ refusal tier parties phase word }
 {
@@ -142,14 +143,14 @@ fn refused_answer(tier: u16, parties: u32, phase: u32, word: Word) -> Played
     }
 }
 
-/// What a step answers after which claimed tiers are left.
+/// Returns `answer` if no claimed tier is left, else `GoesOn`.
 fn if_last(claimed: u16, answer: Played) -> Played
     ensures { result ≡ unless_claimed claimed answer }
 {
     if claimed == 0 { answer } else { Played::GoesOn }
 }
 
-/// A look at the root that a call ends with.
+/// Returns the look at the root with which a call ends.
 fn look_last(answer: Played) -> Turn
     ensures { result ≡ last_look answer }
 {
@@ -161,7 +162,7 @@ fn look_last(answer: Played) -> Turn
     }
 }
 
-/// How a join that was taken goes on.
+/// Returns how a join goes on after its members are admitted.
 fn then_settle(claimed: u16) -> Progress
     ensures { result ≡ settling claimed }
 {
@@ -172,7 +173,7 @@ fn then_settle(claimed: u16) -> Progress
     }
 }
 
-/// How a join that was refused goes on.
+/// Returns how a join goes on after it is refused.
 fn then_give_back(claimed: u16, answer: Played) -> Progress
     ensures { result ≡ giving_back claimed answer }
 {
@@ -183,7 +184,7 @@ fn then_give_back(claimed: u16, answer: Played) -> Progress
     }
 }
 
-/// A join with so many claimed tiers that finds the tree ended.
+/// Returns the step of a join with `claimed` claimed tiers that finds the tree ended.
 fn seek_over(claimed: u16, root: Word) -> Turn
     ensures kind { result.kind ≡ Look }
     ensures tier { result.tier ≡ 0 }
@@ -199,7 +200,7 @@ fn seek_over(claimed: u16, root: Word) -> Turn
     }
 }
 
-/// A join with so many claimed tiers, at the next tier of its path.
+/// Returns the step of a join with `claimed` claimed tiers at the next tier of its path.
 fn seek(tier: u16, claimed: u16, size: u32, at: u16, word: Word, view: View) -> Turn
     ensures { result ≡ seek_turn tier claimed size at word view }
 {
@@ -244,7 +245,7 @@ fn seek(tier: u16, claimed: u16, size: u32, at: u16, word: Word, view: View) -> 
     }
 }
 
-/// After a join the highest claimed tier is settled.
+/// Returns the step that gives the highest claimed tier its parties, after a join.
 fn settle(shape: &Shape, view: View) -> Turn
     requires { IsShape shape.now }
     ensures { result ≡ settle_turn shape.now view view.errand }
@@ -272,7 +273,7 @@ fn settle(shape: &Shape, view: View) -> Turn
     }
 }
 
-/// After a refusal the highest claimed tier is given back.
+/// Returns the step that releases the highest claimed tier, after a refusal.
 fn give_back(shape: &Shape, answer: Played, view: View) -> Turn
     requires { IsShape shape.now }
     ensures { result ≡ give_back_turn shape.now answer view.errand }
@@ -300,8 +301,9 @@ fn give_back(shape: &Shape, answer: Played, view: View) -> Turn
     }
 }
 
-/// How an arrival or a departure goes on from what is owed.
-fn then_climb(own: Passage, errand: Errand) -> Progress
+/// Returns how an arrival or a departure goes on from what its token owes.
+#[inline(always)]
+pub fn then_climb(own: Passage, errand: Errand) -> Progress
     ensures { result ≡ goes_on own errand }
 {
     match errand {
@@ -311,8 +313,9 @@ fn then_climb(own: Passage, errand: Errand) -> Progress
     }
 }
 
-/// What it answers.
-fn passed_answer(phase: u32, parties: u32, errand: Errand) -> Played
+/// Returns the answer of a step that passes a tier, by what its token owes afterwards.
+#[inline(always)]
+pub fn passed_answer(phase: u32, parties: u32, errand: Errand) -> Played
     ensures { result ≡ told phase parties errand }
 {
     match errand {
@@ -322,7 +325,7 @@ fn passed_answer(phase: u32, parties: u32, errand: Errand) -> Played
     }
 }
 
-/// The step of a call that passes a tier, which is refreshed first where it lags.
+/// Returns the step of a call that passes a tier. If the tier lags, this refreshes it first.
 fn pass(
     shape: &Shape,
     own: Passage,
@@ -355,7 +358,7 @@ fn pass(
     }
 }
 
-/// What a poll answers after its look at the root.
+/// Returns the answer of a poll after its look at the root.
 fn poll_answer(moved: bool, phase: u32) -> Played
     ensures { result ≡ polled moved phase }
 {
@@ -366,7 +369,7 @@ fn poll_answer(moved: bool, phase: u32) -> Played
     }
 }
 
-/// The look of a call that arrives or leaves, by whether all its members had arrived in this phase.
+/// Returns the look of an arrival or a departure. `all` says whether all members had arrived in this phase.
 fn look_passing(passage: Passage, all: bool, phase: u32) -> Turn
     ensures kind { result.kind ≡ Look }
     ensures tier { result.tier ≡ 0 }
@@ -384,7 +387,7 @@ fn look_passing(passage: Passage, all: bool, phase: u32) -> Turn
     }
 }
 
-/// The first look of a call that arrives or leaves.
+/// Returns the first look of an arrival or a departure.
 fn look_before(passage: Passage, root: Word, view: View) -> Turn
     ensures kind { result.kind ≡ Look }
     ensures tier { result.tier ≡ 0 }
@@ -399,7 +402,7 @@ fn look_before(passage: Passage, root: Word, view: View) -> Turn
     look_passing(passage, looked.arrived == size, looked.phase)
 }
 
-/// The first step of a poll.
+/// Returns the first step of a poll.
 fn poll(root: Word, own: Word, view: View) -> Turn
     ensures { result ≡ first_turn call.Poll root own view }
 {
@@ -424,7 +427,7 @@ fn poll(root: Word, own: Word, view: View) -> Turn
     }
 }
 
-/// The first step of a join.
+/// Returns the first step of a join.
 fn look_around(tier: u16, size: u32, root: Word) -> Turn
     ensures { (own : Fields) (v : View) → result ≡ first_turn (call.Join tier size) root own v }
 {
@@ -448,7 +451,7 @@ fn look_around(tier: u16, size: u32, root: Word) -> Turn
     }
 }
 
-/// The first step of a call.
+/// Returns the first step of a call.
 fn first(call: Call, root: Word, own: Word, view: View) -> Turn
     ensures { result ≡ first_turn call root own view }
 {
@@ -466,8 +469,8 @@ fn first(call: Call, root: Word, own: Word, view: View) -> Turn
     }
 }
 
-/// How many tiers an errand has claimed.
-fn claims(errand: Errand) -> u16
+/// Returns the number of tiers that an errand has claimed.
+pub fn claims(errand: Errand) -> u16
     ensures { result ≡ claimed_by errand }
 {
     match errand {
@@ -476,7 +479,7 @@ fn claims(errand: Errand) -> u16
     }
 }
 
-/// The tier that an errand leads to next.
+/// Returns the tier that an errand leads to next.
 fn errand_tier(shape: &Shape, errand: Errand) -> u16
     requires { IsShape shape.now }
     ensures { result ≡ errand_place shape.now errand }
@@ -494,7 +497,7 @@ fn errand_tier(shape: &Shape, errand: Errand) -> u16
     }
 }
 
-/// The tier at which a call that has looked at the root takes its next step (own).
+/// Returns the tier at which a call that has looked at the root takes its next step.
 pub fn tier_of(shape: &Shape, progress: Progress, view: &View) -> u16
     requires { IsShape shape.now }
     ensures { result ≡ place shape.now progress view.now }
@@ -509,7 +512,7 @@ pub fn tier_of(shape: &Shape, progress: Progress, view: &View) -> u16
     }
 }
 
-/// The next step of a climb.
+/// Returns the next step of a climb.
 fn climb(shape: &Shape, own: Passage, word: Word, view: View) -> Turn
     requires { IsShape shape.now }
     ensures { result ≡ climb_turn shape.now own word view view.errand }
@@ -526,7 +529,7 @@ fn climb(shape: &Shape, own: Passage, word: Word, view: View) -> Turn
     pass(shape, own, tier, passage, step, word, view)
 }
 
-/// The own step of an arrival or a departure.
+/// Returns the step of an arrival or a departure at its own tier.
 fn pass_own(shape: &Shape, passage: Passage, word: Word, view: View) -> Turn
     requires { IsShape shape.now }
     ensures { result ≡ pass_turn shape.now passage view.tier passage (own_kind passage) (spec.Passing passage) (end_shown word) word view }
@@ -544,7 +547,7 @@ fn pass_own(shape: &Shape, passage: Passage, word: Word, view: View) -> Turn
     pass(shape, passage, view.tier, passage, step, word, view)
 }
 
-/// The second step of a poll.
+/// Returns the second step of a poll.
 fn refresh(moved: bool, word: Word, view: View) -> Turn
     ensures { (parents : List ℕ) (ends : Bool) → result ≡ turn_by parents ends word (spec.Refreshing moved) view }
 {
@@ -561,8 +564,9 @@ fn refresh(moved: bool, word: Word, view: View) -> Turn
     }
 }
 
-/// The next step of a call that has looked at the root, by the word of the tier at which it takes it; an
-/// advance ends the tree if `ends` says so (own). Before that look, and in no call, it is a look.
+/// Returns the next step of a call that has looked at the root. `word` is the word of the tier at which it
+/// takes that step. An advance ends the tree if `ends` is true. Before that look, and in no call, the step is a
+/// look at the root.
 pub fn turn_here(shape: &Shape, ends: bool, word: Word, progress: Progress, view: View) -> Turn
     requires { IsShape shape.now }
     ensures { result ≡ turn_by shape.now ends word progress view }
@@ -583,7 +587,7 @@ pub fn turn_here(shape: &Shape, ends: bool, word: Word, progress: Progress, view
     }
 }
 
-/// The next step of a call, wherever it stands.
+/// Returns the next step of a call, however far it has come.
 pub fn next_turn(shape: &Shape, words: &[Word], progress: Progress, view: View) -> Turn
     requires { IsShape shape.now }
     ensures { result ≡ turn shape.now words.now progress view }
@@ -603,7 +607,7 @@ pub fn next_turn(shape: &Shape, words: &[Word], progress: Progress, view: View) 
     }
 }
 
-/// The advance that a token must take, or a look where the root has ended.
+/// Returns the advance that a token must take, or a look if the root has ended.
 pub fn last_turn(ends: bool, root: Word, view: View) -> Turn
     ensures { result ≡ finish_turn ends root view }
 {

@@ -1,4 +1,4 @@
-//! The look that stands in the place of a step.
+//! The look that a load, or a lost try of a step, is.
 
 ghost use Rattle.std.specs.Prelude.{◌≡◌};
 ghost use Rattle.tier_rule.specs.Look.{looking, glance, refusing};
@@ -8,14 +8,14 @@ use tier_core::turn::turns_away;
 use tier_steps::kind::Kind;
 use tier_steps::step::parties_added;
 
-/// A look at a tier that refuses nothing.
+/// Returns a look at a tier that refuses nothing.
 pub fn plain_look(tier: u16) -> Kind
     ensures { result ≡ glance tier }
 {
     if tier == 0 { Kind::Look } else { Kind::Glance }
 }
 
-/// A look where a join is due: a refusal, or a plain look.
+/// Returns a look at the tier where a join is due: a refusal or a plain look, by the word that it finds.
 fn look_to_join(tier: u16, joined: u16, claimed: u16, size: u32, word: Word) -> Kind
     ensures { result ≡ refusing tier joined claimed size word }
 {
@@ -30,7 +30,7 @@ fn look_to_join(tier: u16, joined: u16, claimed: u16, size: u32, word: Word) -> 
     }
 }
 
-/// The look that a lost try of this kind is, and that a load in its place is.
+/// Returns the look that a lost try of a step of this kind is, or a load in place of the step.
 pub fn look_for(kind: Kind, tier: u16, word: Word) -> Kind
     ensures { result ≡ looking kind tier word }
 {

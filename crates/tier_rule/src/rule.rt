@@ -1,4 +1,4 @@
-//! The rule of the table, and what its steps tell.
+//! The rule of the table of words, and what each access to it tells its token.
 
 ghost use Rattle.std.specs.Prelude.{[], ◌++◌, None, false};
 ghost use Rattle.tier_rule.specs.Reach.{Kept, first_sights, cut_off, front_of, rest_of};
@@ -12,7 +12,7 @@ use atomic_table::{Join, Play, Split, TableRule};
 use std::marker::{Brand, PhantomData};
 use tier_steps::kind::Kind;
 
-/// The words and views are a state that steps of the tree reach.
+/// The rule of the table: its words and the views of all tokens are a state that steps of the tree reach.
 pub struct Rule;
 
 impl TableRule<Kind, Sights, Key> for Rule {
@@ -21,16 +21,16 @@ impl TableRule<Kind, Sights, Key> for Rule {
     ghost first = { first_sights };
 }
 
-/// A try is the step that was said, or a look.
+/// A try: the step that was named if it wins, else a look.
 pub struct Tries;
 
 impl Play<Kind, Sights> for Tries {
     ghost then = { Tried };
 }
 
-/// The step in place of which a token looks. Each call picks it.
+/// The step that a token means to take when it looks. Each call picks one.
 pub trait Meant {
-    /// Its kind.
+    /// The kind of the step.
     ghost kind: { Kind };
 }
 
@@ -38,7 +38,7 @@ impl Meant for Brand {
     ghost kind = { Look };
 }
 
-/// A load.
+/// A load by a token that means to take the step `J`.
 pub struct Looks<J: Meant> {
     of: PhantomData<J>,
 }
@@ -47,9 +47,9 @@ impl<J: Meant> Play<Kind, Sights> for Looks<J> {
     ghost then = { Saw J.kind };
 }
 
-/// The tree of which a seat is told that knows nothing. Each call picks it.
+/// The tree of which a new seat learns. Each call picks it.
 pub trait Keyed {
-    /// What it was told when it was made.
+    /// What is fixed when the tree is made.
     ghost key: { Key };
 }
 
@@ -57,7 +57,7 @@ impl Keyed for Brand {
     ghost key = { record { shape = []; phase = 0; plan = record { when_empty = false; at = None } } };
 }
 
-/// The first look of a seat that knows nothing.
+/// The first load by a new seat, which so becomes a token's.
 pub struct Sits<J: Keyed> {
     of: PhantomData<J>,
 }
@@ -66,14 +66,14 @@ impl<J: Keyed> Play<Kind, Sights> for Sits<J> {
     ghost then = { Sat J.key };
 }
 
-/// A look at the root by two tokens whose seats are joined.
+/// One load of the root by two tokens whose seats are joined.
 pub struct LooksTogether;
 
 impl Play<Kind, Sights> for LooksTogether {
     ghost then = { SawBoth };
 }
 
-/// A seat that knows nothing is cut off another, which counts it.
+/// Splits a new seat off another, which counts it.
 pub struct Cuts;
 
 impl Split<Sights> for Cuts {
@@ -82,7 +82,7 @@ impl Split<Sights> for Cuts {
     ghost right = { λ l. [] };
 }
 
-/// The first sight of a seat is parted from the others.
+/// Splits a joined seat into its first token's and the rest.
 pub struct Parts;
 
 impl Split<Sights> for Parts {
@@ -91,7 +91,7 @@ impl Split<Sights> for Parts {
     ghost right = { rest_of };
 }
 
-/// The sights of two seats are joined.
+/// Joins two seats into one.
 pub struct Joins;
 
 impl Join<Sights> for Joins {

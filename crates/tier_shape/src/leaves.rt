@@ -1,8 +1,8 @@
-//! Leaves of the tree by their numbers.
+//! Leaves of a tree by number.
 ghost use Rattle.std.specs.Prelude.{◌≡◌, ◌≤◌, length};
 ghost use Rattle.tier_shape.specs.Preferred.{leaf_at, number_in, last_number, preferred};
 
-/// The leaf of this number, from 0 again behind the last one.
+/// Returns the leaf with this number. After the last leaf the numbers start again at 0.
 pub fn leaf_at(leaves: &[u16], number: usize) -> u16
     ensures { result ≡ leaf_at leaves.now number }
 {
@@ -12,7 +12,7 @@ pub fn leaf_at(leaves: &[u16], number: usize) -> u16
     leaves[number % leaves.len()]
 }
 
-// The number of a leaf, or how many there are.
+// Returns the number of a leaf, or the number of leaves if it isn't one.
 fn number_in(leaves: &[u16], leaf: u16) -> usize
     ensures number { result ≡ number_in leaves.now leaf }
     ensures within { result ≤ length leaves.now }
@@ -29,7 +29,7 @@ fn number_in(leaves: &[u16], leaf: u16) -> usize
     number
 }
 
-// The last number of a path.
+// Returns the last number of a path, or 0 if the path is empty.
 fn last_number(path: &[u16]) -> u16
     ensures { result ≡ last_number path.now }
 {
@@ -39,7 +39,7 @@ fn last_number(path: &[u16]) -> u16
     path[path.len() - 1]
 }
 
-/// The preferred leaf of a spawned task, by its spawner's leaf and its own path.
+/// Returns the leaf that a spawned task prefers: `home` is its spawner's leaf and `path` the task's own path.
 pub fn preferred(leaves: &[u16], home: u16, path: &[u16]) -> u16
     ensures { result ≡ preferred leaves.now home path.now }
 {

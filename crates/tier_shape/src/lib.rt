@@ -1,4 +1,6 @@
-//! Trees of tiers: which tier is whose parent, the leaves, and the way up to the root.
+//! Trees of tiers: the parent of each tier, the leaves, and the paths up to the root.
+//!
+//! Not part of Java's API.
 #![tactic(auto)]
 
 ghost use Rattle.std.specs.Prelude.{◌≡◌, ℕ, ◌+◌, ◌<◌, ◌≤◌, ◌↔◌, ◌&&◌, List, length, false, nat_lt, if◌then◌else◌};
@@ -20,37 +22,37 @@ use std::marker::Model;
 use thiserror::Error;
 use widths::{is_small, read_widths, tree};
 
-/// The most tiers that a shape has (own).
+/// The most tiers that a shape can have.
 pub const MOST_TIERS: usize = 64;
 
-/// The most levels below the root (own).
+/// The most levels below the root that a shape can have.
 pub const MOST_LEVELS: usize = 6;
 
-/// Why a shape is refused (own).
+/// Why no shape was made.
 #[derive(Clone, Copy, Debug, Drop, PartialEq, Eq, Error)]
 pub enum ShapeFault {
-    /// There is no tier.
+    /// The list of parents is empty.
     #[error("a shape needs a tier")]
     NoTier,
-    /// There are over [`MOST_TIERS`] tiers.
+    /// There would be more than [`MOST_TIERS`] tiers.
     #[error("over 64 tiers")]
     TooManyTiers,
-    /// A tier's parent doesn't come before it, or the root's isn't itself.
+    /// A tier's parent is not an earlier tier, or the first tier's is not the tier itself.
     #[error("a parent that isn't earlier")]
     ParentNotEarlier,
-    /// A tier is over [`MOST_LEVELS`] levels below the root.
+    /// A tier would be more than [`MOST_LEVELS`] levels below the root.
     #[error("over 6 levels below the root")]
     TooDeep,
-    /// The text isn't `flat`, nor numbers joined by `x`.
+    /// The text is neither `flat` nor numbers from 1 to 64 joined by `x`.
     #[error("not a text of widths")]
     BadText,
-    /// There was no memory.
+    /// Memory ran out.
     #[error(transparent)]
     Memory(#[from(alloc)] AllocError),
 }
 
 impl ShapeFault {
-    /// The number of this refusal; want of memory has none.
+    /// Returns the number of this fault, or `None` if memory ran out.
     pub fn number(&self) -> Option<u32>
         ensures { result ≡ fault_number self.now }
     {
@@ -64,7 +66,7 @@ impl ShapeFault {
         }
     }
 
-    /// The name of this refusal, as its variant is written.
+    /// Returns the name of this fault, as its variant is written.
     pub fn name(&self) -> &'static str
         ensures { result.now ≡ fault_name self.now }
     {
@@ -79,8 +81,9 @@ impl ShapeFault {
     }
 }
 
-/// A tree of tiers: 1 to 64 of them, at most 6 levels below the root, tier 0. A contract sees the list of
-/// their parents, in which the root names itself.
+/// A tree of 1 to 64 tiers, numbered from 0, the root, and at most 6 levels below it.
+///
+/// Contracts see it as the list of the tiers' parents. The root's parent there is the root itself.
 #[derive(Drop)]
 pub struct Shape {
     parents: Vec<u16>,
@@ -94,7 +97,7 @@ impl Model for Shape {
     ghost invariant = { λ s. IsTiers s.parents.items };
 }
 
-// Whether each tier but the root has an earlier one as its parent, and the root itself.
+// Returns true if each tier's parent is an earlier tier, and the root's is the root.
 fn come_earlier(parents: &[u16]) -> bool
     requires { 0 < length parents.now }
     ensures { IsTrue result ↔ IsShape parents.now }
@@ -112,7 +115,7 @@ fn come_earlier(parents: &[u16]) -> bool
     true
 }
 
-// How many levels below the root a tier is.
+// Returns the number of levels from the root down to a tier.
 fn level_of(parents: &[u16], tier: usize) -> usize
     requires shape { IsShape parents.now }
     requires within { tier < length parents.now }
@@ -127,7 +130,7 @@ fn level_of(parents: &[u16], tier: usize) -> usize
     level
 }
 
-// Whether no tier is too far below the root.
+// Returns true if no tier is too far below the root.
 fn are_near(parents: &[u16]) -> bool
     requires { IsShape parents.now }
     ensures near { IsTrue result → (tier : ℕ) → tier < length parents.now → length (path_of parents.now tier) ≤ 7 }
@@ -141,7 +144,7 @@ fn are_near(parents: &[u16]) -> bool
     true
 }
 
-// Whether this is a tier that no other tier names as its parent.
+// Returns true if this is a tier and no other tier's parent.
 fn has_no_child(parents: &[u16], tier: u16) -> bool
     ensures { IsTrue result ↔ IsLeaf parents.now tier }
 {
@@ -156,7 +159,7 @@ fn has_no_child(parents: &[u16], tier: u16) -> bool
     true
 }
 
-// The shape that a text says, or why it says none.
+// Returns the shape that a text describes, or why there is none.
 fn read_shape(alloc: Global, text: &[u8]) -> Result<Shape, ShapeFault>
     ensures { MatchResult result (λ shape. IsTreeText text.now shape × IsTiers shape) (λ fault. IsRefusedText text.now fault) }
 {
@@ -171,8 +174,11 @@ fn read_shape(alloc: Global, text: &[u8]) -> Result<Shape, ShapeFault>
 }
 
 impl Shape {
-    /// The shape with these parents: entry i is the parent of tier i, and entry 0 is 0. It refuses, in this
-    /// order, no tier, too many, a parent that isn't earlier, and too many levels; then it looks for memory.
+    /// Creates the shape with these parents: entry i is the parent of tier i, and entry 0 is 0.
+    ///
+    /// # Errors
+    ///
+    /// In this order: `NoTier`, `TooManyTiers`, `ParentNotEarlier`, `TooDeep`, `Memory`.
     pub fn from_parents(alloc: Global, parents: &[u16]) -> Result<Self, ShapeFault>
         ensures no_tier { IsErrOf result ShapeFault.NoTier ↔ (length parents.now ≡ 0) }
         ensures too_many { IsErrOf result ShapeFault.TooManyTiers ↔ (64 < length parents.now) }
@@ -201,9 +207,13 @@ impl Shape {
         Ok(Shape { parents })
     }
 
-    /// The shape that a text of widths says: `flat` is the root alone, and `2x3` a root with two children of
-    /// three children each. Tiers are numbered level by level. It refuses, in this order, what is not `flat`
-    /// nor numbers 1 to 64 joined by `x`, over six numbers, and over 64 tiers; then it looks for memory.
+    /// Creates the shape that a text of widths describes: `flat` is the root alone, and `2x3` a root with two children
+    /// that have three children each. Tiers are numbered level by level from the root, 0.
+    ///
+    /// # Errors
+    ///
+    /// In this order: `BadText` if the text is neither `flat` nor numbers from 1 to 64, without leading zeros, joined by
+    /// `x`; `TooDeep` if there are over six numbers; `TooManyTiers`; `Memory`.
     pub fn from_widths(alloc: Global, text: &str) -> Result<Self, ShapeFault>
         ensures bad_text { IsErrOf result ShapeFault.BadText ↔ IsBadText text.now }
         ensures too_deep { IsErrOf result ShapeFault.TooDeep ↔ IsDeepText text.now }
@@ -218,7 +228,7 @@ impl Shape {
         Self::from_width_bytes(alloc, text.as_bytes())
     }
 
-    /// The shape that a text of widths says, by its bytes; as [`Shape::from_widths`].
+    /// Creates the shape that a text of widths describes, given as bytes. Otherwise as [`Shape::from_widths`].
     pub fn from_width_bytes(alloc: Global, text: &[u8]) -> Result<Self, ShapeFault>
         ensures bad_text { IsErrOf result ShapeFault.BadText ↔ IsBadText text.now }
         ensures too_deep { IsErrOf result ShapeFault.TooDeep ↔ IsDeepText text.now }
@@ -233,7 +243,7 @@ impl Shape {
         read_shape(alloc, text)
     }
 
-    /// How many tiers there are, 1 to 64.
+    /// Returns the number of tiers, from 1 to 64.
     pub fn count(&self) -> usize
         ensures value { result ≡ length self.now }
         ensures tiers { IsTiers self.now }
@@ -241,7 +251,7 @@ impl Shape {
         self.parents.len()
     }
 
-    /// The parent of a tier; `None` for the root, and for a number that is no tier.
+    /// Returns the parent of a tier, or `None` for the root and for a number that is no tier.
     pub fn parent(&self, tier: u16) -> Option<u16>
         ensures { result ≡ (if nat_lt 0 tier && nat_lt tier (length self.now) then Some (parent_of self.now tier) else None) }
     {
@@ -251,7 +261,7 @@ impl Shape {
         self.parents.get(usize::from(tier)).copied()
     }
 
-    /// Whether this is a tier that is no other tier's parent. The root is one where it stands alone.
+    /// Returns true if this is a tier and no other tier's parent. If the root is the only tier, it is a leaf.
     pub fn is_leaf(&self, tier: u16) -> bool
         ensures leaf { IsTrue result ↔ IsLeaf self.now tier }
         ensures test { result ≡ is_leaf_of self.now tier }
@@ -259,7 +269,7 @@ impl Shape {
         has_no_child(&self.parents, tier)
     }
 
-    /// The leaves, in rising order.
+    /// Returns the leaves in rising order.
     pub fn leaves(&self, alloc: Global) -> Result<Vec<u16>, AllocError>
         ensures { IfOk result (λ leaves. leaves.items ≡ leaves_of self.now) }
     {
@@ -273,7 +283,7 @@ impl Shape {
         Ok(leaves)
     }
 
-    /// The tiers from this one, which is one of the shape, up to the root. It takes no memory.
+    /// Returns the tiers on the path from `tier` up to the root, both included. Takes no memory.
     pub fn path_up(&self, tier: u16) -> SmallVec<u16, 7>
         requires { tier < length self.now }
         ensures path { result.items ≡ path_of self.now tier }
@@ -290,42 +300,42 @@ impl Shape {
     }
 }
 
-/// Each path goes up by parents, falls at each step, and ends at the root.
+/// Each path goes from parent to parent, its numbers fall at each step, and it ends at the root.
 pub fn paths_go_up()
     ensures { PathsGoUp }
 {}
 
-/// Each text says one list of widths at most, and so one tree.
+/// Each text describes at most one list of widths, and so at most one tree.
 pub fn texts_say_one_tree()
     ensures { TextsSayOneTree }
 {}
 
-/// What a text stands for as a function is what it says.
+/// The definition of a text's tree as a function agrees with the one as a relation.
 pub fn texts_are_told()
     ensures { TextsAreTold }
 {}
 
-/// The tree of widths has the levels that they say, and each level's tiers their children in a row.
+/// The tree of some widths has one level for each width, and the children of each tier are numbered in a row.
 pub fn trees_have_their_levels()
     ensures { TreesHaveTheirLevels }
 {}
 
-/// The leaves of the tree of widths are its last level: as many as the product of the widths.
+/// The leaves of the tree of some widths are its last level. Their number is the product of the widths.
 pub fn leaves_are_the_last_level()
     ensures { LeavesAreTheLastLevel }
 {}
 
-/// What a text says is a shape, and so its list of parents is taken too.
+/// Each tree that a text describes is a shape, so `from_parents` takes its list of parents.
 pub fn texts_say_shapes()
     ensures { TextsSayShapes }
 {}
 
-/// The leaves are exactly the tiers without a child, and they rise.
+/// The leaves are exactly the tiers without children, in rising order.
 pub fn leaves_are_childless()
     ensures { LeavesAreChildless }
 {}
 
-/// A tree has a leaf: its last tier is one.
+/// Every tree has a leaf: its last tier is one.
 pub fn trees_have_a_leaf()
     ensures { TreesHaveALeaf }
 {}

@@ -1,4 +1,4 @@
-//! Texts of widths, and the trees that they stand for.
+//! Texts of widths, and the trees that they describe.
 
 ghost use Rattle.std.specs.Prelude.{◌≡◌, ◌≢◌, ℕ, ◌+◌, ◌/◌, ◌<◌, ◌≤◌, ◌==◌, ◌↔◌, [], ◌∷◌, ◌++◌, length, map, position, All};
 ghost use Rattle.std.specs.Prelude.{IfNone, IfOk, IfSome, IsTrue, MatchOption, MatchResult, OnOk};
@@ -11,7 +11,7 @@ use crate::{MOST_LEVELS, MOST_TIERS, ShapeFault};
 use smallvec::SmallVec;
 use std::alloc::{AllocError, Global};
 
-// The number from 1 to 64 that these digits are, without leading zeros.
+// Reads a number from 1 to 64 without leading zeros.
 fn width_of(digits: &[u8]) -> Option<u16>
     ensures { MatchOption result ((width : ℕ) → IsWidth width → decimal width ≢ digits.now)
         (λ width. IsWidth width × (decimal width ≡ digits.now)) }
@@ -26,14 +26,14 @@ fn width_of(digits: &[u8]) -> Option<u16>
     }
 }
 
-// Where the first `x` is.
+// Returns the index of the first `x`.
 fn place_of_x(bytes: &[u8]) -> Option<usize>
     ensures { result ≡ position (λ byte. byte == 120) bytes.now }
 {
     bytes.iter().position(|byte| *byte == b'x')
 }
 
-// What stands before the first `x`, and what stands behind it, if there is one.
+// Splits a text at the first `x`: the part before it, and the part after it if there is one.
 fn first_piece(bytes: &[u8]) -> (&[u8], Option<&[u8]>)
     ensures last { IfNone result.1 (slice_split (λ byte. byte == 120) bytes.now ≡ result.0.now ∷ []) }
     ensures more { IfSome result.1 (λ more.
@@ -46,7 +46,7 @@ fn first_piece(bytes: &[u8]) -> (&[u8], Option<&[u8]>)
     }
 }
 
-// The widths that a text says, or why there is no tree of them: it says none, or more than six.
+// Reads the widths in a text. Fails if it has none or more than six.
 pub(crate) fn read_widths(alloc: Global, text: &[u8]) -> Result<SmallVec<u16, 6>, ShapeFault>
     ensures { MatchResult result (λ widths. IsWidthsText text.now widths.items × (length widths.items ≤ 6))
         (λ fault. IsRefusedText text.now fault) }
@@ -75,7 +75,7 @@ pub(crate) fn read_widths(alloc: Global, text: &[u8]) -> Result<SmallVec<u16, 6>
     Ok(widths)
 }
 
-// Whether the tree of these widths has at most 64 tiers.
+// Returns true if the tree of these widths has at most 64 tiers.
 pub(crate) fn is_small(widths: &[u16]) -> bool
     requires { All IsWidth widths.now }
     ensures { IsTrue result ↔ (tiers_of widths.now ≤ 64) }
@@ -92,8 +92,7 @@ pub(crate) fn is_small(widths: &[u16]) -> bool
     true
 }
 
-// Puts the parents of the next level's tiers behind those that stand: each tier of this level, from
-// `first` on, as often as it has children.
+// Appends the parents of the next level's tiers: each tier of this level, from `first` on, `width` times.
 fn push_level(
     parents: &mut Vec<u16>,
     first: u16,
@@ -110,7 +109,7 @@ fn push_level(
     Ok(())
 }
 
-// The parents of the tree of these widths.
+// Returns the parents in the tree of these widths.
 pub(crate) fn tree(alloc: Global, widths: &[u16]) -> Result<Vec<u16>, AllocError>
     requires widths { All IsWidth widths.now }
     requires few { tiers_of widths.now ≤ 64 }

@@ -2,71 +2,72 @@
 
 use crate::view::Passage;
 
-/// A kind of step, at some tier (own; registering, arriving, leaving, advancing and ending by force are
-/// those of Java SE 21, `Phaser`). In the steps of a join `tier` is the tier that the members are to join,
-/// `claimed` how many tiers of its path to the root are claimed before (in `Settle` and `SettleBack`:
-/// after) the step, and `size` how many members there are to be.
+/// A kind of step, taken at some tier.
+///
+/// In the steps of a join, `tier` is the tier where the members register, `size` their number, and `claimed` the number
+/// of tiers on the path to the root that the token has claimed: before the step, or in `Settle` and `SettleBack` after
+/// it.
 #[derive(Clone, Copy)]
 pub enum Kind {
-    /// A look at the root.
+    /// Looks at the root.
     Look,
-    /// A look at a tier below the root, which refuses nothing and changes nothing.
+    /// Looks at a tier below the root. Changes nothing.
     Glance,
-    /// A look at the tier where a join is due, which refuses it.
+    /// Looks at the tier where a join is due, which refuses it.
     Refuse {
-        /// The tier to be joined.
+        /// The tier to join.
         tier: u16,
-        /// How many tiers are claimed.
+        /// The number of claimed tiers.
         claimed: u16,
-        /// How many members are to join.
+        /// The number of members that are to join.
         size: u32,
     },
-    /// The step that admits the members.
+    /// Admits the members.
     Join {
-        /// The tier to be joined.
+        /// The tier to join.
         tier: u16,
-        /// How many tiers are claimed.
+        /// The number of claimed tiers.
         claimed: u16,
-        /// How many members join.
+        /// The number of members that join.
         size: u32,
     },
-    /// An arrival of a member at its own tier.
+    /// Arrives with a member at its own tier.
     Arrive,
-    /// A departure of a member from its own tier.
+    /// Removes a member from its own tier.
     Leave,
-    /// The advance of the root, which ends the tree if this says so.
+    /// Advances the root. If true, this ends the tree.
     Advance(bool),
-    /// The end by force.
+    /// Ends the tree by force.
     Force,
-    /// A claim of an empty tier below the root.
+    /// Claims an empty tier below the root.
     Claim {
-        /// The tier to be joined.
+        /// The tier to join.
         tier: u16,
-        /// How many tiers were claimed before.
+        /// The number of tiers claimed before.
         claimed: u16,
-        /// How many members are to join.
+        /// The number of members that are to join.
         size: u32,
     },
-    /// After the join the highest claimed tier gets its parties.
+    /// Gives the highest claimed tier its parties, after the join.
     Settle {
         /// The tier that was joined.
         tier: u16,
-        /// How many tiers are claimed afterwards.
+        /// The number of tiers claimed afterwards.
         claimed: u16,
-        /// How many members have joined.
+        /// The number of members that have joined.
         size: u32,
     },
-    /// After a refusal the highest claimed tier is empty again.
+    /// Releases the highest claimed tier, after a refusal.
     SettleBack {
         /// The tier that was to be joined.
         tier: u16,
-        /// How many tiers are claimed afterwards.
+        /// The number of tiers claimed afterwards.
         claimed: u16,
-        /// How many members were to join.
+        /// The number of members that were to join.
         size: u32,
     },
-    /// A step of a climb.
+    /// Passes an arrival or a departure on to a tier above.
     Climb(Passage),
-    /// A lagging word is brought into the token's phase.
+    /// Brings a lagging tier into the token's phase.
     Refresh,
 }

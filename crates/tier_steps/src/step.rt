@@ -1,5 +1,4 @@
-//! The steps in code: what each kind leaves of one word and of one view. No sum over tiers or tokens is
-//! taken here.
+//! The steps: what each kind does to one word and to one view. Nothing here depends on the number of tiers or tokens.
 
 ghost use Rattle.std.specs.Prelude.{◌≡◌, ◌+◌, ◌≤◌};
 ghost use Rattle.tier_steps.specs.View.{Arrival, Departure};
@@ -26,14 +25,15 @@ use crate::kind::Kind;
 use crate::view::{Errand, OpeningStage, Passage, View};
 use phaser_word::{Word, next_phase};
 
-/// What a tier gets of a join with so many claimed tiers below it: the members, or one party.
+/// Returns how many parties a join adds to a tier: the members, or one party if `claimed` tiers below it are claimed.
 pub fn parties_added(claimed: u16, size: u32) -> u32
     ensures { result ≡ added claimed size }
 {
     if claimed == 0 { size } else { 1 }
 }
 
-/// What a token owes after a party has passed the tier, by the word before.
+/// Returns what a token owes after a party arrives at or leaves a tier. `word` is the tier's word before, and `above`
+/// its parent.
 pub fn errand_after(above: u16, tier: u16, passage: Passage, word: Word) -> Errand
     ensures { result ≡ owed above tier passage word }
 {
@@ -57,7 +57,7 @@ pub fn errand_after(above: u16, tier: u16, passage: Passage, word: Word) -> Erra
     }
 }
 
-/// The word of a tier that a party has passed.
+/// Returns the word of a tier after a party arrives or leaves.
 pub fn word_passed(tier: u16, passage: Passage, word: Word) -> Word
     ensures { result ≡ passed tier passage word }
 {
@@ -76,7 +76,7 @@ pub fn word_passed(tier: u16, passage: Passage, word: Word) -> Word
     }
 }
 
-/// The word of a tier that so many parties join.
+/// Returns the word of a tier after `more` parties join.
 fn word_joined(word: Word, more: u32) -> Word
     requires room { word.parties + more ≤ 65535 }
     ensures { result ≡ joined word more }
@@ -93,7 +93,7 @@ fn word_joined(word: Word, more: u32) -> Word
     }
 }
 
-/// The root's word in the next phase, in which nobody has arrived.
+/// Returns the root's word in the next phase, in which nobody has arrived.
 fn word_advanced(word: Word, ended: bool) -> Word
     ensures { result ≡ advanced word ended }
 {
@@ -105,7 +105,7 @@ fn word_advanced(word: Word, ended: bool) -> Word
     }
 }
 
-/// The word of a claimed tier that gets its first parties, in this phase.
+/// Returns the word of a claimed tier after it gets its first parties, in `phase`.
 fn word_settled(word: Word, phase: u32, parties: u32) -> Word
     requires legal { IsLegal (settled word phase parties) }
     ensures { result ≡ settled word phase parties }
@@ -118,7 +118,7 @@ fn word_settled(word: Word, phase: u32, parties: u32) -> Word
     }
 }
 
-/// The word of a tier without parties, empty or being opened.
+/// Returns the word of a tier without parties: `unarrived` is the mark that says whether it is empty or being opened.
 fn word_without(word: Word, unarrived: u32) -> Word
     requires few { unarrived ≤ 2 }
     ensures { result ≡ record word { parties = 0; unarrived = unarrived } }
@@ -130,7 +130,7 @@ fn word_without(word: Word, unarrived: u32) -> Word
     }
 }
 
-/// The word that lagged, in this phase: all its parties are unarrived.
+/// Returns the word of a lagging tier after it comes into `phase`: all its parties are unarrived.
 fn word_refreshed(word: Word, phase: u32) -> Word
     requires legal { phase ≤ 2147483647 }
     ensures { result ≡ refreshed word phase }
@@ -142,7 +142,7 @@ fn word_refreshed(word: Word, phase: u32) -> Word
     }
 }
 
-/// The word that a step leaves.
+/// Returns the word after a step.
 pub fn step_word(kind: Kind, tier: u16, word: Word, view: &View) -> Word
     requires { IsRunnable kind tier word view.now }
     ensures { result ≡ word_after kind tier word view.now }
@@ -167,7 +167,7 @@ pub fn step_word(kind: Kind, tier: u16, word: Word, view: &View) -> Word
     }
 }
 
-/// The errand of a path with so many claimed tiers: without claims there is none.
+/// Returns the errand of a path with `claimed` claimed tiers. Without claims there is none.
 fn path(tier: u16, claimed: u16, stage: OpeningStage, size: u32) -> Errand
     ensures { result ≡ opening tier claimed stage size }
 {
@@ -182,7 +182,7 @@ fn path(tier: u16, claimed: u16, stage: OpeningStage, size: u32) -> Errand
     }
 }
 
-/// A path whose join is not taken is given back from now on.
+/// Returns the errand after a join is refused: claimed tiers are released from now on.
 fn give_up(errand: Errand) -> Errand
     ensures { result ≡ given_up errand }
 {
@@ -202,7 +202,7 @@ fn give_up(errand: Errand) -> Errand
     }
 }
 
-/// What is left of an errand once the root has ended.
+/// Returns what is left of an errand after the tree has ended.
 fn drop_errand(errand: Errand) -> Errand
     ensures { result ≡ dropped errand }
 {
@@ -212,7 +212,7 @@ fn drop_errand(errand: Errand) -> Errand
     }
 }
 
-/// A token whose members have all arrived goes on to the root's phase.
+/// Moves a token whose members have all arrived into the root's phase.
 fn go_on(root: Word, view: View) -> View
     ensures { result ≡ moved root view }
 {
@@ -226,7 +226,7 @@ fn go_on(root: Word, view: View) -> View
     }
 }
 
-/// What a look at the root leaves of a view.
+/// Returns a view after a look at the root.
 pub fn look(root: Word, view: View) -> View
     ensures { result ≡ looked root view }
 {
@@ -252,7 +252,7 @@ pub fn look(root: Word, view: View) -> View
     }
 }
 
-/// What a refusal leaves of a view; at the root the token looks there as well.
+/// Returns a view after a refusal at a tier. At the root, this is a look as well.
 pub fn refuse(tier: u16, word: Word, view: View) -> View
     ensures { result ≡ refused tier word view }
 {
@@ -264,7 +264,7 @@ pub fn refuse(tier: u16, word: Word, view: View) -> View
     }
 }
 
-/// One more member has arrived, or one fewer is there.
+/// Returns a view after one member arrives or leaves.
 fn pass(passage: Passage, above: u16, tier: u16, word: Word, view: View) -> View
     requires few { view.arrived ≤ 65535 }
     ensures arrived { passage ≡ Arrival → result ≡ arrived_view above tier word view }
@@ -285,7 +285,7 @@ fn pass(passage: Passage, above: u16, tier: u16, word: Word, view: View) -> View
     }
 }
 
-/// The members of a token are admitted, all of them unarrived.
+/// Returns a view after its members are admitted, all unarrived.
 fn admit(tier: u16, claimed: u16, size: u32, word: Word, view: View) -> View
     ensures { result ≡ joined_view tier claimed size word view }
 {
@@ -299,7 +299,7 @@ fn admit(tier: u16, claimed: u16, size: u32, word: Word, view: View) -> View
     }
 }
 
-/// The view that a step leaves, where `above` is the parent of the tier.
+/// Returns the view after a step. `above` is the parent of the tier.
 #[inline(always)]
 pub fn step_view(kind: Kind, tier: u16, above: u16, word: Word, view: View) -> View
     requires { IsRunnable kind tier word view }

@@ -4,79 +4,79 @@ ghost use Rattle.std.specs.Prelude.{◌≡◌};
 
 use phaser_word::Word;
 
-/// What a climb tells the tier above: that a party has arrived there, or that it has left (own).
+/// What a climb passes on to the tier above: an arrival or a departure of one of its parties.
 #[derive(Clone, Copy, PartialEq, Eq)]
 pub enum Passage {
-    /// The tier below has no unarrived party left.
+    /// The tier below has no unarrived party left, so it arrives.
     Arrival,
-    /// The tier below has no party left.
+    /// The tier below has no party left, so it leaves.
     Departure,
 }
 
-/// How far the opening of a path of empty tiers has come (own).
+/// How far the opening of a path of empty tiers has come.
 #[derive(Clone, Copy, PartialEq, Eq)]
 pub enum OpeningStage {
-    /// Tiers are claimed, and the join above them is still to come.
+    /// Claims tiers. The join above them is still to come.
     Seeking,
-    /// The join was taken, and the claimed tiers are settled from the highest down.
+    /// The join was taken. The claimed tiers get their parties, from the highest down.
     Joined,
-    /// The join was refused, and the claimed tiers are given back from the highest down.
+    /// The join was refused. The claimed tiers are released, from the highest down.
     GoingBack,
 }
 
-/// What a token owes (own).
+/// What a token owes the tree.
 #[derive(Clone, Copy)]
 pub enum Errand {
     /// Nothing.
     Rest,
-    /// It opens the path that leads from `tier` to the root, for `size` members at `tier`. The lowest
-    /// `claimed` tiers of that path are claimed, at least one.
+    /// It is opening the path from `tier` to the root, for `size` members at `tier`. The lowest `claimed` tiers of that
+    /// path are claimed, at least one.
     Opening {
         /// The tier that the members are to join.
         tier: u16,
-        /// How many tiers of the path are claimed.
+        /// The number of claimed tiers of the path.
         claimed: u16,
         /// How far the opening has come.
         stage: OpeningStage,
-        /// How many members there are to be.
+        /// The number of members that are to join.
         size: u32,
     },
-    /// It is on its way up, and has to tell `tier` next.
+    /// It is climbing, and must pass an arrival or a departure on to `tier` next.
     Climbing {
-        /// The tier that is to be told.
+        /// The next tier.
         tier: u16,
-        /// What that tier is told.
+        /// What is passed on to it.
         passage: Passage,
     },
-    /// It has to take the root's advance.
+    /// It must advance the root.
     Advancing,
 }
 
-/// A token's own view of its tree (own). A step changes the word of one tier and the view of one token.
+/// What a token knows of its tree and owes it.
 #[derive(Clone, Copy)]
 pub struct View {
     /// The tier of its members.
     pub tier: u16,
-    /// How many members it has.
+    /// The number of its members.
     pub size: u32,
-    /// The phase that it is in.
+    /// The phase that the token is in.
     pub phase: u32,
-    /// How many of its members have arrived in that phase.
+    /// The number of members that have arrived in that phase.
     pub arrived: u32,
-    /// The root's phase where it has seen that the tree has ended.
+    /// The root's phase if the token has seen that the tree has ended.
     pub end_seen: Option<u32>,
-    /// Whether it took an advance since it last looked at the root.
+    /// True if the token took an advance since it last looked at the root.
     pub led: bool,
-    /// The tier and the word that refused its join.
+    /// The tier and the word that last refused its join.
     pub note: Option<(u16, Word)>,
-    /// What it owes.
+    /// What the token owes.
     pub errand: Errand,
 }
 
 impl View {
     ghost use Rattle.tier_steps.specs.View.{new_view};
 
-    /// The view of a token that comes into a tree whose root is in this phase: it has no members.
+    /// Returns the view of a new token of a tree whose root is in `phase`. It has no members.
     pub fn new(phase: u32) -> View
         ensures { result ≡ new_view phase }
     {

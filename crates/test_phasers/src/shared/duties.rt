@@ -102,7 +102,7 @@ fn arrives_in_place<R: Wait + Abort>(rt: &R, tree: &Tree<Rule>, crew: &mut Crew)
     ensures { crew.new.tree ≡ tree.now.tree }
 {
     match tree.arrive_in_place(rt, crew) {
-        Came::Done(_, _) => {}
+        Came::Done { .. } => {}
         _ => panic!(rt; "not arrived"),
     }
 }
