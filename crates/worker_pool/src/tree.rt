@@ -8,14 +8,11 @@ use crate::queue::Running;
 use std::sync::Wait;
 use superstep_memory::path::Path;
 use tier_table::forcing::Forced;
-use tier_table::in_place::Came;
+use tier_table::in_place::{Came, TRIES};
 use tier_table::joining::{Opened, Registered};
 use tier_table::tokens::{Crew, Door, Opening};
 use tier_table::tree::Tree;
 use tier_table::waiting::Counted;
-
-// Enough tries for any call that no other thread disturbs: the law `calls_are_short` counts at most 16 steps.
-const TRIES: u32 = 16;
 
 /// The tree of phasers of the run, and its leaves. Its type keeps that it is the run's tree.
 #[derive(Drop)]
@@ -175,7 +172,7 @@ impl<J: Running, F: Fn(u32, u32) -> bool> WorkerTree<J, F> {
         ensures passed { IfOk result (λ led. (led ≡ crew.new.view.led) × HasPassed Arrival crew.old.view crew.new.view) }
     {
         match self.phaser.arrive_in_place(rt, crew) {
-            Came::Done(_phase, led) => Ok(led),
+            Came::Done { phase: _, led } => Ok(led),
             Came::AlreadyArrived(_phase) => Err(Reason::Internal),
             Came::Ended(_shown) => Err(Reason::Internal),
         }
