@@ -1,5 +1,6 @@
 //! The text of a job, read.
 ghost use Rattle.std.specs.Prelude.{◌≡◌, ◌≤◌, ◌<◌, ◌+◌, ◌^◌, ◌∷◌, length, true, IsTrue, IfOk, IfErr, MatchResult, Err, List};
+ghost use Rattle.text_lines.specs.Limits.{most_bytes};
 ghost use Rattle.text_lines.specs.Text.{lines_of, words_of};
 ghost use Rattle.task_code.specs.Rules.{is_format};
 ghost use Rattle.job_words.specs.Words.{Word};
@@ -155,7 +156,7 @@ fn read_lines<'a>(
 
 // Reads the header: its format, the text after it, and the number of that text's first line.
 fn split_header(text: &[u8]) -> Result<(u32, usize, &[u8]), Refusal>
-    requires { length text.now ≤ 1048576 }
+    requires { length text.now ≤ most_bytes }
     ensures header { MatchResult result
         (λ h. (bodies : List Word) → spec.read_from bodies 1 (lines_of text.now) ≡ spec.read_lines bodies h.1 (nothing h.0) (lines_of h.2.now))
         (λ r. (bodies : List Word) → spec.read_from bodies 1 (lines_of text.now) ≡ Err r) }
@@ -216,8 +217,5 @@ pub fn read_job(alloc: Global, text: &[u8]) -> Result<Job, ReadJobFault>
     ensures grammar { IfOk result (λ job. IsTextOf (job_tree job) (kept (lines_of text.now))) }
     ensures memory { IfErr result (λ fault. fault ≡ ReadJobFault.Memory → BeginsWell text.now) }
 {
-    match read_text(alloc, text) {
-        Ok(job) => Ok(job),
-        Err(fault) => Err(fault),
-    }
+    read_text(alloc, text)
 }

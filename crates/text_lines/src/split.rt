@@ -1,5 +1,6 @@
 //! Lines and words, split off one by one from the front.
 ghost use Rattle.std.specs.Prelude.{◌≡◌, ◌≢◌, ◌+◌, take, drop, slice_index, ◌≤◌, ◌<◌, ◌∷◌, [], length, MatchOption, IfSome, true, false};
+ghost use Rattle.text_lines.specs.Limits.{most_bytes};
 ghost use Rattle.text_lines.specs.Text.{lines_of, words_of, is_skipped, bad_byte_line as bad_line_of};
 
 #[tactic(auto, using(crate::proofs::LinesLemmas::line_at, crate::proofs::LinesLemmas::line_whole))]
@@ -80,7 +81,7 @@ pub fn first_word(line: &[u8]) -> Option<(&[u8], &[u8])>
 
 /// Returns the line, from 1, of the first byte that is neither LF nor from 0x20 to 0x7E, if there is one.
 pub fn bad_byte_line(text: &[u8]) -> Option<usize>
-    requires { length text.now ≤ 1048576 }
+    requires { length text.now ≤ most_bytes }
     ensures { result ≡ bad_line_of 1 text.now }
 {
     let mut line = 1;

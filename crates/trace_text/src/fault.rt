@@ -1,5 +1,8 @@
 //! Why a trace was not run to its end.
+ghost use Rattle.std.specs.Prelude.{◌≡◌};
+ghost use Rattle.trace_text.specs.declared.fault.TraceFault.TheVariants.{Text, Memory};
 
+use std::alloc::AllocError;
 use text_lines::Refusal;
 use thiserror::Error;
 
@@ -18,4 +21,20 @@ pub enum TraceFault {
     /// An allocation failed. At most a beginning of the answers was written.
     #[error("out of memory")]
     Memory,
+}
+
+impl From<Refusal> for TraceFault {
+    ghost from_gives = { λ refusal fault. fault ≡ Text refusal };
+
+    fn from(refusal: Refusal) -> TraceFault {
+        TraceFault::Text(refusal)
+    }
+}
+
+impl From<AllocError> for TraceFault {
+    ghost from_gives = { λ _ fault. fault ≡ Memory };
+
+    fn from(_error: AllocError) -> TraceFault {
+        TraceFault::Memory
+    }
 }
