@@ -7,23 +7,25 @@ use crate::count::Count;
 use crate::metered::Metered;
 use std::alloc::Global;
 use std::io::{Read, Write};
+use thiserror::Error;
 
-/// The device failed in this call.
-#[derive(Clone, Copy, PartialEq, Eq)]
+/// The device failed in this call. A caller stops and reports it.
+#[derive(Clone, Copy, Debug, PartialEq, Eq, Error)]
+#[error("the device failed")]
 pub struct DeviceFailed;
 
-/// A reader that counts how often it is asked and fails.
+/// A reader that counts its calls and its failures.
 pub trait CountedRead {
-    // the bytes that reads will give from here on, where they are known
+    // the bytes that reads will return from here on, if they are known
     ghost remaining: { Self → Option (List ℕ) };
 
-    // how often the device was asked
+    // the number of calls of the device
     ghost asks: { Self → ℕ };
 
-    // how often the device has failed
+    // the number of calls that failed
     ghost failures: { Self → ℕ };
 
-    /// Reads some bytes into the buffer; none only at the end, or where the buffer has no room. The device is asked once.
+    /// Reads some bytes into the buffer, by one call of the device. Returns 0 only at the end, or if the buffer is empty.
     fn read_some(&mut self, buffer: &mut [u8]) -> Result<usize, DeviceFailed>
         ensures bound { IfOk result (λ n. n ≤ length buffer.new) }
         ensures bytes { ReadConsumes (remaining self.old) (remaining self.new) result buffer.new }
@@ -31,18 +33,18 @@ pub trait CountedRead {
         ensures failures { CountsFailure (failures self.old) (failures self.new) result };
 }
 
-/// A writer that counts how often it is asked and fails.
+/// A writer that counts its calls and its failures.
 pub trait CountedWrite {
-    // the bytes that the writer holds, where they are known
+    // the bytes that the writer holds, if they are known
     ghost contents: { Self → Option (List ℕ) };
 
-    // how often the device was asked
+    // the number of calls of the device
     ghost asks: { Self → ℕ };
 
-    // how often the device has failed
+    // the number of calls that failed
     ghost failures: { Self → ℕ };
 
-    /// Writes some of the bytes from their front, and says how many. The device is asked once.
+    /// Writes some of the first bytes, by one call of the device. Returns how many.
     fn write_some(&mut self, bytes: &[u8]) -> Result<usize, DeviceFailed>
         requires { 0 < length bytes.now }
         ensures bytes { TakesSome (contents self.old) (contents self.new) result bytes.now }
@@ -58,7 +60,7 @@ pub struct Reader<R: Read> {
 }
 
 impl<R: Read> Reader<R> {
-    /// This reader, which was not asked and has not failed.
+    /// Wraps a reader. No call has been made yet.
     pub fn new(inner: R) -> Self
         ensures inner { result.inner.device ≡ inner }
         ensures asks { result.inner.asks.count ≡ 0 }
@@ -92,7 +94,7 @@ pub struct Writer<W: Write> {
 }
 
 impl<W: Write> Writer<W> {
-    /// This writer, which was not asked and has not failed.
+    /// Wraps a writer. No call has been made yet.
     pub fn new(inner: W) -> Self
         ensures inner { result.inner.device ≡ inner }
         ensures asks { result.inner.asks.count ≡ 0 }
@@ -118,19 +120,24 @@ impl<W: Write> CountedWrite for Writer<W> {
     }
 }
 
-/// The most bytes of a text.
+/// The largest number of bytes of a text.
 pub const MOST_BYTES: usize = 1048576;
 
 /// Why a text was not read.
-#[derive(Clone, Copy, PartialEq, Eq)]
+#[derive(Clone, Copy, Debug, PartialEq, Eq, Error)]
 pub enum ReadFault {
+    /// The text has over [`MOST_BYTES`] bytes. A caller reports it as too long, also if memory is short.
+    #[error("text over 1048576 bytes")]
     TooLong,
+    /// The device failed. A caller reports it.
+    #[error("read failed")]
     Read,
+    /// An allocation failed. The text has at most [`MOST_BYTES`] bytes, and has been read to its end.
+    #[error("out of memory")]
     Memory,
 }
 
-// Why a text is not read for which there is no memory: what is still to come is looked at as well, since that the text is
-// too long comes first. So many bytes may come.
+// Reads on after an allocation failed, since `TooLong` comes before `Memory`. The rest of the text may have `room` bytes.
 fn without_memory<R: CountedRead>(reader: &mut R, room: usize) -> ReadFault
     requires { room ≤ MOST_BYTES }
     ensures too_long { result ≡ ReadFault.TooLong → IfSome (R.remaining reader.old) (λ bytes. room < length bytes) }
@@ -156,8 +163,8 @@ fn without_memory<R: CountedRead>(reader: &mut R, room: usize) -> ReadFault
     ReadFault::TooLong
 }
 
-/// Reads to the end of the reader. A text over 1048576 bytes is refused by that, also where there is no memory for it;
-/// it makes at most 1048577 reads.
+/// Reads to the end of the reader, by at most [`MOST_BYTES`] + 1 reads. A text over [`MOST_BYTES`] bytes fails with
+/// `TooLong`, also if there is no memory for it.
 pub fn read_all<R: CountedRead>(alloc: Global, reader: &mut R) -> Result<Vec<u8>, ReadFault>
     ensures text { IfOk result (λ text. IfSome (R.remaining reader.old) (λ bytes. text.items ≡ bytes)) }
     ensures short { IfOk result (λ text. length text.items ≤ MOST_BYTES) }
@@ -190,7 +197,7 @@ pub fn read_all<R: CountedRead>(alloc: Global, reader: &mut R) -> Result<Vec<u8>
     Err(ReadFault::TooLong)
 }
 
-/// Writes all the bytes, by at most as many calls as there are bytes.
+/// Writes all the bytes, by at most one call a byte.
 #[tactic(auto, using(crate::proofs::PassedBytes::passed_steps))]
 pub fn write_all<W: CountedWrite>(writer: &mut W, bytes: &[u8]) -> Result<(), DeviceFailed>
     ensures ok { OnOk result (Appends (W.contents writer.old) (W.contents writer.new) bytes.now) }

@@ -29,3 +29,4 @@ pub mod ReadJobs
 pub mod AsciiNames
 pub mod NewArrays
 pub mod OuterRefused
+pub mod ApartNames

@@ -12,7 +12,7 @@ use Rattle.job_words.specs.Views.{lent}
 use Rattle.job_words.proofs.GrowLemmas.{and-right}
 use Rattle.job_reader.specs.declared.so_far.SoFar.{SoFar}
 use Rattle.job_reader.specs.Kept.{HasSoFar}
-use Rattle.job_reader.specs.Reading.{array_of, array_if_ok}
+use Rattle.job_reader.specs.Reading.{array_of}
 use Rattle.job_reader.proofs.NotedNames.{or-false, or-left, or-right, turned}
 use Rattle.job_reader.proofs.KeptLines.{array-read}
 
@@ -33,7 +33,3 @@ array-new r names ws text name cells h n out same e =
       among-arrays r.arrays text (ap (is_among (map (λ a. a.0) r.arrays)) same ∙ ap (λ (x : List Word). is_among x name) (sym all) ∙ out),
       few-cells (length cells) (and-right (is_free name && nat_le 1 (length cells)) (nat_le (length cells) 4096) read.1),
     )
-
-pub array-ok : (r : Result (Bor Word × Vec ℤ Global) Code) (x : Bor Word × Vec ℤ Global) (read : Result (Word × List ℤ) Code) → r ≡ Ok x → array_if_ok r ≡ read
-    → read ≡ Ok (x.0.now, x.1.items)
-array-ok r x read e f = sym f ∙ ap array_if_ok e

@@ -1,4 +1,4 @@
--- What the lines above a line say (own).
+-- What the lines above a line say.
 use Rattle.std.specs.Prelude.{ℕ, ◌+◌, Bool, true, false, if◌then◌else◌, List, [], ◌∷◌, Option, None}
 use Rattle.job_words.specs.Words.{Word}
 use Rattle.task_code.specs.Tree.{Block, Done}
@@ -29,20 +29,18 @@ nothing format = record { job = record { format = format; arrays = []; bodies = 
 
 -- an `else` wants an `if` without one as the innermost open line
 abbrev pub can_else : List Frame → Bool
-can_else [] = false
 can_else (InIf e before ∷ fs) = true
-can_else (InElse e before a ∷ fs) = false
-can_else (InWhile e before ∷ fs) = false
+can_else _ = false
 
--- a body behind its first line: its name, and the locals that the line lists
+-- a body after its first line: its name, and the locals that the line lists
 abbrev pub begun : Word × List Word → Inside
 begun head = record { name = head.0; locals = head.1; frames = []; block = Done; statements = 0 }
 
--- how many statements there are behind a line
+-- the number of statements after a line
 abbrev pub statements_behind : ℕ → Line → ℕ
 statements_behind n l = if is_statement l then n + 1 else n
 
--- the open body behind a line that made these open lines and this block
+-- the open body after a line that made these open lines and this block
 abbrev pub grown : Inside → ℕ → List Frame × Block → Inside
 grown o statements s = record { name = o.name; locals = o.locals; frames = s.0; block = s.1; statements = statements }
 
@@ -56,18 +54,12 @@ is_nested (f ∷ fs) = true
 
 -- whether a line belongs to the open lines: an `else` to an `if` without one, an end to any
 abbrev pub belongs : Line → List Frame → Bool
-belongs (line.Do a) fs = true
-belongs (line.If e n) fs = true
-belongs (line.While e n) fs = true
 belongs (line.Else n) fs = can_else fs
 belongs line.EndIf fs = is_nested fs
 belongs (line.EndWhile e n) fs = is_nested fs
+belongs _ fs = true
 
--- a line may stand where an `else` may or may not
+-- whether a line may be here; `fits` says whether an `else` may
 abbrev pub sits : Bool → Line → Bool
-sits fits (line.Do a) = true
-sits fits (line.If e n) = true
-sits fits (line.While e n) = true
 sits fits (line.Else n) = fits
-sits fits line.EndIf = true
-sits fits (line.EndWhile e n) = true
+sits fits _ = true

@@ -1,4 +1,4 @@
--- What the job so far and its open body keep while lines are read (own): all limits, names of their own, numbers that fit.
+-- What the job so far and its open body keep while lines are read: all limits, names of their own, numbers that fit.
 use Rattle.std.specs.Prelude.{◌≡◌, ◌≤◌, ◌<◌, ℕ, true, false, List, [], ◌∷◌, length, Option, Some, None, Result, Ok}
 use Rattle.std.specs.List.{list_all}
 use Rattle.text_lines.specs.Number.{fits_i64}
@@ -14,6 +14,7 @@ use Rattle.job_words.specs.Words.{Word}
 use Rattle.job_reader.specs.Trees.{BodyTree, JobTree, array_names, body_names}
 use Rattle.job_reader.specs.Above.{Inside, Above, belongs, ended}
 use Rattle.job_reader.specs.Legal.{flat_body, IsJobTree}
+use Rattle.job_reader.specs.Limits.{most_starts}
 use Rattle.job_reader.specs.Relates.{IsSoFar, IsInside, IsOpened, IsAt}
 use Rattle.job_reader.specs.Reading.{finished}
 use Rattle.job_reader.specs.declared.inside.OpenBody.{OpenBody}
@@ -33,7 +34,7 @@ pub record KeptJob (j : JobTree) : Type 0 where
   pub format : is_format j.format ≡ true
   pub few_arrays : length j.arrays ≤ 16
   pub few_bodies : length (body_names j) ≤ 64
-  pub few_starts : length j.starts ≤ 4096
+  pub few_starts : length j.starts ≤ most_starts
   pub arrays : list_all is_array j.arrays ≡ true
   pub arrays_named : are_names (array_names j) ≡ true
   pub cells : list_all (λ a. list_all fits_i64 a.1) j.arrays ≡ true
@@ -41,12 +42,12 @@ pub record KeptJob (j : JobTree) : Type 0 where
   pub bodies : AreKept j.format j.bodies
   pub args : list_all (λ s. fits_i64 s.arg) j.starts ≡ true
 
--- how many lines are open behind code, where so many are in front
+-- the number of open lines after code, with `k` open before it
 abbrev pub open_behind : ℕ → List Line → ℕ
 open_behind k [] = k
 open_behind k (l ∷ ls) = open_behind (opened k l) ls
 
--- an open body of so many statements is within the limits, and its numbers fit
+-- an open body of `n` statements is within the limits, and its numbers fit
 pub record Counted (fs : List Frame) (b : Block) (n : ℕ) : Type 0 where
   pub counts : statements (open_code fs b) ≡ n
   pub few : n ≤ 1024
@@ -94,7 +95,7 @@ HasKept r w = (j : JobTree) × (i : Option Inside) × IsSoFar j r × IsOpened i 
 abbrev pub HasKeptInside : SoFar → OpenBody → Type 0
 HasKeptInside r w = HasKept r (Some w)
 
--- the reader has an open body that is whole, or will be where this line ends it
+-- the reader has an open body that is whole, or will be if this line ends it
 abbrev pub HasWhole : OpenBody → Type 0
 HasWhole w = (o : Inside) × IsInside o w × IsWhole o
 

@@ -1,3 +1,4 @@
+pub mod Limits
 pub mod Above
 pub mod Gives
 pub mod Grammar

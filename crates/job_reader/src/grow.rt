@@ -37,7 +37,7 @@ const MOST_BODIES: usize = 64;
 /// The most start lines of a job.
 const MOST_STARTS: usize = 4096;
 
-// A name as a string of its own.
+// Copies a name into a string.
 #[tactic(auto, using(crate::proofs::AsciiNames::ascii_steps))]
 fn name_text(alloc: Global, name: &[u8]) -> Result<String, AllocError>
     requires { IsTrue (is_free name.now) }
@@ -49,7 +49,7 @@ fn name_text(alloc: Global, name: &[u8]) -> Result<String, AllocError>
     }
 }
 
-// Names as strings of their own.
+// Copies names into strings.
 fn name_texts(alloc: Global, names: &[&[u8]]) -> Result<Vec<String>, AllocError>
     requires { IsTrue (list_all is_free (lent names.now)) }
     ensures { IfOk result (λ texts. map string_bytes texts.items ≡ lent names.now) }
@@ -61,7 +61,7 @@ fn name_texts(alloc: Global, names: &[&[u8]]) -> Result<Vec<String>, AllocError>
     Ok(texts)
 }
 
-// The body that an open one is, where no line is open in it.
+// Closes a body in which no line is open.
 fn finished(alloc: Global, inner: OpenBody<'_>) -> Result<Body, AllocError>
     requires { HasWhole inner }
     ensures { IfOk result (λ body. (o : Inside) → IsInside o inner.entry → o.frames ≡ [] → body ≡ flat_body (ended o)) }
@@ -81,7 +81,7 @@ fn finished(alloc: Global, inner: OpenBody<'_>) -> Result<Body, AllocError>
 }
 
 impl<'a> SoFar<'a> {
-    /// Nothing yet of a job of this format.
+    /// Returns the state before any line of a job of this format.
     pub(crate) fn new(alloc: Global, format: u32) -> Self
         ensures { IsSoFar (nothing format).job result }
     {
@@ -95,7 +95,7 @@ impl<'a> SoFar<'a> {
         }
     }
 
-    /// The job.
+    /// Returns the job.
     pub(crate) fn job(self) -> Job
         requires { HasJob self }
         ensures { (j : JobTree) → IsSoFar j self.entry → job_tree result ≡ j }
@@ -114,7 +114,7 @@ impl<'a> SoFar<'a> {
         }
     }
 
-    // Puts an array behind the others.
+    // Adds an array at the end.
     fn push_array(
         &mut self,
         text: String,
@@ -134,44 +134,33 @@ impl<'a> SoFar<'a> {
         Ok(())
     }
 
-    // A line with an array.
+    // Reads the line of an array and adds it.
     fn add_array(&mut self, alloc: Global, line: &'a [u8]) -> Result<(), LineFault>
         requires { HasSoFar self.old }
         ensures { (j : JobTree) → IsSoFar j self.old
             → LineGives (λ _ k. IsSoFar k self.new) result (spec.array_line j (words_of line.entry.now)) }
     {
-        let (name, cells) = match array_of(alloc, line) {
-            Ok(Ok(array)) => array,
-            Ok(Err(code)) => return Err(LineFault::Refused(code)),
-            Err(_) => return Err(LineFault::Memory),
-        };
+        let (name, cells) = array_of(alloc, line)?;
         if is_among(&self.array_names, name) {
             return Err(LineFault::Refused(Code::Twice));
         }
         if self.array_names.len() >= MOST_ARRAYS {
             return Err(LineFault::Refused(Code::TooMany));
         }
-        let Ok(text) = name_text(alloc, name) else {
-            return Err(LineFault::Memory);
-        };
-        match self.push_array(text, name, cells) {
-            Ok(()) => Ok(()),
-            Err(_) => Err(LineFault::Memory),
-        }
+        let text = name_text(alloc, name)?;
+        self.push_array(text, name, cells)?;
+        Ok(())
     }
 
-    // The first line of a body.
+    // Reads the first line of a body and opens the body.
     fn begin_body(&self, alloc: Global, line: &'a [u8]) -> Result<OpenBody<'a>, LineFault>
         ensures begun { (j : JobTree) → IsSoFar j self.now
             → LineGives (λ w o. IsInside o w) result (spec.body_line j (words_of line.entry.now)) }
         ensures few { IfOk result (λ w. length w.locals.items ≤ 32) }
     {
-        let (name, locals) = match body_of(alloc, self.format, line) {
-            Ok(Ok(head)) => head,
-            Ok(Err(code)) => return Err(LineFault::Refused(code)),
-            Err(_) => return Err(LineFault::Memory),
-        };
-        if is_among(&self.body_names, name) || !are_apart(&locals) {
+        let (name, locals) = body_of(alloc, self.format, line)?;
+        let apart = are_apart(alloc, &locals)?;
+        if is_among(&self.body_names, name) || !apart {
             return Err(LineFault::Refused(Code::Twice));
         }
         if self.body_names.len() >= MOST_BODIES || locals.len() > MOST_LOCALS {
@@ -180,26 +169,21 @@ impl<'a> SoFar<'a> {
         Ok(OpenBody::begin(alloc, name, locals))
     }
 
-    // A start line.
+    // Reads a start line and adds it.
     fn add_start(&mut self, bodies: &[&'a [u8]], line: &'a [u8]) -> Result<(), LineFault>
         requires { length bodies.now ≤ 65536 }
         ensures { (j : JobTree) → IsSoFar j self.old
             → LineGives (λ _ k. IsSoFar k self.new) result (spec.start_line (lent bodies.now) j (words_of line.entry.now)) }
     {
-        let start = match start_of(bodies, line) {
-            Ok(start) => start,
-            Err(code) => return Err(LineFault::Refused(code)),
-        };
+        let start = start_of(bodies, line)?;
         if self.starts.len() >= MOST_STARTS {
             return Err(LineFault::Refused(Code::TooMany));
         }
-        match self.starts.push(start) {
-            Ok(()) => Ok(()),
-            Err(_) => Err(LineFault::Memory),
-        }
+        self.starts.push(start)?;
+        Ok(())
     }
 
-    // The end of a body.
+    // Closes a body and adds it.
     fn add_body(&mut self, alloc: Global, inner: OpenBody<'a>) -> Result<(), AllocError>
         requires { HasWhole inner }
         ensures { OnOk result ((j : JobTree) (o : Inside) → IsSoFar j self.old → IsInside o inner.entry → o.frames ≡ []
@@ -212,7 +196,7 @@ impl<'a> SoFar<'a> {
         Ok(())
     }
 
-    // A line outside bodies, from what it begins and the line behind that.
+    // Reads a line outside bodies, from its first word and the rest of the line.
     fn outer_line(
         &mut self,
         alloc: Global,
@@ -230,26 +214,23 @@ impl<'a> SoFar<'a> {
             return Err(LineFault::Refused(Code::UnknownLine));
         };
         match begins {
-            Outer::Array => match self.add_array(alloc, line) {
-                Ok(()) => Ok(None),
-                Err(fault) => Err(fault),
-            },
-            Outer::Body => match self.begin_body(alloc, line) {
-                Ok(inner) => Ok(Some(inner)),
-                Err(fault) => Err(fault),
-            },
-            Outer::Start => match self.add_start(bodies, line) {
-                Ok(()) => Ok(None),
-                Err(fault) => Err(fault),
-            },
+            Outer::Array => {
+                self.add_array(alloc, line)?;
+                Ok(None)
+            }
+            Outer::Body => Ok(Some(self.begin_body(alloc, line)?)),
+            Outer::Start => {
+                self.add_start(bodies, line)?;
+                Ok(None)
+            }
         }
     }
 
-    // A line in an open body, by what it says.
+    // Adds a line to an open body, or closes the body.
     fn put_line(
         &mut self,
         alloc: Global,
-        inner: OpenBody<'a>,
+        mut inner: OpenBody<'a>,
         line: Line,
     ) -> Result<Option<OpenBody<'a>>, AllocError>
         requires few { statements_behind inner.statements line ≤ 1024 }
@@ -259,7 +240,6 @@ impl<'a> SoFar<'a> {
         ensures few { IfOk result (λ o. IfSome o (λ w. w.locals ≡ inner.entry.locals)) }
     {
         if inner.belongs(line) {
-            let mut inner = inner;
             inner.push(line)?;
             Ok(Some(inner))
         } else {
@@ -268,12 +248,12 @@ impl<'a> SoFar<'a> {
         }
     }
 
-    // A line in an open body, from its keyword and the words behind it.
+    // Reads a line in an open body, from its keyword and the words after it.
     fn inner_line(
         &mut self,
         alloc: Global,
         bodies: &[&'a [u8]],
-        inner: OpenBody<'a>,
+        mut inner: OpenBody<'a>,
         keyword: Option<Keyword>,
         words: &[&'a [u8]],
     ) -> Result<Option<OpenBody<'a>>, LineFault>
@@ -285,21 +265,12 @@ impl<'a> SoFar<'a> {
             → LineGives (λ w p. IsBehind p self.new w) result (spec.inner_line (lent bodies.now) j o keyword (lent words.now)) }
         ensures few { IfOk result (λ o. IfSome o (λ w. length w.locals.items ≤ 32)) }
     {
-        let mut inner = inner;
-        let Ok(()) = inner.note(self.format, keyword, words) else {
-            return Err(LineFault::Memory);
-        };
-        let line = match inner.said(&self.array_names, bodies, keyword, words) {
-            Ok(line) => line,
-            Err(code) => return Err(LineFault::Refused(code)),
-        };
-        match self.put_line(alloc, inner, line) {
-            Ok(inner) => Ok(inner),
-            Err(_) => Err(LineFault::Memory),
-        }
+        inner.note(self.format, keyword, words)?;
+        let line = inner.said(&self.array_names, bodies, keyword, words)?;
+        Ok(self.put_line(alloc, inner, line)?)
     }
 
-    /// A line that isn't skipped, from its first word and the line behind that, where a body may be open.
+    /// Reads a line that isn't skipped, from its first word and the rest of the line. A body may be open.
     pub(crate) fn any_line(
         &mut self,
         alloc: Global,
@@ -318,9 +289,7 @@ impl<'a> SoFar<'a> {
         match inside {
             None => self.outer_line(alloc, bodies, outer_of(first), rest),
             Some(inner) => {
-                let Ok(words) = words_in(alloc, rest) else {
-                    return Err(LineFault::Memory);
-                };
+                let words = words_in(alloc, rest)?;
                 let keyword = known_in(self.format, keyword_of(first));
                 self.inner_line(alloc, bodies, inner, keyword, &words)
             }

@@ -16,7 +16,7 @@ use task_code::builder::Builder;
 use task_code::code::Line;
 use text_lines::Code;
 
-/// A body of which only the front is read.
+/// A body whose end isn't read yet.
 #[derive(Drop)]
 pub(crate) struct OpenBody<'a> {
     pub name: &'a [u8],
@@ -34,7 +34,7 @@ pub(crate) const MOST_LOCALS: usize = 32;
 /// The most `if` and `while` lines open at once.
 const MOST_OPEN: usize = 16;
 
-// Whether one line more goes over a limit of a body.
+// Returns true if one more line exceeds a limit of a body.
 fn is_over(statements: usize, locals: usize, open_lines: usize, line: Line) -> bool
     ensures { result ≡ spec.is_over (statements_behind statements line) locals (opened open_lines line) }
 {
@@ -54,14 +54,14 @@ fn is_over(statements: usize, locals: usize, open_lines: usize, line: Line) -> b
     }
 }
 
-// The open line at a place.
+// Returns the open line at a place.
 fn open_line(code: &[Line], place: usize) -> Option<Line>
     ensures { result ≡ slice_get code.now place }
 {
     code.get(place).copied()
 }
 
-// The line that words behind a keyword say, with these names.
+// Reads a line from its keyword and the words after it, with these names.
 fn line_in<'x>(
     arrays: &'x [&'x [u8]],
     bodies: &'x [&'x [u8]],
@@ -85,7 +85,7 @@ fn line_in<'x>(
 }
 
 impl<'a> OpenBody<'a> {
-    /// A body behind its first line.
+    /// Returns a body after its first line.
     pub(crate) fn begin(alloc: Global, name: &'a [u8], locals: Vec<&'a [u8]>) -> Self
         ensures begun { IsInside (begun (name.entry.now, lent locals.entry.items)) result }
         ensures locals { result.locals ≡ locals.entry }
@@ -101,20 +101,20 @@ impl<'a> OpenBody<'a> {
         }
     }
 
-    // Whether an `else` may stand here.
+    // Returns true if an `else` may be here.
     fn can_else(&self) -> bool
         ensures { (o : Inside) → IsInside o self.now → result ≡ can_else o.frames }
     {
         let Some(place) = self.builder.places.last() else {
             return false;
         };
-        match open_line(&self.builder.code, *place) {
-            Some(Line::If(_, _)) => true,
-            _ => false,
-        }
+        matches!(
+            open_line(&self.builder.code, *place),
+            Some(Line::If(_, _))
+        )
     }
 
-    // How many lines are open.
+    // Returns the number of open lines.
     #[tactic(auto, using(crate::proofs::OpenLemmas::depth_steps))]
     fn depth(&self) -> usize
         ensures { (o : Inside) → IsInside o self.now → result ≡ length o.frames }
@@ -122,7 +122,7 @@ impl<'a> OpenBody<'a> {
         self.builder.places.len()
     }
 
-    /// Notes the locals that a line mentions, where the format doesn't list them.
+    /// Notes the locals that a line mentions, if the format doesn't list them.
     pub(crate) fn note(
         &mut self,
         format: u32,
@@ -139,7 +139,7 @@ impl<'a> OpenBody<'a> {
         Ok(())
     }
 
-    /// The line that words behind a keyword say, where the locals are those behind the line.
+    /// Reads a line from its keyword and the words after it. The locals are those after the line.
     pub(crate) fn said(
         &self,
         arrays: &[&'a [u8]],
@@ -157,18 +157,14 @@ impl<'a> OpenBody<'a> {
     {
         let fits = self.can_else();
         let depth = self.depth();
-        match line_in(arrays, bodies, &self.locals, fits, keyword, words) {
-            Ok(line) => {
-                if is_over(self.statements, self.locals.len(), depth, line) {
-                    return Err(Code::TooMany);
-                }
-                Ok(line)
-            }
-            Err(code) => Err(code),
+        let line = line_in(arrays, bodies, &self.locals, fits, keyword, words)?;
+        if is_over(self.statements, self.locals.len(), depth, line) {
+            return Err(Code::TooMany);
         }
+        Ok(line)
     }
 
-    /// Whether a line belongs to the open lines.
+    /// Returns true if a line belongs to the body, and doesn't end it.
     pub(crate) fn belongs(&self, line: Line) -> bool
         ensures { (o : Inside) → IsInside o self.now → result ≡ belongs line o.frames }
     {
@@ -179,7 +175,7 @@ impl<'a> OpenBody<'a> {
         }
     }
 
-    /// Puts a line behind the others.
+    /// Adds a line at the end.
     pub(crate) fn push(&mut self, line: Line) -> Result<(), AllocError>
         requires { statements_behind self.old.statements line ≤ 1024 }
         ensures grown { OnOk result ((o : Inside) → IsInside o self.old

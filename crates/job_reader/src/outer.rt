@@ -1,13 +1,16 @@
 //! Lines outside bodies as words.
 ghost use Rattle.std.specs.Prelude.{◌≡◌, ◌≤◌, ◌∷◌, length, None, Some, IfOk, MatchOption};
+ghost use Rattle.job_reader.specs.Gives.{LineSays, joined};
 ghost use Rattle.text_lines.specs.Text.{words_of};
 ghost use Rattle.job_words.specs.Views.{lent};
 ghost use Rattle.job_reader.specs.Reading as spec;
 
-use job_words::faults::both;
+use crate::fault::LineFault;
+use job_words::faults::{both, earlier};
 use job_words::lines::body_at;
-use job_words::words::{is_among, is_word, named, numbered};
+use job_words::words::{is_word, named, numbered};
 use std::alloc::{AllocError, Global};
+use std::collections::BTreeSet;
 use task_code::job::Start;
 use task_code::names::{is_name, is_reserved};
 use text_lines::{Code, split_word};
@@ -26,7 +29,7 @@ pub enum Outer {
 /// The most cells of an array.
 const MOST_CELLS: usize = 4096;
 
-/// What a word begins outside bodies, if anything.
+/// Reads a word as the first word of a line outside bodies.
 #[tactic(auto, unfolding(crate::specs::Reading::outer_of))]
 pub(crate) fn outer_of(word: &[u8]) -> Option<Outer>
     ensures { result ≡ spec.outer_of word.now }
@@ -42,7 +45,7 @@ pub(crate) fn outer_of(word: &[u8]) -> Option<Outer>
     }
 }
 
-// The format that a word says.
+// Reads a word as a format.
 fn format_in(word: &[u8]) -> Option<u32>
     ensures { result ≡ spec.format_in word.now }
 {
@@ -55,7 +58,7 @@ fn format_in(word: &[u8]) -> Option<u32>
     }
 }
 
-/// The format that the first line of a job says, from its first word and the line behind it.
+/// Reads the format from the first line of a job: its first word and the rest of the line.
 pub(crate) fn format_of(first: &[u8], rest: &[u8]) -> Option<u32>
     ensures { result ≡ spec.format_of (first.now ∷ words_of rest.now) }
 {
@@ -66,7 +69,7 @@ pub(crate) fn format_of(first: &[u8], rest: &[u8]) -> Option<u32>
     format_in(format)
 }
 
-/// The words of a line.
+/// Returns the words of a line.
 pub(crate) fn words_in<'a>(alloc: Global, line: &'a [u8]) -> Result<Vec<&'a [u8]>, AllocError>
     ensures { IfOk result (λ words. lent words.items ≡ words_of line.entry.now) }
 {
@@ -79,90 +82,85 @@ pub(crate) fn words_in<'a>(alloc: Global, line: &'a [u8]) -> Result<Vec<&'a [u8]
     Ok(words)
 }
 
-/// The name that a line gives to a body, if it is such a line.
+/// Returns the name of the body that a line declares, if it declares one.
 pub(crate) fn declared_by(line: &[u8]) -> Option<&[u8]>
     ensures { MatchOption result (spec.declared_by (words_of line.now) ≡ None) (λ w. spec.declared_by (words_of line.now) ≡ Some w.now) }
 {
-    let Some((first, rest)) = split_word(line) else {
-        return None;
-    };
+    let (first, rest) = split_word(line)?;
     match outer_of(first) {
-        Some(Outer::Body) => match split_word(rest) {
-            Some((name, _)) => Some(name),
-            None => None,
-        },
+        Some(Outer::Body) => {
+            let (name, _) = split_word(rest)?;
+            Some(name)
+        }
         _ => None,
     }
 }
 
-// Values as numbers.
-fn all_numbered(alloc: Global, line: &[u8]) -> Result<Result<Vec<i64>, Code>, AllocError>
-    ensures { IfOk result (λ read. spec.items_if_ok read ≡ spec.all_numbered (words_of line.now)) }
+// Joins two parts of a line, of which the second takes memory. If both are refused, the fault to report is chosen.
+fn joined<A: Drop, B: Drop>(
+    a: Result<A, Code>,
+    b: Result<B, LineFault>,
+) -> Result<(A, B), LineFault>
+    ensures { result ≡ joined a b }
+{
+    match (a, b) {
+        (_, Err(LineFault::Memory)) => Err(LineFault::Memory),
+        (Ok(a), Ok(b)) => Ok((a, b)),
+        (Ok(_), Err(LineFault::Refused(code))) => Err(LineFault::Refused(code)),
+        (Err(code), Ok(_)) => Err(LineFault::Refused(code)),
+        (Err(code), Err(LineFault::Refused(other))) => {
+            Err(LineFault::Refused(earlier(code, other)))
+        }
+    }
+}
+
+// Reads the words of a line as numbers.
+fn all_numbered(alloc: Global, line: &[u8]) -> Result<Vec<i64>, LineFault>
+    ensures { LineSays (λ values. values.items) result (spec.all_numbered (words_of line.now)) }
 {
     let mut values = Vec::new(alloc);
     let mut rest = line;
     while let Some((word, after)) = split_word(rest) {
         rest = after;
-        match numbered(word) {
-            Ok(n) => values.push(n)?,
-            Err(code) => return Ok(Err(code)),
-        }
+        values.push(numbered(word)?)?;
     }
-    Ok(Ok(values))
+    Ok(values)
 }
 
-// Fills values up with zeros to 1 to 4096 cells.
-fn filled(
-    alloc: Global,
-    length: i64,
-    values: Vec<i64>,
-) -> Result<Result<Vec<i64>, Code>, AllocError>
-    ensures { IfOk result (λ read. spec.items_if_ok read ≡ spec.filled (length, values.items)) }
+// Adds zeros to the values until there are `length` cells, from 1 to 4096.
+fn filled(alloc: Global, length: i64, mut values: Vec<i64>) -> Result<Vec<i64>, LineFault>
+    ensures { LineSays (λ cells. cells.items) result (spec.filled (length, values.items)) }
 {
     let Ok(length) = usize::try_from(length) else {
-        return Ok(Err(Code::BadLength));
+        return Err(LineFault::Refused(Code::BadLength));
     };
     if length < 1 || length > MOST_CELLS || values.len() > length {
-        return Ok(Err(Code::BadLength));
+        return Err(LineFault::Refused(Code::BadLength));
     }
-    let mut cells = values;
-    let zeros = vec![in alloc; 0i64; length - cells.len()]?;
-    cells.extend_from_slice(&zeros)?;
-    Ok(Ok(cells))
+    let zeros = vec![in alloc; 0i64; length - values.len()]?;
+    values.extend_from_slice(&zeros)?;
+    Ok(values)
 }
 
-// The cells that a length and values say.
-fn cells_of(alloc: Global, len: &[u8], values: &[u8]) -> Result<Result<Vec<i64>, Code>, AllocError>
-    ensures { IfOk result (λ read. spec.items_if_ok read ≡ spec.cells_of len.now (words_of values.now)) }
+// Reads a length and values as cells.
+fn cells_of(alloc: Global, len: &[u8], values: &[u8]) -> Result<Vec<i64>, LineFault>
+    ensures { LineSays (λ cells. cells.items) result (spec.cells_of len.now (words_of values.now)) }
 {
-    let values = all_numbered(alloc, values)?;
-    match both(numbered(len), values) {
-        Ok((len, values)) => filled(alloc, len, values),
-        Err(code) => Ok(Err(code)),
-    }
+    let (len, values) = joined(numbered(len), all_numbered(alloc, values))?;
+    filled(alloc, len, values)
 }
 
-/// The name and the cells of an array.
-pub(crate) fn array_of(
-    alloc: Global,
-    line: &[u8],
-) -> Result<Result<(&[u8], Vec<i64>), Code>, AllocError>
-    ensures { IfOk result (λ read. spec.array_if_ok read ≡ spec.array_of (words_of line.now)) }
+/// Reads the line of an array: its name and its cells.
+pub(crate) fn array_of(alloc: Global, line: &[u8]) -> Result<(&[u8], Vec<i64>), LineFault>
+    ensures { LineSays (λ a. (a.0.now, a.1.items)) result (spec.array_of (words_of line.now)) }
 {
-    let Some((name, rest)) = split_word(line) else {
-        return Ok(Err(Code::BadLine));
-    };
-    let Some((len, values)) = split_word(rest) else {
-        return Ok(Err(Code::BadLine));
-    };
-    let cells = cells_of(alloc, len, values)?;
-    match both(named(name), cells) {
-        Ok((_, cells)) => Ok(Ok((name, cells))),
-        Err(code) => Ok(Err(code)),
-    }
+    let (name, rest) = split_word(line).ok_or(Code::BadLine)?;
+    let (len, values) = split_word(rest).ok_or(Code::BadLine)?;
+    let (_, cells) = joined(named(name), cells_of(alloc, len, values))?;
+    Ok((name, cells))
 }
 
-// Refuses words of which one is no name, or reserved.
+// Checks that each word is a name. Fails with `Reserved` if any is reserved, else with `BadName`.
 fn all_named(words: &[&[u8]]) -> Result<(), Code>
     ensures { result ≡ spec.all_named (lent words.now) }
 {
@@ -178,56 +176,46 @@ fn all_named(words: &[&[u8]]) -> Result<(), Code>
     if names { Ok(()) } else { Err(Code::BadName) }
 }
 
-/// Whether no word stands there twice.
-pub(crate) fn are_apart(words: &[&[u8]]) -> bool
-    ensures { result ≡ spec.are_apart (lent words.now) }
+/// Returns true if no word is there twice. Each word is looked up in a set, so the time is almost linear.
+pub(crate) fn are_apart(alloc: Global, words: &[&[u8]]) -> Result<bool, AllocError>
+    ensures { IfOk result (λ apart. apart ≡ spec.are_apart (lent words.now)) }
 {
-    for (i, word) in words.iter().enumerate() {
-        let (_, after) = words.split_at(i + 1);
-        if is_among(after, word) {
-            return false;
+    let mut seen = BTreeSet::new(alloc);
+    for word in words {
+        if !seen.insert(*word)? {
+            return Ok(false);
         }
     }
-    true
+    Ok(true)
 }
 
-/// The name of a body, and the locals that its line lists.
+/// Reads the first line of a body: its name and the locals that it lists.
 pub(crate) fn body_of<'a>(
     alloc: Global,
     format: u32,
     line: &'a [u8],
-) -> Result<Result<(&'a [u8], Vec<&'a [u8]>), Code>, AllocError>
-    ensures { IfOk result (λ read. spec.head_if_ok read ≡ spec.body_of format (words_of line.entry.now)) }
+) -> Result<(&'a [u8], Vec<&'a [u8]>), LineFault>
+    ensures { LineSays (λ h. (h.0.now, lent h.1.items)) result (spec.body_of format (words_of line.entry.now)) }
 {
-    let Some((name, rest)) = split_word(line) else {
-        return Ok(Err(Code::BadLine));
-    };
+    let (name, rest) = split_word(line).ok_or(Code::BadLine)?;
     if format == 1 && split_word(rest).is_some() {
-        return Ok(Err(Code::BadLine));
+        return Err(LineFault::Refused(Code::BadLine));
     }
     let locals = words_in(alloc, rest)?;
-    match both(named(name), all_named(&locals)) {
-        Ok(_) => Ok(Ok((name, locals))),
-        Err(code) => Ok(Err(code)),
-    }
+    both(named(name), all_named(&locals))?;
+    Ok((name, locals))
 }
 
-/// The body and the argument of a start line.
+/// Reads a start line: its body and its argument.
 pub(crate) fn start_of(bodies: &[&[u8]], line: &[u8]) -> Result<Start, Code>
     requires { length bodies.now ≤ 65536 }
     ensures { result ≡ spec.start_of (lent bodies.now) (words_of line.now) }
 {
-    let Some((body, rest)) = split_word(line) else {
+    let (body, rest) = split_word(line).ok_or(Code::BadLine)?;
+    let (number, rest) = split_word(rest).ok_or(Code::BadLine)?;
+    if split_word(rest).is_some() {
         return Err(Code::BadLine);
-    };
-    let Some((number, rest)) = split_word(rest) else {
-        return Err(Code::BadLine);
-    };
-    match split_word(rest) {
-        None => match both(body_at(bodies, body), numbered(number)) {
-            Ok((body, arg)) => Ok(Start { body, arg }),
-            Err(code) => Err(code),
-        },
-        Some(_) => Err(Code::BadLine),
     }
+    let (body, arg) = both(body_at(bodies, body), numbered(number))?;
+    Ok(Start { body, arg })
 }

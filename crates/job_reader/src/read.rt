@@ -1,5 +1,6 @@
 //! The text of a job, read.
 ghost use Rattle.std.specs.Prelude.{◌≡◌, ◌≤◌, ◌<◌, ◌+◌, ◌^◌, ◌∷◌, length, true, IsTrue, IfOk, IfErr, MatchResult, Err, List};
+ghost use Rattle.text_lines.specs.Limits.{most_bytes};
 ghost use Rattle.text_lines.specs.Text.{lines_of, words_of};
 ghost use Rattle.task_code.specs.Rules.{is_format};
 ghost use Rattle.job_words.specs.Words.{Word};
@@ -22,13 +23,13 @@ use std::alloc::{AllocError, Global};
 use task_code::job::Job;
 use text_lines::{Code, Refusal, bad_byte_line, first_word, split_line, split_word};
 
-/// The most bytes of a job's text.
+/// The largest number of bytes of a job's text.
 const MOST_BYTES: usize = 1_048_576;
 
-/// The most bodies of a job.
+/// The largest number of bodies of a job.
 const MOST_BODIES: usize = 64;
 
-// Whether a line names a body that isn't there, from its first word and the line behind it.
+// Returns true if a line names a body that isn't there, from its first word and the rest of the line.
 fn is_missing(bodies: &[&[u8]], first: &[u8], rest: &[u8]) -> bool
     ensures { result ≡ spec.is_missing (lent bodies.now) (first.now ∷ words_of rest.now) }
 {
@@ -41,7 +42,7 @@ fn is_missing(bodies: &[&[u8]], first: &[u8], rest: &[u8]) -> bool
     !is_among(bodies, name)
 }
 
-// The bodies of a text, in declared order.
+// Returns the names of a text's bodies, in declared order.
 fn declared<'a>(alloc: Global, text: &'a [u8]) -> Result<Vec<&'a [u8]>, AllocError>
     ensures names { IfOk result (λ names. lent names.items ≡ spec.declared (lines_of text.entry.now)) }
     ensures few { IfOk result (λ names. length names.items ≤ 64) }
@@ -60,7 +61,7 @@ fn declared<'a>(alloc: Global, text: &'a [u8]) -> Result<Vec<&'a [u8]>, AllocErr
 }
 
 impl<'a> State<'a> {
-    // Above the first line behind the header, which says this format.
+    // Returns the state before the first line after the header of this format.
     fn new(alloc: Global, format: u32) -> Self
         ensures { IsAt (nothing format) result }
     {
@@ -82,7 +83,7 @@ impl<'a> State<'a> {
         }
     }
 
-    // One line, of this number.
+    // Reads one line, of this number.
     fn step(
         &mut self,
         alloc: Global,
@@ -99,17 +100,12 @@ impl<'a> State<'a> {
             return Ok(());
         };
         let inside = self.inside.take();
-        match self.so_far.any_line(alloc, bodies, inside, first, rest) {
-            Ok(inside) => {
-                self.inside = inside;
-                self.note_missing(line, is_missing(bodies, first, rest));
-                Ok(())
-            }
-            Err(fault) => Err(fault),
-        }
+        self.inside = self.so_far.any_line(alloc, bodies, inside, first, rest)?;
+        self.note_missing(line, is_missing(bodies, first, rest));
+        Ok(())
     }
 
-    // The job, where no body is open and each that is named is there.
+    // Returns the job, if no body is open and each body that is named is there.
     fn finished(self, line: usize) -> Result<Job, ReadJobFault>
         requires { HasEnd line self }
         ensures { (a : Above) → IsAt a self.entry → Gives job_tree result (spec.finished line a a.inside a.missing) }
@@ -131,7 +127,7 @@ impl<'a> State<'a> {
     }
 }
 
-// The lines behind the header, which says this format, from this number on.
+// Reads the lines after the header of this format, from this number on.
 fn read_lines<'a>(
     alloc: Global,
     format: u32,
@@ -151,20 +147,16 @@ fn read_lines<'a>(
     while let Some((this, after)) = split_line(rest) {
         rest = after;
         match state.step(alloc, bodies, line, this) {
-            Ok(()) => {}
-            Err(LineFault::Refused(code)) => {
-                return Err(ReadJobFault::Text(Refusal { line, code }));
-            }
-            Err(LineFault::Memory) => return Err(ReadJobFault::Memory),
+            Ok(()) => line += 1,
+            Err(fault) => return Err(fault.at(line)),
         }
-        line += 1;
     }
     state.finished(line)
 }
 
-// The format that the header says, the text behind it, and the number of that text's first line.
+// Reads the header: its format, the text after it, and the number of that text's first line.
 fn split_header(text: &[u8]) -> Result<(u32, usize, &[u8]), Refusal>
-    requires { length text.now ≤ 1048576 }
+    requires { length text.now ≤ most_bytes }
     ensures header { MatchResult result
         (λ h. (bodies : List Word) → spec.read_from bodies 1 (lines_of text.now) ≡ spec.read_lines bodies h.1 (nothing h.0) (lines_of h.2.now))
         (λ r. (bodies : List Word) → spec.read_from bodies 1 (lines_of text.now) ≡ Err r) }
@@ -189,7 +181,7 @@ fn split_header(text: &[u8]) -> Result<(u32, usize, &[u8]), Refusal>
     Err(Refusal { line, code })
 }
 
-// The job that a text says, or its first refusal.
+// Reads a text as a job, or returns its first refusal.
 #[tactic(auto, unfolding(crate::specs::Reading::job_in))]
 fn read_text(alloc: Global, text: &[u8]) -> Result<Job, ReadJobFault>
     ensures read { Gives job_tree result (spec.job_in text.now) }
@@ -203,20 +195,15 @@ fn read_text(alloc: Global, text: &[u8]) -> Result<Job, ReadJobFault>
         let code = Code::BadByte;
         return Err(ReadJobFault::Text(Refusal { line, code }));
     }
-    let (format, line, rest) = match split_header(text) {
-        Ok(header) => header,
-        Err(refusal) => return Err(ReadJobFault::Text(refusal)),
-    };
-    let Ok(bodies) = declared(alloc, text) else {
-        return Err(ReadJobFault::Memory);
-    };
+    let (format, line, rest) = split_header(text)?;
+    let bodies = declared(alloc, text)?;
     read_lines(alloc, format, &bodies, rest, line)
 }
 
-/// The job that a text says, or the text's first refusal (own): `TooLong` above 1048576 bytes; then the first byte that
-/// isn't allowed; then the first line that is refused, from the top, and within a line the fault that counts; then
-/// `Unclosed` where the text ends in a body; then the first line that names a body that isn't there. It is looked at for
-/// its length, its bytes and its header before memory is asked for.
+/// Reads a text as a job, or returns its first refusal. The order is: `TooLong` above 1048576 bytes; the first byte that
+/// isn't allowed; the first line that is refused, by its first fault in the order of `job_words::faults`; `Unclosed` if
+/// the text ends in a body; the first line that names a body that isn't there. Checks the length, the bytes and the header
+/// before it allocates.
 ///
 /// ```
 /// let text = b"bsp 1\narray a 1\nbody b\nput a[0] = 7\nend\nstart b 0\n";
@@ -230,8 +217,5 @@ pub fn read_job(alloc: Global, text: &[u8]) -> Result<Job, ReadJobFault>
     ensures grammar { IfOk result (λ job. IsTextOf (job_tree job) (kept (lines_of text.now))) }
     ensures memory { IfErr result (λ fault. fault ≡ ReadJobFault.Memory → BeginsWell text.now) }
 {
-    match read_text(alloc, text) {
-        Ok(job) => Ok(job),
-        Err(fault) => Err(fault),
-    }
+    read_text(alloc, text)
 }

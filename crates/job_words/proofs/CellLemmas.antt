@@ -1,33 +1,5 @@
 -- The brackets of a cell, by their places.
-use Rattle.std.proofs.Common.{
-  ◌≡◌,
-  ◌≢◌,
-  below_more,
-  ℕ,
-  zero,
-  suc,
-  ◌+◌,
-  ◌<◌,
-  ◌≤◌,
-  true,
-  false,
-  nat_eq,
-  List,
-  [],
-  ◌∷◌,
-  length,
-  take,
-  drop,
-  get_or,
-  Option,
-  Some,
-  None,
-  ap,
-  ◌∙◌,
-  sym,
-  refl,
-  arith,
-}
+use Rattle.std.proofs.Common.{◌≡◌, ◌≢◌, below_more, ℕ, zero, suc, ◌+◌, ◌<◌, ◌≤◌, true, false, nat_eq, [], ◌∷◌, length, take, drop, get_or, Option, Some, None, ap, ◌∙◌, sym, refl, arith}
 use Rattle.std.specs.Option.{option_map}
 use Rattle.std.proofs.lemmas.Grind.{common_steps}
 use Rattle.job_words.specs.Words.{Word}

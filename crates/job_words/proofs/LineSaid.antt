@@ -1,30 +1,5 @@
 -- What the words of a line say is written so.
-use Rattle.std.proofs.Common.{
-  ◌≡◌,
-  ℕ,
-  ◌<◌,
-  Bool,
-  true,
-  false,
-  ◌&&◌,
-  List,
-  [],
-  ◌∷◌,
-  ◌++◌,
-  length,
-  Option,
-  Some,
-  None,
-  Result,
-  Ok,
-  Err,
-  refl,
-  sym,
-  ap,
-  subst,
-  ◌∙◌,
-  codes,
-}
+use Rattle.std.proofs.Common.{◌≡◌, ℕ, ◌<◌, Bool, true, false, List, [], ◌∷◌, length, Option, Some, None, Ok, refl, sym, ap, subst, ◌∙◌, codes}
 use Rattle.std.specs.Prelude.{if◌then◌else◌, unwrap_or}
 use Rattle.std.specs.Str.{bytes_eq}
 use Rattle.text_lines.specs.declared.refusal.Code.{Code}
@@ -43,24 +18,7 @@ use Rattle.job_words.specs.declared.lines.Keyword.TheVariants.{Let, Put, Print, 
 use Rattle.job_words.specs.Faults.{both, made, checked}
 use Rattle.job_words.specs.Words.{Word, Words, named, place_from, declared_at, name_at}
 use Rattle.job_words.specs.Exprs.{Names, cell_word, cell_of, expr_words, expr_of}
-use Rattle.job_words.specs.Lines.{
-  keyword_of,
-  line_words,
-  is_equals,
-  body_at,
-  let_line,
-  kind_word,
-  put_line,
-  spawn_line,
-  let_of,
-  put_of,
-  spawn_of,
-  alone,
-  else_of,
-  line_behind,
-  line_names,
-  line_fits,
-}
+use Rattle.job_words.specs.Lines.{keyword_of, line_words, is_equals, body_at, let_line, kind_word, put_line, spawn_line, let_of, put_of, spawn_of, alone, else_of, line_behind, line_fits}
 use Rattle.job_words.proofs.NotedLemmas.{among-none}
 use Rattle.job_words.proofs.SaidLemmas.{
   made-ok,

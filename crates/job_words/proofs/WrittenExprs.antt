@@ -1,41 +1,5 @@
 -- Written expressions and lines are read as themselves.
-use Rattle.std.proofs.Common.{
-  ◌≡◌,
-  ℕ,
-  zero,
-  suc,
-  ◌+◌,
-  ◌<◌,
-  ◌≤◌,
-  ◌^◌,
-  Bool,
-  true,
-  false,
-  ◌&&◌,
-  List,
-  [],
-  ◌∷◌,
-  ◌++◌,
-  length,
-  Option,
-  Some,
-  None,
-  Result,
-  Ok,
-  Err,
-  ℤ,
-  pos,
-  negsuc,
-  FitsSigned,
-  w64,
-  refl,
-  sym,
-  ap,
-  ◌∙◌,
-  arith,
-  codes,
-  nat_eq,
-}
+use Rattle.std.proofs.Common.{◌≡◌, ℕ, suc, ◌<◌, ◌≤◌, ◌^◌, Bool, true, false, ◌&&◌, List, [], ◌∷◌, ◌++◌, length, Some, Result, Ok, ℤ, pos, negsuc, FitsSigned, w64, refl, ap, ◌∙◌, arith, nat_eq}
 use Rattle.std.specs.Prelude.{if◌then◌else◌, not, ◌||◌, ◌==◌}
 use Rattle.std.specs.List.{list_all}
 use Rattle.std.specs.Option.{option_map}
@@ -58,24 +22,7 @@ use Rattle.task_code.specs.declared.code.Expr.{Expr}
 use Rattle.task_code.specs.declared.code.Expr.TheVariants.{One, Two}
 use Rattle.job_words.specs.Faults.{both, made}
 use Rattle.job_words.specs.Words.{Word, begins_number, numbered, or_bad_number, name_at, index_word, index_of}
-use Rattle.job_words.specs.Exprs.{
-  Names,
-  at_end,
-  index_part,
-  cell_parts,
-  cell_word,
-  cell_at,
-  cell_from,
-  cell_of,
-  has_bracket,
-  operand_word,
-  operand_of,
-  operator_word,
-  operator_of,
-  expr_words,
-  expr_of,
-  two,
-}
+use Rattle.job_words.specs.Exprs.{Names, index_part, cell_parts, cell_word, cell_at, cell_from, cell_of, has_bracket, operand_word, operand_of, operator_word, operator_of, expr_words, expr_of, two}
 use Rattle.job_words.proofs.SaidLemmas.{and-true}
 use Rattle.job_words.proofs.GrowLemmas.{and-left, and-right}
 use Rattle.job_words.proofs.WrittenLemmas.{names-free, declared-written, local-written, arg-written, step-written, operator-written}

@@ -1,24 +1,5 @@
 -- Cells and expressions as words (own).
-use Rattle.std.specs.Prelude.{
-  ℕ,
-  Bool,
-  true,
-  false,
-  ◌||◌,
-  ◌==◌,
-  if◌then◌else◌,
-  List,
-  [],
-  ◌∷◌,
-  ◌++◌,
-  codes,
-  Option,
-  Some,
-  None,
-  Result,
-  Ok,
-  Err,
-}
+use Rattle.std.specs.Prelude.{ℕ, Bool, false, ◌||◌, ◌==◌, if◌then◌else◌, List, [], ◌∷◌, ◌++◌, codes, Option, Some, None, Result, Ok, Err}
 use Rattle.std.specs.Option.{option_map}
 use Rattle.std.specs.Str.{bytes_eq}
 use Rattle.text_lines.specs.declared.refusal.Code.{Code}
@@ -140,16 +121,12 @@ two p = Two p.0.0 p.0.1 p.1
 
 -- the expression that words say
 abbrev pub expr_of : Names → Words → Result Expr Code
-expr_of s [] = Err BadLine
 expr_of s (a ∷ []) = made One (operand_of s a)
-expr_of s (a ∷ op ∷ []) = Err BadLine
 expr_of s (a ∷ op ∷ b ∷ []) = made two (both (both (operand_of s a) (operator_of op)) (operand_of s b))
-expr_of s (a ∷ op ∷ b ∷ c ∷ ws) = Err BadLine
+expr_of s _ = Err BadLine
 
 -- the locals that the words of an expression mention
 abbrev pub in_expr : Words → List Word
-in_expr [] = []
 in_expr (a ∷ []) = in_operand a
-in_expr (a ∷ op ∷ []) = []
 in_expr (a ∷ op ∷ b ∷ []) = in_operand a ++ in_operand b
-in_expr (a ∷ op ∷ b ∷ c ∷ ws) = []
+in_expr _ = []

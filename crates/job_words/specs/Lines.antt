@@ -1,4 +1,4 @@
--- Lines of a body as words (own).
+-- Lines of a body as words.
 use Rattle.std.specs.Prelude.{
   ℕ,
   Bool,
@@ -61,16 +61,8 @@ keyword_of w =
 
 -- whether format 1 has lines that begin so: it has no `add`
 abbrev pub is_of_first : Keyword → Bool
-is_of_first Let = true
 is_of_first (Put kind) = is_set kind
-is_of_first Print = true
-is_of_first Spawn = true
-is_of_first Sync = true
-is_of_first Stop = true
-is_of_first If = true
-is_of_first Else = true
-is_of_first While = true
-is_of_first End = true
+is_of_first _ = true
 
 -- the first words of lines in a body that a format has
 abbrev pub known_in : ℕ → Option Keyword → Option Keyword
@@ -81,7 +73,7 @@ abbrev pub kind_word : PutKind → Word
 kind_word Set = codes "put"
 kind_word Add = codes "add"
 
--- how lines are written; the ends of an `if` and of a `while` look alike, and jumps aren't written
+-- how lines are written; the ends of an `if` and of a `while` are the same word, and jumps aren't written
 abbrev pub action_words : Names → Action → Words
 action_words s (action.Let i e) = codes "let" ∷ name_at s.locals i ∷ codes "=" ∷ expr_words s e
 action_words s (action.Put kind c e) = kind_word kind ∷ cell_word s c ∷ codes "=" ∷ expr_words s e
@@ -104,7 +96,7 @@ line_words s (line.EndWhile e n) = end_words
 abbrev pub is_equals : Word → Result (Unit {0}) Code
 is_equals w = checked (bytes_eq w (codes "=")) BadLine
 
--- the place of a body; one that isn't there is looked for when the text has ended
+-- the place of a body, or 0 if there is none: the reader checks that at the end of the text
 abbrev pub body_at : List Word → Word → Result ℕ Code
 body_at bodies w = made (λ _. unwrap_or (place_from 0 bodies w) 0) (named w)
 
@@ -118,14 +110,12 @@ abbrev pub spawn_line : ℕ × Expr → Line
 spawn_line p = line.Do (action.Spawn p.0 p.1)
 
 abbrev pub let_of : Names → Words → Result Line Code
-let_of s [] = Err BadLine
-let_of s (name ∷ []) = Err BadLine
 let_of s (name ∷ is ∷ ws) = made let_line (both (both (is_equals is) (declared_at s.locals name)) (expr_of s ws))
+let_of s _ = Err BadLine
 
 abbrev pub put_of : Names → PutKind → Words → Result Line Code
-put_of s kind [] = Err BadLine
-put_of s kind (cell ∷ []) = Err BadLine
 put_of s kind (cell ∷ is ∷ ws) = made (put_line kind) (both (both (cell_of s cell) (is_equals is)) (expr_of s ws))
+put_of s kind _ = Err BadLine
 
 abbrev pub spawn_of : Names → Words → Result Line Code
 spawn_of s [] = Err BadLine
@@ -136,11 +126,11 @@ abbrev pub alone : Line → Words → Result Line Code
 alone l [] = Ok l
 alone l (w ∷ ws) = Err BadLine
 
--- an `else`, where one may stand
+-- an `else`, if one fits here
 abbrev pub else_of : Bool → Words → Result Line Code
 else_of fits ws = made (λ p. p.1) (both (checked fits BadNesting) (alone (line.Else 0) ws))
 
--- a line in a body, behind its first word; whether an `else` may stand here
+-- a line in a body, from its keyword and the words after it; `fits` says whether an `else` may be here
 unfoldable pub line_behind : Names → Bool → Option Keyword → Words → Result Line Code
 line_behind s fits None ws = Err UnknownLine
 line_behind s fits (Some Let) ws = let_of s ws
@@ -160,14 +150,12 @@ line_of s fits [] = Err UnknownLine
 line_of s fits (k ∷ ws) = line_behind s fits (keyword_of k) ws
 
 abbrev pub in_let : Words → List Word
-in_let [] = []
-in_let (name ∷ []) = []
 in_let (name ∷ is ∷ ws) = name ∷ in_expr ws
+in_let _ = []
 
 abbrev pub in_put : Words → List Word
-in_put [] = []
-in_put (cell ∷ []) = []
 in_put (cell ∷ is ∷ ws) = in_operand cell ++ in_expr ws
+in_put _ = []
 
 abbrev pub in_spawn : Words → List Word
 in_spawn [] = []
@@ -175,31 +163,25 @@ in_spawn (body ∷ ws) = in_expr ws
 
 -- the locals that a line mentions, from left to right
 unfoldable pub mentions_behind : Option Keyword → Words → List Word
-mentions_behind None ws = []
 mentions_behind (Some Let) ws = in_let ws
 mentions_behind (Some (Put kind)) ws = in_put ws
 mentions_behind (Some Print) ws = in_expr ws
 mentions_behind (Some Spawn) ws = in_spawn ws
-mentions_behind (Some Sync) ws = []
-mentions_behind (Some Stop) ws = []
 mentions_behind (Some If) ws = in_expr ws
-mentions_behind (Some Else) ws = []
 mentions_behind (Some While) ws = in_expr ws
-mentions_behind (Some End) ws = []
+mentions_behind _ ws = []
 
 abbrev pub mentions_of : Words → List Word
 mentions_of [] = []
 mentions_of (k ∷ ws) = mentions_behind (keyword_of k) ws
 
--- the arrays and bodies that a line names are among the first so many; the end of a loop doesn't say its test again
+-- the arrays and bodies that a line names are among the first `n` and `m`; the end of a loop doesn't repeat its test
 abbrev pub line_names : ℕ → ℕ → Line → Bool
 line_names n m (line.Do a) = is_action n m a
 line_names n m (line.If e j) = is_expr n e
-line_names n m (line.Else j) = true
-line_names n m line.EndIf = true
 line_names n m (line.While e j) = is_expr n e
-line_names n m (line.EndWhile e j) = true
+line_names n m _ = true
 
--- and the locals too
+-- the arrays, bodies and locals that a line names are there
 abbrev pub line_fits : Names → Line → Bool
 line_fits s l = line_names (length s.arrays) (length s.bodies) l && list_all (λ i. nat_lt i (length s.locals)) (in_line l)

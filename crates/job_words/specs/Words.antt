@@ -1,29 +1,5 @@
 -- Names, numbers and indices as words (own).
-use Rattle.std.specs.Prelude.{
-  ℕ,
-  ◌+◌,
-  Bool,
-  false,
-  ◌||◌,
-  ◌==◌,
-  nat_le,
-  ◌&&◌,
-  if◌then◌else◌,
-  List,
-  [],
-  ◌∷◌,
-  ◌++◌,
-  codes,
-  Option,
-  Some,
-  None,
-  Result,
-  Ok,
-  Err,
-  slice_get,
-  unwrap_or,
-  ℤ,
-}
+use Rattle.std.specs.Prelude.{ℕ, ◌+◌, ◌||◌, if◌then◌else◌, List, [], ◌∷◌, ◌++◌, codes, Option, Some, None, Result, Ok, Err, slice_get, unwrap_or, ℤ}
 use Rattle.std.specs.Fmt.{signed_decimal}
 use Rattle.std.specs.Str.{bytes_eq}
 use Rattle.text_lines.specs.declared.refusal.Code.{Code}

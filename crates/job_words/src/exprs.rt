@@ -11,15 +11,15 @@ use text_lines::Code;
 /// The names that a line may use.
 #[derive(Clone, Copy)]
 pub struct Scope<'a> {
-    /// The arrays above it, in declared order.
+    /// The arrays declared above the line, in declared order.
     pub arrays: &'a [&'a [u8]],
     /// The bodies of the text, in declared order.
     pub bodies: &'a [&'a [u8]],
-    /// The locals of its body, by first mention.
+    /// The locals of the line's body, by first mention.
     pub locals: &'a [&'a [u8]],
 }
 
-// What stands in front of a bracket that closes a word, where there is no other bracket.
+// Returns what precedes the closing bracket, if that ends the word and there is no other bracket.
 #[tactic(auto, using(crate::proofs::CellLemmas::index_steps))]
 fn index_part(rest: &[u8]) -> Option<&[u8]>
     ensures { MatchOption result (spec.index_part rest.now ≡ None) (λ i. spec.index_part rest.now ≡ Some i.now) }
@@ -39,7 +39,7 @@ fn index_part(rest: &[u8]) -> Option<&[u8]>
     None
 }
 
-/// The name and the index of a cell, where a word has one `[` and one `]` and ends in the latter.
+/// Splits a word into the name and the index of a cell, if it has one `[` and one `]` and ends in the latter.
 #[tactic(auto, using(crate::proofs::CellLemmas::cell_steps))]
 pub fn cell_parts(word: &[u8]) -> Option<(&[u8], &[u8])>
     ensures { MatchOption result (spec.cell_parts word.now ≡ None) (λ p. spec.cell_parts word.now ≡ Some (p.0.now, p.1.now)) }
@@ -51,16 +51,14 @@ pub fn cell_parts(word: &[u8]) -> Option<(&[u8], &[u8])>
         if *byte == b'[' {
             let (name, rest) = word.split_at(i);
             let (_, rest) = rest.split_at(1);
-            return match index_part(rest) {
-                Some(index) => Some((name, index)),
-                None => None,
-            };
+            let index = index_part(rest)?;
+            return Some((name, index));
         }
     }
     None
 }
 
-/// Whether a word is meant as a cell.
+/// Returns true if a word has a `[` and so is meant as a cell.
 pub fn has_bracket(word: &[u8]) -> bool
     ensures { result ≡ spec.has_bracket word.now }
 {
@@ -74,7 +72,7 @@ pub fn has_bracket(word: &[u8]) -> bool
     false
 }
 
-/// The cell that a word says.
+/// Reads a word as a cell.
 #[tactic(auto, unfolding(crate::specs::Exprs::cell_of))]
 pub fn cell_of(scope: &Scope<'_>, word: &[u8]) -> Result<Cell, Code>
     requires arrays { length scope.now.arrays.now ≤ 65536 }
@@ -84,19 +82,17 @@ pub fn cell_of(scope: &Scope<'_>, word: &[u8]) -> Result<Cell, Code>
     let Some((name, index)) = cell_parts(word) else {
         return Err(Code::BadLine);
     };
-    match both(
+    let (array, index) = both(
         declared_at(scope.arrays, name),
         index_of(scope.locals, index),
-    ) {
-        Ok((array, index)) => Ok(Cell {
-            array: array as u16,
-            index,
-        }),
-        Err(code) => Err(code),
-    }
+    )?;
+    Ok(Cell {
+        array: array as u16,
+        index,
+    })
 }
 
-/// The operand that a word says.
+/// Reads a word as an operand: a cell or an index.
 #[tactic(auto, unfolding(crate::specs::Exprs::operand_of))]
 pub fn operand_of(scope: &Scope<'_>, word: &[u8]) -> Result<Operand, Code>
     requires arrays { length scope.now.arrays.now ≤ 65536 }
@@ -104,19 +100,13 @@ pub fn operand_of(scope: &Scope<'_>, word: &[u8]) -> Result<Operand, Code>
     ensures { result ≡ spec.operand_of (names_in scope.now) word.now }
 {
     if has_bracket(word) {
-        match cell_of(scope, word) {
-            Ok(cell) => Ok(Operand::Cell(cell)),
-            Err(code) => Err(code),
-        }
+        Ok(Operand::Cell(cell_of(scope, word)?))
     } else {
-        match index_of(scope.locals, word) {
-            Ok(index) => Ok(Operand::Plain(index)),
-            Err(code) => Err(code),
-        }
+        Ok(Operand::Plain(index_of(scope.locals, word)?))
     }
 }
 
-/// The operator that a word says.
+/// Reads a word as an operator.
 #[tactic(auto, unfolding(crate::specs::Exprs::operator_of))]
 pub fn operator_of(word: &[u8]) -> Result<Operator, Code>
     ensures { result ≡ spec.operator_of word.now }
@@ -144,30 +134,25 @@ pub fn operator_of(word: &[u8]) -> Result<Operator, Code>
     }
 }
 
-// An operator between two operands.
+// Reads an operator between two operands.
 fn two_of(scope: &Scope<'_>, a: &[u8], op: &[u8], b: &[u8]) -> Result<Expr, Code>
     requires arrays { length scope.now.arrays.now ≤ 65536 }
     requires locals { length scope.now.locals.now ≤ 256 }
     ensures { result ≡ spec.expr_of (names_in scope.now) (a.now ∷ op.now ∷ b.now ∷ []) }
 {
     let front = both(operand_of(scope, a), operator_of(op));
-    match both(front, operand_of(scope, b)) {
-        Ok(((a, op), b)) => Ok(Expr::Two(a, op, b)),
-        Err(code) => Err(code),
-    }
+    let ((a, op), b) = both(front, operand_of(scope, b))?;
+    Ok(Expr::Two(a, op, b))
 }
 
-/// The expression that words say.
+/// Reads words as an expression: an operand, or an operator between two.
 pub fn expr_of(scope: &Scope<'_>, words: &[&[u8]]) -> Result<Expr, Code>
     requires arrays { length scope.now.arrays.now ≤ 65536 }
     requires locals { length scope.now.locals.now ≤ 256 }
     ensures { result ≡ spec.expr_of (names_in scope.now) (lent words.now) }
 {
     match words {
-        [a] => match operand_of(scope, a) {
-            Ok(a) => Ok(Expr::One(a)),
-            Err(code) => Err(code),
-        },
+        [a] => Ok(Expr::One(operand_of(scope, a)?)),
         [a, op, b] => two_of(scope, a, op, b),
         _ => Err(Code::BadLine),
     }

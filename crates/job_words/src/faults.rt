@@ -1,10 +1,10 @@
-//! Of several faults of a line the one that counts.
+//! Chooses which of several faults of a line to report.
 ghost use Rattle.std.specs.Prelude.{◌≡◌, Ok, Err};
 ghost use Rattle.job_words.specs.Faults as spec;
 
 use text_lines::Code;
 
-// The place of a fault in the order in which the faults of a line count.
+// Returns the rank of a fault. Of a line's faults the one of the lowest rank is reported.
 fn rank(code: Code) -> u8
     ensures { result ≡ spec.rank code }
 {
@@ -26,16 +26,16 @@ fn rank(code: Code) -> u8
     }
 }
 
-/// Of two faults of a line the one that counts: a line that isn't known, an `else` without its `if`, words too few,
-/// too many or misplaced, a reserved word, no name, no number, a length, a name that isn't there, a name that was there
-/// before, a limit, in this order (own).
+/// Returns the one of two faults of a line that is reported. The order is: unknown line, `else` without its `if`, too few,
+/// too many or misplaced words, reserved word, not a name, not a number, bad length, unknown name, name declared twice,
+/// limit.
 pub fn earlier(a: Code, b: Code) -> Code
     ensures { result ≡ spec.earlier a b }
 {
     if rank(a) <= rank(b) { a } else { b }
 }
 
-/// Two parts of a line, wherever they stand: both, or of their faults the one that counts.
+/// Joins two parts of a line. Returns both, or the fault to report if either failed.
 pub fn both<A: Drop, B: Drop>(a: Result<A, Code>, b: Result<B, Code>) -> Result<(A, B), Code>
     ensures { result ≡ spec.both a b }
 {

@@ -35,7 +35,7 @@ pub enum Keyword {
     End,
 }
 
-/// The keyword that a word is, if it begins a line in a body.
+/// Reads a word as the first word of a line in a body.
 #[tactic(auto, unfolding(crate::specs::Lines::keyword_of))]
 pub fn keyword_of(word: &[u8]) -> Option<Keyword>
     ensures { result ≡ spec.keyword_of word.now }
@@ -67,7 +67,7 @@ pub fn keyword_of(word: &[u8]) -> Option<Keyword>
     }
 }
 
-// Whether lines of format 1 begin so.
+// Returns true if lines of format 1 may begin with the keyword.
 fn is_of_first(keyword: Keyword) -> bool
     ensures { result ≡ spec.is_of_first keyword }
 {
@@ -80,7 +80,7 @@ fn is_of_first(keyword: Keyword) -> bool
     }
 }
 
-/// The keyword, if the format has lines that begin so: format 1 has no `add`.
+/// Returns the keyword if the format has it: format 1 has no `add`.
 pub fn known_in(format: u32, keyword: Option<Keyword>) -> Option<Keyword>
     ensures { result ≡ spec.known_in format keyword }
 {
@@ -92,7 +92,7 @@ pub fn known_in(format: u32, keyword: Option<Keyword>) -> Option<Keyword>
     }
 }
 
-// Refuses a word that is no equals sign.
+// Checks that a word is an equals sign.
 fn is_equals(word: &[u8]) -> Result<(), Code>
     ensures { result ≡ spec.is_equals word.now }
 {
@@ -103,18 +103,17 @@ fn is_equals(word: &[u8]) -> Result<(), Code>
     }
 }
 
-/// The place of a body, from 0; 0 too where no body has the name, which is looked for when the text has ended.
+/// Returns the place of a body, from 0. Returns 0 too if no body has the name: the reader checks that at the end of the
+/// text.
 pub fn body_at(bodies: &[&[u8]], word: &[u8]) -> Result<u16, Code>
     requires { length bodies.now ≤ 65536 }
     ensures { result ≡ spec.body_at (lent bodies.now) word.now }
 {
-    match named(word) {
-        Ok(()) => Ok(place(bodies, word).unwrap_or(0) as u16),
-        Err(code) => Err(code),
-    }
+    named(word)?;
+    Ok(place(bodies, word).unwrap_or(0) as u16)
 }
 
-// What the words behind `let` say.
+// Reads the words after `let`.
 fn let_of(scope: &Scope<'_>, words: &[&[u8]]) -> Result<Line, Code>
     requires arrays { length scope.now.arrays.now ≤ 65536 }
     requires locals { length scope.now.locals.now ≤ 256 }
@@ -127,13 +126,11 @@ fn let_of(scope: &Scope<'_>, words: &[&[u8]]) -> Result<Line, Code>
         return Err(Code::BadLine);
     };
     let front = both(is_equals(is), declared_at(scope.locals, name));
-    match both(front, expr_of(scope, rest)) {
-        Ok(((_, local), expr)) => Ok(Line::Do(Action::Let(local as u8, expr))),
-        Err(code) => Err(code),
-    }
+    let ((_, local), expr) = both(front, expr_of(scope, rest))?;
+    Ok(Line::Do(Action::Let(local as u8, expr)))
 }
 
-// What the words behind `put` or `add` say.
+// Reads the words after `put` or `add`.
 fn put_of(scope: &Scope<'_>, kind: PutKind, words: &[&[u8]]) -> Result<Line, Code>
     requires arrays { length scope.now.arrays.now ≤ 65536 }
     requires locals { length scope.now.locals.now ≤ 256 }
@@ -146,13 +143,11 @@ fn put_of(scope: &Scope<'_>, kind: PutKind, words: &[&[u8]]) -> Result<Line, Cod
         return Err(Code::BadLine);
     };
     let front = both(cell_of(scope, cell), is_equals(is));
-    match both(front, expr_of(scope, rest)) {
-        Ok(((cell, _), expr)) => Ok(Line::Do(Action::Put(kind, cell, expr))),
-        Err(code) => Err(code),
-    }
+    let ((cell, _), expr) = both(front, expr_of(scope, rest))?;
+    Ok(Line::Do(Action::Put(kind, cell, expr)))
 }
 
-// What the words behind `spawn` say.
+// Reads the words after `spawn`.
 fn spawn_of(scope: &Scope<'_>, words: &[&[u8]]) -> Result<Line, Code>
     requires arrays { length scope.now.arrays.now ≤ 65536 }
     requires bodies { length scope.now.bodies.now ≤ 65536 }
@@ -162,13 +157,11 @@ fn spawn_of(scope: &Scope<'_>, words: &[&[u8]]) -> Result<Line, Code>
     let Some((body, rest)) = take_word(words) else {
         return Err(Code::BadLine);
     };
-    match both(body_at(scope.bodies, body), expr_of(scope, rest)) {
-        Ok((body, expr)) => Ok(Line::Do(Action::Spawn(body, expr))),
-        Err(code) => Err(code),
-    }
+    let (body, expr) = both(body_at(scope.bodies, body), expr_of(scope, rest))?;
+    Ok(Line::Do(Action::Spawn(body, expr)))
 }
 
-// A line of one word.
+// Returns a line of one word, if no word follows.
 fn alone(line: Line, words: &[&[u8]]) -> Result<Line, Code>
     ensures { result ≡ spec.alone line (lent words.now) }
 {
@@ -178,19 +171,17 @@ fn alone(line: Line, words: &[&[u8]]) -> Result<Line, Code>
     }
 }
 
-// An `else`, where one may stand.
+// Returns an `else`. Fails with `BadNesting` if none fits here.
 fn else_of(fits: bool, words: &[&[u8]]) -> Result<Line, Code>
     ensures { result ≡ spec.else_of fits (lent words.now) }
 {
     let nested = if fits { Ok(()) } else { Err(Code::BadNesting) };
-    match both(nested, alone(Line::Else(0), words)) {
-        Ok((_, line)) => Ok(line),
-        Err(code) => Err(code),
-    }
+    let (_, line) = both(nested, alone(Line::Else(0), words))?;
+    Ok(line)
 }
 
-/// A line in a body by its first word and the words behind it; `fits` tells whether an `else` may stand here. Jumps
-/// are left at 0.
+/// Reads a line in a body from its keyword and the words after it. `fits` is true if an `else` may be here. Leaves jumps
+/// at 0.
 #[tactic(auto, unfolding(crate::specs::Lines::line_behind))]
 pub fn line_behind(
     scope: &Scope<'_>,
@@ -209,22 +200,13 @@ pub fn line_behind(
     match keyword {
         Keyword::Let => let_of(scope, words),
         Keyword::Put(kind) => put_of(scope, kind, words),
-        Keyword::Print => match expr_of(scope, words) {
-            Ok(expr) => Ok(Line::Do(Action::Print(expr))),
-            Err(code) => Err(code),
-        },
+        Keyword::Print => Ok(Line::Do(Action::Print(expr_of(scope, words)?))),
         Keyword::Spawn => spawn_of(scope, words),
         Keyword::Sync => alone(Line::Do(Action::Sync), words),
         Keyword::Stop => alone(Line::Do(Action::Stop), words),
-        Keyword::If => match expr_of(scope, words) {
-            Ok(test) => Ok(Line::If(test, 0)),
-            Err(code) => Err(code),
-        },
+        Keyword::If => Ok(Line::If(expr_of(scope, words)?, 0)),
         Keyword::Else => else_of(fits, words),
-        Keyword::While => match expr_of(scope, words) {
-            Ok(test) => Ok(Line::While(test, 0)),
-            Err(code) => Err(code),
-        },
+        Keyword::While => Ok(Line::While(expr_of(scope, words)?, 0)),
         Keyword::End => alone(Line::EndIf, words),
     }
 }

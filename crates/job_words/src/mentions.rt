@@ -11,8 +11,8 @@ use crate::words::{is_word, place, take_word};
 use std::alloc::AllocError;
 use text_lines::begins_number;
 
+// Notes a local: adds it at the end, unless it is there.
 #[tactic(auto, using(crate::proofs::NotedLemmas::note_steps))]
-// Notes a local, behind those that are there if it is new.
 fn note<'a>(locals: &mut Vec<&'a [u8]>, word: &'a [u8]) -> Result<(), AllocError>
     ensures noted { OnOk result (lent locals.new.items ≡ words.noted (lent locals.old.items) (word.entry.now ∷ [])) }
     ensures few { OnOk result (length locals.new.items ≤ length locals.old.items + 1) }
@@ -65,6 +65,7 @@ fn note_two<'a>(locals: &mut Vec<&'a [u8]>, a: &'a [u8], b: &'a [u8]) -> Result<
     Ok(())
 }
 
+// Notes the locals that the words of an expression mention.
 fn note_expr<'a>(locals: &mut Vec<&'a [u8]>, line: &[&'a [u8]]) -> Result<(), AllocError>
     ensures noted { OnOk result (lent locals.new.items ≡ words.noted (lent locals.old.items) (exprs.in_expr (lent line.entry.now))) }
     ensures few { OnOk result (length locals.new.items ≤ length locals.old.items + 2) }
@@ -76,6 +77,7 @@ fn note_expr<'a>(locals: &mut Vec<&'a [u8]>, line: &[&'a [u8]]) -> Result<(), Al
     }
 }
 
+// Notes the locals that the words after `let` mention.
 #[tactic(auto, using(crate::proofs::NotedLemmas::noted_steps))]
 fn note_let<'a>(locals: &mut Vec<&'a [u8]>, line: &[&'a [u8]]) -> Result<(), AllocError>
     ensures noted { OnOk result (lent locals.new.items ≡ words.noted (lent locals.old.items) (lines.in_let (lent line.entry.now))) }
@@ -92,6 +94,7 @@ fn note_let<'a>(locals: &mut Vec<&'a [u8]>, line: &[&'a [u8]]) -> Result<(), All
     Ok(())
 }
 
+// Notes the locals that the words after `put` or `add` mention.
 #[tactic(auto, using(crate::proofs::NotedLemmas::noted_steps))]
 fn note_put<'a>(locals: &mut Vec<&'a [u8]>, line: &[&'a [u8]]) -> Result<(), AllocError>
     ensures noted { OnOk result (lent locals.new.items ≡ words.noted (lent locals.old.items) (lines.in_put (lent line.entry.now))) }
@@ -108,6 +111,7 @@ fn note_put<'a>(locals: &mut Vec<&'a [u8]>, line: &[&'a [u8]]) -> Result<(), All
     Ok(())
 }
 
+// Notes the locals that the words after `spawn` mention.
 fn note_spawn<'a>(locals: &mut Vec<&'a [u8]>, line: &[&'a [u8]]) -> Result<(), AllocError>
     ensures noted { OnOk result (lent locals.new.items ≡ words.noted (lent locals.old.items) (lines.in_spawn (lent line.entry.now))) }
     ensures few { OnOk result (length locals.new.items ≤ length locals.old.items + 2) }
@@ -118,7 +122,7 @@ fn note_spawn<'a>(locals: &mut Vec<&'a [u8]>, line: &[&'a [u8]]) -> Result<(), A
     note_expr(locals, rest)
 }
 
-/// Notes the locals that the words behind a keyword mention, each new one behind those that are there.
+/// Notes the locals that the words after a keyword mention: adds each new one at the end.
 #[tactic(auto, unfolding(crate::specs::Lines::mentions_behind))]
 pub fn note_behind<'a>(
     locals: &mut Vec<&'a [u8]>,

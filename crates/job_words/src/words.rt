@@ -11,14 +11,14 @@ use task_code::code::Index;
 use task_code::names::{is_name, is_reserved};
 use text_lines::{Code, begins_number, number};
 
-/// Whether two words are the same.
+/// Returns true if two words are the same.
 pub fn is_word(word: &[u8], other: &[u8]) -> bool
     ensures { result ≡ bytes_eq word.now other.now }
 {
     word == other
 }
 
-/// The first word of a line, and the words behind it.
+/// Splits off the first word of a line. Returns `None` if there is no word.
 pub fn take_word<'a, 'b>(words: &'b [&'a [u8]]) -> Option<(&'a [u8], &'b [&'a [u8]])>
     ensures { MatchOption result (lent words.entry.now ≡ []) (λ r. lent words.entry.now ≡ r.0.now ∷ lent r.1.now) }
 {
@@ -28,7 +28,7 @@ pub fn take_word<'a, 'b>(words: &'b [&'a [u8]]) -> Option<(&'a [u8], &'b [&'a [u
     }
 }
 
-/// Refuses a word that an array, a body or a local can't be called by.
+/// Checks that an array, a body or a local may have this name. Fails with `Reserved` or `BadName`.
 pub fn named(word: &[u8]) -> Result<(), Code>
     ensures { result ≡ spec.named word.now }
 {
@@ -41,18 +41,15 @@ pub fn named(word: &[u8]) -> Result<(), Code>
     }
 }
 
-/// The number that a word writes, of 64 signed bits.
+/// Returns the number of 64 signed bits that a word writes. Fails with `BadNumber`.
 pub fn numbered(word: &[u8]) -> Result<i64, Code>
     ensures number { result ≡ spec.numbered word.now }
     ensures fits { IfOk result (λ n. FitsSigned w64 n) }
 {
-    match number(word) {
-        Some(n) => Ok(n),
-        None => Err(Code::BadNumber),
-    }
+    number(word).ok_or(Code::BadNumber)
 }
 
-/// The place of a name among others, from 0.
+/// Returns the place of the first of the names that is this word, from 0.
 pub fn place(names: &[&[u8]], word: &[u8]) -> Option<usize>
     ensures place { result ≡ spec.place_from 0 (lent names.now) word.now }
     ensures within { IfSome result (λ i. i < length names.now) }
@@ -65,7 +62,7 @@ pub fn place(names: &[&[u8]], word: &[u8]) -> Option<usize>
     None
 }
 
-/// Whether a name is among others.
+/// Returns true if one of the names is this word.
 #[tactic(auto, using(crate::proofs::NotedLemmas::among_steps))]
 pub fn is_among(names: &[&[u8]], word: &[u8]) -> bool
     ensures { result ≡ is_among (lent names.now) word.now }
@@ -76,32 +73,24 @@ pub fn is_among(names: &[&[u8]], word: &[u8]) -> bool
     }
 }
 
-/// The place of a name among those that are declared.
+/// Returns the place of a word among the declared names. Fails with `Reserved`, `BadName` or `UnknownName`.
 pub fn declared_at(names: &[&[u8]], word: &[u8]) -> Result<usize, Code>
     ensures place { result ≡ spec.declared_at (lent names.now) word.now }
     ensures within { IfOk result (λ i. i < length names.now) }
 {
-    let known = match place(names, word) {
-        Some(i) => Ok(i),
-        None => Err(Code::UnknownName),
-    };
-    match both(named(word), known) {
-        Ok((_, i)) => Ok(i),
-        Err(code) => Err(code),
-    }
+    let known = place(names, word).ok_or(Code::UnknownName);
+    let (_, i) = both(named(word), known)?;
+    Ok(i)
 }
 
-/// The index that a word says.
+/// Reads a word as an index: a number, `arg`, `step` or a local.
 #[tactic(auto, unfolding(crate::specs::Words::index_of))]
 pub fn index_of(locals: &[&[u8]], word: &[u8]) -> Result<Index, Code>
     requires { length locals.now ≤ 256 }
     ensures { result ≡ spec.index_of (lent locals.now) word.now }
 {
     if begins_number(word) {
-        return match numbered(word) {
-            Ok(n) => Ok(Index::Number(n)),
-            Err(code) => Err(code),
-        };
+        return Ok(Index::Number(numbered(word)?));
     }
     if is_word(word, b"arg") {
         return Ok(Index::Arg);
@@ -109,8 +98,6 @@ pub fn index_of(locals: &[&[u8]], word: &[u8]) -> Result<Index, Code>
     if is_word(word, b"step") {
         return Ok(Index::Step);
     }
-    match declared_at(locals, word) {
-        Ok(i) => Ok(Index::Local(i as u8)),
-        Err(code) => Err(code),
-    }
+    let local = declared_at(locals, word)?;
+    Ok(Index::Local(local as u8))
 }

@@ -11,13 +11,16 @@ use devices::{CountedWrite, write_all};
 use itoa::{Buffer, Integer};
 use std::alloc::{AllocError, Global};
 use superstep_memory::arrays::Arrays;
+use thiserror::Error;
 
 /// Why a report was not written.
-#[derive(Clone, Copy, Debug, PartialEq, Eq)]
+#[derive(Clone, Copy, Debug, PartialEq, Eq, Error)]
 pub enum WriteFault {
-    /// The device failed, and a beginning of the text was written.
+    /// The device failed after a beginning of the text was written. A caller reports it and writes no more.
+    #[error("write failed")]
     Write,
-    /// There was no memory, and nothing was written.
+    /// An allocation failed, and nothing was written. A caller reports it.
+    #[error("out of memory")]
     Memory,
 }
 

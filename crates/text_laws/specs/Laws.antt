@@ -1,5 +1,6 @@
 -- Which texts are a job's, and that they are read as it.
 use Rattle.std.specs.Prelude.{◌≡◌, ◌≤◌, ◌↔◌, ◌⊎◌, ℕ, List, length, None, Ok}
+use Rattle.text_lines.specs.Limits.{most_bytes}
 use Rattle.text_lines.specs.Text.{lines_of, bad_byte_line}
 use Rattle.job_reader.specs.Trees.{JobTree}
 use Rattle.job_reader.specs.Grammar.{kept, canonical_text, IsTextOf}
@@ -9,7 +10,7 @@ use Rattle.job_reader.specs.Reading.{job_in}
 
 -- A text of a job is short, each of its bytes is allowed, and its lines that aren't skipped are the job's as they are written.
 pub record IsTextOfJob (j : JobTree) (text : List ℕ) : Type 0 where
-  pub short : length text ≤ 1048576
+  pub short : length text ≤ most_bytes
   pub clean : bad_byte_line 1 text ≡ None
   pub job : IsJobTree j
   pub written : IsTextOf j (kept (lines_of text))
@@ -36,7 +37,7 @@ EachTextIsOneJobsOrRefused = (text : List ℕ) → (IsAJobs text ⊎ IsRefused t
 
 -- The canonical text of a job, where it is short, is read as that job.
 abbrev pub CanonicalTextsAreRead : Type 0
-CanonicalTextsAreRead = (j : JobTree) → IsJobTree j → length (canonical_text j) ≤ 1048576 → job_in (canonical_text j) ≡ Ok j
+CanonicalTextsAreRead = (j : JobTree) → IsJobTree j → length (canonical_text j) ≤ most_bytes → job_in (canonical_text j) ≡ Ok j
 
 -- What the canonical text of a read job is read as is that job, and has that same canonical text.
 abbrev pub WritingTwiceIsWritingOnce : Type 0

@@ -4,6 +4,7 @@ use Rattle.std.specs.List.{filter_map}
 use Rattle.std.specs.Str.{bytes_eq}
 use Rattle.text_lines.specs.declared.refusal.Code.TheVariants.{BadHeader, UnknownName}
 use Rattle.text_lines.specs.declared.refusal.Refusal.{Refusal}
+use Rattle.text_lines.specs.Limits.{most_bytes}
 use Rattle.text_lines.specs.Text.{lines_of, words_of, bad_byte_line}
 use Rattle.text_lines.specs.Laws.{joined}
 use Rattle.task_code.specs.Names.{is_among}
@@ -19,7 +20,7 @@ words_at lines n = words_of (unwrap_or (slice_get lines (n - 1)) [])
 -- A text is refused of one of its lines: not for its length, nor at its end, nor for a body that may still follow.
 pub record IsRefusedOfALine (text : List ℕ) (r : Refusal) : Type 0 where
   pub refused : job_in text ≡ Err r
-  pub short : length text ≤ 1048576
+  pub short : length text ≤ most_bytes
   pub within : r.line ≤ length (lines_of text)
   pub named : r.code ≡ UnknownName → is_missing (declared (lines_of text)) (words_at (lines_of text) r.line) ≡ false
 
@@ -35,7 +36,7 @@ RefusalsHoldForAllThatFollows =
 -- Texts that have the same lines up to it, that are short and whose bytes are allowed, are refused of it alike.
 abbrev pub PlainTextsAreRefusedAlike : Type 0
 PlainTextsAreRefusedAlike =
-    (text other : List ℕ) (r : Refusal) → IsRefusedOfALine text r → BeginAlike r.line text other → length other ≤ 1048576 → bad_byte_line 1 other ≡ None
+    (text other : List ℕ) (r : Refusal) → IsRefusedOfALine text r → BeginAlike r.line text other → length other ≤ most_bytes → bad_byte_line 1 other ≡ None
     → job_in other ≡ Err r
 
 -- Of the lines above that line, where the bytes of the text are allowed, no text is refused that has them.
@@ -84,7 +85,7 @@ above text n = take (n - 1) (lines_of text)
 abbrev pub IsABeginning : List (List ℕ) → Type 0
 IsABeginning lines =
     (n : ℕ) × (n ≤ 17)
-    × (length (declared_in lines ++ missing_in lines) ≤ 64 → length (completed lines n) ≤ 1048576 → IsAJobs (completed lines n))
+    × (length (declared_in lines ++ missing_in lines) ≤ 64 → length (completed lines n) ≤ most_bytes → IsAJobs (completed lines n))
 
 -- The lines above that line, unless it should have been the header, may go on to a job.
 abbrev pub LinesAboveGoOn : Type 0
@@ -101,5 +102,5 @@ pub record IsOfItsLine (text : List ℕ) (r : Refusal) : Type 0 where
 -- a job.
 abbrev pub RefusalsAreOfALineOrTextsGoOn : Type 0
 RefusalsAreOfALineOrTextsGoOn =
-    (text : List ℕ) (r : Refusal) → job_in text ≡ Err r → length text ≤ 1048576 → bad_byte_line 1 text ≡ None → r.code ≢ BadHeader
+    (text : List ℕ) (r : Refusal) → job_in text ≡ Err r → length text ≤ most_bytes → bad_byte_line 1 text ≡ None → r.code ≢ BadHeader
     → IsOfItsLine text r ⊎ IsABeginning (lines_of text)

@@ -1,4 +1,5 @@
 -- What is upgraded, as text.
+use Rattle.text_lines.specs.Limits.{most_bytes}
 use Rattle.std.specs.Prelude.{◌≡◌, ◌≤◌, ℕ, List, length, Ok}
 use Rattle.job_reader.specs.Trees.{JobTree}
 use Rattle.job_reader.specs.Grammar.{canonical_text}
@@ -8,7 +9,7 @@ use Rattle.job_reader.specs.Upgrade.{upgraded_tree}
 -- What a read job is written as in format 2, where it is short, is read as that job in format 2.
 abbrev pub UpgradedTextsAreRead : Type 0
 UpgradedTextsAreRead =
-    (text : List ℕ) (j : JobTree) → job_in text ≡ Ok j → length (canonical_text (upgraded_tree j)) ≤ 1048576
+    (text : List ℕ) (j : JobTree) → job_in text ≡ Ok j → length (canonical_text (upgraded_tree j)) ≤ most_bytes
     → job_in (canonical_text (upgraded_tree j)) ≡ Ok (upgraded_tree j)
 
 -- What that text is read as is of format 2, and is written again byte for byte.

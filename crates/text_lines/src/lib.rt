@@ -1,5 +1,5 @@
-//! Texts of numbered lines: lines, words, comments, numbers and the first byte that isn't allowed. Both
-//! readers stand on these, and neither takes a text apart again.
+//! Texts of numbered lines: lines, words, comments, numbers and the first byte that isn't allowed. The reader of jobs and
+//! the reader of traces both use it. Nothing here is part of Java's API.
 #![tactic(auto)]
 
 ghost use Rattle.text_lines.specs.Laws.{

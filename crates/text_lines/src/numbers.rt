@@ -7,7 +7,7 @@ ghost use Rattle.text_lines.specs.Number.{number_of};
 
 use itoa::Buffer;
 
-/// The number that a word writes, if it writes one of 64 signed bits.
+/// Returns the number that a word writes, if it is one of 64 signed bits.
 pub fn number(word: &[u8]) -> Option<i64>
     ensures value { result ≡ number_of word.now }
     ensures found { IfSome result (λ n. word.now ≡ signed_decimal n) }
@@ -24,14 +24,14 @@ pub fn number(word: &[u8]) -> Option<i64>
     if is_text_of(n, word) { Some(n) } else { None }
 }
 
-// Whether a word is the decimal text of a number.
+// Returns true if the word is the decimal text of `n`.
 fn is_text_of(n: i64, word: &[u8]) -> bool
     ensures { (result ≡ true) ↔ (word.now ≡ signed_decimal n) }
 {
     Buffer::new().format(n).as_bytes() == word
 }
 
-/// Whether a word is meant as a number where a number and a name may stand: it begins with a digit or a minus.
+/// Returns true if the word begins with a digit or a minus. Where a number or a name may be, it is then meant as a number.
 pub fn begins_number(word: &[u8]) -> bool
     ensures { result ≡ spec.begins_number word.now }
 {

@@ -2,41 +2,57 @@
 ghost use Rattle.std.specs.Prelude.{◌≡◌};
 ghost use Rattle.text_lines.specs.Refusals.{code_number};
 
-/// Why a text is refused (own). Each reader uses those that its format can meet.
-#[derive(Clone, Copy, Debug, PartialEq, Eq)]
+use thiserror::Error;
+
+/// Why a text is refused. A reader of one format uses only some of these.
+#[derive(Clone, Copy, Debug, PartialEq, Eq, Error)]
 pub enum Code {
-    /// The text is too long.
+    /// The text has more bytes than a text may have. Split it.
+    #[error("text too long")]
     TooLong,
-    /// A byte that isn't allowed.
+    /// A byte is neither LF nor from 0x20 to 0x7E. Remove it.
+    #[error("byte that isn't allowed")]
     BadByte,
-    /// The first line isn't a header.
+    /// The first line isn't a header. Begin the text with one.
+    #[error("the first line isn't a header")]
     BadHeader,
-    /// A line whose first word isn't allowed here.
+    /// The line's first word isn't allowed here. Correct the word or move the line.
+    #[error("unknown line")]
     UnknownLine,
-    /// Not a name.
+    /// A word isn't a name. Choose another.
+    #[error("not a name")]
     BadName,
-    /// Not a number, or one out of its range.
+    /// A word isn't a number, or is out of its range. Correct it.
+    #[error("not a number, or out of its range")]
     BadNumber,
-    /// Words too few, too many or misplaced.
+    /// The line has too few words, too many, or a word in the wrong place. Correct the line.
+    #[error("too few, too many or misplaced words")]
     BadLine,
-    /// Declared before.
+    /// The name is declared already. Rename one of the two.
+    #[error("declared twice")]
     Twice,
-    /// Nothing of this name is declared.
+    /// Nothing of this name is declared. Declare it or correct the name.
+    #[error("unknown name")]
     UnknownName,
-    /// The text ends within a block.
+    /// The text ends within a block. Close the block.
+    #[error("the text ends within a block")]
     Unclosed,
-    /// A line that doesn't fit the blocks round it.
+    /// The line doesn't fit the blocks around it. Move it.
+    #[error("the line doesn't fit the blocks around it")]
     BadNesting,
-    /// More than a limit allows.
+    /// There are more of a thing than a limit allows. Use fewer.
+    #[error("over a limit")]
     TooMany,
-    /// A length out of its range.
+    /// A length is out of its range. Correct it.
+    #[error("length out of its range")]
     BadLength,
-    /// A reserved word as a name.
+    /// A reserved word is used as a name. Choose another.
+    #[error("reserved word as a name")]
     Reserved,
 }
 
 impl Code {
-    /// The number that stands for it, from 1 (own).
+    /// Returns the code's number, from 1.
     pub fn number(self) -> u8
         ensures { result ≡ code_number self }
     {
@@ -59,8 +75,9 @@ impl Code {
     }
 }
 
-/// The first line of a text that is refused, from 1, and why.
-#[derive(Clone, Copy, Debug, PartialEq, Eq)]
+/// The first line of a text that is refused, and why.
+#[derive(Clone, Copy, Debug, PartialEq, Eq, Error)]
+#[error("line {line}: {code}")]
 pub struct Refusal {
     /// The line, from 1.
     pub line: usize,

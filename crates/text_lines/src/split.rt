@@ -1,9 +1,10 @@
-//! Lines and words, taken one by one from the front.
+//! Lines and words, split off one by one from the front.
 ghost use Rattle.std.specs.Prelude.{◌≡◌, ◌≢◌, ◌+◌, take, drop, slice_index, ◌≤◌, ◌<◌, ◌∷◌, [], length, MatchOption, IfSome, true, false};
+ghost use Rattle.text_lines.specs.Limits.{most_bytes};
 ghost use Rattle.text_lines.specs.Text.{lines_of, words_of, is_skipped, bad_byte_line as bad_line_of};
 
 #[tactic(auto, using(crate::proofs::LinesLemmas::line_at, crate::proofs::LinesLemmas::line_whole))]
-/// The first line, and the text after it.
+/// Splits off the first line. Returns it and the text after it, or `None` at the end of the text.
 pub fn split_line(text: &[u8]) -> Option<(&[u8], &[u8])>
     ensures lines { MatchOption result (text.now ≡ []) (λ r. lines_of text.now ≡ r.0.now ∷ lines_of r.1.now) }
     ensures shorter { IfSome result (λ r. length r.1.now + 1 ≤ length text.now) }
@@ -21,7 +22,7 @@ pub fn split_line(text: &[u8]) -> Option<(&[u8], &[u8])>
     Some((text, &[]))
 }
 
-// The line without the spaces at its front.
+// Returns the line without the spaces at its front.
 #[tactic(auto, using(crate::proofs::LinesLemmas::words_skip))]
 fn skip_spaces(line: &[u8]) -> &[u8]
     ensures words { words_of result.now ≡ words_of line.now }
@@ -37,7 +38,7 @@ fn skip_spaces(line: &[u8]) -> &[u8]
     &[]
 }
 
-// How many bytes the word at the front has.
+// Returns the number of bytes of the word at the front.
 #[tactic(auto, using(crate::proofs::LinesLemmas::word_at))]
 fn word_len(line: &[u8]) -> usize
     requires some { 0 < length line.now }
@@ -53,7 +54,7 @@ fn word_len(line: &[u8]) -> usize
     line.len()
 }
 
-/// The first word of a line, and the line after it; nothing where the line has no word.
+/// Splits off the first word of a line. Returns it and the rest of the line, or `None` if the line has no word.
 pub fn split_word(line: &[u8]) -> Option<(&[u8], &[u8])>
     ensures words { MatchOption result (words_of line.now ≡ []) (λ r. words_of line.now ≡ r.0.now ∷ words_of r.1.now) }
     ensures shorter { IfSome result (λ r. length r.1.now < length line.now) }
@@ -65,8 +66,8 @@ pub fn split_word(line: &[u8]) -> Option<(&[u8], &[u8])>
     Some(line.split_at(word_len(line)))
 }
 
-/// The first word of a line and what follows, unless the line is skipped: it has no word, or is a
-/// comment, whose first word begins with `#`.
+/// Splits off the first word of a line that counts. Returns `None` if the line has no word or is a comment, whose first
+/// word begins with `#`.
 pub fn first_word(line: &[u8]) -> Option<(&[u8], &[u8])>
     ensures { MatchOption result (is_skipped (words_of line.now) ≡ true)
         (λ r. (is_skipped (words_of line.now) ≡ false) × (words_of line.now ≡ r.0.now ∷ words_of r.1.now)) }
@@ -78,9 +79,9 @@ pub fn first_word(line: &[u8]) -> Option<(&[u8], &[u8])>
     }
 }
 
-/// The line of the first byte that isn't allowed, from 1: all but LF and 0x20 to 0x7E (own).
+/// Returns the line, from 1, of the first byte that is neither LF nor from 0x20 to 0x7E, if there is one.
 pub fn bad_byte_line(text: &[u8]) -> Option<usize>
-    requires { length text.now ≤ 1048576 }
+    requires { length text.now ≤ most_bytes }
     ensures { result ≡ bad_line_of 1 text.now }
 {
     let mut line = 1;

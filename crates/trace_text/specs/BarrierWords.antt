@@ -40,7 +40,7 @@ abbrev pub barrier_head_numbers : BarrierHeadWords → Option BarrierHead
 barrier_head_numbers h =
     option_and_then (λ parties. option_and_then (λ fails. Some (record { parties = parties; fails = fails })) (generation_if h.fails)) (number_of h.parties)
 
--- words too few, too many or misplaced are looked for before numbers
+-- too few, too many or misplaced words are reported before numbers
 abbrev pub barrier_numbered : Option BarrierHeadWords → Result BarrierHead Code
 barrier_numbered None = Err BadLine
 barrier_numbered (Some h) = or_else BadNumber (barrier_head_numbers h)

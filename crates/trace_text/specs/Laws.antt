@@ -9,17 +9,17 @@ use Rattle.trace_text.specs.declared.words.PhaserCommand.TheVariants.{Call, Show
 use Rattle.trace_text.specs.Words.{Word, command_of}
 use Rattle.trace_text.specs.TreeWords.{tree_command_of, brings_token}
 use Rattle.trace_text.specs.BarrierWords.{barrier_command_of}
-use Rattle.trace_text.specs.Trace.{OfPhaser, OfTree, OfBarrier, Asked, AsksPhaser, AsksTree, AsksBarrier, head_of, brings_none, asked_from}
+use Rattle.trace_text.specs.Trace.{most_commands, OfPhaser, OfTree, OfBarrier, Asked, AsksPhaser, AsksTree, AsksBarrier, head_of, brings_none, asked_from}
 use Rattle.text_lines.specs.declared.refusal.Code.{Code}
 
 -- the lines that aren't skipped, as their words
 abbrev pub kept : List (List ℕ) → List (List Word)
 kept lines = filter (λ words. not (is_skipped words)) (map words_of lines)
 
--- These lines are the commands, in order: at most 4096, of which at most 256 bring a token in.
+-- These lines are the commands, in order, within the limits.
 pub record SaysCommands {C : Type 0} (says : List Word → Result C Code) (brings : C → Bool) (lines : List (List Word)) (commands : List C) : Type 0 where
   pub each : map says lines ≡ map Ok commands
-  pub few : length commands ≤ 4096
+  pub few : length commands ≤ most_commands
   pub tokens : length (filter brings commands) ≤ 256
 
 -- A line is the head, and those below it are the commands.

@@ -8,21 +8,15 @@ use Rattle.text_lines.specs.declared.refusal.Refusal.{Refusal}
 use Rattle.trace_text.specs.Trace.{Asked, asked_of}
 use Rattle.trace_text.specs.Answers.{output_of}
 
--- the writer failed once at Write, and else not
+-- the writer failed once if the fault is Write, and else not at all
 abbrev pub WriteCause : {T : Type 0} → ℕ → ℕ → Result T TraceFault → Type 0
-WriteCause old new (Ok x) = new ≡ old
 WriteCause old new (Err Write) = new ≡ old + 1
-WriteCause old new (Err Read) = new ≡ old
-WriteCause old new (Err Memory) = new ≡ old
-WriteCause old new (Err (Text r)) = new ≡ old
+WriteCause old new _ = new ≡ old
 
--- and the reader at Read
+-- the reader failed once if the fault is Read, and else not at all
 abbrev pub ReadsCause : {T : Type 0} → ℕ → ℕ → Result T TraceFault → Type 0
-ReadsCause old new (Ok x) = new ≡ old
-ReadsCause old new (Err Write) = new ≡ old
 ReadsCause old new (Err Read) = new ≡ old + 1
-ReadsCause old new (Err Memory) = new ≡ old
-ReadsCause old new (Err (Text r)) = new ≡ old
+ReadsCause old new _ = new ≡ old
 
 -- a run writes its text, or a beginning of it
 abbrev pub Writes : Option (List ℕ) → Option (List ℕ) → Result (Unit {0}) TraceFault → List ℕ → Type 0

@@ -1,10 +1,11 @@
--- What a text asks for, or the first place where it asks for nothing (own).
+-- What a text asks for, or its first refusal.
 use Rattle.std.specs.Prelude.{ℕ, ◌+◌, Bool, false, not, ◌&&◌, ◌||◌, nat_lt, if◌then◌else◌, List, [], ◌∷◌, ◌++◌, length, Option, None, Some, Result, Ok, Err, codes}
 use Rattle.std.specs.Str.{bytes_eq}
 use Rattle.text_lines.specs.declared.refusal.Code.{Code}
 use Rattle.text_lines.specs.declared.refusal.Code.TheVariants.{TooLong, BadHeader, TooMany}
 use Rattle.text_lines.specs.declared.refusal.Refusal.{Refusal}
 pub use Rattle.text_lines.specs.Reading.{◌>>=◌, at, unless_bad}
+use Rattle.text_lines.specs.Limits.{most_bytes}
 use Rattle.text_lines.specs.Text.{lines_of, words_of, is_skipped, bad_byte_line}
 use Rattle.trace_text.specs.declared.words.PhaserCommand.{PhaserCommand}
 use Rattle.trace_text.specs.declared.words.PhaserHead.{PhaserHead}
@@ -39,15 +40,23 @@ pub data Asked : Type 0 where
 abbrev pub brings_none : {C : Type 0} → C → Bool
 brings_none c = false
 
--- at most 4096 commands, of which at most 256 bring a token in, behind so many of each
+-- the most commands of a trace
+abbrev pub most_commands : ℕ
+most_commands = 4096
+
+-- the most tokens of a trace
+abbrev pub most_tokens : ℕ
+most_tokens = 256
+
+-- one more command after `count`, of which `tokens` bring a token in, if the limits allow it
 abbrev pub counted : {C : Type 0} → (C → Bool) → ℕ → ℕ → Result C Code → Result C Code
 counted brings count tokens (Err code) = Err code
-counted brings count tokens (Ok c) = if nat_lt count 4096 && (not (brings c) || nat_lt tokens 256) then Ok c else Err TooMany
+counted brings count tokens (Ok c) = if nat_lt count most_commands && (not (brings c) || nat_lt tokens most_tokens) then Ok c else Err TooMany
 
 abbrev pub tokens_with : {C : Type 0} → (C → Bool) → ℕ → C → ℕ
 tokens_with brings tokens c = if brings c then tokens + 1 else tokens
 
--- The commands of the lines from this number on, behind so many commands and tokens; what the words of a line say is given.
+-- The commands of the lines from this number on, after `count` commands and `tokens` tokens; `says` gives what the words of a line say.
 abbrev pub commands_from : {C : Type 0} → (List Word → Result C Code) → (C → Bool) → ℕ → ℕ → ℕ → List (List ℕ) → Result (List C) Refusal
 commands_from says brings line count tokens [] = Ok []
 commands_from says brings line count tokens (l ∷ ls) =
@@ -68,10 +77,10 @@ asked_from line (l ∷ ls) =
     if is_skipped (words_of l) then asked_from (line + 1) ls
     else at line (head_of (words_of l)) >>= λ head. below head (line + 1) ls
 
--- What a text asks for: its length is looked at first, then its bytes, then line by line.
+-- What a text asks for: its length is checked first, then its bytes, then line by line.
 unfoldable pub asked_of : List ℕ → Result Asked Refusal
 asked_of text =
-    if nat_lt 1048576 (length text) then Err (record { line = 1; code = TooLong })
+    if nat_lt most_bytes (length text) then Err (record { line = 1; code = TooLong })
     else unless_bad (bad_byte_line 1 text) (asked_from 1 (lines_of text))
 
 -- commands in front of those that are read

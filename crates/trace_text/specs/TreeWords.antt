@@ -66,10 +66,8 @@ pub data CallWords : Type 0 where
   Alone : TokenCall → CallWords
 
 abbrev pub join_words : List Word → Option CallWords
-join_words [] = None
-join_words (t ∷ []) = None
 join_words (t ∷ n ∷ []) = Some (JoinWords t n)
-join_words (t ∷ n ∷ w ∷ ws) = None
+join_words _ = None
 
 -- a call of one word
 abbrev pub call_alone : Word → Option TokenCall
@@ -88,17 +86,20 @@ abbrev pub call_words : List Word → Option CallWords
 call_words [] = None
 call_words (w ∷ ws) = if bytes_eq w (codes "join") then join_words ws else alone_words (call_alone w) ws
 
--- a tier has any number, and 1 to 65535 members join
+-- the most members that join at once
+abbrev pub most_members : ℕ
+most_members = 65535
+
+-- a tier has any number, and at least one member joins
 abbrev pub call_numbers : CallWords → Option TokenCall
 call_numbers (Alone c) = Some c
 call_numbers (JoinWords t n) =
-    option_and_then (λ tier. option_map (λ n. Join tier n) (above_zero (up_to 65535 (number_of n)))) (up_to 4294967295 (number_of t))
+    option_and_then (λ tier. option_map (λ n. Join tier n) (above_zero (up_to most_members (number_of n)))) (up_to 4294967295 (number_of t))
 
--- a number of a token or a tier that stands alone
+-- the number of a token or a tier, if no other word follows
 abbrev pub one_number : List Word → Result ℕ Code
-one_number [] = Err BadLine
 one_number (k ∷ []) = or_else BadNumber (up_to 4294967295 (number_of k))
-one_number (k ∷ w ∷ ws) = Err BadLine
+one_number _ = Err BadLine
 
 -- a token's number and its call
 abbrev pub with_call : Word → Option CallWords → Result (ℕ × TokenCall) Code
@@ -144,29 +145,17 @@ tree_command_of (w ∷ ws) = tree_formed (tree_form_of w) ws
 -- whether a command brings a token in
 abbrev pub brings_token : TreeCommand → Bool
 brings_token Token = true
-brings_token (Begin k c) = false
-brings_token (Go k) = false
-brings_token (Finish k) = false
-brings_token (Run k) = false
-brings_token (Do k c) = false
-brings_token (Show t) = false
+brings_token _ = false
 
--- 1 to 65535 members join
+-- at least one member joins, and at most as many as may
 abbrev pub HasMembers : TokenCall → Type 0
-HasMembers (Join tier n) = (0 < n) × (n ≤ 65535)
-HasMembers Arrive = Unit {0}
-HasMembers Leave = Unit {0}
-HasMembers Poll = Unit {0}
-HasMembers Force = Unit {0}
+HasMembers (Join tier n) = (0 < n) × (n ≤ most_members)
+HasMembers _ = Unit {0}
 
 abbrev pub InRange : TreeCommand → Type 0
-InRange Token = Unit {0}
 InRange (Begin k c) = HasMembers c
-InRange (Go k) = Unit {0}
-InRange (Finish k) = Unit {0}
-InRange (Run k) = Unit {0}
 InRange (Do k c) = HasMembers c
-InRange (Show t) = Unit {0}
+InRange _ = Unit {0}
 
 abbrev pub WordsFit : CallWords → Type 0
 WordsFit (JoinWords t n) = Unit {0}

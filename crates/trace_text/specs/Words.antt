@@ -1,4 +1,4 @@
--- The words of a line of a trace, and what they ask for (own).
+-- The words of a line of a trace, and what they ask for.
 use Rattle.std.specs.Prelude.{ℕ, ◌^◌, Bool, false, ◌||◌, ◌&&◌, nat_le, nat_lt, ◌==◌, if◌then◌else◌, List, [], ◌∷◌, Option, None, Some, option_and_then, option_map, Result, Ok, Err, ℤ, pos, negsuc, codes}
 use Rattle.std.specs.Str.{bytes_eq}
 use Rattle.text_lines.specs.declared.refusal.Code.{Code}
@@ -28,7 +28,7 @@ of_32_bits None = None
 of_32_bits (Some (pos n)) = if nat_lt n (2 ^ 31) then Some (pos n) else None
 of_32_bits (Some (negsuc n)) = if nat_lt n (2 ^ 31) then Some (negsuc n) else None
 
--- A head in words: the parties, then the phase if the next word begins as a number does, then `least` and `at` with the word behind each.
+-- A head in words: the parties, then the phase if the next word begins as a number does, then `least` and `at` with the word after each.
 pub record HeadWords : Type 0 where
   pub parties : Word
   pub phase : Option Word
@@ -40,7 +40,7 @@ abbrev pub take_number : List Word → Option Word × List Word
 take_number [] = (None, [])
 take_number (w ∷ ws) = if begins_number w then (Some w, ws) else (None, w ∷ ws)
 
--- the word behind a keyword, if the keyword comes next, and what follows; nothing where that word lacks
+-- the word after a keyword, if the keyword comes next, and what follows; nothing if there is no such word
 abbrev pub take_behind : List ℕ → List Word → Option (Option Word × List Word)
 take_behind keyword [] = Some (None, [])
 take_behind keyword (w ∷ []) = if bytes_eq w keyword then None else Some (None, w ∷ [])
@@ -85,7 +85,7 @@ abbrev pub or_else : {A : Type 0} → Code → Option A → Result A Code
 or_else code None = Err code
 or_else code (Some a) = Ok a
 
--- words too few, too many or misplaced are looked for before numbers
+-- too few, too many or misplaced words are reported before numbers
 abbrev pub numbered : Option HeadWords → Result PhaserHead Code
 numbered None = Err BadLine
 numbered (Some h) = or_else BadNumber (head_numbers h)
@@ -105,13 +105,9 @@ form_of w =
 abbrev pub formed : Option Form → List Word → Result PhaserCommand Code
 formed None ws = Err UnknownLine
 formed (Some (Alone c)) [] = Ok c
-formed (Some (Alone c)) (w ∷ ws) = Err BadLine
-formed (Some Bulk) [] = Err BadLine
 formed (Some Bulk) (w ∷ []) = or_else BadNumber (option_map (λ n. Call (call.Bulk n)) (number_of w))
-formed (Some Bulk) (w ∷ v ∷ ws) = Err BadLine
-formed (Some Await) [] = Err BadLine
 formed (Some Await) (w ∷ []) = or_else BadNumber (option_map (λ n. Call (call.Await n)) (of_32_bits (number_of w)))
-formed (Some Await) (w ∷ v ∷ ws) = Err BadLine
+formed _ _ = Err BadLine
 
 abbrev pub command_of : List Word → Result PhaserCommand Code
 command_of [] = Err UnknownLine

@@ -1,5 +1,5 @@
 //! Heads and commands of a trace of a barrier, from the words of their lines.
-ghost use Rattle.std.specs.Prelude.{◌≡◌, None, Some, Ok, Err, option_copied, MatchOption, MatchResult, true, false};
+ghost use Rattle.std.specs.Prelude.{◌≡◌, ◌∷◌, None, Some, Ok, Err, option_copied, MatchOption, MatchResult, true, false};
 ghost use Rattle.text_lines.specs.Text.{words_of, is_skipped};
 ghost use Rattle.text_lines.specs.Number.{number_of};
 ghost use Rattle.trace_text.specs.BarrierWords as spec;
@@ -8,21 +8,21 @@ ghost use Rattle.trace_text.specs.Parts.{barrier_words_in};
 use crate::tree_words::one_number;
 use crate::words::{is_word, take_behind};
 use cyclic_gate::Call;
-use text_lines::{Code, first_word, number, split_word};
+use text_lines::{Code, number, split_word};
 
 /// A command of a trace of a barrier.
 #[derive(Clone, Copy)]
 pub enum BarrierCommand {
     /// A call of the barrier.
     Call(Call),
-    /// The barrier's numbers.
+    /// Prints the barrier's numbers.
     Show,
 }
 
 /// The head of a trace of a barrier: what barrier it makes.
 #[derive(Clone, Copy)]
 pub struct BarrierHead {
-    /// How many parties meet.
+    /// The number of parties that meet.
     pub parties: i64,
     /// The generation in which the action fails.
     pub fails: Option<u64>,
@@ -31,15 +31,15 @@ pub struct BarrierHead {
 // What the first word of a command asks for.
 #[derive(Clone, Copy)]
 enum Form {
-    // a caller behind it, who arrives
+    // a caller follows, who arrives
     Await,
-    // a caller behind it, who leaves early
+    // a caller follows, who leaves early
     Abandon,
     // a command alone
     Alone(BarrierCommand),
 }
 
-// What this word asks for, if it begins a command.
+// Reads a word as the first word of a command.
 fn form_of(word: &[u8]) -> Option<Form>
     ensures { result ≡ spec.barrier_form_of word.now }
 {
@@ -58,7 +58,7 @@ fn form_of(word: &[u8]) -> Option<Form>
     }
 }
 
-// The command of this form, with what follows its first word.
+// Reads a command of this form from the words after the first.
 fn formed(form: Form, rest: &[u8]) -> Result<BarrierCommand, Code>
     ensures { result ≡ spec.barrier_formed (Some form) (words_of rest.now) }
 {
@@ -72,23 +72,12 @@ fn formed(form: Form, rest: &[u8]) -> Result<BarrierCommand, Code>
     }
 }
 
-/// The command of a line, or none where the line is skipped.
-pub(crate) fn read_barrier_command(line: &[u8]) -> Result<Option<BarrierCommand>, Code>
-    ensures { MatchResult result
-        (λ o. MatchOption o (is_skipped (words_of line.now) ≡ true)
-        (λ c. (is_skipped (words_of line.now) ≡ false) × (spec.barrier_command_of (words_of line.now) ≡ Ok c)))
-        (λ e. (is_skipped (words_of line.now) ≡ false) × (spec.barrier_command_of (words_of line.now) ≡ Err e)) }
+/// Reads a command of a barrier from the first word and the rest of its line.
+pub(crate) fn barrier_command(word: &[u8], rest: &[u8]) -> Result<BarrierCommand, Code>
+    ensures { result ≡ spec.barrier_command_of (word.now ∷ words_of rest.now) }
 {
-    let Some((word, rest)) = first_word(line) else {
-        return Ok(None);
-    };
-    let Some(form) = form_of(word) else {
-        return Err(Code::UnknownLine);
-    };
-    match formed(form, rest) {
-        Ok(command) => Ok(Some(command)),
-        Err(code) => Err(code),
-    }
+    let form = form_of(word).ok_or(Code::UnknownLine)?;
+    formed(form, rest)
 }
 
 // A head in words.
@@ -98,7 +87,7 @@ struct BarrierHeadWords<'a> {
     fails: Option<&'a [u8]>,
 }
 
-// The head in words that follows its first word.
+// Splits the rest of a head's line into its words.
 fn barrier_head_words(line: &[u8]) -> Option<BarrierHeadWords<'_>>
     ensures { MatchOption result
         (spec.barrier_head_words (words_of line.now) ≡ None)
@@ -112,7 +101,7 @@ fn barrier_head_words(line: &[u8]) -> Option<BarrierHeadWords<'_>>
     Some(BarrierHeadWords { parties, fails })
 }
 
-// A generation.
+// Reads a word as a generation.
 fn generation(word: &[u8]) -> Option<u64>
     ensures { result ≡ spec.not_below_zero (number_of word.now) }
 {
@@ -120,7 +109,7 @@ fn generation(word: &[u8]) -> Option<u64>
     u64::try_from(n).ok()
 }
 
-// A generation, if it is there.
+// Reads a generation, if the word is there.
 fn generation_if(word: Option<&[u8]>) -> Option<Option<u64>>
     ensures { result ≡ spec.generation_if (option_copied word.entry) }
 {
@@ -130,7 +119,7 @@ fn generation_if(word: Option<&[u8]>) -> Option<Option<u64>>
     }
 }
 
-// The head that its words give.
+// Reads a head from its words.
 fn head_numbers(words: &BarrierHeadWords<'_>) -> Option<BarrierHead>
     ensures { result ≡ spec.barrier_head_numbers (barrier_words_in words.now) }
 {
@@ -139,15 +128,10 @@ fn head_numbers(words: &BarrierHeadWords<'_>) -> Option<BarrierHead>
     Some(BarrierHead { parties, fails })
 }
 
-/// The head that follows the first word of a line.
+/// Reads the head of a barrier from the rest of its line.
 pub(crate) fn read_barrier_head(line: &[u8]) -> Result<BarrierHead, Code>
     ensures { result ≡ spec.barrier_numbered (spec.barrier_head_words (words_of line.now)) }
 {
-    let Some(words) = barrier_head_words(line) else {
-        return Err(Code::BadLine);
-    };
-    match head_numbers(&words) {
-        Some(head) => Ok(head),
-        None => Err(Code::BadNumber),
-    }
+    let words = barrier_head_words(line).ok_or(Code::BadLine)?;
+    head_numbers(&words).ok_or(Code::BadNumber)
 }

@@ -20,7 +20,7 @@ pub enum Head<'a> {
     Barrier(BarrierHead),
 }
 
-/// The head of a line, or none where the line is skipped.
+/// Reads the head of a line, or returns `None` if the line is skipped.
 pub(crate) fn read_head(line: &[u8]) -> Result<Option<Head<'_>>, Code>
     ensures phase { IfOk result (λ o. IfSome o (λ h. first_phase h ≤ 2147483647)) }
     ensures value { MatchResult result
@@ -32,22 +32,13 @@ pub(crate) fn read_head(line: &[u8]) -> Result<Option<Head<'_>>, Code>
         return Ok(None);
     };
     if is_word(word, b"phaser") {
-        return match read_phaser_head(rest) {
-            Ok(head) => Ok(Some(Head::Phaser(head))),
-            Err(code) => Err(code),
-        };
+        return Ok(Some(Head::Phaser(read_phaser_head(rest)?)));
     }
     if is_word(word, b"tree") {
-        return match read_tree_head(rest) {
-            Ok(head) => Ok(Some(Head::Tree(head))),
-            Err(code) => Err(code),
-        };
+        return Ok(Some(Head::Tree(read_tree_head(rest)?)));
     }
     if is_word(word, b"barrier") {
-        return match read_barrier_head(rest) {
-            Ok(head) => Ok(Some(Head::Barrier(head))),
-            Err(code) => Err(code),
-        };
+        return Ok(Some(Head::Barrier(read_barrier_head(rest)?)));
     }
     Err(Code::BadHeader)
 }

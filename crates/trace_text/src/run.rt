@@ -6,6 +6,7 @@ ghost use Rattle.advance_rule.specs.Stored.{Answers};
 ghost use Rattle.flat_phaser.specs.Flat.{Flat};
 ghost use Rattle.flat_phaser.specs.Alike.{IsAlike};
 ghost use Rattle.phaser_one.specs.Seen.{flat_of};
+ghost use Rattle.text_lines.specs.Limits.{most_bytes};
 ghost use Rattle.trace_text.specs.BarrierAnswers.{barrier_text, barrier_after, barrier_opened_text};
 ghost use Rattle.trace_text.specs.Answers.{command_text, command_after, opened_text, output_of};
 ghost use Rattle.trace_text.specs.Runs.{run_text};
@@ -34,10 +35,10 @@ use text_lines::{Code, Refusal};
 use tier_core::tree::Core;
 use tier_shape::{Shape, ShapeFault};
 
-// So many bytes of answers are written at once.
+// The number of bytes of answers that are written at once.
 const PIECE: usize = 8192;
 
-// Does a command, and puts what it prints behind what is there.
+// Does a command, and adds what it prints to `out`.
 fn push_command<F: Fn(u32, u32) -> bool>(
     out: &mut Vec<u8>,
     phaser: &mut PhaserOne<F>,
@@ -69,13 +70,10 @@ fn write_text<W: CountedWrite>(writer: &mut W, text: &[u8]) -> Result<(), TraceF
     ensures writes { Writes (W.contents writer.old) (W.contents writer.new) result text.now }
     ensures failures { WriteCause (W.failures writer.old) (W.failures writer.new) result }
 {
-    match write_all(writer, text) {
-        Ok(()) => Ok(()),
-        Err(_) => Err(TraceFault::Write),
-    }
+    write_all(writer, text).map_err(|_| TraceFault::Write)
 }
 
-// Writes what waits to be written.
+// Writes the text that waits.
 fn flush<W: CountedWrite>(writer: &mut W, out: &mut Vec<u8>) -> Result<(), TraceFault>
     ensures writes { Writes (W.contents writer.old) (W.contents writer.new) result out.old.items }
     ensures empty { OnOk result (out.new.items ≡ []) }
@@ -90,7 +88,7 @@ fn flush<W: CountedWrite>(writer: &mut W, out: &mut Vec<u8>) -> Result<(), Trace
     }
 }
 
-// Writes what waits to be written where it is a piece.
+// Writes the text that waits if it has the length of a piece.
 fn flush_piece<W: CountedWrite>(writer: &mut W, out: &mut Vec<u8>) -> Result<(), TraceFault>
     ensures moves { Moves (W.contents writer.old) (W.contents writer.new) out.old.items out.new.items result [] }
     ensures failures { WriteCause (W.failures writer.old) (W.failures writer.new) result }
@@ -101,7 +99,7 @@ fn flush_piece<W: CountedWrite>(writer: &mut W, out: &mut Vec<u8>) -> Result<(),
     flush(writer, out)
 }
 
-// Does a command, and writes what waits to be written where it is a piece.
+// Does a command of a phaser, and writes the text that waits if it has the length of a piece.
 fn run_command<F: Fn(u32, u32) -> bool, W: CountedWrite>(
     writer: &mut W,
     out: &mut Vec<u8>,
@@ -115,13 +113,11 @@ fn run_command<F: Fn(u32, u32) -> bool, W: CountedWrite>(
     ensures rule { phaser.new.rule ≡ phaser.old.rule }
     ensures failures { WriteCause (W.failures writer.old) (W.failures writer.new) result }
 {
-    match push_command(out, phaser, command) {
-        Ok(()) => flush_piece(writer, out),
-        Err(_) => Err(TraceFault::Memory),
-    }
+    push_command(out, phaser, command)?;
+    flush_piece(writer, out)
 }
 
-// Does the commands in turn.
+// Does the commands of a phaser in turn.
 fn run_commands<F: Fn(u32, u32) -> bool, W: CountedWrite>(
     alloc: Global,
     writer: &mut W,
@@ -135,10 +131,7 @@ fn run_commands<F: Fn(u32, u32) -> bool, W: CountedWrite>(
 {
     let mut out = Vec::new(alloc);
     for command in commands {
-        match run_command(writer, &mut out, phaser, *command) {
-            Ok(()) => {}
-            Err(fault) => return Err(fault),
-        }
+        run_command(writer, &mut out, phaser, *command)?;
     }
     flush(writer, &mut out)
 }
@@ -163,7 +156,7 @@ fn run_opened<F: Fn(u32, u32) -> bool + Drop, W: CountedWrite>(
     }
 }
 
-// Does a command of a tree, and writes what waits to be written where it is a piece.
+// Does a command of a tree, and writes the text that waits if it has the length of a piece.
 fn run_tree_command<W: CountedWrite>(
     writer: &mut W,
     out: &mut Vec<u8>,
@@ -175,10 +168,8 @@ fn run_tree_command<W: CountedWrite>(
     ensures after { OnOk result (core.new ≡ tree_after command core.old) }
     ensures failures { WriteCause (W.failures writer.old) (W.failures writer.new) result }
 {
-    match push_tree_command(out, core, command) {
-        Ok(()) => flush_piece(writer, out),
-        Err(_) => Err(TraceFault::Memory),
-    }
+    push_tree_command(out, core, command)?;
+    flush_piece(writer, out)
 }
 
 // Does the commands of a tree in turn.
@@ -194,10 +185,7 @@ fn run_tree_commands<W: CountedWrite>(
 {
     let mut lines = Vec::new(alloc);
     for command in commands {
-        match run_tree_command(writer, &mut lines, core, *command) {
-            Ok(()) => {}
-            Err(fault) => return Err(fault),
-        }
+        run_tree_command(writer, &mut lines, core, *command)?;
     }
     flush(writer, &mut lines)
 }
@@ -227,7 +215,7 @@ fn run_tree<W: CountedWrite>(
     }
 }
 
-// Does a command of a barrier, and writes what waits to be written where it is a piece.
+// Does a command of a barrier, and writes the text that waits if it has the length of a piece.
 fn run_barrier_command<F: Fn(u64) -> bool, W: CountedWrite>(
     writer: &mut W,
     out: &mut Vec<u8>,
@@ -240,10 +228,8 @@ fn run_barrier_command<F: Fn(u64) -> bool, W: CountedWrite>(
     ensures action { core.new.action ≡ core.old.action }
     ensures failures { WriteCause (W.failures writer.old) (W.failures writer.new) result }
 {
-    match push_barrier_command(out, core, command) {
-        Ok(()) => flush_piece(writer, out),
-        Err(_) => Err(TraceFault::Memory),
-    }
+    push_barrier_command(out, core, command)?;
+    flush_piece(writer, out)
 }
 
 // Does the commands of a barrier in turn.
@@ -260,10 +246,7 @@ fn run_barrier_commands<F: Fn(u64) -> bool, W: CountedWrite>(
 {
     let mut lines = Vec::new(alloc);
     for command in commands {
-        match run_barrier_command(writer, &mut lines, core, *command) {
-            Ok(()) => {}
-            Err(fault) => return Err(fault),
-        }
+        run_barrier_command(writer, &mut lines, core, *command)?;
     }
     flush(writer, &mut lines)
 }
@@ -337,12 +320,12 @@ fn run_asked<W: CountedWrite>(
     }
 }
 
-// The text that the reader gives.
+// Reads the reader's text to its end.
 fn read_text<R: CountedRead>(alloc: Global, reader: &mut R) -> Result<Vec<u8>, TraceFault>
     ensures text { MatchResult result
         (λ text. IfSome (R.remaining reader.old) (λ bytes. text.items ≡ bytes))
         (λ fault. (written : Option (List ℕ)) → Traces (R.remaining reader.old) written written (Err fault)) }
-    ensures short { IfOk result (λ text. length text.items ≤ 1048576) }
+    ensures short { IfOk result (λ text. length text.items ≤ most_bytes) }
     ensures write_failures { MatchResult result (λ _. ⊤) (λ fault. (n : ℕ) → WriteCause {T = Unit {0}} n n (Err fault)) }
     ensures failures { ReadsCause (R.failures reader.old) (R.failures reader.new) result }
 {
@@ -357,8 +340,7 @@ fn read_text<R: CountedRead>(alloc: Global, reader: &mut R) -> Result<Vec<u8>, T
     }
 }
 
-/// Reads a trace to the reader's end, and writes what it prints. The whole text is checked before
-/// anything is written.
+/// Reads a trace to the reader's end, and writes what it prints. Checks the whole text before it writes anything.
 pub fn run_trace<R: CountedRead, W: CountedWrite>(
     alloc: Global,
     reader: &mut R,
@@ -368,12 +350,7 @@ pub fn run_trace<R: CountedRead, W: CountedWrite>(
     ensures read_failures { ReadsCause (R.failures reader.old) (R.failures reader.new) result }
     ensures write_failures { WriteCause (W.failures writer.old) (W.failures writer.new) result }
 {
-    let text = match read_text(alloc, reader) {
-        Ok(text) => text,
-        Err(fault) => return Err(fault),
-    };
-    match read_trace(alloc, &text) {
-        Ok(trace) => run_asked(alloc, writer, &trace),
-        Err(fault) => Err(fault),
-    }
+    let text = read_text(alloc, reader)?;
+    let trace = read_trace(alloc, &text)?;
+    run_asked(alloc, writer, &trace)
 }

@@ -1,12 +1,13 @@
 //! What a text asks for.
 ghost use Rattle.std.specs.Prelude.{◌≡◌, ◌+◌, ◌≤◌, ◌<◌, ◌^◌, not, ◌&&◌, ◌||◌, nat_lt, length, true, false, Ok, Err, MatchOption, MatchResult, IfOk, IfSome, OnOk, All, ℕ, List, ◌∷◌};
+ghost use Rattle.text_lines.specs.Limits.{most_bytes};
 ghost use Rattle.text_lines.specs.Text.{is_skipped, lines_of, words_of};
 ghost use Rattle.trace_text.specs.Trace as spec;
 ghost use Rattle.trace_text.specs.Gives.{Gives, Fails};
 ghost use Rattle.trace_text.specs.Views.{asked, head_in, first_phase, start_phase, commands_fit};
 
 use crate::barrier_words::{BarrierCommand, BarrierHead};
-use crate::command::Command;
+use crate::command::{Command, read_command};
 use crate::fault::TraceFault;
 use crate::head::{Head, read_head};
 use crate::tree_words::{TreeCommand, TreeHead};
@@ -17,14 +18,17 @@ use text_lines::{Code, Refusal, bad_byte_line, split_line};
 /// What a text asks for.
 #[derive(Drop)]
 pub(crate) enum Trace<'a> {
+    /// The head of a phaser, and its commands.
     Phaser(PhaserHead, Vec<PhaserCommand>),
+    /// The head of a tree, and its commands.
     Tree(TreeHead<'a>, Vec<TreeCommand>),
+    /// The head of a barrier, and its commands.
     Barrier(BarrierHead, Vec<BarrierCommand>),
 }
 
-// The head, the number of the line after it, and the text from there on.
+// Reads the head. Returns it, the number of the line after it, and the text from there on.
 fn split_head(text: &[u8]) -> Result<(Head<'_>, usize, &[u8]), Refusal>
-    requires { length text.now ≤ 1048576 }
+    requires { length text.now ≤ most_bytes }
     ensures head { MatchResult result
         (λ h. spec.asked_from 1 (lines_of text.now) ≡ spec.below (head_in h.0) h.1 (lines_of h.2.now))
         (λ r. spec.asked_from 1 (lines_of text.now) ≡ Err r) }
@@ -47,20 +51,20 @@ fn split_head(text: &[u8]) -> Result<(Head<'_>, usize, &[u8]), Refusal>
     })
 }
 
-/// The most commands of a trace.
+/// The largest number of commands of a trace.
 pub(crate) const MOST_COMMANDS: usize = 4096;
 
-/// The most tokens of a trace.
+/// The largest number of tokens of a trace.
 pub(crate) const MOST_TOKENS: usize = 256;
 
-// Whether one more command is one too many, behind so many commands and tokens.
+// Returns true if one more command exceeds a limit, after `count` commands and `tokens` tokens.
 fn is_too_many<C: Command>(count: usize, tokens: usize, command: C) -> bool
-    ensures { result ≡ not (nat_lt count 4096 && (not (C.brings command) || nat_lt tokens 256)) }
+    ensures { result ≡ not (nat_lt count spec.most_commands && (not (C.brings command) || nat_lt tokens spec.most_tokens)) }
 {
     count >= MOST_COMMANDS || (command.brings_token() && tokens >= MOST_TOKENS)
 }
 
-// The command of this line, behind so many commands and tokens, or none where the line is skipped.
+// Reads the command of this line, after `count` commands and `tokens` tokens, or returns `None` if the line is skipped.
 fn next_command<C: Command>(
     text: &[u8],
     line: usize,
@@ -73,7 +77,7 @@ fn next_command<C: Command>(
         (λ c. (is_skipped (words_of text.now) ≡ false) × (spec.at line (spec.counted C.brings count tokens (C.says (words_of text.now))) ≡ Ok c)))
         (λ r. (is_skipped (words_of text.now) ≡ false) × (spec.at line (spec.counted C.brings count tokens (C.says (words_of text.now))) ≡ Err r)) }
 {
-    match C::read(text) {
+    match read_command::<C>(text) {
         Ok(Some(command)) if is_too_many(count, tokens, command) => {
             let code = Code::TooMany;
             Err(Refusal { line, code })
@@ -83,7 +87,7 @@ fn next_command<C: Command>(
     }
 }
 
-// Puts the command of this line behind those that are read, and tells how many tokens there are then.
+// Reads the command of this line and adds it. Returns the number of tokens after it.
 fn add_line<C: Command>(
     commands: &mut Vec<C>,
     text: &[u8],
@@ -109,7 +113,7 @@ fn add_line<C: Command>(
     }
 }
 
-// The commands of a text that begins in this line.
+// Reads the commands of a text that begins in this line.
 fn read_commands<C: Command>(alloc: Global, text: &[u8], first: usize) -> Result<Vec<C>, TraceFault>
     requires { first + length text.now < 2 ^ 32 }
     ensures value { Gives (λ v. v.items) result (spec.commands_from C.says C.brings first 0 0 (lines_of text.now)) }
@@ -121,16 +125,13 @@ fn read_commands<C: Command>(alloc: Global, text: &[u8], first: usize) -> Result
     let mut rest = text;
     while let Some((this, after)) = split_line(rest) {
         rest = after;
-        match add_line(&mut commands, this, line, tokens) {
-            Ok(more) => tokens = more,
-            Err(fault) => return Err(fault),
-        }
+        tokens = add_line(&mut commands, this, line, tokens)?;
         line += 1;
     }
     Ok(commands)
 }
 
-// Reads the commands behind this head, from this line on.
+// Reads the commands after this head, from this line on.
 fn read_behind<'a>(
     alloc: Global,
     head: Head<'a>,
@@ -149,10 +150,10 @@ fn read_behind<'a>(
     }
 }
 
-/// Reads a whole text.
+/// Reads a whole text as a trace.
 #[tactic(auto, unfolding(crate::specs::Trace::asked_of))]
 pub(crate) fn read_trace(alloc: Global, text: &[u8]) -> Result<Trace<'_>, TraceFault>
-    requires { length text.now ≤ 1048576 }
+    requires { length text.now ≤ most_bytes }
     ensures asked { Gives asked result (spec.asked_of text.now) }
     ensures phase { IfOk result (λ t. start_phase t ≤ 2147483647) }
     ensures range { IfOk result commands_fit }
@@ -161,9 +162,6 @@ pub(crate) fn read_trace(alloc: Global, text: &[u8]) -> Result<Trace<'_>, TraceF
         let code = Code::BadByte;
         return Err(TraceFault::Text(Refusal { line, code }));
     }
-    let (head, line, rest) = match split_head(text) {
-        Ok(head) => head,
-        Err(refusal) => return Err(TraceFault::Text(refusal)),
-    };
+    let (head, line, rest) = split_head(text)?;
     read_behind(alloc, head, line, rest)
 }

@@ -1,5 +1,5 @@
 //! Heads and commands of a trace of a tree, from the words of their lines.
-ghost use Rattle.std.specs.Prelude.{◌≡◌, ◌≤◌, ◌<◌, None, Some, Ok, Err, Option, MatchOption, MatchResult, IfOk, IfSome, true, false};
+ghost use Rattle.std.specs.Prelude.{◌≡◌, ◌∷◌, ◌≤◌, ◌<◌, None, Some, Ok, Err, Option, MatchOption, MatchResult, IfOk, IfSome, true, false};
 ghost use Rattle.text_lines.specs.Text.{words_of, is_skipped};
 ghost use Rattle.trace_text.specs.TreeWords as spec;
 ghost use Rattle.trace_text.specs.Words.{up_to};
@@ -8,44 +8,44 @@ ghost use Rattle.trace_text.specs.Parts.{call_words_in, tree_words_in, tree_aske
 use crate::words::{is_word, number_if, number_or, only_word, take_behind, take_number, up_to};
 use advance_rule::EndPlan;
 use phaser_word::{LAST_PHASE, MOST_PARTIES};
-use text_lines::{Code, first_word, split_word};
+use text_lines::{Code, split_word};
 
-/// What a token of a tree is asked to do; the tier has any number.
+/// A call that a token makes. Its tier may be any number.
 #[derive(Clone, Copy)]
 pub enum TokenCall {
-    /// To join a tier with members.
+    /// Registers members at a tier.
     Join {
         /// The tier.
         tier: u32,
-        /// How many members, from 1 to 65535.
+        /// The number of members, from 1 to 65535.
         n: u32,
     },
-    /// To let a member arrive.
+    /// Arrives as a member that stays.
     Arrive,
-    /// To let a member leave.
+    /// Arrives as a member that leaves.
     Leave,
-    /// To see whether the token's phase has passed.
+    /// Asks whether the token's phase has passed.
     Poll,
-    /// To end the tree by force.
+    /// Ends the tree.
     Force,
 }
 
-/// A command of a trace of a tree; tokens and tiers have any number.
+/// A command of a trace of a tree. Its tokens and tiers may be any number.
 #[derive(Clone, Copy)]
 pub enum TreeCommand {
-    /// A token comes in.
+    /// Makes a new token.
     Token,
-    /// A token begins a call.
+    /// Begins a token's call.
     Begin(u32, TokenCall),
-    /// A token takes the next step of its call.
+    /// Takes the next step of a token's call.
     Go(u32),
-    /// A token takes the advance that it must take.
+    /// Takes the advance that a token owes.
     Finish(u32),
-    /// A token goes on with its call to the end.
+    /// Takes a token's call to its end.
     Run(u32),
-    /// A token begins a call, and goes on with it to the end.
+    /// Begins a token's call, and takes it to its end.
     Do(u32, TokenCall),
-    /// The numbers of a tier.
+    /// Prints the numbers of a tier.
     Show(u32),
 }
 
@@ -72,7 +72,7 @@ enum Form {
     Show,
 }
 
-// What this word asks for, if it begins a command.
+// Reads a word as the first word of a command.
 fn form_of(word: &[u8]) -> Option<Form>
     ensures { result ≡ spec.tree_form_of word.now }
 {
@@ -104,7 +104,7 @@ enum CallWords<'a> {
     Alone(TokenCall),
 }
 
-// A call of one word.
+// Reads a word as a call that has no numbers.
 fn call_alone(word: &[u8]) -> Option<TokenCall>
     ensures value { result ≡ spec.call_alone word.now }
     ensures range { IfSome result (λ c. spec.HasMembers c) }
@@ -122,7 +122,7 @@ fn call_alone(word: &[u8]) -> Option<TokenCall>
     }
 }
 
-// The words of a join's numbers.
+// Splits the rest of a line into the words of a join's numbers.
 fn join_words(line: &[u8]) -> Option<CallWords<'_>>
     ensures value { MatchOption result
         (spec.join_words (words_of line.now) ≡ None)
@@ -134,7 +134,7 @@ fn join_words(line: &[u8]) -> Option<CallWords<'_>>
     Some(CallWords::Join(tier, n))
 }
 
-// The call in words that makes up the rest of a line.
+// Splits the rest of a line into the words of a call.
 fn call_words(line: &[u8]) -> Option<CallWords<'_>>
     ensures value { MatchOption result
         (spec.call_words (words_of line.now) ≡ None)
@@ -152,7 +152,7 @@ fn call_words(line: &[u8]) -> Option<CallWords<'_>>
     Some(CallWords::Alone(call))
 }
 
-// The call that its words give.
+// Reads a call from its words.
 fn call_numbers(words: &CallWords<'_>) -> Option<TokenCall>
     requires { spec.WordsFit (call_words_in words.now) }
     ensures value { result ≡ spec.call_numbers (call_words_in words.now) }
@@ -170,7 +170,7 @@ fn call_numbers(words: &CallWords<'_>) -> Option<TokenCall>
     }
 }
 
-/// The number that makes up the rest of a line.
+/// Reads the rest of a line as one number.
 pub(crate) fn one_number(line: &[u8]) -> Result<u32, Code>
     ensures { result ≡ spec.one_number (words_of line.now) }
 {
@@ -178,7 +178,7 @@ pub(crate) fn one_number(line: &[u8]) -> Result<u32, Code>
     up_to(u32::MAX, word).ok_or(Code::BadNumber)
 }
 
-// The token and the call that make up the rest of a line.
+// Reads the rest of a line as a token and a call.
 fn token_and_call(line: &[u8]) -> Result<(u32, TokenCall), Code>
     ensures value { result ≡ spec.token_and_call (words_of line.now) }
     ensures range { IfOk result (λ k. spec.HasMembers k.1) }
@@ -190,7 +190,7 @@ fn token_and_call(line: &[u8]) -> Result<(u32, TokenCall), Code>
     Ok((token, call))
 }
 
-// The command of this form, with what follows its first word.
+// Reads a command of this form from the words after the first.
 fn formed(form: Form, rest: &[u8]) -> Result<TreeCommand, Code>
     ensures value { result ≡ spec.tree_formed (Some form) (words_of rest.now) }
     ensures range { IfOk result (λ c. spec.InRange c) }
@@ -215,24 +215,13 @@ fn formed(form: Form, rest: &[u8]) -> Result<TreeCommand, Code>
     }
 }
 
-/// The command of a line, or none where the line is skipped.
-pub(crate) fn read_tree_command(line: &[u8]) -> Result<Option<TreeCommand>, Code>
-    ensures range { IfOk result (λ o. IfSome o (λ c. spec.InRange c)) }
-    ensures value { MatchResult result
-        (λ o. MatchOption o (is_skipped (words_of line.now) ≡ true)
-        (λ c. (is_skipped (words_of line.now) ≡ false) × (spec.tree_command_of (words_of line.now) ≡ Ok c)))
-        (λ e. (is_skipped (words_of line.now) ≡ false) × (spec.tree_command_of (words_of line.now) ≡ Err e)) }
+/// Reads a command of a tree from the first word and the rest of its line.
+pub(crate) fn tree_command(word: &[u8], rest: &[u8]) -> Result<TreeCommand, Code>
+    ensures range { IfOk result (λ c. spec.InRange c) }
+    ensures value { result ≡ spec.tree_command_of (word.now ∷ words_of rest.now) }
 {
-    let Some((word, rest)) = first_word(line) else {
-        return Ok(None);
-    };
-    let Some(form) = form_of(word) else {
-        return Err(Code::UnknownLine);
-    };
-    match formed(form, rest) {
-        Ok(command) => Ok(Some(command)),
-        Err(code) => Err(code),
-    }
+    let form = form_of(word).ok_or(Code::UnknownLine)?;
+    formed(form, rest)
 }
 
 // A head in words.
@@ -244,7 +233,7 @@ struct TreeHeadWords<'a> {
     at: Option<&'a [u8]>,
 }
 
-// Whether a keyword comes next, and what follows.
+// Splits off a keyword if it comes next. Returns whether it did, and the rest of the line.
 fn take_keyword<'a>(keyword: &[u8], line: &'a [u8]) -> (bool, &'a [u8])
     ensures { (result.0, words_of result.1.now) ≡ spec.take_keyword keyword.now (words_of line.entry.now) }
 {
@@ -254,7 +243,7 @@ fn take_keyword<'a>(keyword: &[u8], line: &'a [u8]) -> (bool, &'a [u8])
     }
 }
 
-// The head in words that follows its first word.
+// Splits the rest of a head's line into its words.
 fn tree_head_words(line: &[u8]) -> Option<TreeHeadWords<'_>>
     ensures { MatchOption result
         (spec.tree_head_words (words_of line.now) ≡ None)
@@ -275,7 +264,7 @@ fn tree_head_words(line: &[u8]) -> Option<TreeHeadWords<'_>>
     })
 }
 
-/// The head that follows the first word of a line.
+/// Reads the head of a tree from the rest of its line.
 pub(crate) fn read_tree_head(line: &[u8]) -> Result<TreeHead<'_>, Code>
     ensures phase { IfOk result (λ h. h.phase ≤ 2147483647) }
     ensures value { MatchResult result

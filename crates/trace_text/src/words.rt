@@ -10,7 +10,7 @@ ghost use Rattle.std.specs.Prelude.{◌≢◌};
 use advance_rule::CountPlan;
 use phaser_one::Call;
 use phaser_word::LAST_PHASE;
-use text_lines::{Code, begins_number, first_word, number, split_word};
+use text_lines::{Code, begins_number, number, split_word};
 
 /// A command of a trace.
 #[derive(Clone, Copy)]
@@ -32,14 +32,14 @@ pub struct PhaserHead {
     pub plan: CountPlan,
 }
 
-/// Whether two words are the same.
+/// Returns true if two words are the same.
 pub(crate) fn is_word(word: &[u8], other: &[u8]) -> bool
     ensures { result ≡ bytes_eq word.now other.now }
 {
     word == other
 }
 
-// A whole number from 0 to a greatest.
+// Reads a word as a whole number from 0 to `most`.
 pub(crate) fn up_to(most: u32, word: &[u8]) -> Option<u32>
     ensures value { result ≡ spec.up_to most (number_of word.now) }
     ensures small { IfSome result (λ n. n ≤ most) }
@@ -51,7 +51,7 @@ pub(crate) fn up_to(most: u32, word: &[u8]) -> Option<u32>
     }
 }
 
-// A number of 32 signed bits.
+// Reads a word as a number of 32 signed bits.
 fn of_32_bits(word: &[u8]) -> Option<i32>
     ensures { result ≡ spec.of_32_bits (number_of word.now) }
 {
@@ -59,7 +59,7 @@ fn of_32_bits(word: &[u8]) -> Option<i32>
     i32::try_from(n).ok()
 }
 
-// A word that begins as a number, if it comes next, and what follows.
+// Splits off the next word, if it begins as a number. Returns it and the rest of the line.
 pub(crate) fn take_number(line: &[u8]) -> (Option<&[u8]>, &[u8])
     ensures { (option_copied result.0, words_of result.1.now) ≡ spec.take_number (words_of line.now) }
 {
@@ -97,13 +97,13 @@ pub(crate) fn take_behind<'a>(
 enum Form {
     // a command alone
     Alone(PhaserCommand),
-    // a number of parties behind it
+    // a number of parties follows
     Bulk,
-    // a phase behind it
+    // a phase follows
     Await,
 }
 
-// What this word asks for, if it begins a command.
+// Reads a word as the first word of a command.
 fn form_of(word: &[u8]) -> Option<Form>
     ensures { result ≡ spec.form_of word.now }
 {
@@ -126,7 +126,7 @@ fn form_of(word: &[u8]) -> Option<Form>
     }
 }
 
-// The only word of a line.
+// Returns the word of a line, if it is the only one.
 pub(crate) fn only_word(line: &[u8]) -> Option<&[u8]>
     ensures { MatchOption result
         ((w : spec.Word) → words_of line.now ≢ w ∷ [])
@@ -139,7 +139,7 @@ pub(crate) fn only_word(line: &[u8]) -> Option<&[u8]>
     }
 }
 
-// The command of this form, with what follows its first word.
+// Reads a command of this form from the words after the first.
 fn formed(form: Form, rest: &[u8]) -> Result<PhaserCommand, Code>
     ensures { result ≡ spec.formed (Some form) (words_of rest.now) }
 {
@@ -161,23 +161,12 @@ fn formed(form: Form, rest: &[u8]) -> Result<PhaserCommand, Code>
     }
 }
 
-/// The command of a line, or none where the line is skipped.
-pub(crate) fn read_command(line: &[u8]) -> Result<Option<PhaserCommand>, Code>
-    ensures { MatchResult result
-        (λ o. MatchOption o (is_skipped (words_of line.now) ≡ true)
-        (λ c. (is_skipped (words_of line.now) ≡ false) × (spec.command_of (words_of line.now) ≡ Ok c)))
-        (λ e. (is_skipped (words_of line.now) ≡ false) × (spec.command_of (words_of line.now) ≡ Err e)) }
+/// Reads a command of a phaser from the first word and the rest of its line.
+pub(crate) fn phaser_command(word: &[u8], rest: &[u8]) -> Result<PhaserCommand, Code>
+    ensures { result ≡ spec.command_of (word.now ∷ words_of rest.now) }
 {
-    let Some((word, rest)) = first_word(line) else {
-        return Ok(None);
-    };
-    let Some(form) = form_of(word) else {
-        return Err(Code::UnknownLine);
-    };
-    match formed(form, rest) {
-        Ok(command) => Ok(Some(command)),
-        Err(code) => Err(code),
-    }
+    let form = form_of(word).ok_or(Code::UnknownLine)?;
+    formed(form, rest)
 }
 
 // A head in words.
@@ -189,7 +178,7 @@ struct HeadWords<'a> {
     at: Option<&'a [u8]>,
 }
 
-// The head in words that follows its first word.
+// Splits the rest of a head's line into its words.
 fn head_words(line: &[u8]) -> Option<HeadWords<'_>>
     ensures { MatchOption result
         (spec.head_words (words_of line.now) ≡ None)
@@ -210,7 +199,7 @@ fn head_words(line: &[u8]) -> Option<HeadWords<'_>>
     })
 }
 
-// A number from 0 to a greatest that may be left out.
+// Reads a number from 0 to `most`, or returns `default` if the word is left out.
 pub(crate) fn number_or(most: u32, default: u32, word: Option<&[u8]>) -> Option<u32>
     requires { default ≤ most }
     ensures value { result ≡ spec.number_or most default (option_copied word.entry) }
@@ -222,7 +211,7 @@ pub(crate) fn number_or(most: u32, default: u32, word: Option<&[u8]>) -> Option<
     }
 }
 
-// A number from 0 to a greatest, if it is there.
+// Reads a number from 0 to `most`, if the word is there.
 pub(crate) fn number_if(most: u32, word: Option<&[u8]>) -> Option<Option<u32>>
     ensures { result ≡ spec.number_if most (option_copied word.entry) }
 {
@@ -232,7 +221,7 @@ pub(crate) fn number_if(most: u32, word: Option<&[u8]>) -> Option<Option<u32>>
     }
 }
 
-// The head that its words give.
+// Reads a head from its words.
 fn head_numbers(words: &HeadWords<'_>) -> Option<PhaserHead>
     ensures value { result ≡ spec.head_numbers (words_in words.now) }
     ensures phase { IfSome result (λ h. h.phase ≤ 2147483647) }
@@ -248,16 +237,11 @@ fn head_numbers(words: &HeadWords<'_>) -> Option<PhaserHead>
     })
 }
 
-/// The head that follows the first word of a line.
+/// Reads the head of a phaser from the rest of its line.
 pub(crate) fn read_phaser_head(line: &[u8]) -> Result<PhaserHead, Code>
     ensures phase { IfOk result (λ h. h.phase ≤ 2147483647) }
     ensures value { result ≡ spec.numbered (spec.head_words (words_of line.now)) }
 {
-    let Some(words) = head_words(line) else {
-        return Err(Code::BadLine);
-    };
-    match head_numbers(&words) {
-        Some(head) => Ok(head),
-        None => Err(Code::BadNumber),
-    }
+    let words = head_words(line).ok_or(Code::BadLine)?;
+    head_numbers(&words).ok_or(Code::BadNumber)
 }

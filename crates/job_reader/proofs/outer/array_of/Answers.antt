@@ -1,15 +1,20 @@
-use Rattle.std.proofs.Common.{ℤ, ◌∷◌, List, ◌∙◌, ap, sym, Result}
-use Rattle.text_lines.specs.declared.refusal.Code.{Code}
-use Rattle.job_words.specs.Faults.{both, made}
-use Rattle.job_words.specs.Words.{Words, named}
-use Rattle.job_reader.specs.Reading.{items_if_ok, array_of}
-use Rattle.job_reader.proofs.OuterRefused.{under, array_refused}
+use Rattle.std.proofs.Common.{rules, ◌∙◌, ◌∷◌, ap, sym}
+use Rattle.text_lines.specs.Text.{words_of}
+use Rattle.job_words.specs.Words.{Words}
+use Rattle.job_reader.proofs.OuterRefused.{array-said, array-failed}
 use Rattle.job_reader.proofs.outer.array_of.Goals as goal
 
-pub returns-in-Err : goal.returns-in-Err
-returns-in-Err c =
-    let name = c.in-Some.name.now in
-    array_refused name c.named.result c.in_ok-cells.cells c.in-Err.code (sym c.in-Err.is ∙ c.both.ensures)
-    ∙ (ap (λ (n : Result (Unit {0}) Code). made (under name) (both n (items_if_ok c.in_ok-cells.cells))) c.named.ensures
-    ∙ (ap (λ (cells : Result (List ℤ) Code). made (under name) (both (named name) cells)) c.in_ok-cells.ensures
-    ∙ ap array_of (sym (c.in-Some.ensures.words ∙ ap (λ (ws : Words). name ∷ ws) c.in-Some-split_word.ensures.words))))
+pub returns-in_err-cells : goal.returns-in_err-cells
+returns-in_err-cells c =
+    let first = rw c.in_ok-name.ensures.ok_part at c.split_word.ensures.words in
+    let second = rw c.in_ok-len.ensures.ok_part at c.split_word-2.ensures.words in
+    let refused = array-failed (words_of c.args.line.now) c.in_ok-name.name.now c.in_ok-len.len.now (words_of c.in_ok-len.values.now) c.named.result c.cells_of.result _
+      (first ∙ ap (λ (ws : Words). c.in_ok-name.name.now ∷ ws) second) c.named.ensures c.cells_of.ensures (sym c.joined.ensures ∙ c.in_err-cells.was) in
+    search (rules, refused)
+
+pub returns : goal.returns
+returns c =
+    let first = rw c.in_ok-name.ensures.ok_part at c.split_word.ensures.words in
+    let second = rw c.in_ok-len.ensures.ok_part at c.split_word-2.ensures.words in
+    array-said (words_of c.args.line.now) c.in_ok-name.name.now c.in_ok-len.len.now (words_of c.in_ok-len.values.now) c.named.result c.cells_of.result _
+    (first ∙ ap (λ (ws : Words). c.in_ok-name.name.now ∷ ws) second) c.named.ensures c.cells_of.ensures (sym c.joined.ensures ∙ c.in_ok-cells.was)

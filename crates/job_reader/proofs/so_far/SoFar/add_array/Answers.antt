@@ -1,14 +1,14 @@
 use Rattle.std.proofs.Common.{◌∙◌, sym, ap}
 use Rattle.job_words.specs.Views.{lent}
 use Rattle.job_reader.proofs.KeptLines.{array-read}
-use Rattle.job_reader.proofs.NewArrays.{array-ok, array-new}
+use Rattle.job_reader.proofs.NewArrays.{array-new}
 use Rattle.job_reader.proofs.so_far.SoFar.add_array.Goals as goal
 
 pub name_text-requires : goal.name_text-requires
 name_text-requires c =
-    (array-read _ (c.in-Ok-Ok.array.0.now, c.in-Ok-Ok.array.1.items) (array-ok c.in-Ok-Ok.field-0 c.in-Ok-Ok.array _ c.in-Ok-Ok.field-0-is c.in-Ok-Ok.ensures)).0
+    (array-read _ (c.in_ok-name.name.now, c.in_ok-name.cells.items) c.in_ok-name.ensures).0
 
 pub push_array-requires-clause-new : goal.push_array-requires-clause-new
 push_array-requires-clause-new c =
-    array-new c.args.self.now _ _ _ c.in-Ok-Ok.array.0.now c.in-Ok-Ok.array.1.items c.requires (ap lent c.deref.ensures.value)
-    (sym c.is_among.ensures ∙ c.if-is_among.false) c.in-Ok.ensures (array-ok c.in-Ok-Ok.field-0 c.in-Ok-Ok.array _ c.in-Ok-Ok.field-0-is c.in-Ok-Ok.ensures)
+    array-new c.args.self.now _ _ _ c.in_ok-name.name.now c.in_ok-name.cells.items c.requires (ap lent c.deref.ensures.value)
+    (sym c.is_among.ensures ∙ c.if-is_among.false) c.in_ok-text.ensures c.in_ok-name.ensures
