@@ -7,6 +7,7 @@ ghost use Rattle.tier_calls.specs.Registers.{token_of, opened_of, Registers, Ope
 use crate::going::Going;
 use crate::tiers::Tiers;
 use crate::tokens::{Crew, Door, Opening};
+use phaser_word::MOST_PARTIES;
 use tier_core::call::{Cause, Played, Progress};
 use tier_core::turn::claims;
 use tier_steps::kind::Kind;
@@ -105,7 +106,7 @@ impl Tiers {
     pub fn join(&self, door: Door, tier: u16, size: u32, tries: u32) -> Registered
         requires own { door.tree ≡ self.now }
         requires tier { tier < length self.now.key.shape }
-        requires size { (0 < size) × (size ≤ 65535) }
+        requires size { (0 < size) × (size ≤ MOST_PARTIES) }
         ensures answer { Registers door tier size tries result }
         ensures made { HasEntered door.steps (token_of result).steps }
         ensures ended { (phase : ℕ) → door.view.end_seen ≡ Some phase → HasEnded result }

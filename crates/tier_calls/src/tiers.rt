@@ -16,7 +16,7 @@ use crate::tokens::{Crew, Door};
 use crate::writing::step_in;
 use advance_rule::EndPlan;
 use atomic_table::{Seat, Table};
-use phaser_word::Word;
+use phaser_word::{LAST_PHASE, Word};
 use std::alloc::{AllocError, Global};
 use std::marker::{Brand, Model};
 use tier_core::turn::above;
@@ -65,7 +65,7 @@ impl Tiers {
         phase: u32,
         plan: EndPlan,
     ) -> Result<(Tiers, Seated), AllocError>
-        requires { phase ≤ 2147483647 }
+        requires { phase ≤ LAST_PHASE }
         ensures tree { IfOk result (λ r. r.0.key ≡ record { shape = shape; phase = phase; plan = plan }) }
         ensures token { IfOk result (λ r. (r.1.tree ≡ r.0) × (r.1.view ≡ new_view phase) × (r.1.tier ≡ 0) × (r.1.word ≡ empty_word phase) × (r.1.tried ≡ 0) × (r.1.steps ≡ []) × (r.1.opened ≡ 0)) }
     {
@@ -97,7 +97,7 @@ impl Tiers {
         phase: u32,
         plan: EndPlan,
     ) -> Result<(Tiers, Door), AllocError>
-        requires { phase ≤ 2147483647 }
+        requires { phase ≤ LAST_PHASE }
         ensures tree { IfOk result (λ r. r.0.key ≡ record { shape = shape; phase = phase; plan = plan }) }
         ensures token { IfOk result (λ r. (r.1.tree ≡ r.0) × (r.1.view ≡ new_view phase) × (r.1.tier ≡ 0) × (r.1.word ≡ empty_word phase) × (r.1.tried ≡ 0) × (r.1.steps ≡ []) × (r.1.opened ≡ 0)) }
     {
@@ -218,13 +218,12 @@ impl Tiers {
     }
 
     /// Makes a token of a new seat, by a first load of the root. `J` names the tree, for the table's rule.
-    fn sit_as<J: Keyed>(&self, seat: Seat<Kind, Sights>) -> Seated
+    fn sit_as<J: Keyed>(&self, mut seat: Seat<Kind, Sights>) -> Seated
         requires own { seat.table_id ≡ self.now.id }
         requires blank { seat.me ≡ ([], []) }
         requires key { J.key ≡ self.now.key }
         ensures { IsSat self.now result }
     {
-        let mut seat = seat;
         let found = self.table.shared.load::<Sits<J>>(&mut seat, 0);
         let seen = Seen::at(found);
         let word = seen.word();

@@ -6,7 +6,7 @@ ghost use Rattle.tier_core.specs.Run.{may_call};
 use crate::call::{Answer, Call, NotNow, Played, Progress, Step, Turn};
 use crate::turn::{above, last_turn, next_turn, word_of};
 use advance_rule::EndPlan;
-use phaser_word::Word;
+use phaser_word::{LAST_PHASE, Word};
 use std::alloc::{AllocError, Global};
 use std::marker::Model;
 use tier_shape::Shape;
@@ -97,7 +97,7 @@ impl Core {
     /// Creates a tree of this shape in `phase`, with empty tiers and no tokens. It ends at an advance if `plan`
     /// says so.
     pub fn new(alloc: Global, shape: Shape, phase: u32, plan: EndPlan) -> Result<Self, AllocError>
-        requires { phase ≤ 2147483647 }
+        requires { phase ≤ LAST_PHASE }
         ensures { IfOk result (λ c. c ≡ opened shape phase plan) }
     {
         let word = Word {
