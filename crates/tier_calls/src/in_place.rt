@@ -11,6 +11,7 @@ ghost use Rattle.tier_calls.specs.Next.{is_passing};
 ghost use Rattle.tier_calls.specs.Goes.{WentOn};
 ghost use Rattle.tier_calls.specs.InPlace.{ArrivesInPlace, HasEnded, MayCome, Comes, RanOver};
 
+use crate::TRIES;
 use crate::going::Course;
 use crate::next::goes_on;
 use crate::seated::Seated;
@@ -22,10 +23,8 @@ use std::thread;
 use tier_core::call::{Played, Progress};
 use tier_steps::view::Passage;
 
-/// The number of tries before a thread lets others run: enough for any call if no other token takes a step.
-const TRIES: u32 = 16;
-
-/// The answer of [`Tiers::arrive_in_place`](crate::tiers::Tiers::arrive_in_place).
+/// The answer of an arrival in place: [`Tiers::arrive_in_place`](crate::tiers::Tiers::arrive_in_place), and
+/// `arrive_in_place` of `tier_table::Tree`.
 #[derive(Clone, Copy, PartialEq, Eq)]
 pub enum Came {
     /// A member has arrived. To learn when the phase has passed, poll the crew.

@@ -12,8 +12,8 @@ use tier_core::call::{Cause, Played, Progress};
 use tier_core::turn::claims;
 use tier_steps::kind::Kind;
 
-/// The answer of a registration: [`Tiers::join`](crate::tiers::Tiers::join) or
-/// [`Tiers::join_beside`](crate::tiers::Tiers::join_beside).
+/// The answer of a registration: [`Tiers::join`](crate::tiers::Tiers::join) and
+/// [`Tiers::join_beside`](crate::tiers::Tiers::join_beside), and `register` and `join_here` of `tier_table::Tree`.
 ///
 /// Only `Joined` has registered anybody. `Held`, `Full`, `Ended` and `Busy` return the door without members.
 pub enum Registered {
@@ -34,7 +34,8 @@ pub enum Registered {
     Owing(Opening),
 }
 
-/// The answer of a resumed registration: [`Tiers::open_on`](crate::tiers::Tiers::open_on).
+/// The answer of a resumed registration: [`Tiers::open_on`](crate::tiers::Tiers::open_on), and `resume_opening` of
+/// `tier_table::Tree`.
 ///
 /// Only `Joined` has registered anybody. All answers but `Owing` hold no tier any more.
 pub enum Opened {

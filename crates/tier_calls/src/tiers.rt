@@ -46,17 +46,6 @@ impl Model for Tiers {
     ghost invariant = { λ t. IsTable t.table.shared.table_id.words t.table.shared.table_id.slots t.key t.table.shared.key };
 }
 
-/// Returns `count` copies of `number`.
-fn numbers_of(alloc: Global, count: usize, number: u64) -> Result<Vec<u64>, AllocError>
-    ensures { IfOk result (λ numbers. numbers.items ≡ replicate count number) }
-{
-    let mut numbers = Vec::with_capacity(alloc, count)?;
-    for _ in 0..count {
-        numbers.push(number)?;
-    }
-    Ok(numbers)
-}
-
 impl Tiers {
     /// Creates empty tiers in `phase`, and the first token.
     fn seated(
@@ -75,7 +64,7 @@ impl Tiers {
             unarrived: 1,
             ended: false,
         });
-        let numbers = numbers_of(alloc, shape.count(), word.number())?;
+        let numbers = vec![in alloc; word.number(); shape.count()]?;
         let key = Key { shape, phase, plan };
         let (table, seat) = Table::of_words(alloc, &numbers, &key)?;
         let view = View::new(phase);
