@@ -1,7 +1,21 @@
-//! A phaser in one 64-bit number, for C: each call takes the number and gives the next one.
+//! A phaser in one 64-bit number, for C: each call takes the number and returns the next one.
 //!
-//! A user keeps the number in an atomic word and exchanges it for the next; the numbers of any number of
-//! threads are then a run of one phaser (`exchanges_are_one_run`).
+//! Keep the number in an atomic word, and exchange it for the next one by a compare-and-swap. The exchanges of any number
+//! of threads are then a run of one phaser (law `exchanges_are_one_run`).
+//!
+//! Each call returns a status:
+//!
+//! | Status | Meaning |
+//! |---|---|
+//! | 0 | done |
+//! | 1 | `word` is not the number of a phaser, or `phase` is above 2147483647 |
+//! | 2 | the phase has not passed |
+//! | 3 | fewer than 0 parties, or more than 65535, for a new phaser |
+//! | 4 | no room for the new parties |
+//! | 5 | no party is unarrived |
+//! | 6 | fewer than 0 parties to add |
+//!
+//! After a status other than 0 the next number is the old one, and `answer` is 0.
 #![tactic(auto)]
 
 ghost use Rattle.std.specs.Prelude.{◌≡◌, ◌≢◌, ◌≤◌, pos};
@@ -22,10 +36,10 @@ use crate::step::step;
 use advance_rule::CountPlan;
 use phaser_one::Call;
 
-// For calls that bring no advance, and so ask no plan.
+// The plan for calls that never advance the phaser, and so ask no plan.
 const NO_PLAN: CountPlan = CountPlan { least: 0, at: None };
 
-// The plan of an arrival or a departure.
+// Returns the plan of an arrival or a departure.
 fn plan(least: u32, at: u32) -> CountPlan
     ensures { result ≡ plan_of least at }
 {
@@ -35,8 +49,10 @@ fn plan(least: u32, at: u32) -> CountPlan
     }
 }
 
-/// Makes a phaser with so many parties, none of which has arrived, in this phase, and puts its number into
-/// `word`. Status 1 above phase 2147483647, else 3 below 0 parties and above 65535; then `word` stays.
+/// Creates a phaser with `parties` parties, all unarrived, in `phase`, and stores its number in `word`.
+///
+/// Returns 1 if `phase` is above 2147483647, else 3 if `parties` is below 0 or above 65535, else 0. Unless it returns 0,
+/// `word` keeps its value.
 #[unsafe(no_mangle)]
 pub extern "C" fn bsp_phaser_new(parties: i64, phase: u32, word: &mut u64) -> i32
     ensures status { result ≡ status_of_new parties phase }
@@ -52,8 +68,8 @@ pub extern "C" fn bsp_phaser_new(parties: i64, phase: u32, word: &mut u64) -> i3
     }
 }
 
-/// One party arrives; the last brings the next phase (Java SE 21, `Phaser.arrive`). The phaser ends at an
-/// advance with fewer parties than `least`, and at that of phase `at`. Answers the phase of the arrival.
+/// Arrives with one party (Java SE 21, `Phaser.arrive`). The last to arrive advances the phaser, which ends if fewer
+/// than `least` parties are registered or the phase is `at`. The answer is the phase of the arrival.
 #[unsafe(no_mangle)]
 pub extern "C" fn bsp_phaser_arrive(
     word: u64,
@@ -67,8 +83,8 @@ pub extern "C" fn bsp_phaser_arrive(
     step(word, plan(least, at), Call::Arrive, next, answer)
 }
 
-/// One party arrives and leaves (Java SE 21, `Phaser.arriveAndDeregister`); `least` and `at` as for an
-/// arrival, of the parties that are left. Answers the phase of the arrival.
+/// Arrives with one party and deregisters it (Java SE 21, `Phaser.arriveAndDeregister`). `least` and `at` are as for
+/// [`bsp_phaser_arrive`], for the parties that are left. The answer is the phase of the arrival.
 #[unsafe(no_mangle)]
 pub extern "C" fn bsp_phaser_leave(
     word: u64,
@@ -82,7 +98,7 @@ pub extern "C" fn bsp_phaser_leave(
     step(word, plan(least, at), Call::Leave, next, answer)
 }
 
-/// So many parties register (Java SE 21, `Phaser.bulkRegister`). Answers the phase to which this applies.
+/// Registers `count` parties (Java SE 21, `Phaser.bulkRegister`). The answer is the phase to which this applies.
 #[unsafe(no_mangle)]
 pub extern "C" fn bsp_phaser_register(
     word: u64,
@@ -95,8 +111,8 @@ pub extern "C" fn bsp_phaser_register(
     step(word, NO_PLAN, Call::Bulk(count), next, answer)
 }
 
-/// Whether a phase is over (Java SE 21, `Phaser.awaitAdvance`, without waiting): status 2 where it isn't. The
-/// word stays.
+/// Asks whether `phase` has passed (Java SE 21, `Phaser.awaitAdvance`, but without waiting). Returns 2 if it has not. The
+/// number doesn't change.
 #[unsafe(no_mangle)]
 pub extern "C" fn bsp_phaser_await(word: u64, phase: i32, answer: &mut i32) -> i32
     ensures { (plan : CountPlan) → IsStep plan (spec.Await phase) word word result answer.new }
@@ -105,7 +121,7 @@ pub extern "C" fn bsp_phaser_await(word: u64, phase: i32, answer: &mut i32) -> i
     step(word, NO_PLAN, Call::Await(phase), &mut next, answer)
 }
 
-/// Ends the phaser at once (Java SE 21, `Phaser.forceTermination`). Answers the phase shown.
+/// Ends the phaser at once (Java SE 21, `Phaser.forceTermination`). The answer is the phase shown.
 #[unsafe(no_mangle)]
 pub extern "C" fn bsp_phaser_force(word: u64, next: &mut u64, answer: &mut i32) -> i32
     ensures { (plan : CountPlan) → IsStep plan spec.Force word next.new result answer.new }
@@ -113,8 +129,8 @@ pub extern "C" fn bsp_phaser_force(word: u64, next: &mut u64, answer: &mut i32) 
     step(word, NO_PLAN, Call::Force, next, answer)
 }
 
-/// The phase shown: less 2147483648, and so negative, once the phaser has ended (Java SE 21, `Phaser.getPhase`;
-/// the number is own).
+/// Reads the phase shown (Java SE 21, `Phaser.getPhase`). If the phaser has ended, this is its phase less 2147483648, a
+/// number that is not part of Java's API.
 #[unsafe(no_mangle)]
 pub extern "C" fn bsp_phaser_phase(word: u64, answer: &mut i32) -> i32
     ensures { IsReading shown word result answer.new }
@@ -122,7 +138,7 @@ pub extern "C" fn bsp_phaser_phase(word: u64, answer: &mut i32) -> i32
     read(word, Reading::Phase, answer)
 }
 
-/// How many are registered (Java SE 21, `Phaser.getRegisteredParties`).
+/// Reads the number of registered parties (Java SE 21, `Phaser.getRegisteredParties`).
 #[unsafe(no_mangle)]
 pub extern "C" fn bsp_phaser_parties(word: u64, answer: &mut i32) -> i32
     ensures { IsReading parties_in word result answer.new }
@@ -130,7 +146,7 @@ pub extern "C" fn bsp_phaser_parties(word: u64, answer: &mut i32) -> i32
     read(word, Reading::Parties, answer)
 }
 
-/// How many of them have arrived in this phase (Java SE 21, `Phaser.getArrivedParties`).
+/// Reads the number of parties that have arrived in this phase (Java SE 21, `Phaser.getArrivedParties`).
 #[unsafe(no_mangle)]
 pub extern "C" fn bsp_phaser_arrived(word: u64, answer: &mut i32) -> i32
     ensures { IsReading arrived_in word result answer.new }
@@ -138,7 +154,7 @@ pub extern "C" fn bsp_phaser_arrived(word: u64, answer: &mut i32) -> i32
     read(word, Reading::Arrived, answer)
 }
 
-/// How many of them haven't arrived in this phase (Java SE 21, `Phaser.getUnarrivedParties`).
+/// Reads the number of parties that have not arrived in this phase (Java SE 21, `Phaser.getUnarrivedParties`).
 #[unsafe(no_mangle)]
 pub extern "C" fn bsp_phaser_unarrived(word: u64, answer: &mut i32) -> i32
     ensures { IsReading unarrived_in word result answer.new }
@@ -146,7 +162,7 @@ pub extern "C" fn bsp_phaser_unarrived(word: u64, answer: &mut i32) -> i32
     read(word, Reading::Unarrived, answer)
 }
 
-/// 1 where the phaser has ended, else 0 (Java SE 21, `Phaser.isTerminated`).
+/// Reads 1 if the phaser has ended, else 0 (Java SE 21, `Phaser.isTerminated`).
 #[unsafe(no_mangle)]
 pub extern "C" fn bsp_phaser_ended(word: u64, answer: &mut i32) -> i32
     ensures { IsReading ended_in word result answer.new }
@@ -154,18 +170,18 @@ pub extern "C" fn bsp_phaser_ended(word: u64, answer: &mut i32) -> i32
     read(word, Reading::Ended, answer)
 }
 
-/// However many threads exchange the number in a word for what a call gives of it, the calls in the order of the
-/// exchanges are a run of one phaser.
+/// If any number of threads exchange the number in a word for the next number of a call, then their calls, in the order
+/// of the exchanges, are a run of one phaser.
 pub fn exchanges_are_one_run()
     ensures { ExchangesAreOneRun }
 {}
 
-/// No call takes the phase on before all parties then registered have arrived.
+/// No call advances the phase before all parties then registered have arrived.
 pub fn no_phase_passes_early()
     ensures { NoPhasePassesEarly }
 {}
 
-/// The status of each reply is written down and not said by a rule.
+/// The status of each answer, one by one.
 pub fn statuses_are_numbered()
     ensures { StatusesAreNumbered }
 {}

@@ -1,4 +1,4 @@
-//! What is told of a number without changing it.
+//! Reading a number without changing it.
 ghost use Rattle.std.specs.Prelude.{◌≡◌, ◌≤◌, pos};
 ghost use Rattle.flat_phaser.specs.Flat.{Flat};
 ghost use Rattle.flat_phaser.specs.Alike.{IsAlike};
@@ -8,22 +8,22 @@ ghost use Rattle.bsp_phaser.specs.Readings.{IsReading, told_by};
 use crate::number::{NO_WORD, word_of};
 use phaser_word::Word;
 
-/// A question about a phaser.
+/// What to read of a phaser.
 #[derive(Clone, Copy)]
 pub(crate) enum Reading {
     /// The phase shown.
     Phase,
-    /// How many are registered.
+    /// The number of registered parties.
     Parties,
-    /// How many of them have arrived in this phase.
+    /// The number of parties that have arrived in this phase.
     Arrived,
-    /// How many of them haven't arrived in this phase.
+    /// The number of parties that have not arrived in this phase.
     Unarrived,
-    /// Whether it has ended.
+    /// 1 if the phaser has ended, else 0.
     Ended,
 }
 
-// What is told of this state.
+// Reads a word.
 fn told(word: Word, reading: Reading) -> i32
     requires counted { word.unarrived ≤ word.parties }
     ensures { (f : Flat) → IsAlike f (flat_of word) → result ≡ told_by reading f }
@@ -37,7 +37,7 @@ fn told(word: Word, reading: Reading) -> i32
     }
 }
 
-// Puts what is told of a number, or 0 where it is no word, and answers the status.
+// Stores what is read of a number in `answer`, or 0 if it holds no word, and returns the status.
 pub(crate) fn read(number: u64, reading: Reading, answer: &mut i32) -> i32
     ensures { IsReading (told_by reading) number result answer.new }
 {

@@ -9,7 +9,7 @@ use advance_rule::{CountPlan, StoredCount};
 use phaser_one::{Call, OneFault, PhaserOne, Reply};
 use phaser_word::Word;
 
-// The status of a reply.
+// Returns the status of a reply.
 fn status_of(reply: Reply) -> i32
     ensures { result ≡ status_told reply }
 {
@@ -23,7 +23,7 @@ fn status_of(reply: Reply) -> i32
     }
 }
 
-// The phase of a reply, 0 where it has none.
+// Returns the phase of a reply, or 0 if it has none.
 fn answer_of(reply: Reply) -> i32
     ensures { result ≡ answer_told reply }
 {
@@ -33,7 +33,7 @@ fn answer_of(reply: Reply) -> i32
     }
 }
 
-// The state after a call, and what the call answers.
+// Makes a call, and returns the state after it and its reply.
 fn called(word: Word, plan: CountPlan, call: Call) -> (Word, Reply)
     requires counted { word.unarrived ≤ word.parties }
     ensures flat { Follows plan call word result.0 result.1 }
@@ -45,7 +45,7 @@ fn called(word: Word, plan: CountPlan, call: Call) -> (Word, Reply)
     (phaser.word(), reply)
 }
 
-// The number of a state of a single phaser.
+// Packs a state of a single phaser.
 fn number_of(word: Word) -> u64
     requires counted { word.unarrived ≤ word.parties }
     ensures { IsWordOf word result }
@@ -53,7 +53,7 @@ fn number_of(word: Word) -> u64
     word.pack()
 }
 
-// The call on a number: puts the next one and the answer, and answers the status.
+// Makes a call on a number: stores the next number and the answer, and returns the status.
 pub(crate) fn step(
     number: u64,
     plan: CountPlan,

@@ -2,7 +2,7 @@
 use Rattle.std.specs.Prelude.{◌≡◌, ℕ, ◌+◌, Bool, true, false, ◌==◌, if◌then◌else◌, List, [], ◌∷◌}
 use Rattle.phaser_word.specs.Phase.{next_phase_of}
 use Rattle.flat_phaser.specs.Flat.{Flat, Member, members_of, arrived_of, everyone_arrived, unarrived, empty_in}
-use Rattle.flat_phaser.specs.Step.{FlatStep, Join, Arrive, Leave, Advance, Force, flat_step, taken, MayTake, IsFlatRun, flat_run}
+use Rattle.flat_phaser.specs.Step.{FlatStep, Join, Arrive, Leave, Advance, flat_step, taken, MayTake, IsFlatRun, flat_run}
 use Rattle.flat_phaser.specs.Alike.{IsAlike, IsSound, MayLeave}
 
 -- In every run, from a phaser without members, an advance may come only where everyone who is registered has arrived.
@@ -25,18 +25,12 @@ ArrivalsCountOnce =
 -- how many more have arrived after a step: one more of the owner that arrives
 abbrev pub arrivals_of : FlatStep → ℕ → ℕ
 arrivals_of (Arrive who) owner = if who == owner then 1 else 0
-arrivals_of (Join who count) owner = 0
-arrivals_of (Leave who) owner = 0
-arrivals_of (Advance ends) owner = 0
-arrivals_of Force owner = 0
+arrivals_of _ owner = 0
 
 -- whether a step takes the next phase
 abbrev pub is_advance : FlatStep → Bool
 is_advance (Advance ends) = true
-is_advance (Arrive owner) = false
-is_advance (Join owner count) = false
-is_advance (Leave owner) = false
-is_advance Force = false
+is_advance _ = false
 
 -- Between two advances no arrival is lost, and none comes but by an arrival.
 abbrev pub NoArrivalIsLost : Type 0

@@ -7,7 +7,7 @@ use Rattle.advance_rule.specs.Plan.{count_ends}
 use Rattle.flat_phaser.specs.Flat.{Flat, registered, unarrived, everyone_arrived}
 use Rattle.phaser_word.specs.Phase.{shown_of}
 use Rattle.flat_phaser.specs.Alike.{IsAlike}
-use Rattle.phaser_one.specs.Calls.{Call, Register, Bulk, Arrive, Leave, Await, Force, Reply, Number, Waiting, Refused, Full, NobodyUnarrived, Negative, answer, called, after}
+use Rattle.phaser_one.specs.Calls.{Call, Bulk, Arrive, Leave, Await, Reply, Number, Waiting, Refused, Full, NobodyUnarrived, Negative, answer, called, after}
 use Rattle.phaser_one.specs.Seen.{flat_of}
 
 -- a call advances: everyone who was then registered has arrived, and the phase is the next one
@@ -81,12 +81,9 @@ AlikeWordsAreOne = (u v : Fields) → u.unarrived ≤ u.parties → v.unarrived 
 
 -- whether a call arrives or leaves
 abbrev pub is_arrival : Call → Bool
-is_arrival Register = false
-is_arrival (Bulk count) = false
 is_arrival Arrive = true
 is_arrival Leave = true
-is_arrival (Await phase) = false
-is_arrival Force = false
+is_arrival _ = false
 
 -- Only arrivals and departures ask the plan: any other call leaves the same by each.
 abbrev pub OnlyArrivalsAskThePlan : Type 0

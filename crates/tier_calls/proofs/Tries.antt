@@ -148,26 +148,12 @@ passing_going (Due own) q = refl
 passing_going (Refreshing passed_on) q = refl
 
 passing_means : (p : Progress) (v : View) → is_passing p ≡ true → meant p v ≡ Look
-passing_means Idle v q = refl
-passing_means (Begun c) v q = refl
 passing_means (ToSeek tier size) v q = not_both false q refl
-passing_means Settling v q = refl
-passing_means (ToGiveBack answer) v q = refl
-passing_means (Passing passage) v q = refl
-passing_means (Owing own) v q = refl
-passing_means (Due own) v q = refl
-passing_means (Refreshing passed_on) v q = refl
+passing_means _ v q = refl
 
 no_way_back : (p : Progress) → is_passing p ≡ true → is_back p ≡ false
-no_way_back Idle q = refl
-no_way_back (Begun c) q = refl
-no_way_back (ToSeek tier size) q = refl
-no_way_back Settling q = refl
 no_way_back (ToGiveBack answer) q = not_both false q refl
-no_way_back (Passing passage) q = refl
-no_way_back (Owing own) q = refl
-no_way_back (Due own) q = refl
-no_way_back (Refreshing passed_on) q = refl
+no_way_back _ q = refl
 
 no_way_on : (p p' : Progress) (b : Bool) → is_passing p ≡ true → p' ≡ cond b Idle p → is_back p' ≡ false
 no_way_on p p' true q e = ap is_back e
@@ -207,91 +193,64 @@ stands_by {n} {g} {g'} s e = ⊎_elim (λ (z : is_going g'.progress ≡ false). 
 pub ran_once : {n : Named} {g g' g'' : Going} → WentOn n 0 g g' → WentOn n 1 g' g'' → Ran n 1 g g''
 ran_once {n} {g} {g'} {g''} a b = record { used = 1; went = went_then n 0 1 g g' g'' a b; few = omega arith; all = λ e. refl }
 
--- an arrival or a departure goes on as one
-abbrev OnlyPasses : Progress → Type 0
-OnlyPasses p = is_going p ≡ true → is_passing p ≡ true
+-- Until it is over, a call has come only so far as `kept` says.
+abbrev Only : (Progress → Bool) → Progress → Type 0
+Only kept p = is_going p ≡ true → kept p ≡ true
 
-owed_passes : (own : Passage) (e : Errand) → OnlyPasses (goes_on own e)
-owed_passes own Rest g = not_both false g refl
-owed_passes own Advancing g = refl
-owed_passes own (Climbing t passage) g = refl
-owed_passes own (Opening tier claimed stage size) g = not_both false g refl
+owed_kept : (kept : Progress → Bool) (own : Passage) → kept (Owing own) ≡ true → kept (Due own) ≡ true → (e : Errand) → Only kept (goes_on own e)
+owed_kept kept own owing due Rest g = not_both false g refl
+owed_kept kept own owing due Advancing g = due
+owed_kept kept own owing due (Climbing t passage) g = owing
+owed_kept kept own owing due (Opening tier claimed stage size) g = not_both false g refl
 
-pass_passes : (ps : List ℕ) (own : Passage) (t : ℕ) (passage : Passage) (kind : Kind) (here : Progress) (over : Played) (w : Fields) (v : View) → OnlyPasses here
-    → OnlyPasses (pass_turn ps own t passage kind here over w v).next
-pass_passes ps own t passage kind here over w v h =
-    by_cond (λ (r : Turn). OnlyPasses r.next) w.ended _ _ (λ e g. not_both false g refl)
-    (λ e. by_cond (λ (r : Turn). OnlyPasses r.next) (lags w v) _ _ (λ f. h) (λ f. owed_passes own (owed (parent_of ps t) t passage w)))
+-- so it is after a step that passes a tier
+pass_kept : (kept : Progress → Bool) (ps : List ℕ) (own : Passage) (t : ℕ) (passage : Passage) (kind : Kind) (here : Progress) (over : Played) (w : Fields) (v : View)
+    → kept (Owing own) ≡ true → kept (Due own) ≡ true → Only kept here → Only kept (pass_turn ps own t passage kind here over w v).next
+pass_kept kept ps own t passage kind here over w v owing due h =
+    by_cond (λ (r : Turn). Only kept r.next) w.ended _ _ (λ e g. not_both false g refl)
+    (λ e. by_cond (λ (r : Turn). Only kept r.next) (lags w v) _ _ (λ f. h) (λ f. owed_kept kept own owing due (owed (parent_of ps t) t passage w)))
 
-next_passes : (ps : List ℕ) (b : Bool) (w : Fields) (p : Progress) (v : View) → CallFits ps p v → is_passing p ≡ true → OnlyPasses (turn_by ps b w p v).next
-next_passes ps b w Idle v fits q = not_both false q refl
-next_passes ps b w (Begun c) v fits q = not_both false q refl
-next_passes ps b w (ToSeek tier size) v fits q = not_both false q refl
-next_passes ps b w Settling v fits q = not_both false q refl
-next_passes ps b w (ToGiveBack answer) v fits q = not_both false q refl
-next_passes ps b w (Passing passage) v fits q = pass_passes ps passage v.tier passage (own_kind passage) (Passing passage) (end_shown w) w v (λ g. refl)
-next_passes ps b w (Owing own) v fits q =
-    subst (λ (e : Errand). OnlyPasses (climb_turn ps own w v e).next) (sym fits.2) (pass_passes ps own fits.0 fits.1 (Climb fits.1) (Owing own) (Done v.phase) w v (λ g. refl))
-next_passes ps b w (Due own) v fits q = λ g. not_both false g refl
-next_passes ps b w (Refreshing passed_on) v fits q = not_both false q refl
+climb_kept : (kept : Progress → Bool) (ps : List ℕ) (own : Passage) (w : Fields) (v : View) → CallFits ps (Owing own) v → kept (Owing own) ≡ true → kept (Due own) ≡ true
+    → Only kept (climb_turn ps own w v v.errand).next
+climb_kept kept ps own w v fits owing due =
+    subst (λ (e : Errand). Only kept (climb_turn ps own w v e).next) (sym fits.2)
+    (pass_kept kept ps own fits.0 fits.1 (Climb fits.1) (Owing own) (Done v.phase) w v owing due (λ g. owing))
 
-passing_stays : (k : Key) (from at : Position) → is_passing from.progress ≡ true → Goes k from at → OnlyPasses at.progress
-passing_stays k from at q starts = λ g. q
-passing_stays k from at q (steps at' w b go fits g beside says) = next_passes k.shape b w at'.progress at'.view fits (passing_stays k from at' q go g)
-passing_stays k from at q (looks at' w go fits g beside) =
+-- What each next step keeps, the whole call keeps.
+call_kept : (kept : Progress → Bool)
+    → ((ps : List ℕ) (b : Bool) (w : Fields) (p : Progress) (v : View) → CallFits ps p v → kept p ≡ true → Only kept (turn_by ps b w p v).next)
+    → (k : Key) (from at : Position) → kept from.progress ≡ true → Goes k from at → Only kept at.progress
+call_kept kept next k from at q starts = λ g. q
+call_kept kept next k from at q (steps at' w b go fits g beside says) = next k.shape b w at'.progress at'.view fits (call_kept kept next k from at' q go g)
+call_kept kept next k from at q (looks at' w go fits g beside) =
     let r : Turn = turn_by k.shape false w at'.progress at'.view in
     let t : ℕ = place k.shape at'.progress at'.view in
-    let u : View = view_after (parent_of k.shape t) (looking (meant at'.progress at'.view) t w) t w at'.view in
-    by_test (λ c. OnlyPasses (cond {A = Position} c (record { progress = r.next; view = u; answer = r.answer; steps = looking (meant at'.progress at'.view) t w ∷ at'.steps }) (record { progress = at'.progress; view = u; answer = GoesOn; steps = looking (meant at'.progress at'.view) t w ∷ at'.steps })).progress)
+    let kind : Kind = looking (meant at'.progress at'.view) t w in
+    let u : View = view_after (parent_of k.shape t) kind t w at'.view in
+    by_test (λ c. Only kept (cond {A = Position} c (record { progress = r.next; view = u; answer = r.answer; steps = kind ∷ at'.steps }) (record { progress = at'.progress; view = u; answer = GoesOn; steps = kind ∷ at'.steps })).progress)
     (is_look r.kind)
-    (λ e. next_passes k.shape false w at'.progress at'.view fits (passing_stays k from at' q go g))
-    (λ e. passing_stays k from at' q go)
+    (λ e. next k.shape false w at'.progress at'.view fits (call_kept kept next k from at' q go g))
+    (λ e. call_kept kept next k from at' q go)
+
+-- an arrival or a departure stays one until it is over
+next_passes : (ps : List ℕ) (b : Bool) (w : Fields) (p : Progress) (v : View) → CallFits ps p v → is_passing p ≡ true → Only is_passing (turn_by ps b w p v).next
+next_passes ps b w (Passing passage) v fits q =
+    pass_kept is_passing ps passage v.tier passage (own_kind passage) (Passing passage) (end_shown w) w v refl refl (λ g. refl)
+next_passes ps b w (Owing own) v fits q = climb_kept is_passing ps own w v fits refl refl
+next_passes ps b w (Due own) v fits q = λ g. not_both false g refl
+next_passes ps b w _ v fits q = not_both false q refl
 
 pub passing_on : {n : Named} {used : ℕ} {from at : Going} → WentOn n used from at → is_passing from.progress ≡ true → is_going at.progress ≡ true → is_passing at.progress ≡ true
-passing_on {n} {used} {from} {at} went q g = passing_stays n.key (position from) (position at) q (went.goes (position from) starts) g
+passing_on {n} {used} {from} {at} went q g = call_kept is_passing next_passes n.key (position from) (position at) q (went.goes (position from) starts) g
 
--- one that has passed its own tier never comes back to it
-abbrev OnlyOwes : Progress → Type 0
-OnlyOwes p = is_going p ≡ true → is_owing p ≡ true
-
-owed_owes : (own : Passage) (e : Errand) → OnlyOwes (goes_on own e)
-owed_owes own Rest g = not_both false g refl
-owed_owes own Advancing g = refl
-owed_owes own (Climbing t passage) g = refl
-owed_owes own (Opening tier claimed stage size) g = not_both false g refl
-
-pass_owes : (ps : List ℕ) (own : Passage) (t : ℕ) (passage : Passage) (kind : Kind) (here : Progress) (over : Played) (w : Fields) (v : View) → OnlyOwes here
-    → OnlyOwes (pass_turn ps own t passage kind here over w v).next
-pass_owes ps own t passage kind here over w v h =
-    by_cond (λ (r : Turn). OnlyOwes r.next) w.ended _ _ (λ e g. not_both false g refl)
-    (λ e. by_cond (λ (r : Turn). OnlyOwes r.next) (lags w v) _ _ (λ f. h) (λ f. owed_owes own (owed (parent_of ps t) t passage w)))
-
-next_owes : (ps : List ℕ) (b : Bool) (w : Fields) (p : Progress) (v : View) → CallFits ps p v → is_owing p ≡ true → OnlyOwes (turn_by ps b w p v).next
-next_owes ps b w Idle v fits q = not_both false q refl
-next_owes ps b w (Begun c) v fits q = not_both false q refl
-next_owes ps b w (ToSeek tier size) v fits q = not_both false q refl
-next_owes ps b w Settling v fits q = not_both false q refl
-next_owes ps b w (ToGiveBack answer) v fits q = not_both false q refl
-next_owes ps b w (Passing passage) v fits q = not_both false q refl
-next_owes ps b w (Owing own) v fits q =
-    subst (λ (e : Errand). OnlyOwes (climb_turn ps own w v e).next) (sym fits.2) (pass_owes ps own fits.0 fits.1 (Climb fits.1) (Owing own) (Done v.phase) w v (λ g. refl))
+-- after it has passed its own tier, a call never comes back to it
+next_owes : (ps : List ℕ) (b : Bool) (w : Fields) (p : Progress) (v : View) → CallFits ps p v → is_owing p ≡ true → Only is_owing (turn_by ps b w p v).next
+next_owes ps b w (Owing own) v fits q = climb_kept is_owing ps own w v fits refl refl
 next_owes ps b w (Due own) v fits q = λ g. not_both false g refl
-next_owes ps b w (Refreshing passed_on) v fits q = not_both false q refl
-
-owing_stays : (k : Key) (from at : Position) → is_owing from.progress ≡ true → Goes k from at → OnlyOwes at.progress
-owing_stays k from at q starts = λ g. q
-owing_stays k from at q (steps at' w b go fits g beside says) = next_owes k.shape b w at'.progress at'.view fits (owing_stays k from at' q go g)
-owing_stays k from at q (looks at' w go fits g beside) =
-    let r : Turn = turn_by k.shape false w at'.progress at'.view in
-    let t : ℕ = place k.shape at'.progress at'.view in
-    let u : View = view_after (parent_of k.shape t) (looking (meant at'.progress at'.view) t w) t w at'.view in
-    by_test (λ c. OnlyOwes (cond {A = Position} c (record { progress = r.next; view = u; answer = r.answer; steps = looking (meant at'.progress at'.view) t w ∷ at'.steps }) (record { progress = at'.progress; view = u; answer = GoesOn; steps = looking (meant at'.progress at'.view) t w ∷ at'.steps })).progress)
-    (is_look r.kind)
-    (λ e. next_owes k.shape false w at'.progress at'.view fits (owing_stays k from at' q go g))
-    (λ e. owing_stays k from at' q go)
+next_owes ps b w _ v fits q = not_both false q refl
 
 pub owing_on : {n : Named} {used : ℕ} {from at : Going} → WentOn n used from at → is_owing from.progress ≡ true → is_going at.progress ≡ true → is_owing at.progress ≡ true
-owing_on {n} {used} {from} {at} went q g = owing_stays n.key (position from) (position at) q (went.goes (position from) starts) g
+owing_on {n} {used} {from} {at} went q g = call_kept is_owing next_owes n.key (position from) (position at) q (went.goes (position from) starts) g
 
 -- some tries more
 pub ran_more : {n : Named} {a b : ℕ} {g g' g'' : Going} → Ran n a g g' → is_going g'.progress ≡ true → Ran n b g' g'' → Ran n (a + b) g g''

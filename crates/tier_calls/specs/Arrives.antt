@@ -1,4 +1,4 @@
--- What arrivals and departures answer, by the view of their token (own; the calls are those of Java SE 21, `Phaser`).
+-- What arrivals and departures answer, by the view of their token (the calls of Java SE 21's `Phaser`; tokens are not part of its API).
 use Rattle.std.specs.Prelude.{true, false, ◌≡◌, ℕ, ◌+◌, ◌<◌, ◌≤◌, ◌⊎◌}
 use Rattle.tier_steps.specs.Word.{next_phase_of}
 use Rattle.tier_steps.specs.declared.view.View.{View}
@@ -18,33 +18,33 @@ use Rattle.tier_calls.specs.declared.arriving.Arrived.TheVariants.{Done, Left, A
 use Rattle.tier_calls.specs.declared.arriving.Resumed.{Resumed}
 use Rattle.tier_calls.specs.declared.arriving.Resumed.TheVariants as resumed
 
--- as the first look of a call leaves a view with members: as it was, or one phase on with nobody arrived
+-- the view of a token with members after the first look of a call: as before, or in the next phase with nobody arrived
 pub record IsLooked (old new : View) : Type 0 where
   pub tier : new.tier ≡ old.tier
   pub size : new.size ≡ old.size
   pub phase : ((new.phase ≡ old.phase) × (new.arrived ≡ old.arrived)) ⊎ ((old.arrived ≡ old.size) × (new.phase ≡ next_phase_of old.phase) × (new.arrived ≡ 0))
 
--- looked, with no advance taken since the call began, and then one member counted
+-- a view after the first look and one counted member, with no advance taken before that
 pub record HasPassed (own : Passage) (old new : View) : Type 0 where
   pub from : View
   pub looked : IsLooked old from
   pub unled : from.led ≡ false
   pub counted : HasCounted own from new
 
--- the same token, with at most so many tries more, off which no other was split
+-- the same token, after at most `tries` tries, off which no other was split meanwhile
 pub record IsSoon (tries : ℕ) (old new : Holding) : Type 0 where
   pub tree : new.tree ≡ old.tree
   pub tried : new.tried ≤ old.tried + tries
   pub opened : new.opened ≡ old.opened
 
--- the same token, with just so many tries more, off which no other was split
+-- the same token, after exactly `tries` tries, off which no other was split meanwhile
 pub record IsSpent (tries : ℕ) (old new : Holding) : Type 0 where
   pub tree : new.tree ≡ old.tree
   pub tried : new.tried ≡ old.tried + tries
   pub opened : new.opened ≡ old.opened
 
--- `led` is the view's mark that its token took the advance: since the call's first look, which finds it cleared. What is over owes nothing; what isn't owes a
--- climb or the advance, and has led none. Busy and AlreadyArrived have seen no end.
+-- What each answer says. `led` says that the token took the advance after the call's first look, which clears that mark. After Done and Left the token owes
+-- nothing. After Owing it owes a climb or the advance, and has not led. After Busy and AlreadyArrived it has not seen the end.
 abbrev pub Arrives : Passage → Holding → ℕ → Arrived → Type 0
 Arrives own h tries (Done crew phase led) = IsSoon tries h crew × HasPassed own h.view crew.view × (crew.view.errand ≡ Rest) × (phase ≡ crew.view.phase) × (led ≡ crew.view.led)
     × LedBy (HasStepped own h.steps) led crew.steps
@@ -57,16 +57,12 @@ Arrives own h tries (Busy crew) = IsSpent tries h crew × IsLooked h.view crew.v
 Arrives own h tries (Owing errand) = IsSpent tries h errand.token × HasPassed own h.view errand.token.view × (is_owing errand.progress ≡ true) × (errand.token.view.led ≡ false)
     × HasStepped own h.steps errand.token.steps
 
--- it tells that the tree has ended
+-- the answer says that the tree has ended
 abbrev pub HasEnded : Arrived → Type 0
 HasEnded (Ended crew shown) = Unit {0}
-HasEnded (Done crew phase led) = ⊥
-HasEnded (Left door phase led) = ⊥
-HasEnded (AlreadyArrived crew phase) = ⊥
-HasEnded (Busy crew) = ⊥
-HasEnded (Owing errand) = ⊥
+HasEnded _ = ⊥
 
--- No member is counted any more.
+-- What each answer of a resumed call says. No further member is counted.
 abbrev pub Resumes : Going → ℕ → Resumed → Type 0
 Resumes g tries (resumed.Done crew phase led) = IsSoon tries g.token crew × IsSame g.token.view crew.view × (crew.view.errand ≡ Rest) × (phase ≡ crew.view.phase) × (led ≡ crew.view.led)
     × LedBy (MadeOnly is_upward g.token.steps) led crew.steps
@@ -75,19 +71,19 @@ Resumes g tries (resumed.Left door phase led) = IsSoon tries g.token door × IsS
 Resumes g tries (resumed.Owing errand) = IsSpent tries g.token errand.token × IsSame g.token.view errand.token.view × (is_owing errand.progress ≡ true) × (errand.token.view.led ≡ false)
     × MadeOnly is_upward g.token.steps errand.token.steps
 
--- a call that arrives or leaves, by a token with members until one has left
+-- an arrival or a departure, whose token has members until the last one has left
 pub record MaySettle (g : Going) : Type 0 where
   pub at : IsAt g.token.tree g
   pub passage : Passage
   pub shown : PassAt passage (λ u. 0 < u.size) (λ u. Unit {0}) g.token.view g.answer g.progress
 
--- one that has counted its member
+-- an arrival or a departure whose member was counted
 pub record MayEnd (g : Going) : Type 0 where
   pub at : IsAt g.token.tree g
   pub passage : Passage
   pub shown : PassAt passage (λ u. ⊥) (λ u. Unit {0}) g.token.view g.answer g.progress
 
--- what such a call answers, by how it stands
+-- the answer of such a call, by how far it has come
 abbrev pub Settles : Going → Arrived → Type 0
 Settles g (Done crew phase led) = (crew ≡ g.token) × (g.progress ≡ progress.Idle) × (g.answer ≡ played.Done phase) × (led ≡ g.token.view.led)
 Settles g (Left door phase led) = (door ≡ g.token) × (g.progress ≡ progress.Idle) × (g.answer ≡ played.Done phase) × (led ≡ g.token.view.led) × (g.token.view.size ≡ 0)

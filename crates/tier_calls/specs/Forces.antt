@@ -1,4 +1,4 @@
--- What a call that ends the tree by force answers (own; `forceTermination` of Java SE 21, `Phaser`).
+-- What a forced end answers (`forceTermination` of Java SE 21's `Phaser`; tries are not part of its API).
 use Rattle.std.specs.Prelude.{◌≡◌, ◌⊎◌, ℕ, false, None, List, ◌∷◌}
 use Rattle.tier_calls.specs.Holding.{Holding}
 use Rattle.tier_calls.specs.Passes.{EndSeen}
@@ -10,21 +10,21 @@ use Rattle.tier_calls.specs.Made.{MadeOnly, is_glance}
 use Rattle.tier_calls.specs.declared.forcing.Forced.{Forced}
 use Rattle.tier_calls.specs.declared.forcing.Forced.TheVariants.{Ended, Busy}
 
--- looks alone, and then at most the step that ends the tree
+-- only looks, and then at most the step that ends the tree
 abbrev pub HasForced : List Kind → List Kind → Type 0
 HasForced old new = (looked : List Kind) × MadeOnly is_glance old looked × ((new ≡ looked) ⊎ (new ≡ Force ∷ looked))
 
--- Busy has seen no end: so no word was changed.
+-- What each answer says. After Busy the token has not seen the end, so no word has changed.
 abbrev pub Forces : Holding → ℕ → Holding → Forced → Type 0
 Forces old tries new (Ended shown) = IsSoon tries old new × IsLookedAround old.view new.view × EndSeen new.view shown
 Forces old tries new Busy = IsSpent tries old new × IsLookedAround old.view new.view × (new.view.end_seen ≡ None)
 
--- which steps its token made: Busy has made looks alone
+-- which steps the token took: before Busy only looks
 abbrev pub ForcedBy : Forced → List Kind → List Kind → Type 0
 ForcedBy (Ended shown) old new = HasForced old new
 ForcedBy Busy old new = MadeOnly is_glance old new
 
--- a token that has the root's word before it, and that word hasn't ended
+-- the token last saw the root, and the tree had not ended
 pub record IsBefore (h : Holding) : Type 0 where
   pub root : h.tier ≡ 0
   pub going : h.word.ended ≡ false

@@ -1,4 +1,4 @@
--- What an arrival answers whose crew stays where it is, by the views of its token before and after (own).
+-- What an arrival in place answers, by the views of its token before and after (not part of Java's API).
 use Rattle.std.specs.Prelude.{false, ◌≡◌, ℕ}
 use Rattle.tier_steps.specs.declared.view.Errand.TheVariants.{Rest}
 use Rattle.tier_steps.specs.declared.view.Passage.TheVariants.{Arrival}
@@ -14,7 +14,7 @@ use Rattle.tier_calls.specs.Arrives.{IsLooked, HasPassed, MaySettle}
 use Rattle.tier_calls.specs.declared.in_place.Came.{Came}
 use Rattle.tier_calls.specs.declared.in_place.Came.TheVariants.{Done, AlreadyArrived, Ended}
 
--- as an arrival that hands its crew on
+-- what each answer says, as for an arrival that takes its crew
 abbrev pub ArrivesInPlace : Holding → Holding → Came → Type 0
 ArrivesInPlace old new (Done phase led) = (new.tree ≡ old.tree) × (new.opened ≡ old.opened) × HasPassed Arrival old.view new.view × (new.view.errand ≡ Rest) × (phase ≡ new.view.phase) × (led ≡ new.view.led)
     × LedBy (HasStepped Arrival old.steps) led new.steps
@@ -22,13 +22,13 @@ ArrivesInPlace old new (AlreadyArrived phase) = (new.tree ≡ old.tree) × (new.
     × HasLooked old.steps new.steps
 ArrivesInPlace old new (Ended shown) = (new.tree ≡ old.tree) × (new.opened ≡ old.opened) × IsLooked old.view new.view × EndSeen new.view shown × HasLooked old.steps new.steps
 
--- it tells that the tree has ended
+-- the answer says that the tree has ended
 abbrev pub HasEnded : Came → Type 0
 HasEnded (Ended shown) = Unit {0}
 HasEnded (Done phase led) = ⊥
 HasEnded (AlreadyArrived phase) = ⊥
 
--- some tries of a call, by which it is over
+-- a call before and after some tries, after which it is over
 pub record RanOver (n : Named) (old new : Going) : Type 0 where
   pub used : ℕ
   pub went : WentOn n used old new
@@ -39,7 +39,7 @@ pub record MayCome (g : Going) : Type 0 where
   pub may : MaySettle g
   pub over : is_going g.progress ≡ false
 
--- what it answers, by how it stands
+-- the answer of an arrival that is over
 abbrev pub Comes : Going → Came → Type 0
 Comes g (Done phase led) = (g.progress ≡ progress.Idle) × (g.answer ≡ played.Done phase) × (led ≡ g.token.view.led)
 Comes g (AlreadyArrived phase) = ⊥

@@ -1,4 +1,4 @@
--- What a call that joins shows of its token, wherever it stands (own).
+-- What a join says of its token, however far it has come (not part of Java's API).
 use Rattle.std.specs.Prelude.{◌≡◌, ℕ, suc, ◌≤◌, Bool, true, false, Some, None, List}
 use Rattle.phaser_word.specs.Fields.{Fields}
 use Rattle.tier_steps.specs.View.{ancestor}
@@ -7,23 +7,23 @@ use Rattle.tier_steps.specs.declared.view.View.{View}
 use Rattle.tier_steps.specs.declared.view.Errand.TheVariants.{Opening}
 use Rattle.tier_steps.specs.declared.view.OpeningStage.TheVariants as stage
 use Rattle.tier_core.specs.declared.call.Played.{Played}
-use Rattle.tier_core.specs.declared.call.Played.TheVariants.{GoesOn, Done, Passed, Waiting, Held, Full, AlreadyArrived, Ended, MustAdvance}
+use Rattle.tier_core.specs.declared.call.Played.TheVariants.{Done, Held, Full, Ended}
 use Rattle.tier_core.specs.declared.call.Progress.{Progress}
-use Rattle.tier_core.specs.declared.call.Progress.TheVariants.{Idle, Begun, Seeking as ToSeek, Settling, GivingBack as ToGiveBack, Passing, Owing, Due, Refreshing}
+use Rattle.tier_core.specs.declared.call.Progress.TheVariants.{Idle, Seeking as ToSeek, Settling, GivingBack as ToGiveBack}
 use Rattle.tier_core.specs.Turn.{has_no_room, is_refusing, cause_of, claimed_by}
 use Rattle.tier_rule.specs.declared.sight.Key.{Key}
 use Rattle.tier_calls.specs.Passes.{EndSeen}
 use Rattle.tier_calls.specs.Goes.{Position, Goes}
 
--- so many members at this tier, all of them unarrived, by a token that took no advance
+-- a token with `size` members at this tier, all unarrived, that took no advance
 pub record IsJoined (tier size : ℕ) (v : View) : Type 0 where
   pub place : v.tier ≡ tier
   pub members : v.size ≡ size
   pub none_arrived : v.arrived ≡ 0
   pub unled : v.led ≡ false
 
--- The token noted a word on the path of its join, above so many claimed tiers, which refuses what would have been added there; it hasn't seen the end. Above
--- the root nothing is claimed.
+-- The token noted a word on the path of its join, above its claimed tiers, that refuses what the join would add there, and it has not seen the end. A join
+-- at the root claims nothing.
 pub record IsNoted (parents : List ℕ) (tier size : ℕ) (v : View) (R : ℕ → ℕ → Fields → Type 0) : Type 0 where
   pub claimed : ℕ
   pub alone : tier ≡ 0 → claimed ≡ 0
@@ -33,31 +33,22 @@ pub record IsNoted (parents : List ℕ) (tier size : ℕ) (v : View) (R : ℕ �
   pub says : R (ancestor parents tier claimed) (added claimed size) word
   pub unseen : v.end_seen ≡ None
 
--- a refusal, by the note, or by the end
+-- why a join was refused: by the noted word, or by the end
 abbrev pub Refusal : List ℕ → ℕ → ℕ → View → Played → Type 0
 Refusal parents tier size v (Held phase cause) = (phase ≡ v.phase) × IsNoted parents tier size v (λ t more w. (has_no_room more w ≡ false) × (cause ≡ cause_of t v.phase w))
 Refusal parents tier size v (Full count) = IsNoted parents tier size v (λ t more w. (has_no_room more w ≡ true) × (count ≡ w.parties))
 Refusal parents tier size v (Ended shown) = EndSeen v shown
-Refusal parents tier size v GoesOn = ⊥
-Refusal parents tier size v (Done phase) = ⊥
-Refusal parents tier size v (Passed phase) = ⊥
-Refusal parents tier size v Waiting = ⊥
-Refusal parents tier size v (AlreadyArrived phase) = ⊥
-Refusal parents tier size v (MustAdvance phase count) = ⊥
+Refusal parents tier size v _ = ⊥
 
--- what a join that is over answers
+-- the answer of a join that is over
 abbrev pub JoinAnswer : List ℕ → ℕ → ℕ → View → Played → Type 0
 JoinAnswer parents tier size v (Done phase) = IsJoined tier size v × (phase ≡ v.phase)
 JoinAnswer parents tier size v (Held phase cause) = (v.size ≡ 0) × Refusal parents tier size v (Held phase cause)
 JoinAnswer parents tier size v (Full count) = (v.size ≡ 0) × Refusal parents tier size v (Full count)
 JoinAnswer parents tier size v (Ended shown) = (v.size ≡ 0) × Refusal parents tier size v (Ended shown)
-JoinAnswer parents tier size v GoesOn = ⊥
-JoinAnswer parents tier size v (Passed phase) = ⊥
-JoinAnswer parents tier size v Waiting = ⊥
-JoinAnswer parents tier size v (AlreadyArrived phase) = ⊥
-JoinAnswer parents tier size v (MustAdvance phase count) = ⊥
+JoinAnswer parents tier size v _ = ⊥
 
--- it seeks that tier, with at least so many claims, by a token that was at the tier `home` before
+-- a join that is going up its path, with at least `least` claimed tiers, by a token that was at the tier `home` before
 pub record SeeksFor (least home tier size tier' size' : ℕ) (v : View) : Type 0 where
   pub same_tier : tier' ≡ tier
   pub same_size : size' ≡ size
@@ -66,13 +57,13 @@ pub record SeeksFor (least home tier size tier' size' : ℕ) (v : View) : Type 0
   pub unseen : v.end_seen ≡ None
   pub unled : v.led ≡ false
 
--- its members have joined, and claimed tiers are left
+-- a join whose members are admitted and that has claimed tiers left
 pub record SettlesFor (tier size : ℕ) (v : View) : Type 0 where
   pub claimed : ℕ
   pub errand : v.errand ≡ Opening tier (suc claimed) stage.Joined size
   pub joined : IsJoined tier size v
 
--- it was refused, and claimed tiers are left
+-- a join that was refused and that has claimed tiers left
 pub record GivesBackFor (parents : List ℕ) (tier size : ℕ) (v : View) (answer : Played) : Type 0 where
   pub claimed : ℕ
   pub errand : v.errand ≡ Opening tier (suc claimed) stage.GoingBack size
@@ -84,14 +75,9 @@ JoinAt parents least home tier size v answer Idle = JoinAnswer parents tier size
 JoinAt parents least home tier size v answer (ToSeek tier' size') = SeeksFor least home tier size tier' size' v
 JoinAt parents least home tier size v answer Settling = SettlesFor tier size v
 JoinAt parents least home tier size v answer (ToGiveBack refusal) = GivesBackFor parents tier size v refusal
-JoinAt parents least home tier size v answer (Begun c) = ⊥
-JoinAt parents least home tier size v answer (Passing passage) = ⊥
-JoinAt parents least home tier size v answer (Owing passage) = ⊥
-JoinAt parents least home tier size v answer (Due passage) = ⊥
-JoinAt parents least home tier size v answer (Refreshing moved) = ⊥
+JoinAt parents least home tier size v answer _ = ⊥
 
--- A join, by whatever steps and looks it goes on, seats the members that were asked for at the tier that was asked for, or is refused as
--- its token has noted.
+-- By any steps and looks, a join places the members that were asked for at the tier that was asked for, or is refused as its token has noted.
 abbrev pub JoinsDoAsAsked : Type 0
 JoinsDoAsAsked =
     (k : Key) (least home tier size : ℕ) (from at : Position) → JoinAt k.shape least home tier size from.view from.answer from.progress
@@ -103,8 +89,4 @@ is_joining Idle = true
 is_joining (ToSeek tier size) = true
 is_joining Settling = true
 is_joining (ToGiveBack answer) = true
-is_joining (Begun c) = false
-is_joining (Passing passage) = false
-is_joining (Owing own) = false
-is_joining (Due own) = false
-is_joining (Refreshing moved) = false
+is_joining _ = false

@@ -1,26 +1,22 @@
--- Calls that open a path of empty tiers (own).
+-- Calls that open a path of empty tiers (not part of Java's API).
 use Rattle.std.specs.Prelude.{ℕ, ◌<◌}
 use Rattle.tier_steps.specs.declared.view.Errand.{Errand}
-use Rattle.tier_steps.specs.declared.view.Errand.TheVariants.{Rest, Opening, Climbing, Advancing}
+use Rattle.tier_steps.specs.declared.view.Errand.TheVariants.{Opening}
 use Rattle.tier_core.specs.Turn.{claimed_by}
 use Rattle.tier_calls.specs.declared.going.Going.{Going}
 use Rattle.tier_calls.specs.Calls.{IsAt}
 use Rattle.tier_calls.specs.Joins.{JoinAt}
 
--- the tier and the number of members for which a path is opened
+-- the tier for which a path is opened, and the number of members
 abbrev pub asked_tier : Errand → ℕ
 asked_tier (Opening tier claimed stage size) = tier
-asked_tier Rest = 0
-asked_tier (Climbing tier passage) = 0
-asked_tier Advancing = 0
+asked_tier _ = 0
 
 abbrev pub asked_size : Errand → ℕ
 asked_size (Opening tier claimed stage size) = size
-asked_size Rest = 0
-asked_size (Climbing tier passage) = 0
-asked_size Advancing = 0
+asked_size _ = 0
 
--- a token that opens a path, and has claimed a tier
+-- a token that opens a path and has claimed a tier of it
 pub record IsOpening (g : Going) : Type 0 where
   pub at : IsAt g.token.tree g
   pub claims : 0 < claimed_by g.token.view.errand

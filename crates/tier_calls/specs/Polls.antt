@@ -1,4 +1,4 @@
--- What a poll answers, by the view of its token (own).
+-- What a poll answers, by the view of its token (not part of Java's API).
 use Rattle.std.specs.Prelude.{◌≡◌, ◌<◌}
 use Rattle.tier_steps.specs.Word.{next_phase_of}
 use Rattle.tier_calls.specs.Holding.{Holding}
@@ -14,16 +14,14 @@ pub record HasPassedOn (old new : Holding) : Type 0 where
   pub next : new.view.phase ≡ next_phase_of old.view.phase
   pub nobody : new.view.arrived ≡ 0
 
--- All but Ended come of a look that has cleared the mark of an advance, and has seen no end.
+-- What each answer says. All but Ended follow a look that cleared the mark of an advance and did not see the end.
 abbrev pub Polls : Holding → Holding → Polled → Type 0
 Polls old new (Passed phase) = IsSoon 1 old new × IsLooked old.view new.view × IsFresh new.view × HasPassedOn old new × (phase ≡ new.view.phase) × HasLooked old.steps new.steps
 Polls old new Waiting = IsSoon 1 old new × IsLooked old.view new.view × IsFresh new.view × (new.view.arrived ≡ new.view.size) × HasLooked old.steps new.steps
 Polls old new (Here phase) = IsSoon 1 old new × IsLooked old.view new.view × IsFresh new.view × (new.view.arrived < new.view.size) × (phase ≡ new.view.phase) × HasLooked old.steps new.steps
 Polls old new (Ended shown) = IsSoon 1 old new × IsLooked old.view new.view × EndSeen new.view shown × HasLooked old.steps new.steps
 
--- it tells that the tree has ended
+-- the answer says that the tree has ended
 abbrev pub HasEnded : Polled → Type 0
 HasEnded (Ended shown) = Unit {0}
-HasEnded (Passed phase) = ⊥
-HasEnded Waiting = ⊥
-HasEnded (Here phase) = ⊥
+HasEnded _ = ⊥

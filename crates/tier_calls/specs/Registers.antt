@@ -1,4 +1,4 @@
--- What registrations answer, by the view of their token (own; `register` and `bulkRegister` of Java SE 21, `Phaser`).
+-- What registrations answer, by the view of their token (`register` and `bulkRegister` of Java SE 21's `Phaser`; tokens are not part of its API).
 use Rattle.std.specs.Prelude.{◌≡◌, ◌≢◌, ℕ, ◌<◌}
 use Rattle.tier_steps.specs.declared.view.View.{View}
 use Rattle.tier_steps.specs.declared.view.Errand.TheVariants.{Rest}
@@ -17,19 +17,19 @@ use Rattle.tier_calls.specs.declared.joining.Registered.TheVariants.{Joined, Hel
 use Rattle.tier_calls.specs.declared.joining.Opened.{Opened}
 use Rattle.tier_calls.specs.declared.joining.Opened.TheVariants as opened
 
--- as the first look of a call leaves a view without members: in whatever phase
+-- the view of a token without members after the first look of a call, in any phase
 pub record IsLookedAround (old new : View) : Type 0 where
   pub tier : new.tier ≡ old.tier
   pub size : new.size ≡ old.size
   pub arrived : new.arrived ≡ old.arrived
 
--- a call that opens a path, for what was asked for, and has claimed a tier
+-- a call that opens a path for the tier and the members that were asked for, and has claimed a tier
 pub record IsFor (tier size : ℕ) (g : Going) : Type 0 where
   pub place : asked_tier g.token.view.errand ≡ tier
   pub members : asked_size g.token.view.errand ≡ size
   pub claims : 0 < claimed_by g.token.view.errand
 
--- Joined owes nothing; Busy has seen no end, and its token has claimed nothing.
+-- What each answer says. After Joined the token owes nothing. After Busy it has not seen the end and has claimed nothing.
 abbrev pub Registers : Holding → ℕ → ℕ → ℕ → Registered → Type 0
 Registers h tier size tries (Joined crew phase) = IsSoon tries h crew × IsJoined tier size crew.view × (crew.view.errand ≡ Rest) × (phase ≡ crew.view.phase)
 Registers h tier size tries (Held door phase cause) = IsSoon tries h door × Refusal (shape_of h) tier size door.view (played.Held phase cause)
@@ -38,7 +38,7 @@ Registers h tier size tries (Ended door shown) = IsSoon tries h door × Refusal 
 Registers h tier size tries (Busy door) = IsSpent tries h door × IsLookedAround h.view door.view × IsFresh door.view
 Registers h tier size tries (Owing opening) = IsSpent tries h opening.token × IsFor tier size opening
 
--- the token that is handed back
+-- the token in an answer
 abbrev pub token_of : Registered → Holding
 token_of (Joined crew phase) = crew
 token_of (Held door phase cause) = door
@@ -54,16 +54,12 @@ opened_of (opened.Full door count) = door
 opened_of (opened.Ended door shown) = door
 opened_of (opened.Owing opening) = opening.token
 
--- it tells that the tree has ended
+-- the answer says that the tree has ended
 abbrev pub HasEnded : Registered → Type 0
 HasEnded (Ended door shown) = Unit {0}
-HasEnded (Joined crew phase) = ⊥
-HasEnded (Held door phase cause) = ⊥
-HasEnded (Full door count) = ⊥
-HasEnded (Busy door) = ⊥
-HasEnded (Owing opening) = ⊥
+HasEnded _ = ⊥
 
--- The members are those for which the path is opened.
+-- What each answer of a resumed registration says, for these members at this tier.
 abbrev pub OpensFor : ℕ → ℕ → Going → ℕ → Opened → Type 0
 OpensFor tier size g tries (opened.Joined crew phase) = IsSoon tries g.token crew × IsJoined tier size crew.view × (crew.view.errand ≡ Rest) × (phase ≡ crew.view.phase)
 OpensFor tier size g tries (opened.Held door phase cause) = IsSoon tries g.token door × Refusal (shape_of g.token) tier size door.view (played.Held phase cause)
@@ -74,15 +70,13 @@ OpensFor tier size g tries (opened.Owing opening) = IsSpent tries g.token openin
 abbrev pub Opens : Going → ℕ → Opened → Type 0
 Opens g tries answer = OpensFor (asked_tier g.token.view.errand) (asked_size g.token.view.errand) g tries answer
 
--- it tells that the tree has ended, or its path isn't given back yet
+-- the answer says that the tree has ended, or its claimed tiers are not released yet
 abbrev pub IsEndedOrOwed : Opened → Type 0
 IsEndedOrOwed (opened.Ended door shown) = Unit {0}
 IsEndedOrOwed (opened.Owing opening) = Unit {0}
-IsEndedOrOwed (opened.Joined crew phase) = ⊥
-IsEndedOrOwed (opened.Held door phase cause) = ⊥
-IsEndedOrOwed (opened.Full door count) = ⊥
+IsEndedOrOwed _ = ⊥
 
--- a call that joins, wherever it stands
+-- a join, however far it has come
 pub record MayAnswer (g : Going) : Type 0 where
   pub at : IsAt g.token.tree g
   pub least : ℕ
@@ -92,7 +86,7 @@ pub record MayAnswer (g : Going) : Type 0 where
   pub some : 0 < size
   pub shown : JoinAt (shape_of g.token) least home tier size g.token.view g.answer g.progress
 
--- what it answers, by how it stands
+-- the answer of a join, by how far it has come
 abbrev pub AnswersJoin : Going → Registered → Type 0
 AnswersJoin g (Joined crew phase) = (crew ≡ g.token) × (g.progress ≡ progress.Idle) × (g.answer ≡ played.Done phase)
 AnswersJoin g (Held door phase cause) = (door ≡ g.token) × (g.progress ≡ progress.Idle) × (g.answer ≡ played.Held phase cause)
@@ -102,12 +96,8 @@ AnswersJoin g (Busy door) = (door ≡ g.token) × (g.progress ≢ progress.Idle)
 AnswersJoin g (Owing opening) = (opening ≡ g) × (g.progress ≢ progress.Idle) × (claimed_by g.token.view.errand ≢ 0)
 
 abbrev pub NoBusy : Registered → Type 0
-NoBusy (Joined crew phase) = Unit {0}
-NoBusy (Held door phase cause) = Unit {0}
-NoBusy (Full door count) = Unit {0}
-NoBusy (Ended door shown) = Unit {0}
 NoBusy (Busy door) = ⊥
-NoBusy (Owing opening) = Unit {0}
+NoBusy _ = Unit {0}
 
 abbrev pub SameAnswer : Registered → Opened → Type 0
 SameAnswer a (opened.Joined crew phase) = a ≡ Joined crew phase

@@ -15,7 +15,8 @@ use tier_core::call::{Played, Progress};
 use tier_steps::kind::Kind;
 use tier_steps::view::Passage;
 
-/// The answer of an arrival or a departure: [`Tiers::pass`](crate::tiers::Tiers::pass).
+/// The answer of an arrival or a departure: [`Tiers::pass`](crate::tiers::Tiers::pass), and `arrive` and
+/// `arrive_and_deregister` of `tier_table::Tree`.
 ///
 /// `Done` and `Left` have counted the member, and so has `Owing`. The other answers have counted nothing. The flag in
 /// `Done` and `Left` is `led`: true if this call took the advance.
@@ -37,7 +38,8 @@ pub enum Arrived {
     Owing(Errand),
 }
 
-/// The answer of a resumed arrival or departure: [`Tiers::pass_on`](crate::tiers::Tiers::pass_on).
+/// The answer of a resumed arrival or departure: [`Tiers::pass_on`](crate::tiers::Tiers::pass_on), and `resume` of
+/// `tier_table::Tree`.
 ///
 /// Its member was counted before. The flag in `Done` and `Left` is `led`: true if this call took the advance.
 pub enum Resumed {

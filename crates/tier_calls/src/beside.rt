@@ -13,7 +13,7 @@ use crate::joining::Registered;
 use crate::seated::Seated;
 use crate::tiers::Tiers;
 use crate::tokens::{Crew, Door};
-use phaser_word::Word;
+use phaser_word::{MOST_PARTIES, Word};
 use tier_core::turn::{is_behind, turns_away};
 use tier_rule::look::plain_look;
 use tier_steps::kind::Kind;
@@ -82,7 +82,7 @@ impl Tiers {
     fn meet(&self, door: Door, tier: u16, size: u32, seen: Word) -> Met
         requires own { door.tree ≡ self.now }
         requires tier { tier < length self.now.key.shape }
-        requires size { (0 < size) × (size ≤ 65535) }
+        requires size { (0 < size) × (size ≤ MOST_PARTIES) }
         requires fresh { IsFresh door.view }
         requires waits { Waits seen }
         ensures { Meets door tier size result }
@@ -118,7 +118,7 @@ impl Tiers {
     fn join_once(&self, crew: &mut Crew, door: Door, size: u32) -> Registered
         requires own { (crew.old.tree ≡ self.now) × (door.tree ≡ self.now) }
         requires some { crew.old.view.arrived < crew.old.view.size }
-        requires size { (0 < size) × (size ≤ 65535) }
+        requires size { (0 < size) × (size ≤ MOST_PARTIES) }
         requires fresh { IsFresh door.view }
         ensures { JoinsOnce crew.old crew.new door size result }
     {
@@ -139,14 +139,13 @@ impl Tiers {
     }
 
     /// Makes at most `tries` tries of a registration at the crew's own tier.
-    fn keep_joining(&self, crew: &mut Crew, door: Door, size: u32, tries: u32) -> Registered
+    fn keep_joining(&self, crew: &mut Crew, mut door: Door, size: u32, tries: u32) -> Registered
         requires own { (crew.old.tree ≡ self.now) × (door.tree ≡ self.now) }
         requires some { crew.old.view.arrived < crew.old.view.size }
-        requires size { (0 < size) × (size ≤ 65535) }
+        requires size { (0 < size) × (size ≤ MOST_PARTIES) }
         requires fresh { IsFresh door.view }
         ensures { JoinsHere crew.old crew.new door size tries result }
     {
-        let mut door = door;
         for _ in 0..tries {
             match self.join_once(crew, door, size) {
                 Registered::Busy(next) => door = next,
@@ -164,7 +163,7 @@ impl Tiers {
     pub fn join_beside(&self, crew: &mut Crew, door: Door, size: u32, tries: u32) -> Registered
         requires own { (crew.old.tree ≡ self.now) × (door.tree ≡ self.now) }
         requires some { crew.old.view.arrived < crew.old.view.size }
-        requires size { (0 < size) × (size ≤ 65535) }
+        requires size { (0 < size) × (size ≤ MOST_PARTIES) }
         ensures answer { JoinsHere crew.old crew.new door size tries result }
         ensures made { HasEntered door.steps (token_of result).steps × HasLooked crew.old.steps crew.new.steps }
         ensures ended { (phase : ℕ) → door.view.end_seen ≡ Some phase → HasEnded result }

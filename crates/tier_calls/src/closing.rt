@@ -62,13 +62,12 @@ pub fn plain_all(tokens: &[Token], plains: &mut Vec<ClosedToken>)
 
 impl Tiers {
     /// Joins the seats of all tokens with another seat, whose knowledge comes last.
-    fn gather(&self, seat: Seat<Kind, Sights>, mut tokens: Vec<Token>) -> Seat<Kind, Sights>
+    fn gather(&self, mut seat: Seat<Kind, Sights>, mut tokens: Vec<Token>) -> Seat<Kind, Sights>
         requires own { (seat.table_id ≡ self.now.id) × (seat.me.1 ≡ []) }
         requires tokens { All (λ t. (held t).tree ≡ self.now) tokens.items }
         ensures table { (result.table_id ≡ seat.table_id) × (result.me.1 ≡ []) }
         ensures sights { result.me.0 ≡ sights_in tokens.items ++ seat.me.0 }
     {
-        let mut seat = seat;
         while let Some(token) = tokens.pop() {
             let mut next = token.into_seated().into_seat();
             self.table.shared.join_seat::<Joins>(&mut next, seat);
@@ -78,13 +77,12 @@ impl Tiers {
     }
 
     /// Closes the table with the joined seats of all tokens.
-    fn shut(self, tokens: Vec<Token>) -> ClosedTable<Kind, Global>
+    fn shut(self, mut tokens: Vec<Token>) -> ClosedTable<Kind, Global>
         requires tokens { All (λ t. (held t).tree ≡ self) tokens.items }
         ensures empty { (slots_len result.slots ≡ 0) × IsFull result.words }
         ensures words { IsShut self.key (slots_items result.words) (sights_in tokens.items) }
         ensures count { slots_len result.words ≡ length self.key.shape }
     {
-        let mut tokens = tokens;
         match tokens.pop() {
             None => self.table.close(),
             Some(token) => {
@@ -96,7 +94,7 @@ impl Tiers {
 
     /// Closes the tree and writes the words of its tiers into `words`, by tier number. `words` must be empty and have
     /// room for them. Takes no memory.
-    pub fn close(self, tokens: Vec<Token>, words: Vec<Word>) -> Vec<Word>
+    pub fn close(self, tokens: Vec<Token>, mut words: Vec<Word>) -> Vec<Word>
         requires tokens { All (λ t. (held t).tree ≡ self) tokens.items }
         requires empty { words.items ≡ [] }
         requires room { length self.key.shape ≤ vec_capacity words }
@@ -105,7 +103,6 @@ impl Tiers {
     {
         let count = self.shape().count();
         let closed = self.shut(tokens);
-        let mut words = words;
         for tier in 0..count {
             words.push_reserved(Word::unpack(closed.word(tier)).unwrap());
         }

@@ -7,7 +7,7 @@ use crate::tiers::Tiers;
 use crate::tokens::Door;
 use tier_steps::kind::Kind;
 
-/// The answer of [`Tiers::force`](crate::tiers::Tiers::force).
+/// The answer of a forced end: [`Tiers::force`](crate::tiers::Tiers::force), and `force` of `tier_table::Tree`.
 #[derive(Clone, Copy)]
 pub enum Forced {
     /// The tree has ended, by this call or before it, and shows this phase, a negative number. It stays ended.

@@ -259,13 +259,12 @@ impl Tiers {
     }
 
     /// Takes the steps of a registration until it is over, or `tries` tries were made.
-    pub(crate) fn go_joining(&self, at: Going, tries: u32) -> Going
+    pub(crate) fn go_joining(&self, mut at: Going, tries: u32) -> Going
         requires at { IsAt self.now at }
         requires going { is_going at.progress ≡ true }
         requires joining { is_joining at.progress ≡ true }
         ensures { Ran self.now tries at result }
     {
-        let mut at = at;
         for _ in 0..tries {
             self.stand(&mut at);
             if !goes_on(at.progress) {

@@ -11,6 +11,7 @@ ghost use Rattle.tier_calls.specs.Next.{is_passing};
 ghost use Rattle.tier_calls.specs.Goes.{WentOn};
 ghost use Rattle.tier_calls.specs.InPlace.{ArrivesInPlace, HasEnded, MayCome, Comes, RanOver};
 
+use crate::TRIES;
 use crate::going::Course;
 use crate::next::goes_on;
 use crate::seated::Seated;

@@ -7,12 +7,13 @@ ghost use Rattle.tier_calls.specs.Registers.{token_of, opened_of, Registers, Ope
 use crate::going::Going;
 use crate::tiers::Tiers;
 use crate::tokens::{Crew, Door, Opening};
+use phaser_word::MOST_PARTIES;
 use tier_core::call::{Cause, Played, Progress};
 use tier_core::turn::claims;
 use tier_steps::kind::Kind;
 
-/// The answer of a registration: [`Tiers::join`](crate::tiers::Tiers::join) or
-/// [`Tiers::join_beside`](crate::tiers::Tiers::join_beside).
+/// The answer of a registration: [`Tiers::join`](crate::tiers::Tiers::join) and
+/// [`Tiers::join_beside`](crate::tiers::Tiers::join_beside), and `register` and `join_here` of `tier_table::Tree`.
 ///
 /// Only `Joined` has registered anybody. `Held`, `Full`, `Ended` and `Busy` return the door without members.
 pub enum Registered {
@@ -33,7 +34,8 @@ pub enum Registered {
     Owing(Opening),
 }
 
-/// The answer of a resumed registration: [`Tiers::open_on`](crate::tiers::Tiers::open_on).
+/// The answer of a resumed registration: [`Tiers::open_on`](crate::tiers::Tiers::open_on), and `resume_opening` of
+/// `tier_table::Tree`.
 ///
 /// Only `Joined` has registered anybody. All answers but `Owing` hold no tier any more.
 pub enum Opened {
@@ -105,7 +107,7 @@ impl Tiers {
     pub fn join(&self, door: Door, tier: u16, size: u32, tries: u32) -> Registered
         requires own { door.tree ≡ self.now }
         requires tier { tier < length self.now.key.shape }
-        requires size { (0 < size) × (size ≤ 65535) }
+        requires size { (0 < size) × (size ≤ MOST_PARTIES) }
         ensures answer { Registers door tier size tries result }
         ensures made { HasEntered door.steps (token_of result).steps }
         ensures ended { (phase : ℕ) → door.view.end_seen ≡ Some phase → HasEnded result }

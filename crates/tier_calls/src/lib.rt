@@ -18,7 +18,7 @@
 //! * `Owing`: the call has counted a member or claimed a tier, and other threads may wait for the rest. Resume it
 //!   soon.
 //!
-//! 16 tries are enough if no other token takes a step meanwhile, because no call has more than 16 steps (law
+//! 16 tries ([`TRIES`]) are enough if no other token takes a step meanwhile, because no call has more than 16 steps (law
 //! `calls_are_short` counts them: a registration has at most 14, an arrival or a departure at most 15). So 16 is
 //! the right number for most callers. More tries help only if other threads often change the same words, and
 //! fewer return earlier. With 0 tries a call only looks at the tree.
@@ -44,3 +44,6 @@ mod stepping;
 pub mod tiers;
 pub mod tokens;
 mod writing;
+
+/// The number of tries that is enough for every call if no other token takes a step meanwhile.
+pub const TRIES: u32 = 16;

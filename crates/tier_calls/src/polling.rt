@@ -12,7 +12,7 @@ use crate::tokens::Crew;
 use tier_core::turn::is_behind;
 use tier_steps::kind::Kind;
 
-/// The answer of [`Tiers::poll`](crate::tiers::Tiers::poll).
+/// The answer of a poll: [`Tiers::poll`](crate::tiers::Tiers::poll), and `poll` of `tier_table::Tree`.
 #[derive(Clone, Copy)]
 pub enum Polled {
     /// All members had arrived, and that phase has passed. The crew is in this phase now, and none of its members has

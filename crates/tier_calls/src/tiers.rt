@@ -16,7 +16,7 @@ use crate::tokens::{Crew, Door};
 use crate::writing::step_in;
 use advance_rule::EndPlan;
 use atomic_table::{Seat, Table};
-use phaser_word::Word;
+use phaser_word::{LAST_PHASE, Word};
 use std::alloc::{AllocError, Global};
 use std::marker::{Brand, Model};
 use tier_core::turn::above;
@@ -46,17 +46,6 @@ impl Model for Tiers {
     ghost invariant = { λ t. IsTable t.table.shared.table_id.words t.table.shared.table_id.slots t.key t.table.shared.key };
 }
 
-/// Returns `count` copies of `number`.
-fn numbers_of(alloc: Global, count: usize, number: u64) -> Result<Vec<u64>, AllocError>
-    ensures { IfOk result (λ numbers. numbers.items ≡ replicate count number) }
-{
-    let mut numbers = Vec::with_capacity(alloc, count)?;
-    for _ in 0..count {
-        numbers.push(number)?;
-    }
-    Ok(numbers)
-}
-
 impl Tiers {
     /// Creates empty tiers in `phase`, and the first token.
     fn seated(
@@ -65,7 +54,7 @@ impl Tiers {
         phase: u32,
         plan: EndPlan,
     ) -> Result<(Tiers, Seated), AllocError>
-        requires { phase ≤ 2147483647 }
+        requires { phase ≤ LAST_PHASE }
         ensures tree { IfOk result (λ r. r.0.key ≡ record { shape = shape; phase = phase; plan = plan }) }
         ensures token { IfOk result (λ r. (r.1.tree ≡ r.0) × (r.1.view ≡ new_view phase) × (r.1.tier ≡ 0) × (r.1.word ≡ empty_word phase) × (r.1.tried ≡ 0) × (r.1.steps ≡ []) × (r.1.opened ≡ 0)) }
     {
@@ -75,7 +64,7 @@ impl Tiers {
             unarrived: 1,
             ended: false,
         });
-        let numbers = numbers_of(alloc, shape.count(), word.number())?;
+        let numbers = vec![in alloc; word.number(); shape.count()]?;
         let key = Key { shape, phase, plan };
         let (table, seat) = Table::of_words(alloc, &numbers, &key)?;
         let view = View::new(phase);
@@ -97,7 +86,7 @@ impl Tiers {
         phase: u32,
         plan: EndPlan,
     ) -> Result<(Tiers, Door), AllocError>
-        requires { phase ≤ 2147483647 }
+        requires { phase ≤ LAST_PHASE }
         ensures tree { IfOk result (λ r. r.0.key ≡ record { shape = shape; phase = phase; plan = plan }) }
         ensures token { IfOk result (λ r. (r.1.tree ≡ r.0) × (r.1.view ≡ new_view phase) × (r.1.tier ≡ 0) × (r.1.word ≡ empty_word phase) × (r.1.tried ≡ 0) × (r.1.steps ≡ []) × (r.1.opened ≡ 0)) }
     {
@@ -218,13 +207,12 @@ impl Tiers {
     }
 
     /// Makes a token of a new seat, by a first load of the root. `J` names the tree, for the table's rule.
-    fn sit_as<J: Keyed>(&self, seat: Seat<Kind, Sights>) -> Seated
+    fn sit_as<J: Keyed>(&self, mut seat: Seat<Kind, Sights>) -> Seated
         requires own { seat.table_id ≡ self.now.id }
         requires blank { seat.me ≡ ([], []) }
         requires key { J.key ≡ self.now.key }
         ensures { IsSat self.now result }
     {
-        let mut seat = seat;
         let found = self.table.shared.load::<Sits<J>>(&mut seat, 0);
         let seen = Seen::at(found);
         let word = seen.word();

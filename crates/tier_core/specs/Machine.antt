@@ -73,13 +73,8 @@ pub data Standing : Type 0 where
 abbrev pub standing : Progress → Standing
 standing Idle = AtRest
 standing (Begun c) = AtStart
-standing (ToSeek tier size) = OnItsWay
-standing Settling = OnItsWay
-standing (ToGiveBack answer) = OnItsWay
-standing (Passing passage) = OnItsWay
-standing (Owing own) = OnItsWay
 standing (Due own) = BeforeAdvance
-standing (Refreshing moved) = OnItsWay
+standing _ = OnItsWay
 
 -- whether a call stands at one of these places, in this order
 abbrev pub stands_at : Bool → Bool → Bool → Bool → Standing → Bool

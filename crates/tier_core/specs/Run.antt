@@ -4,7 +4,7 @@ pub use Rattle.tier_core.specs.declared.call.Step.TheVariants.{Begin, Go, Finish
 pub use Rattle.tier_core.specs.declared.call.Answer.{Answer}
 use Rattle.tier_core.specs.declared.call.Answer.TheVariants as answer
 use Rattle.tier_core.specs.declared.call.Call.TheVariants as call
-use Rattle.std.specs.Prelude.{ℕ, ◌<◌, ◌≤◌, Bool, true, false, ◌==◌, nat_lt, ◌&&◌, if◌then◌else◌, Option, None, Some, List, [], ◌∷◌, ◌++◌, length, slice_set}
+use Rattle.std.specs.Prelude.{ℕ, ◌<◌, ◌≤◌, Bool, true, ◌==◌, nat_lt, ◌&&◌, if◌then◌else◌, Option, None, Some, List, [], ◌∷◌, ◌++◌, length, slice_set}
 use Rattle.advance_rule.specs.Plan.{end_ends}
 use Rattle.flat_phaser.specs.Flat.{Flat}
 use Rattle.flat_phaser.specs.declared.FlatStep.{FlatStep}
@@ -12,7 +12,7 @@ use Rattle.flat_phaser.specs.Step.{flat_run, IsFlatRun}
 use Rattle.tier_steps.specs.declared.view.View.{View}
 use Rattle.tier_steps.specs.Tally.{word_at}
 use Rattle.tier_steps.specs.Image.{image, label, LooksAlike}
-use Rattle.tier_core.specs.Turn.{Call, Progress, Idle, Begun, ToSeek, Settling, ToGiveBack, Passing, Owing, Due, Refreshing, Turn, finish_turn}
+use Rattle.tier_core.specs.Turn.{Call, Begun, Turn, finish_turn}
 pub use Rattle.tier_core.specs.Machine.{is_idle}
 use Rattle.tier_core.specs.Machine.{State, IsCore, view_at, call_at, is_active, is_due, turn_at, played}
 
@@ -84,10 +84,7 @@ labels (x ∷ xs) s = listed (step_label s x) ++ labels xs (after s x)
 -- the caller's condition: a join is of 1 to 65535 members
 abbrev pub IsCall : Call → Type 0
 IsCall (call.Join tier size) = (0 < size) × (size ≤ 65535)
-IsCall call.Arrive = Unit {0}
-IsCall call.Leave = Unit {0}
-IsCall call.Poll = Unit {0}
-IsCall call.Force = Unit {0}
+IsCall _ = Unit {0}
 
 abbrev pub IsStepOfCalls : Step → Type 0
 IsStepOfCalls (Begin token c) = IsCall c

@@ -53,15 +53,10 @@ refusal t more phase w = if has_no_room more w then Full w.parties else Held pha
 
 -- what a join answers that isn't taken
 abbrev pub is_refusal : Played → Bool
-is_refusal GoesOn = false
-is_refusal (Done phase) = false
-is_refusal (Passed phase) = false
-is_refusal Waiting = false
 is_refusal (Held phase why) = true
 is_refusal (Full parties) = true
-is_refusal (AlreadyArrived phase) = false
 is_refusal (Ended number) = true
-is_refusal (MustAdvance phase parties) = false
+is_refusal _ = false
 
 -- A call that has claimed tiers doesn't end at its join or its refusal: it goes on with these tiers.
 abbrev pub unless_claimed : ℕ → Played → Played
@@ -91,10 +86,8 @@ seek_turn tier claimed size t w v =
 
 -- how many tiers an errand has claimed
 abbrev pub claimed_by : Errand → ℕ
-claimed_by Rest = 0
-claimed_by Advancing = 0
-claimed_by (Climbing t passage) = 0
 claimed_by (Opening tier claimed stage size) = claimed
+claimed_by _ = 0
 
 -- A look at the root that a call ends with; it stands where no step is due as well.
 abbrev pub last_look : Played → Turn
@@ -159,9 +152,7 @@ pass_turn parents own t passage kind here over w v =
 -- the climb of such a call, which has counted in the phase of its own step
 abbrev pub climb_turn : List ℕ → Passage → Fields → View → Errand → Turn
 climb_turn parents own w v (Climbing t passage) = pass_turn parents own t passage (Climb passage) (Owing own) (Done v.phase) w v
-climb_turn parents own w v Rest = last_look GoesOn
-climb_turn parents own w v Advancing = last_look GoesOn
-climb_turn parents own w v (Opening tier claimed stage size) = last_look GoesOn
+climb_turn parents own w v _ = last_look GoesOn
 
 -- a poll's answer after its look at the root: whether that look moved the token into the next phase
 abbrev pub polled : Bool → ℕ → Played
@@ -169,15 +160,8 @@ polled moved phase = if moved then Passed phase else Done phase
 
 -- an advance is asked for in a phase and with parties that fit a word
 abbrev pub IsInRange : Played → Type 0
-IsInRange GoesOn = Unit {0}
-IsInRange (Done phase) = Unit {0}
-IsInRange (Passed phase) = Unit {0}
-IsInRange Waiting = Unit {0}
-IsInRange (Held phase why) = Unit {0}
-IsInRange (Full parties) = Unit {0}
-IsInRange (AlreadyArrived phase) = Unit {0}
-IsInRange (Ended number) = Unit {0}
 IsInRange (MustAdvance phase parties) = (phase ≤ 2147483647) × (parties ≤ 65535)
+IsInRange _ = Unit {0}
 
 -- the first step of each call, where `root` is the root's word and `own` that of the token's tier
 abbrev pub first_turn : Call → Fields → Fields → View → Turn
@@ -215,11 +199,9 @@ finish_turn ends root v = record { kind = (if root.ended then Look else Advance 
 
 -- the tier that an errand leads to next: the one it climbs to, or the highest that it has claimed
 abbrev pub errand_place : List ℕ → Errand → ℕ
-errand_place parents Rest = 0
-errand_place parents Advancing = 0
 errand_place parents (Climbing t passage) = t
-errand_place parents (Opening tier zero stage size) = 0
 errand_place parents (Opening tier (suc claimed) stage size) = ancestor parents tier claimed
+errand_place parents _ = 0
 
 -- the tier at which a call that has looked at the root takes its next step
 abbrev pub place : List ℕ → Progress → View → ℕ

@@ -6,7 +6,7 @@ ghost use Rattle.tier_core.specs.Run.{may_call};
 use crate::call::{Answer, Call, NotNow, Played, Progress, Step, Turn};
 use crate::turn::{above, last_turn, next_turn, word_of};
 use advance_rule::EndPlan;
-use phaser_word::Word;
+use phaser_word::{LAST_PHASE, Word};
 use std::alloc::{AllocError, Global};
 use std::marker::Model;
 use tier_shape::Shape;
@@ -73,17 +73,6 @@ fn may_take(tiers: usize, call: Call, view: &View) -> bool
     }
 }
 
-/// Returns `count` copies of `word`.
-fn words_of(alloc: Global, count: usize, word: Word) -> Result<Vec<Word>, AllocError>
-    ensures { IfOk result (λ words. words.items ≡ replicate count word) }
-{
-    let mut words = Vec::with_capacity(alloc, count)?;
-    for _ in 0..count {
-        words.push(word)?;
-    }
-    Ok(words)
-}
-
 impl Core {
     ghost use Rattle.tier_core.specs.Machine.{State, IsCore, IsNext, view_at, turn_at, played, opened, with_token};
     ghost use Rattle.tier_core.specs.Run as spec;
@@ -97,7 +86,7 @@ impl Core {
     /// Creates a tree of this shape in `phase`, with empty tiers and no tokens. It ends at an advance if `plan`
     /// says so.
     pub fn new(alloc: Global, shape: Shape, phase: u32, plan: EndPlan) -> Result<Self, AllocError>
-        requires { phase ≤ 2147483647 }
+        requires { phase ≤ LAST_PHASE }
         ensures { IfOk result (λ c. c ≡ opened shape phase plan) }
     {
         let word = Word {
@@ -106,7 +95,7 @@ impl Core {
             unarrived: 1,
             ended: false,
         };
-        let words = words_of(alloc, shape.count(), word)?;
+        let words = vec![in alloc; word; shape.count()]?;
         Ok(Core {
             shape,
             words,
@@ -293,14 +282,8 @@ impl Core {
                 Ok(()) => Answer::Begun,
                 Err(_) => Answer::NotNow,
             },
-            Step::Go(token) => match self.go(token) {
-                Ok(answer) => Answer::Played(answer),
-                Err(_) => Answer::NotNow,
-            },
-            Step::Finish(token) => match self.finish(token) {
-                Ok(answer) => Answer::Played(answer),
-                Err(_) => Answer::NotNow,
-            },
+            Step::Go(token) => self.go(token).map_or(Answer::NotNow, Answer::Played),
+            Step::Finish(token) => self.finish(token).map_or(Answer::NotNow, Answer::Played),
         }
     }
 

@@ -69,19 +69,19 @@ fn far_above(shape: &Shape, tier: u16, steps: u16) -> u16
     at
 }
 
+// The word of a tier past the last: empty, in phase 0.
+const BLANK: Word = Word {
+    phase: 0,
+    parties: 0,
+    unarrived: 1,
+    ended: false,
+};
+
 /// Returns the word of a tier.
 pub fn word_of(words: &[Word], tier: u16) -> Word
     ensures { result ≡ word_at words.now tier }
 {
-    match words.get(usize::from(tier)) {
-        Some(word) => *word,
-        None => Word {
-            phase: 0,
-            parties: 0,
-            unarrived: 1,
-            ended: false,
-        },
-    }
+    words.get(usize::from(tier)).copied().unwrap_or(BLANK)
 }
 
 /// Returns true if the tier lags: its parties have all arrived, in another phase than the token's.

@@ -38,6 +38,7 @@ use Rattle.tier_laws.proofs.Framing.{turned}
 use Rattle.tier_laws.proofs.Planning.{known_active}
 use Rattle.tier_laws.proofs.Holding.{awaited_tokens_hold}
 use Rattle.tier_laws.proofs.Ending.{at, turned_flat}
+use Rattle.tier_laws.proofs.Searching.{by_search, over_turn, refuse_turn, join_turn}
 
 -- the kinds of step that let a party pass
 abbrev pub is_passing : Kind → Bool
@@ -101,20 +102,9 @@ first_due call.Force root own v = λ e. not_both false e refl
 seek_due : (tier k size t : ℕ) (w : Fields) (v : View) → PassesIfDue (seek_turn tier k size t w v)
 seek_due tier k size t w v =
     let p : ℕ = (refused t w v).phase in
-    let over : Turn = record { kind = Look; tier = 0; next = giving_back k (end_shown w); answer = unless_claimed k (end_shown w) } in
-    let no : Turn = record {
-      kind = Refuse tier k size;
-      tier = t;
-      next = giving_back k (refusal t (added k size) p w);
-      answer = unless_claimed k (refusal t (added k size) p w);
-    } in
-    let claim : Turn = record { kind = Claim tier k size; tier = t; next = ToSeek tier size; answer = GoesOn } in
-    let join : Turn = record { kind = Join tier k size; tier = t; next = settling k; answer = unless_claimed k (Done w.phase) } in
-    by_turn_plain PassesIfDue w.ended over (cond (is_refusing (added k size) w) no (cond (is_claimable t w) claim join))
-    (never over (no_back k (end_shown w)))
-    (by_turn_plain PassesIfDue (is_refusing (added k size) w) no (cond (is_claimable t w) claim join)
-    (never no (no_back k (refusal t (added k size) p w)))
-    (by_turn_plain PassesIfDue (is_claimable t w) claim join (λ e. not_both false e refl) (never join (no_settle k))))
+    by_search PassesIfDue tier k size t w v (λ _. never (over_turn k w) (no_back k (end_shown w)))
+    (λ _ _. never (refuse_turn tier k size t w v) (no_back k (refusal t (added k size) p w)))
+    (λ _ _ _ e. not_both false e refl) (λ _ _ _. never (join_turn tier k size t w) (no_settle k))
 
 settle_due : (ps : List ℕ) (v : View) (e : Errand) → PassesIfDue (settle_turn ps v e)
 settle_due ps v Rest = λ e. not_both false e refl

@@ -5,6 +5,7 @@ pub mod Counting
 pub mod Ending
 pub mod Along
 pub mod Memory
+pub mod Searching
 pub mod Seeking
 pub mod Going
 pub mod Entering

@@ -47,6 +47,7 @@ use Rattle.tier_laws.proofs.Seeking.{joined_phase, ended_root}
 use Rattle.tier_laws.proofs.Ended.{looked_same}
 use Rattle.tier_steps.specs.Word.{is_being_opened}
 use Rattle.std.proofs.lemmas.Bool.{ltb-true}
+use Rattle.tier_laws.proofs.Searching.{by_search}
 
 -- no tier has ended while the root goes on
 pub still_going : (s : State) (t : ℕ) → IsCore s → (word_at s.words 0).ended ≡ false → t < length s.words → (word_at s.words t).ended ≡ false
@@ -286,23 +287,11 @@ seek_places : (s : State) (i tier k size t : ℕ) → IsCore s → t < length s.
 seek_places s i tier k size t core within none =
     let w : Fields = word_at s.words t in
     let v : View = view_at s.views i in
-    let p : ℕ = (refused t (word_at s.words t) (view_at s.views i)).phase in
-    let over : Turn = record { kind = Look; tier = 0; next = giving_back k (end_shown w); answer = unless_claimed k (end_shown w) } in
-    let no : Turn = record {
-      kind = Refuse tier k size;
-      tier = t;
-      next = giving_back k (refusal t (added k size) p w);
-      answer = unless_claimed k (refusal t (added k size) p w);
-    } in
-    let claim : Turn = record { kind = Claim tier k size; tier = t; next = ToSeek tier size; answer = GoesOn } in
-    let join : Turn = record { kind = Join tier k size; tier = t; next = settling k; answer = unless_claimed k (Done w.phase) } in
-    by_turn (λ r. Gone s i r → Places s i tier size) w.ended over (cond (is_refusing (added k size) w) no (cond (is_claimable t w) claim join))
+    by_search (λ r. Gone s i r → Places s i tier size) tier k size t w v
     (λ _ g. inl (ap (label i) g.kind, ap (λ (x : View). x.size) g.view ∙ (looked_size (word_at s.words 0) v ∙ none)))
-    (λ _. by_turn (λ r. Gone s i r → Places s i tier size) (is_refusing (added k size) w) no (cond (is_claimable t w) claim join)
-    (λ _ g. inl (ap (label i) g.kind, ap (λ (x : View). x.size) g.view ∙ (refused_size t w v ∙ none)))
-    (λ _. by_turn (λ r. Gone s i r → Places s i tier size) (is_claimable t w) claim join
-    (λ _ g. inl (ap (label i) g.kind, ap (λ (x : View). x.size) g.view ∙ none))
-    (λ _ g. inr (
+    (λ _ _ g. inl (ap (label i) g.kind, ap (λ (x : View). x.size) g.view ∙ (refused_size t w v ∙ none)))
+    (λ _ _ _ g. inl (ap (label i) g.kind, ap (λ (x : View). x.size) g.view ∙ none))
+    (λ _ _ _ g. inr (
       ap (label i) g.kind,
       record {
         tier = ap (λ (x : View). x.tier) g.view;
@@ -310,7 +299,7 @@ seek_places s i tier k size t core within none =
         phase = ap (λ (x : View). x.phase) g.view ∙ joined_phase s t (added k size) core within g.may.needs.1;
         arrived = ap (λ (x : View). x.arrived) g.view;
       },
-    ))))
+    ))
 
 pub joins_place_at_once : JoinsPlaceAtOnce
 joins_place_at_once s i tier size core h e =
@@ -345,20 +334,13 @@ open_tiers_admit s i tier size core h going e rests some waits room =
     let w : Fields = word_at s.words tier in
     let fits = fitting s i (ToSeek tier size) core h e in
     let within : tier < length s.words = subst (λ (n : ℕ). tier < n) (sym core.tally.long) fits.1.place in
-    let p : ℕ = (refused tier w v).phase in
-    let over : Turn = record { kind = Look; tier = 0; next = Idle; answer = end_shown w } in
-    let no : Turn = record { kind = Refuse tier 0 size; tier = tier; next = Idle; answer = refusal tier size p w } in
-    let claim : Turn = record { kind = Claim tier 0 size; tier = tier; next = ToSeek tier size; answer = GoesOn } in
-    let join : Turn = record { kind = Join tier 0 size; tier = tier; next = Idle; answer = Done w.phase } in
     let g : Gone s i (seek_turn tier 0 size tier w v) = subst (λ (k : ℕ). Gone s i (seek_turn tier k size (ancestor s.parents tier k)
     (word_at s.words (ancestor s.parents tier k)) v)) (ap claimed_by rests) (gone s i (ToSeek tier size) core h e refl) in
-    by_turn (λ r. Gone s i r → IsAdmitted s i tier size) w.ended over (cond (is_refusing size w) no (cond (is_claimable tier w) claim join))
+    by_search (λ r. Gone s i r → IsAdmitted s i tier size) tier 0 size tier w v
     (λ q. not_both w.ended q (still_going s tier core going within))
-    (λ _. by_turn (λ r. Gone s i r → IsAdmitted s i tier size) (is_refusing size w) no (cond (is_claimable tier w) claim join)
-    (λ q. not_both (is_refusing size w) q (admits w size some waits room))
-    (λ _. by_turn (λ r. Gone s i r → IsAdmitted s i tier size) (is_claimable tier w) claim join
-    (λ q. not_both (is_claimable tier w) q (no_claim tier w some))
-    (λ _ j. let phase = joined_phase s tier size core within j.may.needs.1 in
+    (λ _ q. not_both (is_refusing size w) q (admits w size some waits room))
+    (λ _ _ q. not_both (is_claimable tier w) q (no_claim tier w some))
+    (λ _ _ _ j. let phase = joined_phase s tier size core within j.may.needs.1 in
     record {
       placed = record {
         tier = ap (λ (x : View). x.tier) j.view;
@@ -369,7 +351,7 @@ open_tiers_admit s i tier size core h going e rests some waits room =
       errand = ap (λ (x : View). x.errand) j.view;
       answer = j.answer ∙ ap Done phase;
       call = j.call;
-    }))) g
+    }) g
 
 -- what follows the join changes the errand alone
 kept_by : (s : State) (i : ℕ) (e : Errand) → view_then s i ≡ record (view_at s.views i) { errand = e } → IsSame (view_at s.views i) (view_then s i)

@@ -39,6 +39,7 @@ use Rattle.tier_laws.specs.Frame.{flat_of}
 use Rattle.tier_core.proofs.Runs.{begun_core}
 use Rattle.tier_laws.proofs.Reached.{Alikes, Tells_, reached, carried, any_alike}
 use Rattle.tier_laws.proofs.Along.{Carries, OfToken, of_token, along_call}
+use Rattle.tier_laws.proofs.Searching.{by_search, over_turn, refuse_turn, claim_turn, join_turn}
 
 -- what a turn answers, of a call that has counted so often
 abbrev Places : Call → Played → View → Type 0
@@ -215,23 +216,21 @@ seek_fits s i past tier size k t none before =
     let v : View = view_at s.views i in
     let c : Call = call.Join tier size in
     let a : Played = refusal t (added k size) (refused t w v).phase w in
-    let over : Turn = record { kind = Look; tier = 0; next = giving_back k (end_shown w); answer = unless_claimed k (end_shown w) } in
-    let back : Turn = record { kind = Refuse tier k size; tier = t; next = giving_back k a; answer = unless_claimed k a } in
-    let claim : Turn = record { kind = Claim tier k size; tier = t; next = ToSeek tier size; answer = GoesOn } in
-    let join : Turn = record { kind = Join tier k size; tier = t; next = settling k; answer = unless_claimed k (Done w.phase) } in
-    by_turn (Fits s i (call.Join tier size) past) w.ended over (cond (is_refusing (added k size) w) back (cond (is_claimable t w) claim join))
-    (λ _. refused_fits s i (call.Join tier size) past over k (end_shown w) refl refl refl (same_count i s past over 0 refl before)
+    let over : Turn = over_turn k w in
+    let back : Turn = refuse_turn tier k size t w v in
+    let claim : Turn = claim_turn tier k size t in
+    let join : Turn = join_turn tier k size t w in
+    by_search (Fits s i c past) tier k size t w v
+    (λ _. refused_fits s i c past over k (end_shown w) refl refl refl (same_count i s past over 0 refl before)
     (looked_size (word_at s.words 0) v ∙ none) tt)
-    (λ _. by_turn (Fits s i (call.Join tier size) past) (is_refusing (added k size) w) back (cond (is_claimable t w) claim join)
-    (λ _. let is = refusal_is t (added k size) (refused t w v).phase w in
-    refused_fits s i (call.Join tier size) past back k a is refl refl (same_count i s past back 0 refl before) (refused_size t w v ∙ none)
+    (λ _ _. let is = refusal_is t (added k size) (refused t w v).phase w in
+    refused_fits s i c past back k a is refl refl (same_count i s past back 0 refl before) (refused_size t w v ∙ none)
     (notes_refusal a (refused t w v) (at i s back ∷ past) is
     (any_here (IsNotedAt (refused t w v)) (at i s back) past (record { tier = tier; claimed = k; size = size; kind = refl; note = note_is t w v }))))
-    (λ _. by_turn (Fits s i (call.Join tier size) past) (is_claimable t w) claim join
-    (λ _. let zero_ = same_count i s past claim 0 refl before in
-    record { says = goes_on_once s i (call.Join tier size) past claim refl (omega arith); keeps = (refl, zero_) })
-    (λ _. joined_fits s i past tier size join k w.phase refl refl (one_count i s past join refl before)
-    (record { tier = refl; size = refl; phase = refl; arrived = refl }))))
+    (λ _ _ _. let zero_ = same_count i s past claim 0 refl before in
+    record { says = goes_on_once s i c past claim refl (omega arith); keeps = (refl, zero_) })
+    (λ _ _ _. joined_fits s i past tier size join k w.phase refl refl (one_count i s past join refl before)
+    (record { tier = refl; size = refl; phase = refl; arrived = refl }))
 
 -- the first step of each call
 over_fits : (s : State) (i : ℕ) (c : Call) (past : List Moment) (kind : Kind) (t : ℕ) (a : Played) → is_counting kind ≡ false → times_counted past ≡ 0

@@ -51,6 +51,7 @@ use Rattle.tier_laws.proofs.Ranks.{Within, some_left, turn_lowers}
 use Rattle.tier_laws.proofs.Short.{moved_left}
 use Rattle.tier_laws.proofs.Stepping.{Gone, gone, fitting, only_advances_move}
 use Rattle.tier_laws.proofs.Members.{still_going, admits, not_yet}
+use Rattle.tier_laws.proofs.Searching.{by_search, claim_turn, join_turn}
 
 -- what holds at each place of a list holds of the list
 all_from : {X : Type 0} (P : X → Type 0) (d : X) (xs : List X) → ((i : ℕ) → i < length xs → P (get_or xs i d)) → AllByRecursion P xs
@@ -261,30 +262,19 @@ seek_goes old s i tier size k ms is e q =
     let room = room_at old s i tier size k t ms is errand fits.1.none within in
     let fresh : IsFreshWord now w = ⊎_elim (λ (f : IsFreshWord now w). f) (λ (o : is_being_opened w ≡ true). not_both (is_being_opened w) o plain)
     (is.words t within) in
-    let p : ℕ = (refused t w v).phase in
-    let over : Turn = record { kind = Look; tier = 0; next = giving_back k (end_shown w); answer = unless_claimed k (end_shown w) } in
-    let no : Turn = record {
-      kind = Refuse tier k size;
-      tier = t;
-      next = giving_back k (refusal t (added k size) p w);
-      answer = unless_claimed k (refusal t (added k size) p w);
-    } in
-    let claim : Turn = record { kind = Claim tier k size; tier = t; next = ToSeek tier size; answer = GoesOn } in
-    let join : Turn = record { kind = Join tier k size; tier = t; next = settling k; answer = unless_claimed k (Done w.phase) } in
+    let claim : Turn = claim_turn tier k size t in
+    let join : Turn = join_turn tier k size t w in
     let Q : Turn → Type 0 = λ r. Gone s i r → Joining old (after s (Go i)) i tier size (own_imaged i s (Go i) ++ ms) in
-    by_turn Q w.ended over (cond (is_refusing (added k size) w) no (cond (is_claimable t w) claim join))
-    (λ x. not_both w.ended x (still_going s t is.core is.going within))
-    (λ _. by_turn Q (is_refusing (added k size) w) no (cond (is_claimable t w) claim join)
-    (λ x. not_both (is_refusing (added k size) w) x (welcomes now (added k size) w fresh room))
-    (λ _. by_turn Q (is_claimable t w) claim join
-    (λ _ g. goes old s i tier size ms claim is g refl (inr refl) (refl, refl))
-    (λ _ g.
+    by_search Q tier k size t w v (λ x. not_both w.ended x (still_going s t is.core is.going within))
+    (λ _ x. not_both (is_refusing (added k size) w) x (welcomes now (added k size) w fresh room))
+    (λ _ _ _ g. goes old s i tier size ms claim is g refl (inr refl) (refl, refl))
+    (λ _ _ _ g.
     let here : w.phase ≡ now = joined_phase s t (added k size) is.core within g.may.needs.1 ∙ is.phase in
     goes old s i tier size ms join is g refl
     (inl (joined_fresh now (added k size) w (added_some k size is.some) here fresh))
     (placed_by k tier size now (own_imaged i s (Go i) ++ ms) (stepped_view s.parents s.words (Join tier k size) t v)
     (record { tier = refl; size = refl; phase = here; arrived = refl })
-    (answer_is s i ms join g) here))))
+    (answer_is s i ms join g) here))
 
 -- a step that settles a claimed tier
 settle_goes : (old s : State) (i tier size there k many : ℕ) (ms : List Moment) → Joining old s i tier size ms

@@ -43,6 +43,7 @@ use Rattle.tier_laws.specs.Count.{most_steps}
 use Rattle.tier_laws.proofs.Holding.{fits_at, held, nobody_advances, awaited_field, is_awaited}
 use Rattle.tier_laws.proofs.Memory.{by_turn}
 use Rattle.tier_laws.proofs.Seeking.{ended_root}
+use Rattle.tier_laws.proofs.Searching.{by_search}
 
 -- 1 for a tier that isn't in the phase of the climb
 abbrev pub behind : ℕ → Fields → ℕ
@@ -200,26 +201,15 @@ seek_lowers s i n tier k size t core within due left =
     let w : Fields = word_at s.words t in
     let v : View = view_at s.views i in
     let p : ℕ = (refused t (word_at s.words t) (view_at s.views i)).phase in
-    let over : Turn = record { kind = Look; tier = 0; next = giving_back k (end_shown w); answer = unless_claimed k (end_shown w) } in
-    let no : Turn = record {
-      kind = Refuse tier k size;
-      tier = t;
-      next = giving_back k (refusal t (added k size) p w);
-      answer = unless_claimed k (refusal t (added k size) p w);
-    } in
-    let claim : Turn = record { kind = Claim tier k size; tier = t; next = ToSeek tier size; answer = GoesOn } in
-    let join : Turn = record { kind = Join tier k size; tier = t; next = settling k; answer = unless_claimed k (Done w.phase) } in
     let most : k ≤ n - 1 = (let a = left.left in let b = left.reached in omega arith) in
-    by_turn (Lowers s i n) w.ended over (cond (is_refusing (added k size) w) no (cond (is_claimable t w) claim join))
+    by_search (Lowers s i n) tier k size t w v
     (λ e _. let z = ended_root s t core within e in
     backs s.parents (words_after s.words Look 0 v) k (n - 1) (end_shown w) (looked (word_at s.words 0) v)
     (ap claimed_by (looked_ended (word_at s.words 0) v (ap (λ m. (word_at s.words m).ended) (sym z) ∙ e) ∙ ap dropped due.errand) ∙ claims_dropped tier k size)
     most)
-    (λ going. by_turn (Lowers s i n) (is_refusing (added k size) w) no (cond (is_claimable t w) claim join)
-    (λ e _. backs s.parents (words_after s.words (Refuse tier k size) t v) k (n - 1) (refusal t (added k size) p w) (refused t w v)
+    (λ going _ _. backs s.parents (words_after s.words (Refuse tier k size) t v) k (n - 1) (refusal t (added k size) p w) (refused t w v)
     (ap claimed_by (refused_errand t w v going ∙ ap given_up due.errand) ∙ claims_given_up tier k size) most)
-    (λ _. by_turn (Lowers s i n) (is_claimable t w) claim join
-    (λ e may.
+    (λ _ _ _ may.
     let below : 0 < t = may.needs.1.below in
     let other : k ≢ left.levels = λ q. absurd
     (let a : t ≡ 0 = due.here ∙ (ap (ancestor s.parents tier) q ∙ left.root) in omega arith) in
@@ -229,8 +219,8 @@ seek_lowers s i n tier k size t core within due left =
       reached = (let a = left.reached in omega arith);
       left = (let a = left.left in let b = left.reached in omega arith);
     })
-    (λ e _. settles s.parents (words_after s.words (Join tier k size) t v) k (n - 1) (stepped_view s.parents s.words (Join tier k size) t v)
-    (claims_kept tier k size Joined) most)))
+    (λ _ _ _ _. settles s.parents (words_after s.words (Join tier k size) t v) k (n - 1) (stepped_view s.parents s.words (Join tier k size) t v)
+    (claims_kept tier k size Joined) most)
 
 -- a step that settles a claimed tier, or gives it back
 settle_lowers : (s : State) (i n tier k size : ℕ) → (view_at s.views i).errand ≡ Opening tier (suc k) Joined size → claimed_by (view_at s.views i).errand ≤ n

@@ -38,6 +38,7 @@ use Rattle.tier_laws.proofs.Holding.{fits_at}
 use Rattle.tier_laws.proofs.Counting.{looked_empty}
 use Rattle.tier_laws.proofs.Ending.{at, ended_stays}
 use Rattle.tier_laws.proofs.Memory.{any_here, RefusalTells, Goal, by_turn, no_last, done_later, refusal_later, refused_good, joined_good}
+use Rattle.tier_laws.proofs.Searching.{by_search, over_turn, refuse_turn, join_turn}
 
 -- a tier that has ended is the root
 pub ended_root : (s : State) (t : ℕ) → IsCore s → t < length s.words → (word_at s.words t).ended ≡ true → t ≡ 0
@@ -214,25 +215,17 @@ seek_tells s i past tier k size t core h due within seen =
     let v : View = view_at s.views i in
     let c : Call = call.Join tier size in
     let p : ℕ = (refused t (word_at s.words t) (view_at s.views i)).phase in
-    let over : Turn = record { kind = Look; tier = 0; next = giving_back k (end_shown w); answer = unless_claimed k (end_shown w) } in
-    let no : Turn = record {
-      kind = Refuse tier k size;
-      tier = t;
-      next = giving_back k (refusal t (added k size) p w);
-      answer = unless_claimed k (refusal t (added k size) p w);
-    } in
-    let claim : Turn = record { kind = Claim tier k size; tier = t; next = ToSeek tier size; answer = GoesOn } in
-    let join : Turn = record { kind = Join tier k size; tier = t; next = settling k; answer = unless_claimed k (Done w.phase) } in
-    by_turn (Goal s i c past) w.ended over (cond (is_refusing (added k size) w) no (cond (is_claimable t w) claim join))
+    let over : Turn = over_turn k w in
+    let no : Turn = refuse_turn tier k size t w v in
+    let join : Turn = join_turn tier k size t w in
+    by_search (Goal s i c past) tier k size t w v
     (λ e may. refused_good s i c past over k (end_shown w) refl refl
     (any_here (HasEnded i (shown_of w.phase true)) (at i s over) past (ended_there s i t over core h may within e)))
-    (λ going. by_turn (Goal s i c past) (is_refusing (added k size) w) no (cond (is_claimable t w) claim join)
-    (λ e may. refused_good s i c past no k (refusal t (added k size) p w) refl refl
+    (λ _ _ may. refused_good s i c past no k (refusal t (added k size) p w) refl refl
     (refuses s i past tier k size t no (refusal t (added k size) p w) core h due may.needs.1 within seen refl refl refl refl))
-    (λ kept. by_turn (Goal s i c past) (is_claimable t w) claim join
-    (λ e may. record { told = record { tells = refl; ends = λ x. no_last x }; keeps = (refl, seen) })
-    (λ e may. joined_good s i c past join k w.phase refl refl refl
-    (any_here (IsCounted i c w.phase) (at i s join) past record { label = refl; phase = sym (joined_phase s t (added k size) core within may.needs.1) }))))
+    (λ _ _ _ may. record { told = record { tells = refl; ends = λ x. no_last x }; keeps = (refl, seen) })
+    (λ _ _ _ may. joined_good s i c past join k w.phase refl refl refl
+    (any_here (IsCounted i c w.phase) (at i s join) past record { label = refl; phase = sym (joined_phase s t (added k size) core within may.needs.1) }))
 
 -- a step that settles a claimed tier
 pub settle_tells : (s : State) (i : ℕ) (c : Call) (past : List Moment) (tier k size : ℕ)

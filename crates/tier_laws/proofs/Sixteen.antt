@@ -42,6 +42,7 @@ use Rattle.tier_laws.proofs.Memory.{by_turn}
 use Rattle.tier_laws.proofs.Holding.{part, fits_at}
 use Rattle.tier_laws.proofs.Ranks.{Within, climbs_to, climb_most, shallow, some_left, turn_lowers}
 use Rattle.tier_laws.proofs.Short.{most, moved_left}
+use Rattle.tier_laws.proofs.Searching.{by_search}
 
 -- a turn that doesn't answer its call leaves it going
 abbrev Further : Progress → Played → Type 0
@@ -108,15 +109,9 @@ TurnFurther r = Further r.next r.answer
 seek_further : (tier k size t : ℕ) (w : Fields) (v : View) → TurnFurther (seek_turn tier k size t w v)
 seek_further tier k size t w v =
     let a : Played = refusal t (added k size) (refused t w v).phase w in
-    let over : Turn = record { kind = Look; tier = 0; next = giving_back k (end_shown w); answer = unless_claimed k (end_shown w) } in
-    let back : Turn = record { kind = Refuse tier k size; tier = t; next = giving_back k a; answer = unless_claimed k a } in
-    let claim : Turn = record { kind = Claim tier k size; tier = t; next = ToSeek tier size; answer = GoesOn } in
-    let join : Turn = record { kind = Join tier k size; tier = t; next = settling k; answer = unless_claimed k (Done w.phase) } in
-    by_turn TurnFurther w.ended over (cond (is_refusing (added k size) w) back (cond (is_claimable t w) claim join))
-    (λ _. backs_further k (end_shown w) refl)
-    (λ _. by_turn TurnFurther (is_refusing (added k size) w) back (cond (is_claimable t w) claim join)
-    (λ _. backs_further k a (refusal_is t (added k size) (refused t w v).phase w))
-    (λ _. by_turn TurnFurther (is_claimable t w) claim join (λ _ _. refl) (λ _. settles_further k w.phase)))
+    by_search TurnFurther tier k size t w v (λ _. backs_further k (end_shown w) refl)
+    (λ _ _. backs_further k a (refusal_is t (added k size) (refused t w v).phase w))
+    (λ _ _ _ _. refl) (λ _ _ _. settles_further k w.phase)
 
 pass_further : (ps : List ℕ) (own : Passage) (t : ℕ) (passage : Passage) (kind : Kind) (here : Progress) (over : Played) (w : Fields) (v : View)
     → is_last over ≡ true → is_idle here ≡ false → TurnFurther (pass_turn ps own t passage kind here over w v)

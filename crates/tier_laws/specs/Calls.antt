@@ -1,4 +1,4 @@
--- What the steps of each call do to their token (own).
+-- What the steps of each call do to their token (not part of Java's API).
 use Rattle.std.specs.Prelude.{◌≡◌, ◌≢◌, ℕ, ◌+◌, ◌≤◌, ◌<◌, ◌⊎◌, Bool, true, false, Option, Some, None, length}
 use Rattle.flat_phaser.specs.declared.FlatStep.{FlatStep}
 use Rattle.flat_phaser.specs.declared.FlatStep.TheVariants as flat
@@ -21,25 +21,22 @@ use Rattle.tier_core.specs.Run.{IsStepOfCalls, after, step_label, finish_at, pla
 use Rattle.tier_laws.specs.Frame.{flat_of}
 use Rattle.tier_laws.specs.Hold.{IsAwaited}
 
--- only an advance and the end by force move the flat phase or end
+-- only an advance and a forced end change the flat phase, or whether it has ended
 abbrev pub moves_root : Option FlatStep → Bool
-moves_root None = false
-moves_root (Some (flat.Join owner count)) = false
-moves_root (Some (flat.Arrive owner)) = false
-moves_root (Some (flat.Leave owner)) = false
 moves_root (Some (flat.Advance ends)) = true
 moves_root (Some flat.Force) = true
+moves_root _ = false
 
 pub record RootStays (old new : State) : Type 0 where
   pub phase : (flat_of new).phase ≡ (flat_of old).phase
   pub ended : (flat_of new).ended ≡ (flat_of old).ended
-  -- and a tier in the root's phase stays there
+  -- a tier in the root's phase stays there
   pub tiers : (t : ℕ) → t < length old.words → (word_at old.words t).phase ≡ (flat_of old).phase → (word_at new.words t).phase ≡ (flat_of old).phase
 
 abbrev pub OnlyAdvancesMove : Type 0
 OnlyAdvancesMove = (s : State) (step : Step) → IsCore s → IsStepOfCalls step → moves_root (step_label s step) ≡ false → RootStays s (after s step)
 
--- what a token knows, how far its call has come, and what it was answered, after its next step
+-- after a token's next step: what it knows, how far its call has come, and what the step answered
 abbrev pub view_then : State → ℕ → View
 view_then s token = view_at (after s (Go token)).views token
 
@@ -49,14 +46,14 @@ call_then s token = call_at (after s (Go token)).calls token
 abbrev pub answer_then : State → ℕ → Played
 answer_then s token = (turn_at s token).answer
 
--- the members of a token as they were
+-- the members are as before
 pub record IsSame (old new : View) : Type 0 where
   pub tier : new.tier ≡ old.tier
   pub size : new.size ≡ old.size
   pub phase : new.phase ≡ old.phase
   pub arrived : new.arrived ≡ old.arrived
 
--- A poll of a token that is awaited brings it into the root's phase, and the word of its tier as well.
+-- A poll by an awaited token brings it into the root's phase, and the word of its tier too.
 pub record IsPollStep (s : State) (token : ℕ) : Type 0 where
   pub errand : (view_then s token).errand ≡ Rest
   pub tier : (view_then s token).tier ≡ (view_at s.views token).tier
@@ -70,25 +67,15 @@ pub record IsPollStep (s : State) (token : ℕ) : Type 0 where
       × ((word_at (after s (Go token)).words (view_at s.views token).tier).phase ≡ (flat_of s).phase))
 
 abbrev pub is_poll : Progress → Bool
-is_poll Idle = false
-is_poll (Begun (call.Join tier size)) = false
-is_poll (Begun call.Arrive) = false
-is_poll (Begun call.Leave) = false
 is_poll (Begun call.Poll) = true
-is_poll (Begun call.Force) = false
-is_poll (ToSeek tier size) = false
-is_poll Settling = false
-is_poll (ToGiveBack answer) = false
-is_poll (Passing passage) = false
-is_poll (Owing own) = false
-is_poll (Due own) = false
 is_poll (Refreshing moved) = true
+is_poll _ = false
 
 abbrev pub PollsFollowTheRoot : Type 0
 PollsFollowTheRoot =
     (s : State) (token : ℕ) → IsCore s → (flat_of s).ended ≡ false → IsAwaited s token → is_poll (call_at s.calls token) ≡ true → IsPollStep s token
 
--- The first step of an arrival or a departure, by a token that has a member unarrived in the root's phase, changes no members.
+-- If its token has an unarrived member in the root's phase, the first step of an arrival or a departure changes no members.
 abbrev pub call_by : Passage → Call
 call_by Arrival = call.Arrive
 call_by Departure = call.Leave
@@ -104,7 +91,7 @@ PassesBeginWithALook =
     (s : State) (token : ℕ) (passage : Passage) → IsCore s → (flat_of s).ended ≡ false → IsAwaited s token
     → (view_at s.views token).phase ≡ (flat_of s).phase → call_at s.calls token ≡ Begun (call_by passage) → IsLookStep s token (Passing passage)
 
--- what is owed after a party has passed a tier, and how the call goes on: it is done, it climbs, or it has to advance the root
+-- what a token owes after a party arrives at or leaves a tier, and how its call goes on: it is done, climbs, or must advance the root
 abbrev pub GoesAsOwed : State → ℕ → Passage → Type 0
 GoesAsOwed s token own =
     let phase : ℕ = (view_at s.views token).phase in
@@ -113,12 +100,12 @@ GoesAsOwed s token own =
     ⊎ (((parties : ℕ) × (answer_then s token ≡ MustAdvance phase parties)) × ((view_then s token).errand ≡ Advancing)
     × (call_then s token ≡ Due own))
 
--- one more member has arrived, or one has left
+-- one member has arrived, or has left
 abbrev pub Counts : Passage → View → View → Type 0
 Counts Arrival old new = (new.tier ≡ old.tier) × (new.size ≡ old.size) × (new.phase ≡ old.phase) × (new.arrived ≡ old.arrived + 1)
 Counts Departure old new = (new.tier ≡ old.tier) × (new.size + 1 ≡ old.size) × (new.phase ≡ old.phase) × (new.arrived ≡ old.arrived)
 
--- The own step of an arrival or a departure where the word of the tier is in the root's phase: the member is counted.
+-- If the word of its tier is in the root's phase, the second step of an arrival or a departure counts the member.
 pub record IsOwnStep (s : State) (token : ℕ) (passage : Passage) : Type 0 where
   pub counts : Counts passage (view_at s.views token) (view_then s token)
   pub owes : GoesAsOwed s token passage
@@ -128,8 +115,8 @@ PassesCount =
     (s : State) (token : ℕ) (passage : Passage) → IsCore s → token < length s.views → (flat_of s).ended ≡ false → call_at s.calls token ≡ Passing passage
     → (word_at s.words (view_at s.views token).tier).phase ≡ (flat_of s).phase → IsOwnStep s token passage
 
--- A step of a climb changes no members: the tier is refreshed first, or the climb goes as it is owed. At a root that has ended the call is
--- done in the phase of its own step.
+-- A step of a climb changes no members. It refreshes the tier, or passes on what the token owes. If the root has ended, the call is done in
+-- the phase in which it was counted.
 pub record IsClimbStep (s : State) (token : ℕ) (own : Passage) : Type 0 where
   pub same : IsSame (view_at s.views token) (view_then s token)
   pub owes : GoesAsOwed s token own
@@ -138,7 +125,7 @@ abbrev pub ClimbsKeepMembers : Type 0
 ClimbsKeepMembers =
     (s : State) (token : ℕ) (own : Passage) → IsCore s → token < length s.views → call_at s.calls token ≡ Owing own → IsClimbStep s token own
 
--- The advance changes no members of its token, nor does the look that stands for it where the root has ended.
+-- The advance changes no members of its token, and neither does the look in its place if the root has ended.
 pub record IsAdvanceStep (s : State) (token : ℕ) : Type 0 where
   pub same : IsSame (view_at s.views token) (view_at (after s (Finish token)).views token)
   pub errand : (view_at (after s (Finish token)).views token).errand ≡ Rest
@@ -149,7 +136,7 @@ abbrev pub AdvancesKeepMembers : Type 0
 AdvancesKeepMembers =
     (s : State) (token : ℕ) (own : Passage) → IsCore s → token < length s.views → call_at s.calls token ≡ Due own → IsAdvanceStep s token
 
--- so many members at a tier, all unarrived in this phase
+-- `many` members at a tier, all unarrived in this phase
 pub record IsPlaced (there many now : ℕ) (v : View) : Type 0 where
   pub tier : v.tier ≡ there
   pub size : v.size ≡ many
@@ -169,14 +156,14 @@ JoinsBeginWithALook =
     (s : State) (token tier size : ℕ) → IsCore s → token < length s.views → (flat_of s).ended ≡ false
     → call_at s.calls token ≡ Begun (call.Join tier size) → IsJoinLook s token tier size
 
--- Its further steps leave it without members until the one that admits them all.
+-- The further steps of a join leave its token without members, until one admits them all.
 abbrev pub JoinsPlaceAtOnce : Type 0
 JoinsPlaceAtOnce =
     (s : State) (token tier size : ℕ) → IsCore s → token < length s.views → call_at s.calls token ≡ ToSeek tier size
     → ((label token (turn_at s token).kind ≡ None) × ((view_then s token).size ≡ 0))
     ⊎ ((label token (turn_at s token).kind ≡ Some (flat.Join token size)) × IsPlaced tier size (flat_of s).phase (view_then s token))
 
--- A tier in the root's phase with an unarrived party and room admits them at the first step after the look.
+-- A tier in the root's phase with an unarrived party and room admits the members of a join at the first step after the look.
 pub record IsAdmitted (s : State) (token tier size : ℕ) : Type 0 where
   pub placed : IsPlaced tier size (flat_of s).phase (view_then s token)
   pub errand : (view_then s token).errand ≡ Rest
@@ -189,17 +176,11 @@ OpenTiersAdmit =
     → (view_at s.views token).errand ≡ Rest → 0 < (word_at s.words tier).parties → 0 < (word_at s.words tier).unarrived
     → (word_at s.words tier).parties + size ≤ 65535 → IsAdmitted s token tier size
 
--- what settles a claimed tier, or gives it back, changes no members
+-- a join that gives claimed tiers their parties, or releases them
 abbrev pub is_settling : Progress → Bool
-is_settling Idle = false
-is_settling (Begun c) = false
-is_settling (ToSeek tier size) = false
 is_settling Settling = true
 is_settling (ToGiveBack answer) = true
-is_settling (Passing passage) = false
-is_settling (Owing own) = false
-is_settling (Due own) = false
-is_settling (Refreshing moved) = false
+is_settling _ = false
 
 abbrev pub SettlingKeepsMembers : Type 0
 SettlingKeepsMembers =

@@ -1,4 +1,4 @@
--- How many steps a call takes (own).
+-- How many steps a call takes (not part of Java's API).
 use Rattle.std.specs.Prelude.{◌≡◌, ℕ, zero, suc, ◌<◌, ◌≤◌, ◌⊎◌, ◌||◌, true, false, if◌then◌else◌, List, [], length}
 use Rattle.tier_shape.specs.Paths.{IsTiers}
 use Rattle.tier_core.specs.declared.call.Call.{Call}
@@ -13,8 +13,8 @@ use Rattle.tier_laws.specs.Told.{is_last}
 use Rattle.tier_laws.specs.Frame.{flat_of}
 use Rattle.tier_laws.specs.Moments.{Moment, Event, run_of, moments, AreEvents, AreOfCall}
 
--- The most steps of each call. On a path of 7 tiers a join looks at the root, goes up by 7 tiers, and settles the 6 below the root or gives
--- them back; an arrival or a departure looks, refreshes each of these 6, passes all 7, and advances the root.
+-- The most steps of each call. On a path of 7 tiers, a join looks at the root, goes up 7 tiers, and settles or releases the 6 below the root.
+-- An arrival or a departure looks at the root, refreshes each of these 6, passes all 7, and advances the root.
 abbrev pub most_steps : Call → ℕ
 most_steps (call.Join tier size) = 14
 most_steps call.Arrive = 15
@@ -26,11 +26,12 @@ most_steps call.Force = 1
 pub record IsShort (s : State) (token : ℕ) (c : Call) (ms : List Moment) : Type 0 where
   pub few : length ms ≤ most_steps c
   pub sixteen : length ms ≤ 16
-  -- as long as it has no answer there is a step to come, which the token may take at once
+  -- until it has its answer there is a next step, which the token may take at once
   pub goes_on : is_idle (call_at s.calls token) ≡ false → length ms < most_steps c
   pub may : is_idle (call_at s.calls token) ≡ false → (may_go s token || may_finish s token) ≡ true
 
--- Each call has its answer after so many steps of its own, whatever other tokens do between them, and whatever tokens come in.
+-- Each call has its answer after at most `most_steps` steps of its token, whatever steps other tokens take between them, and whatever tokens
+-- are added.
 abbrev pub CallsAreShort : Type 0
 CallsAreShort =
     (s : State) (token : ℕ) (c : Call) (events : List Event) → IsTiers s.parents → IsCore s → IsCall c → may_begin s token c ≡ true
@@ -47,12 +48,12 @@ pub record IsAnswered (s : State) (token : ℕ) : Type 0 where
   pub answer : answer_to s (going_on s token) ≡ answer.Played played
   pub last : is_last played ≡ true
 
--- so does one of so many steps of the token alone
+-- one of the next `steps` steps of the token alone answers the call
 abbrev pub IsAnsweredWithin : ℕ → ℕ → State → Type 0
 IsAnsweredWithin zero token s = ⊥
 IsAnsweredWithin (suc steps) token s = IsAnswered s token ⊎ IsAnsweredWithin steps token (after s (going_on s token))
 
--- Wherever a call stands, 16 steps of its token alone are enough for its answer.
+-- However far a call has come, 16 steps of its token alone are enough for its answer.
 abbrev pub SixteenStepsAreEnough : Type 0
 SixteenStepsAreEnough =
     (s : State) (token : ℕ) → IsTiers s.parents → IsCore s → token < length s.views → is_idle (call_at s.calls token) ≡ false

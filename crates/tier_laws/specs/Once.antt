@@ -1,13 +1,13 @@
--- How often a call counts, where a join places its members, and what a refused join notes (own).
+-- How often a call counts, where a join places its members, and what a refused join notes (not part of Java's API).
 use Rattle.std.specs.Prelude.{◌≡◌, ℕ, ◌≤◌, Bool, true, false, Some, List, [], ◌∷◌, count_by}
 use Rattle.std.specs.List.{Any}
 use Rattle.tier_steps.specs.declared.kind.Kind.{Kind}
-use Rattle.tier_steps.specs.declared.kind.Kind.TheVariants.{Look, Glance, Refuse, Join, Arrive, Leave, Advance, Force, Claim, Settle, SettleBack, Climb, Refresh}
+use Rattle.tier_steps.specs.declared.kind.Kind.TheVariants.{Refuse, Join, Arrive, Leave, Force}
 use Rattle.tier_steps.specs.declared.view.View.{View}
 use Rattle.tier_core.specs.declared.call.Call.{Call}
 use Rattle.tier_core.specs.declared.call.Call.TheVariants as call
 use Rattle.tier_core.specs.declared.call.Played.{Played}
-use Rattle.tier_core.specs.declared.call.Played.TheVariants.{GoesOn, Done, Passed, Waiting, Held, Full, AlreadyArrived, Ended, MustAdvance}
+use Rattle.tier_core.specs.declared.call.Played.TheVariants.{GoesOn, Done, Held, Full, Ended, MustAdvance}
 use Rattle.tier_core.specs.Machine.{State, IsCore, view_at, played}
 use Rattle.tier_core.specs.Run.{may_begin, begun, IsCall}
 use Rattle.tier_laws.specs.Frame.{flat_of}
@@ -15,26 +15,17 @@ use Rattle.tier_laws.specs.Moments.{Moment, Event, moments, AreEvents, AreOfCall
 use Rattle.tier_laws.specs.Calls.{IsPlaced}
 use Rattle.tier_laws.specs.Told.{refusing}
 
--- the steps that register members, or count one that arrives or leaves
+-- the steps that register members, or count an arrival or a departure
 abbrev pub is_counting : Kind → Bool
-is_counting Look = false
-is_counting Glance = false
-is_counting (Refuse tier claimed size) = false
 is_counting (Join tier claimed size) = true
 is_counting Arrive = true
 is_counting Leave = true
-is_counting (Advance ends) = false
-is_counting Force = false
-is_counting (Claim tier claimed size) = false
-is_counting (Settle tier claimed size) = false
-is_counting (SettleBack tier claimed size) = false
-is_counting (Climb passage) = false
-is_counting Refresh = false
+is_counting _ = false
 
 abbrev pub times_counted : List Moment → ℕ
 times_counted ms = count_by (λ m. is_counting m.turn.kind) ms
 
--- how often a call counts that is done
+-- how often a call that is done has counted
 abbrev pub counts_when_done : Call → ℕ
 counts_when_done (call.Join tier size) = 1
 counts_when_done call.Arrive = 1
@@ -42,17 +33,12 @@ counts_when_done call.Leave = 1
 counts_when_done call.Poll = 0
 counts_when_done call.Force = 0
 
--- A call that is done, or has to advance the root, has counted once; one that answers otherwise has counted nothing.
+-- A call that is done or must advance the root has counted once. A call with another answer has counted nothing.
 abbrev pub CountsAs : Call → Played → ℕ → Type 0
 CountsAs c GoesOn times = times ≤ 1
 CountsAs c (Done phase) times = times ≡ counts_when_done c
-CountsAs c (Passed phase) times = times ≡ 0
-CountsAs c Waiting times = times ≡ 0
-CountsAs c (Held phase why) times = times ≡ 0
-CountsAs c (Full parties) times = times ≡ 0
-CountsAs c (AlreadyArrived phase) times = times ≡ 0
-CountsAs c (Ended number) times = times ≡ 0
 CountsAs c (MustAdvance phase parties) times = times ≡ 1
+CountsAs c _ times = times ≡ 0
 
 abbrev pub LatestCounts : Call → List Moment → Type 0
 LatestCounts c [] = Unit {0}
@@ -63,21 +49,17 @@ CallsCountOnce =
     (s : State) (token : ℕ) (c : Call) (events : List Event) → IsCore s → IsCall c → may_begin s token c ≡ true → AreEvents events
     → AreOfCall token events → LatestCounts c (moments token events (begun s token c) (flat_of s) [])
 
--- what the token knows after a moment of its own
+-- what the token knows after a moment of its call
 abbrev pub view_after_turn : ℕ → Moment → View
 view_after_turn token m = view_at (played m.state token m.turn).views token
 
--- A join that is done has its members at the tier that was asked for, unarrived in the phase that it answers.
+-- After a join is done, its members are at the tier that was asked for, unarrived in the phase of the answer.
 abbrev pub PlacesAs : ℕ → ℕ → Played → View → Type 0
-PlacesAs tier size GoesOn v = Unit {0}
 PlacesAs tier size (Done phase) v = IsPlaced tier size phase v
-PlacesAs tier size (Passed phase) v = Unit {0}
-PlacesAs tier size Waiting v = Unit {0}
 PlacesAs tier size (Held phase why) v = v.size ≡ 0
 PlacesAs tier size (Full parties) v = v.size ≡ 0
-PlacesAs tier size (AlreadyArrived phase) v = Unit {0}
 PlacesAs tier size (Ended number) v = v.size ≡ 0
-PlacesAs tier size (MustAdvance phase parties) v = Unit {0}
+PlacesAs tier size _ v = Unit {0}
 
 abbrev pub LatestPlaces : ℕ → ℕ → ℕ → List Moment → Type 0
 LatestPlaces token tier size [] = Unit {0}
@@ -89,7 +71,7 @@ JoinsPlaceWhereAsked =
     → may_begin s token (call.Join tier size) ≡ true → AreEvents events → AreOfCall token events
     → LatestPlaces token tier size (moments token events (begun s token (call.Join tier size)) (flat_of s) [])
 
--- the moment that refused, as the token has noted it: the tier, and the word that it found there
+-- the moment of the refusal, as the token has noted it: the tier, and the word that it found there
 pub record IsNotedAt (v : View) (m : Moment) : Type 0 where
   pub tier : ℕ
   pub claimed : ℕ
@@ -97,17 +79,11 @@ pub record IsNotedAt (v : View) (m : Moment) : Type 0 where
   pub kind : m.turn.kind ≡ Refuse tier claimed size
   pub note : v.note ≡ Some (m.turn.tier, refusing m)
 
--- A join that is held or finds no room has noted what refused it.
+-- A join that is held off or finds no room has noted the tier and the word that refused it.
 abbrev pub NotesAs : Played → View → List Moment → Type 0
-NotesAs GoesOn v ms = Unit {0}
-NotesAs (Done phase) v ms = Unit {0}
-NotesAs (Passed phase) v ms = Unit {0}
-NotesAs Waiting v ms = Unit {0}
 NotesAs (Held phase why) v ms = Any (IsNotedAt v) ms
 NotesAs (Full parties) v ms = Any (IsNotedAt v) ms
-NotesAs (AlreadyArrived phase) v ms = Unit {0}
-NotesAs (Ended number) v ms = Unit {0}
-NotesAs (MustAdvance phase parties) v ms = Unit {0}
+NotesAs _ v ms = Unit {0}
 
 abbrev pub LatestNotes : ℕ → List Moment → Type 0
 LatestNotes token [] = Unit {0}

@@ -1,4 +1,4 @@
--- What each answer of a call tells, in the words of the flat phaser at the moments of the call (own).
+-- What each answer of a call says of the flat phaser at the moments of the call (not part of Java's API).
 use Rattle.std.specs.Prelude.{◌≡◌, ◌≢◌, ◌↔◌, ℕ, ◌+◌, ◌<◌, ◌≤◌, Bool, true, false, if◌then◌else◌, Option, Some, None, List, [], ◌∷◌, length, ℤ}
 use Rattle.std.specs.List.{Any}
 use Rattle.phaser_word.specs.Phase.{next_phase_of}
@@ -26,7 +26,7 @@ use Rattle.tier_laws.specs.Frame.{flat_of}
 use Rattle.tier_core.specs.Run.{may_begin, begun, IsCall}
 use Rattle.tier_laws.specs.Moments.{Moment, Event, flat_at, flat_after, moments, AreEvents, AreOfCall}
 
--- how many members the token has at a moment, and how many of them have arrived in a phase
+-- the number of the token's members at a moment, and the number of those that have arrived in a phase
 abbrev pub members_at : ℕ → Moment → ℕ
 members_at token m = members_of token (flat_at m).members
 
@@ -41,18 +41,18 @@ step_of token call.Leave = Some (flat.Leave token)
 step_of token call.Poll = None
 step_of token call.Force = Some flat.Force
 
--- The moment of that flat step. Once the tree has ended the step is still taken, and changes nothing.
+-- The moment of that flat step. After the tree has ended the step is still taken, and changes nothing.
 pub record IsCounted (token : ℕ) (c : Call) (now : ℕ) (m : Moment) : Type 0 where
   pub label : label token m.turn.kind ≡ step_of token c
   pub phase : (flat_at m).phase ≡ now
 
--- the first look at the root, where no step of the call had been taken, and the flat phaser was in this phase
+-- the first look at the root, before any other step of the call, when the flat phaser was in this phase
 pub record IsFirstLook (token : ℕ) (c : Call) (now : ℕ) (m : Moment) : Type 0 where
   pub first : call_at m.state.calls token ≡ Begun c
   pub going : (flat_at m).ended ≡ false
   pub phase : (flat_at m).phase ≡ now
 
--- at that look a member of the token hadn't arrived
+-- at that look a member of the token had not arrived
 pub record IsAwaiting (token : ℕ) (now : ℕ) (m : Moment) : Type 0 where
   pub look : IsFirstLook token call.Poll now m
   pub some : arrived_at token now m < members_at token m
@@ -62,19 +62,19 @@ pub record AreAllHere (token : ℕ) (c : Call) (now : ℕ) (m : Moment) : Type 0
   pub look : IsFirstLook token c now m
   pub all : arrived_at token now m ≡ members_at token m
 
--- at that look the phase was the next after the token's own, in which all its members had arrived: so says the tree, since a flat phaser
--- tells nobody who arrived in a phase before
+-- At that look the phase was the one after the token's, in which all its members had arrived. The tree says so, because a flat phaser
+-- doesn't record who arrived in an earlier phase.
 pub record HasPassed (token : ℕ) (now : ℕ) (m : Moment) : Type 0 where
   pub look : IsFirstLook token call.Poll now m
   pub next : now ≡ next_phase_of (view_at m.state.views token).phase
   pub all : arrived_of (view_at m.state.views token).phase token (flat_of m.state).members ≡ members_of token (flat_of m.state).members
 
--- after a step the flat phaser had ended, and this is the phase that it showed
+-- after a step the flat phaser had ended and showed this phase
 pub record HasEnded (token : ℕ) (number : ℤ) (m : Moment) : Type 0 where
   pub ended : (flat_after m).ended ≡ true
   pub shows : shown (flat_after m) ≡ number
 
--- the step that makes the advance due in this phase, and leaves so many parties at the root: none exactly where there is no member
+-- the step that makes the advance due in this phase and leaves this many parties at the root, none exactly if there are no members
 pub record MakesDue (token : ℕ) (now parties : ℕ) (m : Moment) : Type 0 where
   pub going : (flat_after m).ended ≡ false
   pub due : (flat_after m).due ≡ true
@@ -82,7 +82,7 @@ pub record MakesDue (token : ℕ) (now parties : ℕ) (m : Moment) : Type 0 wher
   pub root : (word_at (played m.state token m.turn).words 0).parties ≡ parties
   pub nobody : (parties ≡ 0) ↔ (registered (flat_after m) ≡ 0)
 
--- the step that refuses a join: the call answers so at once, or once the tiers that it has claimed are given back
+-- the step that refuses a join: the call gives this answer at once, or after it has released its claimed tiers
 pub record IsRefusal (c : Call) (tier claimed size : ℕ) (answer : Played) (m : Moment) : Type 0 where
   pub call : c ≡ call.Join tier size
   pub kind : m.turn.kind ≡ Refuse tier claimed size
@@ -115,11 +115,11 @@ pub record IsHeldBy (token : ℕ) (c : Call) (now : ℕ) (why : Cause) (m : Mome
   pub claimed : ℕ
   pub size : ℕ
   pub refusal : IsRefusal c tier claimed size (Held now why) m
-  -- there was room: want of room is told first
+  -- there was room, because a lack of room is answered first
   pub room : (refusing m).parties + added claimed size ≤ 65535
   pub cause : IsCause token now m why
 
--- the word had so many parties, and with those that were to be added they are too many
+-- the word had this many parties, and with those that the join would add there would be too many
 pub record IsFullWith (c : Call) (parties : ℕ) (m : Moment) : Type 0 where
   pub tier : ℕ
   pub claimed : ℕ
@@ -133,7 +133,7 @@ abbrev pub last_seen : List Moment → ℕ
 last_seen [] = 0
 last_seen (m ∷ past) = if sees_root m.turn.tier m.turn.kind then (flat_at m).phase else last_seen past
 
--- done in this phase, by each call
+-- what Done in this phase says, for each call
 abbrev pub IsDoneIn : ℕ → Call → ℕ → List Moment → Type 0
 IsDoneIn token (call.Join tier size) now ms = Any (IsCounted token (call.Join tier size) now) ms
 IsDoneIn token call.Arrive now ms = Any (IsCounted token call.Arrive now) ms
@@ -141,7 +141,7 @@ IsDoneIn token call.Leave now ms = Any (IsCounted token call.Leave now) ms
 IsDoneIn token call.Poll now ms = Any (IsAwaiting token now) ms
 IsDoneIn token call.Force now ms = ⊥
 
--- what an answer tells, where `m` is the moment of the step that answers, and `past` are those before, the latest first
+-- what an answer says, where `m` is the moment of the step that gives it, and `past` are the earlier moments, the latest first
 abbrev pub Tells : ℕ → Call → Moment → List Moment → Played → Type 0
 Tells token c m past GoesOn = is_active m.turn.next ≡ true
 Tells token c m past (Done phase) = IsDoneIn token c phase (m ∷ past)
@@ -153,17 +153,11 @@ Tells token c m past (AlreadyArrived phase) = Any (AreAllHere token c phase) (m 
 Tells token c m past (Ended number) = Any (HasEnded token number) (m ∷ past)
 Tells token c m past (MustAdvance phase parties) = (is_due m.turn.next ≡ true) × MakesDue token phase parties m
 
--- whether an answer is the call's last
+-- the answers with which a call is over
 abbrev pub is_last : Played → Bool
 is_last GoesOn = false
-is_last (Done phase) = true
-is_last (Passed phase) = true
-is_last Waiting = true
-is_last (Held phase why) = true
-is_last (Full parties) = true
-is_last (AlreadyArrived phase) = true
-is_last (Ended number) = true
 is_last (MustAdvance phase parties) = false
+is_last _ = true
 
 pub record IsTold (token : ℕ) (c : Call) (m : Moment) (past : List Moment) : Type 0 where
   pub tells : Tells token c m past m.turn.answer
@@ -173,8 +167,8 @@ abbrev pub LatestTells : ℕ → Call → List Moment → Type 0
 LatestTells token c [] = Unit {0}
 LatestTells token c (m ∷ past) = IsTold token c m past
 
--- Each answer of a call tells what the table says of the flat phaser that the labels reach from any that looks like the tree before the call,
--- whatever other tokens do between its steps, and whatever tokens come in.
+-- Each answer of a call says what `Tells` says, of the flat phaser that the labels reach from any that looks like the tree before the call. It
+-- holds whatever steps other tokens take between those of the call, and whatever tokens are added.
 abbrev pub AnswersTell : Type 0
 AnswersTell =
     (s : State) (token : ℕ) (c : Call) (events : List Event) (f : Flat) → IsCore s → IsCall c → may_begin s token c ≡ true

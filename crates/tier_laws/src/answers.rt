@@ -1,5 +1,5 @@
-//! What the answers of calls mean, and how many steps a call takes. Each law is the contract of a function
-//! without parameters that does nothing.
+//! Laws of the answers of calls, and of the number of their steps. Each law is the contract of a function without
+//! parameters that does nothing.
 
 ghost use Rattle.tier_laws.specs.Moments.{MomentsAreAnswers, MomentsLookLikeTheTree};
 ghost use Rattle.tier_laws.specs.Told.{AnswersTell};
@@ -8,65 +8,65 @@ ghost use Rattle.tier_laws.specs.Once.{CallsCountOnce, JoinsPlaceWhereAsked, Ref
 ghost use Rattle.tier_laws.specs.Count.{CallsAreShort, SixteenStepsAreEnough};
 ghost use Rattle.tier_laws.specs.Worked.{EachAnswerIsGiven};
 
-/// What a run answers to a step of a token is the answer of the moment that the step is.
+/// The answer of a run to each step is the answer of the turn taken at that moment.
 pub fn moments_are_answers()
     ensures { MomentsAreAnswers }
 {}
 
-/// The flat phasers that the labels of a run have reached before and after a turn look like the tree there.
+/// Before and after each turn of a run, the flat phaser that the labels have reached looks like the tree.
 pub fn moments_look_like_the_tree()
     ensures { MomentsLookLikeTheTree }
 {}
 
-/// What each answer of a call says of the one flat phaser that takes the labels of all steps, and looks like
-/// the tree before the call, whatever other tokens do between its steps, and whatever tokens come in.
+/// What each answer of a call says of the flat phaser that takes the labels of all steps and looks like the tree before
+/// the call. It holds whatever steps other tokens take between those of the call, and whatever tokens are added.
 pub fn answers_tell()
     ensures { AnswersTell }
 {}
 
-/// The answers of a run are those of one flat phaser: the labels of its steps are a run of any that looks
-/// like the tree before it, and each answer of each call tells what the table of answers says of the flat
-/// phasers that these labels reach.
+/// The answers of a run are those of one flat phaser. The labels of its steps are a run of every flat phaser that looks
+/// like the tree before it. Each answer of each call says of the flat phasers that these labels reach what the table of
+/// answers says.
 pub fn runs_answer_as_the_flat_phaser()
     ensures { RunsAnswerAsTheFlatPhaser }
 {}
 
-/// A run on a new tree is a run of the flat phaser from no members on: there an advance is due only where
+/// A run on a new tree is a run of the flat phaser that starts without members. In it, an advance is due only after
 /// everyone who is registered has arrived.
 pub fn new_trees_advance_when_all_arrived()
     ensures { NewTreesAdvanceWhenAllArrived }
 {}
 
-/// A call counts once where it is done or has to advance the root, and not at all where it answers
-/// otherwise: an arrival, a departure or a join that answers that the tree has ended has changed no members.
+/// A call counts once if it answers `Done` or `MustAdvance`, and not at all if it gives another answer. So an arrival, a
+/// departure or a join that answers `Ended` has changed no members.
 pub fn calls_count_once()
     ensures { CallsCountOnce }
 {}
 
-/// A join that is done has its members at the tier that was asked for, unarrived in the phase that it
-/// answers; one that is refused, or finds that the tree has ended, leaves its token without members.
+/// After a join answers `Done`, its members are at the tier that was asked for, unarrived in the phase of the answer.
+/// After a join is refused or answers `Ended`, its token has no members.
 pub fn joins_place_where_asked()
     ensures { JoinsPlaceWhereAsked }
 {}
 
-/// A join that is held off or finds no room has noted the tier and the word that refused it.
+/// A join that answers `Held` or `Full` has noted the tier and the word that refused it.
 pub fn refusals_are_noted()
     ensures { RefusalsAreNoted }
 {}
 
-/// A call has its answer after at most 16 steps, whatever other tokens do between them, and whatever tokens
-/// come in: a join after 14, an arrival or a departure after 15, a poll after 2, an end by force after 1.
+/// A call has its answer after at most 16 steps, whatever steps other tokens take between them, and whatever tokens are
+/// added. A join has at most 14, an arrival or a departure 15, a poll 2, and a forced end 1.
 pub fn calls_are_short()
     ensures { CallsAreShort }
 {}
 
-/// Wherever a call stands, 16 steps of its token alone are enough for its answer.
+/// However far a call has come, 16 steps of its token alone are enough for its answer.
 pub fn sixteen_steps_are_enough()
     ensures { SixteenStepsAreEnough }
 {}
 
-/// On a new tree there is a run in which each call is made and each answer given: what these laws ask for is
-/// met, and none of them is about nothing.
+/// On a new tree there is a run in which each call is made and each answer is given, so the premises of these laws can be
+/// met.
 pub fn each_answer_is_given()
     ensures { EachAnswerIsGiven }
 {}

@@ -6,7 +6,7 @@ use lib.ListN.{get_elem?}
 use Rattle.phaser_word.specs.Fields.{Fields}
 use Rattle.tier_steps.specs.declared.view.View.{View}
 use Rattle.tier_steps.specs.declared.kind.Kind.{Kind}
-use Rattle.tier_steps.specs.declared.kind.Kind.TheVariants.{Look, Glance, Refuse, Join, Arrive, Leave, Advance, Force, Claim, Settle, SettleBack, Climb, Refresh}
+use Rattle.tier_steps.specs.declared.kind.Kind.TheVariants.{Advance, Force}
 use Rattle.tier_steps.specs.Tally.{word_at}
 use Rattle.tier_steps.specs.Step.{Needs}
 use Rattle.tier_steps.specs.Laws.{words_after, stepped_view}
@@ -55,19 +55,9 @@ StepsAreFlat =
 
 -- whether the tree has ended after a step: by force; by an advance as the plan says of the phase and of whether there is no member; else as before
 abbrev pub ended_by : Key → List Fields → List (List Sight) → Kind → Bool
-ended_by k words seats Look = (word_at words 0).ended
-ended_by k words seats Glance = (word_at words 0).ended
-ended_by k words seats (Refuse tier claimed size) = (word_at words 0).ended
-ended_by k words seats (Join tier claimed size) = (word_at words 0).ended
-ended_by k words seats Arrive = (word_at words 0).ended
-ended_by k words seats Leave = (word_at words 0).ended
 ended_by k words seats (Advance ends) = end_ends k.plan (word_at words 0).phase (registered (image words (views_of seats)) == 0)
 ended_by k words seats Force = true
-ended_by k words seats (Claim tier claimed size) = (word_at words 0).ended
-ended_by k words seats (Settle tier claimed size) = (word_at words 0).ended
-ended_by k words seats (SettleBack tier claimed size) = (word_at words 0).ended
-ended_by k words seats (Climb passage) = (word_at words 0).ended
-ended_by k words seats Refresh = (word_at words 0).ended
+ended_by k words seats _ = (word_at words 0).ended
 
 abbrev pub EndsAreForcedOrPlanned : Type 0
 EndsAreForcedOrPlanned =

@@ -11,7 +11,7 @@ use Rattle.tier_steps.specs.View.{new_view}
 use Rattle.tier_shape.specs.Paths.{IsTiers}
 use Rattle.tier_steps.specs.Tally.{word_at, Tallies}
 use Rattle.tier_steps.specs.declared.kind.Kind.{Kind}
-use Rattle.tier_steps.specs.declared.kind.Kind.TheVariants.{Look, Glance, Refuse, Join, Arrive, Leave, Advance, Force, Claim, Settle, SettleBack, Climb, Refresh}
+use Rattle.tier_steps.specs.declared.kind.Kind.TheVariants.{Look, Advance}
 use Rattle.tier_steps.specs.Step.{Needs, word_after}
 use Rattle.tier_steps.specs.Laws.{words_after, stepped_view}
 use Rattle.tier_steps.specs.Start.{empty_word, empty_words}
@@ -57,19 +57,8 @@ first_sights k = first_sight k (empty_word k.phase) ∷ []
 
 -- an advance ends the tree as the plan says
 abbrev pub PlanSays : Key → Kind → Fields → Type 0
-PlanSays k Look w = Unit {0}
-PlanSays k Glance w = Unit {0}
-PlanSays k (Refuse tier claimed size) w = Unit {0}
-PlanSays k (Join tier claimed size) w = Unit {0}
-PlanSays k Arrive w = Unit {0}
-PlanSays k Leave w = Unit {0}
 PlanSays k (Advance ends) w = ends ≡ end_ends k.plan w.phase (w.parties == 0)
-PlanSays k Force w = Unit {0}
-PlanSays k (Claim tier claimed size) w = Unit {0}
-PlanSays k (Settle tier claimed size) w = Unit {0}
-PlanSays k (SettleBack tier claimed size) w = Unit {0}
-PlanSays k (Climb passage) w = Unit {0}
-PlanSays k Refresh w = Unit {0}
+PlanSays k _ w = Unit {0}
 
 -- What a seat knows after a step of this kind at the tier t, which found these words, by so many tries: all that it knew, and the step.
 pub record Learns (kind : Kind) (t : ℕ) (ws : List Fields) (tries : ℕ) (x y : Sight) : Type 0 where

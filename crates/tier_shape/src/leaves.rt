@@ -33,10 +33,7 @@ fn number_in(leaves: &[u16], leaf: u16) -> usize
 fn last_number(path: &[u16]) -> u16
     ensures { result ≡ last_number path.now }
 {
-    if path.is_empty() {
-        return 0;
-    }
-    path[path.len() - 1]
+    path.last().copied().unwrap_or(0)
 }
 
 /// Returns the leaf that a spawned task prefers: `home` is its spawner's leaf and `path` the task's own path.

@@ -102,17 +102,11 @@ fn come_earlier(parents: &[u16]) -> bool
     requires { 0 < length parents.now }
     ensures { IsTrue result ↔ IsShape parents.now }
 {
-    for (tier, parent) in parents.iter().enumerate() {
-        let earlier = if tier == 0 {
-            *parent == 0
-        } else {
-            usize::from(*parent) < tier
-        };
-        if !earlier {
-            return false;
-        }
-    }
-    true
+    parents[0] == 0
+        && parents
+            .iter()
+            .enumerate()
+            .all(|(tier, parent)| tier == 0 || usize::from(*parent) < tier)
 }
 
 // Returns the number of levels from the root down to a tier.
@@ -136,27 +130,16 @@ fn are_near(parents: &[u16]) -> bool
     ensures near { IsTrue result → (tier : ℕ) → tier < length parents.now → length (path_of parents.now tier) ≤ 7 }
     ensures far { result ≡ false → IsTooDeep parents.now }
 {
-    for tier in 0..parents.len() {
-        if level_of(parents, tier) > MOST_LEVELS {
-            return false;
-        }
-    }
-    true
+    (0..parents.len()).all(|tier| level_of(parents, tier) <= MOST_LEVELS)
 }
 
 // Returns true if this is a tier and no other tier's parent.
 fn has_no_child(parents: &[u16], tier: u16) -> bool
     ensures { IsTrue result ↔ IsLeaf parents.now tier }
 {
-    if usize::from(tier) >= parents.len() {
-        return false;
-    }
-    for (other, parent) in parents.iter().enumerate() {
-        if *parent == tier && other != usize::from(tier) {
-            return false;
-        }
-    }
-    true
+    usize::from(tier) < parents.len()
+        && parents.iter().enumerate().all(|(other, parent)| *parent != tier
+            || other == usize::from(tier))
 }
 
 // Returns the shape that a text describes, or why there is none.

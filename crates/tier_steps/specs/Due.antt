@@ -5,7 +5,7 @@ use Rattle.flat_phaser.specs.Flat.{everyone_arrived, registered, unarrived}
 use Rattle.tier_steps.specs.Word.{Fields}
 use Rattle.tier_steps.specs.View.{View, Rest, late_share}
 use Rattle.tier_steps.specs.Tally.{word_at, root_phase, Tallies, IsShape}
-use Rattle.tier_steps.specs.Step.{Kind, Look, Glance, Refuse, Join, Arrive, Leave, Advance, Force, Claim, Settle, SettleBack, Climb, Refresh}
+use Rattle.tier_steps.specs.Step.{Kind, Advance}
 use Rattle.tier_steps.specs.Image.{image, all_members}
 use Rattle.tier_steps.specs.Laws.{IsStep, words_after}
 
@@ -46,19 +46,8 @@ UnarrivedHoldTheRoot =
     → (word_at words 0).unarrived ≢ 0
 
 abbrev pub is_advance : Kind → Bool
-is_advance Look = false
-is_advance Glance = false
-is_advance (Refuse tier claimed size) = false
-is_advance (Join tier claimed size) = false
-is_advance Arrive = false
-is_advance Leave = false
 is_advance (Advance ends) = true
-is_advance Force = false
-is_advance (Claim tier claimed size) = false
-is_advance (Settle tier claimed size) = false
-is_advance (SettleBack tier claimed size) = false
-is_advance (Climb passage) = false
-is_advance Refresh = false
+is_advance _ = false
 
 -- A tier in the root's phase stays there until the root advances.
 abbrev pub PhasesStay : Type 0

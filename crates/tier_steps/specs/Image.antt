@@ -9,7 +9,7 @@ use Rattle.flat_phaser.specs.Alike.{IsAlike}
 use Rattle.tier_steps.specs.Word.{Fields}
 use Rattle.tier_steps.specs.View.{View, Errand, Rest, Opening, Climbing, Advancing}
 use Rattle.tier_steps.specs.Tally.{word_at}
-use Rattle.tier_steps.specs.Step.{Kind, Look, Glance, Refuse, Join, Arrive, Leave, Advance, Force, Claim, Settle, SettleBack, Climb, Refresh}
+use Rattle.tier_steps.specs.Step.{Kind, Join, Arrive, Leave, Advance, Force}
 
 -- the members of a token: those that have arrived are marked with its phase
 abbrev pub token_members : ℕ → View → List Member
@@ -45,19 +45,12 @@ image words views =
 
 -- the flat step that a kind of step is, by the token with this number; none for most
 abbrev pub label : ℕ → Kind → Option FlatStep
-label owner Look = None
-label owner Glance = None
-label owner (Refuse tier claimed size) = None
 label owner (Join tier claimed size) = Some (flat.Join owner size)
 label owner Arrive = Some (flat.Arrive owner)
 label owner Leave = Some (flat.Leave owner)
 label owner (Advance ends) = Some (flat.Advance ends)
 label owner Force = Some flat.Force
-label owner (Claim tier claimed size) = None
-label owner (Settle tier claimed size) = None
-label owner (SettleBack tier claimed size) = None
-label owner (Climb passage) = None
-label owner Refresh = None
+label owner _ = None
 
 -- what a label leaves of a flat phaser, and whether the flat phaser may take it
 abbrev pub labelled : Option FlatStep → Flat → Flat

@@ -3,40 +3,19 @@ use Rattle.std.specs.Prelude.{◌≡◌, ℕ, ◌==◌, Bool, true, false, Some,
 use Rattle.tier_steps.specs.Word.{Fields}
 use Rattle.tier_steps.specs.View.{View}
 use Rattle.tier_steps.specs.Tally.{word_at}
-use Rattle.tier_steps.specs.Step.{Kind, Look, Glance, Refuse, Join, Arrive, Leave, Advance, Force, Claim, Settle, SettleBack, Climb, Refresh, is_going_back}
+use Rattle.tier_steps.specs.Step.{Kind, Look, Refuse, is_going_back}
 use Rattle.tier_steps.specs.Due.{is_advance}
 use Rattle.tier_steps.specs.Laws.{stepped_view}
 
 -- whether a step at a tier looks at the root
 abbrev pub sees_root : ℕ → Kind → Bool
 sees_root t Look = true
-sees_root t Glance = false
 sees_root t (Refuse tier claimed size) = t == 0
-sees_root t (Join tier claimed size) = false
-sees_root t Arrive = false
-sees_root t Leave = false
-sees_root t (Advance ends) = false
-sees_root t Force = false
-sees_root t (Claim tier claimed size) = false
-sees_root t (Settle tier claimed size) = false
-sees_root t (SettleBack tier claimed size) = false
-sees_root t (Climb passage) = false
-sees_root t Refresh = false
+sees_root t _ = false
 
 abbrev pub is_refusal : Kind → Bool
-is_refusal Look = false
-is_refusal Glance = false
 is_refusal (Refuse tier claimed size) = true
-is_refusal (Join tier claimed size) = false
-is_refusal Arrive = false
-is_refusal Leave = false
-is_refusal (Advance ends) = false
-is_refusal Force = false
-is_refusal (Claim tier claimed size) = false
-is_refusal (Settle tier claimed size) = false
-is_refusal (SettleBack tier claimed size) = false
-is_refusal (Climb passage) = false
-is_refusal Refresh = false
+is_refusal _ = false
 
 -- A token has led from the advance that it takes to its next look at the root.
 pub record LedIsTold (t : ℕ) (kind : Kind) (old new : View) : Type 0 where

@@ -109,12 +109,8 @@ abbrev pub moved : Fields → View → View
 moved w v = if v.arrived == v.size then (if v.phase == w.phase then v else record v { phase = w.phase; arrived = 0 }) else v
 
 abbrev pub is_going_back : Errand → Bool
-is_going_back Rest = false
-is_going_back Advancing = false
-is_going_back (Climbing t passage) = false
-is_going_back (Opening tier claimed Seeking size) = false
-is_going_back (Opening tier claimed Joined size) = false
 is_going_back (Opening tier claimed GoingBack size) = true
+is_going_back _ = false
 
 -- a look at the root
 abbrev pub looked : Fields → View → View
@@ -201,19 +197,8 @@ view_after above Refresh t w v = v
 
 -- how many tiers were claimed before a claim
 abbrev pub claimed_before : Kind → ℕ
-claimed_before Look = 0
-claimed_before Glance = 0
-claimed_before (Refuse tier claimed size) = 0
-claimed_before (Join tier claimed size) = 0
-claimed_before Arrive = 0
-claimed_before Leave = 0
-claimed_before (Advance ends) = 0
-claimed_before Force = 0
 claimed_before (Claim tier claimed size) = claimed
-claimed_before (Settle tier claimed size) = 0
-claimed_before (SettleBack tier claimed size) = 0
-claimed_before (Climb passage) = 0
-claimed_before Refresh = 0
+claimed_before _ = 0
 
 -- A step that the code can run: the word that it leaves is legal, and its numbers stay in their ranges.
 pub record IsRunnable (kind : Kind) (t : ℕ) (w : Fields) (v : View) : Type 0 where

@@ -2,7 +2,7 @@
 use Rattle.std.specs.Prelude.{◌≡◌, ℕ, zero, suc, ◌+◌, ◌<◌, ◌⊎◌, Bool, true, false, Some, List, length, sum_by}
 use Rattle.std.specs.List.{AllByRecursion}
 use Rattle.tier_steps.specs.Word.{Fields, next_phase_of, late, is_empty, is_being_opened}
-use Rattle.tier_steps.specs.View.{View, Errand, Rest, Opening, Climbing, Advancing, Seeking, Joined, GoingBack, Arrival, Departure, parent_of, ancestor, absent, only_at, claim_share, advance_share}
+use Rattle.tier_steps.specs.View.{View, Errand, Opening, Climbing, Advancing, Joined, Departure, parent_of, ancestor, absent, only_at, claim_share, advance_share}
 use Rattle.tier_steps.specs.Tally.{word_at, root_phase, children, Compared, KeepsUp, Tallies, IsShape}
 
 -- the members of a token at a tier, and those of them that haven't arrived
@@ -14,17 +14,12 @@ absent_at root t v = only_at v.tier (absent root v) t
 
 -- a departure that climbs to the tier, and a climb of either kind
 abbrev pub departing : ℕ → Errand → ℕ
-departing t Rest = 0
-departing t Advancing = 0
-departing t (Climbing to Arrival) = 0
 departing t (Climbing to Departure) = only_at to 1 t
-departing t (Opening tier claimed stage size) = 0
+departing t _ = 0
 
 abbrev pub climbing : ℕ → Errand → ℕ
-climbing t Rest = 0
-climbing t Advancing = 0
 climbing t (Climbing to passage) = only_at to 1 t
-climbing t (Opening tier claimed stage size) = 0
+climbing t _ = 0
 
 -- how many of the claimed tiers are children of a tier
 abbrev pub children_on : List ℕ → ℕ → ℕ → ℕ → ℕ
@@ -33,12 +28,8 @@ children_on parents tier (suc claimed) t = only_at (parent_of parents (ancestor 
 
 -- the children of a tier that are claimed by a token whose join was taken, and not yet settled
 abbrev pub claimed_children : List ℕ → ℕ → Errand → ℕ
-claimed_children parents t Rest = 0
-claimed_children parents t Advancing = 0
-claimed_children parents t (Climbing to passage) = 0
 claimed_children parents t (Opening tier claimed Joined size) = children_on parents tier claimed t
-claimed_children parents t (Opening tier claimed Seeking size) = 0
-claimed_children parents t (Opening tier claimed GoingBack size) = 0
+claimed_children parents t _ = 0
 
 -- members there, children that are open, departures that climb to it, and such claimed children
 abbrev pub parties_told : List ℕ → List Fields → List View → ℕ → ℕ
@@ -58,12 +49,10 @@ unarrived_told parents words views t =
 
 -- a token that climbs, advances, or has joined and still opens a path
 abbrev pub is_under_way : Errand → Bool
-is_under_way Rest = false
 is_under_way Advancing = true
 is_under_way (Climbing t passage) = true
-is_under_way (Opening tier claimed Seeking size) = false
-is_under_way (Opening tier claimed GoingBack size) = false
 is_under_way (Opening tier claimed Joined size) = true
+is_under_way _ = false
 
 -- what is told of one view beside a root in this phase, ended or not
 pub record IsViewTold (root : ℕ) (ended : Bool) (v : View) : Type 0 where

@@ -35,29 +35,20 @@ only_at t n u = if t == u then n else 0
 -- that has joined are one party
 -- of the tier above them until they are settled.
 abbrev pub errand_parties : List ℕ → Errand → ℕ → ℕ
-errand_parties parents Rest u = 0
-errand_parties parents Advancing u = 0
-errand_parties parents (Climbing t Arrival) u = 0
 errand_parties parents (Climbing t Departure) u = only_at t 1 u
 errand_parties parents (Opening tier claimed Joined size) u = only_at (ancestor parents tier claimed) 1 u
-errand_parties parents (Opening tier claimed Seeking size) u = 0
-errand_parties parents (Opening tier claimed GoingBack size) u = 0
+errand_parties parents _ u = 0
 
 -- the same for its unarrived parties: a climb of either kind is one
 abbrev pub errand_late : List ℕ → Errand → ℕ → ℕ
-errand_late parents Rest u = 0
-errand_late parents Advancing u = 0
 errand_late parents (Climbing t passage) u = only_at t 1 u
 errand_late parents (Opening tier claimed Joined size) u = only_at (ancestor parents tier claimed) 1 u
-errand_late parents (Opening tier claimed Seeking size) u = 0
-errand_late parents (Opening tier claimed GoingBack size) u = 0
+errand_late parents _ u = 0
 
 -- the members of a token that opens a path are seen at their tier once it is settled
 abbrev pub is_hidden : Errand → Bool
-is_hidden Rest = false
-is_hidden Advancing = false
-is_hidden (Climbing t passage) = false
 is_hidden (Opening tier claimed stage size) = true
+is_hidden _ = false
 
 -- what a token counts among the parties of a tier
 abbrev pub party_share : List ℕ → ℕ → View → ℕ
@@ -73,19 +64,15 @@ claims_on parents tier zero u = 0
 claims_on parents tier (suc claimed) u = only_at (ancestor parents tier claimed) 1 u + claims_on parents tier claimed u
 
 abbrev pub errand_claims : List ℕ → ℕ → Errand → ℕ
-errand_claims parents u Rest = 0
-errand_claims parents u Advancing = 0
-errand_claims parents u (Climbing t passage) = 0
 errand_claims parents u (Opening tier claimed stage size) = claims_on parents tier claimed u
+errand_claims parents u _ = 0
 
 abbrev pub claim_share : List ℕ → ℕ → View → ℕ
 claim_share parents u v = errand_claims parents u v.errand
 
 abbrev pub errand_advances : Errand → ℕ
-errand_advances Rest = 0
 errand_advances Advancing = 1
-errand_advances (Climbing t passage) = 0
-errand_advances (Opening tier claimed stage size) = 0
+errand_advances _ = 0
 
 abbrev pub advance_share : View → ℕ
 advance_share v = errand_advances v.errand

@@ -26,8 +26,10 @@ pub enum Duty {
     Arrives,
     /// A member joins this tier and leaves, so many times.
     ComesAndGoes(u16, u32),
-    /// A member arrives, and waits for the next phase, from phase 0 on so many times.
+    /// A member arrives in place and waits for the next phase, from phase 0 on this many times.
     Meets(u32),
+    /// A member arrives by a call that takes the crew and waits for the next phase, from phase 0 on this many times.
+    MeetsByCrew(u32),
 }
 
 /// A token, and what is done with it in each stage, each time in a thread of its own.
@@ -121,6 +123,19 @@ fn meets<R: Wait + Abort>(rt: &R, tree: &Tree<Rule>, crew: Crew, times: u32) -> 
     crew
 }
 
+// A member arrives by a call that takes the crew and waits for the next phase, from phase 0 on this many times.
+fn meets_by_crew<R: Wait + Abort>(rt: &R, tree: &Tree<Rule>, mut crew: Crew, times: u32) -> Crew
+    requires own { crew.tree ≡ tree.now.tree }
+    requires rule { Answers (pre tree.now.rule.closure) (post tree.now.rule.closure) (end_ends_at tree.now.rule.plan) }
+    ensures { result.tree ≡ tree.now.tree }
+{
+    for phase in 0..times {
+        crew = arrives(rt, tree, crew);
+        assert!(rt; tree.await_advance(rt, &mut crew) == Awaited::Passed(phase + 1));
+    }
+    crew
+}
+
 // Does what is to be done.
 fn does<R: Wait + Abort>(rt: &R, tree: &Tree<Rule>, token: Token, duty: Duty) -> Token
     requires own { (held token).tree ≡ tree.now.tree }
@@ -135,6 +150,9 @@ fn does<R: Wait + Abort>(rt: &R, tree: &Tree<Rule>, token: Token, duty: Duty) ->
         }
         (Token::Crew(crew), Duty::Arrives) => Token::Crew(arrives(rt, tree, crew)),
         (Token::Crew(crew), Duty::Meets(times)) => Token::Crew(meets(rt, tree, crew, times)),
+        (Token::Crew(crew), Duty::MeetsByCrew(times)) => {
+            Token::Crew(meets_by_crew(rt, tree, crew, times))
+        }
         _ => panic!(rt; "it can't be done"),
     }
 }

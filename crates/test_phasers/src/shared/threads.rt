@@ -5,7 +5,7 @@ ghost use Rattle.advance_rule.specs.Stored.{Answers};
 ghost use Rattle.advance_rule.specs.Plan.{end_ends_at};
 ghost use Rattle.tier_table.specs.Closes.{held};
 
-use crate::shared::duties::Duty::{Arrives, ComesAndGoes, Joins, Meets, Stays};
+use crate::shared::duties::Duty::{Arrives, ComesAndGoes, Joins, Meets, MeetsByCrew, Stays};
 use crate::shared::duties::{Actor, Duty, all_act};
 use crate::trees::{Rule, WHEN_EMPTY, is_empty, left, planted, put};
 use advance_rule::StoredAdvance;
@@ -88,6 +88,25 @@ const EIGHT_MEET: Scene = Scene {
         &[Stays, Joins(8), Meets(1000)],
         &[Stays, Joins(3), Meets(1000)],
         &[Stays, Joins(4), Meets(1000)],
+    ],
+    tiers: 9,
+    phase: 1000,
+    parties: 2,
+    members: 8,
+};
+
+// Eight threads below the root meet 1000 times, each by a call that takes its crew.
+const EIGHT_MEET_BY_CREW: Scene = Scene {
+    widths: "2x3",
+    first: &[Joins(3), MeetsByCrew(1000)],
+    others: &[
+        &[Joins(4), MeetsByCrew(1000)],
+        &[Joins(5), MeetsByCrew(1000)],
+        &[Joins(6), MeetsByCrew(1000)],
+        &[Joins(7), MeetsByCrew(1000)],
+        &[Joins(8), MeetsByCrew(1000)],
+        &[Joins(3), MeetsByCrew(1000)],
+        &[Joins(4), MeetsByCrew(1000)],
     ],
     tiers: 9,
     phase: 1000,
@@ -203,4 +222,10 @@ fn threads_share_a_tree(rt: HostRuntime) {
         let rule = StoredAdvance::new(is_empty as Rule, WHEN_EMPTY);
         plays(&rt, rt.alloc(), rule, scene);
     }
+}
+
+#[test]
+fn eight_threads_meet_by_crews(rt: HostRuntime) {
+    let rule = StoredAdvance::new(is_empty as Rule, WHEN_EMPTY);
+    plays(&rt, rt.alloc(), rule, &EIGHT_MEET_BY_CREW);
 }

@@ -165,6 +165,24 @@ const AT_ITS_PHASE: [Row; 8] = [
     (1, Register(2, 1), 16, Ended(-2147483646)),
 ];
 
+// A path of seven tiers, the longest. 16 tries are enough for each call, as no other token takes a step meanwhile. The
+// second registration takes 13 tries. Arrivals and departures after the first phase take up to 14, because they refresh
+// the six tiers below the root.
+const SEVEN_TIERS: [Row; 12] = [
+    (2, Register(0, 1), 16, Joined(0)),
+    (1, Register(6, 1), 1, Owing),
+    (1, Open, 16, Joined(0)),
+    (1, Leave, 16, Left(0, false)),
+    (0, Register(6, 1), 16, Joined(0)),
+    (2, Leave, 16, Left(0, false)),
+    (0, Arrive, 16, Done(0, true)),
+    (0, Arrive, 16, Done(1, true)),
+    (0, Arrive, 1, Busy),
+    (0, Arrive, 1, Owing),
+    (0, Resume, 16, Done(2, true)),
+    (0, Leave, 16, Left(3, true)),
+];
+
 const LAST: u32 = 2147483647;
 
 const IS_LET_IN: ClosedToken = ClosedToken {
@@ -174,7 +192,7 @@ const IS_LET_IN: ClosedToken = ClosedToken {
     phase: 1,
 };
 
-const RUNS: [Run; 11] = [
+const RUNS: [Run; 12] = [
     ("flat", 0, &ONE_TIER, &[(1, 65535, 65535, false)], None),
     (
         "1x1",
@@ -244,6 +262,21 @@ const RUNS: [Run; 11] = [
         0,
         &NO_TRY,
         &[(2, 0, 1, true), (1, 0, 1, false), (0, 0, 1, false)],
+        None,
+    ),
+    (
+        "1x1x1x1x1x1",
+        0,
+        &SEVEN_TIERS,
+        &[
+            (4, 0, 1, true),
+            (3, 0, 1, false),
+            (3, 0, 1, false),
+            (3, 0, 1, false),
+            (3, 0, 1, false),
+            (3, 0, 1, false),
+            (3, 0, 1, false),
+        ],
         None,
     ),
 ];

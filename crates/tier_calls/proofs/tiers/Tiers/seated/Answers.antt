@@ -8,7 +8,7 @@ use Rattle.tier_calls.proofs.tiers.Tiers.seated.Goals as goal
 pub of_words-requires : goal.of_words-requires
 of_words-requires c =
     opens _ c.count.result c.deref.result.now c.count.ensures.tiers c.requires c.count.ensures.value
-    (c.deref.ensures.value ∙ (c.in_ok-numbers.ensures ∙ ap (λ n. replicate c.count.result n) (c.number.ensures ∙ ap packed c.of-word.ensures)))
+    (c.deref.ensures.value ∙ (c.in_ok-numbers.ensures.items_if_clones_equal (λ y e. e) ∙ ap (λ n. replicate c.count.result n) (c.number.ensures ∙ ap packed c.of-word.ensures)))
 
 pub invariant_of-result-2 : goal.invariant_of-result-2
 invariant_of-result-2 c =

@@ -12,7 +12,7 @@ pub invariant_of-result : goal.invariant_of-result
 invariant_of-result c =
     let few : length c.args.shape ≤ 65535 = (let a = c.count.ensures.tiers.few in omega arith) in
     let words : c.in_ok-words.words.items ≡ replicate (length c.args.shape) (empty_word c.args.phase) =
-    c.in_ok-words.ensures ∙ ap (λ n. replicate n (empty_word c.args.phase)) c.count.ensures.value in
+    c.in_ok-words.ensures.items_if_clones_equal (λ y e. e) ∙ ap (λ n. replicate n (empty_word c.args.phase)) c.count.ensures.value in
     subst (λ (ws : List Fields). IsCore record {
       parents = c.args.shape;
       words = ws;
