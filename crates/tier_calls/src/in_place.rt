@@ -23,12 +23,8 @@ use std::thread;
 use tier_core::call::{Played, Progress};
 use tier_steps::view::Passage;
 
-/// How many tries a call that waits makes before its thread lets others run. No call takes more than 16 steps: the law
-/// `calls_are_short` of `tier_laws` counts them. So 16 tries are enough for a call whose exchanges no other thread
-/// makes fail.
-pub const TRIES: u32 = 16;
-
-/// The answer of [`Tiers::arrive_in_place`](crate::tiers::Tiers::arrive_in_place).
+/// The answer of an arrival in place: [`Tiers::arrive_in_place`](crate::tiers::Tiers::arrive_in_place), and
+/// `arrive_in_place` of `tier_table::Tree`.
 #[derive(Clone, Copy, PartialEq, Eq)]
 pub enum Came {
     /// A member has arrived. To learn when the phase has passed, poll the crew.
