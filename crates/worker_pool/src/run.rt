@@ -159,7 +159,7 @@ fn run_at<
     requires rule { Answers (F.pre tree.phaser.rule.closure) (F.post tree.phaser.rule.closure) (end_ends_at tree.phaser.rule.plan) }
     requires action { IfOk barrier.now (λ barrier. AnswersAction (A.pre barrier.action.closure) (A.post barrier.action.closure) barrier.action.plan) }
     ensures report { IfOk result (λ report. report_of (program_of J.job) J.limit ≡ Some report) }
-    ensures started { IfErr result (IsOfWorkers setup.workers) }
+    ensures started { IfErr result (IsOfWorkers setup.entry.workers) }
 {
     let mut own = OwnToken::new(door);
     let (groups, fault) = match registered(rt, alloc, &tree, &mut own, &stretches) {
@@ -221,7 +221,7 @@ fn run_shared<
     requires leaves { (opening.leaves.items ≡ leaves_of J.tree.key.shape) × (0 < length opening.leaves.items) }
     requires rule { Answers (F.pre opening.tree.rule.closure) (F.post opening.tree.rule.closure) (end_ends_at opening.tree.rule.plan) }
     ensures report { IfOk result (λ report. report_of (program_of J.job) J.limit ≡ Some report) }
-    ensures started { IfErr result (IsOfWorkers setup.workers) }
+    ensures started { IfErr result (IsOfWorkers setup.entry.workers) }
 {
     let Opening {
         stretches,
