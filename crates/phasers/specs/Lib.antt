@@ -23,3 +23,4 @@ pub use Rattle.tier_shape.specs.Told
 pub use Rattle.tier_table.specs.AtLast
 pub use Rattle.tier_table.specs.Ruled
 pub mod Thin
+pub mod Trying

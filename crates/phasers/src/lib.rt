@@ -11,7 +11,7 @@
 //! * [`Guest`](tree::Guest): a token without members. `split` makes another, one for each thread; `join` registers one
 //!   member at the leaf of a number, `register` several at a tier; `force` ends the tree.
 //! * [`Party`](tree::Party): a token with members, all at one tier. `meet` arrives and waits; `arrive` and `await_advance`
-//!   are its two halves, and `poll` doesn't wait. `bring` registers more members, `leave` takes one away.
+//!   are its two halves; `poll` and `try_meet` don't wait. `bring` registers more members, `leave` takes one away.
 //! * [`OnAdvance`](tree::OnAdvance): a hook of your own, which `PhaserTree::with_hook` runs at each advance.
 //!
 //! Four threads meet on a root with two children that have two leaves each. Thread 0 brings a member in phase 3, thread 1
@@ -141,7 +141,7 @@
 //! # What is in it
 //!
 //! * [`tree`]: the types above; their answers, [`Joined`](tree::Joined), [`Departed`](tree::Departed),
-//!   [`Brought`](tree::Brought), [`Came`](tree::Came), [`Polled`](tree::Polled), [`Awaited`](tree::Awaited) and
+//!   [`Brought`](tree::Brought), [`Met`](tree::Met), [`Settled`](tree::Settled), [`Came`](tree::Came), [`Polled`](tree::Polled), [`Awaited`](tree::Awaited) and
 //!   [`Forced`](tree::Forced); [`Shape`](tree::Shape), which tier is whose parent; [`Tree`](tree::Tree), the same tree with a
 //!   closure that ends it and calls that never wait; [`Core`](tree::Core), the tree as a value, one step at a time.
 //! * [`barrier`]: the types above; [`CyclicGate`](barrier::CyclicGate), the same barrier with a closure that may fail;
@@ -160,3 +160,4 @@ mod shared;
 #[cfg(test)]
 mod tests;
 pub mod tree;
+mod trying;

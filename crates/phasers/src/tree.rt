@@ -19,6 +19,7 @@ ghost use Rattle.phasers.specs.Thin.{admitted_of, counted_of, Meets, Brings, Has
 
 use crate::shared::SharedTree;
 pub use crate::shared::{NoHook, OnAdvance};
+pub use crate::trying::{Met, Owed, Settled};
 pub use advance_rule::{EndPlan, StoredAdvance};
 use std::alloc::{AllocError, Global};
 use std::marker::Model;
@@ -88,8 +89,8 @@ impl<'a, A: OnAdvance> Model for Guest<'a, A> {
 /// A token with members, all at one tier. Its members arrive, and leave, one after another.
 #[derive(Drop)]
 pub struct Party<'a, A: OnAdvance = NoHook> {
-    shared: &'a SharedTree<A>,
-    crew: Crew,
+    pub(crate) shared: &'a SharedTree<A>,
+    pub(crate) crew: Crew,
 }
 
 impl<'a, A: OnAdvance> Model for Party<'a, A> {
