@@ -14,6 +14,8 @@
 //!   are its two halves; `poll` and `try_meet` don't wait. `bring` registers more members, `leave` takes one away.
 //! * [`OnAdvance`](tree::OnAdvance): a hook of your own, which `PhaserTree::with_hook` runs at each advance.
 //!
+//! `PhaserTree::close` returns the words of the tiers at the end, when all tokens are gone.
+//!
 //! Four threads meet on a root with two children that have two leaves each. Thread 0 brings a member in phase 3, thread 1
 //! leaves in phase 5, and the plan ends the tree:
 //!

@@ -32,9 +32,9 @@ impl<'a, A: OnAdvance> Model for Owed<'a, A> {
 pub enum Met<'a, A: OnAdvance = NoHook> {
     /// The phase in which all members had arrived is over, and this is the next one.
     Passed(Party<'a, A>, u32),
-    /// All members have arrived, and other parties haven't. Call `poll` or `try_meet` later.
+    /// All members have arrived, and other parties haven't. Call `poll` until it returns `Passed`.
     Waiting(Party<'a, A>),
-    /// A member has not arrived in this phase. Call again for it.
+    /// Another member has not arrived in this phase. Call again for it.
     Here(Party<'a, A>, u32),
     /// The tree has ended, and shows this number as its phase, which is negative. Stop.
     Ended(Party<'a, A>, i32),
@@ -82,7 +82,8 @@ impl<'a, A: OnAdvance> Owed<'a, A> {
 
 impl<'a, A: OnAdvance> Party<'a, A> {
     /// Lets a member arrive, with at most `tries` tries, and checks whether the phase is over; 16 tries are enough if no
-    /// other thread is inside a call. If all members have arrived before, only checks. Never waits.
+    /// other thread is inside a call. If all members had arrived and the phase is still the same, only checks. If it is over
+    /// by now, the member arrives in the next phase: after `Waiting` call `poll` instead. Never waits.
     pub fn try_meet(self, tries: u32) -> Met<'a, A>
         ensures { TriesToMeet self.entry tries result }
     {
