@@ -2,7 +2,8 @@
 //!
 //! A program of your own is a crate of this repository, `crates/NAME`. The command `tools/new NAME` makes one, with its line
 //! in `crates.txt`; `rt run` in its folder proves it and runs it. None of your functions needs a clause for the calls below,
-//! because the types keep what the calls rely on.
+//! because the types keep what the calls rely on. Only numbers have to be in range: a first phase up to 2147483647, 1 to
+//! 65535 members, and for `register` a tier of the shape.
 //!
 //! # A tree of phasers
 //!
@@ -127,10 +128,10 @@
 //! # What a thread that passes may rely on
 //!
 //! A thread that sees an advance (`Passed`, or a turn at a barrier) sees all that each member's thread wrote before its
-//! arrival in that phase, and all that the hook or the action wrote. Each value that threads share is atomic or under a
-//! lock, as everywhere in Rattle.
+//! arrival in that phase, and all that the hook or the action wrote. That is due to the order of atomic operations and of
+//! locks; no contract says it.
 //!
-//! What the calls return is proved; that a call returns at all is not. It waits for ever if the others never arrive.
+//! What the calls return is proved. That a call returns at all is not: it waits for ever if the others never arrive.
 //!
 //! # What deadlocks
 //!
