@@ -144,9 +144,10 @@
 //! # What is in it
 //!
 //! * [`tree`]: the types above; their answers, [`Joined`](tree::Joined), [`Departed`](tree::Departed),
-//!   [`Brought`](tree::Brought), [`Met`](tree::Met), [`Settled`](tree::Settled), [`Came`](tree::Came), [`Polled`](tree::Polled), [`Awaited`](tree::Awaited) and
-//!   [`Forced`](tree::Forced); [`Shape`](tree::Shape), which tier is whose parent; [`Tree`](tree::Tree), the same tree with a
-//!   closure that ends it and calls that never wait; [`Core`](tree::Core), the tree as a value, one step at a time.
+//!   [`Brought`](tree::Brought), [`Met`](tree::Met), [`Settled`](tree::Settled), [`Came`](tree::Came),
+//!   [`Polled`](tree::Polled), [`Awaited`](tree::Awaited) and [`Forced`](tree::Forced); [`Shape`](tree::Shape), which tier is
+//!   whose parent; [`Tree`](tree::Tree), the same tree with a closure that ends it and calls that never wait;
+//!   [`Core`](tree::Core), the tree as a value, one step at a time.
 //! * [`barrier`]: the types above; [`CyclicGate`](barrier::CyclicGate), the same barrier with a closure that may fail;
 //!   [`BarrierCore`](barrier::BarrierCore), the barrier as a value.
 //! * [`phaser`]: [`PhaserOne`](phaser::PhaserOne), a single phaser as a value, with [`StoredCount`](phaser::StoredCount), the
