@@ -7,6 +7,7 @@ pub use Rattle.cyclic_gate.specs.Runs
 pub use Rattle.cyclic_gate.specs.Seen
 pub use Rattle.cyclic_gate.specs.Steps
 pub use Rattle.tier_calls.specs.Arrives
+pub use Rattle.tier_calls.specs.Closes
 pub use Rattle.tier_calls.specs.Forces
 pub use Rattle.tier_calls.specs.Holding
 pub use Rattle.tier_calls.specs.InPlace
@@ -23,3 +24,4 @@ pub use Rattle.tier_shape.specs.Told
 pub use Rattle.tier_table.specs.AtLast
 pub use Rattle.tier_table.specs.Ruled
 pub mod Thin
+pub mod Trying

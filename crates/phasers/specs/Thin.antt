@@ -1,6 +1,8 @@
 -- What the calls of a tree's tokens answer, as what the calls of `tier_table` answer: a guest or a party is the token that it keeps.
-use Rattle.std.specs.Prelude.{◌≡◌, ℕ}
-use Rattle.tier_calls.specs.Holding.{Holding, IsSat, split_once}
+use Rattle.std.specs.Prelude.{◌≡◌, ℕ, List, [], ◌∷◌}
+use Rattle.phaser_word.specs.Fields.{Fields}
+use Rattle.tier_calls.specs.Closes.{TallyWithOthers, IsLeftBy}
+use Rattle.tier_calls.specs.Holding.{Named, Holding, IsSat, split_once, sight_held}
 use Rattle.tier_calls.specs.InPlace.{ArrivesInPlace}
 use Rattle.tier_calls.specs.JoinsHere.{JoinsHere}
 use Rattle.tier_calls.specs.Made.{HasEntered, HasLooked}
@@ -31,6 +33,15 @@ counted_of (departed.Done party phase led) = counted.Done party phase led
 counted_of (departed.Left guest phase led) = counted.Left guest phase led
 counted_of (departed.AlreadyArrived party phase) = counted.AlreadyArrived party phase
 counted_of (departed.Ended party shown) = counted.Ended party shown
+
+-- The words that a closed tree leaves: they tally with its first token, which has no members, and with others, and they are those to which steps on the
+-- tree have led.
+pub record LeavesWords (n : Named) (words : List Fields) : Type 0 where
+  pub first : Holding
+  pub own : first.tree ≡ n
+  pub none : first.view.size ≡ 0
+  pub tally : TallyWithOthers n.key.shape words (first.view ∷ [])
+  pub left : IsLeftBy n.key words (sight_held first ∷ [])
 
 -- an arrival, and then a wait
 pub record Meets (old new : Holding) (answer : Awaited) : Type 0 where

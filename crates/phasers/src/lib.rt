@@ -2,7 +2,8 @@
 //!
 //! A program of your own is a crate of this repository, `crates/NAME`. The command `tools/new NAME` makes one, with its line
 //! in `crates.txt`; `rt run` in its folder proves it and runs it. None of your functions needs a clause for the calls below,
-//! because the types keep what the calls rely on.
+//! because the types keep what the calls rely on. Only numbers have to be in range: a first phase up to 2147483647, 1 to
+//! 65535 members, and for `register` a tier of the shape.
 //!
 //! # A tree of phasers
 //!
@@ -11,8 +12,10 @@
 //! * [`Guest`](tree::Guest): a token without members. `split` makes another, one for each thread; `join` registers one
 //!   member at the leaf of a number, `register` several at a tier; `force` ends the tree.
 //! * [`Party`](tree::Party): a token with members, all at one tier. `meet` arrives and waits; `arrive` and `await_advance`
-//!   are its two halves, and `poll` doesn't wait. `bring` registers more members, `leave` takes one away.
+//!   are its two halves; `poll` and `try_meet` don't wait. `bring` registers more members, `leave` takes one away.
 //! * [`OnAdvance`](tree::OnAdvance): a hook of your own, which `PhaserTree::with_hook` runs at each advance.
+//!
+//! `PhaserTree::close` returns the words of the tiers at the end, when all tokens are gone.
 //!
 //! Four threads meet on a root with two children that have two leaves each. Thread 0 brings a member in phase 3, thread 1
 //! leaves in phase 5, and the plan ends the tree:
@@ -125,10 +128,10 @@
 //! # What a thread that passes may rely on
 //!
 //! A thread that sees an advance (`Passed`, or a turn at a barrier) sees all that each member's thread wrote before its
-//! arrival in that phase, and all that the hook or the action wrote. Each value that threads share is atomic or under a
-//! lock, as everywhere in Rattle.
+//! arrival in that phase, and all that the hook or the action wrote. That is due to the order of atomic operations and of
+//! locks; no contract says it.
 //!
-//! What the calls return is proved; that a call returns at all is not. It waits for ever if the others never arrive.
+//! What the calls return is proved. That a call returns at all is not: it waits for ever if the others never arrive.
 //!
 //! # What deadlocks
 //!
@@ -141,9 +144,10 @@
 //! # What is in it
 //!
 //! * [`tree`]: the types above; their answers, [`Joined`](tree::Joined), [`Departed`](tree::Departed),
-//!   [`Brought`](tree::Brought), [`Came`](tree::Came), [`Polled`](tree::Polled), [`Awaited`](tree::Awaited) and
-//!   [`Forced`](tree::Forced); [`Shape`](tree::Shape), which tier is whose parent; [`Tree`](tree::Tree), the same tree with a
-//!   closure that ends it and calls that never wait; [`Core`](tree::Core), the tree as a value, one step at a time.
+//!   [`Brought`](tree::Brought), [`Met`](tree::Met), [`Settled`](tree::Settled), [`Came`](tree::Came),
+//!   [`Polled`](tree::Polled), [`Awaited`](tree::Awaited) and [`Forced`](tree::Forced); [`Shape`](tree::Shape), which tier is
+//!   whose parent; [`Tree`](tree::Tree), the same tree with a closure that ends it and calls that never wait;
+//!   [`Core`](tree::Core), the tree as a value, one step at a time.
 //! * [`barrier`]: the types above; [`CyclicGate`](barrier::CyclicGate), the same barrier with a closure that may fail;
 //!   [`BarrierCore`](barrier::BarrierCore), the barrier as a value.
 //! * [`phaser`]: [`PhaserOne`](phaser::PhaserOne), a single phaser as a value, with [`StoredCount`](phaser::StoredCount), the
@@ -160,3 +164,4 @@ mod shared;
 #[cfg(test)]
 mod tests;
 pub mod tree;
+mod trying;

@@ -10,16 +10,17 @@ ghost use Rattle.tier_calls.specs.InPlace.{ArrivesInPlace};
 ghost use Rattle.tier_calls.specs.InPlace as in_place;
 ghost use Rattle.tier_shape.specs.Leaves.{leaves_of};
 ghost use Rattle.tier_shape.specs.Preferred.{leaf_at};
-ghost use Rattle.tier_steps.specs.declared.view.Passage.TheVariants.{Departure};
+ghost use Rattle.tier_steps.specs.declared.view.Passage.TheVariants.{Arrival, Departure};
 ghost use Rattle.tier_table.specs.AtLast.{token_counted, ArrivesAtLast, HasEndedArrival};
 
 use advance_rule::{EndPlan, StoredAdvance};
 use std::alloc::{AllocError, Global};
 use std::marker::Model;
 use std::sync::Wait;
+use tier_calls::arriving::{Arrived, Resumed};
 use tier_calls::in_place::Came;
 use tier_calls::tiers::Tiers;
-use tier_calls::tokens::{Crew, Door};
+use tier_calls::tokens::{Crew, Door, Errand};
 use tier_shape::Shape;
 use tier_shape::leaves::leaf_at;
 use tier_steps::view::Passage;
@@ -115,6 +116,25 @@ impl<A: OnAdvance> SharedTree<A> {
     {
         self.hook.run(phase, count);
         self.plan.ends(phase, count == 0)
+    }
+
+    /// Lets a member of `crew` arrive, with at most `tries` tries.
+    pub(crate) fn arrive(&self, crew: Crew, tries: u32) -> Arrived
+        requires own { crew.tree ≡ self.now }
+        ensures answer { Arrives Arrival crew tries result }
+        ensures ended { (phase : ℕ) → crew.view.end_seen ≡ Some phase → arrives.HasEnded result }
+    {
+        let rule = StoredAdvance::new(|phase: u32, count: u32| self.ends(phase, count), self.plan);
+        self.tiers.pass(crew, Passage::Arrival, &rule, tries)
+    }
+
+    /// Resumes an arrival that was counted, with at most `tries` tries.
+    pub(crate) fn resume(&self, errand: Errand, tries: u32) -> Resumed
+        requires own { errand.token.tree ≡ self.now }
+        ensures { Resumes errand tries result }
+    {
+        let rule = StoredAdvance::new(|phase: u32, count: u32| self.ends(phase, count), self.plan);
+        self.tiers.pass_on(errand, &rule, tries)
     }
 
     /// Lets a member of `crew` arrive. The crew stays where it is.

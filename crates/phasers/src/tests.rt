@@ -1,6 +1,9 @@
 //! What no clause says: threads meet, and a hook runs once at each advance.
 use crate::barrier::{Barrier, GateFault, NoAction};
-use crate::tree::{Came, Departed, EndPlan, Forced, Joined, OnAdvance, Party, PhaserTree, Shape};
+use crate::tree::{
+    Came, Departed, EndPlan, Forced, Joined, Met, OnAdvance, Owed, Party, PhaserTree, Polled,
+    Settled, Shape,
+};
 use std::process::Abort;
 use std::sync::Wait;
 use std::sync::atomic::{AtomicU64, Ordering};
@@ -49,6 +52,63 @@ fn a_tree_by_one(rt: HostRuntime) {
     let plan = EndPlan::when_empty();
     let mut tree = PhaserTree::from_widths(rt.alloc(), "2", plan).expect(&rt, "a tree");
     calls(&rt, &mut tree);
+}
+
+// Takes the steps that are owed.
+fn settled<'a, R: Wait + Abort>(rt: &R, owed: Owed<'a>) -> Party<'a> {
+    let mut owed = owed;
+    for _ in rt.forever() {
+        match owed.settle(1) {
+            Settled::Done {
+                party,
+                phase: _,
+                led: _,
+            } => return party,
+            Settled::Owing(next) => owed = next,
+        }
+    }
+    panic!(rt; "unreachable")
+}
+
+// Meets without waiting; the number is 2 if the phase is over, 1 if the others are waited for.
+fn tried<'a, R: Wait + Abort>(rt: &R, party: Party<'a>, tries: u32) -> (Party<'a>, u32) {
+    match party.try_meet(tries) {
+        Met::Passed(party, _) => (party, 2),
+        Met::Waiting(party) => (party, 1),
+        Met::Here(party, _) | Met::Ended(party, _) | Met::Busy(party) => (party, 0),
+        Met::Owing(owed) => (settled(rt, owed), 3),
+    }
+}
+
+// Two parties meet without waiting.
+fn two_meet<R: Wait + Abort>(rt: &R, tree: &mut PhaserTree) {
+    let mut guest = tree.guest();
+    let Joined::Joined(one, 0) = guest.split().join(rt, 0) else {
+        panic!(rt; "not joined");
+    };
+    let Joined::Joined(other, 0) = guest.split().join(rt, 1) else {
+        panic!(rt; "not joined");
+    };
+    let (one, none) = tried(rt, one, 0);
+    let (mut one, owed) = tried(rt, one, 1);
+    let (other, over) = tried(rt, other, 16);
+    assert!(rt; (none, owed, over) == (0, 3, 2));
+    assert!(rt; matches!(one.poll(), Polled::Passed(1)));
+    let (_one, waits) = tried(rt, one, 16);
+    let (mut other, ended) = tried(rt, other, 16);
+    assert!(rt; (waits, ended) == (1, 0));
+    assert!(rt; matches!(other.poll(), Polled::Ended(_)));
+}
+
+#[test]
+fn two_meet_without_waiting(rt: HostRuntime) {
+    let plan = EndPlan::at_phase(1);
+    let mut tree = PhaserTree::from_widths(rt.alloc(), "2", plan).expect(&rt, "a tree");
+    two_meet(&rt, &mut tree);
+    match tree.close(rt.alloc()) {
+        Ok(words) => assert!(rt; words.len() == 3 && words[0].ended && !words[1].ended),
+        Err(_) => panic!(rt; "not closed"),
+    }
 }
 
 #[test]

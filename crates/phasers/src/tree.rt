@@ -15,11 +15,13 @@ ghost use Rattle.tier_shape.specs.Leaves.{leaves_of};
 ghost use Rattle.tier_shape.specs.Preferred.{leaf_at};
 ghost use Rattle.tier_shape.specs.Faults.{fault_number};
 ghost use Rattle.tier_shape.specs.Told.{shape_told};
-ghost use Rattle.phasers.specs.Thin.{admitted_of, counted_of, Meets, Brings, HasEndedBringing};
+ghost use Rattle.phasers.specs.Thin.{admitted_of, counted_of, Meets, Brings, HasEndedBringing, LeavesWords};
 
 use crate::shared::SharedTree;
 pub use crate::shared::{NoHook, OnAdvance};
+pub use crate::trying::{Met, Owed, Settled};
 pub use advance_rule::{EndPlan, StoredAdvance};
+pub use phaser_word::Word;
 use std::alloc::{AllocError, Global};
 use std::marker::Model;
 use std::sync::Wait;
@@ -27,7 +29,7 @@ pub use tier_calls::forcing::Forced;
 pub use tier_calls::in_place::Came;
 use tier_calls::joining::Registered;
 pub use tier_calls::polling::Polled;
-use tier_calls::tokens::{Crew, Door};
+use tier_calls::tokens::{Crew, Door, Token};
 pub use tier_core::tree::Core;
 pub use tier_shape::{Shape, ShapeFault};
 pub use tier_table::tree::Tree;
@@ -88,8 +90,8 @@ impl<'a, A: OnAdvance> Model for Guest<'a, A> {
 /// A token with members, all at one tier. Its members arrive, and leave, one after another.
 #[derive(Drop)]
 pub struct Party<'a, A: OnAdvance = NoHook> {
-    shared: &'a SharedTree<A>,
-    crew: Crew,
+    pub(crate) shared: &'a SharedTree<A>,
+    pub(crate) crew: Crew,
 }
 
 impl<'a, A: OnAdvance> Model for Party<'a, A> {
@@ -223,6 +225,28 @@ impl<A: OnAdvance> PhaserTree<A> {
         let PhaserTree { shared, first } = self;
         let door = shared.tiers.open_door(first);
         Guest { shared, door }
+    }
+
+    /// Closes the tree, and returns the word of each tier as it is at the end. No token is left then, since each borrows
+    /// from the tree. If memory runs out, hands the tree back as it was.
+    pub fn close(self, alloc: Global) -> Result<Vec<Word>, PhaserTree<A>>
+    where
+        A: Drop,
+        ensures words { IfOk result (λ words. LeavesWords self words.items) }
+        ensures refused { IfErr result (λ tree. tree ≡ self) }
+    {
+        let Ok(words) = Vec::with_capacity(alloc, self.shape().count()) else {
+            return Err(self);
+        };
+        let Ok(mut tokens) = Vec::with_capacity(alloc, 1) else {
+            return Err(self);
+        };
+        let PhaserTree { shared, first } = self;
+        // For the prover: a door has no members.
+        let _ = first.phase();
+        tokens.push_reserved(Token::Door(first));
+        let SharedTree { tiers, .. } = shared;
+        Ok(tiers.close(tokens, words))
     }
 }
 
