@@ -13,7 +13,8 @@ use Rattle.job_words.proofs.GrowLemmas.{and-right}
 use Rattle.job_reader.specs.declared.so_far.SoFar.{SoFar}
 use Rattle.job_reader.specs.Kept.{HasSoFar}
 use Rattle.job_reader.specs.Reading.{array_of}
-use Rattle.job_reader.proofs.NotedNames.{or-false, or-left, or-right, turned}
+use Rattle.job_words.proofs.WrittenLemmas.{or-left, or-right}
+use Rattle.job_reader.proofs.NotedNames.{or-false, turned}
 use Rattle.job_reader.proofs.KeptLines.{array-read}
 
 among-arrays : (arrays : List (Word × List ℤ)) (w : Word) → is_among (map (λ a. a.0) arrays) w ≡ false → has_array arrays w ≡ false

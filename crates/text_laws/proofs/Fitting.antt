@@ -29,12 +29,9 @@ use Rattle.job_words.proofs.WrittenLines.{ActionIs, LineIs}
 use Rattle.job_reader.specs.Above.{can_else}
 use Rattle.job_reader.specs.Reading.{is_missing}
 use Rattle.text_laws.proofs.Known.{are_below, name-among}
+use Rattle.text_lines.proofs.NumbersLemmas.{fits as number-fits}
 
-pub number-fits : (n : ℤ) → fits_i64 n ≡ true → FitsSigned w64 n
-number-fits (pos n) h = grind (arith, common_steps)
-number-fits (negsuc n) h = grind (arith, common_steps)
-
-below : (i n : ℕ) → nat_lt i n ≡ true → i < n
+pub below : (i n : ℕ) → nat_lt i n ≡ true → i < n
 below i n e = ltb-true i n e
 
 index-is : (locals : List Word) (i : Index) → fits_index i ≡ true → are_below (length locals) (mentions.in_index i) ≡ true → IndexIs locals i

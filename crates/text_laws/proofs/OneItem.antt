@@ -35,7 +35,7 @@ use Rattle.job_reader.proofs.CodeLemmas.{block-code}
 use Rattle.job_reader.proofs.ItemLemmas.{put}
 use Rattle.text_laws.proofs.Chain.{Passes, Reads, reads-append, reads-one}
 use Rattle.text_laws.proofs.Known.{name-among}
-use Rattle.text_laws.proofs.Fitting.{number-fits}
+use Rattle.text_lines.proofs.NumbersLemmas.{fits as number-fits}
 use Rattle.text_laws.proofs.InBody.{names, IsAhead, code-reads, end-passes}
 
 values-read : (ns : List ℤ) → list_all fits_i64 ns ≡ true → all_numbered (map signed_decimal ns) ≡ Ok ns
