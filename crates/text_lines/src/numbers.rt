@@ -13,8 +13,14 @@ pub fn number(word: &[u8]) -> Option<i64>
     ensures found { IfSome result (λ n. word.now ≡ signed_decimal n) }
     ensures none { IfNone result ((n : ℤ) → FitsSigned w64 n → word.now ≢ signed_decimal n) }
 {
-    let text = str::from_utf8(word).ok()?;
-    let n = text.parse::<i64>().ok()?;
+    let text = match str::from_utf8(word) {
+        Ok(text) => text,
+        Err(_) => return None,
+    };
+    let n = match text.parse::<i64>() {
+        Ok(n) => n,
+        Err(_) => return None,
+    };
     if is_text_of(n, word) { Some(n) } else { None }
 }
 
