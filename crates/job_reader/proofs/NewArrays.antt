@@ -1,10 +1,8 @@
 -- An array line's name and cells, where the job so far has no such array.
-use Rattle.std.proofs.Common.{◌≡◌, ℕ, ◌≤◌, true, false, ◌&&◌, List, [], ◌∷◌, length, map, Result, Ok, ℤ, Bor, Vec, refl, sym, ap, ◌∙◌, arith, ◌^◌}
+use Rattle.std.proofs.Common.{◌≡◌, ℕ, ◌≤◌, true, false, ◌&&◌, List, [], ◌∷◌, length, map, Ok, ℤ, refl, sym, ap, ◌∙◌, arith, ◌^◌}
 use Rattle.std.specs.Prelude.{nat_le}
 use Rattle.std.specs.Str.{bytes_eq}
 use Rattle.std.proofs.lemmas.Grind.{common_steps}
-use Rattle.std.specs.declared.alloc.Global.{Global}
-use Rattle.text_lines.specs.declared.refusal.Code.{Code}
 use Rattle.superstep_memory.specs.Cells.{has_array, IsNew}
 use Rattle.task_code.specs.Names.{is_free, is_among}
 use Rattle.job_words.specs.Words.{Word, Words}

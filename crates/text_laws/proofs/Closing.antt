@@ -3,7 +3,7 @@ use Rattle.std.proofs.Common.{◌≡◌, inl, inr, ℕ, suc, ◌+◌, ◌-◌, �
 use Rattle.std.specs.Prelude.{if◌then◌else◌, nat_le, nat_lt, ◌||◌, not, ℤ}
 use Rattle.std.proofs.lemmas.Grind.{common_steps}
 use Rattle.text_lines.specs.declared.refusal.Code.{Code}
-use Rattle.text_lines.specs.declared.refusal.Code.TheVariants.{Twice, TooMany, BadHeader}
+use Rattle.text_lines.specs.declared.refusal.Code.TheVariants.{Twice, TooMany}
 use Rattle.text_lines.specs.Text.{words_of, is_skipped}
 use Rattle.task_code.specs.Names.{is_among}
 use Rattle.task_code.specs.declared.job.Start.{Start}

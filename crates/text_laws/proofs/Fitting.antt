@@ -1,9 +1,7 @@
 -- A line that fits its names may be written by them.
-use Rattle.std.proofs.Common.{◌≡◌, ℕ, ◌<◌, true, false, List, [], ◌∷◌, length, Some, ℤ, pos, negsuc, FitsSigned, w64, refl, ap, arith}
+use Rattle.std.proofs.Common.{◌≡◌, ℕ, ◌<◌, true, false, List, [], ◌∷◌, length, Some, refl, ap}
 use Rattle.std.specs.Prelude.{not, nat_lt}
 use Rattle.std.proofs.lemmas.Bool.{ltb-true}
-use Rattle.std.proofs.lemmas.Grind.{common_steps}
-use Rattle.text_lines.specs.Number.{fits_i64}
 use Rattle.task_code.specs.Names.{are_names}
 use Rattle.task_code.specs.Mentions as mentions
 use Rattle.task_code.specs.Limits.{is_operand, is_expr, is_action, fits_index, fits_operand, fits_expr, fits_action, fits_line}

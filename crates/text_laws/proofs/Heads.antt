@@ -1,12 +1,12 @@
 -- The first line of a body, as it is written, is read.
-use Rattle.std.proofs.Common.{◌≡◌, ℕ, ◌≤◌, Bool, true, false, ◌&&◌, List, [], ◌∷◌, length, Result, Ok, Err, refl, sym, ap, ◌∙◌, arith}
-use Rattle.std.specs.Prelude.{◌||◌, ◌==◌, not, if◌then◌else◌}
+use Rattle.std.proofs.Common.{◌≡◌, ℕ, ◌≤◌, Bool, true, false, List, [], ◌∷◌, length, Result, Ok, Err, refl, ap, ◌∙◌, arith}
+use Rattle.std.specs.Prelude.{◌==◌, not, if◌then◌else◌}
 use Rattle.std.specs.List.{list_all, list_any}
 use Rattle.text_lines.specs.declared.refusal.Code.{Code}
 use Rattle.text_lines.specs.declared.refusal.Code.TheVariants.{BadName, BadLine, Reserved}
 use Rattle.task_code.specs.Names.{is_name, is_reserved, is_free, is_among, are_names}
 use Rattle.job_words.specs.Faults.{both, made}
-use Rattle.job_words.specs.Words.{Word, Words, named}
+use Rattle.job_words.specs.Words.{Word, named}
 use Rattle.job_words.proofs.GrowLemmas.{and-left, and-right}
 use Rattle.job_words.proofs.SaidLemmas.{and-true}
 use Rattle.job_words.proofs.WrittenLemmas.{named-free, not-true}

@@ -4,7 +4,6 @@ use Rattle.std.specs.Prelude.{if◌then◌else◌, not, ◌||◌, nat_lt}
 use Rattle.std.specs.List.{list_all}
 use Rattle.std.specs.Str.{bytes_eq}
 use Rattle.std.proofs.lemmas.Bool.{ltb-true}
-use Rattle.std.proofs.lemmas.Slice.Eq.{bytes_eq-Decides}
 use Rattle.task_code.specs.Names.{is_free, is_among, are_names}
 use Rattle.job_words.specs.Words.{Word, name_at, noted}
 use Rattle.job_words.proofs.SaidLemmas.{and-true, below-true, same-word}

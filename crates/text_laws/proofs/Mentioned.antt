@@ -1,12 +1,11 @@
 -- A written line mentions the locals of its line, in their order.
-use Rattle.std.proofs.Common.{◌≡◌, ℕ, Bool, true, false, List, [], ◌∷◌, ◌++◌, map, refl, sym, ap, ◌∙◌, arith, codes}
-use Rattle.std.specs.Prelude.{if◌then◌else◌, not, ◌||◌, ◌&&◌, ◌==◌, nat_le}
+use Rattle.std.proofs.Common.{◌≡◌, ℕ, Bool, true, false, List, [], ◌∷◌, ◌++◌, map, refl, sym, ap, ◌∙◌, codes}
+use Rattle.std.specs.Prelude.{if◌then◌else◌, ◌||◌}
 use Rattle.text_lines.proofs.NumbersLemmas.{number-begins}
 use Rattle.std.specs.Fmt.{signed_decimal}
 use Rattle.std.specs.Str.{bytes_eq}
 use Rattle.std.proofs.lemmas.List.{map-append}
-use Rattle.std.proofs.lemmas.Grind.{common_steps}
-use Rattle.task_code.specs.Names.{is_lower, is_name, is_reserved, is_free, are_names}
+use Rattle.task_code.specs.Names.{is_name, is_reserved, is_free, are_names}
 use Rattle.task_code.specs.Mentions as mentions
 use Rattle.task_code.specs.declared.code.Index.{Index}
 use Rattle.task_code.specs.declared.code.Index.TheVariants as index
@@ -20,13 +19,12 @@ use Rattle.task_code.specs.declared.code.Action.TheVariants as action
 use Rattle.task_code.specs.declared.code.Line.{Line}
 use Rattle.task_code.specs.declared.code.Line.TheVariants as line
 use Rattle.superstep_memory.specs.declared.arrays.PutKind.TheVariants.{Set, Add}
-use Rattle.job_words.specs.Words.{Word, begins_number, name_at, index_word, in_index}
-use Rattle.job_words.specs.Exprs.{Names, cell_parts, cell_word, has_bracket, operand_word, expr_words, in_parts, in_operand, in_expr}
+use Rattle.job_words.specs.Words.{Word, name_at, index_word, in_index}
+use Rattle.job_words.specs.Exprs.{Names, cell_word, operand_word, expr_words, in_parts, in_operand, in_expr}
 use Rattle.job_words.specs.Lines.{line_words, keyword_of, mentions_behind, mentions_of}
-use Rattle.job_words.proofs.SaidLemmas.{same-word}
-use Rattle.job_words.proofs.GrowLemmas.{and-left, and-right}
-use Rattle.job_words.proofs.WrittenLemmas.{names-free, not-true, other-word, arg-reserved, step-reserved, lower-digit, free-begins}
-use Rattle.job_words.proofs.WrittenExprs.{is_plain, plain-cell, cell-bracket, plain-bracket, name-plain, number-plain, AreGood, IndexIs, CellIs, OperandIs, ExprIs, index-plain}
+use Rattle.job_words.proofs.GrowLemmas.{and-right}
+use Rattle.job_words.proofs.WrittenLemmas.{names-free, not-true, other-word, arg-reserved, step-reserved, free-begins}
+use Rattle.job_words.proofs.WrittenExprs.{plain-cell, cell-bracket, plain-bracket, name-plain, AreGood, IndexIs, CellIs, OperandIs, ExprIs, index-plain}
 use Rattle.job_words.proofs.WrittenLines.{ActionIs, LineIs}
 use Rattle.text_laws.proofs.MentionedLocals.{number-none, arg-none, step-none, operand-if as operand-by}
 

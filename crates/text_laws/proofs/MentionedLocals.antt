@@ -28,7 +28,7 @@ use Rattle.job_words.specs.Lines.{keyword_of, line_words, action_words, mentions
 use Rattle.job_words.proofs.GrowLemmas.{and-left, and-right}
 use Rattle.job_words.proofs.WrittenLemmas.{names-free, local-written}
 use Rattle.text_lines.proofs.NumbersLemmas.{number-begins}
-use Rattle.job_words.proofs.WrittenExprs.{is_plain, plain-cell, cell-bracket, plain-bracket, name-plain, number-plain, IndexIs, AreGood, CellIs, OperandIs, ExprIs, index-plain}
+use Rattle.job_words.proofs.WrittenExprs.{plain-cell, cell-bracket, plain-bracket, name-plain, IndexIs, AreGood, CellIs, OperandIs, ExprIs, index-plain}
 use Rattle.job_words.proofs.WrittenLines.{ActionIs, LineIs}
 use Rattle.job_reader.specs.Writing.{code_lines}
 use Rattle.job_reader.proofs.NotedNames.{among-below, among-beyond, take-next, same-number}

@@ -1,13 +1,11 @@
 -- The bodies that lines declare and name, where they are read.
-use Rattle.std.proofs.Common.{◌≡◌, ℕ, Bool, true, false, ◌&&◌, List, [], ◌∷◌, ◌++◌, codes, Option, Some, None, Result, Ok, Err, refl, sym, ap, subst, ◌∙◌, arith, append-nil, nat_eq}
+use Rattle.std.proofs.Common.{◌≡◌, ℕ, Bool, true, false, ◌&&◌, List, [], ◌∷◌, ◌++◌, codes, Option, Some, None, Result, Ok, Err, refl, sym, ap, subst, ◌∙◌, append-nil}
 use Rattle.std.specs.Prelude.{if◌then◌else◌, not, length}
 use Rattle.std.specs.List.{cons_option, list_all}
-use Rattle.std.specs.Str.{bytes_eq}
-use Rattle.std.proofs.lemmas.Grind.{common_steps}
 use Rattle.text_lines.specs.declared.refusal.Code.{Code}
-use Rattle.text_lines.specs.declared.refusal.Code.TheVariants.{TooMany, BadHeader, Reserved, BadName}
+use Rattle.text_lines.specs.declared.refusal.Code.TheVariants.{TooMany, Reserved, BadName}
 use Rattle.text_lines.specs.Text.{words_of, is_skipped}
-use Rattle.task_code.specs.Names.{is_free, is_name, is_reserved}
+use Rattle.task_code.specs.Names.{is_free}
 use Rattle.task_code.specs.Limits.{opened}
 use Rattle.task_code.specs.declared.code.Line.{Line}
 use Rattle.task_code.specs.declared.job.Start.{Start}
@@ -18,7 +16,7 @@ use Rattle.job_words.specs.Exprs.{Names, expr_of}
 use Rattle.job_words.specs.declared.lines.Keyword.{Keyword}
 use Rattle.job_words.specs.declared.lines.Keyword.TheVariants.{Let, Put, Print, Spawn, Sync, Stop, If, Else, While, End}
 use Rattle.job_words.specs.Lines.{keyword_of, known_in, line_behind, body_at, spawn_line, spawn_of}
-use Rattle.job_words.proofs.SaidLemmas.{made-ok, both-ok, and-true, same-word}
+use Rattle.job_words.proofs.SaidLemmas.{made-ok, both-ok, and-true}
 use Rattle.job_words.proofs.GrowLemmas.{and-left}
 use Rattle.job_words.proofs.LineSaid.{keyword_text, keyword-said}
 use Rattle.job_reader.specs.declared.outer.Outer.{Outer}

@@ -8,7 +8,6 @@ use Rattle.std.proofs.lemmas.List.Folds.{list_all-append}
 use Rattle.text_lines.specs.declared.refusal.Code.{Code}
 use Rattle.text_lines.specs.declared.refusal.Code.TheVariants.{Twice, TooMany, BadLength}
 use Rattle.text_lines.specs.Number.{fits_i64}
-use Rattle.task_code.specs.Limits.{fits_line}
 use Rattle.task_code.specs.Names.{is_free, is_among, are_names}
 use Rattle.task_code.specs.Rules.{IsBody}
 use Rattle.task_code.specs.Tree.{Block, Done, flat}

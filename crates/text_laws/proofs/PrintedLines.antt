@@ -10,7 +10,6 @@ use Rattle.std.proofs.lemmas.Fmt.{decimal_is_IsNumeral}
 use Rattle.std.proofs.lemmas.Str.Parse.{digit_from_value}
 use Rattle.std.proofs.lemmas.Grind.{common_steps}
 use Rattle.std.proofs.lemmas.List.Folds.{list_all-append}
-use Rattle.text_lines.specs.Number.{fits_i64}
 use Rattle.task_code.specs.Names.{begins_lower, is_in_name, is_name, is_reserved, is_free, are_names}
 use Rattle.task_code.specs.Limits.{is_operand, is_expr, is_action, fits_index, fits_operand, fits_expr, fits_action, fits_line}
 use Rattle.task_code.specs.Mentions as mentions
