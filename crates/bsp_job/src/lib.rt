@@ -1,4 +1,5 @@
-//! Jobs as texts, for C: a text is checked, or run on the caller's thread, and what is told stands in the caller's bytes.
+//! Jobs as texts, for C: a text is checked, or run on the caller's thread, and the output is put into the caller's bytes.
+//! Nothing here is part of Java's API.
 #![tactic(auto)]
 
 ghost use Rattle.std.specs.Prelude.{◌≡◌, ◌⊎◌, ◌≤◌, length, pos};
@@ -14,7 +15,7 @@ use std::alloc::{AllocError, Global};
 use step_core::run_alone;
 use task_code::job::Job;
 
-/// There was no memory.
+/// An allocation failed.
 const NO_MEMORY: i32 = 6;
 
 /// A limit of 0.
@@ -23,11 +24,11 @@ const NO_LIMIT: i32 = 5;
 /// The caller's bytes are too few.
 const TOO_SHORT: i32 = 10;
 
-/// What a call tells beside its status; what a status doesn't speak of is 0.
+/// What a call returns beside its status. A field that the status doesn't need is 0.
 #[repr(C)]
 #[derive(Clone, Copy)]
 pub struct Told {
-    /// How long the text is that was, or would have been, put into the caller's bytes.
+    /// The length of the text that was, or would have been, put into the caller's bytes.
     pub bytes: usize,
     /// The line of a refusal, from 1.
     pub line: usize,
@@ -41,7 +42,7 @@ const NOTHING: Told = Told {
     code: 0,
 };
 
-// Puts a text in front of the caller's bytes where there is room for it, and answers the status.
+// Puts a text at the front of the caller's bytes if there is room for it, and returns the status.
 fn give(text: &[u8], done: i32, out: &mut [u8]) -> i32
     ensures { IsGiven text.now out.new done result (length text.now) }
 {
@@ -53,7 +54,7 @@ fn give(text: &[u8], done: i32, out: &mut [u8]) -> i32
     done
 }
 
-// Tells where a text is refused, and why.
+// Reports where a text is refused, and why.
 fn refuse(refusal: Refusal, told: &mut Told) -> i32
     ensures { IsRefusedAs refusal result told.new }
 {
@@ -62,7 +63,7 @@ fn refuse(refusal: Refusal, told: &mut Told) -> i32
     4
 }
 
-// How a job ended, as the program's status.
+// Returns the program's status for how a job ended.
 fn status_of(status: &JobStatus) -> i32
     ensures { result ≡ status_number (status_seen status.now) }
 {
@@ -86,8 +87,8 @@ fn write_and_give(alloc: Global, job: &Job, out: &mut [u8], told: &mut Told) -> 
     }
 }
 
-/// Reads a job and puts its canonical text into `out`: 0; 4 where the text is refused; 6 without memory; 10 where
-/// `out` is too short, and then nothing of it is to be relied on.
+/// Reads a job and puts its canonical text into `out`. Returns 0; 4 if the text is refused; 6 if an allocation failed; 10
+/// if `out` is too short, and then its bytes are unspecified.
 #[unsafe(no_mangle)]
 pub extern "C" fn bsp_check(alloc: Global, text: &[u8], out: &mut [u8], told: &mut Told) -> i32
     ensures { Checks text.now out.new result told.new }
@@ -100,8 +101,8 @@ pub extern "C" fn bsp_check(alloc: Global, text: &[u8], out: &mut [u8], told: &m
     }
 }
 
-/// Reads a job of either format and puts the canonical text of the job in format 2, which means the same, into `out`. The
-/// statuses are those of `bsp_check`.
+/// Reads a job of either format and puts the canonical text of the same job in format 2 into `out`. The statuses are those
+/// of `bsp_check`.
 #[unsafe(no_mangle)]
 pub extern "C" fn bsp_upgrade(alloc: Global, text: &[u8], out: &mut [u8], told: &mut Told) -> i32
     ensures { Upgrades text.now out.new result told.new }
@@ -130,8 +131,8 @@ fn run_and_give(alloc: Global, job: &Job, limit: u32, out: &mut [u8], told: &mut
 }
 
 /// Reads a job, runs it on the caller's thread within this limit of supersteps, and puts the text of its report into
-/// `out`: 0 where it ended, 2 where a task faulted, 3 where the limit was reached; 4 where the text is refused; 5 for
-/// a limit of 0; 6 without memory; 10 where `out` is too short, and then nothing of it is to be relied on.
+/// `out`. Returns 0 if the job ended, 2 if a task faulted, 3 if the limit was reached; 4 if the text is refused; 5 for a
+/// limit of 0; 6 if an allocation failed; 10 if `out` is too short, and then its bytes are unspecified.
 #[unsafe(no_mangle)]
 pub extern "C" fn bsp_run(
     alloc: Global,
@@ -154,7 +155,7 @@ pub extern "C" fn bsp_run(
     }
 }
 
-/// The status of each end of a job is written down and not said by a rule.
+/// The status of each end of a job is a table, and not computed by a rule.
 pub fn statuses_are_numbered()
     ensures { StatusesAreNumbered }
 {}

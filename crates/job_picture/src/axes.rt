@@ -5,7 +5,7 @@ ghost use Rattle.job_picture.specs.Axes.{party_tick, step_tick, ticks};
 use crate::pieces::{push_field, push_text};
 use std::alloc::AllocError;
 
-// Puts a line across at a number of parties behind what is there.
+// Appends a line across at a number of parties.
 fn push_party_tick(out: &mut Vec<u8>, most: u32, n: u32) -> Result<(), AllocError>
     ensures { OnOk result (out.new.items ≡ out.old.items ++ party_tick most n) }
 {
@@ -19,7 +19,7 @@ fn push_party_tick(out: &mut Vec<u8>, most: u32, n: u32) -> Result<(), AllocErro
     push_text(out, b"</text></g>\n")
 }
 
-// Puts a number below its superstep behind what is there.
+// Appends a number below its superstep.
 fn push_step_tick(out: &mut Vec<u8>, steps: usize, n: usize) -> Result<(), AllocError>
     ensures { OnOk result (out.new.items ≡ out.old.items ++ step_tick steps n) }
 {
@@ -33,7 +33,7 @@ fn push_step_tick(out: &mut Vec<u8>, steps: usize, n: usize) -> Result<(), Alloc
     push_text(out, b"</text></g>\n")
 }
 
-/// Puts the lines across behind what is there, from 0 to this many parties.
+/// Appends the lines across, from 0 to this number of parties.
 pub(crate) fn push_party_ticks(out: &mut Vec<u8>, most: u32) -> Result<(), AllocError>
     ensures { OnOk result (out.new.items ≡ out.old.items ++ ticks (party_tick most) most) }
 {
@@ -44,7 +44,7 @@ pub(crate) fn push_party_ticks(out: &mut Vec<u8>, most: u32) -> Result<(), Alloc
     push_party_tick(out, most, most)
 }
 
-/// Puts the numbers below so many supersteps behind what is there.
+/// Appends the numbers below this number of supersteps.
 pub(crate) fn push_step_ticks(out: &mut Vec<u8>, steps: usize) -> Result<(), AllocError>
     requires { 0 < steps }
     ensures { OnOk result (out.new.items ≡ out.old.items ++ ticks (step_tick steps) (steps - 1)) }

@@ -25,7 +25,7 @@ use itoa::Buffer;
 use std::alloc::AllocError;
 use superstep_memory::arrays::Arrays;
 
-// Puts a name behind what is there, as a text of XML may hold it.
+// Appends a name, escaped for XML.
 fn push_escaped(out: &mut Vec<u8>, name: &[u8]) -> Result<(), AllocError>
     ensures { OnOk result (out.new.items ≡ out.old.items ++ flat_map escaped name.now) }
 {
@@ -100,14 +100,14 @@ fn shade(extent: Extent, value: &i64) -> u128
     u128::from(value.abs_diff(extent.low)) * 9 / span
 }
 
-// Puts a value behind what is there.
+// Appends a value.
 fn push_signed(out: &mut Vec<u8>, value: &i64) -> Result<(), AllocError>
     ensures { OnOk result (out.new.items ≡ out.old.items ++ signed_decimal value.now) }
 {
     push_text(out, Buffer::new().format(*value).as_bytes())
 }
 
-// Puts a cell behind what is there.
+// Appends a cell.
 fn push_cell(out: &mut Vec<u8>, at: usize, shade: u128) -> Result<(), AllocError>
     ensures { OnOk result (out.new.items ≡ out.old.items ++ cell at shade) }
 {
@@ -116,7 +116,7 @@ fn push_cell(out: &mut Vec<u8>, at: usize, shade: u128) -> Result<(), AllocError
     push_text(out, b"\"/>\n")
 }
 
-// Puts the cells of an array behind what is there.
+// Appends the cells of an array.
 fn push_cells(out: &mut Vec<u8>, extent: Extent, values: &[i64]) -> Result<(), AllocError>
     ensures { OnOk result (out.new.items ≡ out.old.items ++ cells_from extent (length values.now) values.now) }
 {
@@ -129,7 +129,7 @@ fn push_cells(out: &mut Vec<u8>, extent: Extent, values: &[i64]) -> Result<(), A
     Ok(())
 }
 
-// How many signs the longest of these values has.
+// Returns the length of the longest of these values in decimal.
 fn longest(values: &[i64]) -> usize
     ensures longest { result ≡ longest_of values.now }
     ensures some { 0 < result }
@@ -143,7 +143,7 @@ fn longest(values: &[i64]) -> usize
     signs
 }
 
-// Puts a value behind what is there, in the middle of its cell.
+// Appends a value, in the middle of its cell.
 fn push_value(out: &mut Vec<u8>, count: usize, at: usize, value: &i64) -> Result<(), AllocError>
     ensures { OnOk result (out.new.items ≡ out.old.items ++ value_at count at value.now) }
 {
@@ -154,7 +154,7 @@ fn push_value(out: &mut Vec<u8>, count: usize, at: usize, value: &i64) -> Result
     push_text(out, b"</text>\n")
 }
 
-// Puts values behind what is there, each in the middle of its cell.
+// Appends values, each in the middle of its cell.
 fn push_values(out: &mut Vec<u8>, values: &[i64]) -> Result<(), AllocError>
     ensures { OnOk result (out.new.items ≡ out.old.items ++ values_from (length values.now) values.now) }
 {
@@ -167,7 +167,7 @@ fn push_values(out: &mut Vec<u8>, values: &[i64]) -> Result<(), AllocError>
     Ok(())
 }
 
-// Puts the values of a few cells behind what is there.
+// Appends the values of a few cells.
 fn push_few_values(out: &mut Vec<u8>, values: &[i64]) -> Result<(), AllocError>
     ensures { OnOk result (out.new.items ≡ out.old.items ++ few_values values.now) }
 {
@@ -178,7 +178,7 @@ fn push_few_values(out: &mut Vec<u8>, values: &[i64]) -> Result<(), AllocError>
     push_text(out, b"</g>\n")
 }
 
-// Puts the values of an array of 64 cells or fewer behind what is there.
+// Appends the values of an array of 64 cells or fewer.
 fn push_shown_values(out: &mut Vec<u8>, values: &[i64]) -> Result<(), AllocError>
     ensures { OnOk result (out.new.items ≡ out.old.items ++ shown_values values.now) }
 {
@@ -188,7 +188,7 @@ fn push_shown_values(out: &mut Vec<u8>, values: &[i64]) -> Result<(), AllocError
     Ok(())
 }
 
-// Puts what stands over the cells of an array behind what is there.
+// Appends what is above the cells of an array.
 fn push_caption(
     out: &mut Vec<u8>,
     place: usize,
@@ -213,7 +213,7 @@ fn push_caption(
     push_text(out, b"</text>\n")
 }
 
-// Puts an array behind what is there, which so many others stand before.
+// Appends an array as the strip at this place.
 fn push_strip(out: &mut Vec<u8>, place: usize, name: &str, values: &[i64]) -> Result<(), AllocError>
     ensures { OnOk result (out.new.items ≡ out.old.items ++ strip place (name.now, values.now)) }
 {
@@ -237,7 +237,7 @@ fn push_strip(out: &mut Vec<u8>, place: usize, name: &str, values: &[i64]) -> Re
     )
 }
 
-/// Puts arrays behind what is there, each as a strip of cells.
+/// Appends arrays, each as a strip of cells.
 pub(crate) fn push_strips(out: &mut Vec<u8>, arrays: &Arrays) -> Result<(), AllocError>
     ensures { OnOk result (out.new.items ≡ out.old.items ++ strips_from 0 arrays.now) }
 {

@@ -18,18 +18,18 @@ use crate::pieces::{push_field, push_text};
 use phase_records::{PhaseRecord, Print};
 use std::alloc::{AllocError, Global};
 
-/// What a column shows: one superstep, or the greatest of several (own).
+/// What a column shows: one superstep, or the greatest of several.
 #[derive(Clone, Copy)]
 pub struct Column {
     /// Where it begins, with its counts.
     pub told: PhaseRecord,
-    /// How many supersteps it stands for.
+    /// The number of supersteps that it shows.
     pub steps: usize,
-    /// Whether a task printed.
+    /// True if a task printed.
     pub prints: bool,
 }
 
-// The prints behind those in front that are of this superstep.
+// Returns the prints after the first ones that are of this superstep.
 fn skip_prints<'a>(prints: &'a [Print], step: u32) -> &'a [Print]
     ensures { result.now ≡ rest_of step prints.now }
 {
@@ -43,7 +43,7 @@ fn skip_prints<'a>(prints: &'a [Print], step: u32) -> &'a [Print]
     rest
 }
 
-// Whether the first of these prints is of this superstep.
+// Returns true if the first of these prints is of this superstep.
 fn begins_in(prints: &[Print], step: u32) -> bool
     ensures { result ≡ begins step prints.now }
 {
@@ -124,7 +124,7 @@ pub(crate) fn greatest(columns: &[Column]) -> Column
     all
 }
 
-// The first so many, and the others.
+// Splits the columns into the first ones and the others.
 fn cut(columns: &[Column], group: usize) -> (&[Column], &[Column])
     ensures front { result.0.now ≡ take group columns.now }
     ensures back { result.1.now ≡ drop group columns.now }
@@ -136,7 +136,7 @@ fn cut(columns: &[Column], group: usize) -> (&[Column], &[Column])
     }
 }
 
-/// As many columns, each the greatest of so many.
+/// Joins columns in groups. Each new column is the greatest of its group.
 pub(crate) fn join(
     alloc: Global,
     count: usize,
@@ -160,7 +160,7 @@ pub(crate) fn join(
     Ok(all)
 }
 
-// Puts a rectangle of a class behind what is there.
+// Appends a rectangle of a class.
 fn push_bar(
     out: &mut Vec<u8>,
     class: &[u8],
@@ -179,7 +179,7 @@ fn push_bar(
     push_text(out, b"\"/>\n")
 }
 
-// Puts the bars of a column behind what is there.
+// Appends the bars of a column.
 fn push_bars(out: &mut Vec<u8>, column: Column) -> Result<(), AllocError>
     ensures { OnOk result (out.new.items ≡ out.old.items ++ bars column) }
 {
@@ -190,7 +190,7 @@ fn push_bars(out: &mut Vec<u8>, column: Column) -> Result<(), AllocError>
     push_bar(out, b"s", column, up, told.spawned)
 }
 
-/// Puts the bars of columns behind what is there.
+/// Appends the bars of columns.
 pub(crate) fn push_all_bars(out: &mut Vec<u8>, columns: &[Column]) -> Result<(), AllocError>
     ensures { OnOk result (out.new.items ≡ out.old.items ++ flat_map bars columns.now) }
 {
@@ -202,7 +202,7 @@ pub(crate) fn push_all_bars(out: &mut Vec<u8>, columns: &[Column]) -> Result<(),
     Ok(())
 }
 
-// Puts the tick of a column behind what is there, where tasks printed.
+// Appends the tick of a column, if tasks printed.
 fn push_tick(out: &mut Vec<u8>, column: Column) -> Result<(), AllocError>
     ensures { OnOk result (out.new.items ≡ out.old.items ++ tick column) }
 {
@@ -212,7 +212,7 @@ fn push_tick(out: &mut Vec<u8>, column: Column) -> Result<(), AllocError>
     Ok(())
 }
 
-/// Puts the ticks of columns behind what is there.
+/// Appends the ticks of columns.
 pub(crate) fn push_all_ticks(out: &mut Vec<u8>, columns: &[Column]) -> Result<(), AllocError>
     ensures { OnOk result (out.new.items ≡ out.old.items ++ flat_map tick columns.now) }
 {

@@ -30,10 +30,10 @@ use phase_records::{JobStatus, Report};
 use std::alloc::{AllocError, Global};
 use superstep_memory::arrays::Arrays;
 
-// How many columns there are at most.
+// The largest number of columns.
 const MOST_COLUMNS: usize = 4000;
 
-// How many supersteps share a column.
+// Returns the number of supersteps that share a column.
 fn group_of(steps: usize) -> usize
     ensures group { result ≡ told_group steps }
     ensures some { 0 < result }
@@ -41,7 +41,7 @@ fn group_of(steps: usize) -> usize
     steps.div_ceil(MOST_COLUMNS).max(1)
 }
 
-// Puts the fault that ended the job behind what is there.
+// Appends the fault that ended the job.
 fn push_fault(out: &mut Vec<u8>, code: u8, step: u32) -> Result<(), AllocError>
     ensures { OnOk result (out.new.items ≡ out.old.items ++ fault_ending code step) }
 {
@@ -49,7 +49,7 @@ fn push_fault(out: &mut Vec<u8>, code: u8, step: u32) -> Result<(), AllocError>
     push_field(out, b" in superstep ", step)
 }
 
-// Puts how the job ended behind what is there.
+// Appends how the job ended.
 fn push_ending(out: &mut Vec<u8>, status: &JobStatus) -> Result<(), AllocError>
     ensures { OnOk result (out.new.items ≡ out.old.items ++ ending (status_seen status.now)) }
 {
@@ -60,7 +60,7 @@ fn push_ending(out: &mut Vec<u8>, status: &JobStatus) -> Result<(), AllocError>
     }
 }
 
-// Puts behind what is there how many supersteps share a column.
+// Appends how many supersteps share a column.
 fn push_shared(out: &mut Vec<u8>, group: usize) -> Result<(), AllocError>
     ensures { OnOk result (out.new.items ≡ out.old.items ++ shared_by group) }
 {
@@ -68,7 +68,7 @@ fn push_shared(out: &mut Vec<u8>, group: usize) -> Result<(), AllocError>
     push_text(out, b" supersteps")
 }
 
-// And that where several do.
+// Appends how many supersteps share a column, if several do.
 fn push_sharing(out: &mut Vec<u8>, group: usize) -> Result<(), AllocError>
     ensures { OnOk result (out.new.items ≡ out.old.items ++ sharing group) }
 {
@@ -78,7 +78,7 @@ fn push_sharing(out: &mut Vec<u8>, group: usize) -> Result<(), AllocError>
     Ok(())
 }
 
-// Puts the title behind what is there.
+// Appends the title.
 fn push_title(
     out: &mut Vec<u8>,
     steps: usize,
@@ -99,7 +99,7 @@ fn push_title(
     push_text(out, b"</text>\n")
 }
 
-// Puts the size and the colours behind what is there.
+// Appends the size and the colours.
 fn push_head(out: &mut Vec<u8>, arrays: usize) -> Result<(), AllocError>
     ensures { OnOk result (out.new.items ≡ out.old.items ++ head arrays) }
 {
@@ -119,7 +119,7 @@ fn push_head(out: &mut Vec<u8>, arrays: usize) -> Result<(), AllocError>
     )
 }
 
-// Puts what the colours mean behind what is there.
+// Appends what the colours mean.
 fn push_legend(out: &mut Vec<u8>) -> Result<(), AllocError>
     ensures { OnOk result (out.new.items ≡ out.old.items ++ legend) }
 {
@@ -145,7 +145,7 @@ fn push_legend(out: &mut Vec<u8>) -> Result<(), AllocError>
     )
 }
 
-// Begins a part of the file with units of its own behind what is there.
+// Begins a part of the file that has its own units.
 fn push_part(out: &mut Vec<u8>, place: &[u8], across: usize, up: u32) -> Result<(), AllocError>
     ensures { OnOk result (out.new.items ≡ out.old.items ++ part_head place.now across up) }
 {
@@ -156,7 +156,7 @@ fn push_part(out: &mut Vec<u8>, place: &[u8], across: usize, up: u32) -> Result<
     push_text(out, b"\" overflow=\"visible\">\n")
 }
 
-// Puts the lines across behind what is there.
+// Appends the lines across.
 fn push_lines(out: &mut Vec<u8>, most: u32) -> Result<(), AllocError>
     ensures { OnOk result (out.new.items ≡ out.old.items ++ lines most) }
 {
@@ -165,7 +165,7 @@ fn push_lines(out: &mut Vec<u8>, most: u32) -> Result<(), AllocError>
     push_text(out, b"</svg>\n")
 }
 
-// Puts the bars behind what is there, with units that go up.
+// Appends the bars, with units that go up.
 fn push_heights(
     out: &mut Vec<u8>,
     steps: usize,
@@ -181,7 +181,7 @@ fn push_heights(
     push_text(out, b"</g>\n</svg>\n")
 }
 
-// Puts what stands below the columns behind what is there: ticks where tasks printed, and numbers.
+// Appends what is below the columns: ticks where tasks printed, and numbers.
 fn push_below(out: &mut Vec<u8>, steps: usize, columns: &[Column]) -> Result<(), AllocError>
     requires { 0 < steps }
     ensures { OnOk result (out.new.items ≡ out.old.items ++ below steps columns.now) }
@@ -194,7 +194,7 @@ fn push_below(out: &mut Vec<u8>, steps: usize, columns: &[Column]) -> Result<(),
     push_text(out, b"</svg>\n")
 }
 
-// Puts so many supersteps behind what is there, with so many parties at most, as these columns.
+// Appends the supersteps as these columns.
 fn push_supersteps(
     out: &mut Vec<u8>,
     steps: usize,
@@ -224,7 +224,7 @@ fn shown_columns(alloc: Global, report: &Report) -> Result<(Vec<Column>, u32), A
     Ok((shown, most))
 }
 
-// Puts the whole file behind what is there.
+// Appends the whole file.
 fn push_file(
     out: &mut Vec<u8>,
     steps: usize,
@@ -243,7 +243,7 @@ fn push_file(
 
 /// The picture of a report, as the text of an SVG file: a title, for each superstep a column whose parts are the parties
 /// that live on, that left and that were spawned, with a tick where tasks printed, and each array as a strip of cells.
-/// Over 4000 supersteps share columns, so that there are 4000 at most (own).
+/// Over 4000 supersteps share columns, so that there are at most 4000.
 pub fn picture_of(alloc: Global, report: &Report) -> Result<Vec<u8>, AllocError>
     ensures { IfOk result (λ text. text.items ≡ picture report.now) }
 {

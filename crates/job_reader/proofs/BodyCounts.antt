@@ -93,7 +93,7 @@ behind-count n l = by-line (is_statement l)
     by-line true = omega arith
     by-line false = omega arith
 
-length-step : (l : Line) (fs : List Frame) (b : Block) (s : List Frame × Block) → step_of l fs b ≡ Some s → length s.0 ≡ opened (length fs) l
+pub length-step : (l : Line) (fs : List Frame) (b : Block) (s : List Frame × Block) → step_of l fs b ≡ Some s → length s.0 ≡ opened (length fs) l
 length-step (line.Do a) fs b s e = let same : fs ≡ s.0 = cc in ap (λ (x : List Frame). length x) (sym same)
 length-step (line.If t n) fs b s e = let same : InIf t b ∷ fs ≡ s.0 = cc in ap (λ (x : List Frame). length x) (sym same) ∙ omega arith
 length-step (line.While t n) fs b s e = let same : InWhile t b ∷ fs ≡ s.0 = cc in ap (λ (x : List Frame). length x) (sym same) ∙ omega arith

@@ -11,7 +11,7 @@ use Rattle.job_words.proofs.SaidLemmas.{made-ok, both-ok, and-true}
 use Rattle.job_words.proofs.GrowLemmas.{and-left, and-right}
 use Rattle.job_reader.specs.Grammar.{listed_in}
 use Rattle.job_reader.specs.Reading.{all_named, may_list, body_of, are_apart}
-use Rattle.job_reader.proofs.NotedNames.{or-left, or-right}
+use Rattle.job_words.proofs.WrittenLemmas.{or-left, or-right}
 
 -- what a body line that is read says
 pub record HeadParts (format : ℕ) (name : Word) (locals : List Word) (head : Word × List Word) : Type 0 where

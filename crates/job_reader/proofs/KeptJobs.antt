@@ -60,7 +60,7 @@ kept-put : (format : ℕ) (bs : List BodyTree) (b : BodyTree) → AreKept format
 kept-put format [] b h k = (k, tt)
 kept-put format (x ∷ bs) b h k = (h.0, kept-put format bs b h.1 k)
 
-at-most : (a b : ℕ) → nat_lt b a ≡ false → a ≤ b
+pub at-most : (a b : ℕ) → nat_lt b a ≡ false → a ≤ b
 at-most a b e = grind (arith, common_steps)
 
 -- within the limits of a body

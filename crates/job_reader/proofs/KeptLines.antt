@@ -61,8 +61,9 @@ use Rattle.job_reader.specs.Grammar.{listed_in}
 use Rattle.job_reader.proofs.BodyHeads.{head-parts, all-free, apart-names}
 use Rattle.job_reader.proofs.Known.{known-line}
 use Rattle.job_reader.proofs.Headers.{format-is}
-use Rattle.job_reader.proofs.NotedNames.{names-put, or-left, or-right}
-use Rattle.job_reader.proofs.KeptJobs.{kept-nothing, inner-kept}
+use Rattle.job_words.proofs.WrittenLemmas.{or-left, or-right}
+use Rattle.job_reader.proofs.NotedNames.{names-put}
+use Rattle.job_reader.proofs.KeptJobs.{kept-nothing, inner-kept, at-most}
 
 below : (a b : ℕ) → nat_le b a ≡ false → a < b
 below a b e = grind (arith, common_steps)
@@ -163,9 +164,6 @@ array-kept j j' ws g e =
 not-false : (b : Bool) → not b ≡ false → b ≡ true
 not-false true e = refl
 not-false false e = absurd cc
-
-at-most : (a b : ℕ) → nat_lt b a ≡ false → a ≤ b
-at-most a b e = grind (arith, common_steps)
 
 none-listed : (format : ℕ) (name : Word) (ws : List Word) → format ≡ 1 → listed_in format ws ≡ ws → ◌≡◌ {A = Word × List Word} (name, ws) (name, [])
 none-listed format name ws e h =

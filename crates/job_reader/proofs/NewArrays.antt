@@ -1,10 +1,8 @@
 -- An array line's name and cells, where the job so far has no such array.
-use Rattle.std.proofs.Common.{◌≡◌, ℕ, ◌≤◌, true, false, ◌&&◌, List, [], ◌∷◌, length, map, Result, Ok, ℤ, Bor, Vec, refl, sym, ap, ◌∙◌, arith, ◌^◌}
+use Rattle.std.proofs.Common.{◌≡◌, ℕ, ◌≤◌, true, false, ◌&&◌, List, [], ◌∷◌, length, map, Ok, ℤ, refl, sym, ap, ◌∙◌, arith, ◌^◌}
 use Rattle.std.specs.Prelude.{nat_le}
 use Rattle.std.specs.Str.{bytes_eq}
 use Rattle.std.proofs.lemmas.Grind.{common_steps}
-use Rattle.std.specs.declared.alloc.Global.{Global}
-use Rattle.text_lines.specs.declared.refusal.Code.{Code}
 use Rattle.superstep_memory.specs.Cells.{has_array, IsNew}
 use Rattle.task_code.specs.Names.{is_free, is_among}
 use Rattle.job_words.specs.Words.{Word, Words}
@@ -13,7 +11,8 @@ use Rattle.job_words.proofs.GrowLemmas.{and-right}
 use Rattle.job_reader.specs.declared.so_far.SoFar.{SoFar}
 use Rattle.job_reader.specs.Kept.{HasSoFar}
 use Rattle.job_reader.specs.Reading.{array_of}
-use Rattle.job_reader.proofs.NotedNames.{or-false, or-left, or-right, turned}
+use Rattle.job_words.proofs.WrittenLemmas.{or-left, or-right}
+use Rattle.job_reader.proofs.NotedNames.{or-false, turned}
 use Rattle.job_reader.proofs.KeptLines.{array-read}
 
 among-arrays : (arrays : List (Word × List ℤ)) (w : Word) → is_among (map (λ a. a.0) arrays) w ≡ false → has_array arrays w ≡ false

@@ -39,11 +39,8 @@ use Rattle.task_code.specs.Mentions.{mentioned}
 use Rattle.job_words.specs.Words.{Word, place_from, name_at, noted}
 use Rattle.job_words.proofs.SaidLemmas.{and-true, same-word}
 use Rattle.job_words.proofs.GrowLemmas.{and-left, and-right, noted-grows}
-use Rattle.job_words.proofs.WrittenLemmas.{same-bytes, place-name}
-
-not-true : (b : Bool) → not b ≡ true → b ≡ false
-not-true true e = absurd cc
-not-true false e = refl
+use Rattle.job_words.proofs.WrittenLemmas.{same-bytes, place-name, not-true, or-left, or-right}
+use Rattle.job_words.proofs.WrittenExprs.{or-true}
 
 false-not : (b : Bool) → b ≡ false → not b ≡ true
 false-not true e = absurd cc
@@ -53,11 +50,7 @@ pub or-false : (a b : Bool) → a ≡ false → b ≡ false → (a || b) ≡ fal
 or-false true b e f = absurd cc
 or-false false b e f = f
 
-or-true : (a b : Bool) → b ≡ true → (a || b) ≡ true
-or-true true b e = refl
-or-true false b e = e
-
-or-true-left : (a b : Bool) → a ≡ true → (a || b) ≡ true
+pub or-true-left : (a b : Bool) → a ≡ true → (a || b) ≡ true
 or-true-left true b e = refl
 or-true-left false b e = absurd cc
 
@@ -89,14 +82,6 @@ take-next (n ∷ ns) (suc k) h = ap (λ (x : List Word). n ∷ x) (take-next ns 
 
 pub same-number : (i k : ℕ) → nat_eq i k ≡ true → i ≡ k
 same-number i k e = grind (arith, common_steps)
-
-pub or-left : (a b : Bool) → (a || b) ≡ false → a ≡ false
-or-left true b e = absurd cc
-or-left false b e = refl
-
-pub or-right : (a b : Bool) → (a || b) ≡ false → b ≡ false
-or-right true b e = absurd cc
-or-right false b e = e
 
 pub turned : (v w : Word) (b : Bool) → bytes_eq w v ≡ b → bytes_eq v w ≡ false → b ≡ false
 turned v w true e f =

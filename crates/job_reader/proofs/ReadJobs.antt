@@ -101,7 +101,7 @@ pub job-back : (j : JobTree) (r : SoFar) (v : JobValue) → IsSoFar j r → v �
 job-back j r v s e =
     ap job_tree (e ∙ same-job j r s) ∙ ap (λ (bs : List BodyTree). record j { bodies = bs }) (trees-back j.bodies)
 
-short-enough : (n : ℕ) → n ≤ 1048576 → nat_lt 1048576 n ≡ false
+pub short-enough : (n : ℕ) → n ≤ 1048576 → nat_lt 1048576 n ≡ false
 short-enough n h = grind (arith, common_steps)
 
 -- a text's lines behind the header say a job, if anything

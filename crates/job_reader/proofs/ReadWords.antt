@@ -1,44 +1,13 @@
 -- Words of a line that are read: the locals that they mention may be so called, and their numbers fit.
-use Rattle.std.proofs.Common.{
-  ◌≡◌,
-  ℕ,
-  Bool,
-  true,
-  false,
-  ◌&&◌,
-  List,
-  [],
-  ◌∷◌,
-  ◌++◌,
-  Option,
-  Some,
-  None,
-  Result,
-  Ok,
-  Err,
-  ℤ,
-  pos,
-  negsuc,
-  FitsSigned,
-  w64,
-  refl,
-  sym,
-  ap,
-  subst,
-  ◌∙◌,
-  arith,
-  codes,
-}
+use Rattle.std.proofs.Common.{◌≡◌, ℕ, Bool, true, false, ◌&&◌, List, [], ◌∷◌, ◌++◌, Option, Some, None, Result, Ok, Err, ℤ, refl, sym, ap, subst, ◌∙◌, codes}
 use Rattle.std.specs.Prelude.{if◌then◌else◌, not, ◌||◌}
 use Rattle.std.specs.List.{list_all}
 use Rattle.std.specs.Str.{bytes_eq}
-use Rattle.std.proofs.lemmas.Int.{ints}
-use Rattle.std.proofs.lemmas.Grind.{common_steps}
 use Rattle.std.proofs.lemmas.List.Folds.{list_all-append}
 use Rattle.text_lines.specs.declared.refusal.Code.{Code}
 use Rattle.text_lines.specs.declared.refusal.Code.TheVariants.{Reserved, BadName}
 use Rattle.text_lines.specs.Number.{number_of, fits_i64}
-use Rattle.text_lines.proofs.NumbersLemmas.{numbers_law}
+use Rattle.text_lines.proofs.NumbersLemmas.{numbers_law, fits_back as fits-back}
 use Rattle.task_code.specs.Limits.{fits_index, fits_operand, fits_expr, fits_line}
 use Rattle.task_code.specs.Names.{is_name, is_reserved, is_free}
 use Rattle.task_code.specs.declared.code.Index.{Index}
@@ -52,12 +21,12 @@ use Rattle.task_code.specs.declared.code.Action.TheVariants as action
 use Rattle.task_code.specs.declared.code.Line.{Line}
 use Rattle.task_code.specs.declared.code.Line.TheVariants as line
 use Rattle.job_words.specs.Faults.{both, made}
-use Rattle.job_words.specs.Words.{Word, Words, begins_number, named, numbered, or_bad_number, place_from, or_unknown, declared_at, name_at, index_word, index_of, in_index}
+use Rattle.job_words.specs.Words.{Word, Words, begins_number, named, numbered, place_from, or_unknown, declared_at, name_at, index_word, index_of, in_index}
 use Rattle.job_words.specs.Exprs.{Names, cell_parts, cell_at, cell_from, cell_of, has_bracket, operand_of, operator_of, expr_of, two, in_parts, in_operand, in_expr}
 use Rattle.job_words.specs.declared.lines.Keyword.{Keyword}
 use Rattle.job_words.specs.declared.lines.Keyword.TheVariants.{Let, Put, Print, Spawn, Sync, Stop, If, Else, While, End}
 use Rattle.job_words.specs.Lines.{is_equals, body_at, let_line, put_line, spawn_line, alone, else_of, line_behind, mentions_behind}
-use Rattle.job_words.proofs.SaidLemmas.{made-ok, both-ok, and-true, cell-said}
+use Rattle.job_words.proofs.SaidLemmas.{made-ok, both-ok, and-true, cell-said, number-ok}
 use Rattle.job_words.proofs.WrittenExprs.{cell-bracket}
 
 named-cases : (a b : Bool) (u : Unit {0}) → ◌≡◌ {A = Result (Unit {0}) Code} (if a then Err Reserved else if b then Ok tt else Err BadName) (Ok u) → (b && not a) ≡ true
@@ -74,14 +43,6 @@ free-declared names w i e =
     let m = made-ok (λ (p : Unit {0} × ℕ). p.1) _ i e in
     let b = both-ok (named w) (or_unknown (place_from 0 names w)) m.0 m.1 in
     free-named w m.0.0 b.0
-
-fits-back : (n : ℤ) → FitsSigned w64 n → fits_i64 n ≡ true
-fits-back (pos n) f = grind (arith, common_steps, ints, f)
-fits-back (negsuc n) f = grind (arith, common_steps, ints, f)
-
-number-ok : (o : Option ℤ) (n : ℤ) → or_bad_number o ≡ Ok n → o ≡ Some n
-number-ok None n e = absurd cc
-number-ok (Some m) n e = let same : m ≡ n = cc in ap (λ (x : ℤ). Some x) same
 
 -- a number that is read fits
 pub number-fits : (w : Word) (n : ℤ) → numbered w ≡ Ok n → fits_i64 n ≡ true

@@ -3,7 +3,7 @@ use Rattle.std.proofs.Common.{◌≡◌, inl, inr, ℕ, ◌+◌, ◌<◌, ◌≤
 use Rattle.std.specs.Prelude.{if◌then◌else◌, nat_le, nat_lt, ◌||◌, not}
 use Rattle.job_reader.specs.Reading.{are_apart}
 use Rattle.job_reader.proofs.BodyHeads.{head-parts}
-use Rattle.job_reader.proofs.NotedNames.{or-left}
+use Rattle.job_words.proofs.WrittenLemmas.{or-left}
 use Rattle.std.specs.List.{filter_map, cons_option}
 use Rattle.std.proofs.lemmas.List.{map-append}
 use Rattle.std.proofs.lemmas.Grind.{common_steps}
@@ -74,7 +74,7 @@ same-adds : (j : JobTree) (i : Option Inside) (ws : Words) (p : JobTree × Optio
 same-adds j i ws p e d =
     (e ∙ sym (append-nil (so_far j i)) ∙ ap (λ (o : Option Word). so_far j i ++ listed o) (sym d), λ h. subst (λ (x : List Word). length x ≤ 64) (sym e) h)
 
-no-body : (k : Keyword) → outer_of (keyword_text k) ≡ None
+pub no-body : (k : Keyword) → outer_of (keyword_text k) ≡ None
 unfolding outer_of
 no-body Let = refl
 no-body (Put Set) = refl
@@ -155,7 +155,7 @@ step-adds bodies j (Some o) [] p e = absurd cc
 step-adds bodies j None (k ∷ ws) p e = outer-adds bodies j k ws (outer_of k) p refl e
 step-adds bodies j (Some o) (k ∷ ws) p e = inner-adds bodies j o k ws (keyword_of k) p refl (known-line bodies j o (keyword_of k) ws p e).0
 
-is-hash : (c : ℕ) → nat_eq c 35 ≡ true → c ≡ 35
+pub is-hash : (c : ℕ) → nat_eq c 35 ≡ true → c ≡ 35
 is-hash c h = grind (arith, common_steps)
 
 hash-none : (cs : Word) → outer_of (35 ∷ cs) ≡ None

@@ -2,7 +2,7 @@
 use Rattle.std.specs.Prelude.{ℕ, ◌+◌, Bool, true, false, if◌then◌else◌, List, [], ◌∷◌, Option, None}
 use Rattle.job_words.specs.Words.{Word}
 use Rattle.task_code.specs.Tree.{Block, Done}
-use Rattle.task_code.specs.Open.{Frame, InIf, InElse, InWhile}
+use Rattle.task_code.specs.Open.{Frame, InIf}
 use Rattle.task_code.specs.Limits.{is_statement}
 use Rattle.task_code.specs.declared.code.Line.{Line}
 use Rattle.task_code.specs.declared.code.Line.TheVariants as line

@@ -20,14 +20,14 @@ pub(crate) struct Writing<'a> {
     pub locals: &'a [String],
 }
 
-/// Puts the text of a number behind what is there.
+/// Appends the text of a number.
 pub(crate) fn push_number<I: Integer>(out: &mut Vec<u8>, n: I) -> Result<(), AllocError>
     ensures { OnOk result (out.new.items ≡ out.old.items ++ I.text n) }
 {
     out.extend_from_slice(Buffer::new().format(n).as_bytes())
 }
 
-/// Puts the name of an array behind what is there.
+/// Appends the name of an array.
 pub(crate) fn push_array_name(
     out: &mut Vec<u8>,
     arrays: &Arrays,
@@ -44,7 +44,7 @@ pub(crate) fn push_array_name(
     }
 }
 
-/// Puts the name of a body behind what is there.
+/// Appends the name of a body.
 pub(crate) fn push_body_name(
     out: &mut Vec<u8>,
     bodies: &[Body],
@@ -58,7 +58,7 @@ pub(crate) fn push_body_name(
     Ok(())
 }
 
-// Puts the name of a local behind what is there.
+// Appends the name of a local.
 fn push_local(out: &mut Vec<u8>, locals: &[String], place: usize) -> Result<(), AllocError>
     ensures { OnOk result (out.new.items ≡ out.old.items ++ name_at (map string_bytes locals.now) place) }
 {
@@ -68,7 +68,7 @@ fn push_local(out: &mut Vec<u8>, locals: &[String], place: usize) -> Result<(), 
     Ok(())
 }
 
-// Puts an index behind what is there.
+// Appends an index.
 fn push_index(out: &mut Vec<u8>, locals: &[String], index: Index) -> Result<(), AllocError>
     ensures { OnOk result (out.new.items ≡ out.old.items ++ index_word (map string_bytes locals.now) index) }
 {
@@ -92,7 +92,7 @@ fn push_index(out: &mut Vec<u8>, locals: &[String], index: Index) -> Result<(), 
     }
 }
 
-// Puts a cell behind what is there.
+// Appends a cell.
 fn push_cell(out: &mut Vec<u8>, names: &Writing<'_>, cell: Cell) -> Result<(), AllocError>
     ensures { OnOk result (out.new.items ≡ out.old.items ++ cell_word (names_of names.now) cell) }
 {
@@ -103,7 +103,7 @@ fn push_cell(out: &mut Vec<u8>, names: &Writing<'_>, cell: Cell) -> Result<(), A
     Ok(())
 }
 
-// Puts an operand behind what is there.
+// Appends an operand.
 fn push_operand(out: &mut Vec<u8>, names: &Writing<'_>, operand: Operand) -> Result<(), AllocError>
     ensures { OnOk result (out.new.items ≡ out.old.items ++ operand_word (names_of names.now) operand) }
 {
@@ -136,7 +136,7 @@ fn operator_text(operator: Operator) -> &'static str
     }
 }
 
-// Puts a space and an operand behind what is there.
+// Appends a space and an operand.
 fn push_spaced(out: &mut Vec<u8>, names: &Writing<'_>, operand: Operand) -> Result<(), AllocError>
     ensures { OnOk result (out.new.items ≡ out.old.items ++ 32 ∷ operand_word (names_of names.now) operand) }
 {
@@ -145,7 +145,7 @@ fn push_spaced(out: &mut Vec<u8>, names: &Writing<'_>, operand: Operand) -> Resu
     Ok(())
 }
 
-// Puts the words of an expression behind what is there, each behind a space.
+// Appends the words of an expression, each after a space.
 fn push_expr(out: &mut Vec<u8>, names: &Writing<'_>, expr: Expr) -> Result<(), AllocError>
     ensures { OnOk result (out.new.items ≡ out.old.items ++ spaced (expr_words (names_of names.now) expr)) }
 {
@@ -164,7 +164,7 @@ fn push_expr(out: &mut Vec<u8>, names: &Writing<'_>, expr: Expr) -> Result<(), A
     }
 }
 
-// Puts the words of an expression behind what is there, each behind a space, and an LF.
+// Appends the words of an expression, each after a space, and an LF.
 fn push_end(out: &mut Vec<u8>, names: &Writing<'_>, expr: Expr) -> Result<(), AllocError>
     ensures { OnOk result (out.new.items ≡ out.old.items ++ (spaced (expr_words (names_of names.now) expr) ++ 10 ∷ [])) }
 {
@@ -224,7 +224,7 @@ fn push_spawn(
     Ok(())
 }
 
-// Puts a keyword and an expression behind what is there, as a line.
+// Appends a keyword and an expression, as a line.
 fn push_test(
     out: &mut Vec<u8>,
     names: &Writing<'_>,
@@ -264,7 +264,7 @@ fn push_line(out: &mut Vec<u8>, names: &Writing<'_>, line: Line) -> Result<(), A
     }
 }
 
-/// Puts the lines of flat code behind what is there.
+/// Appends the lines of flat code.
 pub(crate) fn push_code(
     out: &mut Vec<u8>,
     names: &Writing<'_>,

@@ -5,7 +5,7 @@ use superstep_memory::arrays::Arrays;
 use task_code::body::Body;
 use task_code::job::Start;
 
-/// The format, the arrays, bodies and start lines that are read, and the names of the first two as they stand in the text.
+/// The format, the arrays, bodies and start lines that are read, and the names of the arrays and bodies in the text.
 #[derive(Drop)]
 pub(crate) struct SoFar<'a> {
     pub format: u32,

@@ -16,7 +16,7 @@ use superstep_memory::arrays::Arrays;
 use task_code::body::Body;
 use task_code::job::{Job, Start};
 
-// Puts values behind what is there, each behind a space.
+// Appends values, each after a space.
 fn push_values(out: &mut Vec<u8>, values: &[i64]) -> Result<(), AllocError>
     ensures { OnOk result (out.new.items ≡ out.old.items ++ spaced (map signed_decimal values.now)) }
 {
@@ -29,7 +29,7 @@ fn push_values(out: &mut Vec<u8>, values: &[i64]) -> Result<(), AllocError>
     Ok(())
 }
 
-// Puts the line of an array behind what is there.
+// Appends the line of an array.
 fn push_array(out: &mut Vec<u8>, name: &str, cells: &[i64]) -> Result<(), AllocError>
     ensures { OnOk result (out.new.items ≡ out.old.items ++ line_text (spec.array_words name.now (length cells.now) cells.now)) }
 {
@@ -40,7 +40,7 @@ fn push_array(out: &mut Vec<u8>, name: &str, cells: &[i64]) -> Result<(), AllocE
     push_cells(out, cells)
 }
 
-// Puts values behind what is there, each behind a space, and an LF.
+// Appends values, each after a space, and an LF.
 fn push_cells(out: &mut Vec<u8>, values: &[i64]) -> Result<(), AllocError>
     ensures { OnOk result (out.new.items ≡ out.old.items ++ (spaced (map signed_decimal values.now) ++ 10 ∷ [])) }
 {
@@ -49,7 +49,7 @@ fn push_cells(out: &mut Vec<u8>, values: &[i64]) -> Result<(), AllocError>
     Ok(())
 }
 
-// Puts the lines of the arrays behind what is there.
+// Appends the lines of the arrays.
 fn push_arrays(out: &mut Vec<u8>, arrays: &Arrays) -> Result<(), AllocError>
     ensures { OnOk result (out.new.items ≡ out.old.items ++ text_of (spec.array_lines arrays.now)) }
 {
@@ -61,7 +61,7 @@ fn push_arrays(out: &mut Vec<u8>, arrays: &Arrays) -> Result<(), AllocError>
     Ok(())
 }
 
-// Puts names behind what is there, each behind a space.
+// Appends names, each after a space.
 fn push_names(out: &mut Vec<u8>, names: &[String]) -> Result<(), AllocError>
     ensures { OnOk result (out.new.items ≡ out.old.items ++ spaced (map string_bytes names.now)) }
 {
@@ -74,7 +74,7 @@ fn push_names(out: &mut Vec<u8>, names: &[String]) -> Result<(), AllocError>
     Ok(())
 }
 
-// Puts the locals that a body line lists behind what is there, each behind a space: none in format 1.
+// Appends the locals that a body line lists, each after a space: none in format 1.
 fn push_listed(out: &mut Vec<u8>, format: u32, locals: &[String]) -> Result<(), AllocError>
     ensures { OnOk result (out.new.items ≡ out.old.items ++ spaced (spec.listed_in format (map string_bytes locals.now))) }
 {
@@ -84,7 +84,7 @@ fn push_listed(out: &mut Vec<u8>, format: u32, locals: &[String]) -> Result<(), 
     push_names(out, locals)
 }
 
-// Puts the lines of a body behind what is there.
+// Appends the lines of a body.
 fn push_body(
     out: &mut Vec<u8>,
     format: u32,
@@ -109,7 +109,7 @@ fn push_body(
     Ok(())
 }
 
-// Puts the lines of bodies behind what is there, where all bodies are these.
+// Appends the lines of bodies. `all` has all bodies of the job.
 fn push_bodies(
     out: &mut Vec<u8>,
     format: u32,
@@ -128,7 +128,7 @@ fn push_bodies(
     Ok(())
 }
 
-// Puts a start line behind what is there.
+// Appends a start line.
 fn push_start(out: &mut Vec<u8>, bodies: &[Body], start: Start) -> Result<(), AllocError>
     ensures { OnOk result (out.new.items ≡ out.old.items ++ line_text (spec.start_words (map (λ b. b.name) bodies.now) start)) }
 {
@@ -140,7 +140,7 @@ fn push_start(out: &mut Vec<u8>, bodies: &[Body], start: Start) -> Result<(), Al
     Ok(())
 }
 
-// Puts start lines behind what is there.
+// Appends start lines.
 fn push_starts(out: &mut Vec<u8>, bodies: &[Body], starts: &[Start]) -> Result<(), AllocError>
     ensures { OnOk result (out.new.items ≡ out.old.items ++ text_of (spec.start_lines (map (λ b. b.name) bodies.now) starts.now)) }
 {
@@ -152,7 +152,7 @@ fn push_starts(out: &mut Vec<u8>, bodies: &[Body], starts: &[Start]) -> Result<(
     Ok(())
 }
 
-// Puts the first line behind what is there.
+// Appends the first line.
 fn push_header(out: &mut Vec<u8>, format: u32) -> Result<(), AllocError>
     ensures { OnOk result (out.new.items ≡ out.old.items ++ line_text (spec.header_words format)) }
 {
@@ -162,7 +162,7 @@ fn push_header(out: &mut Vec<u8>, format: u32) -> Result<(), AllocError>
     Ok(())
 }
 
-/// The canonical text of a job, as `write_job` writes it (own).
+/// Returns the canonical text of a job, as `write_job` writes it.
 pub fn canonical(alloc: Global, job: &Job) -> Result<Vec<u8>, AllocError>
     ensures text { IfOk result (λ text. text.items ≡ spec.canonical_text (job_tree job.now)) }
     ensures kept { IsJob job.now }
@@ -176,8 +176,8 @@ pub fn canonical(alloc: Global, job: &Job) -> Result<Vec<u8>, AllocError>
     Ok(out)
 }
 
-/// Writes the canonical text of a job (own): `bsp` and its format, the arrays with all their values, the bodies, the start lines, each
-/// in declared order, with single spaces, no comments and an LF behind each line. All memory is taken before the first
+/// Writes the canonical text of a job: `bsp` and its format, the arrays with all their values, the bodies, the start lines, each
+/// in declared order, with single spaces, no comments and an LF after each line. Allocates before it writes the first
 /// byte. `Write` where the writer failed: a beginning of the text went out. Each job is one of the grammar, so that its
 /// text, where it isn't too long, is read as that job.
 #[tactic(auto, using(crate::proofs::JobLemmas::jobs))]

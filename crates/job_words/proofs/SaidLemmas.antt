@@ -108,7 +108,7 @@ declared-said names w i e =
     let b = both-ok (named w) (or_unknown (place_from 0 names w)) m.0 m.1 in
     place-said names w i (unknown-ok _ i (b.1 ∙ ap (λ (x : ℕ). Ok x) m.2))
 
-number-ok : (o : Option ℤ) (n : ℤ) → or_bad_number o ≡ Ok n → o ≡ Some n
+pub number-ok : (o : Option ℤ) (n : ℤ) → or_bad_number o ≡ Ok n → o ≡ Some n
 number-ok None n e = absurd cc
 number-ok (Some m) n e = let same : m ≡ n = cc in ap (λ (x : ℤ). Some x) same
 

@@ -25,16 +25,12 @@ use Rattle.job_words.specs.Words.{Word, begins_number, numbered, or_bad_number, 
 use Rattle.job_words.specs.Exprs.{Names, index_part, cell_parts, cell_word, cell_at, cell_from, cell_of, has_bracket, operand_word, operand_of, operator_word, operator_of, expr_words, expr_of, two}
 use Rattle.job_words.proofs.SaidLemmas.{and-true}
 use Rattle.job_words.proofs.GrowLemmas.{and-left, and-right}
-use Rattle.job_words.proofs.WrittenLemmas.{names-free, declared-written, local-written, arg-written, step-written, operator-written}
+use Rattle.job_words.proofs.WrittenLemmas.{names-free, declared-written, local-written, arg-written, step-written, operator-written, not-true}
 
 -- no byte is a bracket
 abbrev pub is_plain : Word → Bool
 is_plain [] = true
 is_plain (c ∷ cs) = not (c == 91) && not (c == 93) && is_plain cs
-
-not-true : (b : Bool) → not b ≡ true → b ≡ false
-not-true true e = absurd cc
-not-true false e = refl
 
 plain-index : (q : Word) → is_plain q ≡ true → index_part (q ++ 93 ∷ []) ≡ Some q
 plain-index [] e = refl
@@ -51,7 +47,7 @@ plain-cell (c ∷ cs) q e f =
     rw (a, b)
     (ap (option_map {U = Word × Word} (λ (r : Word × Word). (c ∷ r.0, r.1))) (plain-cell cs q (and-right (not (c == 91) && not (c == 93)) _ e) f))
 
-or-true : (a b : Bool) → b ≡ true → (a || b) ≡ true
+pub or-true : (a b : Bool) → b ≡ true → (a || b) ≡ true
 or-true true b e = refl
 or-true false b e = e
 
@@ -110,7 +106,7 @@ index-written locals (index.Local i) e h = local-written locals i e h
 index-written locals index.Arg e h = arg-written locals
 index-written locals index.Step e h = step-written locals
 
-index-plain : (locals : List Word) (i : Index) → are_names locals ≡ true → IndexIs locals i → is_plain (index_word locals i) ≡ true
+pub index-plain : (locals : List Word) (i : Index) → are_names locals ≡ true → IndexIs locals i → is_plain (index_word locals i) ≡ true
 index-plain locals (index.Number n) e h = number-plain n h
 index-plain locals (index.Local i) e h = name-plain (name_at locals i) (names-free locals i e h)
 index-plain locals index.Arg e h = refl

@@ -34,15 +34,15 @@ use Rattle.job_words.proofs.GrowLemmas.{and-left, and-right}
 pub same-bytes : (w : Word) → bytes_eq w w ≡ true
 same-bytes w = (bytes_eq-Decides w w).1 refl
 
-not-true : (b : Bool) → not b ≡ true → b ≡ false
+pub not-true : (b : Bool) → not b ≡ true → b ≡ false
 not-true true e = absurd cc
 not-true false e = refl
 
-or-left : (a b : Bool) → (a || b) ≡ false → a ≡ false
+pub or-left : (a b : Bool) → (a || b) ≡ false → a ≡ false
 or-left true b e = absurd cc
 or-left false b e = refl
 
-or-right : (a b : Bool) → (a || b) ≡ false → b ≡ false
+pub or-right : (a b : Bool) → (a || b) ≡ false → b ≡ false
 or-right true b e = absurd cc
 or-right false b e = e
 
@@ -56,26 +56,26 @@ named-free w e = name-cases (is_reserved w) (is_name w) (not-true (is_reserved w
     name-cases false false h g = absurd cc
 
 -- a reserved word is no name that may be used
-other-word : (b : Bool) (w k : Word) → bytes_eq w k ≡ b → is_reserved k ≡ true → is_reserved w ≡ false → b ≡ false
+pub other-word : (b : Bool) (w k : Word) → bytes_eq w k ≡ b → is_reserved k ≡ true → is_reserved w ≡ false → b ≡ false
 other-word true w k h r f = let same = ap is_reserved (same-word w k h) in let both : true ≡ false = sym r ∙ sym same ∙ f in absurd cc
 other-word false w k h r f = refl
 
-arg-reserved : is_reserved (codes "arg") ≡ true
+pub arg-reserved : is_reserved (codes "arg") ≡ true
 unfolding is_reserved
 arg-reserved = refl
 
-step-reserved : is_reserved (codes "step") ≡ true
+pub step-reserved : is_reserved (codes "step") ≡ true
 unfolding is_reserved
 step-reserved = refl
 
-lower-digit : (c : ℕ) → is_lower c ≡ true → ((c == 45) || (nat_le 48 c && nat_le c 57)) ≡ false
+pub lower-digit : (c : ℕ) → is_lower c ≡ true → ((c == 45) || (nat_le 48 c && nat_le c 57)) ≡ false
 lower-digit c e = grind (arith, common_steps)
 
-free-begins : (w : Word) → is_free w ≡ true → begins_number w ≡ false
+pub free-begins : (w : Word) → is_free w ≡ true → begins_number w ≡ false
 free-begins [] e = refl
 free-begins (c ∷ cs) e = lower-digit c (and-left _ _ (and-left _ _ (and-left _ (not (is_reserved (c ∷ cs))) e)))
 
-among-not : (ns : List Word) (n : Word) (i : ℕ) → is_among ns n ≡ false → i < length ns → bytes_eq n (name_at ns i) ≡ false
+pub among-not : (ns : List Word) (n : Word) (i : ℕ) → is_among ns n ≡ false → i < length ns → bytes_eq n (name_at ns i) ≡ false
 among-not [] n i e h = absurd (omega arith)
 among-not (m ∷ ns) n zero e h = turned (bytes_eq n m) refl
   where

@@ -3,20 +3,20 @@ use std::marker::Model;
 use superstep_memory::arrays::Arrays;
 use superstep_memory::path::Path;
 
-/// What is recorded of one superstep (own).
+/// The record of one superstep.
 #[derive(Clone, Copy, PartialEq, Eq)]
 pub struct PhaseRecord {
     /// Its number, from 0.
     pub phase: u32,
-    /// How many tasks lived as it began, with those that were spawned in it.
+    /// The number of tasks that were alive as it began, and of those spawned in it.
     pub parties: u32,
-    /// How many tasks stopped.
+    /// The number of tasks that stopped.
     pub left: u32,
-    /// How many tasks were spawned.
+    /// The number of tasks that were spawned.
     pub spawned: u32,
 }
 
-/// A value that a task printed (own). Its type keeps that a path has at most 8 numbers.
+/// A value that a task printed. The type keeps a path to at most 8 numbers.
 #[derive(Drop)]
 pub struct Print {
     /// The superstep, from 0.
@@ -39,10 +39,10 @@ impl Model for Print {
     ghost invariant = { λ p. length p.path.items ≤ 8 };
 }
 
-/// How a job ends (own).
+/// How a job ends.
 #[derive(Drop)]
 pub enum JobStatus {
-    /// No task lived any longer after so many supersteps.
+    /// No task was alive after this number of supersteps.
     Ended(u32),
     /// A task faulted, or too many would have lived.
     Fault {
@@ -53,7 +53,7 @@ pub enum JobStatus {
         /// The path of the task; no numbers with fault 7.
         path: Path,
     },
-    /// Tasks still lived after so many supersteps, and no more were allowed.
+    /// Tasks were still alive after this number of supersteps, which was the limit.
     Limit(u32),
 }
 

@@ -24,14 +24,14 @@ pub enum WriteFault {
     Memory,
 }
 
-// Puts the text of a number behind what is there.
+// Appends the text of a number.
 fn push_number<I: Integer>(out: &mut Vec<u8>, n: I) -> Result<(), AllocError>
     ensures { OnOk result (out.new.items ≡ out.old.items ++ I.text n) }
 {
     out.extend_from_slice(Buffer::new().format(n).as_bytes())
 }
 
-// Puts a name and a number behind what is there.
+// Appends a name and a number.
 fn push_field<I: Integer>(out: &mut Vec<u8>, name: &[u8], n: I) -> Result<(), AllocError>
     ensures { OnOk result (out.new.items ≡ out.old.items ++ name.now ++ I.text n) }
 {
@@ -39,7 +39,7 @@ fn push_field<I: Integer>(out: &mut Vec<u8>, name: &[u8], n: I) -> Result<(), Al
     push_number(out, n)
 }
 
-// Puts the numbers of a path behind what is there, with points between.
+// Appends the numbers of a path, with points between them.
 fn push_path(out: &mut Vec<u8>, path: &[u16]) -> Result<(), AllocError>
     ensures { OnOk result (out.new.items ≡ out.old.items ++ path_text path.now) }
 {
@@ -54,7 +54,7 @@ fn push_path(out: &mut Vec<u8>, path: &[u16]) -> Result<(), AllocError>
     Ok(())
 }
 
-// Puts a name and the numbers of a path behind what is there.
+// Appends a name and the numbers of a path.
 fn push_path_behind(out: &mut Vec<u8>, name: &[u8], path: &[u16]) -> Result<(), AllocError>
     ensures { OnOk result (out.new.items ≡ out.old.items ++ name.now ++ path_text path.now) }
 {
@@ -62,7 +62,7 @@ fn push_path_behind(out: &mut Vec<u8>, name: &[u8], path: &[u16]) -> Result<(), 
     push_path(out, path)
 }
 
-// Puts the line of a print behind what is there.
+// Appends the line of a print.
 fn push_print(out: &mut Vec<u8>, print: &Print) -> Result<(), AllocError>
     ensures { OnOk result (out.new.items ≡ out.old.items ++ print_line print.now) }
 {
@@ -72,7 +72,7 @@ fn push_print(out: &mut Vec<u8>, print: &Print) -> Result<(), AllocError>
     out.extend_from_slice(b"\n")
 }
 
-// Puts the lines of the prints in front that are of this superstep behind what is there, and gives the others.
+// Appends the lines of the first prints that are of this superstep. Returns the other prints.
 fn push_prints<'a>(
     out: &mut Vec<u8>,
     prints: &'a [Print],
@@ -92,7 +92,7 @@ fn push_prints<'a>(
     Ok(rest)
 }
 
-// Puts the line of a record behind what is there.
+// Appends the line of a record.
 fn push_record(out: &mut Vec<u8>, told: PhaseRecord) -> Result<(), AllocError>
     ensures { OnOk result (out.new.items ≡ out.old.items ++ record_line told) }
 {
@@ -103,7 +103,7 @@ fn push_record(out: &mut Vec<u8>, told: PhaseRecord) -> Result<(), AllocError>
     out.extend_from_slice(b"\n")
 }
 
-// Puts the lines of supersteps behind what is there.
+// Appends the lines of supersteps.
 fn push_steps(
     out: &mut Vec<u8>,
     mut prints: &[Print],
@@ -120,7 +120,7 @@ fn push_steps(
     Ok(())
 }
 
-// Puts the cells of an array behind what is there.
+// Appends the cells of an array.
 fn push_cells(out: &mut Vec<u8>, cells: &[i64]) -> Result<(), AllocError>
     ensures { OnOk result (out.new.items ≡ out.old.items ++ flat_map cell_text cells.now) }
 {
@@ -132,7 +132,7 @@ fn push_cells(out: &mut Vec<u8>, cells: &[i64]) -> Result<(), AllocError>
     Ok(())
 }
 
-// Puts the line of an array behind what is there.
+// Appends the line of an array.
 fn push_array(out: &mut Vec<u8>, name: &str, cells: &[i64]) -> Result<(), AllocError>
     ensures { OnOk result (out.new.items ≡ out.old.items ++ array_line (name.now, cells.now)) }
 {
@@ -142,7 +142,7 @@ fn push_array(out: &mut Vec<u8>, name: &str, cells: &[i64]) -> Result<(), AllocE
     out.extend_from_slice(b"\n")
 }
 
-// Puts the lines of arrays behind what is there.
+// Appends the lines of arrays.
 fn push_arrays(out: &mut Vec<u8>, arrays: &Arrays) -> Result<(), AllocError>
     ensures { OnOk result (out.new.items ≡ out.old.items ++ flat_map array_line arrays.now) }
 {
@@ -154,7 +154,7 @@ fn push_arrays(out: &mut Vec<u8>, arrays: &Arrays) -> Result<(), AllocError>
     Ok(())
 }
 
-// Puts a path behind what is there, or a dash where it has no numbers.
+// Appends a path, or a dash if it has no numbers.
 fn push_shown_path(out: &mut Vec<u8>, path: &[u16]) -> Result<(), AllocError>
     ensures { OnOk result (out.new.items ≡ out.old.items ++ shown_path path.now) }
 {
@@ -164,7 +164,7 @@ fn push_shown_path(out: &mut Vec<u8>, path: &[u16]) -> Result<(), AllocError>
     push_path(out, path)
 }
 
-// Puts the last line of a report behind what is there.
+// Appends the last line of a report.
 fn push_status(out: &mut Vec<u8>, status: &JobStatus) -> Result<(), AllocError>
     ensures { OnOk result (out.new.items ≡ out.old.items ++ status_line (status_seen status.now)) }
 {
@@ -182,7 +182,7 @@ fn push_status(out: &mut Vec<u8>, status: &JobStatus) -> Result<(), AllocError>
 }
 
 /// The text of a report: for each superstep its prints and its record, then the arrays in declared order, then how the
-/// job ended, each on a line of its own (own).
+/// job ended, each on a line of its own.
 pub fn text_of(alloc: Global, report: &Report) -> Result<Vec<u8>, AllocError>
     ensures { IfOk result (λ text. text.items ≡ report_text report.now) }
 {
@@ -194,7 +194,7 @@ pub fn text_of(alloc: Global, report: &Report) -> Result<Vec<u8>, AllocError>
 }
 
 /// Writes the text of a report: for each superstep its prints and its record, then the arrays in declared order, then
-/// how the job ended, each on a line of its own (own). All memory is taken before the first byte is written.
+/// how the job ended, each on a line of its own. All memory is taken before the first byte is written.
 pub fn write_report<W: CountedWrite>(
     alloc: Global,
     report: &Report,

@@ -18,14 +18,14 @@ use Rattle.job_words.proofs.SaidLemmas.{made-ok, and-true}
 use Rattle.job_words.proofs.GrowLemmas.{and-left}
 use Rattle.job_reader.specs.Trees.{JobTree}
 use Rattle.job_reader.proofs.ToldOuter.{bind-ok}
-use Rattle.job_reader.specs.Above.{Above, nothing}
+use Rattle.job_reader.specs.Above.{Above}
 use Rattle.job_reader.specs.Reading.{◌>>=◌, at, refused, format_of, outer_of, declared_by, declared, read_from, unless_bad, job_in}
 use Rattle.text_laws.specs.Laws.{IsTextOfJob}
 use Rattle.text_laws.proofs.Joined.{texts-are-read}
 use Rattle.text_laws.specs.Refusals.{IsRefusedOfALine, IsABeginning, above, declared_in, named_in, missing_in, empty_bodies, LinesAboveGoOn, BeginAlike, IsOfItsLine, RefusalsAreOfALineOrTextsGoOn}
 use Rattle.text_laws.proofs.Named.{open_name, so_far, lines-tell}
 use Rattle.text_laws.proofs.Lacking.{lacking-read, lacking-free, empty-declare, empty-whole, empty-allowed, empty-found, all-known, lines-found}
-use Rattle.text_laws.proofs.Seen.{SeenBody, Seen, seen}
+use Rattle.text_laws.proofs.Seen.{SeenBody, Seen}
 use Rattle.text_laws.proofs.Folds.{IsFault, step, read, glance, see_first, see_words, see_lines, told, read-next, step-seen}
 use Rattle.text_laws.proofs.BadLines.{by-lines}
 use Rattle.text_laws.proofs.Closing.{IsClosed, lines-append, end_line, ends, ends-few, lines-within, closes}

@@ -30,11 +30,13 @@ use Rattle.job_reader.specs.Grammar.{block_lines, header_words, array_words, nam
 use Rattle.job_reader.proofs.CodeLemmas.{block-code}
 use Rattle.text_laws.specs.Canonical.{CanonicalTextsAreTexts}
 use Rattle.text_laws.proofs.TextOfLines.{is_printed, is_plain_line, lines-back, bytes-allowed}
-use Rattle.text_laws.proofs.PrintedLines.{fits-signed, name-printed, decimal-printed, number-printed, line-is, line-plain}
+use Rattle.text_lines.proofs.NumbersLemmas.{fits as fits-signed}
+use Rattle.text_laws.proofs.PrintedLines.{name-printed, decimal-printed, number-printed, line-is, line-plain}
 use Rattle.text_laws.proofs.MentionedLocals.{AllLines, code-mentions, noted-firsts}
 use Rattle.job_reader.proofs.NotedNames.{same-number}
 use Rattle.text_laws.proofs.Heads.{listed-names}
 use Rattle.text_laws.proofs.CanonicalItems.{canonical_items, items-said, items-written, AllSound, items-sound}
+use Rattle.text_laws.proofs.Fitting.{below}
 
 -- What the lines of a body need: names of their own, all that they name is there, their numbers fit, and in format 1 the
 -- locals stand by first mention and no line is an add.
@@ -126,9 +128,6 @@ arrays-plain [] e f = refl
 arrays-plain (x ∷ xs) e f =
     and-true _ _ (array-plain x (and-left _ (list_all is_array xs) e) (and-left _ (list_all (λ a. list_all fits_i64 a.1) xs) f))
     (arrays-plain xs (and-right (is_array x) _ e) (and-right (list_all fits_i64 x.1) _ f))
-
-below : (i n : ℕ) → nat_lt i n ≡ true → i < n
-below i n e = grind (arith, common_steps)
 
 starts-plain : (bodies : List Word) (ss : List Start) → are_names bodies ≡ true → list_all (λ s. nat_lt s.body (length bodies)) ss ≡ true → list_all (λ s. fits_i64 s.arg) ss ≡ true
     → list_all is_plain_line (start_lines bodies ss) ≡ true

@@ -3,7 +3,7 @@ use Rattle.std.proofs.Common.{◌≡◌, inl, inr, ℕ, suc, ◌+◌, ◌-◌, �
 use Rattle.std.specs.Prelude.{if◌then◌else◌, nat_le, nat_lt, ◌||◌, not, ℤ}
 use Rattle.std.proofs.lemmas.Grind.{common_steps}
 use Rattle.text_lines.specs.declared.refusal.Code.{Code}
-use Rattle.text_lines.specs.declared.refusal.Code.TheVariants.{Twice, TooMany, BadHeader}
+use Rattle.text_lines.specs.declared.refusal.Code.TheVariants.{Twice, TooMany}
 use Rattle.text_lines.specs.Text.{words_of, is_skipped}
 use Rattle.task_code.specs.Names.{is_among}
 use Rattle.task_code.specs.declared.job.Start.{Start}
@@ -23,6 +23,7 @@ use Rattle.job_reader.proofs.ToldOuter.{bind-ok}
 use Rattle.job_reader.proofs.LocalsBehind.{behind-none}
 use Rattle.text_laws.proofs.Seen.{Kind, AnIf, AnElse, AWhile, SeenBody, Seen, seen, see_array, see_body, see_start, see_outer, see_step, see_else, see_behind, see_said, see_mentioning, see_any, see}
 use Rattle.text_laws.proofs.Folds.{see_first, see_words, see_lines, skip-ok}
+use Rattle.job_reader.proofs.KeptJobs.{at-most}
 
 -- an open body is within its limits
 abbrev pub IsWithin : Option SeenBody → Type 0
@@ -100,9 +101,6 @@ few-listed true b c x y e = absurd cc
 few-listed false true c x y e = absurd cc
 few-listed false false true x y e = absurd cc
 few-listed false false false x y e = refl
-
-at-most : (a b : ℕ) → nat_lt b a ≡ false → a ≤ b
-at-most a b e = grind (arith, common_steps)
 
 listed-few : (v : Seen) (head : Word × List Word) (w : Seen) → see_body v head ≡ Ok w → length head.1 ≤ 32
 listed-few v head w e =

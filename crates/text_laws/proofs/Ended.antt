@@ -33,10 +33,7 @@ use Rattle.text_laws.proofs.Seen.{Seen, seen_body, seen}
 use Rattle.text_laws.proofs.Folds.{step, read, glance, see_words, see_lines, missing_in, header-missing, skip-ok, read-next, step-seen}
 use Rattle.text_laws.proofs.BadLines.{bad_line, by-lines}
 use Rattle.text_laws.proofs.Held.{short-read}
-
-not-true : (b : Bool) → not b ≡ true → b ≡ false
-not-true true e = absurd cc
-not-true false e = refl
+use Rattle.job_words.proofs.WrittenLemmas.{not-true}
 
 -- the bodies that these lines name are there
 abbrev pub are_found : List Word → List (List ℕ) → Bool

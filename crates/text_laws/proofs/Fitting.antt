@@ -1,9 +1,7 @@
 -- A line that fits its names may be written by them.
-use Rattle.std.proofs.Common.{◌≡◌, ℕ, ◌<◌, true, false, List, [], ◌∷◌, length, Some, ℤ, pos, negsuc, FitsSigned, w64, refl, ap, arith}
+use Rattle.std.proofs.Common.{◌≡◌, ℕ, ◌<◌, true, false, List, [], ◌∷◌, length, Some, refl, ap}
 use Rattle.std.specs.Prelude.{not, nat_lt}
 use Rattle.std.proofs.lemmas.Bool.{ltb-true}
-use Rattle.std.proofs.lemmas.Grind.{common_steps}
-use Rattle.text_lines.specs.Number.{fits_i64}
 use Rattle.task_code.specs.Names.{are_names}
 use Rattle.task_code.specs.Mentions as mentions
 use Rattle.task_code.specs.Limits.{is_operand, is_expr, is_action, fits_index, fits_operand, fits_expr, fits_action, fits_line}
@@ -29,12 +27,9 @@ use Rattle.job_words.proofs.WrittenLines.{ActionIs, LineIs}
 use Rattle.job_reader.specs.Above.{can_else}
 use Rattle.job_reader.specs.Reading.{is_missing}
 use Rattle.text_laws.proofs.Known.{are_below, name-among}
+use Rattle.text_lines.proofs.NumbersLemmas.{fits as number-fits}
 
-pub number-fits : (n : ℤ) → fits_i64 n ≡ true → FitsSigned w64 n
-number-fits (pos n) h = grind (arith, common_steps)
-number-fits (negsuc n) h = grind (arith, common_steps)
-
-below : (i n : ℕ) → nat_lt i n ≡ true → i < n
+pub below : (i n : ℕ) → nat_lt i n ≡ true → i < n
 below i n e = ltb-true i n e
 
 index-is : (locals : List Word) (i : Index) → fits_index i ≡ true → are_below (length locals) (mentions.in_index i) ≡ true → IndexIs locals i

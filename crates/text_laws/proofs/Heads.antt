@@ -1,17 +1,19 @@
 -- The first line of a body, as it is written, is read.
-use Rattle.std.proofs.Common.{◌≡◌, ℕ, ◌≤◌, Bool, true, false, ◌&&◌, List, [], ◌∷◌, length, Result, Ok, Err, refl, sym, ap, ◌∙◌, arith}
-use Rattle.std.specs.Prelude.{◌||◌, ◌==◌, not, if◌then◌else◌}
+use Rattle.std.proofs.Common.{◌≡◌, ℕ, ◌≤◌, Bool, true, false, List, [], ◌∷◌, length, Result, Ok, Err, refl, ap, ◌∙◌, arith}
+use Rattle.std.specs.Prelude.{◌==◌, not, if◌then◌else◌}
 use Rattle.std.specs.List.{list_all, list_any}
 use Rattle.text_lines.specs.declared.refusal.Code.{Code}
 use Rattle.text_lines.specs.declared.refusal.Code.TheVariants.{BadName, BadLine, Reserved}
 use Rattle.task_code.specs.Names.{is_name, is_reserved, is_free, is_among, are_names}
 use Rattle.job_words.specs.Faults.{both, made}
-use Rattle.job_words.specs.Words.{Word, Words, named}
+use Rattle.job_words.specs.Words.{Word, named}
 use Rattle.job_words.proofs.GrowLemmas.{and-left, and-right}
 use Rattle.job_words.proofs.SaidLemmas.{and-true}
-use Rattle.job_words.proofs.WrittenLemmas.{named-free}
+use Rattle.job_words.proofs.WrittenLemmas.{named-free, not-true}
 use Rattle.job_reader.specs.Grammar.{listed_in}
 use Rattle.job_reader.specs.Reading.{all_named, may_list, body_of, are_apart}
+use Rattle.job_reader.proofs.NotedNames.{or-false as or-none}
+use Rattle.text_laws.proofs.Known.{first-free as free-of, names-rest as rest-of}
 
 none-first : (format : ℕ) (ls : List Word) → (format == 1) ≡ false → may_list format ls ≡ true
 none-first format [] e = refl
@@ -23,20 +25,6 @@ may-listed format ls = by (format == 1) refl
     by : (b : Bool) → (format == 1) ≡ b → may_list format (if b then [] else ls) ≡ true
     by true e = refl
     by false e = none-first format ls e
-
-not-true : (b : Bool) → not b ≡ true → b ≡ false
-not-true true e = absurd cc
-not-true false e = refl
-
-or-none : (a b : Bool) → a ≡ false → b ≡ false → (a || b) ≡ false
-or-none true b e f = absurd cc
-or-none false b e f = f
-
-free-of : (n : Word) (ns : List Word) → are_names (n ∷ ns) ≡ true → is_free n ≡ true
-free-of n ns e = and-left (is_free n) (not (is_among ns n)) (and-left _ (are_names ns) e)
-
-rest-of : (n : Word) (ns : List Word) → are_names (n ∷ ns) ≡ true → are_names ns ≡ true
-rest-of n ns e = and-right (is_free n && not (is_among ns n)) (are_names ns) e
 
 none-reserved : (ns : List Word) → are_names ns ≡ true → list_any is_reserved ns ≡ false
 none-reserved [] e = refl

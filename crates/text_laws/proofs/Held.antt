@@ -14,9 +14,7 @@ use Rattle.text_laws.proofs.Joined.{texts-are-read}
 use Rattle.text_laws.specs.Refusals.{IsRefusedOfALine, BeginAlike, RefusalsHoldForAllThatFollows, PlainTextsAreRefusedAlike, LinesAboveAreRead}
 use Rattle.text_laws.proofs.Folds.{IsFault, IsLate, told, stays}
 use Rattle.text_laws.proofs.BadLines.{bad_line, by-lines, found-in-front, found-behind}
-
-short-text : (n : ℕ) → n ≤ 1048576 → nat_lt 1048576 n ≡ false
-short-text n h = grind (arith, common_steps)
+use Rattle.job_reader.proofs.ReadJobs.{short-enough as short-text}
 
 -- a short text is read behind its bytes
 pub short-read : (text : List ℕ) → length text ≤ 1048576

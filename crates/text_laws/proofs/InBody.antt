@@ -34,6 +34,7 @@ use Rattle.text_laws.proofs.Chain.{Passes, Reads}
 use Rattle.text_laws.proofs.Mentioned.{named_at, line-mentions}
 use Rattle.text_laws.proofs.Known.{are_below, all-known, names-front, noted-all}
 use Rattle.text_laws.proofs.Fitting.{locals-below, line-is, line-found}
+use Rattle.job_reader.proofs.BodyCounts.{length-step as step-opens}
 
 -- an open body with its locals behind a line
 abbrev pub noting : ℕ → Inside → Words → Inside
@@ -94,22 +95,6 @@ opens-read n (line.Else m) = refl
 opens-read n line.EndIf = refl
 opens-read n (line.While e m) = refl
 opens-read n (line.EndWhile e m) = refl
-
--- how many lines are open behind a line
-step-opens : (l : Line) (fs : List Frame) (b : Block) (s : List Frame × Block) → step_of l fs b ≡ Some s → length s.0 ≡ opened (length fs) l
-step-opens (line.Do a) fs b s e = let same : fs ≡ s.0 = cc in ap (λ (x : List Frame). length x) (sym same)
-step-opens (line.If x n) fs b s e =
-    let same : InIf x b ∷ fs ≡ s.0 = cc in ap (λ (x : List Frame). length x) (sym same) ∙ omega arith
-step-opens (line.Else n) [] b s e = absurd cc
-step-opens (line.Else n) (InIf x y ∷ fs) b s e = let same : InElse x y b ∷ fs ≡ s.0 = cc in ap (λ (x : List Frame). length x) (sym same)
-step-opens (line.Else n) (InElse x y z ∷ fs) b s e = absurd cc
-step-opens (line.Else n) (InWhile x y ∷ fs) b s e = absurd cc
-step-opens line.EndIf [] b s e = absurd cc
-step-opens line.EndIf (f ∷ fs) b s e = let same : fs ≡ s.0 = cc in ap (λ (x : List Frame). length x) (sym same) ∙ omega arith
-step-opens (line.While x n) fs b s e =
-    let same : InWhile x b ∷ fs ≡ s.0 = cc in ap (λ (x : List Frame). length x) (sym same) ∙ omega arith
-step-opens (line.EndWhile x n) [] b s e = absurd cc
-step-opens (line.EndWhile x n) (f ∷ fs) b s e = let same : fs ≡ s.0 = cc in ap (λ (x : List Frame). length x) (sym same) ∙ omega arith
 
 then-some : {A B : Type 0} (o : Option A) (f : A → Option B) (y : B) → option_and_then f o ≡ Some y → (x : A) × (o ≡ Some x) × (f x ≡ Some y)
 then-some None f y e = absurd cc

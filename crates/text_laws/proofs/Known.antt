@@ -4,45 +4,18 @@ use Rattle.std.specs.Prelude.{if◌then◌else◌, not, ◌||◌, nat_lt}
 use Rattle.std.specs.List.{list_all}
 use Rattle.std.specs.Str.{bytes_eq}
 use Rattle.std.proofs.lemmas.Bool.{ltb-true}
-use Rattle.std.proofs.lemmas.Slice.Eq.{bytes_eq-Decides}
 use Rattle.task_code.specs.Names.{is_free, is_among, are_names}
 use Rattle.job_words.specs.Words.{Word, name_at, noted}
 use Rattle.job_words.proofs.SaidLemmas.{and-true, below-true, same-word}
 use Rattle.job_words.proofs.GrowLemmas.{and-left, and-right, noted-grows}
 use Rattle.job_words.proofs.NotedLemmas.{among-some}
-use Rattle.job_words.proofs.WrittenLemmas.{same-bytes, place-name}
+use Rattle.job_words.proofs.WrittenLemmas.{same-bytes, place-name, not-true, or-left, or-right, among-not}
 use Rattle.text_laws.proofs.Mentioned.{named_at}
-
-not-true : (b : Bool) → not b ≡ true → b ≡ false
-not-true true e = absurd cc
-not-true false e = refl
-
-or-left : (a b : Bool) → (a || b) ≡ false → a ≡ false
-or-left true b e = absurd cc
-or-left false b e = refl
-
-or-right : (a b : Bool) → (a || b) ≡ false → b ≡ false
-or-right true b e = absurd cc
-or-right false b e = e
+use Rattle.job_words.proofs.WrittenExprs.{or-true}
 
 -- a declared name is among its names
 pub name-among : (names : List Word) (i : ℕ) → are_names names ≡ true → i < length names → is_among names (name_at names i) ≡ true
 name-among names i e h = among-some 0 names (name_at names i) (0 + i) (place-name 0 names i e h)
-
--- another name has other bytes
-among-not : (ns : List Word) (n : Word) (i : ℕ) → is_among ns n ≡ false → i < length ns → bytes_eq n (name_at ns i) ≡ false
-among-not [] n i e h = absurd (omega arith)
-among-not (m ∷ ns) n zero e h = turned (bytes_eq n m) refl
-  where
-    turned : (b : Bool) → bytes_eq n m ≡ b → b ≡ false
-    turned true g =
-        let same : m ≡ n = sym (same-word n m g) in
-        let yes : bytes_eq m n ≡ true = (bytes_eq-Decides m n).1 same in
-        let none : bytes_eq m n ≡ false = or-left (bytes_eq m n) (is_among ns n) e in
-        let both : true ≡ false = sym yes ∙ none in
-        absurd cc
-    turned false g = refl
-among-not (m ∷ ns) n (suc i) e h = among-not ns n i (or-right (bytes_eq m n) (is_among ns n) e) (omega arith)
 
 pub first-new : (n : Word) (ns : List Word) → are_names (n ∷ ns) ≡ true → is_among ns n ≡ false
 first-new n ns e = not-true (is_among ns n) (and-right (is_free n) _ (and-left _ (are_names ns) e))
@@ -94,10 +67,6 @@ names-front (p ∷ ps) more e =
     and-true _ _
     (and-true _ _ (first-free p (ps ++ more) e) (ap not (front-apart ps more p (first-new p (ps ++ more) e))))
     (names-front ps more (names-rest p (ps ++ more) e))
-
-or-true : (a b : Bool) → b ≡ true → (a || b) ≡ true
-or-true true b e = refl
-or-true false b e = e
 
 among-here : (front : List Word) (n : Word) (more : List Word) → is_among (front ++ n ∷ more) n ≡ true
 among-here [] n more = ap (λ (b : Bool). b || is_among more n) (same-bytes n)

@@ -21,6 +21,9 @@ use Rattle.text_laws.proofs.Seen.{Seen, see_body, see_any}
 use Rattle.text_laws.proofs.Folds.{see_words, see_lines}
 use Rattle.text_laws.proofs.Closing.{IsClosed, begun_body, after_body, begun-within, end_line, end-read}
 use Rattle.text_laws.proofs.Ended.{are_found, are_allowed}
+use Rattle.job_words.proofs.WrittenExprs.{or-true}
+use Rattle.job_reader.proofs.NotedNames.{or-true-left as or-this}
+use Rattle.text_laws.proofs.TextOfLines.{all-through}
 
 -- the bytes of names
 word-byte : (c : ℕ) → is_in_name c ≡ true → not (c == 32) ≡ true
@@ -31,10 +34,6 @@ line-byte c e = grind (arith, common_steps)
 
 allowed-byte : (c : ℕ) → is_in_name c ≡ true → is_allowed c ≡ true
 allowed-byte c e = grind (arith, common_steps)
-
-all-through : (p q : ℕ → Bool) (w : Word) → ((c : ℕ) → p c ≡ true → q c ≡ true) → list_all p w ≡ true → list_all q w ≡ true
-all-through p q [] h e = refl
-all-through p q (c ∷ cs) h e = and-true _ _ (h c (and-left _ (list_all p cs) e)) (all-through p q cs h (and-right (p c) _ e))
 
 name-bytes : (w : Word) → is_free w ≡ true → list_all is_in_name w ≡ true
 name-bytes w e = and-right (begins_lower w && nat_le (length w) 16) _ (and-left _ (not (is_reserved w)) e)
@@ -154,15 +153,6 @@ empty-allowed ns e = empty-all (λ l. list_all is_allowed l) ns body-allowed ref
 
 pub empty-found : (bodies ns : List Word) → list_all is_free ns ≡ true → are_found bodies (empty_bodies ns) ≡ true
 empty-found bodies ns e = empty-all (λ l. not (is_missing bodies (words_of l))) ns (λ w f. not-missing w f bodies) refl e
-
--- names that are named are there, or among those that are missing
-or-true : (a b : Bool) → b ≡ true → (a || b) ≡ true
-or-true true b e = refl
-or-true false b e = e
-
-or-this : (a b : Bool) → a ≡ true → (a || b) ≡ true
-or-this true b e = refl
-or-this false b e = absurd cc
 
 among-or : (a b c : Bool) → (a || b) ≡ true → (b ≡ true → c ≡ true) → (a || c) ≡ true
 among-or true b c e h = refl

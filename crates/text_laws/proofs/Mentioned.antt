@@ -1,12 +1,11 @@
 -- A written line mentions the locals of its line, in their order.
-use Rattle.std.proofs.Common.{◌≡◌, ℕ, Bool, true, false, List, [], ◌∷◌, ◌++◌, map, refl, sym, ap, ◌∙◌, arith, codes}
-use Rattle.std.specs.Prelude.{if◌then◌else◌, not, ◌||◌, ◌&&◌, ◌==◌, nat_le}
+use Rattle.std.proofs.Common.{◌≡◌, ℕ, Bool, true, false, List, [], ◌∷◌, ◌++◌, map, refl, sym, ap, ◌∙◌, codes}
+use Rattle.std.specs.Prelude.{if◌then◌else◌, ◌||◌}
 use Rattle.text_lines.proofs.NumbersLemmas.{number-begins}
 use Rattle.std.specs.Fmt.{signed_decimal}
 use Rattle.std.specs.Str.{bytes_eq}
 use Rattle.std.proofs.lemmas.List.{map-append}
-use Rattle.std.proofs.lemmas.Grind.{common_steps}
-use Rattle.task_code.specs.Names.{is_lower, is_name, is_reserved, is_free, are_names}
+use Rattle.task_code.specs.Names.{is_name, is_reserved, is_free, are_names}
 use Rattle.task_code.specs.Mentions as mentions
 use Rattle.task_code.specs.declared.code.Index.{Index}
 use Rattle.task_code.specs.declared.code.Index.TheVariants as index
@@ -20,54 +19,14 @@ use Rattle.task_code.specs.declared.code.Action.TheVariants as action
 use Rattle.task_code.specs.declared.code.Line.{Line}
 use Rattle.task_code.specs.declared.code.Line.TheVariants as line
 use Rattle.superstep_memory.specs.declared.arrays.PutKind.TheVariants.{Set, Add}
-use Rattle.job_words.specs.Words.{Word, begins_number, name_at, index_word, in_index}
-use Rattle.job_words.specs.Exprs.{Names, cell_parts, cell_word, has_bracket, operand_word, expr_words, in_parts, in_operand, in_expr}
+use Rattle.job_words.specs.Words.{Word, name_at, index_word, in_index}
+use Rattle.job_words.specs.Exprs.{Names, cell_word, operand_word, expr_words, in_parts, in_operand, in_expr}
 use Rattle.job_words.specs.Lines.{line_words, keyword_of, mentions_behind, mentions_of}
-use Rattle.job_words.proofs.SaidLemmas.{same-word}
-use Rattle.job_words.proofs.GrowLemmas.{and-left, and-right}
-use Rattle.job_words.proofs.WrittenLemmas.{names-free}
-use Rattle.job_words.proofs.WrittenExprs.{
-  is_plain,
-  plain-cell,
-  cell-bracket,
-  plain-bracket,
-  name-plain,
-  number-plain,
-  AreGood,
-  IndexIs,
-  CellIs,
-  OperandIs,
-  ExprIs,
-}
+use Rattle.job_words.proofs.GrowLemmas.{and-right}
+use Rattle.job_words.proofs.WrittenLemmas.{names-free, not-true, other-word, arg-reserved, step-reserved, free-begins}
+use Rattle.job_words.proofs.WrittenExprs.{plain-cell, cell-bracket, plain-bracket, name-plain, AreGood, IndexIs, CellIs, OperandIs, ExprIs, index-plain}
 use Rattle.job_words.proofs.WrittenLines.{ActionIs, LineIs}
-
-not-true : (b : Bool) → not b ≡ true → b ≡ false
-not-true true e = absurd cc
-not-true false e = refl
-
--- a reserved word is no name that may be used
-other-word : (b : Bool) (w k : Word) → bytes_eq w k ≡ b → is_reserved k ≡ true → is_reserved w ≡ false → b ≡ false
-other-word true w k h r f = let same = ap is_reserved (same-word w k h) in let both : true ≡ false = sym r ∙ sym same ∙ f in absurd cc
-other-word false w k h r f = refl
-
-arg-reserved : is_reserved (codes "arg") ≡ true
-unfolding is_reserved
-arg-reserved = refl
-
-step-reserved : is_reserved (codes "step") ≡ true
-unfolding is_reserved
-step-reserved = refl
-
-lower-digit : (c : ℕ) → is_lower c ≡ true → ((c == 45) || (nat_le 48 c && nat_le c 57)) ≡ false
-lower-digit c e = grind (arith, common_steps)
-
-free-begins : (w : Word) → is_free w ≡ true → begins_number w ≡ false
-free-begins [] e = refl
-free-begins (c ∷ cs) e = lower-digit c (and-left _ _ (and-left _ _ (and-left _ (not (is_reserved (c ∷ cs))) e)))
-
-number-none : (w : Word) → begins_number w ≡ true → in_index w ≡ []
-unfolding in_index
-number-none w h = ap (λ (b : Bool). if b || bytes_eq w (codes "arg") || bytes_eq w (codes "step") then [] else w ∷ []) h
+use Rattle.text_laws.proofs.MentionedLocals.{number-none, arg-none, step-none, operand-if as operand-by}
 
 name-one : (w : Word) → is_free w ≡ true → in_index w ≡ w ∷ []
 unfolding in_index
@@ -79,14 +38,6 @@ name-one w free =
     ∙ ap (λ (b : Bool). if b || bytes_eq w (codes "step") then [] else w ∷ []) arg
     ∙ ap (λ (b : Bool). if b then [] else w ∷ []) step
 
-arg-none : in_index (codes "arg") ≡ []
-unfolding in_index
-arg-none = refl
-
-step-none : in_index (codes "step") ≡ []
-unfolding in_index
-step-none = refl
-
 -- the names of locals
 abbrev pub named_at : List Word → List ℕ → List Word
 named_at locals is = map (name_at locals) is
@@ -96,16 +47,6 @@ index-mentions locals (index.Number n) e h = number-none (signed_decimal n) (num
 index-mentions locals (index.Local i) e h = name-one (name_at locals i) (names-free locals i e h)
 index-mentions locals index.Arg e h = arg-none
 index-mentions locals index.Step e h = step-none
-
-index-plain : (locals : List Word) (i : Index) → are_names locals ≡ true → IndexIs locals i → is_plain (index_word locals i) ≡ true
-index-plain locals (index.Number n) e h = number-plain n h
-index-plain locals (index.Local i) e h = name-plain (name_at locals i) (names-free locals i e h)
-index-plain locals index.Arg e h = refl
-index-plain locals index.Step e h = refl
-
-operand-by : (w : Word) (b : Bool) → has_bracket w ≡ b → in_operand w ≡ (if b then in_parts (cell_parts w) else in_index w)
-unfolding in_operand
-operand-by w b h = ap (λ (t : Bool). if t then in_parts (cell_parts w) else in_index w) h
 
 cell-mentions : (s : Names) (c : Cell) → AreGood s → CellIs s c → in_operand (cell_word s c) ≡ named_at s.locals (mentions.in_index c.index)
 cell-mentions s c g h =

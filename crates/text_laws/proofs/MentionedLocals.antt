@@ -28,7 +28,7 @@ use Rattle.job_words.specs.Lines.{keyword_of, line_words, action_words, mentions
 use Rattle.job_words.proofs.GrowLemmas.{and-left, and-right}
 use Rattle.job_words.proofs.WrittenLemmas.{names-free, local-written}
 use Rattle.text_lines.proofs.NumbersLemmas.{number-begins}
-use Rattle.job_words.proofs.WrittenExprs.{is_plain, plain-cell, cell-bracket, plain-bracket, name-plain, number-plain, IndexIs, AreGood, CellIs, OperandIs, ExprIs}
+use Rattle.job_words.proofs.WrittenExprs.{plain-cell, cell-bracket, plain-bracket, name-plain, IndexIs, AreGood, CellIs, OperandIs, ExprIs, index-plain}
 use Rattle.job_words.proofs.WrittenLines.{ActionIs, LineIs}
 use Rattle.job_reader.specs.Writing.{code_lines}
 use Rattle.job_reader.proofs.NotedNames.{among-below, among-beyond, take-next, same-number}
@@ -37,7 +37,7 @@ number-mentions : (w : Word) (a b c : Bool) → a ≡ true → (if a || b || c t
 number-mentions w true b c e = refl
 number-mentions w false b c e = absurd cc
 
-number-none : (w : Word) → begins_number w ≡ true → in_index w ≡ []
+pub number-none : (w : Word) → begins_number w ≡ true → in_index w ≡ []
 unfolding in_index
 number-none w e = number-mentions w (begins_number w) (bytes_eq w (codes "arg")) (bytes_eq w (codes "step")) e
 
@@ -56,11 +56,11 @@ unfolding in_index index_of
 local-one locals w i e =
     local-cases w i (begins_number w) (bytes_eq w (codes "arg")) (bytes_eq w (codes "step")) (numbered w) (made index.Local (declared_at locals w)) e
 
-arg-none : in_index (codes "arg") ≡ []
+pub arg-none : in_index (codes "arg") ≡ []
 unfolding in_index
 arg-none = refl
 
-step-none : in_index (codes "step") ≡ []
+pub step-none : in_index (codes "step") ≡ []
 unfolding in_index
 step-none = refl
 
@@ -71,13 +71,7 @@ index-mentions locals (index.Local i) g h = local-one locals (name_at locals i) 
 index-mentions locals index.Arg g h = arg-none
 index-mentions locals index.Step g h = step-none
 
-index-plain : (locals : List Word) (i : Index) → are_names locals ≡ true → IndexIs locals i → is_plain (index_word locals i) ≡ true
-index-plain locals (index.Number n) g h = number-plain n h
-index-plain locals (index.Local i) g h = name-plain (name_at locals i) (names-free locals i g h)
-index-plain locals index.Arg g h = refl
-index-plain locals index.Step g h = refl
-
-operand-if : (w : Word) (b : Bool) → has_bracket w ≡ b → in_operand w ≡ (if b then in_parts (cell_parts w) else in_index w)
+pub operand-if : (w : Word) (b : Bool) → has_bracket w ≡ b → in_operand w ≡ (if b then in_parts (cell_parts w) else in_index w)
 unfolding in_operand
 operand-if w b e = ap (λ (x : Bool). if x then in_parts (cell_parts w) else in_index w) e
 

@@ -1,13 +1,11 @@
 -- The bodies that lines declare and name, where they are read.
-use Rattle.std.proofs.Common.{◌≡◌, ℕ, Bool, true, false, ◌&&◌, List, [], ◌∷◌, ◌++◌, codes, Option, Some, None, Result, Ok, Err, refl, sym, ap, subst, ◌∙◌, arith, append-nil, nat_eq}
+use Rattle.std.proofs.Common.{◌≡◌, ℕ, Bool, true, false, ◌&&◌, List, [], ◌∷◌, ◌++◌, codes, Option, Some, None, Result, Ok, Err, refl, sym, ap, subst, ◌∙◌, append-nil}
 use Rattle.std.specs.Prelude.{if◌then◌else◌, not, length}
 use Rattle.std.specs.List.{cons_option, list_all}
-use Rattle.std.specs.Str.{bytes_eq}
-use Rattle.std.proofs.lemmas.Grind.{common_steps}
 use Rattle.text_lines.specs.declared.refusal.Code.{Code}
-use Rattle.text_lines.specs.declared.refusal.Code.TheVariants.{TooMany, BadHeader, Reserved, BadName}
+use Rattle.text_lines.specs.declared.refusal.Code.TheVariants.{TooMany, Reserved, BadName}
 use Rattle.text_lines.specs.Text.{words_of, is_skipped}
-use Rattle.task_code.specs.Names.{is_free, is_name, is_reserved}
+use Rattle.task_code.specs.Names.{is_free}
 use Rattle.task_code.specs.Limits.{opened}
 use Rattle.task_code.specs.declared.code.Line.{Line}
 use Rattle.task_code.specs.declared.job.Start.{Start}
@@ -18,7 +16,7 @@ use Rattle.job_words.specs.Exprs.{Names, expr_of}
 use Rattle.job_words.specs.declared.lines.Keyword.{Keyword}
 use Rattle.job_words.specs.declared.lines.Keyword.TheVariants.{Let, Put, Print, Spawn, Sync, Stop, If, Else, While, End}
 use Rattle.job_words.specs.Lines.{keyword_of, known_in, line_behind, body_at, spawn_line, spawn_of}
-use Rattle.job_words.proofs.SaidLemmas.{made-ok, both-ok, and-true, same-word}
+use Rattle.job_words.proofs.SaidLemmas.{made-ok, both-ok, and-true}
 use Rattle.job_words.proofs.GrowLemmas.{and-left}
 use Rattle.job_words.proofs.LineSaid.{keyword_text, keyword-said}
 use Rattle.job_reader.specs.declared.outer.Outer.{Outer}
@@ -26,7 +24,7 @@ use Rattle.job_reader.specs.declared.outer.Outer.TheVariants as outer
 use Rattle.job_reader.specs.Above.{nothing, statements_behind}
 use Rattle.job_reader.specs.Reading.{◌>>=◌, format_of, outer_of, name_if_body, declared_by, array_of, body_of, start_of, start_from, is_over}
 use Rattle.job_reader.proofs.ToldOuter.{bind-ok, outer-said}
-use Rattle.job_reader.proofs.ToldNames.{listed, listed-first, skipped-none}
+use Rattle.job_reader.proofs.ToldNames.{listed, listed-first, skipped-none, no-body, is-hash}
 use Rattle.text_laws.specs.Refusals.{named_by, declared_in, named_in}
 use Rattle.text_laws.proofs.Seen.{Kind, SeenBody, Seen, seen, see_array, see_body, see_start, see_outer, see_step, see_else, see_behind, see_said, see_mentioning, see_any, see}
 use Rattle.text_laws.proofs.Folds.{see_first, see_words, see_lines}
@@ -36,6 +34,7 @@ use Rattle.job_reader.proofs.Headers.{header-said}
 use Rattle.job_reader.proofs.BodyHeads.{head-parts}
 use Rattle.job_reader.proofs.Known.{known-cases}
 use Rattle.text_laws.proofs.Closing.{if-ok, array-after, body-after, start-after}
+use Rattle.job_reader.proofs.ReadWords.{free-named}
 
 abbrev pub open_name : Option SeenBody → List Word
 open_name None = []
@@ -58,26 +57,8 @@ named-cases true b u e = absurd cc
 named-cases false true u e = refl
 named-cases false false u e = absurd cc
 
-free-named : (w : Word) (u : Unit {0}) → named w ≡ Ok u → is_free w ≡ true
-free-named w u e = named-cases (is_reserved w) (is_name w) u e
-
 one-free : (w : Word) → is_free w ≡ true → list_all is_free (w ∷ []) ≡ true
 one-free w e = and-true _ true e refl
-
--- lines in a body
-no-body : (k : Keyword) → outer_of (keyword_text k) ≡ None
-unfolding outer_of
-no-body Let = refl
-no-body (Put Set) = refl
-no-body (Put Add) = refl
-no-body Print = refl
-no-body Spawn = refl
-no-body Sync = refl
-no-body Stop = refl
-no-body If = refl
-no-body Else = refl
-no-body While = refl
-no-body End = refl
 
 behind-names : (v : Seen) (o : SeenBody) (n : ℕ) (s : Option (List Kind)) → so_far (see_behind v o n s) ≡ v.bodies ++ o.name ∷ []
 behind-names v o n None = append-nil _
@@ -183,10 +164,6 @@ any-tells v (Some o) (k ∷ ws) w e =
     let s : Names = record { arrays = v.arrays; bodies = []; locals = o'.locals } in
     let b = bind-ok (line_behind s (see_else o'.open_lines) key ws) (see_said v o') w e in
     inner-tells v o' k ws key s (see_else o'.open_lines) w (sym (known-cases s (see_else o'.open_lines) v.format (keyword_of k) ws b.0 b.1)) e
-
--- lines that are skipped
-is-hash : (c : ℕ) → nat_eq c 35 ≡ true → c ≡ 35
-is-hash c h = grind (arith, common_steps)
 
 skipped-free : (ws : Words) → is_skipped ws ≡ true → list_all is_free (listed (named_by ws)) ≡ true
 skipped-free [] e = refl

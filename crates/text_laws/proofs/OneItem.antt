@@ -8,7 +8,6 @@ use Rattle.std.proofs.lemmas.List.Folds.{list_all-append}
 use Rattle.text_lines.specs.declared.refusal.Code.{Code}
 use Rattle.text_lines.specs.declared.refusal.Code.TheVariants.{Twice, TooMany, BadLength}
 use Rattle.text_lines.specs.Number.{fits_i64}
-use Rattle.task_code.specs.Limits.{fits_line}
 use Rattle.task_code.specs.Names.{is_free, is_among, are_names}
 use Rattle.task_code.specs.Rules.{IsBody}
 use Rattle.task_code.specs.Tree.{Block, Done, flat}
@@ -35,7 +34,7 @@ use Rattle.job_reader.proofs.CodeLemmas.{block-code}
 use Rattle.job_reader.proofs.ItemLemmas.{put}
 use Rattle.text_laws.proofs.Chain.{Passes, Reads, reads-append, reads-one}
 use Rattle.text_laws.proofs.Known.{name-among}
-use Rattle.text_laws.proofs.Fitting.{number-fits}
+use Rattle.text_lines.proofs.NumbersLemmas.{fits as number-fits}
 use Rattle.text_laws.proofs.InBody.{names, IsAhead, code-reads, end-passes}
 
 values-read : (ns : List ℤ) → list_all fits_i64 ns ≡ true → all_numbered (map signed_decimal ns) ≡ Ok ns

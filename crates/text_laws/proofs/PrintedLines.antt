@@ -10,7 +10,6 @@ use Rattle.std.proofs.lemmas.Fmt.{decimal_is_IsNumeral}
 use Rattle.std.proofs.lemmas.Str.Parse.{digit_from_value}
 use Rattle.std.proofs.lemmas.Grind.{common_steps}
 use Rattle.std.proofs.lemmas.List.Folds.{list_all-append}
-use Rattle.text_lines.specs.Number.{fits_i64}
 use Rattle.task_code.specs.Names.{begins_lower, is_in_name, is_name, is_reserved, is_free, are_names}
 use Rattle.task_code.specs.Limits.{is_operand, is_expr, is_action, fits_index, fits_operand, fits_expr, fits_action, fits_line}
 use Rattle.task_code.specs.Mentions as mentions
@@ -46,11 +45,8 @@ use Rattle.job_words.proofs.GrowLemmas.{and-left, and-right, all-left, all-right
 use Rattle.job_words.proofs.WrittenLemmas.{names-free}
 use Rattle.job_words.proofs.WrittenExprs.{IndexIs, AreGood, CellIs, OperandIs, ExprIs}
 use Rattle.job_words.proofs.WrittenLines.{ActionIs, LineIs}
-use Rattle.text_laws.proofs.TextOfLines.{is_seen, is_printed, is_plain_line}
-
-pub fits-signed : (n : ℤ) → fits_i64 n ≡ true → FitsSigned w64 n
-fits-signed (pos n) h = grind (arith, common_steps)
-fits-signed (negsuc n) h = grind (arith, common_steps)
+use Rattle.text_laws.proofs.TextOfLines.{is_seen, is_printed, is_plain_line, printed-seen}
+use Rattle.text_lines.proofs.NumbersLemmas.{fits as fits-signed}
 
 name-seen : (c : ℕ) → is_in_name c ≡ true → is_seen c ≡ true
 name-seen c e = grind (arith, common_steps)
@@ -134,10 +130,6 @@ line-is s (line.Else n) e f = refl
 line-is s line.EndIf e f = tt
 line-is s (line.While x n) e f = expr-is s x (and-left _ (list_all (λ i. nat_lt i (length s.locals)) (mentions.in_expr x)) e) f (and-right (is_expr (length s.arrays) x) _ e)
 line-is s (line.EndWhile x n) e f = tt
-
-printed-seen : (w : Word) → is_printed w ≡ true → list_all is_seen w ≡ true
-printed-seen [] e = absurd cc
-printed-seen (c ∷ cs) e = e
 
 behind-printed : (p q : Word) → is_printed p ≡ true → list_all is_seen q ≡ true → is_printed (p ++ q) ≡ true
 behind-printed [] q e f = absurd cc

@@ -11,6 +11,7 @@ use Rattle.job_words.specs.Words.{Word, Words}
 use Rattle.job_words.proofs.SaidLemmas.{and-true}
 use Rattle.job_words.proofs.GrowLemmas.{and-left, and-right}
 use Rattle.job_reader.specs.Grammar.{spaced, line_text, text_of, kept}
+use Rattle.job_words.proofs.WrittenLemmas.{not-true}
 
 -- a byte that is seen in print
 abbrev pub is_seen : ℕ → Bool
@@ -30,10 +31,6 @@ abbrev pub line_bytes : Words → List ℕ
 line_bytes [] = []
 line_bytes (w ∷ ws) = w ++ spaced ws
 
-not-true : (b : Bool) → not b ≡ true → b ≡ false
-not-true true e = absurd cc
-not-true false e = refl
-
 seen-no-lf : (c : ℕ) → is_seen c ≡ true → not (nat_eq c 10) ≡ true
 seen-no-lf c e = grind (arith, common_steps)
 
@@ -43,11 +40,11 @@ seen-no-space c e = grind (arith, common_steps)
 seen-allowed : (c : ℕ) → is_seen c ≡ true → is_allowed c ≡ true
 seen-allowed c e = grind (arith, common_steps)
 
-all-through : (p q : ℕ → Bool) (w : Word) → ((c : ℕ) → p c ≡ true → q c ≡ true) → list_all p w ≡ true → list_all q w ≡ true
+pub all-through : (p q : ℕ → Bool) (w : Word) → ((c : ℕ) → p c ≡ true → q c ≡ true) → list_all p w ≡ true → list_all q w ≡ true
 all-through p q [] h e = refl
 all-through p q (c ∷ cs) h e = and-true _ _ (h c (and-left _ (list_all p cs) e)) (all-through p q cs h (and-right (p c) _ e))
 
-printed-seen : (w : Word) → is_printed w ≡ true → list_all is_seen w ≡ true
+pub printed-seen : (w : Word) → is_printed w ≡ true → list_all is_seen w ≡ true
 printed-seen [] e = absurd cc
 printed-seen (c ∷ cs) e = e
 

@@ -7,6 +7,8 @@ use Rattle.task_code.specs.Names as names
 use Rattle.task_code.specs.Names.{is_lower, is_digit, is_in_name, is_reserved}
 use Rattle.text_lines.specs.Text.{is_allowed}
 use Rattle.text_laws.specs.WorkedNames.{IsFrom, words}
+use Rattle.job_words.proofs.WrittenExprs.{or-true as or_right}
+use Rattle.job_reader.proofs.NotedNames.{or-true-left as or_left}
 
 pub from_to : (a b c : ℕ) → ((nat_le a c && nat_le c b) ≡ true) ↔ IsFrom a b c
 from_to a b c = (λ e. (let low : a ≤ c = grind (arith, common_steps) in let high : c ≤ b = grind (arith, common_steps) in (low, high)), λ h. (let low : a ≤ c = h.0 in let high : c ≤ b = h.1 in grind (arith, common_steps)))
@@ -14,14 +16,6 @@ from_to a b c = (λ e. (let low : a ≤ c = grind (arith, common_steps) in let h
 or_either : (a b : Bool) → (a || b) ≡ true → (a ≡ true) ⊎ (b ≡ true)
 or_either true b e = inl refl
 or_either false b e = inr e
-
-or_right : (a b : Bool) → b ≡ true → (a || b) ≡ true
-or_right true b e = refl
-or_right false b e = e
-
-or_left : (a b : Bool) → a ≡ true → (a || b) ≡ true
-or_left true b e = refl
-or_left false b e = absurd cc
 
 equal : (a b : ℕ) → (a == b) ≡ true → a ≡ b
 equal a b e = grind (arith, common_steps)

@@ -1,5 +1,5 @@
 -- What is upgraded is read as it was written.
-use Rattle.std.proofs.Common.{◌≡◌, ℕ, List, Ok, Result, refl, sym, ap, ◌∙◌}
+use Rattle.std.proofs.Common.{◌≡◌, ℕ, List, Ok, Result, sym, ap, ◌∙◌}
 use Rattle.text_lines.specs.declared.refusal.Refusal.{Refusal}
 use Rattle.job_reader.specs.Trees.{JobTree}
 use Rattle.job_reader.specs.Legal.{flat_job, IsJobTree}

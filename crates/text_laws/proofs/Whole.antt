@@ -1,7 +1,6 @@
 -- A text of a job is read as that job.
-use Rattle.std.proofs.Common.{◌≡◌, ℕ, ◌≤◌, Bool, true, false, List, [], ◌∷◌, length, map, Option, None, Result, Ok, refl, sym, ap, subst, ◌∙◌, arith}
-use Rattle.std.specs.Prelude.{if◌then◌else◌, nat_lt}
-use Rattle.std.proofs.lemmas.Grind.{common_steps}
+use Rattle.std.proofs.Common.{◌≡◌, ℕ, ◌≤◌, Bool, true, List, [], ◌∷◌, length, map, Option, None, Result, Ok, refl, sym, ap, subst, ◌∙◌}
+use Rattle.std.specs.Prelude.{if◌then◌else◌}
 use Rattle.std.proofs.lemmas.List.{length-map}
 use Rattle.text_lines.specs.declared.refusal.Code.TheVariants.{TooLong}
 use Rattle.text_lines.specs.declared.refusal.Refusal.{Refusal}
@@ -17,6 +16,7 @@ use Rattle.text_laws.specs.Laws.{TextsOfJobsAreRead, OneJobAText}
 use Rattle.text_laws.proofs.Chain.{Reads, lines-read, header-read}
 use Rattle.text_laws.proofs.Declares.{job-declared}
 use Rattle.text_laws.proofs.Items.{AreFit, AreItems, IsRoomy, items-fit, items-read, joined-none}
+use Rattle.job_reader.proofs.ReadJobs.{short-enough as short-text}
 
 -- the names of bodies with flat code
 flat-names : (bs : List BodyTree) → map (λ (b : BodyValue). b.name) (map flat_body bs) ≡ map (λ (b : BodyTree). b.name) bs
@@ -49,9 +49,6 @@ text-lines-read ls j job w =
     ap (λ (x : List Word). read_from x 1 ls) looked
     ∙ header-read names j.format ls 1 (items_lines j.format [] names w.items) j job.format w.written
     (λ m behind e. lines-read names behind m (no_job j.format, None) (j, None) j (subst (λ (x : List Words). Reads names x (no_job j.format, None) (j, None)) (sym e) reads) refl)
-
-short-text : (n : ℕ) → n ≤ 1048576 → nat_lt 1048576 n ≡ false
-short-text n h = grind (arith, common_steps)
 
 pub text-of-job-read : TextsOfJobsAreRead
 unfolding job_in

@@ -48,9 +48,8 @@ LinesAboveAreRead =
 
 -- the body that a line names, if it is a `spawn` or a start line
 abbrev pub named_by : Words → Option Word
-named_by [] = None
-named_by (k ∷ []) = None
 named_by (k ∷ b ∷ ws) = if bytes_eq k (codes "spawn") || bytes_eq k (codes "start") then Some b else None
+named_by _ = None
 
 -- the bodies that lines declare, and those that they name
 abbrev pub declared_in : List (List ℕ) → List Word

@@ -4,7 +4,7 @@
 //! * [`laws`]: texts that are a job's: these and no others are read, each as that job.
 //! * [`upgrades`]: what is upgraded is read as it was written; texts of format 2, worked out.
 //! * [`worked`]: bytes and names in numbers; the order of faults; refusals, worked out.
-//! * [`refusals`]: that of a line holds whatever follows it, and what stands above may go on to a job.
+//! * [`refusals`]: the refusal of a line doesn't depend on what follows it, and the lines above it can be continued to a job.
 #![tactic(auto)]
 
 mod canonical;

@@ -16,7 +16,7 @@ use Rattle.text_lines.specs.Laws.{NumbersAreRead}
 use Rattle.std.proofs.Math.IntN.{ℤ_discrete}
 use Rattle.std.proofs.Common.{Option}
 
-fits : (n : ℤ) → fits_i64 n ≡ true → FitsSigned w64 n
+pub fits : (n : ℤ) → fits_i64 n ≡ true → FitsSigned w64 n
 fits (pos n) h = grind (arith, common_steps)
 fits (negsuc n) h = grind (arith, common_steps)
 

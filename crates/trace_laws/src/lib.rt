@@ -23,7 +23,7 @@ pub fn heads_are_spelled()
     ensures { HeadsAreSpelled }
 {}
 
-/// The line of an advance stands in front of the answer of the call that brought it: a call of a phaser that moves the
+/// The line of an advance comes before the answer of the call that caused it: a call of a phaser that moves the
 /// phase prints first the phase that it ended, with the parties that it left, and one that doesn't prints its answer alone.
 pub fn advances_come_first()
     ensures { AdvancesComeFirst }

@@ -38,10 +38,8 @@ reset_text [] = codes "reset\n"
 reset_text (c ∷ cs) = callers_line (codes "reset broken") (c ∷ cs)
 
 abbrev pub broken_text : the_call.Call → List ℕ → List ℕ
-broken_text (call.Await c) callers = callers_line (codes "broken") callers
-broken_text (call.Abandon c) callers = callers_line (codes "broken") callers
-broken_text call.BreakOff callers = callers_line (codes "broken") callers
 broken_text call.Reset callers = reset_text callers
+broken_text _ callers = callers_line (codes "broken") callers
 
 -- the caller of a call, if it has one
 abbrev pub caller_text : the_call.Call → List ℕ

@@ -51,13 +51,9 @@ spelled Show = codes "show" ∷ []
 
 -- whether a command's number fits its type
 abbrev pub HasRoom : PhaserCommand → Type 0
-HasRoom (Call call.Register) = Unit {0}
 HasRoom (Call (call.Bulk n)) = FitsSigned w64 n
-HasRoom (Call call.Arrive) = Unit {0}
-HasRoom (Call call.Leave) = Unit {0}
 HasRoom (Call (call.Await n)) = FitsSigned w32 n
-HasRoom (Call call.Force) = Unit {0}
-HasRoom Show = Unit {0}
+HasRoom _ = Unit {0}
 
 -- Each command is written in one way, and read back from it.
 abbrev pub CommandsAreSpelled : Type 0

@@ -90,10 +90,7 @@ is_token s token = nat_lt token (length s.views)
 
 abbrev pub has_tier : State → TokenCall → Bool
 has_tier s (asked.Join tier n) = nat_lt tier (length s.parents)
-has_tier s asked.Arrive = true
-has_tier s asked.Leave = true
-has_tier s asked.Poll = true
-has_tier s asked.Force = true
+has_tier s _ = true
 
 abbrev pub if_token : State → ℕ → List ℕ → List ℕ
 if_token s token text = if is_token s token then text else codes "no token\n"
@@ -112,17 +109,9 @@ going_on s token = if may_finish s token then step.Finish token else step.Go tok
 
 -- the answers that a call goes on from
 abbrev pub is_underway : Answer → Bool
-is_underway answer.Begun = false
 is_underway (answer.Played played.GoesOn) = true
 is_underway (answer.Played (played.MustAdvance phase parties)) = true
-is_underway (answer.Played (played.Done phase)) = false
-is_underway (answer.Played (played.Passed phase)) = false
-is_underway (answer.Played played.Waiting) = false
-is_underway (answer.Played (played.Held phase why)) = false
-is_underway (answer.Played (played.Full parties)) = false
-is_underway (answer.Played (played.AlreadyArrived phase)) = false
-is_underway (answer.Played (played.Ended shown)) = false
-is_underway answer.NotNow = false
+is_underway _ = false
 
 -- The rest of a call, of at most so many steps: its advance, and its answer; and what it leaves.
 unfoldable pub rest_text : ℕ → ℕ → State → List ℕ

@@ -15,7 +15,7 @@ use crate::tree_print::push_number_line;
 use cyclic_gate::{Awaited, BarrierCore, BarrierFault, Call};
 use std::alloc::AllocError;
 
-// Puts the line of a failed action behind what is there.
+// Appends the line of a failed action.
 fn push_failed(out: &mut Vec<u8>, caller: u32, others: &[u32]) -> Result<(), AllocError>
     ensures { OnOk result (out.new.items ≡ out.old.items ++ call_text (Await caller) (Fails others.now)) }
 {
@@ -23,7 +23,7 @@ fn push_failed(out: &mut Vec<u8>, caller: u32, others: &[u32]) -> Result<(), All
     push_callers_line(out, b" broken", others)
 }
 
-// Puts the line of what an arrival came to behind what is there.
+// Appends the line of an arrival's result.
 fn push_awaited(out: &mut Vec<u8>, caller: u32, awaited: &Awaited) -> Result<(), AllocError>
     ensures { OnOk result (out.new.items ≡ out.old.items ++ call_text (Await caller) (answer_of awaited.now)) }
 {
@@ -35,7 +35,7 @@ fn push_awaited(out: &mut Vec<u8>, caller: u32, awaited: &Awaited) -> Result<(),
     }
 }
 
-// Arrives as a caller, and puts the line of the answer behind what is there.
+// Arrives as a caller, and appends the line of the answer.
 fn push_await<F: Fn(u64) -> bool>(
     out: &mut Vec<u8>,
     core: &mut BarrierCore<F>,
@@ -53,7 +53,7 @@ fn push_await<F: Fn(u64) -> bool>(
     }
 }
 
-// Takes a caller away, and puts the line of the answer behind what is there.
+// Takes a caller away, and appends the line of the answer.
 fn push_abandon<F: Fn(u64) -> bool>(
     out: &mut Vec<u8>,
     core: &mut BarrierCore<F>,

@@ -19,7 +19,7 @@ pub(crate) fn barrier_fault_line(fault: BarrierFault) -> &'static str
     }
 }
 
-// Puts callers behind what is there.
+// Appends callers.
 fn push_callers(out: &mut Vec<u8>, callers: &[u32]) -> Result<(), AllocError>
     ensures { OnOk result (out.new.items ≡ out.old.items ++ callers_text callers.now) }
 {
@@ -29,7 +29,7 @@ fn push_callers(out: &mut Vec<u8>, callers: &[u32]) -> Result<(), AllocError>
     Ok(())
 }
 
-// Puts callers with their indices behind what is there.
+// Appends callers with their indices.
 fn push_turns(out: &mut Vec<u8>, turns: &[(u32, u32)]) -> Result<(), AllocError>
     ensures { OnOk result (out.new.items ≡ out.old.items ++ turns_text turns.now) }
 {
@@ -40,7 +40,7 @@ fn push_turns(out: &mut Vec<u8>, turns: &[(u32, u32)]) -> Result<(), AllocError>
     Ok(())
 }
 
-/// Puts the line of a trip behind what is there.
+/// Appends the line of a trip.
 pub(crate) fn push_tripped(out: &mut Vec<u8>, turns: &[(u32, u32)]) -> Result<(), AllocError>
     ensures { OnOk result (out.new.items ≡ out.old.items ++ codes "tripped" ++ turns_text turns.now ++ codes "\n") }
 {
@@ -49,7 +49,7 @@ pub(crate) fn push_tripped(out: &mut Vec<u8>, turns: &[(u32, u32)]) -> Result<()
     out.extend_from_slice(b"\n")
 }
 
-/// Puts a name and callers as a line behind what is there.
+/// Appends a name and callers as a line.
 pub(crate) fn push_callers_line(
     out: &mut Vec<u8>,
     name: &[u8],
@@ -62,7 +62,7 @@ pub(crate) fn push_callers_line(
     out.extend_from_slice(b"\n")
 }
 
-/// Puts the line of a reset behind what is there.
+/// Appends the line of a reset.
 pub(crate) fn push_reset(out: &mut Vec<u8>, callers: &[u32]) -> Result<(), AllocError>
     ensures { OnOk result (out.new.items ≡ out.old.items ++ reset_text callers.now) }
 {
@@ -84,7 +84,7 @@ fn broken_line(broken: bool) -> &'static str
     }
 }
 
-// Puts the front of the line of a show behind what is there.
+// Appends the front of the line of a show.
 fn push_barrier_front(out: &mut Vec<u8>, parties: u32, waiting: usize) -> Result<(), AllocError>
     ensures { OnOk result (out.new.items ≡ out.old.items ++ barrier_front parties waiting) }
 {
@@ -92,7 +92,7 @@ fn push_barrier_front(out: &mut Vec<u8>, parties: u32, waiting: usize) -> Result
     push_field(out, b" waiting ", waiting)
 }
 
-// Puts the rest of the line of a show behind what is there.
+// Appends the rest of the line of a show.
 fn push_barrier_rest(out: &mut Vec<u8>, generation: u64, broken: bool) -> Result<(), AllocError>
     ensures { OnOk result (out.new.items ≡ out.old.items ++ barrier_rest generation broken) }
 {
@@ -100,7 +100,7 @@ fn push_barrier_rest(out: &mut Vec<u8>, generation: u64, broken: bool) -> Result
     out.extend_from_slice(broken_line(broken).as_bytes())
 }
 
-/// Puts the line of a show behind what is there.
+/// Appends the line of a show.
 pub(crate) fn push_barrier(
     out: &mut Vec<u8>,
     parties: u32,

@@ -18,14 +18,14 @@ pub(crate) fn fault_line(fault: OneFault) -> &'static str
     }
 }
 
-/// Puts the text of a number behind what is there.
+/// Appends the text of a number.
 pub(crate) fn push_number<I: Integer>(out: &mut Vec<u8>, n: I) -> Result<(), AllocError>
     ensures { OnOk result (out.new.items ≡ out.old.items ++ I.text n) }
 {
     out.extend_from_slice(Buffer::new().format(n).as_bytes())
 }
 
-/// Puts a name and a number behind what is there.
+/// Appends a name and a number.
 pub(crate) fn push_field<I: Integer>(out: &mut Vec<u8>, name: &[u8], n: I) -> Result<(), AllocError>
     ensures { OnOk result (out.new.items ≡ out.old.items ++ name.now ++ I.text n) }
 {
@@ -33,7 +33,7 @@ pub(crate) fn push_field<I: Integer>(out: &mut Vec<u8>, name: &[u8], n: I) -> Re
     push_number(out, n)
 }
 
-/// Puts the line of a reply behind what is there.
+/// Appends the line of a reply.
 pub(crate) fn push_reply(out: &mut Vec<u8>, reply: Reply) -> Result<(), AllocError>
     ensures { OnOk result (out.new.items ≡ out.old.items ++ reply_text reply) }
 {
@@ -47,7 +47,7 @@ pub(crate) fn push_reply(out: &mut Vec<u8>, reply: Reply) -> Result<(), AllocErr
     }
 }
 
-/// Puts the line of an advance behind what is there, if there is one.
+/// Appends the line of an advance, if there is one.
 pub(crate) fn push_advance(out: &mut Vec<u8>, advance: Option<Advance>) -> Result<(), AllocError>
     ensures { OnOk result (out.new.items ≡ out.old.items ++ advance_text advance) }
 {
@@ -66,7 +66,7 @@ fn ended_text(ended: bool) -> &'static str
     if ended { " ended yes\n" } else { " ended no\n" }
 }
 
-/// Puts the line of a show behind what is there.
+/// Appends the line of a show.
 pub(crate) fn push_show(
     out: &mut Vec<u8>,
     phase: i32,

@@ -15,10 +15,10 @@ use std::alloc::AllocError;
 use tier_core::call::{Answer, Call, Played, Step};
 use tier_core::tree::Core;
 
-// A call takes at most so many steps.
+// The largest number of steps of a call.
 const MOST_STEPS: usize = 16;
 
-// Whether there is such a token.
+// Returns true if there is such a token.
 fn is_token(core: &Core, token: u32) -> bool
     ensures { result ≡ spec.is_token core.now token }
 {
@@ -42,7 +42,7 @@ fn call_of(core: &Core, call: TokenCall) -> Option<Call>
     }
 }
 
-// Puts the line of the advance that a token takes now behind what is there, if it takes one.
+// Appends the line of the advance that a token takes now, if it takes one.
 fn push_advance_of(out: &mut Vec<u8>, core: &Core, token: usize) -> Result<(), AllocError>
     ensures { OnOk result (out.new.items ≡ out.old.items ++ spec.advance_told core.now token) }
 {
@@ -65,7 +65,7 @@ fn going_on(core: &Core, token: usize) -> Step
     }
 }
 
-// Whether a call goes on from this answer.
+// Returns true if a call continues after this answer.
 fn is_underway(answer: Answer) -> bool
     ensures { result ≡ spec.is_underway answer }
 {
@@ -90,7 +90,7 @@ fn push_rest(out: &mut Vec<u8>, core: &mut Core, token: usize) -> Result<(), All
     Ok(())
 }
 
-// Puts the line of a tier behind what is there, or that there is none.
+// Appends the line of a tier, or the line that there is no such tier.
 fn push_show_tier(out: &mut Vec<u8>, core: &Core, tier: u32) -> Result<(), AllocError>
     ensures { OnOk result (out.new.items ≡ out.old.items
         ++ (if nat_lt tier (length core.now.parents) then spec.tier_text tier (word_at core.now.words tier) else codes "no tier\n")) }
@@ -102,7 +102,7 @@ fn push_show_tier(out: &mut Vec<u8>, core: &Core, tier: u32) -> Result<(), Alloc
     }
 }
 
-// Takes a step, and puts its answer behind what is there.
+// Takes a step, and appends its answer.
 fn push_step(out: &mut Vec<u8>, core: &mut Core, step: Step) -> Result<(), AllocError>
     requires { IsStepOfCalls step }
     ensures text { OnOk result (out.new.items ≡ out.old.items ++ spec.answer_text (answer_to core.old step)) }
@@ -125,7 +125,7 @@ fn push_call(out: &mut Vec<u8>, core: &mut Core, token: usize, call: Call) -> Re
     }
 }
 
-// Puts the refusal of an unknown token, or of an unknown tier, behind what is there, if there is one.
+// Appends the refusal of an unknown token or tier, if there is one.
 fn known_call(core: &Core, token: u32, call: TokenCall) -> Result<Call, &'static str>
     requires { HasMembers call }
     ensures value { MatchResult result
@@ -139,7 +139,7 @@ fn known_call(core: &Core, token: u32, call: TokenCall) -> Result<Call, &'static
     call_of(core, call).ok_or("no tier\n")
 }
 
-// Brings a token in, and puts its line behind what is there.
+// Makes a new token, and appends its line.
 fn push_token(out: &mut Vec<u8>, core: &mut Core) -> Result<(), AllocError>
     ensures text { OnOk result (out.new.items ≡ out.old.items ++ spec.tree_text TreeCommand.Token core.old) }
     ensures after { OnOk result (core.new ≡ spec.tree_after TreeCommand.Token core.old) }
@@ -148,7 +148,7 @@ fn push_token(out: &mut Vec<u8>, core: &mut Core) -> Result<(), AllocError>
     push_number_line(out, b"token ", token)
 }
 
-// Begins a call of a token, and puts what it prints behind what is there.
+// Begins a call of a token, and appends what it prints.
 fn push_begin(
     out: &mut Vec<u8>,
     core: &mut Core,
@@ -165,7 +165,7 @@ fn push_begin(
     }
 }
 
-// Does a whole call of a token, and puts what it prints behind what is there.
+// Does a whole call of a token, and appends what it prints.
 fn push_do(
     out: &mut Vec<u8>,
     core: &mut Core,
@@ -182,7 +182,7 @@ fn push_do(
     }
 }
 
-// Takes the advance of a token, and puts what it prints behind what is there.
+// Takes the advance of a token, and appends what it prints.
 fn push_finish(out: &mut Vec<u8>, core: &mut Core, token: usize) -> Result<(), AllocError>
     ensures text { OnOk result (out.new.items ≡ out.old.items ++ spec.advance_told core.old token ++ spec.answer_text (answer_to core.old (step.Finish token))) }
     ensures after { OnOk result (core.new ≡ after core.old (step.Finish token)) }

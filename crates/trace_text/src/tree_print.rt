@@ -35,7 +35,7 @@ fn cause_line(cause: Cause) -> &'static str
     }
 }
 
-/// Puts a name and a number as a line behind what is there.
+/// Appends a name and a number as a line.
 pub(crate) fn push_number_line<I: Integer>(
     out: &mut Vec<u8>,
     name: &[u8],
@@ -47,7 +47,7 @@ pub(crate) fn push_number_line<I: Integer>(
     out.extend_from_slice(b"\n")
 }
 
-// Puts the line of a join that is held off behind what is there.
+// Appends the line of a join that is held off.
 fn push_held(out: &mut Vec<u8>, phase: u32, cause: Cause) -> Result<(), AllocError>
     ensures { OnOk result (out.new.items ≡ out.old.items ++ played_text (Played.Held phase cause)) }
 {
@@ -56,7 +56,7 @@ fn push_held(out: &mut Vec<u8>, phase: u32, cause: Cause) -> Result<(), AllocErr
     out.extend_from_slice(cause_line(cause).as_bytes())
 }
 
-// Puts the line of an ended tree behind what is there.
+// Appends the line of an ended tree.
 fn push_ended(out: &mut Vec<u8>, shown: i32) -> Result<(), AllocError>
     ensures { OnOk result (out.new.items ≡ out.old.items ++ played_text (Played.Ended shown)) }
 {
@@ -64,7 +64,7 @@ fn push_ended(out: &mut Vec<u8>, shown: i32) -> Result<(), AllocError>
     out.extend_from_slice(b"\n")
 }
 
-// Puts a name and two numbers behind what is there.
+// Appends a name and two numbers.
 fn push_pair(out: &mut Vec<u8>, name: &[u8], m: u32, n: u32) -> Result<(), AllocError>
     ensures { OnOk result (out.new.items ≡ out.old.items ++ number_pair name.now m n) }
 {
@@ -72,7 +72,7 @@ fn push_pair(out: &mut Vec<u8>, name: &[u8], m: u32, n: u32) -> Result<(), Alloc
     push_field(out, b" ", n)
 }
 
-// Puts the line of an advance that is still to be taken behind what is there.
+// Appends the line of an advance that is still to be taken.
 fn push_must_advance(out: &mut Vec<u8>, phase: u32, parties: u32) -> Result<(), AllocError>
     ensures { OnOk result (out.new.items ≡ out.old.items ++ played_text (Played.MustAdvance phase parties)) }
 {
@@ -80,7 +80,7 @@ fn push_must_advance(out: &mut Vec<u8>, phase: u32, parties: u32) -> Result<(), 
     out.extend_from_slice(b"\n")
 }
 
-// Puts the line of what a step answers behind what is there.
+// Appends the line of what a step answers.
 fn push_played(out: &mut Vec<u8>, played: Played) -> Result<(), AllocError>
     ensures { OnOk result (out.new.items ≡ out.old.items ++ played_text played) }
 {
@@ -97,7 +97,7 @@ fn push_played(out: &mut Vec<u8>, played: Played) -> Result<(), AllocError>
     }
 }
 
-/// Puts the line of an answer behind what is there.
+/// Appends the line of an answer.
 pub(crate) fn push_answer(out: &mut Vec<u8>, answer: Answer) -> Result<(), AllocError>
     ensures { OnOk result (out.new.items ≡ out.old.items ++ answer_text answer) }
 {
@@ -123,7 +123,7 @@ fn state_line(word: Word) -> &'static str
     }
 }
 
-// Puts the front of the line of a tier behind what is there.
+// Appends the front of the line of a tier.
 fn push_tier_front(out: &mut Vec<u8>, tier: u32, word: Word) -> Result<(), AllocError>
     ensures { OnOk result (out.new.items ≡ out.old.items ++ tier_front tier word) }
 {
@@ -131,7 +131,7 @@ fn push_tier_front(out: &mut Vec<u8>, tier: u32, word: Word) -> Result<(), Alloc
     push_field(out, b" phase ", word.shown())
 }
 
-// Puts the rest of the line of a tier behind what is there.
+// Appends the rest of the line of a tier.
 fn push_tier_rest(out: &mut Vec<u8>, word: Word) -> Result<(), AllocError>
     ensures { OnOk result (out.new.items ≡ out.old.items ++ tier_rest word) }
 {
@@ -141,7 +141,7 @@ fn push_tier_rest(out: &mut Vec<u8>, word: Word) -> Result<(), AllocError>
     out.extend_from_slice(state_line(word).as_bytes())
 }
 
-/// Puts the line of a tier behind what is there.
+/// Appends the line of a tier.
 pub(crate) fn push_tier(out: &mut Vec<u8>, tier: u32, word: Word) -> Result<(), AllocError>
     ensures { OnOk result (out.new.items ≡ out.old.items ++ tier_text tier word) }
 {

@@ -24,7 +24,7 @@ pub enum PhaserCommand {
 /// The head of a trace: what phaser it makes.
 #[derive(Clone, Copy)]
 pub struct PhaserHead {
-    /// How many parties it begins with.
+    /// The number of parties that it begins with.
     pub parties: i64,
     /// The phase that it begins in.
     pub phase: u32,
@@ -73,7 +73,8 @@ pub(crate) fn take_number(line: &[u8]) -> (Option<&[u8]>, &[u8])
     }
 }
 
-// The word behind a keyword, if the keyword comes next, and what follows; nothing where that word lacks.
+// Splits off a keyword and the word after it, if the keyword comes next. Returns the word and the rest of the line, or
+// `None` if the keyword has no word after it.
 pub(crate) fn take_behind<'a>(
     keyword: &[u8],
     line: &'a [u8],
