@@ -123,7 +123,8 @@ pub apart-next : (s n : BTreeSet (Bor Word)) (ws : List (Bor Word)) (i : ℕ) (d
 apart-next s n ws i d x a h e t u found rest =
     let w = get_or ws i d in
     let names = lent (take i ws) in
-    let new : is_among names w.now ≡ false = sym (found w) ∙ absent (contains word_cmp s w) a e t in
-    ( λ q. found-more s n names w u found q ∙ ap (λ (ns : List Word). is_among ns q.now) (sym (lent-take ws i d h))
-    , rest ∙ ap (apart_from names) (lent-drop ws i d h) ∙ apart-goes-on names w.now (lent (drop (i + 1) ws)) new
-    ∙ ap (λ (ns : List Word). apart_from ns (lent (drop (i + 1) ws))) (sym (lent-take ws i d h)))
+    let new : is_among names w.now ≡ false = sym (found w) ∙ absent (contains word_cmp s w) a e t in (
+      λ q. found-more s n names w u found q ∙ ap (λ (ns : List Word). is_among ns q.now) (sym (lent-take ws i d h)),
+      rest ∙ ap (apart_from names) (lent-drop ws i d h) ∙ apart-goes-on names w.now (lent (drop (i + 1) ws)) new
+          ∙ ap (λ (ns : List Word). apart_from ns (lent (drop (i + 1) ws))) (sym (lent-take ws i d h)),
+    )

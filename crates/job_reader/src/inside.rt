@@ -108,10 +108,7 @@ impl<'a> OpenBody<'a> {
         let Some(place) = self.builder.places.last() else {
             return false;
         };
-        matches!(
-            open_line(&self.builder.code, *place),
-            Some(Line::If(_, _))
-        )
+        matches!(open_line(&self.builder.code, *place), Some(Line::If(_, _)))
     }
 
     // Returns the number of open lines.
