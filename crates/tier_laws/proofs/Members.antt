@@ -48,6 +48,7 @@ use Rattle.tier_laws.proofs.Ended.{looked_same}
 use Rattle.tier_steps.specs.Word.{is_being_opened}
 use Rattle.std.proofs.lemmas.Bool.{ltb-true}
 use Rattle.tier_laws.proofs.Searching.{by_search}
+use Rattle.tier_laws.proofs.Passing.{by_passing}
 
 -- no tier has ended while the root goes on
 pub still_going : (s : State) (t : ℕ) → IsCore s → (word_at s.words 0).ended ≡ false → t < length s.words → (word_at s.words t).ended ≡ false
@@ -67,17 +68,10 @@ pass_goes s i own t passage kind here over Q going errand waits passes =
     let w : Fields = word_at s.words t in
     let v : View = view_at s.views i in
     let parties : ℕ = (passed t passage (word_at s.words t)).parties in
-    let goes : Errand → Turn = λ e. record { kind = kind; tier = t; next = goes_on own e; answer = told v.phase parties e } in
-    let wait : Turn = record { kind = Refresh; tier = t; next = here; answer = GoesOn } in
-    by_turn (λ r. Gone s i r → Q) w.ended (last_look over) (cond (lags w v) wait (goes (owed (parent_of s.parents t) t passage w)))
-    (λ e. not_both w.ended e going)
-    (λ _. by_turn (λ r. Gone s i r → Q) (lags w v) wait (goes (owed (parent_of s.parents t) t passage w))
-    (λ _. waits)
-    (λ _. owed_is (λ x. owed (parent_of s.parents t) t passage w ≡ x → Gone s i (goes x) → Q) (parent_of s.parents t) t passage w
-    (λ owes g. passes g.view (inl (g.answer, ap (λ (x : View). x.errand) g.view ∙ (errand ∙ owes), g.call)))
-    (λ _ owes g. passes g.view (inr (inr ((parties, g.answer), ap (λ (x : View). x.errand) g.view ∙ (errand ∙ owes), g.call))))
-    (λ j _ owes g. passes g.view (inr (inl (g.answer, (parent_of s.parents t, j, ap (λ (x : View). x.errand) g.view ∙ (errand ∙ owes)), g.call))))
-    refl))
+    by_passing (λ r. Gone s i r → Q) s.parents own t passage kind here over w v (λ e. not_both w.ended e going) (λ _ _. waits)
+    (λ _ owes g. passes g.view (inl (g.answer, ap (λ (x : View). x.errand) g.view ∙ (errand ∙ owes), g.call)))
+    (λ _ _ owes g. passes g.view (inr (inr ((parties, g.answer), ap (λ (x : View). x.errand) g.view ∙ (errand ∙ owes), g.call))))
+    (λ _ j _ owes g. passes g.view (inr (inl (g.answer, (parent_of s.parents t, j, ap (λ (x : View). x.errand) g.view ∙ (errand ∙ owes)), g.call))))
 
 -- the look of an arrival and of a departure
 look_by : (s : State) (i : ℕ) (passage : Passage) → IsCore s → (word_at s.words 0).ended ≡ false → IsAwaited s i

@@ -40,6 +40,7 @@ use Rattle.tier_core.proofs.Runs.{begun_core}
 use Rattle.tier_laws.proofs.Reached.{Alikes, Tells_, reached, carried, any_alike}
 use Rattle.tier_laws.proofs.Along.{Carries, OfToken, of_token, along_call}
 use Rattle.tier_laws.proofs.Searching.{by_search, over_turn, refuse_turn, claim_turn, join_turn}
+use Rattle.tier_laws.proofs.Passing.{by_passing, passed_turn}
 
 -- what a turn answers, of a call that has counted so often
 abbrev Places : Call → Played → View → Type 0
@@ -340,12 +341,9 @@ pass_fits s i c past own t passage kind here over known at_end waits once =
     let v : View = view_at s.views i in
     let v' : View = stepped_view s.parents s.words kind t (view_at s.views i) in
     let parties : ℕ = (passed t passage (word_at s.words t)).parties in
-    let goes : Errand → Turn = λ e. record { kind = kind; tier = t; next = goes_on own e; answer = told v.phase parties e } in
-    let wait : Turn = record { kind = Refresh; tier = t; next = here; answer = GoesOn } in
-    by_turn (Fits s i c past) w.ended (last_look over) (cond (lags w v) wait (goes (owed (parent_of s.parents t) t passage w))) (λ _. at_end)
-    (λ _. by_turn (Fits s i c past) (lags w v) wait (goes (owed (parent_of s.parents t) t passage w)) (λ _. waits)
-    (λ _. owed_is (λ x. Fits s i c past (goes x)) (parent_of s.parents t) t passage w
-    (record {
+    let goes : Errand → Turn = passed_turn own t passage kind w v in
+    by_passing (Fits s i c past) s.parents own t passage kind here over w v (λ _. at_end) (λ _ _. waits)
+    (λ _ _. record {
       says = record {
         counts = once Idle (Done v.phase) ∙ sym (ap counts_when_done known.1 ∙ done_once known.0);
         places = subst (λ (x : Call). Places x (Done v.phase) v') (sym known.1) (places_pass known.0 (Done v.phase) v');
@@ -353,7 +351,7 @@ pass_fits s i c past own t passage kind here over known at_end waits once =
       };
       keeps = tt;
     })
-    (λ _. record {
+    (λ _ _ _. record {
       says = record {
         counts = once (Due own) (MustAdvance v.phase parties);
         places = subst (λ (x : Call). Places x (MustAdvance v.phase parties) v') (sym known.1) (places_pass known.0 (MustAdvance v.phase parties) v');
@@ -361,10 +359,10 @@ pass_fits s i c past own t passage kind here over known at_end waits once =
       };
       keeps = (known, once (Due own) (MustAdvance v.phase parties));
     })
-    (λ j _. let n = once (Owing own) GoesOn in record {
+    (λ _ j _ _. let n = once (Owing own) GoesOn in record {
       says = goes_on_once s i c past (goes (Climbing (parent_of s.parents t) j)) refl (omega arith);
       keeps = (known, n);
-    })))
+    })
 
 own_counts : (passage : Passage) → is_counting (own_kind passage) ≡ true
 own_counts Arrival = refl

@@ -43,6 +43,7 @@ use Rattle.tier_laws.proofs.Holding.{part, fits_at}
 use Rattle.tier_laws.proofs.Ranks.{Within, climbs_to, climb_most, shallow, some_left, turn_lowers}
 use Rattle.tier_laws.proofs.Short.{most, moved_left}
 use Rattle.tier_laws.proofs.Searching.{by_search}
+use Rattle.tier_laws.proofs.Passing.{by_passing}
 
 -- a turn that doesn't answer its call leaves it going
 abbrev Further : Progress → Played → Type 0
@@ -116,12 +117,8 @@ seek_further tier k size t w v =
 pass_further : (ps : List ℕ) (own : Passage) (t : ℕ) (passage : Passage) (kind : Kind) (here : Progress) (over : Played) (w : Fields) (v : View)
     → is_last over ≡ true → is_idle here ≡ false → TurnFurther (pass_turn ps own t passage kind here over w v)
 pass_further ps own t passage kind here over w v last going =
-    let parties : ℕ = (passed t passage w).parties in
-    let goes : Errand → Turn = λ e. record { kind = kind; tier = t; next = goes_on own e; answer = told v.phase parties e } in
-    let wait : Turn = record { kind = Refresh; tier = t; next = here; answer = GoesOn } in
-    by_turn TurnFurther w.ended (last_look over) (cond (lags w v) wait (goes (owed (parent_of ps t) t passage w))) (λ _. answers Idle over last)
-    (λ _. by_turn TurnFurther (lags w v) wait (goes (owed (parent_of ps t) t passage w)) (λ _ _. going)
-    (λ _. owed_is (λ e. TurnFurther (goes e)) (parent_of ps t) t passage w (answers Idle (Done v.phase) refl) (λ _ _. refl) (λ _ _ _. refl)))
+    by_passing TurnFurther ps own t passage kind here over w v (λ _. answers Idle over last) (λ _ _ _. going)
+    (λ _ _. answers Idle (Done v.phase) refl) (λ _ _ _ _. refl) (λ _ _ _ _ _. refl)
 
 goes_further : (ps : List ℕ) (ws : List Fields) (p : Progress) (v : View) → is_active p ≡ true → CallFits ps p v → TurnFurther (turn ps ws p v)
 goes_further ps ws Idle v active fits = not_both false active refl
