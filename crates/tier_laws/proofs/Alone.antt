@@ -1,7 +1,7 @@
 -- While a member is awaited, no step of another token leaves that token with the advance to take.
 use Rattle.std.proofs.Common.{◌≡◌, ℕ, zero, suc, ◌<◌, ⊎_elim, Bool, true, false, cond, eqb, List, length, length-set, refl, sym, ◌∙◌, ap, subst, arith}
 use Rattle.std.specs.Prelude.{not}
-use Rattle.tier_steps.specs.Step.{looked, refused, added, passed, owed}
+use Rattle.tier_steps.specs.Step.{looked, refused, added}
 use Rattle.std.proofs.lemmas.List.{get_or-set_same}
 use Rattle.flat_phaser.specs.declared.FlatStep.TheVariants as flat
 use Rattle.flat_phaser.specs.Flat.{Flat}
@@ -15,7 +15,6 @@ use Rattle.tier_steps.specs.declared.view.Passage.{Passage}
 use Rattle.tier_steps.specs.declared.view.Passage.TheVariants.{Arrival, Departure}
 use Rattle.tier_steps.specs.declared.kind.Kind.{Kind}
 use Rattle.tier_steps.specs.declared.kind.Kind.TheVariants.{Look, Glance, Refuse, Join, Arrive, Leave, Advance, Force, Claim, Settle, SettleBack, Climb, Refresh}
-use Rattle.tier_shape.specs.Parents.{parent_of}
 use Rattle.tier_steps.specs.View.{ancestor, absent}
 use Rattle.tier_steps.specs.Tally.{word_at}
 use Rattle.tier_steps.specs.Laws.{stepped_view}
@@ -26,8 +25,8 @@ use Rattle.tier_core.specs.declared.call.Played.{Played}
 use Rattle.tier_core.specs.declared.call.Progress.{Progress}
 use Rattle.tier_core.specs.declared.call.Progress.TheVariants.{Idle, Begun, Seeking as ToSeek, Settling, GivingBack as ToGiveBack, Passing, Owing, Due, Refreshing}
 use Rattle.tier_core.specs.declared.call.Turn.{Turn}
-use Rattle.tier_core.specs.declared.call.Played.TheVariants.{GoesOn, Done}
-use Rattle.tier_core.specs.Turn.{end_shown, is_refusing, is_claimable, refusal, unless_claimed, seek_turn, last_look, goes_on, told, errand_place, claimed_by, giving_back, settling, settle_turn, give_back_turn, pass_turn, climb_turn, first_turn, lags, own_kind, turn}
+use Rattle.tier_core.specs.declared.call.Played.TheVariants.{Done}
+use Rattle.tier_core.specs.Turn.{end_shown, refusal, seek_turn, errand_place, claimed_by, giving_back, settling, settle_turn, give_back_turn, pass_turn, climb_turn, first_turn, lags, own_kind, turn}
 use Rattle.tier_core.specs.Machine.{State, IsCore, view_at, call_at, is_due, turn_at, played}
 use Rattle.tier_core.proofs.Turns.{by_test, not_both}
 use Rattle.tier_core.proofs.Places.{MayPlay, played_core, turn_may}

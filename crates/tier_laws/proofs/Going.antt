@@ -1,5 +1,5 @@
 -- What the steps of an arrival and a departure tell.
-use Rattle.std.proofs.Common.{◌≡◌, ℕ, ◌<◌, true, false, cond, List, ◌∷◌, length, length-set, refl, sym, ◌∙◌, ap, subst}
+use Rattle.std.proofs.Common.{◌≡◌, ℕ, ◌<◌, true, false, List, ◌∷◌, length, length-set, refl, sym, ◌∙◌, ap, subst}
 use Rattle.std.specs.Prelude.{◌↔◌}
 use Rattle.std.proofs.lemmas.List.{get_or-set_same}
 use Rattle.phaser_word.specs.Fields.{Fields}
@@ -10,28 +10,26 @@ use Rattle.tier_steps.specs.declared.view.Errand.TheVariants.{Rest, Climbing, Ad
 use Rattle.tier_steps.specs.declared.view.Passage.{Passage}
 use Rattle.tier_steps.specs.declared.view.Passage.TheVariants.{Arrival, Departure}
 use Rattle.tier_steps.specs.declared.kind.Kind.{Kind}
-use Rattle.tier_steps.specs.declared.kind.Kind.TheVariants.{Climb, Refresh}
+use Rattle.tier_steps.specs.declared.kind.Kind.TheVariants.{Climb}
 use Rattle.tier_shape.specs.Parents.{parent_of}
 use Rattle.tier_steps.specs.View.{new_view}
 use Rattle.tier_steps.specs.Tally.{blank, word_at, root_phase}
 use Rattle.tier_steps.specs.Step.{passed, owed, word_after}
 use Rattle.tier_steps.specs.Laws.{words_after, stepped_view}
 use Rattle.tier_steps.specs.Image.{label}
-use Rattle.tier_steps.proofs.Pass.{owed_is}
 use Rattle.tier_steps.proofs.Closing.{phase_passed, ended_passed}
 use Rattle.tier_core.specs.declared.call.Call.{Call}
 use Rattle.tier_core.specs.declared.call.Call.TheVariants as call
 use Rattle.tier_core.specs.declared.call.Played.{Played}
-use Rattle.tier_core.specs.declared.call.Played.TheVariants.{GoesOn}
 use Rattle.tier_core.specs.declared.call.Progress.{Progress}
 use Rattle.tier_core.specs.declared.call.Turn.{Turn}
-use Rattle.tier_core.specs.Turn.{lags, own_kind, goes_on, told, last_look, pass_turn}
+use Rattle.tier_core.specs.Turn.{own_kind, last_look, pass_turn}
 use Rattle.tier_core.specs.Machine.{State, IsCore, view_at, is_active, played}
 use Rattle.tier_core.proofs.Places.{MayPlay, played_core}
 use Rattle.tier_laws.specs.Moments.{Moment, flat_after}
 use Rattle.tier_laws.specs.Told.{IsCounted, MakesDue, IsDoneIn, Tells}
 use Rattle.tier_laws.proofs.Ending.{at, owing_is_ready}
-use Rattle.tier_laws.proofs.Memory.{any_here, call_of, Remembers, Goal, by_turn, no_last, done_later}
+use Rattle.tier_laws.proofs.Memory.{any_here, call_of, Remembers, Goal, no_last, done_later}
 use Rattle.tier_laws.proofs.Passing.{by_passing, passed_turn, refresh_turn}
 
 -- The step that passes a tier: what it makes of word and view, and what it tells of the call.

@@ -12,14 +12,14 @@ use Rattle.tier_steps.specs.declared.view.Errand.TheVariants.{Rest, Opening, Cli
 use Rattle.tier_steps.specs.declared.view.Passage.{Passage}
 use Rattle.tier_steps.specs.declared.view.Passage.TheVariants.{Arrival, Departure}
 use Rattle.tier_steps.specs.declared.kind.Kind.{Kind}
-use Rattle.tier_steps.specs.declared.kind.Kind.TheVariants.{Look, Refuse, Join, Advance, Claim, Climb, Refresh}
+use Rattle.tier_steps.specs.declared.kind.Kind.TheVariants.{Look, Refuse, Advance, Climb, Refresh}
 use Rattle.tier_shape.specs.Parents.{parent_of}
 use Rattle.tier_steps.specs.View.{new_view, ancestor}
 use Rattle.tier_steps.specs.Tally.{word_at, root_phase, ErrandFits}
 use Rattle.tier_steps.specs.Step.{passed, owed, looked, dropped}
 use Rattle.tier_steps.specs.Laws.{stepped_view}
 use Rattle.tier_steps.specs.Image.{label}
-use Rattle.tier_steps.proofs.Pass.{owed_is, unarrived_is_current}
+use Rattle.tier_steps.proofs.Pass.{unarrived_is_current}
 use Rattle.tier_core.specs.declared.call.Call.TheVariants as call
 use Rattle.tier_core.specs.declared.call.Played.{Played}
 use Rattle.tier_core.specs.declared.call.Played.TheVariants.{GoesOn, Done, AlreadyArrived}
@@ -40,7 +40,7 @@ use Rattle.tier_laws.proofs.Stepping.{Gone, gone, fitting, awaited_look}
 use Rattle.tier_steps.specs.declared.view.OpeningStage.TheVariants.{Joined, GoingBack}
 use Rattle.tier_steps.specs.Step.{added, opening, refused, given_up}
 use Rattle.tier_steps.proofs.Advance.{ancestor_within}
-use Rattle.tier_core.specs.Turn.{claimed_by, is_refusing, is_claimable, has_no_room, refusal, giving_back, settling, unless_claimed, seek_turn, settle_turn, give_back_turn}
+use Rattle.tier_core.specs.Turn.{claimed_by, is_refusing, is_claimable, has_no_room, seek_turn, settle_turn, give_back_turn}
 use Rattle.tier_laws.specs.Calls.{IsPlaced, IsJoinLook, JoinsBeginWithALook, JoinsPlaceAtOnce, IsAdmitted, OpenTiersAdmit, is_settling, SettlingKeepsMembers}
 use Rattle.tier_laws.proofs.Counting.{looked_empty}
 use Rattle.tier_laws.proofs.Seeking.{joined_phase, ended_root}

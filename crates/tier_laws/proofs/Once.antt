@@ -12,13 +12,12 @@ use Rattle.tier_steps.specs.declared.view.OpeningStage.TheVariants.{Joined, Goin
 use Rattle.tier_steps.specs.declared.view.Passage.{Passage}
 use Rattle.tier_steps.specs.declared.view.Passage.TheVariants.{Arrival, Departure}
 use Rattle.tier_steps.specs.declared.kind.Kind.{Kind}
-use Rattle.tier_steps.specs.declared.kind.Kind.TheVariants.{Look, Glance, Refuse, Join, Advance, Force, Claim, Climb, Refresh}
+use Rattle.tier_steps.specs.declared.kind.Kind.TheVariants.{Look, Glance, Refuse, Advance, Force, Climb, Refresh}
 use Rattle.tier_shape.specs.Parents.{parent_of}
 use Rattle.tier_steps.specs.View.{ancestor, new_view}
 use Rattle.tier_steps.specs.Tally.{word_at}
-use Rattle.tier_steps.specs.Step.{passed, owed, added, looked, refused}
+use Rattle.tier_steps.specs.Step.{passed, added, looked, refused}
 use Rattle.tier_steps.specs.Laws.{stepped_view}
-use Rattle.tier_steps.proofs.Pass.{owed_is}
 use Rattle.tier_core.specs.declared.call.Call.{Call}
 use Rattle.tier_core.specs.declared.call.Call.TheVariants as call
 use Rattle.tier_core.specs.declared.call.Played.{Played}
@@ -26,7 +25,7 @@ use Rattle.tier_core.specs.declared.call.Played.TheVariants.{GoesOn, Done, Passe
 use Rattle.tier_core.specs.declared.call.Progress.{Progress}
 use Rattle.tier_core.specs.declared.call.Progress.TheVariants.{Idle, Begun, Seeking as ToSeek, Settling, GivingBack as ToGiveBack, Passing, Owing, Due, Refreshing}
 use Rattle.tier_core.specs.declared.call.Turn.{Turn}
-use Rattle.tier_core.specs.Turn.{end_shown, is_refusing, is_claimable, refusal, is_refusal, lags, polled, claimed_by, giving_back, settling, unless_claimed, seek_turn, settle_turn, give_back_turn, own_kind, goes_on, told, last_look, pass_turn, climb_turn, errand_place, first_turn, turn}
+use Rattle.tier_core.specs.Turn.{end_shown, is_refusing, refusal, is_refusal, lags, polled, claimed_by, giving_back, settling, unless_claimed, seek_turn, settle_turn, give_back_turn, own_kind, last_look, pass_turn, climb_turn, errand_place, first_turn, turn}
 use Rattle.tier_core.specs.Machine.{State, IsCore, CallFits, BegunFits, view_at, call_at, is_active, is_due, turn_at}
 use Rattle.tier_core.specs.Run.{may_begin, begun, finish_at, plan_ends, IsCall}
 use Rattle.tier_core.proofs.Turns.{by_test, not_both, looked_size, refusal_is}
@@ -34,7 +33,7 @@ use Rattle.tier_laws.specs.Moments.{Moment, Event, moments, AreEvents, AreOfCall
 use Rattle.tier_laws.specs.Calls.{IsPlaced}
 use Rattle.tier_laws.specs.Once.{is_counting, times_counted, counts_when_done, CountsAs, LatestCounts, CallsCountOnce, view_after_turn, PlacesAs, LatestPlaces, JoinsPlaceWhereAsked, IsNotedAt, NotesAs, LatestNotes, RefusalsAreNoted}
 use Rattle.tier_laws.proofs.Ending.{alike_itself, at, imaged}
-use Rattle.tier_laws.proofs.Memory.{any_here, any_later, call_of, by_turn}
+use Rattle.tier_laws.proofs.Memory.{any_here, any_later, call_of}
 use Rattle.tier_laws.specs.Frame.{flat_of}
 use Rattle.tier_core.proofs.Runs.{begun_core}
 use Rattle.tier_laws.proofs.Reached.{Alikes, Tells_, reached, carried, any_alike}

@@ -32,7 +32,7 @@ pub by_passing : (P : Turn → Type 0) (ps : List ℕ) (own : Passage) (t : ℕ)
     → (w.ended ≡ false → owed (parent_of ps t) t passage w ≡ Rest → P (passed_turn own t passage kind w v Rest))
     → (w.ended ≡ false → t ≡ 0 → owed (parent_of ps t) t passage w ≡ Advancing → P (passed_turn own t passage kind w v Advancing))
     → (w.ended ≡ false → (j : Passage) → 0 < t → owed (parent_of ps t) t passage w ≡ Climbing (parent_of ps t) j
-        → P (passed_turn own t passage kind w v (Climbing (parent_of ps t) j)))
+    → P (passed_turn own t passage kind w v (Climbing (parent_of ps t) j)))
     → P (pass_turn ps own t passage kind here over w v)
 by_passing P ps own t passage kind here over w v ended wait rest advance climb =
     let e : Errand = owed (parent_of ps t) t passage w in

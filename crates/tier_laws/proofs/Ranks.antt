@@ -19,12 +19,12 @@ use Rattle.tier_shape.specs.Paths.{IsTiers, path_of}
 use Rattle.tier_shape.proofs.Going.{goes_up}
 use Rattle.tier_steps.specs.View.{ancestor, late_share}
 use Rattle.tier_steps.specs.Tally.{blank, word_at, root_phase, ErrandFits}
-use Rattle.tier_steps.specs.Step.{passed, owed, added, opening, looked, dropped, given_up, refused, word_after, IsDue, Needs}
+use Rattle.tier_steps.specs.Step.{owed, added, opening, looked, dropped, given_up, refused, word_after, IsDue, Needs}
 use Rattle.tier_steps.specs.Laws.{words_after, stepped_view}
 use Rattle.tier_steps.specs.Due.{is_advance}
 use Rattle.tier_steps.proofs.Advance.{ancestor_within}
 use Rattle.tier_steps.proofs.Closing.{phase_passed}
-use Rattle.tier_steps.proofs.Pass.{owed_is, only_here, climbing_late, unarrived_is_current}
+use Rattle.tier_steps.proofs.Pass.{only_here, climbing_late, unarrived_is_current}
 use Rattle.tier_steps.proofs.Path.{ancestors_are_on_the_path}
 use Rattle.tier_steps.proofs.Ready.{phases_stay}
 use Rattle.tier_core.specs.declared.call.Call.{Call}
@@ -34,14 +34,13 @@ use Rattle.tier_core.specs.declared.call.Played.TheVariants.{GoesOn, Done}
 use Rattle.tier_core.specs.declared.call.Progress.{Progress}
 use Rattle.tier_core.specs.declared.call.Progress.TheVariants.{Idle, Begun, Seeking as ToSeek, Settling, GivingBack as ToGiveBack, Passing, Owing, Due, Refreshing}
 use Rattle.tier_core.specs.declared.call.Turn.{Turn}
-use Rattle.tier_core.specs.Turn.{end_shown, is_refusing, is_claimable, refusal, lags, claimed_by, giving_back, settling, unless_claimed, seek_turn, settle_turn, give_back_turn, own_kind, goes_on, told, last_look, pass_turn, climb_turn, errand_place, turn}
+use Rattle.tier_core.specs.Turn.{end_shown, is_refusing, refusal, lags, claimed_by, giving_back, settling, seek_turn, settle_turn, give_back_turn, own_kind, pass_turn, climb_turn, errand_place, turn}
 use Rattle.tier_core.specs.Machine.{State, IsCore, CallFits, view_at, is_active}
 use Rattle.tier_core.specs.Run.{is_idle}
 use Rattle.tier_core.proofs.Turns.{not_both, looked_tier, looked_rests, looked_ended, looked_open}
 use Rattle.tier_core.proofs.Places.{MayPlay, is_step}
 use Rattle.tier_laws.specs.Count.{most_steps}
 use Rattle.tier_laws.proofs.Holding.{fits_at, held, nobody_advances, awaited_field, is_awaited}
-use Rattle.tier_laws.proofs.Memory.{by_turn}
 use Rattle.tier_laws.proofs.Seeking.{ended_root}
 use Rattle.tier_laws.proofs.Searching.{by_search}
 use Rattle.tier_laws.proofs.Passing.{by_passing}
