@@ -21,7 +21,7 @@ ghost use Rattle.flat_phaser.specs.Laws.{
   AlikeStaysAlike,
 };
 
-use phaser_word::next_phase;
+use phaser_word::{LAST_PHASE, next_phase};
 use std::alloc::{AllocError, Global};
 use std::marker::Model;
 
@@ -126,7 +126,7 @@ fn all_arrived(members: &[Member], phase: u32) -> bool
 impl FlatPhaser {
     /// Creates a phaser without members, in `phase`.
     pub fn new(alloc: Global, phase: u32) -> Self
-        requires { phase ≤ 2147483647 }
+        requires { phase ≤ LAST_PHASE }
         ensures { result ≡ empty_in phase }
     {
         FlatPhaser {

@@ -15,7 +15,7 @@ ghost use Rattle.std.specs.Prelude.{◌==◌, if◌then◌else◌};
 use crate::call::{Advance, Awaited, Call, OneFault, Reply};
 use crate::step::{Arrival, Stepped, absent, arrived, forced, joined, members, present};
 use advance_rule::StoredCount;
-use phaser_word::{MOST_PARTIES, Word};
+use phaser_word::{LAST_PHASE, MOST_PARTIES, Word};
 use std::alloc::{AllocError, Global};
 use std::marker::Model;
 
@@ -61,10 +61,10 @@ impl<F: Fn(u32, u32) -> bool> PhaserOne<F> {
     pub fn new(parties: i64, phase: u32, rule: StoredCount<F>) -> Result<Self, OneFault>
     where
         F: Drop,
-        requires { phase ≤ 2147483647 }
+        requires { phase ≤ LAST_PHASE }
         ensures word { IfOk result (λ p. (pos p.word.parties ≡ parties) × IsAlike (opened p.word.parties phase) (flat_of p.word)) }
         ensures rule { IfOk result (λ p. p.rule ≡ rule) }
-        ensures refused { IsErr result ↔ ((parties <ℤ pos 0) ⊎ (pos 65535 <ℤ parties)) }
+        ensures refused { IsErr result ↔ ((parties <ℤ pos 0) ⊎ (pos MOST_PARTIES <ℤ parties)) }
         ensures fault { IfErr result (λ e. e ≡ OneFault.TooMany) }
     {
         match u32::try_from(parties) {

@@ -11,7 +11,7 @@ ghost use Rattle.phaser_one.specs.Seen.{flat_of, Follows, IsSettled};
 
 use crate::call::OneFault;
 use advance_rule::StoredCount;
-use phaser_word::{MOST_PARTIES, Word, next_phase};
+use phaser_word::{LAST_PHASE, MOST_PARTIES, Word, next_phase};
 
 /// Whether a party that arrives stays registered.
 #[derive(Clone, Copy)]
@@ -36,8 +36,8 @@ fn settle<F: Fn(u32, u32) -> bool>(
     unarrived: u32,
 ) -> Word
     requires counted { unarrived ≤ parties }
-    requires parties { parties ≤ 65535 }
-    requires phase { phase ≤ 2147483647 }
+    requires parties { parties ≤ MOST_PARTIES }
+    requires phase { phase ≤ LAST_PHASE }
     requires rule { Answers (F.pre rule.now.closure) (F.post rule.now.closure) (count_ends rule.now.plan) }
     ensures settled { IsSettled rule.now.plan phase parties unarrived result }
     ensures called { result.phase ≢ phase → F.post rule.now.closure phase parties result.ended }

@@ -1,4 +1,4 @@
-//! The examples of use that stand above types: each text there is that of a test here.
+//! The examples in the docs of types, as tests: each example there has the text of a test here.
 ghost use Rattle.std.specs.Prelude.{◌≡◌};
 
 use advance_rule::{CountPlan, EndPlan, StoredAction, StoredAdvance, StoredCount};
@@ -12,7 +12,7 @@ use tier_table::waiting::{Admitted, Counted};
 
 #[test]
 fn a_single_phaser(rt: HostRuntime) {
-    // It ends where fewer than one party is left.
+    // It ends when fewer than one party is left.
     let plan = CountPlan { least: 1, at: None };
     let rule = StoredCount::new(|_phase, parties| parties < 1, plan);
     let mut phaser = PhaserOne::new(2, 0, rule).expect(&rt, "two parties");
@@ -42,7 +42,7 @@ fn a_gate(rt: HostRuntime) {
 
 #[test]
 fn a_tree_as_a_machine(rt: HostRuntime) {
-    // A root and two leaves; the tree ends where nobody is left.
+    // A root and two leaves; the tree ends when nobody is left.
     let shape = Shape::from_widths(rt.alloc(), "2").expect(&rt, "a shape");
     let plan = EndPlan {
         when_empty: true,
@@ -51,7 +51,7 @@ fn a_tree_as_a_machine(rt: HostRuntime) {
     let mut core = Core::new(rt.alloc(), shape, 0, plan).expect(&rt, "memory");
     let token = core.add_token().expect(&rt, "memory");
     assert!(rt; core.begin(token, Call::Join { tier: 1, n: 1 }).is_ok());
-    // Each step is one load or one exchange of a tier's word.
+    // Each step is one load or one compare-and-swap of a tier's word.
     for _ in 0..16 {
         if let Ok(Played::Done(phase)) = core.go(token) {
             assert!(rt; phase == 0);

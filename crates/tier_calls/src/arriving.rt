@@ -18,13 +18,13 @@ use tier_steps::view::Passage;
 /// The answer of an arrival or a departure: [`Tiers::pass`](crate::tiers::Tiers::pass), and `arrive` and
 /// `arrive_and_deregister` of `tier_table::Tree`.
 ///
-/// `Done` and `Left` have counted the member, and so has `Owing`. The other answers have counted nothing. The flag in
-/// `Done` and `Left` is `led`: true if this call took the advance.
+/// `Done` and `Left` have counted the member, and so has `Owing`. The other answers have counted nothing. In `Done` and
+/// `Left` the last field is `led`: true if this call took the advance.
 pub enum Arrived {
-    /// The member has arrived in this phase, or has left in it and others remain. Then `led`. To learn when the phase
-    /// has passed, poll the crew.
+    /// The member has arrived in this phase, or has left in it and others remain. To learn when the phase has passed,
+    /// poll the crew.
     Done(Crew, u32, bool),
-    /// The last member has left in this phase. Then `led`. The door can register new members.
+    /// The last member has left in this phase. The door can register new members.
     Left(Door, u32, bool),
     /// All members had arrived in this phase before the call. Arrive again once a poll answers that the phase has
     /// passed.
@@ -41,11 +41,11 @@ pub enum Arrived {
 /// The answer of a resumed arrival or departure: [`Tiers::pass_on`](crate::tiers::Tiers::pass_on), and `resume` of
 /// `tier_table::Tree`.
 ///
-/// Its member was counted before. The flag in `Done` and `Left` is `led`: true if this call took the advance.
+/// Its member was counted before. In `Done` and `Left` the last field is `led`: true if this call took the advance.
 pub enum Resumed {
-    /// The call is over. The member arrived in this phase, or left in it and others remain. Then `led`.
+    /// The call is over. The member arrived in this phase, or left in it and others remain.
     Done(Crew, u32, bool),
-    /// The call is over. The last member left in this phase. Then `led`. The door can register new members.
+    /// The call is over. The last member left in this phase. The door can register new members.
     Left(Door, u32, bool),
     /// The tries ran out again. Everyone waits for the rest of the call, so resume soon.
     Owing(Errand),

@@ -30,10 +30,7 @@ enum Met {
 fn is_same(one: Word, other: Word) -> bool
     ensures { result ≡ true → one ≡ other }
 {
-    one.phase == other.phase
-        && one.parties == other.parties
-        && one.unarrived == other.unarrived
-        && one.ended == other.ended
+    one == other
 }
 
 impl Tiers {

@@ -27,7 +27,7 @@ impl Model for Door {
 
 /// A token with members, all at one tier. They arrive and leave one at a time.
 ///
-/// If it is dropped, its members stay registered, and the tree waits for them for ever. Let all of them leave first.
+/// If it is dropped, its members stay registered, and the tree waits for them forever. Let all of them leave first.
 #[derive(Drop)]
 pub struct Crew {
     pub(crate) token: Seated,

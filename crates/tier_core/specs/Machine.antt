@@ -1,4 +1,4 @@
--- The state of the machine: the words of the tiers, and for each token its view and how far its call has come (own).
+-- The state of the machine: the words of the tiers, and for each token its view and how far its call has come (not part of Java's API).
 use Rattle.std.specs.Prelude.{◌≡◌, ℕ, suc, ◌≤◌, ◌<◌, Bool, true, false, List, [], ◌∷◌, ◌++◌, length, slice_index_or, slice_set}
 use Rattle.advance_rule.specs.declared.EndPlan.{EndPlan}
 use Rattle.phaser_word.specs.Fields.{Fields}
@@ -19,7 +19,7 @@ use Rattle.tier_core.specs.declared.call.Call.TheVariants as call
 pub record State : Type 0 where
   pub parents : List ℕ
   pub words : List Fields
-  -- the tokens by their numbers: what they know, and how far their calls have come
+  -- by token number: what each token knows, and how far its call has come
   pub views : List View
   pub calls : List Progress
   pub plan : EndPlan
@@ -30,14 +30,14 @@ view_at views token = slice_index_or views token (new_view 0)
 abbrev pub call_at : List Progress → ℕ → Progress
 call_at calls token = slice_index_or calls token Idle
 
--- so many members are to join an existing tier, by a token without members
+-- a join of 1 to 65535 members at a tier that exists, by a token without members
 pub record IsWanted (parents : List ℕ) (tier size : ℕ) (v : View) : Type 0 where
   pub place : tier < length parents
   pub some : 0 < size
   pub few : size ≤ 65535
   pub none : v.size ≡ 0
 
--- what a call that has begun keeps of its token's view
+-- what holds of a token's view when its call begins
 abbrev pub BegunFits : List ℕ → Call → View → Type 0
 BegunFits parents (call.Join tier size) v = IsWanted parents tier size v
 BegunFits parents call.Arrive v = 0 < v.size
@@ -45,7 +45,7 @@ BegunFits parents call.Leave v = 0 < v.size
 BegunFits parents call.Poll v = 0 < v.size
 BegunFits parents call.Force v = Unit {0}
 
--- what a call keeps of its token's view, as far as it has come
+-- what holds of a token's view, by how far its call has come
 abbrev pub CallFits : List ℕ → Progress → View → Type 0
 CallFits parents Idle v = v.errand ≡ Rest
 CallFits parents (Begun c) v = (v.errand ≡ Rest) × BegunFits parents c v
@@ -63,7 +63,7 @@ pub record IsNext (parents : List ℕ) (words : List Fields) (v : View) (kind : 
   pub needs : Needs parents kind t (word_at words t) v
   pub keeps : CallFits parents next (stepped_view parents words kind t v)
 
--- where a call stands: over, before its first step, on its way behind its look at the root, or before an advance of the root
+-- the stage of a call: over, before its first step, between its look at the root and its end, or before an advance of the root
 pub data Standing : Type 0 where
   AtRest : Standing
   AtStart : Standing
@@ -76,22 +76,22 @@ standing (Begun c) = AtStart
 standing (Due own) = BeforeAdvance
 standing _ = OnItsWay
 
--- whether a call stands at one of these places, in this order
+-- one truth value for each of these stages, in this order
 abbrev pub stands_at : Bool → Bool → Bool → Bool → Standing → Bool
 stands_at rest start way advance AtRest = rest
 stands_at rest start way advance AtStart = start
 stands_at rest start way advance OnItsWay = way
 stands_at rest start way advance BeforeAdvance = advance
 
--- no call
+-- the token is in no call
 abbrev pub is_idle : Progress → Bool
 is_idle p = stands_at true false false false (standing p)
 
--- a call that goes on by a step of its own
+-- the next step of the call is an ordinary one
 abbrev pub is_active : Progress → Bool
 is_active p = stands_at false true true false (standing p)
 
--- a call that goes on by an advance
+-- the next step of the call is an advance
 abbrev pub is_due : Progress → Bool
 is_due p = stands_at false false false true (standing p)
 
@@ -99,7 +99,7 @@ is_due p = stands_at false false false true (standing p)
 abbrev pub is_going : Progress → Bool
 is_going p = stands_at false false true true (standing p)
 
--- Each turn of a call is a step that its token may take.
+-- Each step of a call is one that its token may take.
 abbrev pub TurnsAreSteps : Type 0
 TurnsAreSteps =
     (parents : List ℕ) (words : List Fields) (front : List View) (v : View) (back : List View) (progress : Progress)
@@ -111,14 +111,14 @@ pub record IsNextBy (parents : List ℕ) (words : List Fields) (v : View) (t : �
   pub here : r.tier ≡ t
   pub next : IsNext parents words v r.kind t r.next
 
--- Each step of a call that has looked at the root is known by the word of one tier, at which it is taken, and by its token's view.
+-- After its look at the root, each step of a call is determined by its token's view and the word of the tier at which it is taken.
 abbrev pub OneWordIsEnough : Type 0
 OneWordIsEnough =
     (parents : List ℕ) (words : List Fields) (front : List View) (v : View) (back : List View) (progress : Progress) (ends : Bool)
     → IsShape parents → Tallies parents words (front ++ v ∷ back) → is_going progress ≡ true → CallFits parents progress v
     → IsNextBy parents words v (place parents progress v) (turn_by parents ends (word_at words (place parents progress v)) progress v)
 
--- An advance that such a step asks for is of a phase and parties that fit a word.
+-- If such a step answers MustAdvance, the phase and the parties fit into a word.
 abbrev pub OneWordTellsRanges : Type 0
 OneWordTellsRanges =
     (parents : List ℕ) (words : List Fields) (front : List View) (v : View) (back : List View) (progress : Progress) (ends : Bool)
@@ -133,7 +133,7 @@ pub record IsCore (s : State) : Type 0 where
   pub long : length s.calls ≡ length s.views
   pub calls : (token : ℕ) → token < length s.views → CallFits s.parents (call_at s.calls token) (view_at s.views token)
 
--- the next turn of a token, and the state that a turn leaves
+-- the next turn of a token, and the state after a turn
 abbrev pub turn_at : State → ℕ → Turn
 turn_at s token = turn s.parents s.words (call_at s.calls token) (view_at s.views token)
 
@@ -144,10 +144,10 @@ played s token r = record s {
   calls = slice_set s.calls token r.next;
 }
 
--- how a tree starts: its tiers are empty, and it has no tokens
+-- a new tree: its tiers are empty, and it has no tokens
 abbrev pub opened : List ℕ → ℕ → EndPlan → State
 opened parents phase plan = record { parents = parents; words = empty_words parents phase; views = []; calls = []; plan = plan }
 
--- a token that comes in behind the others has no members, and the root's phase
+-- a state with one more token, which comes last, has no members and is in the root's phase
 abbrev pub with_token : State → State
 with_token s = record s { views = s.views ++ new_view (word_at s.words 0).phase ∷ []; calls = s.calls ++ Idle ∷ [] }

@@ -1,4 +1,4 @@
--- Whole runs of the machine, and the flat run that each of them is (own).
+-- Whole runs of the machine, and the flat run of each (not part of Java's API).
 pub use Rattle.tier_core.specs.declared.call.Step.{Step}
 pub use Rattle.tier_core.specs.declared.call.Step.TheVariants.{Begin, Go, Finish}
 pub use Rattle.tier_core.specs.declared.call.Answer.{Answer}
@@ -16,7 +16,7 @@ use Rattle.tier_core.specs.Turn.{Call, Begun, Turn, finish_turn}
 pub use Rattle.tier_core.specs.Machine.{is_idle}
 use Rattle.tier_core.specs.Machine.{State, IsCore, view_at, call_at, is_active, is_due, turn_at, played}
 
--- a join is of an existing tier and by a token without members; who arrives, leaves or polls has members
+-- a join needs a tier that exists and a token without members; an arrival, a departure and a poll need a member
 abbrev pub may_call : ℕ → Call → View → Bool
 may_call tiers (call.Join tier size) v = nat_lt tier tiers && (v.size == 0)
 may_call tiers call.Arrive v = nat_lt 0 v.size
@@ -24,7 +24,7 @@ may_call tiers call.Leave v = nat_lt 0 v.size
 may_call tiers call.Poll v = nat_lt 0 v.size
 may_call tiers call.Force v = true
 
--- a token that exists and is in no call begins one; it goes on where it needn't advance, and finishes where it must
+-- a token that exists may begin a call if it is in none, take a step if its call has one, and advance if it must
 abbrev pub may_begin : State → ℕ → Call → Bool
 may_begin s token c =
     nat_lt token (length s.views) && (is_idle (call_at s.calls token) && may_call (length s.parents) c (view_at s.views token))
@@ -38,7 +38,7 @@ may_finish s token = nat_lt token (length s.views) && is_due (call_at s.calls to
 abbrev pub begun : State → ℕ → Call → State
 begun s token c = record s { calls = slice_set s.calls token (Begun c) }
 
--- the turn that an advance is, which ends the tree or doesn't
+-- the turn of an advance, which ends the tree if `ends` is true
 abbrev pub finish_at : State → ℕ → Bool → Turn
 finish_at s token ends = finish_turn ends (word_at s.words 0) (view_at s.views token)
 
@@ -46,7 +46,7 @@ finish_at s token ends = finish_turn ends (word_at s.words 0) (view_at s.views t
 abbrev pub plan_ends : State → Bool
 plan_ends s = end_ends s.plan (word_at s.words 0).phase ((word_at s.words 0).parties == 0)
 
--- what a step answers, and what it leaves
+-- the answer of a step, and the state after it
 abbrev pub answer_to : State → Step → Answer
 answer_to s (Begin token c) = if may_begin s token c then answer.Begun else answer.NotNow
 answer_to s (Go token) = if may_go s token then answer.Played (turn_at s token).answer else answer.NotNow
@@ -57,7 +57,7 @@ after s (Begin token c) = if may_begin s token c then begun s token c else s
 after s (Go token) = if may_go s token then played s token (turn_at s token) else s
 after s (Finish token) = if may_finish s token then played s token (finish_at s token (plan_ends s)) else s
 
--- the answers of a run, and the state that it leaves
+-- the answers of a run, and the state after it
 abbrev pub answers : List Step → State → List Answer
 answers [] s = []
 answers (x ∷ xs) s = answer_to s x ∷ answers xs (after s x)
@@ -66,7 +66,7 @@ abbrev pub run : List Step → State → State
 run [] s = s
 run (x ∷ xs) s = run xs (after s x)
 
--- the flat step that a step of a run is, by the token's number; none where it does nothing
+-- the flat step of a step of a run, by the token's number; a step that does nothing has none
 abbrev pub step_label : State → Step → Option FlatStep
 step_label s (Begin token c) = None
 step_label s (Go token) = if may_go s token then label token (turn_at s token).kind else None
@@ -76,7 +76,7 @@ abbrev pub listed : Option FlatStep → List FlatStep
 listed None = []
 listed (Some step) = step ∷ []
 
--- the flat steps that a run is
+-- the flat steps of a run
 abbrev pub labels : List Step → State → List FlatStep
 labels [] s = []
 labels (x ∷ xs) s = listed (step_label s x) ++ labels xs (after s x)
@@ -91,21 +91,21 @@ IsStepOfCalls (Begin token c) = IsCall c
 IsStepOfCalls (Go token) = Unit {0}
 IsStepOfCalls (Finish token) = Unit {0}
 
--- of each step of a run
+-- the caller's condition for each step of a run
 abbrev pub AreSteps : List Step → Type 0
 AreSteps [] = Unit {0}
 AreSteps (x ∷ xs) = IsStepOfCalls x × AreSteps xs
 
--- what a run is beside a flat phaser that looks like the tree before it
+-- what a run means for a flat phaser that looks like the tree before it
 pub record IsFlat (s : State) (steps : List Step) (f : Flat) : Type 0 where
-  -- the labels of its steps are a flat run, which leaves what looks like the tree after it
+  -- the labels of its steps are a flat run, after which the flat phaser looks like the tree after the run
   pub allowed : IsFlatRun (labels steps s) f
   pub alike : LooksAlike (flat_run (labels steps s) f) (image (run steps s).words (run steps s).views)
-  -- and the tally holds in the state that is left
+  -- the tally holds in the state after the run
   pub core : IsCore (run steps s)
 
--- The tree is flat: whatever the steps of whatever tokens, on whatever tree, they are the run of one flat phaser over all members of all
--- tokens, each counted at the step that admits it.
+-- The tree is flat: on every tree, any steps of any tokens are a run of one flat phaser over all members of all tokens. A member counts from
+-- the step that admits it.
 abbrev pub TheTreeIsFlat : Type 0
 TheTreeIsFlat =
     (s : State) (steps : List Step) (f : Flat)

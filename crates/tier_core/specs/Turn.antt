@@ -1,4 +1,5 @@
--- Calls as steps: the next step of each call, and what it answers (own; the calls are those of Java SE 21, `Phaser`, polling is own).
+-- Calls as steps: the next step of each call, and its answer. The calls are those of Java SE 21's `Phaser`; steps and polls are not part of
+-- its API.
 pub use Rattle.tier_core.specs.declared.call.Call.{Call}
 use Rattle.tier_core.specs.declared.call.Call.TheVariants as call
 pub use Rattle.tier_core.specs.declared.call.Cause.{Cause}
@@ -24,15 +25,15 @@ use Rattle.tier_steps.specs.declared.kind.Kind.{Kind}
 use Rattle.tier_steps.specs.declared.kind.Kind.TheVariants.{Look, Glance, Refuse, Join, Arrive, Leave, Advance, Force, Claim, Settle, SettleBack, Climb, Refresh}
 use Rattle.tier_steps.specs.Step.{passed, owed, added, looked, refused}
 
--- the phase that an ended root shows
+-- the answer Ended with the phase that an ended root shows
 abbrev pub end_shown : Fields → Played
 end_shown root = Ended (shown_of root.phase true)
 
--- a word that is behind a token which counts there
+-- the tier lags: its parties have all arrived, in another phase than the token's
 abbrev pub lags : Fields → View → Bool
 lags w v = nat_lt 0 w.parties && ((w.unarrived == 0) && not (w.phase == v.phase))
 
--- no room for so many parties; all that refuses them; an empty tier below the root
+-- a tier without room for `more` parties, a tier that refuses them, and an empty tier below the root
 abbrev pub has_no_room : ℕ → Fields → Bool
 has_no_room more w = nat_lt 65535 (w.parties + more)
 
@@ -51,14 +52,14 @@ cause_of t phase w =
 abbrev pub refusal : ℕ → ℕ → ℕ → Fields → Played
 refusal t more phase w = if has_no_room more w then Full w.parties else Held phase (cause_of t phase w)
 
--- what a join answers that isn't taken
+-- the answers of a join that is not taken
 abbrev pub is_refusal : Played → Bool
 is_refusal (Held phase why) = true
 is_refusal (Full parties) = true
 is_refusal (Ended number) = true
 is_refusal _ = false
 
--- A call that has claimed tiers doesn't end at its join or its refusal: it goes on with these tiers.
+-- A call that has claimed tiers doesn't end with its join or its refusal, but goes on with these tiers.
 abbrev pub unless_claimed : ℕ → Played → Played
 unless_claimed zero answer = answer
 unless_claimed (suc claimed) answer = GoesOn
@@ -71,7 +72,7 @@ abbrev pub giving_back : ℕ → Played → Progress
 giving_back zero answer = Idle
 giving_back (suc claimed) answer = ToGiveBack answer
 
--- A join with so many claimed tiers, at the next tier of its path: it ends with the tree, is refused, claims an empty tier, or is taken.
+-- A join with `claimed` claimed tiers, at the next tier of its path: it ends with the tree, is refused, claims an empty tier, or is taken.
 abbrev pub seek_turn : ℕ → ℕ → ℕ → ℕ → Fields → View → Turn
 seek_turn tier claimed size t w v =
     if w.ended then record { kind = Look; tier = 0; next = giving_back claimed (end_shown w); answer = unless_claimed claimed (end_shown w) }
@@ -84,16 +85,16 @@ seek_turn tier claimed size t w v =
     else (if is_claimable t w then record { kind = Claim tier claimed size; tier = t; next = ToSeek tier size; answer = GoesOn }
     else record { kind = Join tier claimed size; tier = t; next = settling claimed; answer = unless_claimed claimed (Done w.phase) }))
 
--- how many tiers an errand has claimed
+-- the number of tiers that an errand has claimed
 abbrev pub claimed_by : Errand → ℕ
 claimed_by (Opening tier claimed stage size) = claimed
 claimed_by _ = 0
 
--- A look at the root that a call ends with; it stands where no step is due as well.
+-- the look at the root with which a call ends; it also fills in if no step is due
 abbrev pub last_look : Played → Turn
 last_look answer = record { kind = Look; tier = 0; next = Idle; answer = answer }
 
--- after a join the claimed tiers are settled from the highest down, and the last one answers with the phase of the join
+-- After a join, the claimed tiers get their parties, from the highest down. The last one answers with the phase of the join.
 abbrev pub settle_turn : List ℕ → View → Errand → Turn
 settle_turn parents v (Opening tier (suc claimed) stage size) = record {
   kind = Settle tier claimed size;
@@ -106,7 +107,7 @@ settle_turn parents v Rest = last_look GoesOn
 settle_turn parents v Advancing = last_look GoesOn
 settle_turn parents v (Climbing t passage) = last_look GoesOn
 
--- after a refusal they are given back likewise, and the last one answers the refusal
+-- After a refusal, the claimed tiers are released, from the highest down. The last one answers with the refusal.
 abbrev pub give_back_turn : List ℕ → Played → Errand → Turn
 give_back_turn parents answer (Opening tier (suc claimed) stage size) = record {
   kind = SettleBack tier claimed size;
@@ -119,12 +120,12 @@ give_back_turn parents answer Rest = last_look GoesOn
 give_back_turn parents answer Advancing = last_look GoesOn
 give_back_turn parents answer (Climbing t passage) = last_look GoesOn
 
--- the own step of a call that passes its tier
+-- the step of an arrival or a departure at its own tier
 abbrev pub own_kind : Passage → Kind
 own_kind Arrival = Arrive
 own_kind Departure = Leave
 
--- how a call goes on from what is owed, and what it answers: the phase, and the root's parties as the step leaves them
+-- How a call goes on from what its token owes, and the answer of the step: `phase`, and `parties` at the root after the step.
 abbrev pub goes_on : Passage → Errand → Progress
 goes_on passage Rest = Idle
 goes_on passage Advancing = Due passage
@@ -137,7 +138,7 @@ told phase parties Advancing = MustAdvance phase parties
 told phase parties (Climbing t up) = GoesOn
 told phase parties (Opening tier claimed stage size) = GoesOn
 
--- A party passes a tier, in a call that arrives or leaves: at an ended root the token looks instead, and a tier that lags is refreshed first.
+-- The step of an arrival or a departure that passes a tier. If the root has ended, the token looks instead. A lagging tier is refreshed first.
 abbrev pub pass_turn : List ℕ → Passage → ℕ → Passage → Kind → Progress → Played → Fields → View → Turn
 pass_turn parents own t passage kind here over w v =
     if w.ended then last_look over
@@ -149,16 +150,16 @@ pass_turn parents own t passage kind here over w v =
       answer = told v.phase (passed t passage w).parties (owed (parent_of parents t) t passage w);
     })
 
--- the climb of such a call, which has counted in the phase of its own step
+-- the step of such a call's climb, after it was counted at its own tier
 abbrev pub climb_turn : List ℕ → Passage → Fields → View → Errand → Turn
 climb_turn parents own w v (Climbing t passage) = pass_turn parents own t passage (Climb passage) (Owing own) (Done v.phase) w v
 climb_turn parents own w v _ = last_look GoesOn
 
--- a poll's answer after its look at the root: whether that look moved the token into the next phase
+-- the answer of a poll after its look at the root: `moved` says whether that look moved the token into the next phase
 abbrev pub polled : Bool → ℕ → Played
 polled moved phase = if moved then Passed phase else Done phase
 
--- an advance is asked for in a phase and with parties that fit a word
+-- the phase and the parties in the answer MustAdvance fit into a word
 abbrev pub IsInRange : Played → Type 0
 IsInRange (MustAdvance phase parties) = (phase ≤ 2147483647) × (parties ≤ 65535)
 IsInRange _ = Unit {0}
@@ -193,7 +194,7 @@ first_turn call.Poll root own v = record {
 }
 first_turn call.Force root own v = record { kind = Force; tier = 0; next = Idle; answer = end_shown root }
 
--- the advance, or a look where the root has ended
+-- the advance, or a look if the root has ended
 abbrev pub finish_turn : Bool → Fields → View → Turn
 finish_turn ends root v = record { kind = (if root.ended then Look else Advance ends); tier = 0; next = Idle; answer = Done v.phase }
 
@@ -215,7 +216,7 @@ place parents (Owing own) v = errand_place parents v.errand
 place parents (Due own) v = 0
 place parents (Refreshing moved) v = v.tier
 
--- The next step of a call that has looked at the root, by the word of the tier where it is taken; an advance ends the tree if `ends` says so.
+-- The next step of a call that has looked at the root, by the word of the tier where it is taken. An advance ends the tree if `ends` is true.
 abbrev pub turn_by : List ℕ → Bool → Fields → Progress → View → Turn
 turn_by parents ends w Idle v = last_look GoesOn
 turn_by parents ends w (Begun c) v = last_look GoesOn
@@ -232,7 +233,7 @@ turn_by parents ends w (Refreshing moved) v = record {
   answer = polled moved v.phase;
 }
 
--- The next step of a call, wherever it stands: the first by the root's word and that of the token's tier, each other by one word.
+-- The next step of a call, however far it has come: the first step by the root's word and that of the token's tier, each other by one word.
 abbrev pub turn : List ℕ → List Fields → Progress → View → Turn
 turn parents words Idle v = last_look GoesOn
 turn parents words (Begun c) v = first_turn c (word_at words 0) (word_at words v.tier) v

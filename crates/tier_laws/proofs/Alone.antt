@@ -1,7 +1,7 @@
 -- While a member is awaited, no step of another token leaves that token with the advance to take.
 use Rattle.std.proofs.Common.{◌≡◌, ℕ, zero, suc, ◌<◌, ⊎_elim, Bool, true, false, cond, eqb, List, length, length-set, refl, sym, ◌∙◌, ap, subst, arith}
 use Rattle.std.specs.Prelude.{not}
-use Rattle.tier_steps.specs.Step.{looked, refused, added, passed, owed}
+use Rattle.tier_steps.specs.Step.{looked, refused, added}
 use Rattle.std.proofs.lemmas.List.{get_or-set_same}
 use Rattle.flat_phaser.specs.declared.FlatStep.TheVariants as flat
 use Rattle.flat_phaser.specs.Flat.{Flat}
@@ -15,7 +15,6 @@ use Rattle.tier_steps.specs.declared.view.Passage.{Passage}
 use Rattle.tier_steps.specs.declared.view.Passage.TheVariants.{Arrival, Departure}
 use Rattle.tier_steps.specs.declared.kind.Kind.{Kind}
 use Rattle.tier_steps.specs.declared.kind.Kind.TheVariants.{Look, Glance, Refuse, Join, Arrive, Leave, Advance, Force, Claim, Settle, SettleBack, Climb, Refresh}
-use Rattle.tier_shape.specs.Parents.{parent_of}
 use Rattle.tier_steps.specs.View.{ancestor, absent}
 use Rattle.tier_steps.specs.Tally.{word_at}
 use Rattle.tier_steps.specs.Laws.{stepped_view}
@@ -26,8 +25,8 @@ use Rattle.tier_core.specs.declared.call.Played.{Played}
 use Rattle.tier_core.specs.declared.call.Progress.{Progress}
 use Rattle.tier_core.specs.declared.call.Progress.TheVariants.{Idle, Begun, Seeking as ToSeek, Settling, GivingBack as ToGiveBack, Passing, Owing, Due, Refreshing}
 use Rattle.tier_core.specs.declared.call.Turn.{Turn}
-use Rattle.tier_core.specs.declared.call.Played.TheVariants.{GoesOn, Done}
-use Rattle.tier_core.specs.Turn.{end_shown, is_refusing, is_claimable, refusal, unless_claimed, seek_turn, last_look, goes_on, told, errand_place, claimed_by, giving_back, settling, settle_turn, give_back_turn, pass_turn, climb_turn, first_turn, lags, own_kind, turn}
+use Rattle.tier_core.specs.declared.call.Played.TheVariants.{Done}
+use Rattle.tier_core.specs.Turn.{end_shown, refusal, seek_turn, errand_place, claimed_by, giving_back, settling, settle_turn, give_back_turn, pass_turn, climb_turn, first_turn, lags, own_kind, turn}
 use Rattle.tier_core.specs.Machine.{State, IsCore, view_at, call_at, is_due, turn_at, played}
 use Rattle.tier_core.proofs.Turns.{by_test, not_both}
 use Rattle.tier_core.proofs.Places.{MayPlay, played_core, turn_may}
@@ -39,6 +38,7 @@ use Rattle.tier_laws.proofs.Planning.{known_active}
 use Rattle.tier_laws.proofs.Holding.{awaited_tokens_hold}
 use Rattle.tier_laws.proofs.Ending.{at, turned_flat}
 use Rattle.tier_laws.proofs.Searching.{by_search, over_turn, refuse_turn, join_turn}
+use Rattle.tier_laws.proofs.Passing.{by_passing}
 
 -- the kinds of step that let a party pass
 abbrev pub is_passing : Kind → Bool
@@ -74,10 +74,6 @@ no_back (suc k) a = refl
 no_settle : (k : ℕ) → is_due (settling k) ≡ false
 no_settle zero = refl
 no_settle (suc k) = refl
-
-by_turn_plain : (P : Turn → Type 0) (b : Bool) (x y : Turn) → P x → P y → P (cond b x y)
-by_turn_plain P true x y p q = p
-by_turn_plain P false x y p q = q
 
 twice : (b c : Bool) (passage : Passage) → is_due (cond b Idle (cond c Idle (Passing passage))) ≡ false
 twice true c passage = refl
@@ -123,15 +119,8 @@ give_back_due ps a (Opening tier (suc k) stage size) = never (give_back_turn ps 
 pass_due : (ps : List ℕ) (own : Passage) (t : ℕ) (passage : Passage) (kind : Kind) (here : Progress) (over : Played) (w : Fields) (v : View)
     → is_passing kind ≡ true → is_due here ≡ false → PassesIfDue (pass_turn ps own t passage kind here over w v)
 pass_due ps own t passage kind here over w v passing stays =
-    let wait : Turn = record { kind = Refresh; tier = t; next = here; answer = GoesOn } in
-    let goes : Turn = record {
-      kind = kind;
-      tier = t;
-      next = goes_on own (owed (parent_of ps t) t passage w);
-      answer = told v.phase (passed t passage w).parties (owed (parent_of ps t) t passage w);
-    } in
-    by_turn_plain PassesIfDue w.ended (last_look over) (cond (lags w v) wait goes) (λ e. not_both false e refl)
-    (by_turn_plain PassesIfDue (lags w v) wait goes (λ e. not_both (is_due here) e stays) (λ _. passing))
+    by_passing PassesIfDue ps own t passage kind here over w v (λ _ e. not_both false e refl) (λ _ _ e. not_both (is_due here) e stays)
+    (λ _ _ _. passing) (λ _ _ _ _. passing) (λ _ _ _ _ _. passing)
 
 climb_due : (ps : List ℕ) (w : Fields) (own : Passage) (v : View) (e : Errand) → PassesIfDue (climb_turn ps own w v e)
 climb_due ps w own v Rest = λ e. not_both false e refl

@@ -1,5 +1,5 @@
 -- What the steps of an arrival and a departure tell.
-use Rattle.std.proofs.Common.{◌≡◌, ℕ, ◌<◌, true, false, cond, List, ◌∷◌, length, length-set, refl, sym, ◌∙◌, ap, subst}
+use Rattle.std.proofs.Common.{◌≡◌, ℕ, ◌<◌, true, false, List, ◌∷◌, length, length-set, refl, sym, ◌∙◌, ap, subst}
 use Rattle.std.specs.Prelude.{◌↔◌}
 use Rattle.std.proofs.lemmas.List.{get_or-set_same}
 use Rattle.phaser_word.specs.Fields.{Fields}
@@ -10,28 +10,27 @@ use Rattle.tier_steps.specs.declared.view.Errand.TheVariants.{Rest, Climbing, Ad
 use Rattle.tier_steps.specs.declared.view.Passage.{Passage}
 use Rattle.tier_steps.specs.declared.view.Passage.TheVariants.{Arrival, Departure}
 use Rattle.tier_steps.specs.declared.kind.Kind.{Kind}
-use Rattle.tier_steps.specs.declared.kind.Kind.TheVariants.{Climb, Refresh}
+use Rattle.tier_steps.specs.declared.kind.Kind.TheVariants.{Climb}
 use Rattle.tier_shape.specs.Parents.{parent_of}
 use Rattle.tier_steps.specs.View.{new_view}
 use Rattle.tier_steps.specs.Tally.{blank, word_at, root_phase}
 use Rattle.tier_steps.specs.Step.{passed, owed, word_after}
 use Rattle.tier_steps.specs.Laws.{words_after, stepped_view}
 use Rattle.tier_steps.specs.Image.{label}
-use Rattle.tier_steps.proofs.Pass.{owed_is}
 use Rattle.tier_steps.proofs.Closing.{phase_passed, ended_passed}
 use Rattle.tier_core.specs.declared.call.Call.{Call}
 use Rattle.tier_core.specs.declared.call.Call.TheVariants as call
 use Rattle.tier_core.specs.declared.call.Played.{Played}
-use Rattle.tier_core.specs.declared.call.Played.TheVariants.{GoesOn}
 use Rattle.tier_core.specs.declared.call.Progress.{Progress}
 use Rattle.tier_core.specs.declared.call.Turn.{Turn}
-use Rattle.tier_core.specs.Turn.{lags, own_kind, goes_on, told, last_look, pass_turn}
+use Rattle.tier_core.specs.Turn.{own_kind, last_look, pass_turn}
 use Rattle.tier_core.specs.Machine.{State, IsCore, view_at, is_active, played}
 use Rattle.tier_core.proofs.Places.{MayPlay, played_core}
 use Rattle.tier_laws.specs.Moments.{Moment, flat_after}
 use Rattle.tier_laws.specs.Told.{IsCounted, MakesDue, IsDoneIn, Tells}
 use Rattle.tier_laws.proofs.Ending.{at, owing_is_ready}
-use Rattle.tier_laws.proofs.Memory.{any_here, call_of, Remembers, Goal, by_turn, no_last, done_later}
+use Rattle.tier_laws.proofs.Memory.{any_here, call_of, Remembers, Goal, no_last, done_later}
+use Rattle.tier_laws.proofs.Passing.{by_passing, passed_turn, refresh_turn}
 
 -- The step that passes a tier: what it makes of word and view, and what it tells of the call.
 pub record Passer (s : State) (i : ℕ) (c : Call) (past : List Moment) (t : ℕ) (passage : Passage) (kind : Kind) : Type 0 where
@@ -87,24 +86,20 @@ pub pass_tells : (s : State) (i : ℕ) (c : Call) (past : List Moment) (own : Pa
 pass_tells s i c past own t passage kind here over core is past_end stays active =
     let w : Fields = word_at s.words t in
     let v : View = view_at s.views i in
-    let parties : ℕ = (passed t passage (word_at s.words t)).parties in
-    let goes : Errand → Turn = λ e. record { kind = kind; tier = t; next = goes_on own e; answer = told v.phase parties e } in
-    let wait : Turn = record { kind = Refresh; tier = t; next = here; answer = GoesOn } in
-    by_turn (Goal s i c past) w.ended (last_look over) (cond (lags w v) wait (goes (owed (parent_of s.parents t) t passage w)))
+    let goes : Errand → Turn = passed_turn own t passage kind w v in
+    by_passing (Goal s i c past) s.parents own t passage kind here over w v
     (λ e may. record { told = record { tells = past_end e (last_look over) may; ends = λ _. refl }; keeps = tt })
-    (λ going. by_turn (Goal s i c past) (lags w v) wait (goes (owed (parent_of s.parents t) t passage w))
-    (λ e may. record { told = record { tells = active; ends = λ x. no_last x }; keeps = stays (at i s wait) })
-    (λ e. owed_is (λ x. owed (parent_of s.parents t) t passage w ≡ x → Goal s i c past (goes x)) (parent_of s.parents t) t passage w
-    (λ _ may. record { told = record { tells = is.done (goes Rest) refl; ends = λ _. refl }; keeps = tt })
-    (λ z owes may. record {
+    (λ _ _ may. record { told = record { tells = active; ends = λ x. no_last x }; keeps = stays (at i s (refresh_turn t here)) })
+    (λ _ _ may. record { told = record { tells = is.done (goes Rest) refl; ends = λ _. refl }; keeps = tt })
+    (λ going z owes may. record {
       told = record { tells = (refl, makes_due s i c past t passage kind (goes Advancing) core is may going z refl refl owes); ends = λ x. no_last x };
       keeps = subst (λ (n : ℕ). IsDoneIn i c n (at i s (goes Advancing) ∷ past)) (sym is.phase) (is.done (goes Advancing) refl);
     })
-    (λ j _ _ may. record {
+    (λ _ j _ _ may. record {
       told = record { tells = refl; ends = λ x. no_last x };
       keeps = subst (λ (n : ℕ). IsDoneIn i c n (at i s (goes (Climbing (parent_of s.parents t) j)) ∷ past)) (sym is.phase)
           (is.done (goes (Climbing (parent_of s.parents t) j)) refl);
-    }) refl))
+    })
 
 -- the own step of an arrival and of a departure is the flat step
 own_done : (s : State) (i : ℕ) (past : List Moment) (passage : Passage) (r : Turn) → (view_at s.views i).phase ≡ root_phase s.words

@@ -6,6 +6,7 @@ pub mod Ending
 pub mod Along
 pub mod Memory
 pub mod Searching
+pub mod Passing
 pub mod Seeking
 pub mod Going
 pub mod Entering

@@ -12,14 +12,14 @@ use Rattle.tier_steps.specs.declared.view.Errand.TheVariants.{Rest, Opening, Cli
 use Rattle.tier_steps.specs.declared.view.Passage.{Passage}
 use Rattle.tier_steps.specs.declared.view.Passage.TheVariants.{Arrival, Departure}
 use Rattle.tier_steps.specs.declared.kind.Kind.{Kind}
-use Rattle.tier_steps.specs.declared.kind.Kind.TheVariants.{Look, Refuse, Join, Advance, Claim, Climb, Refresh}
+use Rattle.tier_steps.specs.declared.kind.Kind.TheVariants.{Look, Refuse, Advance, Climb, Refresh}
 use Rattle.tier_shape.specs.Parents.{parent_of}
 use Rattle.tier_steps.specs.View.{new_view, ancestor}
 use Rattle.tier_steps.specs.Tally.{word_at, root_phase, ErrandFits}
 use Rattle.tier_steps.specs.Step.{passed, owed, looked, dropped}
 use Rattle.tier_steps.specs.Laws.{stepped_view}
 use Rattle.tier_steps.specs.Image.{label}
-use Rattle.tier_steps.proofs.Pass.{owed_is, unarrived_is_current}
+use Rattle.tier_steps.proofs.Pass.{unarrived_is_current}
 use Rattle.tier_core.specs.declared.call.Call.TheVariants as call
 use Rattle.tier_core.specs.declared.call.Played.{Played}
 use Rattle.tier_core.specs.declared.call.Played.TheVariants.{GoesOn, Done, AlreadyArrived}
@@ -40,7 +40,7 @@ use Rattle.tier_laws.proofs.Stepping.{Gone, gone, fitting, awaited_look}
 use Rattle.tier_steps.specs.declared.view.OpeningStage.TheVariants.{Joined, GoingBack}
 use Rattle.tier_steps.specs.Step.{added, opening, refused, given_up}
 use Rattle.tier_steps.proofs.Advance.{ancestor_within}
-use Rattle.tier_core.specs.Turn.{claimed_by, is_refusing, is_claimable, has_no_room, refusal, giving_back, settling, unless_claimed, seek_turn, settle_turn, give_back_turn}
+use Rattle.tier_core.specs.Turn.{claimed_by, is_refusing, is_claimable, has_no_room, seek_turn, settle_turn, give_back_turn}
 use Rattle.tier_laws.specs.Calls.{IsPlaced, IsJoinLook, JoinsBeginWithALook, JoinsPlaceAtOnce, IsAdmitted, OpenTiersAdmit, is_settling, SettlingKeepsMembers}
 use Rattle.tier_laws.proofs.Counting.{looked_empty}
 use Rattle.tier_laws.proofs.Seeking.{joined_phase, ended_root}
@@ -48,6 +48,7 @@ use Rattle.tier_laws.proofs.Ended.{looked_same}
 use Rattle.tier_steps.specs.Word.{is_being_opened}
 use Rattle.std.proofs.lemmas.Bool.{ltb-true}
 use Rattle.tier_laws.proofs.Searching.{by_search}
+use Rattle.tier_laws.proofs.Passing.{by_passing}
 
 -- no tier has ended while the root goes on
 pub still_going : (s : State) (t : ℕ) → IsCore s → (word_at s.words 0).ended ≡ false → t < length s.words → (word_at s.words t).ended ≡ false
@@ -67,17 +68,10 @@ pass_goes s i own t passage kind here over Q going errand waits passes =
     let w : Fields = word_at s.words t in
     let v : View = view_at s.views i in
     let parties : ℕ = (passed t passage (word_at s.words t)).parties in
-    let goes : Errand → Turn = λ e. record { kind = kind; tier = t; next = goes_on own e; answer = told v.phase parties e } in
-    let wait : Turn = record { kind = Refresh; tier = t; next = here; answer = GoesOn } in
-    by_turn (λ r. Gone s i r → Q) w.ended (last_look over) (cond (lags w v) wait (goes (owed (parent_of s.parents t) t passage w)))
-    (λ e. not_both w.ended e going)
-    (λ _. by_turn (λ r. Gone s i r → Q) (lags w v) wait (goes (owed (parent_of s.parents t) t passage w))
-    (λ _. waits)
-    (λ _. owed_is (λ x. owed (parent_of s.parents t) t passage w ≡ x → Gone s i (goes x) → Q) (parent_of s.parents t) t passage w
-    (λ owes g. passes g.view (inl (g.answer, ap (λ (x : View). x.errand) g.view ∙ (errand ∙ owes), g.call)))
-    (λ _ owes g. passes g.view (inr (inr ((parties, g.answer), ap (λ (x : View). x.errand) g.view ∙ (errand ∙ owes), g.call))))
-    (λ j _ owes g. passes g.view (inr (inl (g.answer, (parent_of s.parents t, j, ap (λ (x : View). x.errand) g.view ∙ (errand ∙ owes)), g.call))))
-    refl))
+    by_passing (λ r. Gone s i r → Q) s.parents own t passage kind here over w v (λ e. not_both w.ended e going) (λ _ _. waits)
+    (λ _ owes g. passes g.view (inl (g.answer, ap (λ (x : View). x.errand) g.view ∙ (errand ∙ owes), g.call)))
+    (λ _ _ owes g. passes g.view (inr (inr ((parties, g.answer), ap (λ (x : View). x.errand) g.view ∙ (errand ∙ owes), g.call))))
+    (λ _ j _ owes g. passes g.view (inr (inl (g.answer, (parent_of s.parents t, j, ap (λ (x : View). x.errand) g.view ∙ (errand ∙ owes)), g.call))))
 
 -- the look of an arrival and of a departure
 look_by : (s : State) (i : ℕ) (passage : Passage) → IsCore s → (word_at s.words 0).ended ≡ false → IsAwaited s i

@@ -12,13 +12,12 @@ use Rattle.tier_steps.specs.declared.view.OpeningStage.TheVariants.{Joined, Goin
 use Rattle.tier_steps.specs.declared.view.Passage.{Passage}
 use Rattle.tier_steps.specs.declared.view.Passage.TheVariants.{Arrival, Departure}
 use Rattle.tier_steps.specs.declared.kind.Kind.{Kind}
-use Rattle.tier_steps.specs.declared.kind.Kind.TheVariants.{Look, Glance, Refuse, Join, Advance, Force, Claim, Climb, Refresh}
+use Rattle.tier_steps.specs.declared.kind.Kind.TheVariants.{Look, Glance, Refuse, Advance, Force, Climb, Refresh}
 use Rattle.tier_shape.specs.Parents.{parent_of}
 use Rattle.tier_steps.specs.View.{ancestor, new_view}
 use Rattle.tier_steps.specs.Tally.{word_at}
-use Rattle.tier_steps.specs.Step.{passed, owed, added, looked, refused}
+use Rattle.tier_steps.specs.Step.{passed, added, looked, refused}
 use Rattle.tier_steps.specs.Laws.{stepped_view}
-use Rattle.tier_steps.proofs.Pass.{owed_is}
 use Rattle.tier_core.specs.declared.call.Call.{Call}
 use Rattle.tier_core.specs.declared.call.Call.TheVariants as call
 use Rattle.tier_core.specs.declared.call.Played.{Played}
@@ -26,7 +25,7 @@ use Rattle.tier_core.specs.declared.call.Played.TheVariants.{GoesOn, Done, Passe
 use Rattle.tier_core.specs.declared.call.Progress.{Progress}
 use Rattle.tier_core.specs.declared.call.Progress.TheVariants.{Idle, Begun, Seeking as ToSeek, Settling, GivingBack as ToGiveBack, Passing, Owing, Due, Refreshing}
 use Rattle.tier_core.specs.declared.call.Turn.{Turn}
-use Rattle.tier_core.specs.Turn.{end_shown, is_refusing, is_claimable, refusal, is_refusal, lags, polled, claimed_by, giving_back, settling, unless_claimed, seek_turn, settle_turn, give_back_turn, own_kind, goes_on, told, last_look, pass_turn, climb_turn, errand_place, first_turn, turn}
+use Rattle.tier_core.specs.Turn.{end_shown, is_refusing, refusal, is_refusal, lags, polled, claimed_by, giving_back, settling, unless_claimed, seek_turn, settle_turn, give_back_turn, own_kind, last_look, pass_turn, climb_turn, errand_place, first_turn, turn}
 use Rattle.tier_core.specs.Machine.{State, IsCore, CallFits, BegunFits, view_at, call_at, is_active, is_due, turn_at}
 use Rattle.tier_core.specs.Run.{may_begin, begun, finish_at, plan_ends, IsCall}
 use Rattle.tier_core.proofs.Turns.{by_test, not_both, looked_size, refusal_is}
@@ -34,12 +33,13 @@ use Rattle.tier_laws.specs.Moments.{Moment, Event, moments, AreEvents, AreOfCall
 use Rattle.tier_laws.specs.Calls.{IsPlaced}
 use Rattle.tier_laws.specs.Once.{is_counting, times_counted, counts_when_done, CountsAs, LatestCounts, CallsCountOnce, view_after_turn, PlacesAs, LatestPlaces, JoinsPlaceWhereAsked, IsNotedAt, NotesAs, LatestNotes, RefusalsAreNoted}
 use Rattle.tier_laws.proofs.Ending.{alike_itself, at, imaged}
-use Rattle.tier_laws.proofs.Memory.{any_here, any_later, call_of, by_turn}
+use Rattle.tier_laws.proofs.Memory.{any_here, any_later, call_of}
 use Rattle.tier_laws.specs.Frame.{flat_of}
 use Rattle.tier_core.proofs.Runs.{begun_core}
 use Rattle.tier_laws.proofs.Reached.{Alikes, Tells_, reached, carried, any_alike}
 use Rattle.tier_laws.proofs.Along.{Carries, OfToken, of_token, along_call}
 use Rattle.tier_laws.proofs.Searching.{by_search, over_turn, refuse_turn, claim_turn, join_turn}
+use Rattle.tier_laws.proofs.Passing.{by_passing, passed_turn}
 
 -- what a turn answers, of a call that has counted so often
 abbrev Places : Call → Played → View → Type 0
@@ -340,12 +340,9 @@ pass_fits s i c past own t passage kind here over known at_end waits once =
     let v : View = view_at s.views i in
     let v' : View = stepped_view s.parents s.words kind t (view_at s.views i) in
     let parties : ℕ = (passed t passage (word_at s.words t)).parties in
-    let goes : Errand → Turn = λ e. record { kind = kind; tier = t; next = goes_on own e; answer = told v.phase parties e } in
-    let wait : Turn = record { kind = Refresh; tier = t; next = here; answer = GoesOn } in
-    by_turn (Fits s i c past) w.ended (last_look over) (cond (lags w v) wait (goes (owed (parent_of s.parents t) t passage w))) (λ _. at_end)
-    (λ _. by_turn (Fits s i c past) (lags w v) wait (goes (owed (parent_of s.parents t) t passage w)) (λ _. waits)
-    (λ _. owed_is (λ x. Fits s i c past (goes x)) (parent_of s.parents t) t passage w
-    (record {
+    let goes : Errand → Turn = passed_turn own t passage kind w v in
+    by_passing (Fits s i c past) s.parents own t passage kind here over w v (λ _. at_end) (λ _ _. waits)
+    (λ _ _. record {
       says = record {
         counts = once Idle (Done v.phase) ∙ sym (ap counts_when_done known.1 ∙ done_once known.0);
         places = subst (λ (x : Call). Places x (Done v.phase) v') (sym known.1) (places_pass known.0 (Done v.phase) v');
@@ -353,7 +350,7 @@ pass_fits s i c past own t passage kind here over known at_end waits once =
       };
       keeps = tt;
     })
-    (λ _. record {
+    (λ _ _ _. record {
       says = record {
         counts = once (Due own) (MustAdvance v.phase parties);
         places = subst (λ (x : Call). Places x (MustAdvance v.phase parties) v') (sym known.1) (places_pass known.0 (MustAdvance v.phase parties) v');
@@ -361,10 +358,10 @@ pass_fits s i c past own t passage kind here over known at_end waits once =
       };
       keeps = (known, once (Due own) (MustAdvance v.phase parties));
     })
-    (λ j _. let n = once (Owing own) GoesOn in record {
+    (λ _ j _ _. let n = once (Owing own) GoesOn in record {
       says = goes_on_once s i c past (goes (Climbing (parent_of s.parents t) j)) refl (omega arith);
       keeps = (known, n);
-    })))
+    })
 
 own_counts : (passage : Passage) → is_counting (own_kind passage) ≡ true
 own_counts Arrival = refl

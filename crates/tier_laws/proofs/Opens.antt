@@ -13,11 +13,11 @@ use Rattle.tier_steps.specs.declared.view.View.{View}
 use Rattle.tier_steps.specs.declared.view.Errand.{Errand}
 use Rattle.tier_steps.specs.declared.view.Errand.TheVariants.{Rest, Opening}
 use Rattle.tier_steps.specs.declared.view.OpeningStage.TheVariants.{Seeking, Joined}
-use Rattle.tier_steps.specs.declared.kind.Kind.TheVariants.{Look, Refuse, Join, Claim, Settle}
+use Rattle.tier_steps.specs.declared.kind.Kind.TheVariants.{Look, Refuse, Join, Settle}
 use Rattle.tier_steps.specs.View.{new_view, ancestor, claims_on, errand_claims, claim_share}
 use Rattle.tier_steps.specs.Word.{is_being_opened, joined}
 use Rattle.tier_steps.specs.Tally.{blank, word_at, root_phase, bit, ErrandFits}
-use Rattle.tier_steps.specs.Step.{added, opening, refused, word_after}
+use Rattle.tier_steps.specs.Step.{added, opening, word_after}
 use Rattle.tier_steps.specs.Laws.{words_after, stepped_view}
 use Rattle.tier_steps.specs.Image.{label, is_climbing}
 use Rattle.tier_steps.proofs.Advance.{ancestor_within}
@@ -31,7 +31,7 @@ use Rattle.tier_core.specs.declared.call.Progress.{Progress}
 use Rattle.tier_core.specs.declared.call.Progress.TheVariants.{Idle, Begun, Seeking as ToSeek, Settling, GivingBack as ToGiveBack, Passing, Owing, Due, Refreshing}
 use Rattle.tier_core.specs.declared.call.Step.TheVariants.{Begin, Go}
 use Rattle.tier_core.specs.declared.call.Turn.{Turn}
-use Rattle.tier_core.specs.Turn.{end_shown, claimed_by, is_refusing, is_claimable, has_no_room, refusal, giving_back, settling, unless_claimed, seek_turn, settle_turn, turn}
+use Rattle.tier_core.specs.Turn.{end_shown, claimed_by, is_refusing, has_no_room, settling, unless_claimed, seek_turn, settle_turn, turn}
 use Rattle.tier_core.specs.Machine.{State, IsCore, view_at, call_at, is_active, turn_at, played}
 use Rattle.tier_core.specs.Run.{may_begin, may_go, is_idle, begun, after}
 use Rattle.tier_core.proofs.Turns.{by_test, not_both}
@@ -44,7 +44,6 @@ use Rattle.tier_laws.proofs.Framing.{others_stay}
 use Rattle.tier_laws.proofs.Holding.{split, fits_at, awaited_late, parties_are_few}
 use Rattle.tier_laws.proofs.Ending.{alike_itself, at, own_imaged, imaged}
 use Rattle.tier_laws.proofs.Reached.{Alikes, reached}
-use Rattle.tier_laws.proofs.Memory.{by_turn}
 use Rattle.tier_laws.proofs.Seeking.{unclaimed, own_claims, joined_phase}
 use Rattle.tier_laws.proofs.Along.{core_after}
 use Rattle.tier_laws.proofs.Ranks.{Within, some_left, turn_lowers}

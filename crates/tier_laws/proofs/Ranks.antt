@@ -19,12 +19,12 @@ use Rattle.tier_shape.specs.Paths.{IsTiers, path_of}
 use Rattle.tier_shape.proofs.Going.{goes_up}
 use Rattle.tier_steps.specs.View.{ancestor, late_share}
 use Rattle.tier_steps.specs.Tally.{blank, word_at, root_phase, ErrandFits}
-use Rattle.tier_steps.specs.Step.{passed, owed, added, opening, looked, dropped, given_up, refused, word_after, IsDue, Needs}
+use Rattle.tier_steps.specs.Step.{owed, added, opening, looked, dropped, given_up, refused, word_after, IsDue, Needs}
 use Rattle.tier_steps.specs.Laws.{words_after, stepped_view}
 use Rattle.tier_steps.specs.Due.{is_advance}
 use Rattle.tier_steps.proofs.Advance.{ancestor_within}
 use Rattle.tier_steps.proofs.Closing.{phase_passed}
-use Rattle.tier_steps.proofs.Pass.{owed_is, only_here, climbing_late, unarrived_is_current}
+use Rattle.tier_steps.proofs.Pass.{only_here, climbing_late, unarrived_is_current}
 use Rattle.tier_steps.proofs.Path.{ancestors_are_on_the_path}
 use Rattle.tier_steps.proofs.Ready.{phases_stay}
 use Rattle.tier_core.specs.declared.call.Call.{Call}
@@ -34,16 +34,16 @@ use Rattle.tier_core.specs.declared.call.Played.TheVariants.{GoesOn, Done}
 use Rattle.tier_core.specs.declared.call.Progress.{Progress}
 use Rattle.tier_core.specs.declared.call.Progress.TheVariants.{Idle, Begun, Seeking as ToSeek, Settling, GivingBack as ToGiveBack, Passing, Owing, Due, Refreshing}
 use Rattle.tier_core.specs.declared.call.Turn.{Turn}
-use Rattle.tier_core.specs.Turn.{end_shown, is_refusing, is_claimable, refusal, lags, claimed_by, giving_back, settling, unless_claimed, seek_turn, settle_turn, give_back_turn, own_kind, goes_on, told, last_look, pass_turn, climb_turn, errand_place, turn}
+use Rattle.tier_core.specs.Turn.{end_shown, is_refusing, refusal, lags, claimed_by, giving_back, settling, seek_turn, settle_turn, give_back_turn, own_kind, pass_turn, climb_turn, errand_place, turn}
 use Rattle.tier_core.specs.Machine.{State, IsCore, CallFits, view_at, is_active}
 use Rattle.tier_core.specs.Run.{is_idle}
 use Rattle.tier_core.proofs.Turns.{not_both, looked_tier, looked_rests, looked_ended, looked_open}
 use Rattle.tier_core.proofs.Places.{MayPlay, is_step}
 use Rattle.tier_laws.specs.Count.{most_steps}
 use Rattle.tier_laws.proofs.Holding.{fits_at, held, nobody_advances, awaited_field, is_awaited}
-use Rattle.tier_laws.proofs.Memory.{by_turn}
 use Rattle.tier_laws.proofs.Seeking.{ended_root}
 use Rattle.tier_laws.proofs.Searching.{by_search}
+use Rattle.tier_laws.proofs.Passing.{by_passing}
 
 -- 1 for a tier that isn't in the phase of the climb
 abbrev pub behind : ℕ → Fields → ℕ
@@ -270,13 +270,8 @@ pass_lowers : (s : State) (i n : ℕ) (own : Passage) (t : ℕ) (passage : Passa
 pass_lowers s i n own t passage kind here over is left stays =
     let w : Fields = word_at s.words t in
     let v : View = view_at s.views i in
-    let parties : ℕ = (passed t passage (word_at s.words t)).parties in
-    let goes : Errand → Turn = λ e. record { kind = kind; tier = t; next = goes_on own e; answer = told v.phase parties e } in
-    let wait : Turn = record { kind = Refresh; tier = t; next = here; answer = GoesOn } in
-    by_turn (Lowers s i n) w.ended (last_look over) (cond (lags w v) wait (goes (owed (parent_of s.parents t) t passage w)))
-    (λ _ _. tt)
-    (λ going. by_turn (Lowers s i n) (lags w v) wait (goes (owed (parent_of s.parents t) t passage w))
-    (λ e may.
+    by_passing (Lowers s i n) s.parents own t passage kind here over w v (λ _ _. tt)
+    (λ _ _ may.
     let other : (word_at s.words t).phase ≢ (view_at s.views i).phase = may.needs.behind in
     let below : t ≢ 0 = λ z. other (ap (λ m. (word_at s.words m).phase) z ∙ sym is.current) in
     let up = above_it s.parents s.words v.phase t n left.levels (omega arith) left.root left.left in
@@ -287,10 +282,9 @@ pass_lowers s i n own t passage kind here over is left stays =
     let fewer = climb_less up.0 s.parents s.words (words_after s.words Refresh t v) v.phase (parent_of s.parents t)
     (written s.words t w' v.phase is.within refl) in
     stays (words_after s.words Refresh t v) (n - 1) record { levels = suc up.0; root = up.1; left = (let a = up.2 in omega arith) })
-    (λ e. owed_is (λ x. owed (parent_of s.parents t) t passage w ≡ x → Lowers s i n (goes x)) (parent_of s.parents t) t passage w
-    (λ _ _. tt)
-    (λ _ _ _. (let a = climb_some left.levels s.parents s.words v.phase t in let b = left.left in omega arith))
-    (λ j below owes _.
+    (λ _ _ _. tt)
+    (λ _ _ _ _. (let a = climb_some left.levels s.parents s.words v.phase t in let b = left.left in omega arith))
+    (λ _ j below owes _.
     let up = above_it s.parents s.words v.phase t n left.levels below left.root left.left in
     let v' : View = stepped_view s.parents s.words kind t (view_at s.views i) in
     let ws' : List Fields = words_after s.words kind t v in
@@ -302,7 +296,7 @@ pass_lowers s i n own t passage kind here over is left stays =
       levels = up.0;
       root = above_parent s.parents t up.0 ∙ up.1;
       left = (let a = up.2 in omega arith);
-    })) refl))
+    }))
 
 own_steps : (s : State) (i : ℕ) (passage : Passage) → (view_at s.views i).tier < length s.words → (view_at s.views i).phase ≡ root_phase s.words
     → Steps s i (view_at s.views i).tier passage (own_kind passage)

@@ -11,7 +11,7 @@ use Rattle.tier_steps.specs.declared.view.View.{View}
 use Rattle.tier_steps.specs.declared.view.Errand.{Errand}
 use Rattle.tier_steps.specs.declared.view.Errand.TheVariants.{Opening}
 use Rattle.tier_steps.specs.declared.view.OpeningStage.TheVariants.{Seeking, Joined, GoingBack}
-use Rattle.tier_steps.specs.declared.kind.Kind.TheVariants.{Look, Refuse, Join, Claim}
+use Rattle.tier_steps.specs.declared.kind.Kind.TheVariants.{Refuse}
 use Rattle.tier_shape.specs.Parents.{IsShape, parent_of}
 use Rattle.tier_steps.specs.View.{new_view, ancestor, claims_on, errand_claims, claim_share}
 use Rattle.tier_steps.specs.Tally.{word_at, root_phase, bit}
@@ -23,10 +23,9 @@ use Rattle.tier_core.specs.declared.call.Call.TheVariants as call
 use Rattle.tier_core.specs.declared.call.Cause.{Cause}
 use Rattle.tier_core.specs.declared.call.Cause.TheVariants as cause
 use Rattle.tier_core.specs.declared.call.Played.{Played}
-use Rattle.tier_core.specs.declared.call.Played.TheVariants.{GoesOn, Done, Held, Full}
-use Rattle.tier_core.specs.declared.call.Progress.TheVariants.{Seeking as ToSeek}
+use Rattle.tier_core.specs.declared.call.Played.TheVariants.{Held, Full}
 use Rattle.tier_core.specs.declared.call.Turn.{Turn}
-use Rattle.tier_core.specs.Turn.{end_shown, has_no_room, is_refusing, is_claimable, cause_of, refusal, unless_claimed, giving_back, settling, seek_turn, settle_turn, give_back_turn}
+use Rattle.tier_core.specs.Turn.{end_shown, has_no_room, cause_of, refusal, giving_back, seek_turn, settle_turn, give_back_turn}
 use Rattle.tier_core.specs.Machine.{State, IsCore, view_at}
 use Rattle.tier_core.proofs.Turns.{not_both}
 use Rattle.tier_core.proofs.Places.{MayPlay}
@@ -37,7 +36,7 @@ use Rattle.tier_laws.specs.Told.{IsCounted, HasEnded, refusing, IsClaimedByAnoth
 use Rattle.tier_laws.proofs.Holding.{fits_at}
 use Rattle.tier_laws.proofs.Counting.{looked_empty}
 use Rattle.tier_laws.proofs.Ending.{at, ended_stays}
-use Rattle.tier_laws.proofs.Memory.{any_here, RefusalTells, Goal, by_turn, no_last, done_later, refusal_later, refused_good, joined_good}
+use Rattle.tier_laws.proofs.Memory.{any_here, RefusalTells, Goal, no_last, done_later, refusal_later, refused_good, joined_good}
 use Rattle.tier_laws.proofs.Searching.{by_search, over_turn, refuse_turn, join_turn}
 
 -- a tier that has ended is the root

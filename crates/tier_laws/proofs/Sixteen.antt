@@ -6,7 +6,6 @@ use Rattle.std.proofs.lemmas.List.{get_or-set_same}
 use Rattle.flat_phaser.proofs.Everyone.{either}
 use Rattle.phaser_word.specs.Fields.{Fields}
 use Rattle.tier_shape.specs.Paths.{IsTiers}
-use Rattle.tier_shape.specs.Parents.{parent_of}
 use Rattle.tier_steps.specs.Word.{is_being_opened}
 use Rattle.tier_steps.specs.declared.view.View.{View}
 use Rattle.tier_steps.specs.declared.view.Errand.{Errand}
@@ -16,12 +15,12 @@ use Rattle.tier_steps.specs.declared.view.OpeningStage.TheVariants.{Seeking, Joi
 use Rattle.tier_steps.specs.declared.view.Passage.{Passage}
 use Rattle.tier_steps.specs.declared.view.Passage.TheVariants.{Arrival, Departure}
 use Rattle.tier_steps.specs.declared.kind.Kind.{Kind}
-use Rattle.tier_steps.specs.declared.kind.Kind.TheVariants.{Look, Refuse, Join, Claim, Climb, Refresh}
+use Rattle.tier_steps.specs.declared.kind.Kind.TheVariants.{Climb}
 use Rattle.tier_steps.specs.View.{new_view, ancestor, only_at, claims_on, errand_claims, claim_share}
 use Rattle.tier_steps.specs.Tally.{word_at, root_phase, ErrandFits, bit}
-use Rattle.tier_steps.specs.Step.{passed, owed, added, looked, refused, opening}
+use Rattle.tier_steps.specs.Step.{added, looked, refused, opening}
 use Rattle.tier_steps.specs.Laws.{stepped_view}
-use Rattle.tier_steps.proofs.Pass.{owed_is, only_here}
+use Rattle.tier_steps.proofs.Pass.{only_here}
 use Rattle.tier_core.specs.declared.call.Answer.TheVariants as answer
 use Rattle.tier_core.specs.declared.call.Call.{Call}
 use Rattle.tier_core.specs.declared.call.Call.TheVariants as call
@@ -31,18 +30,18 @@ use Rattle.tier_core.specs.declared.call.Progress.{Progress}
 use Rattle.tier_core.specs.declared.call.Progress.TheVariants.{Idle, Begun, Seeking as ToSeek, Settling, GivingBack as ToGiveBack, Passing, Owing, Due, Refreshing}
 use Rattle.tier_core.specs.declared.call.Step.TheVariants.{Go, Finish}
 use Rattle.tier_core.specs.declared.call.Turn.{Turn}
-use Rattle.tier_core.specs.Turn.{end_shown, is_refusing, is_claimable, refusal, is_refusal, lags, polled, claimed_by, giving_back, settling, unless_claimed, seek_turn, settle_turn, give_back_turn, own_kind, goes_on, told, last_look, pass_turn, climb_turn, errand_place, first_turn, turn}
+use Rattle.tier_core.specs.Turn.{end_shown, refusal, is_refusal, lags, polled, claimed_by, giving_back, settling, unless_claimed, seek_turn, settle_turn, give_back_turn, own_kind, pass_turn, climb_turn, errand_place, first_turn, turn}
 use Rattle.tier_core.specs.Machine.{State, IsCore, CallFits, view_at, call_at, is_active, is_due, turn_at, played}
 use Rattle.tier_core.specs.Run.{is_idle, may_go, may_finish, finish_at, plan_ends, after, answer_to}
 use Rattle.tier_core.proofs.Turns.{not_both, refusal_is}
 use Rattle.tier_core.proofs.Places.{turn_may, played_core}
 use Rattle.tier_laws.specs.Told.{is_last}
 use Rattle.tier_laws.specs.Count.{going_on, IsAnsweredWithin, SixteenStepsAreEnough}
-use Rattle.tier_laws.proofs.Memory.{by_turn}
 use Rattle.tier_laws.proofs.Holding.{part, fits_at}
 use Rattle.tier_laws.proofs.Ranks.{Within, climbs_to, climb_most, shallow, some_left, turn_lowers}
 use Rattle.tier_laws.proofs.Short.{most, moved_left}
 use Rattle.tier_laws.proofs.Searching.{by_search}
+use Rattle.tier_laws.proofs.Passing.{by_passing}
 
 -- a turn that doesn't answer its call leaves it going
 abbrev Further : Progress → Played → Type 0
@@ -116,12 +115,8 @@ seek_further tier k size t w v =
 pass_further : (ps : List ℕ) (own : Passage) (t : ℕ) (passage : Passage) (kind : Kind) (here : Progress) (over : Played) (w : Fields) (v : View)
     → is_last over ≡ true → is_idle here ≡ false → TurnFurther (pass_turn ps own t passage kind here over w v)
 pass_further ps own t passage kind here over w v last going =
-    let parties : ℕ = (passed t passage w).parties in
-    let goes : Errand → Turn = λ e. record { kind = kind; tier = t; next = goes_on own e; answer = told v.phase parties e } in
-    let wait : Turn = record { kind = Refresh; tier = t; next = here; answer = GoesOn } in
-    by_turn TurnFurther w.ended (last_look over) (cond (lags w v) wait (goes (owed (parent_of ps t) t passage w))) (λ _. answers Idle over last)
-    (λ _. by_turn TurnFurther (lags w v) wait (goes (owed (parent_of ps t) t passage w)) (λ _ _. going)
-    (λ _. owed_is (λ e. TurnFurther (goes e)) (parent_of ps t) t passage w (answers Idle (Done v.phase) refl) (λ _ _. refl) (λ _ _ _. refl)))
+    by_passing TurnFurther ps own t passage kind here over w v (λ _. answers Idle over last) (λ _ _ _. going)
+    (λ _ _. answers Idle (Done v.phase) refl) (λ _ _ _ _. refl) (λ _ _ _ _ _. refl)
 
 goes_further : (ps : List ℕ) (ws : List Fields) (p : Progress) (v : View) → is_active p ≡ true → CallFits ps p v → TurnFurther (turn ps ws p v)
 goes_further ps ws Idle v active fits = not_both false active refl

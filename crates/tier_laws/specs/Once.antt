@@ -2,7 +2,7 @@
 use Rattle.std.specs.Prelude.{◌≡◌, ℕ, ◌≤◌, Bool, true, false, Some, List, [], ◌∷◌, count_by}
 use Rattle.std.specs.List.{Any}
 use Rattle.tier_steps.specs.declared.kind.Kind.{Kind}
-use Rattle.tier_steps.specs.declared.kind.Kind.TheVariants.{Refuse, Join, Arrive, Leave, Force}
+use Rattle.tier_steps.specs.declared.kind.Kind.TheVariants.{Refuse, Join, Arrive, Leave}
 use Rattle.tier_steps.specs.declared.view.View.{View}
 use Rattle.tier_core.specs.declared.call.Call.{Call}
 use Rattle.tier_core.specs.declared.call.Call.TheVariants as call

@@ -1,4 +1,4 @@
--- What holds of any number of threads' steps (own).
+-- What holds of the steps of any number of threads (not part of Java's API).
 use Rattle.std.specs.Prelude.{◌≡◌, ◌≢◌, ℕ, ◌<◌, ◌==◌, Bool, true, false, List, [], ◌∷◌, length, set, take}
 use Rattle.std.specs.List.{AllByRecursion}
 use mathlib.Core.Option.{some}
@@ -22,8 +22,8 @@ use Rattle.tier_rule.specs.Reach.{views_of, PlanSays, Reached}
 abbrev pub HasArrived : ℕ → View → Type 0
 HasArrived phase v = 0 < v.size → (v.phase ≡ phase) × (v.arrived ≡ v.size)
 
--- Wherever steps of any tokens, in whatever order, have led: a step by which the root leaves its phase finds that every member of every
--- token has arrived in that phase.
+-- After any steps of any tokens, in any order, a step by which the root leaves its phase finds that every member of every token has arrived in
+-- that phase.
 abbrev pub AdvancesWaitForAll : Type 0
 AdvancesWaitForAll =
     (k : Key) (words : List Fields) (seats : List (List Sight)) (id t : ℕ) (x : Sight) (kind : Kind)
@@ -31,7 +31,7 @@ AdvancesWaitForAll =
     → (word_at (words_after words kind t x.view) 0).phase ≢ (word_at words 0).phase
     → AllByRecursion (HasArrived (word_at words 0).phase) (views_of seats)
 
--- Wherever the steps of any tokens have led, a step that a seat may take.
+-- after any steps of any tokens, a step that a seat may take
 pub record MayStep (k : Key) (words : List Fields) (seats : List (List Sight)) (id t : ℕ) (x : Sight) (kind : Kind) : Type 0 where
   pub reached : Reached k words seats
   pub seat : get_elem? seats id ≡ some (x ∷ [])
@@ -39,12 +39,12 @@ pub record MayStep (k : Key) (words : List Fields) (seats : List (List Sight)) (
   pub needs : Needs k.shape kind t (word_at words t) x.view
   pub says : PlanSays k kind (word_at words t)
 
--- the number of a seat's token: how many views stand before it
+-- the number of a seat's token: the number of views before it
 abbrev pub number_of : List (List Sight) → ℕ → ℕ
 number_of seats id = length (views_of (take id seats))
 
--- It is the flat phaser's step of its label, or none: any flat phaser that looked like the tree before may take it, and what that leaves looks
--- like the tree afterwards.
+-- Such a step is the flat phaser's step of its label, or no step of it. Any flat phaser that looks like the tree before may take it, and then
+-- looks like the tree afterwards.
 abbrev pub StepsAreFlat : Type 0
 StepsAreFlat =
     (k : Key) (words : List Fields) (seats : List (List Sight)) (id t : ℕ) (x y : Sight) (kind : Kind) (f : Flat)
@@ -53,7 +53,7 @@ StepsAreFlat =
     → IsAllowedLabel (label (number_of seats id) kind) f
     × LooksAlike (labelled (label (number_of seats id) kind) f) (image (words_after words kind t x.view) (views_of (set seats id (y ∷ []))))
 
--- whether the tree has ended after a step: by force; by an advance as the plan says of the phase and of whether there is no member; else as before
+-- whether the tree has ended after a step: yes after a force, after an advance as the plan says, by the phase and by whether there are no members, and as before after any other step
 abbrev pub ended_by : Key → List Fields → List (List Sight) → Kind → Bool
 ended_by k words seats (Advance ends) = end_ends k.plan (word_at words 0).phase (registered (image words (views_of seats)) == 0)
 ended_by k words seats Force = true
@@ -65,7 +65,7 @@ EndsAreForcedOrPlanned =
     → MayStep k words seats id t x kind
     → (word_at (words_after words kind t x.view) 0).ended ≡ ended_by k words seats kind
 
--- the step that ended a tree, at a moment when it went on
+-- the step that ended a tree, at a moment when it had not ended
 pub record IsEnd (k : Key) : Type 0 where
   pub words : List Fields
   pub seats : List (List Sight)
@@ -77,11 +77,11 @@ pub record IsEnd (k : Key) : Type 0 where
   pub going : (word_at words 0).ended ≡ false
   pub ends : ended_by k words seats kind ≡ true
 
--- Wherever the steps have led: a tree that has ended was ended by a step, which was a force, or an advance of which the plan said so.
+-- If a tree has ended, a step ended it: a force, or an advance of which the plan said so.
 abbrev pub EndsHaveAStep : Type 0
 EndsHaveAStep = (k : Key) (words : List Fields) (seats : List (List Sight)) → Reached k words seats → (word_at words 0).ended ≡ true → IsEnd k
 
--- A new tree is empty: as long as its first token has made no step, and no seat was cut off its own, all words are as at first, and there is no other seat.
+-- A new tree is empty: as long as its first token has taken no step and no seat was split off its own, all words are as at first, and there is no other seat.
 abbrev pub NewTreesAreEmpty : Type 0
 NewTreesAreEmpty =
     (k : Key) (words : List Fields) (seats : List (List Sight)) (id : ℕ) (x : Sight)

@@ -1,4 +1,4 @@
--- The states of the words and of the seats' views that steps of the tree reach (own).
+-- The states of the words and of the seats' views that steps of the tree reach (not part of Java's API).
 use Rattle.std.specs.Prelude.{◌≡◌, ◌≢◌, ℕ, ◌+◌, ◌≤◌, ◌<◌, ◌==◌, List, [], ◌∷◌, ◌++◌, map, length, set}
 use mathlib.Core.Option.{some}
 use lib.ListN.{get_elem?}
@@ -27,15 +27,15 @@ abbrev pub views_of : List (List Sight) → List View
 views_of [] = []
 views_of (l ∷ ls) = those l ++ views_of ls
 
--- what the first seat of a tree knows, whose root has this word
+-- what the first seat of a tree knows, if the root has this word
 abbrev pub first_sight : Key → Fields → Sight
 first_sight k w = record { key = k; view = new_view w.phase; tier = 0; word = w; tried = 0; steps = []; opened = 0 }
 
--- what a seat knows that was cut off another, and saw this word at the root
+-- what a seat knows that was split off another and saw this word at the root
 abbrev pub sat_sight : Key → Fields → Sight
 sat_sight k w = record { key = k; view = new_view w.phase; tier = 0; word = w; tried = 0; steps = Look ∷ []; opened = 0 }
 
--- what a seat knows off which one more was cut
+-- what a seat knows after one more was split off it
 abbrev pub cut_once : Sight → Sight
 cut_once x = record x { opened = x.opened + 1 }
 
@@ -55,12 +55,12 @@ rest_of (x ∷ xs) = xs
 abbrev pub first_sights : Key → List Sight
 first_sights k = first_sight k (empty_word k.phase) ∷ []
 
--- an advance ends the tree as the plan says
+-- an advance ends the tree exactly if the plan says so
 abbrev pub PlanSays : Key → Kind → Fields → Type 0
 PlanSays k (Advance ends) w = ends ≡ end_ends k.plan w.phase (w.parties == 0)
 PlanSays k _ w = Unit {0}
 
--- What a seat knows after a step of this kind at the tier t, which found these words, by so many tries: all that it knew, and the step.
+-- What a seat knows after a step of this kind at the tier t, which found these words and took `tries` tries: all that it knew, and the step.
 pub record Learns (kind : Kind) (t : ℕ) (ws : List Fields) (tries : ℕ) (x y : Sight) : Type 0 where
   pub key : y.key ≡ x.key
   pub view : y.view ≡ stepped_view x.key.shape ws kind t x.view
@@ -70,13 +70,14 @@ pub record Learns (kind : Kind) (t : ℕ) (ws : List Fields) (tries : ℕ) (x y 
   pub steps : y.steps ≡ kind ∷ x.steps
   pub opened : y.opened ≡ x.opened
 
--- by one try at most, and by one where it changes the word
+-- at most one try, and exactly one if the step changes the word
 pub record IsTried (kind : Kind) (t : ℕ) (w : Fields) (tries : ℕ) (x : Sight) : Type 0 where
   pub few : tries ≤ 1
   pub changes : word_after kind t w x.view ≢ w → tries ≡ 1
 
--- A tree begins with empty tiers and one seat. A seat with one view takes a step of the tree; a seat without views is cut off it, which it counts; such a
--- one looks at the root, by which a new token comes in. A seat takes the views of another; one with two looks at the root for both, and parts with the second.
+-- A tree begins with empty tiers and one seat. A seat with one view takes a step of the tree. A seat without views is split off it, which the seat counts, and
+-- becomes that of a new token when it looks at the root. A seat takes the views of another. A seat with two views looks at the root for both, and parts with the
+-- second.
 pub data Reached (k : Key) : List Fields → List (List Sight) → Type 0 where
   opens : (x : Sight) → IsTiers k.shape → k.phase ≤ 2147483647 → x ≡ first_sight k (empty_word k.phase) → Reached k (empty_words k.shape k.phase) ((x ∷ []) ∷ [])
   steps : (ws : List Fields) (vs : List (List Sight)) (id t tries : ℕ) (x y : Sight) (kind : Kind)

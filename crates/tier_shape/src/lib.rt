@@ -164,11 +164,11 @@ impl Shape {
     /// In this order: `NoTier`, `TooManyTiers`, `ParentNotEarlier`, `TooDeep`, `Memory`.
     pub fn from_parents(alloc: Global, parents: &[u16]) -> Result<Self, ShapeFault>
         ensures no_tier { IsErrOf result ShapeFault.NoTier ↔ (length parents.now ≡ 0) }
-        ensures too_many { IsErrOf result ShapeFault.TooManyTiers ↔ (64 < length parents.now) }
+        ensures too_many { IsErrOf result ShapeFault.TooManyTiers ↔ (MOST_TIERS < length parents.now) }
         ensures not_earlier { IsErrOf result ShapeFault.ParentNotEarlier ↔
-            ((0 < length parents.now) × (length parents.now ≤ 64) × (IsShape parents.now → ⊥)) }
+            ((0 < length parents.now) × (length parents.now ≤ MOST_TIERS) × (IsShape parents.now → ⊥)) }
         ensures too_deep { IsErrOf result ShapeFault.TooDeep ↔
-            ((length parents.now ≤ 64) × IsShape parents.now × IsTooDeep parents.now) }
+            ((length parents.now ≤ MOST_TIERS) × IsShape parents.now × IsTooDeep parents.now) }
         ensures text { IsErrOf result ShapeFault.BadText → ⊥ }
         ensures memory { (e : AllocError) → IsErrOf result (ShapeFault.Memory e) → IsTiers parents.now }
         ensures taken { IsTiers parents.now → IfErr result (λ fault. fault_number fault ≡ None) }

@@ -78,7 +78,7 @@ pub(crate) fn read_widths(alloc: Global, text: &[u8]) -> Result<SmallVec<u16, 6>
 // Returns true if the tree of these widths has at most 64 tiers.
 pub(crate) fn is_small(widths: &[u16]) -> bool
     requires { All IsWidth widths.now }
-    ensures { IsTrue result ↔ (tiers_of widths.now ≤ 64) }
+    ensures { IsTrue result ↔ (tiers_of widths.now ≤ MOST_TIERS) }
 {
     let mut size = 1;
     let mut count = 1;
@@ -112,7 +112,7 @@ fn push_level(
 // Returns the parents in the tree of these widths.
 pub(crate) fn tree(alloc: Global, widths: &[u16]) -> Result<Vec<u16>, AllocError>
     requires widths { All IsWidth widths.now }
-    requires few { tiers_of widths.now ≤ 64 }
+    requires few { tiers_of widths.now ≤ MOST_TIERS }
     ensures { IfOk result (λ parents. parents.items ≡ tree_of widths.now) }
 {
     let mut parents = Vec::new(alloc);

@@ -1,4 +1,4 @@
--- When the flat phaser that a tree stands for is due, and what holds the root where it is (own).
+-- When the flat phaser that a tree stands for is due to advance, and what keeps the root from advancing (not part of Java's API).
 use Rattle.std.specs.Prelude.{◌≡◌, ◌≢◌, ◌↔◌, ℕ, ◌<◌, Bool, true, false, List, ◌∷◌, ◌++◌, length, sum_by}
 use Rattle.std.specs.List.{AllByRecursion}
 use Rattle.flat_phaser.specs.Flat.{everyone_arrived, registered, unarrived}
@@ -13,7 +13,7 @@ use Rattle.tier_steps.specs.Laws.{IsStep, words_after}
 pub record IsReady (words : List Fields) (views : List View) : Type 0 where
   pub everyone : everyone_arrived (root_phase words) (all_members 0 views) ≡ true
   pub due : (image words views).due ≡ true
-  -- the root has no parties exactly where no token has a member
+  -- the root has no parties exactly if no token has a member
   pub nobody : ((word_at words 0).parties ≡ 0) ↔ (registered (image words views) ≡ 0)
 
 abbrev pub AdvancesAreDue : Type 0
@@ -21,23 +21,23 @@ AdvancesAreDue =
     (parents : List ℕ) (words : List Fields) (front : List View) (v : View) (back : List View) (t : ℕ) (ends : Bool)
     → IsStep parents words front v back t (Advance ends) → IsReady words (front ++ v ∷ back)
 
--- Where no token has an errand nothing is due.
+-- If no token has an errand, no advance is due.
 abbrev pub QuietIsNotDue : Type 0
 QuietIsNotDue = (words : List Fields) (views : List View) → AllByRecursion (λ v. v.errand ≡ Rest) views → (image words views).due ≡ false
 
--- It isn't due since it waits: a tree that goes on, in which no token has an errand and there is a member, has one that hasn't arrived.
+-- The reason is that it waits: if the tree has not ended, no token has an errand and there is a member, some member has not arrived.
 abbrev pub QuietTreesAwaitSomebody : Type 0
 QuietTreesAwaitSomebody =
     (parents : List ℕ) (words : List Fields) (views : List View) → IsShape parents → Tallies parents words views → (word_at words 0).ended ≡ false
     → AllByRecursion (λ v. v.errand ≡ Rest) views → 0 < registered (image words views) → 0 < unarrived (image words views)
 
--- The members of the image are as many as the tokens have.
+-- The image has as many members as the tokens together.
 abbrev pub MembersAreSizes : Type 0
 MembersAreSizes =
     (parents : List ℕ) (words : List Fields) (views : List View) → Tallies parents words views
     → registered (image words views) ≡ sum_by (λ v. v.size) views
 
--- While a token counts an unarrived party at some tier, no token advances the root.
+-- While a token counts among the unarrived parties of some tier, the root has unarrived parties.
 abbrev pub UnarrivedHoldTheRoot : Type 0
 UnarrivedHoldTheRoot =
     (parents : List ℕ) (words : List Fields) (front : List View) (v : View) (back : List View) (t : ℕ)

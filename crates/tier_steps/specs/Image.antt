@@ -1,4 +1,4 @@
--- The flat phaser that a tree stands for, and the flat step that a step of the tree is (own).
+-- The flat phaser that a tree stands for, and the flat step of each step of the tree (not part of Java's API).
 use Rattle.std.specs.Prelude.{◌≡◌, ℕ, suc, ◌-◌, Bool, true, false, if◌then◌else◌, ◌&&◌, Option, Some, None, List, [], ◌∷◌, ◌++◌, replicate}
 pub use Rattle.flat_phaser.specs.declared.Member.{Member}
 pub use Rattle.flat_phaser.specs.declared.FlatStep.{FlatStep}
@@ -15,7 +15,7 @@ use Rattle.tier_steps.specs.Step.{Kind, Join, Arrive, Leave, Advance, Force}
 abbrev pub token_members : ℕ → View → List Member
 token_members owner v = replicate v.arrived (record { owner = owner; mark = Some v.phase }) ++ newcomers owner (v.size - v.arrived)
 
--- a token's number is its place
+-- the members of all tokens; a token's number is its place
 abbrev pub all_members : ℕ → List View → List Member
 all_members owner [] = []
 all_members owner (v ∷ views) = token_members owner v ++ all_members (suc owner) views
@@ -31,8 +31,8 @@ abbrev pub some_climbing : List View → Bool
 some_climbing [] = false
 some_climbing (v ∷ views) = if is_climbing v.errand then true else some_climbing views
 
--- Phase and end are the root's, the members are the tokens', and an advance is due where everyone has arrived and someone climbs or
--- advances: no tier's count enters.
+-- The phase and the end are the root's, and the members are the tokens'. An advance is due if everyone has arrived and some token climbs or
+-- advances. No tier's count is used.
 abbrev pub image : List Fields → List View → Flat
 image words views =
     let root : Fields = word_at words 0 in
@@ -43,7 +43,7 @@ image words views =
       due = (if root.ended then false else (everyone_arrived root.phase (all_members 0 views) && some_climbing views));
     }
 
--- the flat step that a kind of step is, by the token with this number; none for most
+-- the flat step of a kind of step that the token with this number takes; most kinds have none
 abbrev pub label : ℕ → Kind → Option FlatStep
 label owner (Join tier claimed size) = Some (flat.Join owner size)
 label owner Arrive = Some (flat.Arrive owner)
@@ -52,7 +52,7 @@ label owner (Advance ends) = Some (flat.Advance ends)
 label owner Force = Some flat.Force
 label owner _ = None
 
--- what a label leaves of a flat phaser, and whether the flat phaser may take it
+-- the flat phaser after a label, and whether it may take the label
 abbrev pub labelled : Option FlatStep → Flat → Flat
 labelled None f = f
 labelled (Some step) f = flat_step step f
@@ -61,7 +61,7 @@ abbrev pub IsAllowedLabel : Option FlatStep → Flat → Type 0
 IsAllowedLabel None f = Unit {0}
 IsAllowedLabel (Some step) f = IsAllowed step f
 
--- nobody can tell them apart; once they have ended only phase and end are compared
+-- two flat phasers that nobody can tell apart; after the end only the phase and the end are compared
 pub record LooksAlike (f g : Flat) : Type 0 where
   pub phase : f.phase ≡ g.phase
   pub ended : f.ended ≡ g.ended

@@ -1,25 +1,25 @@
--- The kinds of step: what each needs of the word of its tier and of the token's view, and the word and the view that it leaves
--- (own; joining, arriving, leaving, advancing and ending by force are those of Java SE 21, `Phaser`).
+-- The kinds of step: what each needs of the word of its tier and of the token's view, and the word and the view after it. Joining, arriving,
+-- leaving, advancing and ending by force are those of Java SE 21's `Phaser`; the rest is not part of its API.
 pub use Rattle.tier_steps.specs.declared.kind.Kind.{Kind}
 pub use Rattle.tier_steps.specs.declared.kind.Kind.TheVariants.{Look, Glance, Refuse, Join, Arrive, Leave, Advance, Force, Claim, Settle, SettleBack, Climb, Refresh}
 use Rattle.std.specs.Prelude.{◌≡◌, ◌≢◌, ℕ, zero, suc, ◌+◌, ◌-◌, ◌≤◌, ◌<◌, ◌⊎◌, Bool, true, false, ◌==◌, if◌then◌else◌, Some, None, List, length}
 use Rattle.tier_steps.specs.Word.{Fields, IsLegal, joined, arrived_one, left_one, left_root, advanced, refreshed, emptied, claimed_word, settled, forced, is_being_opened}
 use Rattle.tier_steps.specs.View.{View, Errand, Rest, Opening, Climbing, Advancing, OpeningStage, Seeking, Joined, GoingBack, Passage, Arrival, Departure, ancestor}
 
--- the word of a tier that one party has passed, by an arrival or a departure
+-- the word of a tier after the arrival or the departure of one party
 abbrev pub passed : ℕ → Passage → Fields → Fields
 passed t Arrival w = arrived_one w
 passed zero Departure w = left_root w
 passed (suc t) Departure w = left_one w
 
--- What is owed after that, by the word before: the last unarrived party of a tier tells the tier above, as a departure where it was the
--- last party; the root's advances.
+-- What the token owes afterwards, by the word before. If it was the last unarrived party of its tier, it climbs, by a departure if it was the
+-- last party. At the root it advances.
 abbrev pub owed : ℕ → ℕ → Passage → Fields → Errand
 owed above zero passage w = if w.unarrived == 1 then Advancing else Rest
 owed above (suc t) Arrival w = if w.unarrived == 1 then Climbing above Arrival else Rest
 owed above (suc t) Departure w = if w.parties == 1 then Climbing above Departure else (if w.unarrived == 1 then Climbing above Arrival else Rest)
 
--- a token takes a member of its own through its tier
+-- a token may let one of its members arrive at its own tier, or leave it
 pub record CanPass (t : ℕ) (w : Fields) (v : View) : Type 0 where
   pub rest : v.errand ≡ Rest
   pub own : v.tier ≡ t
@@ -33,7 +33,7 @@ arrived_view above t w v = record v { arrived = v.arrived + 1; errand = owed abo
 abbrev pub left_view : ℕ → ℕ → Fields → View → View
 left_view above t w v = record v { size = v.size - 1; errand = owed above t Departure w }
 
--- a token goes on with a climb
+-- a token may take the next step of its climb
 pub record CanClimb (t : ℕ) (passage : Passage) (w : Fields) (v : View) : Type 0 where
   pub errand : v.errand ≡ Climbing t passage
   pub going : w.ended ≡ false
@@ -42,28 +42,28 @@ pub record CanClimb (t : ℕ) (passage : Passage) (w : Fields) (v : View) : Type
 abbrev pub climbed_view : ℕ → ℕ → Passage → Fields → View → View
 climbed_view above t passage w v = record v { errand = owed above t passage w }
 
--- so many parties may join a tier: it has an unarrived party, or it is the empty root, and there is room
+-- a tier admits `n` parties: it has an unarrived party or is the empty root, and there is room
 pub record Admits (t n : ℕ) (w : Fields) : Type 0 where
   pub going : w.ended ≡ false
   pub waits : 0 < w.unarrived
   pub empty : w.parties ≡ 0 → (t ≡ 0) × (w.unarrived ≡ 1)
   pub room : w.parties + n ≤ 65535
 
--- they may not: there is no room, nobody is unarrived, or the tier is being opened
+-- a tier refuses `n` parties: there is no room, nobody is unarrived, or the tier is being opened
 abbrev pub Refuses : ℕ → Fields → Type 0
 Refuses n w = (w.ended ≡ false) × ((65535 < w.parties + n) ⊎ (w.unarrived ≡ 0) ⊎ (is_being_opened w ≡ true))
 
--- the errand of an opening with so many claimed tiers: without claims there is none
+-- the errand of an opening with `claimed` claimed tiers; without claims there is none
 abbrev pub opening : ℕ → ℕ → OpeningStage → ℕ → Errand
 opening tier zero stage size = Rest
 opening tier (suc claimed) stage size = Opening tier (suc claimed) stage size
 
--- what a tier gets of a path with so many tiers below it: the members themselves, or one party
+-- the parties that a join adds to a tier: the members themselves, or one party if tiers below it are claimed
 abbrev pub added : ℕ → ℕ → ℕ
 added zero size = size
 added (suc claimed) size = 1
 
--- A token is to join: it has no members and no errand but the opening of a path, and the tier is the next of that path.
+-- A join is due at a tier: the token has no members and no errand except the opening of a path, and the tier is the next of that path.
 pub record IsDue (parents : List ℕ) (tier claimed size : ℕ) (t : ℕ) (v : View) : Type 0 where
   pub here : t ≡ ancestor parents tier claimed
   pub errand : v.errand ≡ opening tier claimed Seeking size
@@ -87,14 +87,14 @@ claimed_view tier claimed size v = record v { errand = Opening tier (suc claimed
 abbrev pub settled_view : ℕ → ℕ → OpeningStage → ℕ → View → View
 settled_view tier claimed stage size v = record v { errand = opening tier claimed stage size }
 
--- a token may bring a word that lags into its phase, at its own tier where it has an unarrived member, and where it climbs
+-- a token may bring a lagging tier into its phase: its own tier if it has an unarrived member, or the tier that it climbs to
 pub record CanRefresh (t : ℕ) (w : Fields) (v : View) : Type 0 where
   pub some : 0 < w.parties
   pub arrived : w.unarrived ≡ 0
   pub behind : w.phase ≢ v.phase
   pub leave : ((v.errand ≡ Rest) × (v.tier ≡ t) × (v.arrived < v.size)) ⊎ ((passage : Passage) × (v.errand ≡ Climbing t passage))
 
--- What a token owes to a root that has ended is dropped, and a path whose join isn't taken is given back.
+-- After the end, a token owes the root nothing, and a join that is not taken releases its claimed tiers.
 abbrev pub dropped : Errand → Errand
 dropped Rest = Rest
 dropped Advancing = Rest
@@ -104,7 +104,7 @@ dropped (Opening tier claimed Seeking size) = Opening tier claimed GoingBack siz
 dropped (Opening tier claimed Joined size) = Opening tier claimed Joined size
 dropped (Opening tier claimed GoingBack size) = Opening tier claimed GoingBack size
 
--- a token whose members have all arrived goes on to the root's phase
+-- a token whose members have all arrived moves into the root's phase
 abbrev pub moved : Fields → View → View
 moved w v = if v.arrived == v.size then (if v.phase == w.phase then v else record v { phase = w.phase; arrived = 0 }) else v
 
@@ -112,13 +112,13 @@ abbrev pub is_going_back : Errand → Bool
 is_going_back (Opening tier claimed GoingBack size) = true
 is_going_back _ = false
 
--- a look at the root
+-- the view after a look at the root
 abbrev pub looked : Fields → View → View
 looked w v =
     let u : View = record v { led = false; note = (if is_going_back v.errand then v.note else None) } in
     if w.ended then record u { end_seen = Some w.phase; errand = dropped v.errand } else moved w u
 
--- a path whose join is refused is given back
+-- a refused join releases its claimed tiers
 abbrev pub given_up : Errand → Errand
 given_up Rest = Rest
 given_up Advancing = Advancing
@@ -127,11 +127,11 @@ given_up (Opening tier claimed Seeking size) = Opening tier claimed GoingBack si
 given_up (Opening tier claimed Joined size) = Opening tier claimed Joined size
 given_up (Opening tier claimed GoingBack size) = Opening tier claimed GoingBack size
 
--- a token notes the tier and the word that refuse its join
+-- the view after a token notes the tier and the word that refused its join
 abbrev pub noted : ℕ → Fields → View → View
 noted t w v = record v { note = Some (t, w); errand = given_up v.errand }
 
--- at the root it looks there as well
+-- the view after a refusal; at the root it is a look as well
 abbrev pub refused : ℕ → Fields → View → View
 refused zero w v = noted 0 w (looked w v)
 refused (suc t) w v = noted (suc t) w v
@@ -163,7 +163,7 @@ Needs parents (SettleBack tier claimed size) t w v = (t ≡ ancestor parents tie
 Needs parents (Climb passage) t w v = CanClimb t passage w v
 Needs parents Refresh t w v = CanRefresh t w v
 
--- the word that it leaves
+-- the word after a step
 abbrev pub word_after : Kind → ℕ → Fields → View → Fields
 word_after Look t w v = w
 word_after Glance t w v = w
@@ -179,7 +179,7 @@ word_after (SettleBack tier claimed size) t w v = emptied w
 word_after (Climb passage) t w v = passed t passage w
 word_after Refresh t w v = refreshed w v.phase
 
--- the view that it leaves, where `above` is the parent of the tier
+-- the view after a step; `above` is the parent of the tier
 abbrev pub view_after : ℕ → Kind → ℕ → Fields → View → View
 view_after above Look t w v = looked w v
 view_after above Glance t w v = v
@@ -195,12 +195,12 @@ view_after above (SettleBack tier claimed size) t w v = settled_view tier claime
 view_after above (Climb passage) t w v = climbed_view above t passage w v
 view_after above Refresh t w v = v
 
--- how many tiers were claimed before a claim
+-- the number of tiers claimed before a claim
 abbrev pub claimed_before : Kind → ℕ
 claimed_before (Claim tier claimed size) = claimed
 claimed_before _ = 0
 
--- A step that the code can run: the word that it leaves is legal, and its numbers stay in their ranges.
+-- A step that the code can run: the word after it is legal, and its numbers stay in their ranges.
 pub record IsRunnable (kind : Kind) (t : ℕ) (w : Fields) (v : View) : Type 0 where
   pub legal : IsLegal (word_after kind t w v)
   pub few : v.arrived ≤ 65535

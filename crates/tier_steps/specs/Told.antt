@@ -1,11 +1,11 @@
--- The tally in plain terms: the parties of a tier one by one, its unarrived parties likewise, and who claims and who advances (own).
+-- The tally in plain terms: who the parties of a tier and its unarrived parties are, who claims it, and who advances (not part of Java's API).
 use Rattle.std.specs.Prelude.{◌≡◌, ℕ, zero, suc, ◌+◌, ◌<◌, ◌⊎◌, Bool, true, false, Some, List, length, sum_by}
 use Rattle.std.specs.List.{AllByRecursion}
 use Rattle.tier_steps.specs.Word.{Fields, next_phase_of, late, is_empty, is_being_opened}
 use Rattle.tier_steps.specs.View.{View, Errand, Opening, Climbing, Advancing, Joined, Departure, parent_of, ancestor, absent, only_at, claim_share, advance_share}
 use Rattle.tier_steps.specs.Tally.{word_at, root_phase, children, Compared, KeepsUp, Tallies, IsShape}
 
--- the members of a token at a tier, and those of them that haven't arrived
+-- the number of a token's members at a tier, and of those that have not arrived
 abbrev pub members_at : ℕ → View → ℕ
 members_at t v = only_at v.tier v.size t
 
@@ -21,17 +21,17 @@ abbrev pub climbing : ℕ → Errand → ℕ
 climbing t (Climbing to passage) = only_at to 1 t
 climbing t _ = 0
 
--- how many of the claimed tiers are children of a tier
+-- the number of claimed tiers that are children of a tier
 abbrev pub children_on : List ℕ → ℕ → ℕ → ℕ → ℕ
 children_on parents tier zero t = 0
 children_on parents tier (suc claimed) t = only_at (parent_of parents (ancestor parents tier claimed)) 1 t + children_on parents tier claimed t
 
--- the children of a tier that are claimed by a token whose join was taken, and not yet settled
+-- the children of a tier that are claimed by a token whose join was taken, and that still have no parties
 abbrev pub claimed_children : List ℕ → ℕ → Errand → ℕ
 claimed_children parents t (Opening tier claimed Joined size) = children_on parents tier claimed t
 claimed_children parents t _ = 0
 
--- members there, children that are open, departures that climb to it, and such claimed children
+-- the parties of a tier: members there, open children, departures that climb to it, and claimed children of joined tokens
 abbrev pub parties_told : List ℕ → List Fields → List View → ℕ → ℕ
 parties_told parents words views t =
     sum_by (members_at t) views
@@ -39,7 +39,8 @@ parties_told parents words views t =
     + sum_by (λ v. departing t v.errand) views
     + sum_by (λ v. claimed_children parents t v.errand) views
 
--- members there that haven't arrived, children that count an unarrived party, climbs of both kinds, and such claimed children
+-- its unarrived parties: unarrived members there, children with an unarrived party, climbs of both kinds to it, and claimed children of joined
+-- tokens
 abbrev pub unarrived_told : List ℕ → List Fields → List View → ℕ → ℕ
 unarrived_told parents words views t =
     sum_by (absent_at (root_phase words) t) views
@@ -47,30 +48,30 @@ unarrived_told parents words views t =
     + sum_by (λ v. climbing t v.errand) views
     + sum_by (λ v. claimed_children parents t v.errand) views
 
--- a token that climbs, advances, or has joined and still opens a path
+-- a token that climbs, advances, or has joined and still has claimed tiers
 abbrev pub is_under_way : Errand → Bool
 is_under_way Advancing = true
 is_under_way (Climbing t passage) = true
 is_under_way (Opening tier claimed Joined size) = true
 is_under_way _ = false
 
--- what is told of one view beside a root in this phase, ended or not
+-- what the tally says of one view, for a root in this phase, ended or not
 pub record IsViewTold (root : ℕ) (ended : Bool) (v : View) : Type 0 where
   pub current : 0 < v.size → (v.phase ≡ root) ⊎ ((next_phase_of v.phase ≡ root) × (v.arrived ≡ v.size))
   pub under_way : is_under_way v.errand ≡ true → v.phase ≡ root
   pub seen : (phase : ℕ) → v.end_seen ≡ Some phase → (ended ≡ true) × (phase ≡ root)
 
 pub record IsTold (parents : List ℕ) (words : List Fields) (views : List View) : Type 0 where
-  -- of each open tier, of the empty ones, and of the root while it hasn't ended
+  -- for each open tier, each empty one, and the root until it has ended
   pub parties : (t : ℕ) → t < length words → Compared words t → is_being_opened (word_at words t) ≡ false
       → (word_at words t).parties ≡ parties_told parents words views t
   pub unarrived : (t : ℕ) → t < length words → Compared words t → is_being_opened (word_at words t) ≡ false
       → late (root_phase words) (word_at words t) ≡ unarrived_told parents words views t
-  -- an open word is in the root's phase, or one behind with nobody unarrived
+  -- an open tier is in the root's phase, or one phase earlier with nobody unarrived
   pub phases : (t : ℕ) → t < length words → KeepsUp (root_phase words) (word_at words t)
   pub empty : (t : ℕ) → 0 < t → t < length words → is_empty (word_at words t) ≡ true
       → (parties_told parents words views t ≡ 0) × (unarrived_told parents words views t ≡ 0)
-  -- a tier that is being opened has one claiming token, and a claimed tier is being opened
+  -- a tier that is being opened is claimed by one token, and a claimed tier is being opened
   pub opened : (t : ℕ) → t < length words → is_being_opened (word_at words t) ≡ true → sum_by (claim_share parents t) views ≡ 1
   pub claimed : (t : ℕ) → t < length words → 0 < sum_by (claim_share parents t) views → is_being_opened (word_at words t) ≡ true
   -- the root's field is 0 exactly while one token advances

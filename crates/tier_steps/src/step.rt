@@ -23,7 +23,7 @@ ghost use Rattle.tier_steps.specs.Step.{
 
 use crate::kind::Kind;
 use crate::view::{Errand, OpeningStage, Passage, View};
-use phaser_word::{Word, next_phase};
+use phaser_word::{LAST_PHASE, MOST_PARTIES, Word, next_phase};
 
 /// Returns how many parties a join adds to a tier: the members, or one party if `claimed` tiers below it are claimed.
 pub fn parties_added(claimed: u16, size: u32) -> u32
@@ -78,7 +78,7 @@ pub fn word_passed(tier: u16, passage: Passage, word: Word) -> Word
 
 /// Returns the word of a tier after `more` parties join.
 fn word_joined(word: Word, more: u32) -> Word
-    requires room { word.parties + more ≤ 65535 }
+    requires room { word.parties + more ≤ MOST_PARTIES }
     ensures { result ≡ joined word more }
 {
     let unarrived = if word.parties == 0 {
@@ -132,7 +132,7 @@ fn word_without(word: Word, unarrived: u32) -> Word
 
 /// Returns the word of a lagging tier after it comes into `phase`: all its parties are unarrived.
 fn word_refreshed(word: Word, phase: u32) -> Word
-    requires legal { phase ≤ 2147483647 }
+    requires legal { phase ≤ LAST_PHASE }
     ensures { result ≡ refreshed word phase }
 {
     Word {
@@ -266,7 +266,7 @@ pub fn refuse(tier: u16, word: Word, view: View) -> View
 
 /// Returns a view after one member arrives or leaves.
 fn pass(passage: Passage, above: u16, tier: u16, word: Word, view: View) -> View
-    requires few { view.arrived ≤ 65535 }
+    requires few { view.arrived ≤ MOST_PARTIES }
     ensures arrived { passage ≡ Arrival → result ≡ arrived_view above tier word view }
     ensures left { passage ≡ Departure → result ≡ left_view above tier word view }
 {

@@ -41,11 +41,10 @@ fn register(
 }
 
 // The end by force.
-fn force(tree: &Tree<Rule>, door: Door, tries: u32) -> (Holder, Told)
+fn force(tree: &Tree<Rule>, mut door: Door, tries: u32) -> (Holder, Told)
     requires own { door.tree ≡ tree.now.tree }
     ensures { tree_of result.0 ≡ tree.now.tree }
 {
-    let mut door = door;
     let told = match tree.force(&mut door, tries) {
         Forced::Ended(shown) => Told::Ended(shown),
         Forced::Busy => Told::Busy,
@@ -102,11 +101,10 @@ fn resume(tree: &Tree<Rule>, errand: Errand, tries: u32) -> (Holder, Told)
 }
 
 // Sees whether a crew's phase has passed.
-fn poll(tree: &Tree<Rule>, crew: Crew) -> (Holder, Told)
+fn poll(tree: &Tree<Rule>, mut crew: Crew) -> (Holder, Told)
     requires own { crew.tree ≡ tree.now.tree }
     ensures { tree_of result.0 ≡ tree.now.tree }
 {
-    let mut crew = crew;
     let told = match tree.poll(&mut crew) {
         Polled::Passed(phase) => Told::Passed(phase),
         Polled::Waiting => Told::Waiting,

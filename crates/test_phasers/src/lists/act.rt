@@ -55,7 +55,7 @@ pub fn act(
     tree: &Tree<Rule>,
     mirror: &mut Mirror,
     token: usize,
-    holder: Holder,
+    mut holder: Holder,
     numbers: &mut Numbers,
     late: bool,
 ) -> Holder
@@ -64,7 +64,6 @@ pub fn act(
     ensures { tree_of result ≡ tree.now.tree }
 {
     let ask = next_ask(&holder, numbers, mirror.tiers(), late);
-    let mut holder = holder;
     let mut again = false;
     for _ in 0..8 {
         let (tries, on_the_tree) = next_tries(numbers, ask, again);

@@ -26,14 +26,13 @@ fn settled(
     tree: &Tree<Rule>,
     mirror: &mut Mirror,
     token: usize,
-    holder: Holder,
+    mut holder: Holder,
     numbers: &mut Numbers,
 ) -> Token
     requires own { tree_of holder ≡ tree.now.tree }
     requires rule { Answers (pre tree.now.rule.closure) (post tree.now.rule.closure) (end_ends_at tree.now.rule.plan) }
     ensures { (held result).tree ≡ tree.now.tree }
 {
-    let mut holder = holder;
     for _ in 0..64 {
         match holder {
             Holder::Outside(door) => return Token::Door(door),
@@ -102,11 +101,10 @@ fn act_one(
 }
 
 // Four tokens split off one, as the calls of a list take them.
-fn four_holders(tree: &Tree<Rule>, door: Door) -> Four
+fn four_holders(tree: &Tree<Rule>, mut door: Door) -> Four
     requires own { door.tree ≡ tree.now.tree }
     ensures { FourOf tree.now.tree result }
 {
-    let mut door = door;
     let one = Holder::Outside(tree.split(&mut door));
     let two = Holder::Outside(tree.split(&mut door));
     let three = Holder::Outside(tree.split(&mut door));
@@ -118,14 +116,13 @@ fn played(
     rt: &impl Abort,
     tree: &Tree<Rule>,
     mirror: &mut Mirror,
-    holders: Eight,
+    mut holders: Eight,
     numbers: &mut Numbers,
 ) -> Eight
     requires own { EightOf tree.now.tree holders }
     requires rule { Answers (pre tree.now.rule.closure) (post tree.now.rule.closure) (end_ends_at tree.now.rule.plan) }
     ensures { EightOf tree.now.tree result }
 {
-    let mut holders = holders;
     for turn in 0..300 {
         let token = numbers.below(8) as usize;
         holders = act_one(rt, tree, mirror, token, holders, numbers, turn > 250);
@@ -165,7 +162,7 @@ fn listed(
     alloc: Global,
     tree: &Tree<Rule>,
     mirror: &mut Mirror,
-    door: Door,
+    mut door: Door,
     seed: u32,
 ) -> Vec<Token>
     requires own { door.tree ≡ tree.now.tree }
@@ -173,7 +170,6 @@ fn listed(
     ensures { All (λ t. (held t).tree ≡ tree.now.tree) result.items }
 {
     let mut numbers = Numbers { seed };
-    let mut door = door;
     let back = four_holders(tree, tree.split(&mut door));
     let front = four_holders(tree, door);
     let holders = Eight { front, back };

@@ -81,7 +81,7 @@ fn leaves<R: Wait + Abort>(rt: &R, tree: &Tree<Rule>, crew: Crew) -> Door
 fn comes_and_goes<R: Wait + Abort>(
     rt: &R,
     tree: &Tree<Rule>,
-    door: Door,
+    mut door: Door,
     tier: u16,
     times: u32,
 ) -> Door
@@ -89,7 +89,6 @@ fn comes_and_goes<R: Wait + Abort>(
     requires rule { Answers (pre tree.now.rule.closure) (post tree.now.rule.closure) (end_ends_at tree.now.rule.plan) }
     ensures { result.tree ≡ tree.now.tree }
 {
-    let mut door = door;
     for _ in 0..times {
         let crew = joins(rt, tree, door, tier);
         door = leaves(rt, tree, crew);
@@ -110,12 +109,11 @@ fn arrives_in_place<R: Wait + Abort>(rt: &R, tree: &Tree<Rule>, crew: &mut Crew)
 }
 
 // A member arrives and waits for the next phase, from phase 0 on so many times.
-fn meets<R: Wait + Abort>(rt: &R, tree: &Tree<Rule>, crew: Crew, times: u32) -> Crew
+fn meets<R: Wait + Abort>(rt: &R, tree: &Tree<Rule>, mut crew: Crew, times: u32) -> Crew
     requires own { crew.tree ≡ tree.now.tree }
     requires rule { Answers (pre tree.now.rule.closure) (post tree.now.rule.closure) (end_ends_at tree.now.rule.plan) }
     ensures { result.tree ≡ tree.now.tree }
 {
-    let mut crew = crew;
     for phase in 0..times {
         arrives_in_place(rt, tree, &mut crew);
         assert!(rt; tree.await_advance(rt, &mut crew) == Awaited::Passed(phase + 1));

@@ -77,13 +77,18 @@ fn turn(rt: &impl Abort, tree: &Tree<Rule>, holder: Holder, ask: Ask, tries: u32
 }
 
 // So many random calls of a token; and how many advances it took.
-fn turns(rt: &impl Abort, tree: &Tree<Rule>, holder: Holder, seed: u32, count: u32) -> (Holder, u32)
+fn turns(
+    rt: &impl Abort,
+    tree: &Tree<Rule>,
+    mut holder: Holder,
+    seed: u32,
+    count: u32,
+) -> (Holder, u32)
     requires own { tree_of holder ≡ tree.now.tree }
     requires rule { Answers (pre tree.now.rule.closure) (post tree.now.rule.closure) (end_ends_at tree.now.rule.plan) }
     ensures { tree_of result.0 ≡ tree.now.tree }
 {
     let mut numbers = Numbers { seed };
-    let mut holder = holder;
     let mut led = 0u32;
     for number in 0..count {
         let late = number > count / 2;
@@ -96,12 +101,11 @@ fn turns(rt: &impl Abort, tree: &Tree<Rule>, holder: Holder, seed: u32, count: u
 }
 
 // Goes on with what a token owes until it is at rest; and how many advances it took.
-fn settled(rt: &impl Abort, tree: &Tree<Rule>, holder: Holder) -> (Token, u32)
+fn settled(rt: &impl Abort, tree: &Tree<Rule>, mut holder: Holder) -> (Token, u32)
     requires own { tree_of holder ≡ tree.now.tree }
     requires rule { Answers (pre tree.now.rule.closure) (post tree.now.rule.closure) (end_ends_at tree.now.rule.plan) }
     ensures { (held result.0).tree ≡ tree.now.tree }
 {
-    let mut holder = holder;
     let mut led = 0u32;
     for _ in 0..1000000u32 {
         let ask = match &holder {
@@ -169,11 +173,16 @@ fn all_play<R: Threads + Abort + Sync>(
 
 // So many players, split off a token.
 #[tactic(auto, using(crate::proofs::Held::all_pushed))]
-fn players(rt: &impl Abort, alloc: Global, tree: &Tree<Rule>, door: Door, seed: u32) -> Vec<Player>
+fn players(
+    rt: &impl Abort,
+    alloc: Global,
+    tree: &Tree<Rule>,
+    mut door: Door,
+    seed: u32,
+) -> Vec<Player>
     requires own { door.tree ≡ tree.now.tree }
     ensures { All (λ p. (held p.token).tree ≡ tree.now.tree) result.items }
 {
-    let mut door = door;
     let mut players = Vec::new(alloc);
     for number in 0..8u32 {
         let token = Token::Door(tree.split(&mut door));
@@ -192,12 +201,11 @@ fn tokens_of(
     rt: &impl Abort,
     alloc: Global,
     tree: &Tree<Rule>,
-    players: Vec<Player>,
+    mut players: Vec<Player>,
 ) -> (Vec<Token>, u32)
     requires own { All (λ p. (held p.token).tree ≡ tree.now.tree) players.items }
     ensures { All (λ t. (held t).tree ≡ tree.now.tree) result.0.items }
 {
-    let mut players = players;
     let mut tokens = Vec::new(alloc);
     let mut led = 0u32;
     while let Some(player) = players.pop() {

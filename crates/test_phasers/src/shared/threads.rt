@@ -120,13 +120,12 @@ fn actors_of(
     rt: &impl Abort,
     alloc: Global,
     tree: &Tree<Rule>,
-    door: Door,
+    mut door: Door,
     scene: &Scene,
 ) -> Vec<Actor>
     requires own { door.tree ≡ tree.now.tree }
     ensures { All (λ a. (held a.token).tree ≡ tree.now.tree) result.items }
 {
-    let mut door = door;
     let mut actors = Vec::new(alloc);
     for duties in scene.others {
         let token = Token::Door(tree.split(&mut door));
@@ -147,14 +146,13 @@ fn actors_of(
 fn staged<R: Threads + Wait + Abort + Sync>(
     rt: &R,
     tree: &Tree<Rule>,
-    actors: Vec<Actor>,
+    mut actors: Vec<Actor>,
     stages: usize,
 ) -> Vec<Actor>
     requires own { All (λ a. (held a.token).tree ≡ tree.now.tree) actors.items }
     requires rule { Answers (pre tree.now.rule.closure) (post tree.now.rule.closure) (end_ends_at tree.now.rule.plan) }
     ensures { All (λ a. (held a.token).tree ≡ tree.now.tree) result.items }
 {
-    let mut actors = actors;
     for stage in 0..stages {
         actors = all_act(rt, tree, actors, stage);
     }
@@ -162,11 +160,15 @@ fn staged<R: Threads + Wait + Abort + Sync>(
 }
 
 // The tokens of all actors.
-fn tokens_of(rt: &impl Abort, alloc: Global, tree: &Tree<Rule>, actors: Vec<Actor>) -> Vec<Token>
+fn tokens_of(
+    rt: &impl Abort,
+    alloc: Global,
+    tree: &Tree<Rule>,
+    mut actors: Vec<Actor>,
+) -> Vec<Token>
     requires own { All (λ a. (held a.token).tree ≡ tree.now.tree) actors.items }
     ensures { All (λ t. (held t).tree ≡ tree.now.tree) result.items }
 {
-    let mut actors = actors;
     let mut tokens = Vec::new(alloc);
     while let Some(actor) = actors.pop() {
         put(rt, tree, &mut tokens, actor.token);

@@ -78,12 +78,11 @@ fn turned(rt: &impl Abort, tree: &Tree<Rule>, holders: Three, number: usize, row
 }
 
 /// Plays these rows one after another with three tokens.
-pub fn played(rt: &impl Abort, tree: &Tree<Rule>, holders: Three, rows: &[Row]) -> Three
+pub fn played(rt: &impl Abort, tree: &Tree<Rule>, mut holders: Three, rows: &[Row]) -> Three
     requires own { ThreeOf tree.now.tree holders }
     requires rule { Answers (pre tree.now.rule.closure) (post tree.now.rule.closure) (end_ends_at tree.now.rule.plan) }
     ensures { ThreeOf tree.now.tree result }
 {
-    let mut holders = holders;
     for (number, row) in rows.iter().enumerate() {
         holders = turned(rt, tree, holders, number, *row);
     }
