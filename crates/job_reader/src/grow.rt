@@ -16,16 +16,16 @@ ghost use Rattle.job_reader.specs.Relates.{IsSoFar, IsInside, IsOpened, IsBehind
 ghost use Rattle.job_reader.specs.Gives.{LineGives};
 
 use crate::fault::LineFault;
-use crate::inside::{MOST_LOCALS, OpenBody};
+use crate::inside::OpenBody;
 use crate::outer::{Outer, are_apart, array_of, body_of, outer_of, start_of, words_in};
 use crate::so_far::SoFar;
 use job_words::lines::{Keyword, keyword_of, known_in};
 use job_words::words::is_among;
 use std::alloc::{AllocError, Global};
 use superstep_memory::arrays::Arrays;
-use task_code::body::Body;
+use task_code::body::{Body, MOST_LOCALS};
 use task_code::code::Line;
-use task_code::job::Job;
+use task_code::job::{Job, MOST_ARRAYS, MOST_BODIES, MOST_TASKS};
 use text_lines::Code;
 
 /// The most arrays of a job.
@@ -176,7 +176,7 @@ impl<'a> SoFar<'a> {
             → LineGives (λ _ k. IsSoFar k self.new) result (spec.start_line (lent bodies.now) j (words_of line.entry.now)) }
     {
         let start = start_of(bodies, line)?;
-        if self.starts.len() >= MOST_STARTS {
+        if self.starts.len() >= MOST_TASKS {
             return Err(LineFault::Refused(Code::TooMany));
         }
         self.starts.push(start)?;

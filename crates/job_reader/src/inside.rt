@@ -12,6 +12,7 @@ use job_words::exprs::Scope;
 use job_words::lines::{Keyword, line_behind};
 use job_words::mentions::note_behind;
 use std::alloc::{AllocError, Global};
+use task_code::body::{MOST_LOCALS, MOST_OPEN, MOST_STATEMENTS};
 use task_code::builder::Builder;
 use task_code::code::Line;
 use text_lines::Code;

@@ -11,7 +11,7 @@ use job_words::lines::body_at;
 use job_words::words::{is_word, named, numbered};
 use std::alloc::{AllocError, Global};
 use std::collections::BTreeSet;
-use task_code::job::Start;
+use task_code::job::{MOST_CELLS, Start};
 use task_code::names::{is_name, is_reserved};
 use text_lines::{Code, split_word};
 

@@ -20,7 +20,7 @@ use crate::so_far::SoFar;
 use crate::state::State;
 use job_words::words::{is_among, is_word};
 use std::alloc::{AllocError, Global};
-use task_code::job::Job;
+use task_code::job::{Job, MOST_BODIES};
 use text_lines::{Code, Refusal, bad_byte_line, first_word, split_line, split_word};
 
 /// The largest number of bytes of a job's text.

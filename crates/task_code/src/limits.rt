@@ -5,6 +5,7 @@ ghost use Rattle.text_lines.specs.Number.{fits_i64};
 ghost use Rattle.task_code.specs.Limits as spec;
 ghost use Rattle.task_code.specs.Operands.{if_any, over_operands};
 
+use crate::body::MOST_OPEN;
 use crate::code::{Action, Line, Operand};
 use crate::operands::{Operands, operands_of};
 use superstep_memory::arrays::PutKind;
@@ -57,13 +58,13 @@ fn opened(before: usize, line: &Line) -> usize
 
 /// Whether at most 16 lines are open at once.
 pub(crate) fn are_shallow(code: &[Line]) -> bool
-    ensures { IsTrue result ↔ (spec.deepest 0 code.now ≤ 16) }
+    ensures { IsTrue result ↔ (spec.deepest 0 code.now ≤ MOST_OPEN) }
 {
     let mut open_lines = 0;
     let mut rest = code;
     while let Some((line, after)) = rest.split_first() {
         open_lines = opened(open_lines, line);
-        if open_lines > 16 {
+        if open_lines > MOST_OPEN {
             return false;
         }
         rest = after;
