@@ -28,15 +28,6 @@ use task_code::code::Line;
 use task_code::job::{Job, MOST_ARRAYS, MOST_BODIES, MOST_TASKS};
 use text_lines::Code;
 
-/// The most arrays of a job.
-const MOST_ARRAYS: usize = 16;
-
-/// The most bodies of a job.
-const MOST_BODIES: usize = 64;
-
-/// The most start lines of a job.
-const MOST_STARTS: usize = 4096;
-
 // Copies a name into a string.
 #[tactic(auto, using(crate::proofs::AsciiNames::ascii_steps))]
 fn name_text(alloc: Global, name: &[u8]) -> Result<String, AllocError>

@@ -26,15 +26,6 @@ pub(crate) struct OpenBody<'a> {
     pub statements: usize,
 }
 
-/// The most statements of a body.
-const MOST_STATEMENTS: usize = 1024;
-
-/// The most locals of a body.
-pub(crate) const MOST_LOCALS: usize = 32;
-
-/// The most `if` and `while` lines open at once.
-const MOST_OPEN: usize = 16;
-
 // Returns true if one more line exceeds a limit of a body.
 fn is_over(statements: usize, locals: usize, open_lines: usize, line: Line) -> bool
     ensures { result ≡ spec.is_over (statements_behind statements line) locals (opened open_lines line) }

@@ -26,9 +26,6 @@ pub enum Outer {
     Start,
 }
 
-/// The most cells of an array.
-const MOST_CELLS: usize = 4096;
-
 /// Reads a word as the first word of a line outside bodies.
 #[tactic(auto, unfolding(crate::specs::Reading::outer_of))]
 pub(crate) fn outer_of(word: &[u8]) -> Option<Outer>

@@ -18,16 +18,11 @@ use crate::fault::{LineFault, ReadJobFault};
 use crate::outer::{declared_by, format_of};
 use crate::so_far::SoFar;
 use crate::state::State;
+use devices::MOST_BYTES;
 use job_words::words::{is_among, is_word};
 use std::alloc::{AllocError, Global};
 use task_code::job::{Job, MOST_BODIES};
 use text_lines::{Code, Refusal, bad_byte_line, first_word, split_line, split_word};
-
-/// The largest number of bytes of a job's text.
-const MOST_BYTES: usize = 1_048_576;
-
-/// The largest number of bodies of a job.
-const MOST_BODIES: usize = 64;
 
 // Returns true if a line names a body that isn't there, from its first word and the rest of the line.
 fn is_missing(bodies: &[&[u8]], first: &[u8], rest: &[u8]) -> bool
