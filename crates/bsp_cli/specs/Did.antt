@@ -1,4 +1,4 @@
--- What the program did, by its status (own).
+-- What the program did, by its status.
 use Rattle.std.specs.Prelude.{◌≡◌, ◌≤◌, ◌<◌, ◌⊎◌, ℕ, Bool, true, false, List, [], ◌∷◌, Option, IfSome, Err}
 use Rattle.std.specs.List.{list_all}
 use Rattle.std.specs.Io.KnownBytes.{Keeps}
@@ -26,7 +26,7 @@ Finishes (Run workers limit) input old new status = WritesReport report_text lim
 Finishes (Explain topic) input old new status = (status ≡ 0) × WritesTopic topic old new
 Finishes (Draw workers limit) input old new status = WritesReport picture limit input old new status
 
--- or a beginning of it
+-- the input was read, and a beginning of what is asked for was written
 abbrev pub Begins : Asked → List ℕ → Option (List ℕ) → Option (List ℕ) → Type 0
 Begins Trace input old new = WritesBeginning input old new
 Begins Check input old new = BeginsCanonical input old new
@@ -38,32 +38,21 @@ Begins (Draw workers limit) input old new = BeginsReport picture limit input old
 -- the input is refused, first here
 abbrev pub Refuses : Asked → List ℕ → Refusal → Type 0
 Refuses Trace input r = asked_of input ≡ Err r
-Refuses Check input r = job_in input ≡ Err r
-Refuses Upgrade input r = job_in input ≡ Err r
-Refuses (Run workers limit) input r = job_in input ≡ Err r
 Refuses (Explain topic) input r = ⊥
-Refuses (Draw workers limit) input r = job_in input ≡ Err r
+Refuses _ input r = job_in input ≡ Err r
 
--- where memory ran out, only a trace may have written some of its answers
+-- if memory ran out, only a trace may have written some of its answers
 abbrev pub RunsOut : Asked → Option (List ℕ) → Option (List ℕ) → Option (List ℕ) → Type 0
 RunsOut Trace input old new = Keeps old new ⊎ IfSome input (λ bytes. WritesBeginning bytes old new)
-RunsOut Check input old new = Keeps old new
-RunsOut Upgrade input old new = Keeps old new
-RunsOut (Run workers limit) input old new = Keeps old new
-RunsOut (Explain topic) input old new = Keeps old new
-RunsOut (Draw workers limit) input old new = Keeps old new
+RunsOut _ input old new = Keeps old new
 
 -- a worker of those that are asked for, numbered from 0
 abbrev pub IsWorkerOf : Asked → ℕ → Type 0
-IsWorkerOf Trace k = ⊥
-IsWorkerOf Check k = ⊥
-IsWorkerOf Upgrade k = ⊥
 IsWorkerOf (Run workers limit) k = k < workers
-IsWorkerOf (Explain topic) k = ⊥
 IsWorkerOf (Draw workers limit) k = k < workers
+IsWorkerOf _ k = ⊥
 
--- what is asked for is done where the status is 0, 2 or 3; else the output and the line on standard error say what went
--- wrong
+-- what is asked for is done if the status is 0, 2 or 3; else the output and the line on standard error say what went wrong
 pub record Did (a : Asked) (input old new : Option (List ℕ)) (told : List ℕ → Type 0) (status : ℕ) : Type 0 where
   pub finished : status ≤ 3 → IfSome input (λ bytes. Finishes a bytes old new status)
   pub refused : status ≡ 4 → Keeps old new × (r : Refusal) × told (refusal_line r) × IfSome input (λ bytes. Refuses a bytes r)

@@ -21,25 +21,15 @@ use Rattle.bsp_cli.specs.declared.asked.Asked.TheVariants.{Trace, Check, Upgrade
 use Rattle.bsp_cli.specs.declared.fault.RunFault.{RunFault}
 use Rattle.bsp_cli.specs.declared.fault.RunFault.TheVariants.{Text, Read, Write, Memory, NotStarted, Internal}
 
--- the writer failed once at Write, and else not
+-- the writer failed once if the fault is Write, and else not at all
 abbrev pub WriteCause : {T : Type 0} → ℕ → ℕ → Result T RunFault → Type 0
-WriteCause old new (Ok x) = new ≡ old
 WriteCause old new (Err Write) = new ≡ old + 1
-WriteCause old new (Err Read) = new ≡ old
-WriteCause old new (Err Memory) = new ≡ old
-WriteCause old new (Err (Text r)) = new ≡ old
-WriteCause old new (Err (NotStarted k)) = new ≡ old
-WriteCause old new (Err Internal) = new ≡ old
+WriteCause old new _ = new ≡ old
 
--- and the reader at Read
+-- the reader failed once if the fault is Read, and else not at all
 abbrev pub ReadCause : {T : Type 0} → ℕ → ℕ → Result T RunFault → Type 0
-ReadCause old new (Ok x) = new ≡ old
-ReadCause old new (Err Write) = new ≡ old
 ReadCause old new (Err Read) = new ≡ old + 1
-ReadCause old new (Err Memory) = new ≡ old
-ReadCause old new (Err (Text r)) = new ≡ old
-ReadCause old new (Err (NotStarted k)) = new ≡ old
-ReadCause old new (Err Internal) = new ≡ old
+ReadCause old new _ = new ≡ old
 
 abbrev pub Traces : Option (List ℕ) → Option (List ℕ) → Option (List ℕ) → Result (Unit {0}) RunFault → Type 0
 Traces input old new (Ok x) = IfSome input (λ bytes. WritesAnswers bytes old new)
@@ -47,18 +37,15 @@ Traces input old new (Err (Text r)) = IfSome input (λ bytes. asked_of bytes ≡
 Traces input old new (Err Read) = Keeps old new
 Traces input old new (Err Write) = IfSome input (λ bytes. WritesBeginning bytes old new)
 Traces input old new (Err Memory) = Keeps old new ⊎ IfSome input (λ bytes. WritesBeginning bytes old new)
-Traces input old new (Err (NotStarted k)) = ⊥
-Traces input old new (Err Internal) = ⊥
+Traces input old new _ = ⊥
 
 -- the input is the text of the job, or is refused
 abbrev pub TakesJob : Option (List ℕ) → Result JobValue RunFault → Type 0
 TakesJob input (Ok job) = IfSome input (λ bytes. job_in bytes ≡ Ok (job_tree job))
 TakesJob input (Err (Text r)) = IfSome input (λ bytes. job_in bytes ≡ Err r)
 TakesJob input (Err Read) = Unit {0}
-TakesJob input (Err Write) = ⊥
 TakesJob input (Err Memory) = Unit {0}
-TakesJob input (Err (NotStarted k)) = ⊥
-TakesJob input (Err Internal) = ⊥
+TakesJob input _ = ⊥
 
 abbrev pub Checks : Option (List ℕ) → Option (List ℕ) → Option (List ℕ) → Result (Unit {0}) RunFault → Type 0
 Checks input old new (Ok x) = IfSome input (λ bytes. WritesCanonical bytes old new)
@@ -66,8 +53,7 @@ Checks input old new (Err (Text r)) = IfSome input (λ bytes. job_in bytes ≡ E
 Checks input old new (Err Read) = Keeps old new
 Checks input old new (Err Write) = IfSome input (λ bytes. BeginsCanonical bytes old new)
 Checks input old new (Err Memory) = Keeps old new
-Checks input old new (Err (NotStarted k)) = ⊥
-Checks input old new (Err Internal) = ⊥
+Checks input old new _ = ⊥
 
 abbrev pub Upgrades : Option (List ℕ) → Option (List ℕ) → Option (List ℕ) → Result (Unit {0}) RunFault → Type 0
 Upgrades input old new (Ok x) = IfSome input (λ bytes. WritesUpgraded bytes old new)
@@ -75,58 +61,45 @@ Upgrades input old new (Err (Text r)) = IfSome input (λ bytes. job_in bytes ≡
 Upgrades input old new (Err Read) = Keeps old new
 Upgrades input old new (Err Write) = IfSome input (λ bytes. BeginsUpgraded bytes old new)
 Upgrades input old new (Err Memory) = Keeps old new
-Upgrades input old new (Err (NotStarted k)) = ⊥
-Upgrades input old new (Err Internal) = ⊥
+Upgrades input old new _ = ⊥
 
 -- a text on the topic was written, or a beginning of it
 abbrev pub Explains : Topic → Option (List ℕ) → Option (List ℕ) → Result (Unit {0}) RunFault → Type 0
 Explains topic old new (Ok x) = WritesTopic topic old new
-Explains topic old new (Err (Text r)) = ⊥
-Explains topic old new (Err Read) = ⊥
 Explains topic old new (Err Write) = BeginsTopic topic old new
-Explains topic old new (Err Memory) = ⊥
-Explains topic old new (Err (NotStarted k)) = ⊥
-Explains topic old new (Err Internal) = ⊥
+Explains topic old new _ = ⊥
 
--- the report was written in this form, or a beginning of it where the writer failed
+-- the report was written in this form, or a beginning of it if the writer failed
 abbrev pub Reports : (ReportValue → List ℕ) → ReportValue → Option (List ℕ) → Option (List ℕ) → Result JobStatus RunFault → Type 0
 Reports form report old new (Ok status) = Appends old new (form report) × (status_seen status ≡ report.status)
-Reports form report old new (Err (Text r)) = ⊥
-Reports form report old new (Err Read) = ⊥
 Reports form report old new (Err Write) = AppendsBeginning old new (form report)
 Reports form report old new (Err Memory) = Keeps old new
-Reports form report old new (Err (NotStarted k)) = ⊥
-Reports form report old new (Err Internal) = ⊥
+Reports form report old new _ = ⊥
 
--- why so many workers leave nothing
+-- why a run on this number of workers leaves no report
 abbrev pub IsOfPool : ℕ → RunFault → Type 0
-IsOfPool workers (Text r) = ⊥
-IsOfPool workers Read = ⊥
-IsOfPool workers Write = ⊥
 IsOfPool workers Memory = Unit {0}
 IsOfPool workers (NotStarted k) = k < workers
 IsOfPool workers Internal = Unit {0}
+IsOfPool workers _ = ⊥
 
 -- what the job of the input leaves within the limit was written in this form, and nothing else, and this is how it ended; a text that is
 -- refused is refused at its first fault, with nothing written
 abbrev pub Runs : (ReportValue → List ℕ) → ℕ → ℕ → Option (List ℕ) → Option (List ℕ) → Option (List ℕ) → Result JobStatus RunFault → Type 0
 Runs form workers limit input old new (Ok status) = IfSome input (λ bytes. WritesReportOf form limit bytes old new (status_seen status))
 Runs form workers limit input old new (Err (Text r)) = IfSome input (λ bytes. job_in bytes ≡ Err r) × Keeps old new
-Runs form workers limit input old new (Err Read) = Keeps old new
 Runs form workers limit input old new (Err Write) = IfSome input (λ bytes. BeginsReport form limit bytes old new)
-Runs form workers limit input old new (Err Memory) = Keeps old new
 Runs form workers limit input old new (Err (NotStarted k)) = Keeps old new × (k < workers)
-Runs form workers limit input old new (Err Internal) = Keeps old new
+Runs form workers limit input old new _ = Keeps old new
 
--- and what is asked for, whichever it is
+-- what is asked for was done, whichever it is
 abbrev pub Does : Asked → Option (List ℕ) → Option (List ℕ) → Option (List ℕ) → Result ℕ RunFault → Type 0
 Does a input old new (Ok status) = (status ≤ 3) × IfSome input (λ bytes. Finishes a bytes old new status)
 Does a input old new (Err (Text r)) = IfSome input (λ bytes. Refuses a bytes r) × Keeps old new
-Does a input old new (Err Read) = Keeps old new
 Does a input old new (Err Write) = IfSome input (λ bytes. Begins a bytes old new)
 Does a input old new (Err Memory) = RunsOut a input old new
 Does a input old new (Err (NotStarted k)) = Keeps old new × IsWorkerOf a k
-Does a input old new (Err Internal) = Keeps old new
+Does a input old new _ = Keeps old new
 
 -- there is such a code or fault
 abbrev pub IsTopic : Topic → Type 0
@@ -136,12 +109,10 @@ IsTopic (Fault n) = (1 ≤ n) × (n ≤ 8)
 
 -- workers and limit are in range, and there is what is to be explained
 abbrev pub IsAsked : Asked → Type 0
-IsAsked Trace = Unit {0}
-IsAsked Check = Unit {0}
-IsAsked Upgrade = Unit {0}
 IsAsked (Run workers limit) = ((1 ≤ workers) × (workers ≤ 64)) × ((1 ≤ limit) × (limit ≤ 1000000))
 IsAsked (Explain topic) = IsTopic topic
 IsAsked (Draw workers limit) = ((1 ≤ workers) × (workers ≤ 64)) × ((1 ≤ limit) × (limit ≤ 1000000))
+IsAsked _ = Unit {0}
 
 -- how a run of a job ended, as a status
 abbrev pub end_result : Result JobStatus RunFault → Result ℕ RunFault

@@ -1,3 +1,4 @@
+pub mod Answers
 pub mod CommandLine
 pub mod Did
 pub mod Ends

@@ -12,10 +12,10 @@ use clap::builder::ValueParser;
 use clap::{Arg, ArgAction, ArgMatches, Command, Error};
 use std::alloc::Global;
 
-/// What is to be explained (own).
+/// What `explain` explains.
 #[derive(Clone, Copy)]
 pub enum Topic {
-    /// Which codes and faults there are.
+    /// Lists all codes and faults.
     All,
     /// The code of a refusal, 1 to 14.
     Code(u32),
@@ -23,39 +23,39 @@ pub enum Topic {
     Fault(u32),
 }
 
-/// What a command line asks for.
+/// A subcommand of the command line, with its numbers.
 #[derive(Clone, Copy)]
 pub enum Asked {
-    /// To run a trace.
+    /// Runs a trace.
     Trace,
-    /// To check a job's text.
+    /// Checks a job's text.
     Check,
-    /// To write a job in format 2.
+    /// Writes a job in format 2.
     Upgrade,
-    /// To run a job.
+    /// Runs a job.
     Run {
-        /// On so many workers.
+        /// Returns the number of workers.
         workers: u32,
-        /// Within so many supersteps.
+        /// The largest number of supersteps.
         limit: u32,
     },
-    /// To tell what codes and faults mean.
+    /// Explains codes and faults.
     Explain(Topic),
-    /// To draw a job.
+    /// Draws a job.
     Draw {
-        /// Run on so many workers.
+        /// Returns the number of workers.
         workers: u32,
-        /// Within so many supersteps.
+        /// The largest number of supersteps.
         limit: u32,
     },
 }
 
-/// What a command line asks for, with the text of the tree at which workers meet, and what no contract speaks of.
+/// A command line: its subcommand, the text of the tree at which workers meet, and whether to report progress.
 #[derive(Clone, Copy)]
 pub(crate) struct Request<'a> {
     pub(crate) asked: Asked,
     pub(crate) tree: &'a str,
-    /// Whether to tell how far the job has come.
+    /// Whether to report progress. No contract depends on it.
     pub(crate) progress: bool,
 }
 
@@ -71,19 +71,19 @@ const VERSION: &str = version!("", "");
 /// What `--version` prints.
 pub(crate) const VERSION_LINE: &str = version!("bsp ", "\n");
 
-/// How many codes of refusals there are.
+/// The number of codes of refusals.
 const MOST_CODES: u32 = 14;
 
-/// How many faults there are.
+/// The number of faults.
 const MOST_FAULTS: u32 = 8;
 
-/// The most supersteps of a job, also where no limit is given.
+/// The largest number of supersteps of a job. Also the default.
 const MOST_STEPS: u32 = 1_000_000;
 
-/// The most workers.
+/// The largest number of workers.
 const MOST_WORKERS: u32 = 64;
 
-// An argument that is one of these numbers.
+// Makes an argument that is one of these numbers.
 fn number_argument<'a>(
     alloc: Global,
     name: &'a str,
@@ -101,7 +101,7 @@ fn number_argument<'a>(
         .value_parser(numbers)
 }
 
-// The option `--workers`.
+// Makes the option `--workers`.
 fn workers_option<'a>(alloc: Global) -> Arg<'a>
     ensures rule { rule_of result ≡ number_rule (codes "workers") 64 }
     ensures local { result.global ≡ false }
@@ -111,7 +111,7 @@ fn workers_option<'a>(alloc: Global) -> Arg<'a>
     number_argument(alloc, "workers", "N", help, numbers).long("workers")
 }
 
-// The option `--limit`.
+// Makes the option `--limit`.
 fn limit_option<'a>(alloc: Global) -> Arg<'a>
     ensures rule { rule_of result ≡ number_rule (codes "limit") 1000000 }
     ensures local { result.global ≡ false }
@@ -121,7 +121,7 @@ fn limit_option<'a>(alloc: Global) -> Arg<'a>
     number_argument(alloc, "limit", "N", help, numbers).long("limit")
 }
 
-// The option `--tree`.
+// Makes the option `--tree`.
 fn tree_option<'a>(alloc: Global) -> Arg<'a>
     ensures rule { rule_of result ≡ tree_rule }
     ensures local { result.global ≡ false }
@@ -135,7 +135,7 @@ fn tree_option<'a>(alloc: Global) -> Arg<'a>
         .action(ArgAction::Set)
 }
 
-// The option `--progress`.
+// Makes the option `--progress`.
 fn progress_option<'a>(alloc: Global) -> Arg<'a>
     ensures rule { rule_of result ≡ progress_rule }
     ensures local { result.global ≡ false }
@@ -146,7 +146,7 @@ fn progress_option<'a>(alloc: Global) -> Arg<'a>
         .action(ArgAction::SetTrue)
 }
 
-// The code of a refusal.
+// Makes the argument for the code of a refusal.
 fn code_argument<'a>(alloc: Global) -> Arg<'a>
     ensures rule { rule_of result ≡ code_rule }
     ensures local { result.global ≡ false }
@@ -156,7 +156,7 @@ fn code_argument<'a>(alloc: Global) -> Arg<'a>
     number_argument(alloc, "code", "CODE", help, numbers)
 }
 
-// The option `--fault`.
+// Makes the option `--fault`.
 fn fault_option<'a>(alloc: Global) -> Arg<'a>
     ensures rule { rule_of result ≡ number_rule (codes "fault") 8 }
     ensures local { result.global ≡ false }
@@ -166,7 +166,7 @@ fn fault_option<'a>(alloc: Global) -> Arg<'a>
     number_argument(alloc, "fault", "CODE", help, numbers).long("fault")
 }
 
-// A subcommand that runs a job, without its options.
+// Makes a subcommand that runs a job, without its options.
 fn bare_job<'a>(alloc: Global, name: &'a str, about: &'a str, lines: &'a str) -> Command<'a>
     ensures app { app_of result ≡ new_app name.entry.now }
     ensures local { (fields_of result).has_globals ≡ false }
@@ -177,7 +177,7 @@ fn bare_job<'a>(alloc: Global, name: &'a str, about: &'a str, lines: &'a str) ->
         .after_long_help(lines)
 }
 
-// A subcommand that runs a job, with its options.
+// Makes a subcommand that runs a job, with its options.
 fn job_command<'a>(
     alloc: Global,
     name: &'a str,
@@ -194,7 +194,7 @@ fn job_command<'a>(
     Ok(with_limit)
 }
 
-// The subcommand `run`.
+// Makes the subcommand `run`.
 fn run_command<'a>(alloc: Global) -> Result<Command<'a>, Error>
     ensures app { IfOk result (λ c. app_of c ≡ run_app) }
     ensures local { IfOk result (λ c. (fields_of c).has_globals ≡ false) }
@@ -207,7 +207,7 @@ fn run_command<'a>(alloc: Global) -> Result<Command<'a>, Error>
     Ok(with_progress)
 }
 
-// The subcommand `draw`.
+// Makes the subcommand `draw`.
 fn draw_command<'a>(alloc: Global) -> Result<Command<'a>, Error>
     ensures app { IfOk result (λ c. app_of c ≡ job_app (codes "draw")) }
     ensures local { IfOk result (λ c. (fields_of c).has_globals ≡ false) }
@@ -217,7 +217,7 @@ fn draw_command<'a>(alloc: Global) -> Result<Command<'a>, Error>
     job_command(alloc, "draw", about, RUN_LINES)
 }
 
-// The subcommand `trace`.
+// Makes the subcommand `trace`.
 fn trace_command<'a>(alloc: Global) -> Command<'a>
     ensures app { app_of result ≡ new_app (codes "trace") }
     ensures local { (fields_of result).has_globals ≡ false }
@@ -229,7 +229,7 @@ fn trace_command<'a>(alloc: Global) -> Command<'a>
         .after_long_help(TRACE_LINES)
 }
 
-// The subcommand `check`.
+// Makes the subcommand `check`.
 fn check_command<'a>(alloc: Global) -> Command<'a>
     ensures app { app_of result ≡ new_app (codes "check") }
     ensures local { (fields_of result).has_globals ≡ false }
@@ -239,7 +239,7 @@ fn check_command<'a>(alloc: Global) -> Command<'a>
         .after_long_help(CHECK_LINES)
 }
 
-// The subcommand `upgrade`.
+// Makes the subcommand `upgrade`.
 fn upgrade_command<'a>(alloc: Global) -> Command<'a>
     ensures app { app_of result ≡ new_app (codes "upgrade") }
     ensures local { (fields_of result).has_globals ≡ false }
@@ -249,7 +249,7 @@ fn upgrade_command<'a>(alloc: Global) -> Command<'a>
         .after_long_help(UPGRADE_LINES)
 }
 
-// The subcommand `explain` without what it takes.
+// Makes the subcommand `explain` without its arguments.
 fn bare_explain<'a>(alloc: Global) -> Command<'a>
     ensures app { app_of result ≡ new_app (codes "explain") }
     ensures local { (fields_of result).has_globals ≡ false }
@@ -259,7 +259,7 @@ fn bare_explain<'a>(alloc: Global) -> Command<'a>
     )
 }
 
-// The subcommand `explain`.
+// Makes the subcommand `explain`.
 fn explain_command<'a>(alloc: Global) -> Result<Command<'a>, Error>
     ensures app { IfOk result (λ c. app_of c ≡ explain_app) }
     ensures local { IfOk result (λ c. (fields_of c).has_globals ≡ false) }
@@ -270,7 +270,7 @@ fn explain_command<'a>(alloc: Global) -> Result<Command<'a>, Error>
     Ok(with_fault)
 }
 
-// The program, which wants a subcommand, without any.
+// Makes the program's command line without its subcommands.
 fn bare_program<'a>(alloc: Global) -> Command<'a>
     ensures { app_of result ≡ record bare { top = record bare.top { subcommand_required = true; has_version = true } } }
 {
@@ -281,7 +281,7 @@ fn bare_program<'a>(alloc: Global) -> Command<'a>
         .subcommand_required(true)
 }
 
-/// The parser of the command line.
+/// Makes the parser of the command line.
 pub(crate) fn parser<'a>(alloc: Global) -> Result<Command<'a>, Error>
     ensures app { IfOk result (λ c. app_of c ≡ program) }
     ensures memory { IfErr result (λ e. kind_of e ≡ kinds.OutOfMemory) }
@@ -295,7 +295,7 @@ pub(crate) fn parser<'a>(alloc: Global) -> Result<Command<'a>, Error>
     Ok(with_explain)
 }
 
-// The number that was read, where it is one of 1 to `most`; else the usual one.
+// Returns the number that was read if it is one of 1 to `most`, and else the usual one.
 fn within(given: Option<u32>, most: u32, usual: u32) -> u32
     requires usual { usual ≤ most }
     ensures number { result ≡ chosen most usual given }
@@ -308,7 +308,7 @@ fn within(given: Option<u32>, most: u32, usual: u32) -> u32
     }
 }
 
-// The number of workers.
+// Returns the number of workers.
 fn workers_of(matches: &ArgMatches<'_>) -> u32
     ensures workers { result ≡ workers_in (rows_of (found_of matches.now)) }
     ensures least { 1 ≤ result }
@@ -317,7 +317,7 @@ fn workers_of(matches: &ArgMatches<'_>) -> u32
     within(matches.get_one::<u32>("workers"), MOST_WORKERS, 1)
 }
 
-// The limit of supersteps.
+// Returns the limit of supersteps.
 fn limit_of(matches: &ArgMatches<'_>) -> u32
     ensures limit { result ≡ limit_in (rows_of (found_of matches.now)) }
     ensures least { 1 ≤ result }
@@ -326,7 +326,7 @@ fn limit_of(matches: &ArgMatches<'_>) -> u32
     within(matches.get_one::<u32>("limit"), MOST_STEPS, MOST_STEPS)
 }
 
-// The text of the tree.
+// Returns the text of the tree.
 fn tree_of<'a>(matches: &ArgMatches<'a>) -> &'a str
     ensures { result.now ≡ tree_in (rows_of (found_of matches.now)) }
 {
@@ -336,7 +336,7 @@ fn tree_of<'a>(matches: &ArgMatches<'a>) -> &'a str
     }
 }
 
-// The number of the code to be explained; 0 where none is given.
+// Returns the number of the code to be explained, or 0 if none is given.
 fn code_of(matches: &ArgMatches<'_>) -> u32
     ensures code { result ≡ number_from 14 0 (one_of (codes "code") (rows_of (found_of matches.now))) }
     ensures most { result ≤ 14 }
@@ -344,7 +344,7 @@ fn code_of(matches: &ArgMatches<'_>) -> u32
     within(matches.get_one::<u32>("code"), MOST_CODES, 0)
 }
 
-// The number of the fault to be explained; 0 where none is given.
+// Returns the number of the fault to be explained, or 0 if none is given.
 fn fault_of(matches: &ArgMatches<'_>) -> u32
     ensures fault { result ≡ number_from 8 0 (one_of (codes "fault") (rows_of (found_of matches.now))) }
     ensures most { result ≤ 8 }
@@ -352,7 +352,7 @@ fn fault_of(matches: &ArgMatches<'_>) -> u32
     within(matches.get_one::<u32>("fault"), MOST_FAULTS, 0)
 }
 
-// What is to be explained, by the numbers of a code and of a fault, 0 where none is given.
+// Returns what is to be explained, by the numbers of a code and of a fault. 0 means that none is given.
 fn topic_by(code: u32, fault: u32) -> Topic
     requires code { code ≤ 14 }
     requires fault { fault ≤ 8 }
@@ -368,7 +368,7 @@ fn topic_by(code: u32, fault: u32) -> Topic
     Topic::All
 }
 
-// What `explain` asks for.
+// Returns what `explain` asks for.
 fn topic_of(matches: &ArgMatches<'_>) -> Topic
     ensures topic { result ≡ topic_in (rows_of (found_of matches.now)) }
     ensures known { IsTopic result }
@@ -376,7 +376,7 @@ fn topic_of(matches: &ArgMatches<'_>) -> Topic
     topic_by(code_of(matches), fault_of(matches))
 }
 
-// What a subcommand that runs no job asks for.
+// Returns the request of a subcommand that runs no job.
 fn without_tree<'a>(asked: Asked) -> Request<'a>
     ensures asked { result.asked ≡ asked }
     ensures tree { result.tree.now ≡ codes "flat" }
@@ -388,7 +388,7 @@ fn without_tree<'a>(asked: Asked) -> Request<'a>
     }
 }
 
-// What a subcommand that runs a job asks for.
+// Returns the request of a subcommand that runs a job.
 fn with_tree<'a>(asked: Asked, options: &ArgMatches<'a>, progress: bool) -> Request<'a>
     ensures asked { result.asked ≡ asked }
     ensures tree { result.tree.now ≡ tree_in (rows_of (found_of options.now)) }
@@ -400,7 +400,7 @@ fn with_tree<'a>(asked: Asked, options: &ArgMatches<'a>, progress: bool) -> Requ
     }
 }
 
-/// What words that are taken ask for.
+/// Returns what parsed words ask for.
 pub(crate) fn asked_for<'a>(matches: &ArgMatches<'a>) -> Request<'a>
     ensures asked { result.asked ≡ asked_by (subcommand_rows_of matches.now) }
     ensures tree { result.tree.now ≡ tree_by (subcommand_rows_of matches.now) }

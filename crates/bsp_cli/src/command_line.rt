@@ -4,8 +4,9 @@ ghost use Rattle.std.specs.Io.KnownBytes.{Appends};
 ghost use Rattle.clap.specs.Words.{HasKind, kind_of};
 ghost use Rattle.clap.specs.declared.error.kind.ErrorKind.TheVariants as kinds;
 ghost use Rattle.tier_shape.specs.Told.{shape_told};
+ghost use Rattle.bsp_cli.specs.Answers.{AnswersWords, around};
 ghost use Rattle.bsp_cli.specs.CommandLine.{asked_in, refused_by, tree_asked};
-ghost use Rattle.bsp_cli.specs.Did.{Did, are_refused};
+ghost use Rattle.bsp_cli.specs.Did.{Did};
 ghost use Rattle.bsp_cli.specs.Ends.{Does, IsAsked, ReadCause, WriteCause};
 ghost use Rattle.bsp_cli.specs.Texts.{CountsFailures, Says, Tells, WritesSome, version_line};
 
@@ -25,7 +26,7 @@ use std::sync::Wait;
 use std::thread::Threads;
 use tier_shape::Shape;
 
-// What words ask for.
+// Parses the words of a command line.
 fn parse<'a, S: AsStr>(alloc: Global, words: &'a [S]) -> Result<Request<'a>, Error>
     ensures taken { IfOk result (λ r. refused_by (map S.text words.entry.now) ≡ []) }
     ensures asked { IfOk result (λ r. r.asked ≡ asked_in (map S.text words.entry.now)) }
@@ -38,7 +39,7 @@ fn parse<'a, S: AsStr>(alloc: Global, words: &'a [S]) -> Result<Request<'a>, Err
     Ok(asked_for(&matches))
 }
 
-// Writes a text that was asked for in place of a subcommand, and answers the status.
+// Writes a text that was asked for in place of a subcommand. Returns the status.
 #[tactic(auto, using(crate::proofs::Saying::nothing_says))]
 fn show<W: CountedWrite, E: CountedWrite>(writer: &mut W, errors: &mut E, text: &[u8]) -> u8
     ensures status { (result ≡ 0) ⊎ (result ≡ DEVICE_FAILED) }
@@ -54,7 +55,7 @@ fn show<W: CountedWrite, E: CountedWrite>(writer: &mut W, errors: &mut E, text: 
     }
 }
 
-// The text of help. The parser's text is empty nowhere; where there was no memory for it there is none.
+// Returns the text of help. The parser's text is empty only if memory ran out.
 fn help_of(alloc: Global, error: &Error) -> Result<String, AllocError>
     ensures { IfOk result (λ text. string_bytes text ≢ []) }
 {
@@ -65,7 +66,7 @@ fn help_of(alloc: Global, error: &Error) -> Result<String, AllocError>
     Ok(text)
 }
 
-// Writes help, and answers the status.
+// Writes help. Returns the status.
 #[tactic(auto, using(crate::proofs::Saying::some_written))]
 fn show_help<W: CountedWrite, E: CountedWrite>(
     alloc: Global,
@@ -87,7 +88,7 @@ fn show_help<W: CountedWrite, E: CountedWrite>(
     }
 }
 
-// What a command line that isn't taken gets: help, the version, or a refusal.
+// Answers a command line that isn't taken: help, the version, or a refusal.
 fn answer_error<W: CountedWrite, E: CountedWrite>(
     alloc: Global,
     writer: &mut W,
@@ -117,7 +118,7 @@ fn answer_error<W: CountedWrite, E: CountedWrite>(
     }
 }
 
-// Does what is asked for, and answers the status.
+// Does what is asked for. Returns the status.
 fn do_asked<T: Threads + Wait + Sync, R: CountedRead, W: CountedWrite, P: Progress + Sync>(
     rt: &T,
     alloc: Global,
@@ -133,22 +134,22 @@ fn do_asked<T: Threads + Wait + Sync, R: CountedRead, W: CountedWrite, P: Progre
     ensures write_failures { WriteCause (W.failures writer.old) (W.failures writer.new) result }
 {
     match request.asked {
-        Asked::Trace => match trace(alloc, reader, writer) {
-            Ok(()) => Ok(0),
-            Err(fault) => Err(fault),
-        },
-        Asked::Check => match check(alloc, reader, writer) {
-            Ok(()) => Ok(0),
-            Err(fault) => Err(fault),
-        },
-        Asked::Upgrade => match upgrade(alloc, reader, writer) {
-            Ok(()) => Ok(0),
-            Err(fault) => Err(fault),
-        },
-        Asked::Explain(topic) => match explain(writer, topic) {
-            Ok(()) => Ok(0),
-            Err(fault) => Err(fault),
-        },
+        Asked::Trace => {
+            trace(alloc, reader, writer)?;
+            Ok(0)
+        }
+        Asked::Check => {
+            check(alloc, reader, writer)?;
+            Ok(0)
+        }
+        Asked::Upgrade => {
+            upgrade(alloc, reader, writer)?;
+            Ok(0)
+        }
+        Asked::Explain(topic) => {
+            explain(writer, topic)?;
+            Ok(0)
+        }
         Asked::Run { workers, limit } => {
             let progress = if request.progress {
                 Some(progress)
@@ -163,7 +164,7 @@ fn do_asked<T: Threads + Wait + Sync, R: CountedRead, W: CountedWrite, P: Progre
     }
 }
 
-// Does what is asked for, answers the status, and tells what went wrong.
+// Does what is asked for, and reports what went wrong. Returns the status.
 #[tactic(auto, using(crate::proofs::Faulted::faulted))]
 fn run_asked<
     T: Threads + Wait + Sync,
@@ -195,7 +196,7 @@ fn run_asked<
     }
 }
 
-// The tree that a text says; `None` where it says none.
+// Reads the text of a tree. Returns `None` if it is none.
 fn shape_of(alloc: Global, text: &str) -> Result<Option<Shape>, AllocError>
     ensures { IfOk result (λ found. MatchOption found (IsErr (shape_told text.now)) (λ shape. shape_told text.now ≡ Ok shape)) }
 {
@@ -210,7 +211,7 @@ fn shape_of(alloc: Global, text: &str) -> Result<Option<Shape>, AllocError>
     }
 }
 
-// Does what is asked for at the tree that is asked for, if its text says one.
+// Does what is asked for at the tree that is asked for, if its text is one.
 fn run_request<
     T: Threads + Wait + Sync,
     R: CountedRead,
@@ -245,10 +246,9 @@ fn run_request<
     }
 }
 
-/// Does what a command line asks for, its first word being the program's name, and answers the status
-/// that the program ends with. What is asked for is read from `reader`, and what it prints goes to
-/// `writer`; where the status isn't 0, 2 or 3, `errors` gets one line. Where progress is asked for, `progress` is told of
-/// each segment, and that changes nothing else.
+/// Does what a command line asks for. Its first word is the program's name. Reads the input from `reader` and prints to
+/// `writer`. Returns the status that the program ends with; unless that is 0, 2 or 3, `errors` gets one line. If progress
+/// is asked for, `progress` is called for each segment, and that changes nothing else.
 pub fn run_telling<
     'a,
     T: Threads + Wait + Sync,
@@ -266,30 +266,8 @@ pub fn run_telling<
     errors: &mut E,
     progress: &P,
 ) -> u8
-    ensures did { refused_by (map S.text words.entry.now) ≡ []
-        → Did (asked_in (map S.text words.entry.now)) (R.remaining reader.old) (W.contents writer.old) (W.contents writer.new)
-        (Tells (E.contents errors.old) (E.contents errors.new) (E.failures errors.old) (E.failures errors.new)) result }
-    ensures taken { refused_by (map S.text words.entry.now) ≡ [] → IsOk (shape_told (tree_asked (map S.text words.entry.now)))
-        → result ≢ COMMAND_LINE_REFUSED }
-    ensures no_tree { refused_by (map S.text words.entry.now) ≡ [] → IsErr (shape_told (tree_asked (map S.text words.entry.now)))
-        → (reader.new ≡ reader.old) × (writer.new ≡ writer.old) × ((result ≡ COMMAND_LINE_REFUSED) ⊎ (result ≡ OUT_OF_MEMORY)) }
-    ensures helps { refused_by (map S.text words.entry.now) ≡ kinds.DisplayHelp ∷ []
-        → (reader.new ≡ reader.old) × ((result ≡ 0) ⊎ (result ≡ OUT_OF_MEMORY) ⊎ (result ≡ DEVICE_FAILED)) }
-    ensures tells_version { refused_by (map S.text words.entry.now) ≡ kinds.DisplayVersion ∷ []
-        → (reader.new ≡ reader.old) × ((result ≡ 0) ⊎ (result ≡ OUT_OF_MEMORY) ⊎ (result ≡ DEVICE_FAILED)) }
-    ensures helped { refused_by (map S.text words.entry.now) ≡ kinds.DisplayHelp ∷ [] → result ≡ 0
-        → WritesSome (W.contents writer.old) (W.contents writer.new) }
-    ensures versioned { refused_by (map S.text words.entry.now) ≡ kinds.DisplayVersion ∷ [] → result ≡ 0
-        → Appends (W.contents writer.old) (W.contents writer.new) version_line }
-    ensures refuses { are_refused (refused_by (map S.text words.entry.now)) ≡ true
-        → (result ≡ COMMAND_LINE_REFUSED) ⊎ (result ≡ OUT_OF_MEMORY) }
-    ensures untouched { refused_by (map S.text words.entry.now) ≢ [] → reader.new ≡ reader.old }
-    ensures nothing_written { refused_by (map S.text words.entry.now) ≢ [] → result ≡ OUT_OF_MEMORY → writer.new ≡ writer.old }
-    ensures status { result ≤ 9 }
-    ensures silent { result ≤ 3 → errors.new ≡ errors.old }
-    ensures command_line_refused { result ≡ COMMAND_LINE_REFUSED → (reader.new ≡ reader.old) × (writer.new ≡ writer.old) }
-    ensures says { Says result (E.contents errors.old) (E.contents errors.new) (E.failures errors.old) (E.failures errors.new) }
-    ensures failures { CountsFailures result (R.failures reader.old) (R.failures reader.new) (W.failures writer.old) (W.failures writer.new) }
+    ensures { AnswersWords (map S.text words.entry.now) (around R.remaining R.failures reader.old reader.new)
+        (around W.contents W.failures writer.old writer.new) (around E.contents E.failures errors.old errors.new) result }
 {
     match parse(alloc, words) {
         Ok(request) => run_request(rt, alloc, request, reader, writer, errors, progress),
@@ -297,9 +275,9 @@ pub fn run_telling<
     }
 }
 
-/// Does what a command line asks for, its first word being the program's name, and answers the status
-/// that the program ends with. What is asked for is read from `reader`, and what it prints goes to
-/// `writer`; where the status isn't 0, 2 or 3, `errors` gets one line. No progress is told.
+/// Does what a command line asks for. Its first word is the program's name. Reads the input from `reader` and prints to
+/// `writer`. Returns the status that the program ends with; unless that is 0, 2 or 3, `errors` gets one line. Reports no
+/// progress.
 pub fn run<
     'a,
     T: Threads + Wait + Sync,
@@ -308,30 +286,8 @@ pub fn run<
     W: CountedWrite,
     E: CountedWrite,
 >(rt: &T, alloc: Global, words: &'a [S], reader: &mut R, writer: &mut W, errors: &mut E) -> u8
-    ensures did { refused_by (map S.text words.entry.now) ≡ []
-        → Did (asked_in (map S.text words.entry.now)) (R.remaining reader.old) (W.contents writer.old) (W.contents writer.new)
-        (Tells (E.contents errors.old) (E.contents errors.new) (E.failures errors.old) (E.failures errors.new)) result }
-    ensures taken { refused_by (map S.text words.entry.now) ≡ [] → IsOk (shape_told (tree_asked (map S.text words.entry.now)))
-        → result ≢ COMMAND_LINE_REFUSED }
-    ensures no_tree { refused_by (map S.text words.entry.now) ≡ [] → IsErr (shape_told (tree_asked (map S.text words.entry.now)))
-        → (reader.new ≡ reader.old) × (writer.new ≡ writer.old) × ((result ≡ COMMAND_LINE_REFUSED) ⊎ (result ≡ OUT_OF_MEMORY)) }
-    ensures helps { refused_by (map S.text words.entry.now) ≡ kinds.DisplayHelp ∷ []
-        → (reader.new ≡ reader.old) × ((result ≡ 0) ⊎ (result ≡ OUT_OF_MEMORY) ⊎ (result ≡ DEVICE_FAILED)) }
-    ensures tells_version { refused_by (map S.text words.entry.now) ≡ kinds.DisplayVersion ∷ []
-        → (reader.new ≡ reader.old) × ((result ≡ 0) ⊎ (result ≡ OUT_OF_MEMORY) ⊎ (result ≡ DEVICE_FAILED)) }
-    ensures helped { refused_by (map S.text words.entry.now) ≡ kinds.DisplayHelp ∷ [] → result ≡ 0
-        → WritesSome (W.contents writer.old) (W.contents writer.new) }
-    ensures versioned { refused_by (map S.text words.entry.now) ≡ kinds.DisplayVersion ∷ [] → result ≡ 0
-        → Appends (W.contents writer.old) (W.contents writer.new) version_line }
-    ensures refuses { are_refused (refused_by (map S.text words.entry.now)) ≡ true
-        → (result ≡ COMMAND_LINE_REFUSED) ⊎ (result ≡ OUT_OF_MEMORY) }
-    ensures untouched { refused_by (map S.text words.entry.now) ≢ [] → reader.new ≡ reader.old }
-    ensures nothing_written { refused_by (map S.text words.entry.now) ≢ [] → result ≡ OUT_OF_MEMORY → writer.new ≡ writer.old }
-    ensures status { result ≤ 9 }
-    ensures silent { result ≤ 3 → errors.new ≡ errors.old }
-    ensures command_line_refused { result ≡ COMMAND_LINE_REFUSED → (reader.new ≡ reader.old) × (writer.new ≡ writer.old) }
-    ensures says { Says result (E.contents errors.old) (E.contents errors.new) (E.failures errors.old) (E.failures errors.new) }
-    ensures failures { CountsFailures result (R.failures reader.old) (R.failures reader.new) (W.failures writer.old) (W.failures writer.new) }
+    ensures { AnswersWords (map S.text words.entry.now) (around R.remaining R.failures reader.old reader.new)
+        (around W.contents W.failures writer.old writer.new) (around E.contents E.failures errors.old errors.new) result }
 {
     run_telling(rt, alloc, words, reader, writer, errors, &NoProgress)
 }

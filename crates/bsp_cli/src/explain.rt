@@ -1,4 +1,4 @@
-//! What codes of refusals and numbers of faults mean, as `bsp explain` tells it.
+//! What codes of refusals and numbers of faults mean, as `bsp explain` prints it.
 ghost use Rattle.std.specs.Prelude.{◌≡◌, ◌≤◌, true};
 ghost use Rattle.bsp_cli.specs.Ends.{Explains, IsTopic, WriteCause};
 ghost use Rattle.bsp_cli.specs.Topics.{goes_on, heading};

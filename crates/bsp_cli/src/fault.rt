@@ -1,4 +1,4 @@
-//! Why a command did not end, and the line that says so.
+//! Why a command did not end, and the line that reports it.
 ghost use Rattle.std.specs.Prelude.{◌≡◌, ◌++◌, OnOk};
 ghost use Rattle.std.specs.Io.KnownBytes.{Appends};
 ghost use Rattle.devices.specs.Device.{CountsFailure};
@@ -12,10 +12,10 @@ use itoa::{Buffer, Integer};
 use text_lines::Refusal;
 use thiserror::Error;
 
-/// Why a command did not end (own).
+/// Why a command did not end.
 #[derive(Clone, Copy, Debug, PartialEq, Eq, Error)]
 pub enum RunFault {
-    /// The text is refused, first here. Nothing was written.
+    /// The text is refused. The refusal has the first line at fault. Nothing was written.
     #[error("refused line {} code {}", .0.line, .0.code.number())]
     Text(Refusal),
     /// The reader failed. Nothing was written.
@@ -24,18 +24,18 @@ pub enum RunFault {
     /// The writer failed, and a beginning of the output was written.
     #[error("read or write failed")]
     Write,
-    /// There was no memory.
+    /// An allocation failed.
     #[error("out of memory")]
     Memory,
     /// The worker of this number, from 0, couldn't be started. Nothing was written.
     #[error("worker {0} not started")]
     NotStarted(u32),
-    /// Workers met a refusal that they never meet. Nothing was written.
+    /// A bug: workers met a refusal that can't occur. Nothing was written.
     #[error("internal")]
     Internal,
 }
 
-// Writes a name and a number behind it.
+// Writes a name and a number after it.
 fn write_field<E: CountedWrite, I: Integer>(
     errors: &mut E,
     name: &[u8],
@@ -67,7 +67,7 @@ fn write_worker<E: CountedWrite>(errors: &mut E, k: u32) -> Result<(), DeviceFai
     write_all(errors, b" not started\n")
 }
 
-/// Tells that the command line is refused, and answers the status.
+/// Reports that the command line is refused. Returns the status.
 #[tactic(auto, using(crate::proofs::Saying::refused_says))]
 pub(crate) fn refuse<E: CountedWrite>(errors: &mut E) -> u8
     ensures status { result ≡ COMMAND_LINE_REFUSED }
@@ -77,7 +77,7 @@ pub(crate) fn refuse<E: CountedWrite>(errors: &mut E) -> u8
     COMMAND_LINE_REFUSED
 }
 
-// Writes the line of a fault, and answers its status.
+// Writes the line of a fault. Returns its status.
 fn write_line<E: CountedWrite>(errors: &mut E, fault: RunFault) -> u8
     ensures status { result ≡ fault_status fault }
     ensures tells { Tells (E.contents errors.old) (E.contents errors.new) (E.failures errors.old) (E.failures errors.new) (fault_text fault) }
@@ -106,7 +106,7 @@ fn write_line<E: CountedWrite>(errors: &mut E, fault: RunFault) -> u8
     }
 }
 
-/// Tells why a command did not end, and answers the status. A writer of errors that fails changes nothing else.
+/// Reports why a command did not end. Returns the status. A failure of `errors` changes nothing else.
 #[tactic(auto, using(crate::proofs::Saying::fault_says))]
 pub(crate) fn tell<E: CountedWrite>(errors: &mut E, fault: RunFault) -> u8
     ensures status { result ≡ fault_status fault }

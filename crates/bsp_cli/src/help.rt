@@ -35,7 +35,7 @@ Two parties arrive at a phaser, and the second advances it:
   0
   phase 1 parties 2 unarrived 2 ended no";
 
-// What stands in a trace, and how it ends, for its help.
+// The lines of a trace and the statuses, for the help of `trace`.
 pub(crate) const TRACE_LINES: &str = "The first line: phaser PARTIES [PHASE] [least L] [at Q]
 Then, one a line:
   register      one party registers
@@ -79,8 +79,7 @@ Codes of refusals:
   7   words too few, too many or misplaced
   12  over 4096 commands, or over 256 tokens";
 
-// What stands in a job, how the command ends, and why a text is refused, for the help of `check`, `upgrade`
-// and `run`.
+// The lines of a job, the statuses and the codes of refusals, for the help of `check`, `upgrade` and `run`.
 macro_rules! job_help {
     ($ends:literal) => {
         concat!(

@@ -24,7 +24,7 @@ use task_code::job::Job;
 use tier_shape::Shape;
 use worker_pool::{AllStart, Gate, OpenGate, Refused, run_within};
 
-// Reads a job to the reader's end.
+// Reads a job to the reader's end, or returns the first fault.
 fn take_job<R: CountedRead>(alloc: Global, reader: &mut R) -> Result<Job, RunFault>
     ensures takes { TakesJob (R.remaining reader.old) result }
     ensures failures { ReadCause (R.failures reader.old) (R.failures reader.new) result }
@@ -45,7 +45,7 @@ fn take_job<R: CountedRead>(alloc: Global, reader: &mut R) -> Result<Job, RunFau
     }
 }
 
-/// Reads a job, and writes its canonical text.
+/// Reads a job and writes its canonical text.
 pub(crate) fn check<R: CountedRead, W: CountedWrite>(
     alloc: Global,
     reader: &mut R,
@@ -55,10 +55,7 @@ pub(crate) fn check<R: CountedRead, W: CountedWrite>(
     ensures read_failures { ReadCause (R.failures reader.old) (R.failures reader.new) result }
     ensures write_failures { WriteCause (W.failures writer.old) (W.failures writer.new) result }
 {
-    let job = match take_job(alloc, reader) {
-        Ok(job) => job,
-        Err(fault) => return Err(fault),
-    };
+    let job = take_job(alloc, reader)?;
     match write_job(alloc, &job, writer) {
         Ok(()) => Ok(()),
         Err(WriteFault::Write) => Err(RunFault::Write),
@@ -66,7 +63,7 @@ pub(crate) fn check<R: CountedRead, W: CountedWrite>(
     }
 }
 
-/// Reads a job of either format, and writes its canonical text as one of format 2.
+/// Reads a job of either format and writes its canonical text in format 2.
 pub(crate) fn upgrade<R: CountedRead, W: CountedWrite>(
     alloc: Global,
     reader: &mut R,
@@ -76,10 +73,7 @@ pub(crate) fn upgrade<R: CountedRead, W: CountedWrite>(
     ensures read_failures { ReadCause (R.failures reader.old) (R.failures reader.new) result }
     ensures write_failures { WriteCause (W.failures writer.old) (W.failures writer.new) result }
 {
-    let job = match take_job(alloc, reader) {
-        Ok(job) => upgraded(job),
-        Err(fault) => return Err(fault),
-    };
+    let job = upgraded(take_job(alloc, reader)?);
     match write_job(alloc, &job, writer) {
         Ok(()) => Ok(()),
         Err(WriteFault::Write) => Err(RunFault::Write),
@@ -87,7 +81,7 @@ pub(crate) fn upgrade<R: CountedRead, W: CountedWrite>(
     }
 }
 
-// The status of a job that ended so.
+// Returns the program's status for how a job ended.
 fn end_status(status: &JobStatus) -> u8
     ensures { result ≡ status_number (status_seen status.now) }
 {
@@ -98,14 +92,11 @@ fn end_status(status: &JobStatus) -> u8
     }
 }
 
-/// The status of a run that ended so, or why it didn't.
+/// Returns the program's status for how a run ended, or its fault.
 pub(crate) fn run_status(ended: Result<JobStatus, RunFault>) -> Result<u8, RunFault>
     ensures { result ≡ end_result ended }
 {
-    match ended {
-        Ok(status) => Ok(end_status(&status)),
-        Err(fault) => Err(fault),
-    }
+    Ok(end_status(&ended?))
 }
 
 // What a job leaves within this limit of supersteps that workers share, with this gate round each segment.
@@ -126,7 +117,7 @@ fn share<T: Threads + Wait + Sync, G: Gate + Sync>(
     run_within(rt, alloc, job, shape, workers, limit, gate, &AllStart)
 }
 
-// What a job leaves within this limit on one thread, where progress is asked for or not.
+// Runs a job within this limit on one thread, and reports progress if it is asked for.
 fn leave_alone<P: Progress>(
     alloc: Global,
     job: &Job,
@@ -145,7 +136,7 @@ fn leave_alone<P: Progress>(
     left
 }
 
-// What a job leaves within this limit of supersteps. One worker has nobody to share with.
+// Runs a job within this limit of supersteps: a single worker on this thread, several on threads that share it.
 fn leave<T: Threads + Wait + Sync, P: Progress + Sync>(
     rt: &T,
     alloc: Global,
@@ -161,10 +152,7 @@ fn leave<T: Threads + Wait + Sync, P: Progress + Sync>(
     ensures started { IfErr result (IsOfWorkers workers) }
 {
     if workers == 1 {
-        return match leave_alone(alloc, job, limit, progress) {
-            Ok(report) => Ok(report),
-            Err(_) => Err(Refused::Memory),
-        };
+        return leave_alone(alloc, job, limit, progress).map_err(|_| Refused::Memory);
     }
     let Some(progress) = progress else {
         return share(rt, alloc, job, shape, workers, limit, &OpenGate);
@@ -174,7 +162,7 @@ fn leave<T: Threads + Wait + Sync, P: Progress + Sync>(
     left
 }
 
-// Why a run of a job on so many workers didn't end.
+// Returns the program's fault for why a run on workers didn't end.
 fn fault_of(refused: Refused) -> RunFault
     ensures { (workers : ℕ) → IsOfWorkers workers refused → IsOfPool workers result }
 {
@@ -185,7 +173,7 @@ fn fault_of(refused: Refused) -> RunFault
     }
 }
 
-// How a job ended that left this report.
+// Returns how a job ended, from its report.
 fn status_of(report: Report) -> JobStatus
     ensures { status_seen result ≡ report.status }
 {
@@ -193,7 +181,7 @@ fn status_of(report: Report) -> JobStatus
     status
 }
 
-// Writes a report, and answers how its job ended.
+// Writes a report. Returns how its job ended.
 fn write_end<W: CountedWrite>(
     alloc: Global,
     report: Report,
@@ -209,7 +197,7 @@ fn write_end<W: CountedWrite>(
     }
 }
 
-// Writes the picture of a report, and answers how its job ended. All memory is taken before the first byte is written.
+// Writes the picture of a report. Returns how its job ended. Allocates before it writes the first byte.
 fn draw_end<W: CountedWrite>(
     alloc: Global,
     report: Report,
@@ -228,9 +216,9 @@ fn draw_end<W: CountedWrite>(
     }
 }
 
-/// Reads a job to the reader's end, runs it within this limit of supersteps on so many workers, which meet at a tree of
-/// this shape, and writes its report (own). What is written depends on what was read and on the limit alone, and not on
-/// whether `progress` is told of each segment.
+/// Reads a job to the reader's end, runs it within this limit of supersteps on `workers` threads that meet at a tree of
+/// this shape, and writes its report. The output depends only on the input and the limit. `progress` is called for each
+/// segment.
 ///
 /// ```
 /// let text = b"bsp 1\narray a 1\nbody b\nput a[0] = 7\nend\nstart b 0\n";
@@ -268,17 +256,14 @@ pub fn run_bytes<T: Threads + Wait + Sync, R: CountedRead, W: CountedWrite, P: P
     ensures read_failures { ReadCause (R.failures reader.old) (R.failures reader.new) result }
     ensures write_failures { WriteCause (W.failures writer.old) (W.failures writer.new) result }
 {
-    let job = match take_job(alloc, reader) {
-        Ok(job) => job,
-        Err(fault) => return Err(fault),
-    };
+    let job = take_job(alloc, reader)?;
     match leave(rt, alloc, &job, shape, workers, limit, progress) {
         Ok(report) => write_end(alloc, report, writer),
         Err(refused) => Err(fault_of(refused)),
     }
 }
 
-/// Reads a job to the reader's end, runs it likewise, and writes the picture of its report, an SVG file (own).
+/// Reads a job to the reader's end, runs it as [`run_bytes`] does, and writes the picture of its report, an SVG file.
 pub fn draw_bytes<T: Threads + Wait + Sync, R: CountedRead, W: CountedWrite>(
     rt: &T,
     alloc: Global,
@@ -294,10 +279,7 @@ pub fn draw_bytes<T: Threads + Wait + Sync, R: CountedRead, W: CountedWrite>(
     ensures read_failures { ReadCause (R.failures reader.old) (R.failures reader.new) result }
     ensures write_failures { WriteCause (W.failures writer.old) (W.failures writer.new) result }
 {
-    let job = match take_job(alloc, reader) {
-        Ok(job) => job,
-        Err(fault) => return Err(fault),
-    };
+    let job = take_job(alloc, reader)?;
     match leave(rt, alloc, &job, shape, workers, limit, None::<&NoProgress>) {
         Ok(report) => draw_end(alloc, report, writer),
         Err(refused) => Err(fault_of(refused)),

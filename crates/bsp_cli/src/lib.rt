@@ -1,4 +1,4 @@
-//! The program's command line, and what each subcommand does.
+//! The program's command line, and what each subcommand does. Nothing here is part of Java's API.
 #![tactic(auto)]
 
 mod asked;
@@ -20,7 +20,7 @@ pub use laws::{words_are_refused, words_ask, words_help, words_tell_the_version}
 pub use program::run_program;
 pub use progress::{NoProgress, Progress, WatchEnd};
 
-/// Statuses that the program ends with (own); 0 is for what was done.
+/// Statuses that the program ends with. 0 means success.
 pub mod status {
     /// A task faulted, or too many would have lived; the report is printed.
     pub const TASK_FAULT: u8 = 2;
@@ -30,12 +30,12 @@ pub mod status {
     pub const TEXT_REFUSED: u8 = 4;
     /// The command line is refused.
     pub const COMMAND_LINE_REFUSED: u8 = 5;
-    /// There was no memory.
+    /// An allocation failed.
     pub const OUT_OF_MEMORY: u8 = 6;
     /// A worker couldn't be started.
     pub const NOT_STARTED: u8 = 7;
     /// A read or a write failed.
     pub const DEVICE_FAILED: u8 = 8;
-    /// Workers met a refusal that they never meet.
+    /// A bug: workers met a refusal that can't occur.
     pub const INTERNAL: u8 = 9;
 }

@@ -13,7 +13,7 @@ use std::sync::Wait;
 use std::thread::Threads;
 use std::{env, io};
 
-// Ends before the words of the command line could be looked at.
+// Reports that the words of the command line couldn't be read. Returns the status.
 fn stopped<E: CountedWrite>(errors: &mut E, kind: io::ErrorKind) -> u8
     ensures status { (result ≡ COMMAND_LINE_REFUSED) ⊎ (result ≡ OUT_OF_MEMORY) }
     ensures says { Says result (E.contents errors.old) (E.contents errors.new) (E.failures errors.old) (E.failures errors.new) }
@@ -24,8 +24,9 @@ fn stopped<E: CountedWrite>(errors: &mut E, kind: io::ErrorKind) -> u8
     refuse(errors)
 }
 
-/// Does what the command line of this process asks for, as [`run_telling`] says: reads standard input, prints to `writer`, tells
-/// what went wrong to `errors`, and answers the status that the process ends with. Words that aren't text are refused.
+/// Does what the command line of this process asks for, as [`run_telling`] does. Reads standard input, prints to `writer`,
+/// and reports to `errors` what went wrong. Returns the status that the process ends with. Words that aren't text are
+/// refused.
 pub fn run_program<
     T: env::Env + AllocGlobal + Input + Clock + Eprint + Threads + Wait + Sync,
     W: CountedWrite,

@@ -1,4 +1,4 @@
-//! How far a job has come, told while it runs. No contract speaks of it: what is told changes nothing.
+//! Progress of a job while it runs. No contract depends on it: progress changes nothing else.
 use std::rt::Clock;
 use std::sync::{Mutex, Wait};
 use std::time::Instant;
@@ -6,26 +6,25 @@ use step_core::{NoWatch, Watch};
 use superstep_memory::path::Path;
 use worker_pool::Gate;
 
-/// Is told of each superstep of a job on one thread, and once when the job has left its report (own).
+/// Watches the supersteps of a job on one thread, and is called once more when the job has left its report.
 pub trait WatchEnd: Watch {
     /// Called when no more supersteps come.
     fn end(self);
 }
 
-/// Where progress is asked for: is called round each segment of a job that workers share, and once when the job has left its
-/// report (own).
+/// Reports progress: is called around each segment of a job that workers share, and once when the job has left its report.
 pub trait Progress: Gate {
-    /// Who is told where a job runs on one thread.
+    /// The watch for a job on one thread.
     type Alone: WatchEnd;
 
-    /// One who is told of the supersteps of a job on one thread.
+    /// Returns a watch for the supersteps of a job on one thread.
     fn alone(&self) -> Self::Alone;
 
     /// Called when no more segments come.
     fn end<R: Wait>(&self, rt: &R);
 }
 
-/// Tells nothing (own).
+/// Reports nothing.
 #[derive(Clone, Copy, Drop)]
 pub struct NoProgress;
 
@@ -49,8 +48,7 @@ impl Progress for NoProgress {
     fn end<R: Wait>(&self, _rt: &R) {}
 }
 
-// The superstep that the job is in, how many tasks are known to do it, when the job began, and the second that was last
-// told of.
+// The current superstep, the number of tasks known to be in it, when the job began, and the second of the last report.
 #[derive(Clone, Copy)]
 struct ProgressState {
     step: u32,
@@ -59,7 +57,7 @@ struct ProgressState {
     told: u64,
 }
 
-// Nothing yet.
+// Returns the state before any superstep.
 fn nothing_seen<T: Clock>(rt: &T) -> ProgressState {
     ProgressState {
         step: 0,
@@ -69,7 +67,7 @@ fn nothing_seen<T: Clock>(rt: &T) -> ProgressState {
     }
 }
 
-// How many seconds the job has run.
+// Returns the number of seconds that the job has run.
 fn seconds<T: Clock>(rt: &T, seen: ProgressState) -> u64 {
     let Some(began) = seen.began else {
         return 0;
@@ -80,13 +78,14 @@ fn seconds<T: Clock>(rt: &T, seen: ProgressState) -> u64 {
     }
 }
 
-// Tells of the superstep that was seen.
+// Reports the superstep that was seen.
 fn tell<T: Eprint>(rt: &T, seen: ProgressState, seconds: u64) {
     let ProgressState { step, tasks, .. } = seen;
     let _ = eprintln!(rt; "superstep {step}, {tasks} tasks, {seconds} s");
 }
 
-// What is seen where so many tasks more are known to do this superstep; tells of the one before it, where a second has passed.
+// Returns the state after `tasks` more tasks of this superstep. If it is a new superstep and a second has passed, reports
+// the one before.
 fn seen_after<T: Clock + Eprint>(
     rt: &T,
     seen: ProgressState,
@@ -111,15 +110,15 @@ fn seen_after<T: Clock + Eprint>(
     }
 }
 
-// Tells of the superstep that was seen last, if there was one.
+// Reports the superstep that was seen last, if there was one.
 fn tell_last<T: Clock + Eprint>(rt: &T, seen: ProgressState) {
     if seen.tasks > 0 {
         tell(rt, seen, seconds(rt, seen));
     }
 }
 
-/// Tells on standard error of a job on one thread, as a superstep begins and a second has passed, `superstep S, T tasks, R s` of
-/// the one before (own).
+/// Reports a job on one thread to standard error. When a superstep begins and a second has passed, prints
+/// `superstep S, T tasks, R s` of the superstep before.
 #[derive(Drop)]
 pub(crate) struct AloneTeller<'a, T: Clock + Eprint> {
     rt: &'a T,
@@ -139,7 +138,8 @@ impl<T: Clock + Eprint> WatchEnd for AloneTeller<'_, T> {
     }
 }
 
-/// Tells on standard error, as a superstep begins and a second has passed, `superstep S, T tasks, R s` of the one before (own).
+/// Reports a job on workers to standard error. When a superstep begins and a second has passed, prints
+/// `superstep S, T tasks, R s` of the superstep before.
 #[derive(Drop)]
 pub(crate) struct Teller<'a, T: Clock + Eprint> {
     rt: &'a T,
@@ -147,7 +147,7 @@ pub(crate) struct Teller<'a, T: Clock + Eprint> {
 }
 
 impl<'a, T: Clock + Eprint> Teller<'a, T> {
-    /// Has told nothing.
+    /// Returns a reporter that has reported nothing.
     pub(crate) fn new(rt: &'a T) -> Self {
         Teller {
             rt,

@@ -6,7 +6,7 @@ use devices::{CountedRead, CountedWrite};
 use std::alloc::Global;
 use trace_text::{TraceFault, run_trace};
 
-/// Runs a trace.
+/// Reads a trace, runs it and writes what it prints.
 pub(crate) fn trace<R: CountedRead, W: CountedWrite>(
     alloc: Global,
     reader: &mut R,

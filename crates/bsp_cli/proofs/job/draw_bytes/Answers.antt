@@ -2,20 +2,20 @@ use Rattle.job_picture.specs.Picture.{picture}
 use Rattle.bsp_cli.proofs.RunJobs.{runs, pool_runs, pool_reads, pool_writes}
 use Rattle.bsp_cli.proofs.job.draw_bytes.Goals as goal
 
-pub returns-in-Ok-leave-clause-runs : goal.returns-in-Ok-leave-clause-runs
-returns-in-Ok-leave-clause-runs g c =
+pub returns-in-Ok-clause-runs : goal.returns-in-Ok-clause-runs
+returns-in-Ok-clause-runs g c =
     runs picture c.args.workers c.args.limit (g.R.CountedRead.remaining c.args.reader.now) (g.W.CountedWrite.contents c.args.writer.now)
-    (g.W.CountedWrite.contents c.draw_end.new.writer) c.in-Ok.job c.in-Ok-leave.report c.draw_end.result c.in-Ok.ensures.takes
-    c.in-Ok-leave.ensures.report c.draw_end.ensures.reports
+    (g.W.CountedWrite.contents c.draw_end.new.writer) c.in_ok-job.job c.in-Ok.report c.draw_end.result c.in_ok-job.ensures.takes
+    c.in-Ok.ensures.report c.draw_end.ensures.reports
 
 pub returns-clause-runs : goal.returns-clause-runs
 returns-clause-runs g c =
-    pool_runs picture c.args.workers c.args.limit _ _ c.fault_of.result (c.fault_of.ensures c.args.workers c.in-Err-leave.ensures.started)
+    pool_runs picture c.args.workers c.args.limit _ _ c.fault_of.result (c.fault_of.ensures c.args.workers c.in-Err.ensures.started)
 
 pub returns-clause-read_failures : goal.returns-clause-read_failures
 returns-clause-read_failures g c =
-    pool_reads c.args.workers _ _ c.fault_of.result (c.fault_of.ensures c.args.workers c.in-Err-leave.ensures.started) c.in-Ok.ensures.failures
+    pool_reads c.args.workers _ _ c.fault_of.result (c.fault_of.ensures c.args.workers c.in-Err.ensures.started) c.in_ok-job.ensures.failures
 
 pub returns-clause-write_failures : goal.returns-clause-write_failures
 returns-clause-write_failures g c =
-    pool_writes c.args.workers _ c.fault_of.result (c.fault_of.ensures c.args.workers c.in-Err-leave.ensures.started)
+    pool_writes c.args.workers _ c.fault_of.result (c.fault_of.ensures c.args.workers c.in-Err.ensures.started)
