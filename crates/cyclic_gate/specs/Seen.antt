@@ -3,8 +3,8 @@ use Rattle.std.specs.Prelude.{◌≡◌, ℕ, Bool, true, false, Option}
 use Rattle.advance_rule.specs.Stored.{Stored}
 use Rattle.cyclic_gate.specs.Machine.{Machine}
 use Rattle.cyclic_gate.specs.Steps.{Answer, Waiting, Trips, Fails, IsBroken, Already, Absent, is_change}
-use Rattle.cyclic_gate.specs.declared.call.Awaited.{Awaited}
-use Rattle.cyclic_gate.specs.declared.call.Awaited.TheVariants.{Waits, Tripped, ActionFailed, Broken}
+use Rattle.cyclic_gate.specs.declared.call.AwaitedStep.{AwaitedStep}
+use Rattle.cyclic_gate.specs.declared.call.AwaitedStep.TheVariants.{Waits, Tripped, ActionFailed, Broken}
 use Rattle.cyclic_gate.specs.declared.call.BarrierFault.{BarrierFault}
 use Rattle.cyclic_gate.specs.declared.call.BarrierFault.TheVariants.{NoParty, AlreadyWaiting, NotWaiting, TooMany, Memory}
 
@@ -14,7 +14,7 @@ pub record Core (F : Type 0) : Type 0 where
   pub barrier : Machine
 
 -- an arrival's answer
-abbrev pub answer_of : Awaited → Answer
+abbrev pub answer_of : AwaitedStep → Answer
 answer_of (Waits index) = Waiting index
 answer_of (Tripped all) = Trips all.items
 answer_of (ActionFailed others) = Fails others.items
@@ -36,7 +36,7 @@ RefusesAbandon NoParty a = ⊥
 RefusesAbandon TooMany a = ⊥
 
 -- a trip comes of an action that ran and went well, a failure of one that ran and failed
-abbrev pub Ran : (Bool → Type 0) → Awaited → Type 0
+abbrev pub Ran : (Bool → Type 0) → AwaitedStep → Type 0
 Ran post (Waits index) = Unit {0}
 Ran post (Tripped all) = post false
 Ran post (ActionFailed others) = post true

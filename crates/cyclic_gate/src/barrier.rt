@@ -6,7 +6,7 @@ ghost use Rattle.cyclic_gate.specs.Steps.{answer, after, Absent, Breaks};
 ghost use Rattle.cyclic_gate.specs.Seen.{Core, answer_of, RefusesAwait, Ran};
 ghost use Rattle.cyclic_gate.specs.declared.call.Call.TheVariants.{Await, Abandon, BreakOff, Reset};
 
-use crate::call::{Awaited, BarrierFault};
+use crate::call::{AwaitedStep, BarrierFault};
 use crate::state::BarrierState;
 use advance_rule::StoredAction;
 use std::alloc::Global;
@@ -21,8 +21,8 @@ use std::marker::Model;
 /// // The action never fails. Callers have numbers.
 /// let action = StoredAction::new(|_generation| false, None);
 /// let mut barrier = BarrierCore::new(rt.alloc(), 2, action).expect(&rt, "two parties");
-/// assert!(rt; matches!(barrier.await_step(7), Ok(Awaited::Waits(1))));
-/// assert!(rt; matches!(barrier.await_step(9), Ok(Awaited::Tripped(_))));
+/// assert!(rt; matches!(barrier.await_step(7), Ok(AwaitedStep::Waits(1))));
+/// assert!(rt; matches!(barrier.await_step(9), Ok(AwaitedStep::Tripped(_))));
 /// assert!(rt; barrier.generation() == 1);
 /// ```
 #[derive(Drop)]
@@ -89,7 +89,7 @@ impl<F: Fn(u64) -> bool> BarrierCore<F> {
 
     /// Arrives as `caller` (Java SE 21, `CyclicBarrier.await`). The last to arrive runs the action. Fails with
     /// `AlreadyWaiting` if and only if the caller waits already.
-    pub fn await_step(&mut self, caller: u32) -> Result<Awaited, BarrierFault>
+    pub fn await_step(&mut self, caller: u32) -> Result<AwaitedStep, BarrierFault>
         requires rule { AnswersAction (F.pre self.old.action.closure) (F.post self.old.action.closure) self.old.action.plan }
         ensures answer { MatchResult result
             (λ a. answer self.old.action.plan (Await caller) self.old.barrier ≡ answer_of a)

@@ -21,7 +21,7 @@ pub enum Call {
 /// The answer of an arrival. `tier_table` has another enum of this name: the answer of a crew that waits for the next
 /// phase of a tree.
 #[derive(Drop)]
-pub enum Awaited {
+pub enum AwaitedStep {
     /// The caller waits, with this arrival index. It passes when another call returns a list with its number.
     Waits(u32),
     /// The caller was the last. The list has all callers with their arrival indices, in order of arrival: let them pass.

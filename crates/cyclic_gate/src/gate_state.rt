@@ -8,7 +8,7 @@ ghost use Rattle.cyclic_gate.specs.Ledger.{booked};
 ghost use Rattle.cyclic_gate.specs.Gate.{GivesTurn, GivesNoTurn, IsArrival, RefusesArrival, left_by};
 ghost use Rattle.cyclic_gate.specs.declared.call.Call.TheVariants.{Await, Abandon, BreakOff, Reset};
 
-use crate::call::{Awaited, BarrierFault};
+use crate::call::{AwaitedStep, BarrierFault};
 use crate::gate::GateFault;
 use crate::ledger::{Ledger, Outcome};
 use advance_rule::StoredAction;
@@ -153,16 +153,16 @@ impl GateState {
         ensures book { ledger.new ≡ left_by result caller ledger.old }
     {
         match ledger.await_step(action, caller) {
-            Ok(Awaited::Waits(index)) => Ok(Arrival::Waits(index, ledger.noted())),
-            Ok(Awaited::Tripped(_)) => {
+            Ok(AwaitedStep::Waits(index)) => Ok(Arrival::Waits(index, ledger.noted())),
+            Ok(AwaitedStep::Tripped(_)) => {
                 self.ended.notify_all();
                 Ok(Arrival::Last(0))
             }
-            Ok(Awaited::ActionFailed(_)) => {
+            Ok(AwaitedStep::ActionFailed(_)) => {
                 self.ended.notify_all();
                 Err(GateFault::ActionFailed)
             }
-            Ok(Awaited::Broken) => Err(GateFault::Broken),
+            Ok(AwaitedStep::Broken) => Err(GateFault::Broken),
             Err(BarrierFault::AlreadyWaiting) => Err(GateFault::AlreadyWaiting),
             Err(BarrierFault::Memory) => Err(GateFault::Memory),
             Err(_) => Err(GateFault::Broken),

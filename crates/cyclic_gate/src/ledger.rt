@@ -9,7 +9,7 @@ ghost use Rattle.cyclic_gate.specs.History.{first_end, outcome_of};
 ghost use Rattle.cyclic_gate.specs.Ledger.{Book, book, booked};
 ghost use Rattle.cyclic_gate.specs.declared.call.Call.TheVariants.{Await, Abandon, BreakOff, Reset};
 
-use crate::call::{Awaited, BarrierFault, Call};
+use crate::call::{AwaitedStep, BarrierFault, Call};
 use crate::state::BarrierState;
 use advance_rule::StoredAction;
 use std::alloc::Global;
@@ -57,7 +57,7 @@ impl Model for Ledger {
     ghost invariant = { λ l. IsReplay l.fails l.state l.history.items × HasPlace l.state (vec_len l.history) (vec_capacity l.history) };
 }
 
-impl Awaited {
+impl AwaitedStep {
     // Returns what the arrival did to the generation. An arrival at a broken barrier isn't noted.
     fn outcome(&self) -> Option<Outcome>
         ensures { MatchOption result
@@ -65,10 +65,10 @@ impl Awaited {
             (λ o. (is_change (answer_of self.now) ≡ true) × (o ≡ outcome_of (answer_of self.now))) }
     {
         match self {
-            Awaited::Waits(_) => Some(Outcome::GoesOn),
-            Awaited::Tripped(_) => Some(Outcome::Tripped),
-            Awaited::ActionFailed(_) => Some(Outcome::Broken),
-            Awaited::Broken => None,
+            AwaitedStep::Waits(_) => Some(Outcome::GoesOn),
+            AwaitedStep::Tripped(_) => Some(Outcome::Tripped),
+            AwaitedStep::ActionFailed(_) => Some(Outcome::Broken),
+            AwaitedStep::Broken => None,
         }
     }
 }
@@ -144,7 +144,7 @@ impl Ledger {
         &mut self,
         action: &StoredAction<F>,
         caller: u32,
-    ) -> Result<Awaited, BarrierFault>
+    ) -> Result<AwaitedStep, BarrierFault>
         requires rule { AnswersAction (F.pre action.now.closure) (F.post action.now.closure) action.now.plan }
         requires plan { self.old.fails ≡ action.now.plan }
         ensures answer { MatchResult result
@@ -154,7 +154,7 @@ impl Ledger {
         ensures ran { IfOk result (Ran (F.post action.now.closure self.old.barrier.generation)) }
     {
         if self.state.is_broken() {
-            return Ok(Awaited::Broken);
+            return Ok(AwaitedStep::Broken);
         }
         if self.state.is_waiting(caller) {
             return Err(BarrierFault::AlreadyWaiting);

@@ -19,7 +19,7 @@ mod ledger;
 mod state;
 
 pub use barrier::BarrierCore;
-pub use call::{Awaited, BarrierFault, Call, MOST_PARTIES};
+pub use call::{AwaitedStep, BarrierFault, Call, MOST_PARTIES};
 pub use gate::{CyclicGate, GateFault};
 pub use gate_state::GateState;
 pub use laws::{

@@ -6,7 +6,7 @@ ghost use Rattle.cyclic_gate.specs.Steps.{answer, after, indexed, is_in, joined,
 ghost use Rattle.cyclic_gate.specs.Seen.{answer_of, RefusesAwait, Ran};
 ghost use Rattle.cyclic_gate.specs.declared.call.Call.TheVariants.{Await, Abandon, BreakOff, Reset};
 
-use crate::call::{Awaited, BarrierFault, MOST_PARTIES};
+use crate::call::{AwaitedStep, BarrierFault, MOST_PARTIES};
 use advance_rule::StoredAction;
 use std::alloc::{AllocError, Global};
 use std::collections::HashSet;
@@ -158,7 +158,7 @@ impl BarrierState {
         &mut self,
         action: &StoredAction<F>,
         caller: u32,
-    ) -> Result<Awaited, BarrierFault>
+    ) -> Result<AwaitedStep, BarrierFault>
         requires rule { AnswersAction (F.pre action.now.closure) (F.post action.now.closure) action.now.plan }
         requires whole { self.old.broken ≡ false }
         requires last { length self.old.waiting + 1 ≡ self.old.parties }
@@ -176,10 +176,10 @@ impl BarrierState {
             return Err(BarrierFault::Memory);
         };
         if action.call(self.generation) {
-            return Ok(Awaited::ActionFailed(self.break_off()));
+            return Ok(AwaitedStep::ActionFailed(self.break_off()));
         }
         self.renew();
-        Ok(Awaited::Tripped(list))
+        Ok(AwaitedStep::Tripped(list))
     }
 
     /// Arrives as `caller` (Java SE 21, `CyclicBarrier.await`). The last to arrive runs the action. Fails with
@@ -188,7 +188,7 @@ impl BarrierState {
         &mut self,
         action: &StoredAction<F>,
         caller: u32,
-    ) -> Result<Awaited, BarrierFault>
+    ) -> Result<AwaitedStep, BarrierFault>
         requires rule { AnswersAction (F.pre action.now.closure) (F.post action.now.closure) action.now.plan }
         ensures answer { MatchResult result
             (λ a. answer action.now.plan (Await caller) self.old ≡ answer_of a)
@@ -199,7 +199,7 @@ impl BarrierState {
         ensures ran { IfOk result (Ran (F.post action.now.closure self.old.generation)) }
     {
         if self.broken {
-            return Ok(Awaited::Broken);
+            return Ok(AwaitedStep::Broken);
         }
         if self.is_waiting(caller) {
             return Err(BarrierFault::AlreadyWaiting);
@@ -207,7 +207,7 @@ impl BarrierState {
         let others = self.waiting.len() as u32;
         if others + 1 < self.parties {
             return match self.join(caller) {
-                Ok(()) => Ok(Awaited::Waits(self.parties - 1 - others)),
+                Ok(()) => Ok(AwaitedStep::Waits(self.parties - 1 - others)),
                 Err(_) => Err(BarrierFault::Memory),
             };
         }

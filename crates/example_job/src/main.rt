@@ -23,10 +23,7 @@ start shift 3
 ";
 
 fn main(rt: HostRuntime) -> anyhow::Result<()> {
-    let Ok(job) = read_job(rt.alloc(), SHIFT) else {
-        println!(rt; "not a job")?;
-        return Ok(());
-    };
+    let job = read_job(rt.alloc(), SHIFT)?;
     // At most 1000 supersteps. The tree has a root with two leaves.
     let shape = Shape::from_widths(rt.alloc(), "2")?;
     let report = run_within(&rt, rt.alloc(), &job, shape, 4, 1000, &OpenGate, &AllStart)?;

@@ -1,7 +1,7 @@
 //! Four threads meet at a tree, which ends with phase 9: thread 0 brings a member in phase 3, thread 1 leaves in phase 5.
 #![tactic(auto)]
 
-use phasers::tree::{Awaited, Brought, EndPlan, Joined, Party, PhaserTree};
+use phasers::tree::{AwaitedAdvance, Brought, EndPlan, Joined, Party, PhaserTree};
 use std::sync::Wait;
 use std::thread;
 
@@ -17,7 +17,7 @@ fn last_phase<R: Wait>(rt: &R, (number, mut own): (usize, Party<'_>)) -> u32 {
         if let Brought::Joined(party, _) = &mut other {
             party.arrive(rt);
         }
-        if let Awaited::Ended(_) = own.meet(rt) {
+        if let AwaitedAdvance::Ended(_) = own.meet(rt) {
             break;
         }
     }

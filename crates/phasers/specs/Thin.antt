@@ -7,15 +7,15 @@ use Rattle.tier_calls.specs.InPlace.{ArrivesInPlace}
 use Rattle.tier_calls.specs.JoinsHere.{JoinsHere}
 use Rattle.tier_calls.specs.Made.{HasEntered, HasLooked}
 use Rattle.tier_calls.specs.Registers.{token_of}
-use Rattle.tier_calls.specs.declared.in_place.Came.{Came}
+use Rattle.tier_calls.specs.declared.in_place.ArrivedInPlace.{ArrivedInPlace}
 use Rattle.tier_calls.specs.declared.joining.Registered.{Registered}
 use Rattle.tier_calls.specs.declared.joining.Registered.TheVariants as registered
 use Rattle.tier_table.specs.AtLast.{AwaitsAdvance}
-use Rattle.tier_table.specs.declared.waiting.Awaited.{Awaited}
-use Rattle.tier_table.specs.declared.waiting.Admitted.{Admitted}
-use Rattle.tier_table.specs.declared.waiting.Admitted.TheVariants as admitted
-use Rattle.tier_table.specs.declared.waiting.Counted.{Counted}
-use Rattle.tier_table.specs.declared.waiting.Counted.TheVariants as counted
+use Rattle.tier_table.specs.declared.waiting.AwaitedAdvance.{AwaitedAdvance}
+use Rattle.tier_table.specs.declared.waiting.RegisteredAtLast.{RegisteredAtLast}
+use Rattle.tier_table.specs.declared.waiting.RegisteredAtLast.TheVariants as admitted
+use Rattle.tier_table.specs.declared.waiting.ArrivedAtLast.{ArrivedAtLast}
+use Rattle.tier_table.specs.declared.waiting.ArrivedAtLast.TheVariants as counted
 use Rattle.phasers.specs.declared.tree.Brought.{Brought}
 use Rattle.phasers.specs.declared.tree.Brought.TheVariants as brought
 use Rattle.phasers.specs.declared.tree.Joined.{Joined}
@@ -23,12 +23,12 @@ use Rattle.phasers.specs.declared.tree.Joined.TheVariants as joined
 use Rattle.phasers.specs.declared.tree.Departed.{Departed}
 use Rattle.phasers.specs.declared.tree.Departed.TheVariants as departed
 
-abbrev pub admitted_of : {A : Type 0} → Joined A → Admitted
+abbrev pub admitted_of : {A : Type 0} → Joined A → RegisteredAtLast
 admitted_of (joined.Joined party phase) = admitted.Joined party phase
 admitted_of (joined.Full guest count) = admitted.Full guest count
 admitted_of (joined.Ended guest shown) = admitted.Ended guest shown
 
-abbrev pub counted_of : {A : Type 0} → Departed A → Counted
+abbrev pub counted_of : {A : Type 0} → Departed A → ArrivedAtLast
 counted_of (departed.Done party phase led) = counted.Done party phase led
 counted_of (departed.Left guest phase led) = counted.Left guest phase led
 counted_of (departed.AlreadyArrived party phase) = counted.AlreadyArrived party phase
@@ -44,9 +44,9 @@ pub record LeavesWords (n : Named) (words : List Fields) : Type 0 where
   pub left : IsLeftBy n.key words (sight_held first ∷ [])
 
 -- an arrival, and then a wait
-pub record Meets (old new : Holding) (answer : Awaited) : Type 0 where
+pub record Meets (old new : Holding) (answer : AwaitedAdvance) : Type 0 where
   pub between : Holding
-  pub came : Came
+  pub came : ArrivedInPlace
   pub arrives : ArrivesInPlace old between came
   pub awaits : AwaitsAdvance between new answer
 

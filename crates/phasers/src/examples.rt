@@ -1,7 +1,7 @@
 //! The examples of use above the types of this crate: each text there is that of a test here.
 
 use crate::barrier::{Barrier, GateState, NoAction, StoredAction};
-use crate::tree::{Awaited, EndPlan, Joined, PhaserTree};
+use crate::tree::{AwaitedAdvance, EndPlan, Joined, PhaserTree};
 
 #[test]
 fn a_tree_that_ends_at_a_phase(rt: HostRuntime) {
@@ -10,9 +10,9 @@ fn a_tree_that_ends_at_a_phase(rt: HostRuntime) {
     let mut guest = tree.guest();
     // The only member meets in phases 0 and 1; the tree ends with phase 2.
     if let Joined::Joined(mut party, _) = guest.split().join(&rt, 0) {
-        assert!(rt; party.meet(&rt) == Awaited::Passed(1));
-        assert!(rt; party.meet(&rt) == Awaited::Passed(2));
-        assert!(rt; matches!(party.meet(&rt), Awaited::Ended(_)));
+        assert!(rt; party.meet(&rt) == AwaitedAdvance::Passed(1));
+        assert!(rt; party.meet(&rt) == AwaitedAdvance::Passed(2));
+        assert!(rt; matches!(party.meet(&rt), AwaitedAdvance::Ended(_)));
     }
 }
 

@@ -21,7 +21,7 @@
 //! leaves in phase 5, and the plan ends the tree:
 //!
 //! ```
-//! use phasers::tree::{Awaited, Brought, EndPlan, Joined, Party, PhaserTree};
+//! use phasers::tree::{AwaitedAdvance, Brought, EndPlan, Joined, Party, PhaserTree};
 //! use std::sync::Wait;
 //! use std::thread;
 //!
@@ -37,7 +37,7 @@
 //!         if let Brought::Joined(party, _) = &mut other {
 //!             party.arrive(rt);
 //!         }
-//!         if let Awaited::Ended(_) = own.meet(rt) {
+//!         if let AwaitedAdvance::Ended(_) = own.meet(rt) {
 //!             break;
 //!         }
 //!     }
@@ -144,8 +144,8 @@
 //! # What is in it
 //!
 //! * [`tree`]: the types above; their answers, [`Joined`](tree::Joined), [`Departed`](tree::Departed),
-//!   [`Brought`](tree::Brought), [`Met`](tree::Met), [`Settled`](tree::Settled), [`Came`](tree::Came),
-//!   [`Polled`](tree::Polled), [`Awaited`](tree::Awaited) and [`Forced`](tree::Forced); [`Shape`](tree::Shape), which tier is
+//!   [`Brought`](tree::Brought), [`Met`](tree::Met), [`Settled`](tree::Settled), [`ArrivedInPlace`](tree::ArrivedInPlace),
+//!   [`Polled`](tree::Polled), [`AwaitedAdvance`](tree::AwaitedAdvance) and [`Forced`](tree::Forced); [`Shape`](tree::Shape), which tier is
 //!   whose parent; [`Tree`](tree::Tree), the same tree with a closure that ends it and calls that never wait;
 //!   [`Core`](tree::Core), the tree as a value, one step at a time.
 //! * [`barrier`]: the types above; [`CyclicGate`](barrier::CyclicGate), the same barrier with a closure that may fail;

@@ -18,13 +18,13 @@ use std::alloc::{AllocError, Global};
 use std::marker::Model;
 use std::sync::Wait;
 use tier_calls::arriving::{Arrived, Resumed};
-use tier_calls::in_place::Came;
+use tier_calls::in_place::ArrivedInPlace;
 use tier_calls::tiers::Tiers;
 use tier_calls::tokens::{Crew, Door, Errand};
 use tier_shape::Shape;
 use tier_shape::leaves::leaf_at;
 use tier_steps::view::Passage;
-use tier_table::waiting::{Counted, pass_wait};
+use tier_table::waiting::{ArrivedAtLast, pass_wait};
 
 /// An action at each advance of a tree (Java SE 21, `Phaser.onAdvance`).
 ///
@@ -138,7 +138,7 @@ impl<A: OnAdvance> SharedTree<A> {
     }
 
     /// Lets a member of `crew` arrive. The crew stays where it is.
-    pub(crate) fn arrive_in_place<R: Wait>(&self, rt: &R, crew: &mut Crew) -> Came
+    pub(crate) fn arrive_in_place<R: Wait>(&self, rt: &R, crew: &mut Crew) -> ArrivedInPlace
         requires own { crew.old.tree ≡ self.now }
         ensures answer { ArrivesInPlace crew.old crew.new result }
         ensures ended { (phase : ℕ) → crew.old.view.end_seen ≡ Some phase → in_place.HasEnded result }
@@ -148,7 +148,7 @@ impl<A: OnAdvance> SharedTree<A> {
     }
 
     /// Lets a member of `crew` leave.
-    pub(crate) fn leave_wait<R: Wait>(&self, rt: &R, crew: Crew) -> Counted
+    pub(crate) fn leave_wait<R: Wait>(&self, rt: &R, crew: Crew) -> ArrivedAtLast
         requires own { crew.tree ≡ self.now }
         ensures answer { ArrivesAtLast Departure crew result }
         ensures unsplit { (token_counted result).opened ≡ crew.opened }

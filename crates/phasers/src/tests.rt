@@ -1,8 +1,8 @@
 //! What no clause says: threads meet, and a hook runs once at each advance.
 use crate::barrier::{Barrier, GateFault, NoAction};
 use crate::tree::{
-    Came, Departed, EndPlan, Forced, Joined, Met, OnAdvance, Owed, Party, PhaserTree, Polled,
-    Settled, Shape,
+    ArrivedInPlace, Departed, EndPlan, Forced, Joined, Met, OnAdvance, Owed, Party, PhaserTree,
+    Polled, Settled, Shape,
 };
 use std::process::Abort;
 use std::sync::Wait;
@@ -41,10 +41,10 @@ fn calls<R: Wait + Abort>(rt: &R, tree: &mut PhaserTree) {
         panic!(rt; "not joined");
     };
     assert!(rt; (party.tier(), party.size(), party.unarrived(), party.phase()) == (1, 2, 2, 0));
-    assert!(rt; matches!(party.arrive(rt), Came::Done { .. }));
+    assert!(rt; matches!(party.arrive(rt), ArrivedInPlace::Done { .. }));
     assert!(rt; party.unarrived() == 1);
     assert!(rt; matches!(guest.force(16), Forced::Ended(_)));
-    assert!(rt; matches!(party.arrive(rt), Came::Ended(_)));
+    assert!(rt; matches!(party.arrive(rt), ArrivedInPlace::Ended(_)));
 }
 
 #[test]

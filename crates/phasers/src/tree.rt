@@ -26,15 +26,17 @@ use std::alloc::{AllocError, Global};
 use std::marker::Model;
 use std::sync::Wait;
 pub use tier_calls::forcing::Forced;
-pub use tier_calls::in_place::Came;
+pub use tier_calls::in_place::ArrivedInPlace;
 use tier_calls::joining::Registered;
 pub use tier_calls::polling::Polled;
 use tier_calls::tokens::{Crew, Door, Token};
 pub use tier_core::tree::Core;
 pub use tier_shape::{Shape, ShapeFault};
 pub use tier_table::tree::Tree;
-pub use tier_table::waiting::Awaited;
-use tier_table::waiting::{Admitted, Counted, await_advance, open_wait, register_wait};
+pub use tier_table::waiting::AwaitedAdvance;
+use tier_table::waiting::{
+    ArrivedAtLast, RegisteredAtLast, await_advance, open_wait, register_wait,
+};
 
 /// A tree of phasers that ends as its plan says (Java SE 21, tiered `Phaser`s).
 ///
@@ -47,9 +49,9 @@ use tier_table::waiting::{Admitted, Counted, await_advance, open_wait, register_
 /// let mut guest = tree.guest();
 /// // The only member meets in phases 0 and 1; the tree ends with phase 2.
 /// if let Joined::Joined(mut party, _) = guest.split().join(&rt, 0) {
-///     assert!(rt; party.meet(&rt) == Awaited::Passed(1));
-///     assert!(rt; party.meet(&rt) == Awaited::Passed(2));
-///     assert!(rt; matches!(party.meet(&rt), Awaited::Ended(_)));
+///     assert!(rt; party.meet(&rt) == AwaitedAdvance::Passed(1));
+///     assert!(rt; party.meet(&rt) == AwaitedAdvance::Passed(2));
+///     assert!(rt; matches!(party.meet(&rt), AwaitedAdvance::Ended(_)));
 /// }
 /// ```
 #[derive(Drop)]
@@ -282,9 +284,9 @@ impl<'a, A: OnAdvance> Guest<'a, A> {
     {
         let Guest { shared, door } = self;
         match register_wait(&shared.tiers, rt, door, tier, members) {
-            Admitted::Joined(crew, phase) => Joined::Joined(Party { shared, crew }, phase),
-            Admitted::Full(door, count) => Joined::Full(Guest { shared, door }, count),
-            Admitted::Ended(door, shown) => Joined::Ended(Guest { shared, door }, shown),
+            RegisteredAtLast::Joined(crew, phase) => Joined::Joined(Party { shared, crew }, phase),
+            RegisteredAtLast::Full(door, count) => Joined::Full(Guest { shared, door }, count),
+            RegisteredAtLast::Ended(door, shown) => Joined::Ended(Guest { shared, door }, shown),
         }
     }
 
@@ -359,7 +361,7 @@ impl<'a, A: OnAdvance> Party<'a, A> {
     }
 
     /// Lets a member arrive. Doesn't wait for others to arrive.
-    pub fn arrive<R: Wait>(&mut self, rt: &R) -> Came
+    pub fn arrive<R: Wait>(&mut self, rt: &R) -> ArrivedInPlace
         ensures answer { ArrivesInPlace self.old self.new result }
         ensures ended { (phase : ℕ) → self.old.view.end_seen ≡ Some phase → in_place.HasEnded result }
     {
@@ -378,7 +380,7 @@ impl<'a, A: OnAdvance> Party<'a, A> {
 
     /// Waits until the phase in which all members have arrived is over. Returns at once if a member has not arrived, or
     /// the tree has ended.
-    pub fn await_advance<R: Wait>(&mut self, rt: &R) -> Awaited
+    pub fn await_advance<R: Wait>(&mut self, rt: &R) -> AwaitedAdvance
         ensures tree { self.new.tree ≡ self.old.tree }
         ensures answer { AwaitsAdvance self.old self.new result }
         ensures unsplit { self.new.opened ≡ self.old.opened }
@@ -390,7 +392,7 @@ impl<'a, A: OnAdvance> Party<'a, A> {
 
     /// Lets a member arrive, and waits until the phase in which all members have arrived is over. A party of one member
     /// meets all others by this call. With several members, each but the last only arrives, and the call returns `Here`.
-    pub fn meet<R: Wait>(&mut self, rt: &R) -> Awaited
+    pub fn meet<R: Wait>(&mut self, rt: &R) -> AwaitedAdvance
         ensures tree { self.new.tree ≡ self.old.tree }
         ensures answer { Meets self.old self.new result }
         ensures unsplit { self.new.opened ≡ self.old.opened }
@@ -436,18 +438,18 @@ impl<'a, A: OnAdvance> Party<'a, A> {
     {
         let Party { shared, crew } = self;
         match shared.leave_wait(rt, crew) {
-            Counted::Done(crew, phase, led) => {
+            ArrivedAtLast::Done(crew, phase, led) => {
                 let party = Party { shared, crew };
                 Departed::Done { party, phase, led }
             }
-            Counted::Left(door, phase, led) => {
+            ArrivedAtLast::Left(door, phase, led) => {
                 let guest = Guest { shared, door };
                 Departed::Left { guest, phase, led }
             }
-            Counted::AlreadyArrived(crew, phase) => {
+            ArrivedAtLast::AlreadyArrived(crew, phase) => {
                 Departed::AlreadyArrived(Party { shared, crew }, phase)
             }
-            Counted::Ended(crew, shown) => Departed::Ended(Party { shared, crew }, shown),
+            ArrivedAtLast::Ended(crew, shown) => Departed::Ended(Party { shared, crew }, shown),
         }
     }
 }

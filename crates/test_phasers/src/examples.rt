@@ -2,13 +2,13 @@
 ghost use Rattle.std.specs.Prelude.{◌≡◌};
 
 use advance_rule::{CountPlan, EndPlan, StoredAction, StoredAdvance, StoredCount};
-use cyclic_gate::{Awaited, BarrierCore, CyclicGate};
+use cyclic_gate::{AwaitedStep, BarrierCore, CyclicGate};
 use phaser_one::PhaserOne;
 use tier_core::call::{Call, Played};
 use tier_core::tree::Core;
 use tier_shape::Shape;
 use tier_table::tree::Tree;
-use tier_table::waiting::{Admitted, Counted};
+use tier_table::waiting::{ArrivedAtLast, RegisteredAtLast};
 
 #[test]
 fn a_single_phaser(rt: HostRuntime) {
@@ -27,8 +27,8 @@ fn a_barrier_as_a_value(rt: HostRuntime) {
     // The action never fails. Callers have numbers.
     let action = StoredAction::new(|_generation| false, None);
     let mut barrier = BarrierCore::new(rt.alloc(), 2, action).expect(&rt, "two parties");
-    assert!(rt; matches!(barrier.await_step(7), Ok(Awaited::Waits(1))));
-    assert!(rt; matches!(barrier.await_step(9), Ok(Awaited::Tripped(_))));
+    assert!(rt; matches!(barrier.await_step(7), Ok(AwaitedStep::Waits(1))));
+    assert!(rt; matches!(barrier.await_step(9), Ok(AwaitedStep::Tripped(_))));
     assert!(rt; barrier.generation() == 1);
 }
 
@@ -72,7 +72,7 @@ fn a_tree_without_a_lock(rt: HostRuntime) {
     let (tree, door) = Tree::new(rt.alloc(), shape, 0, rule).expect(&rt, "memory");
     assert!(rt; tree.shape().count() == 3);
     // A member at tier 1; it is the only one, so its arrival takes the advance.
-    if let Admitted::Joined(crew, _) = tree.register_wait(&rt, door, 1, 1) {
-        assert!(rt; matches!(tree.arrive_wait(&rt, crew), Counted::Done(_, 0, true)));
+    if let RegisteredAtLast::Joined(crew, _) = tree.register_wait(&rt, door, 1, 1) {
+        assert!(rt; matches!(tree.arrive_wait(&rt, crew), ArrivedAtLast::Done(_, 0, true)));
     }
 }

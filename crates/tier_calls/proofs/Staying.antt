@@ -14,8 +14,8 @@ use Rattle.tier_core.proofs.Turns.{not_both}
 use Rattle.tier_rule.specs.Tell.{Beside}
 use Rattle.tier_calls.specs.declared.going.Going.{Going}
 use Rattle.tier_calls.specs.declared.arriving.Arrived.TheVariants as arrived
-use Rattle.tier_calls.specs.declared.in_place.Came.{Came}
-use Rattle.tier_calls.specs.declared.in_place.Came.TheVariants as came
+use Rattle.tier_calls.specs.declared.in_place.ArrivedInPlace.{ArrivedInPlace}
+use Rattle.tier_calls.specs.declared.in_place.ArrivedInPlace.TheVariants as came
 use Rattle.tier_calls.specs.Holding.{Named, Holding, Looked, IsCrew}
 use Rattle.tier_calls.specs.Passes.{IsSame, HasCounted, PassAt}
 use Rattle.tier_calls.specs.Goes.{Ran}
@@ -79,7 +79,7 @@ module _ (n : Named) (h h' : Holding) (g : Going) (is : h.tree ≡ n) (crew : Is
       crew_by g.token (subst (λ (z : Named). Beside z.key.shape g.token.tier g.token.word g.token.view) (sym ran.went.at.own) ran.went.at.known) (omega arith)
       (subst (λ (p : Progress). CallFits n.key.shape p g.token.view) idle ran.went.at.fits)
 
-  pub stays : (r : Came) → Comes g r → ArrivesInPlace h g.token r
+  pub stays : (r : ArrivedInPlace) → Comes g r → ArrivesInPlace h g.token r
   stays (came.Done phase led) s =
       let a = arrives n Arrival ran.used h h' g is crew took going some whole (arrived.Done g.token phase led) (refl, s.0, s.1, s.2) in
       (a.0.tree, a.0.opened, a.1, a.2, a.3, a.4, a.5)

@@ -11,11 +11,11 @@ use Rattle.tier_calls.specs.Made.{HasLooked, HasStepped, LedBy}
 use Rattle.tier_calls.specs.Passes.{EndSeen, IsFresh}
 use Rattle.tier_calls.specs.Goes.{WentOn}
 use Rattle.tier_calls.specs.Arrives.{IsLooked, HasPassed, MaySettle}
-use Rattle.tier_calls.specs.declared.in_place.Came.{Came}
-use Rattle.tier_calls.specs.declared.in_place.Came.TheVariants.{Done, AlreadyArrived, Ended}
+use Rattle.tier_calls.specs.declared.in_place.ArrivedInPlace.{ArrivedInPlace}
+use Rattle.tier_calls.specs.declared.in_place.ArrivedInPlace.TheVariants.{Done, AlreadyArrived, Ended}
 
 -- what each answer says, as for an arrival that takes its crew
-abbrev pub ArrivesInPlace : Holding → Holding → Came → Type 0
+abbrev pub ArrivesInPlace : Holding → Holding → ArrivedInPlace → Type 0
 ArrivesInPlace old new (Done phase led) = (new.tree ≡ old.tree) × (new.opened ≡ old.opened) × HasPassed Arrival old.view new.view × (new.view.errand ≡ Rest) × (phase ≡ new.view.phase) × (led ≡ new.view.led)
     × LedBy (HasStepped Arrival old.steps) led new.steps
 ArrivesInPlace old new (AlreadyArrived phase) = (new.tree ≡ old.tree) × (new.opened ≡ old.opened) × IsLooked old.view new.view × IsFresh new.view × (new.view.arrived ≡ new.view.size) × (phase ≡ new.view.phase)
@@ -23,7 +23,7 @@ ArrivesInPlace old new (AlreadyArrived phase) = (new.tree ≡ old.tree) × (new.
 ArrivesInPlace old new (Ended shown) = (new.tree ≡ old.tree) × (new.opened ≡ old.opened) × IsLooked old.view new.view × EndSeen new.view shown × HasLooked old.steps new.steps
 
 -- the answer says that the tree has ended
-abbrev pub HasEnded : Came → Type 0
+abbrev pub HasEnded : ArrivedInPlace → Type 0
 HasEnded (Ended shown) = Unit {0}
 HasEnded (Done phase led) = ⊥
 HasEnded (AlreadyArrived phase) = ⊥
@@ -40,7 +40,7 @@ pub record MayCome (g : Going) : Type 0 where
   pub over : is_going g.progress ≡ false
 
 -- the answer of an arrival that is over
-abbrev pub Comes : Going → Came → Type 0
+abbrev pub Comes : Going → ArrivedInPlace → Type 0
 Comes g (Done phase led) = (g.progress ≡ progress.Idle) × (g.answer ≡ played.Done phase) × (led ≡ g.token.view.led)
 Comes g (AlreadyArrived phase) = ⊥
 Comes g (Ended shown) = (g.progress ≡ progress.Idle) × (g.answer ≡ played.Ended shown)

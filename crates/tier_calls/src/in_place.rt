@@ -26,7 +26,7 @@ use tier_steps::view::Passage;
 /// The answer of an arrival in place: [`Tiers::arrive_in_place`](crate::tiers::Tiers::arrive_in_place), and
 /// `arrive_in_place` of `tier_table::Tree`.
 #[derive(Clone, Copy, PartialEq, Eq)]
-pub enum Came {
+pub enum ArrivedInPlace {
     /// A member has arrived. To learn when the phase has passed, poll the crew.
     Done {
         /// The phase in which the member arrived.
@@ -44,17 +44,17 @@ pub enum Came {
 
 /// Returns the answer of an arrival that is over.
 #[inline(always)]
-fn answer_over(token: &Seated, course: Course) -> Came
+fn answer_over(token: &Seated, course: Course) -> ArrivedInPlace
     requires { MayCome (under token.now course) }
     ensures { Comes (under token.now course) result }
 {
     let view = token.view();
     match course.answer {
-        Played::Done(phase) => Came::Done {
+        Played::Done(phase) => ArrivedInPlace::Done {
             phase,
             led: view.led,
         },
-        Played::Ended(shown) => Came::Ended(shown),
+        Played::Ended(shown) => ArrivedInPlace::Ended(shown),
         _ => unreachable!(),
     }
 }
@@ -138,7 +138,7 @@ impl Tiers {
         rt: &R,
         crew: &mut Crew,
         rule: &StoredAdvance<F>,
-    ) -> Came
+    ) -> ArrivedInPlace
         requires own { crew.old.tree ≡ self.now }
         requires rule { Answers (F.pre rule.now.closure) (F.post rule.now.closure) (end_ends_at rule.now.plan) }
         requires plan { rule.now.plan ≡ self.now.key.plan }
@@ -149,11 +149,11 @@ impl Tiers {
         self.look_at_root(token);
         let word = token.word();
         if word.ended {
-            return Came::Ended(word.shown());
+            return ArrivedInPlace::Ended(word.shown());
         }
         let view = token.view();
         if view.arrived == view.size {
-            return Came::AlreadyArrived(view.phase);
+            return ArrivedInPlace::AlreadyArrived(view.phase);
         }
         let mut course = Course {
             progress: Progress::Passing(Passage::Arrival),

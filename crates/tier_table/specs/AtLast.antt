@@ -9,74 +9,74 @@ use Rattle.tier_calls.specs.Passes.{IsSame, EndSeen, IsFresh}
 use Rattle.tier_calls.specs.Arrives.{IsLooked, HasPassed}
 use Rattle.tier_calls.specs.Joins.{IsJoined, Refusal}
 use Rattle.tier_calls.specs.Polls.{HasPassedOn}
-use Rattle.tier_table.specs.declared.waiting.Admitted.{Admitted}
-use Rattle.tier_table.specs.declared.waiting.Admitted.TheVariants as admitted
-use Rattle.tier_table.specs.declared.waiting.Counted.{Counted}
-use Rattle.tier_table.specs.declared.waiting.Counted.TheVariants as counted
-use Rattle.tier_table.specs.declared.waiting.Awaited.{Awaited}
-use Rattle.tier_table.specs.declared.waiting.Awaited.TheVariants as awaited
+use Rattle.tier_table.specs.declared.waiting.RegisteredAtLast.{RegisteredAtLast}
+use Rattle.tier_table.specs.declared.waiting.RegisteredAtLast.TheVariants as admitted
+use Rattle.tier_table.specs.declared.waiting.ArrivedAtLast.{ArrivedAtLast}
+use Rattle.tier_table.specs.declared.waiting.ArrivedAtLast.TheVariants as counted
+use Rattle.tier_table.specs.declared.waiting.AwaitedAdvance.{AwaitedAdvance}
+use Rattle.tier_table.specs.declared.waiting.AwaitedAdvance.TheVariants as awaited
 
 -- a registration of so many members at this tier of a tree
-abbrev pub RegistersAtLast : Named → ℕ → ℕ → Admitted → Type 0
+abbrev pub RegistersAtLast : Named → ℕ → ℕ → RegisteredAtLast → Type 0
 RegistersAtLast n tier size (admitted.Joined crew phase) = (crew.tree ≡ n) × IsJoined tier size crew.view × (crew.view.errand ≡ Rest) × (phase ≡ crew.view.phase)
 RegistersAtLast n tier size (admitted.Full door count) = (door.tree ≡ n) × Refusal n.key.shape tier size door.view (played.Full count)
 RegistersAtLast n tier size (admitted.Ended door shown) = (door.tree ≡ n) × EndSeen door.view shown
 
 -- one whose path is opened: it is held off, or is answered
-abbrev pub OpensAtLast : Named → ℕ → ℕ → Result Admitted Holding → Type 0
+abbrev pub OpensAtLast : Named → ℕ → ℕ → Result RegisteredAtLast Holding → Type 0
 OpensAtLast n tier size (Ok answer) = RegistersAtLast n tier size answer
 OpensAtLast n tier size (Err door) = door.tree ≡ n
 
 -- an arrival or a departure
-abbrev pub ArrivesAtLast : Passage → Holding → Counted → Type 0
+abbrev pub ArrivesAtLast : Passage → Holding → ArrivedAtLast → Type 0
 ArrivesAtLast own h (counted.Done crew phase led) = (crew.tree ≡ h.tree) × HasPassed own h.view crew.view × (crew.view.errand ≡ Rest) × (phase ≡ crew.view.phase) × (led ≡ crew.view.led)
 ArrivesAtLast own h (counted.Left door phase led) = (own ≡ Departure) × (door.tree ≡ h.tree) × HasPassed own h.view door.view × (door.view.errand ≡ Rest) × (phase ≡ door.view.phase) × (led ≡ door.view.led)
 ArrivesAtLast own h (counted.AlreadyArrived crew phase) = (crew.tree ≡ h.tree) × IsLooked h.view crew.view × IsFresh crew.view × (crew.view.arrived ≡ crew.view.size) × (phase ≡ crew.view.phase)
 ArrivesAtLast own h (counted.Ended crew shown) = (crew.tree ≡ h.tree) × IsLooked h.view crew.view × EndSeen crew.view shown
 
 -- one that has counted: no member is counted any more
-abbrev pub ResumesAtLast : Holding → Counted → Type 0
+abbrev pub ResumesAtLast : Holding → ArrivedAtLast → Type 0
 ResumesAtLast h (counted.Done crew phase led) = (crew.tree ≡ h.tree) × IsSame h.view crew.view × (crew.view.errand ≡ Rest) × (phase ≡ crew.view.phase) × (led ≡ crew.view.led)
 ResumesAtLast h (counted.Left door phase led) = (door.tree ≡ h.tree) × IsSame h.view door.view × (door.view.errand ≡ Rest) × (phase ≡ door.view.phase) × (led ≡ door.view.led)
 ResumesAtLast h (counted.AlreadyArrived crew phase) = ⊥
 ResumesAtLast h (counted.Ended crew shown) = ⊥
 
 -- a crew that waits until its phase has passed
-abbrev pub AwaitsAdvance : Holding → Holding → Awaited → Type 0
+abbrev pub AwaitsAdvance : Holding → Holding → AwaitedAdvance → Type 0
 AwaitsAdvance old new (awaited.Passed phase) = IsLooked old.view new.view × IsFresh new.view × HasPassedOn old new × (phase ≡ new.view.phase)
 AwaitsAdvance old new (awaited.Here phase) = IsLooked old.view new.view × IsFresh new.view × (new.view.arrived < new.view.size) × (phase ≡ new.view.phase)
 AwaitsAdvance old new (awaited.Ended shown) = IsLooked old.view new.view × EndSeen new.view shown
 
 -- the token that is handed back
-abbrev pub token_admitted : Admitted → Holding
+abbrev pub token_admitted : RegisteredAtLast → Holding
 token_admitted (admitted.Joined crew phase) = crew
 token_admitted (admitted.Full door count) = door
 token_admitted (admitted.Ended door shown) = door
 
-abbrev pub token_counted : Counted → Holding
+abbrev pub token_counted : ArrivedAtLast → Holding
 token_counted (counted.Done crew phase led) = crew
 token_counted (counted.Left door phase led) = door
 token_counted (counted.AlreadyArrived crew phase) = crew
 token_counted (counted.Ended crew shown) = crew
 
 -- so many tokens were split off it
-abbrev pub HasSplit : ℕ → Result Admitted Holding → Type 0
+abbrev pub HasSplit : ℕ → Result RegisteredAtLast Holding → Type 0
 HasSplit n (Ok answer) = (token_admitted answer).opened ≡ n
 HasSplit n (Err door) = door.opened ≡ n
 
 -- they tell that the tree has ended
-abbrev pub HasEndedJoin : Admitted → Type 0
+abbrev pub HasEndedJoin : RegisteredAtLast → Type 0
 HasEndedJoin (admitted.Ended door shown) = Unit {0}
 HasEndedJoin (admitted.Joined crew phase) = ⊥
 HasEndedJoin (admitted.Full door count) = ⊥
 
-abbrev pub HasEndedArrival : Counted → Type 0
+abbrev pub HasEndedArrival : ArrivedAtLast → Type 0
 HasEndedArrival (counted.Ended crew shown) = Unit {0}
 HasEndedArrival (counted.Done crew phase led) = ⊥
 HasEndedArrival (counted.Left door phase led) = ⊥
 HasEndedArrival (counted.AlreadyArrived crew phase) = ⊥
 
-abbrev pub HasEndedWait : Awaited → Type 0
+abbrev pub HasEndedWait : AwaitedAdvance → Type 0
 HasEndedWait (awaited.Ended shown) = Unit {0}
 HasEndedWait (awaited.Passed phase) = ⊥
 HasEndedWait (awaited.Here phase) = ⊥

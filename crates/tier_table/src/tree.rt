@@ -52,8 +52,8 @@ use tier_steps::view::Passage;
 /// let (tree, door) = Tree::new(rt.alloc(), shape, 0, rule).expect(&rt, "memory");
 /// assert!(rt; tree.shape().count() == 3);
 /// // A member at tier 1; it is the only one, so its arrival takes the advance.
-/// if let Admitted::Joined(crew, _) = tree.register_wait(&rt, door, 1, 1) {
-///     assert!(rt; matches!(tree.arrive_wait(&rt, crew), Counted::Done(_, 0, true)));
+/// if let RegisteredAtLast::Joined(crew, _) = tree.register_wait(&rt, door, 1, 1) {
+///     assert!(rt; matches!(tree.arrive_wait(&rt, crew), ArrivedAtLast::Done(_, 0, true)));
 /// }
 /// ```
 #[derive(Drop)]

@@ -21,7 +21,7 @@ use std::sync::Wait;
 use std::thread;
 use tier_calls::TRIES;
 use tier_calls::arriving::{Arrived, Resumed};
-use tier_calls::in_place::Came;
+use tier_calls::in_place::ArrivedInPlace;
 use tier_calls::joining::{Opened, Registered};
 use tier_calls::polling::Polled;
 use tier_calls::tiers::Tiers;
@@ -30,7 +30,7 @@ use tier_steps::view::Passage;
 
 /// The answer of a registration that waits.
 #[derive(Drop)]
-pub enum Admitted {
+pub enum RegisteredAtLast {
     /// The members have joined. The crew has them, and the number is its phase: arrive by the crew.
     Joined(Crew, u32),
     /// There is no room: a tier of the path has this many parties, and 65535 is the most. Nobody has joined. Try
@@ -43,7 +43,7 @@ pub enum Admitted {
 
 /// The answer of an arrival or a departure that waits.
 #[derive(Drop)]
-pub enum Counted {
+pub enum ArrivedAtLast {
     /// One member has arrived, or has left, in this phase. The flag `led` is true if the call itself took the advance.
     /// If it is false, other parties may still have to arrive: call `await_advance`.
     Done(Crew, u32, bool),
@@ -59,7 +59,7 @@ pub enum Counted {
 /// The answer of a crew that waits for the next phase. `cyclic_gate` has another enum of this name: the answer of an
 /// arrival at a barrier.
 #[derive(Clone, Copy, PartialEq, Eq)]
-pub enum Awaited {
+pub enum AwaitedAdvance {
     /// The phase in which all members had arrived is over, and this is the next one. Arrive in it.
     Passed(u32),
     /// The call didn't wait, since a member has not arrived in this phase. Let each member arrive first.
@@ -70,7 +70,7 @@ pub enum Awaited {
 
 /// Resumes a registration that ran out of tries until it is over. Returns the door as an error if the members may not
 /// join now: all parties of a tier on the path have arrived, so a newcomer has to wait for the next phase.
-pub fn open_wait<R: Wait>(tiers: &Tiers, rt: &R, opening: Opening) -> Result<Admitted, Door>
+pub fn open_wait<R: Wait>(tiers: &Tiers, rt: &R, opening: Opening) -> Result<RegisteredAtLast, Door>
     requires own { opening.token.tree ≡ tiers.now }
     ensures answer { OpensAtLast tiers.now (asked_tier opening.token.view.errand) (asked_size opening.token.view.errand) result }
     ensures unsplit { HasSplit opening.token.opened result }
@@ -78,9 +78,9 @@ pub fn open_wait<R: Wait>(tiers: &Tiers, rt: &R, opening: Opening) -> Result<Adm
     let mut opening = opening;
     for _ in rt.forever() {
         match tiers.open_on(opening, TRIES) {
-            Opened::Joined(crew, phase) => return Ok(Admitted::Joined(crew, phase)),
-            Opened::Full(door, count) => return Ok(Admitted::Full(door, count)),
-            Opened::Ended(door, shown) => return Ok(Admitted::Ended(door, shown)),
+            Opened::Joined(crew, phase) => return Ok(RegisteredAtLast::Joined(crew, phase)),
+            Opened::Full(door, count) => return Ok(RegisteredAtLast::Full(door, count)),
+            Opened::Ended(door, shown) => return Ok(RegisteredAtLast::Ended(door, shown)),
             Opened::Held(door, _, _) => return Err(door),
             Opened::Owing(next) => opening = next,
         }
@@ -97,7 +97,7 @@ fn join_once<R: Wait>(
     door: Door,
     tier: u16,
     members: u32,
-) -> Result<Admitted, Door>
+) -> Result<RegisteredAtLast, Door>
     requires own { door.tree ≡ tiers.now }
     requires tier { tier < length tiers.now.key.shape }
     requires members { (0 < members) × (members ≤ 65535) }
@@ -106,9 +106,9 @@ fn join_once<R: Wait>(
     ensures ended { (phase : ℕ) → door.view.end_seen ≡ Some phase → MatchResult result HasEndedJoin (λ next. ⊥) }
 {
     match tiers.join(door, tier, members, TRIES) {
-        Registered::Joined(crew, phase) => Ok(Admitted::Joined(crew, phase)),
-        Registered::Full(next, count) => Ok(Admitted::Full(next, count)),
-        Registered::Ended(next, shown) => Ok(Admitted::Ended(next, shown)),
+        Registered::Joined(crew, phase) => Ok(RegisteredAtLast::Joined(crew, phase)),
+        Registered::Full(next, count) => Ok(RegisteredAtLast::Full(next, count)),
+        Registered::Ended(next, shown) => Ok(RegisteredAtLast::Ended(next, shown)),
         Registered::Held(next, _, _) | Registered::Busy(next) => Err(next),
         Registered::Owing(opening) => open_wait(tiers, rt, opening),
     }
@@ -123,7 +123,7 @@ pub fn register_wait<R: Wait>(
     door: Door,
     tier: u16,
     members: u32,
-) -> Admitted
+) -> RegisteredAtLast
     requires own { door.tree ≡ tiers.now }
     requires tier { tier < length tiers.now.key.shape }
     requires members { (0 < members) × (members ≤ 65535) }
@@ -148,7 +148,7 @@ fn resume_wait<R: Wait, F: Fn(u32, u32) -> bool>(
     rt: &R,
     errand: Errand,
     rule: &StoredAdvance<F>,
-) -> Counted
+) -> ArrivedAtLast
     requires own { errand.token.tree ≡ tiers.now }
     requires rule { Answers (F.pre rule.now.closure) (F.post rule.now.closure) (end_ends_at rule.now.plan) }
     requires plan { rule.now.plan ≡ tiers.now.key.plan }
@@ -158,8 +158,8 @@ fn resume_wait<R: Wait, F: Fn(u32, u32) -> bool>(
     let mut errand = errand;
     for _ in rt.forever() {
         match tiers.pass_on(errand, rule, TRIES) {
-            Resumed::Done(crew, phase, led) => return Counted::Done(crew, phase, led),
-            Resumed::Left(door, phase, led) => return Counted::Left(door, phase, led),
+            Resumed::Done(crew, phase, led) => return ArrivedAtLast::Done(crew, phase, led),
+            Resumed::Left(door, phase, led) => return ArrivedAtLast::Left(door, phase, led),
             Resumed::Owing(next) => errand = next,
         }
         thread::yield_now();
@@ -174,7 +174,7 @@ fn settle_wait<R: Wait, F: Fn(u32, u32) -> bool>(
     errand: Errand,
     own: Passage,
     rule: &StoredAdvance<F>,
-) -> Counted
+) -> ArrivedAtLast
     requires own { errand.token.tree ≡ tiers.now }
     requires rule { Answers (F.pre rule.now.closure) (F.post rule.now.closure) (end_ends_at rule.now.plan) }
     requires plan { rule.now.plan ≡ tiers.now.key.plan }
@@ -182,10 +182,10 @@ fn settle_wait<R: Wait, F: Fn(u32, u32) -> bool>(
     ensures unsplit { (token_counted result).opened ≡ errand.token.opened }
 {
     match resume_wait(tiers, rt, errand, rule) {
-        Counted::Left(door, phase, led) => {
+        ArrivedAtLast::Left(door, phase, led) => {
             // For the prover: a door has no members.
             let _ = door.phase();
-            Counted::Left(door, phase, led)
+            ArrivedAtLast::Left(door, phase, led)
         }
         answer => answer,
     }
@@ -198,7 +198,7 @@ fn pass_once<R: Wait, F: Fn(u32, u32) -> bool>(
     crew: Crew,
     own: Passage,
     rule: &StoredAdvance<F>,
-) -> Result<Counted, Crew>
+) -> Result<ArrivedAtLast, Crew>
     requires own { crew.tree ≡ tiers.now }
     requires rule { Answers (F.pre rule.now.closure) (F.post rule.now.closure) (end_ends_at rule.now.plan) }
     requires plan { rule.now.plan ≡ tiers.now.key.plan }
@@ -210,10 +210,10 @@ fn pass_once<R: Wait, F: Fn(u32, u32) -> bool>(
     // For the prover: a crew has members.
     let _ = crew.size();
     match tiers.pass(crew, own, rule, TRIES) {
-        Arrived::Done(crew, phase, led) => Ok(Counted::Done(crew, phase, led)),
-        Arrived::Left(door, phase, led) => Ok(Counted::Left(door, phase, led)),
-        Arrived::AlreadyArrived(crew, phase) => Ok(Counted::AlreadyArrived(crew, phase)),
-        Arrived::Ended(crew, shown) => Ok(Counted::Ended(crew, shown)),
+        Arrived::Done(crew, phase, led) => Ok(ArrivedAtLast::Done(crew, phase, led)),
+        Arrived::Left(door, phase, led) => Ok(ArrivedAtLast::Left(door, phase, led)),
+        Arrived::AlreadyArrived(crew, phase) => Ok(ArrivedAtLast::AlreadyArrived(crew, phase)),
+        Arrived::Ended(crew, shown) => Ok(ArrivedAtLast::Ended(crew, shown)),
         Arrived::Busy(next) => Err(next),
         Arrived::Owing(errand) => Ok(settle_wait(tiers, rt, errand, own, rule)),
     }
@@ -226,7 +226,7 @@ pub fn pass_wait<R: Wait, F: Fn(u32, u32) -> bool>(
     crew: Crew,
     own: Passage,
     rule: &StoredAdvance<F>,
-) -> Counted
+) -> ArrivedAtLast
     requires own { crew.tree ≡ tiers.now }
     requires rule { Answers (F.pre rule.now.closure) (F.post rule.now.closure) (end_ends_at rule.now.plan) }
     requires plan { rule.now.plan ≡ tiers.now.key.plan }
@@ -247,7 +247,7 @@ pub fn pass_wait<R: Wait, F: Fn(u32, u32) -> bool>(
 
 /// Waits until the phase in which all members of `crew` have arrived is over. Returns at once if a member has not
 /// arrived, or the tree has ended.
-pub fn await_advance<R: Wait>(tiers: &Tiers, rt: &R, crew: &mut Crew) -> Awaited
+pub fn await_advance<R: Wait>(tiers: &Tiers, rt: &R, crew: &mut Crew) -> AwaitedAdvance
     requires own { crew.old.tree ≡ tiers.now }
     ensures tree { crew.new.tree ≡ crew.old.tree }
     ensures answer { AwaitsAdvance crew.old crew.new result }
@@ -258,9 +258,9 @@ pub fn await_advance<R: Wait>(tiers: &Tiers, rt: &R, crew: &mut Crew) -> Awaited
     let _ = crew.size();
     for _ in rt.forever() {
         match tiers.poll(crew) {
-            Polled::Passed(phase) => return Awaited::Passed(phase),
-            Polled::Here(phase) => return Awaited::Here(phase),
-            Polled::Ended(shown) => return Awaited::Ended(shown),
+            Polled::Passed(phase) => return AwaitedAdvance::Passed(phase),
+            Polled::Here(phase) => return AwaitedAdvance::Here(phase),
+            Polled::Ended(shown) => return AwaitedAdvance::Ended(shown),
             Polled::Waiting => thread::yield_now(),
         }
     }
@@ -274,7 +274,13 @@ impl<F: Fn(u32, u32) -> bool> Tree<F> {
     ///
     /// That wait never ends if those parties wait in turn for the caller, as they do if another token of the caller's
     /// has a member that hasn't arrived. Such a caller registers by `join_here`.
-    pub fn register_wait<R: Wait>(&self, rt: &R, door: Door, tier: u16, members: u32) -> Admitted
+    pub fn register_wait<R: Wait>(
+        &self,
+        rt: &R,
+        door: Door,
+        tier: u16,
+        members: u32,
+    ) -> RegisteredAtLast
         requires own { door.tree ≡ self.now.tree }
         requires tier { tier < length self.now.tree.key.shape }
         requires members { (0 < members) × (members ≤ 65535) }
@@ -290,7 +296,7 @@ impl<F: Fn(u32, u32) -> bool> Tree<F> {
     /// It takes the crew and returns it, so that the crew can't be used while its call is under way. Use it if the
     /// crew is moved anyway, as between threads, or where the answer holds it. Else use `arrive_in_place`, which has
     /// the same effect and moves nothing.
-    pub fn arrive_wait<R: Wait>(&self, rt: &R, crew: Crew) -> Counted
+    pub fn arrive_wait<R: Wait>(&self, rt: &R, crew: Crew) -> ArrivedAtLast
         requires own { crew.tree ≡ self.now.tree }
         requires rule { Answers (F.pre self.now.rule.closure) (F.post self.now.rule.closure) (end_ends_at self.now.rule.plan) }
         ensures answer { ArrivesAtLast Arrival crew result }
@@ -303,7 +309,7 @@ impl<F: Fn(u32, u32) -> bool> Tree<F> {
     /// Lets a member of `crew`, a token of this tree, arrive. The crew stays where it is: this is `arrive_wait` for a
     /// caller that keeps its crew in a variable or in a list. It waits as `arrive_wait` does.
     #[inline]
-    pub fn arrive_in_place<R: Wait>(&self, rt: &R, crew: &mut Crew) -> Came
+    pub fn arrive_in_place<R: Wait>(&self, rt: &R, crew: &mut Crew) -> ArrivedInPlace
         requires own { crew.old.tree ≡ self.now.tree }
         requires rule { Answers (F.pre self.now.rule.closure) (F.post self.now.rule.closure) (end_ends_at self.now.rule.plan) }
         ensures answer { ArrivesInPlace crew.old crew.new result }
@@ -314,7 +320,7 @@ impl<F: Fn(u32, u32) -> bool> Tree<F> {
 
     /// Lets a member of `crew`, a token of this tree, leave. Its departure counts as its arrival. Returns `Left`, with a
     /// door, if the member was the last of the crew.
-    pub fn leave_wait<R: Wait>(&self, rt: &R, crew: Crew) -> Counted
+    pub fn leave_wait<R: Wait>(&self, rt: &R, crew: Crew) -> ArrivedAtLast
         requires own { crew.tree ≡ self.now.tree }
         requires rule { Answers (F.pre self.now.rule.closure) (F.post self.now.rule.closure) (end_ends_at self.now.rule.plan) }
         ensures answer { ArrivesAtLast Departure crew result }
@@ -328,7 +334,7 @@ impl<F: Fn(u32, u32) -> bool> Tree<F> {
     /// if a member has not arrived, or the tree has ended.
     ///
     /// A thread that sees `Passed` sees all that any member's thread did before it arrived in that phase.
-    pub fn await_advance<R: Wait>(&self, rt: &R, crew: &mut Crew) -> Awaited
+    pub fn await_advance<R: Wait>(&self, rt: &R, crew: &mut Crew) -> AwaitedAdvance
         requires own { crew.old.tree ≡ self.now.tree }
         ensures tree { crew.new.tree ≡ crew.old.tree }
         ensures answer { AwaitsAdvance crew.old crew.new result }

@@ -12,7 +12,7 @@ use crate::barrier_print::{
 use crate::barrier_words::BarrierCommand;
 use crate::print::push_field;
 use crate::tree_print::push_number_line;
-use cyclic_gate::{Awaited, BarrierCore, BarrierFault, Call};
+use cyclic_gate::{AwaitedStep, BarrierCore, BarrierFault, Call};
 use std::alloc::AllocError;
 
 // Appends the line of a failed action.
@@ -24,14 +24,14 @@ fn push_failed(out: &mut Vec<u8>, caller: u32, others: &[u32]) -> Result<(), All
 }
 
 // Appends the line of an arrival's result.
-fn push_awaited(out: &mut Vec<u8>, caller: u32, awaited: &Awaited) -> Result<(), AllocError>
+fn push_awaited(out: &mut Vec<u8>, caller: u32, awaited: &AwaitedStep) -> Result<(), AllocError>
     ensures { OnOk result (out.new.items ≡ out.old.items ++ call_text (Await caller) (answer_of awaited.now)) }
 {
     match awaited {
-        Awaited::Waits(index) => push_number_line(out, b"waits ", *index),
-        Awaited::Tripped(turns) => push_tripped(out, turns),
-        Awaited::ActionFailed(others) => push_failed(out, caller, others),
-        Awaited::Broken => out.extend_from_slice(b"broken\n"),
+        AwaitedStep::Waits(index) => push_number_line(out, b"waits ", *index),
+        AwaitedStep::Tripped(turns) => push_tripped(out, turns),
+        AwaitedStep::ActionFailed(others) => push_failed(out, caller, others),
+        AwaitedStep::Broken => out.extend_from_slice(b"broken\n"),
     }
 }
 

@@ -9,11 +9,11 @@ use std::sync::Wait;
 use superstep_memory::path::Path;
 use tier_table::TRIES;
 use tier_table::forcing::Forced;
-use tier_table::in_place::Came;
+use tier_table::in_place::ArrivedInPlace;
 use tier_table::joining::{Opened, Registered};
 use tier_table::tokens::{Crew, Door, Opening};
 use tier_table::tree::Tree;
-use tier_table::waiting::Counted;
+use tier_table::waiting::ArrivedAtLast;
 
 /// The tree of phasers of the run, and its leaves. Its type keeps that it is the run's tree.
 #[derive(Drop)]
@@ -173,9 +173,9 @@ impl<J: Running, F: Fn(u32, u32) -> bool> WorkerTree<J, F> {
         ensures passed { IfOk result (λ led. (led ≡ crew.new.view.led) × HasPassed Arrival crew.old.view crew.new.view) }
     {
         match self.phaser.arrive_in_place(rt, crew) {
-            Came::Done { phase: _, led } => Ok(led),
-            Came::AlreadyArrived(_phase) => Err(Reason::Internal),
-            Came::Ended(_shown) => Err(Reason::Internal),
+            ArrivedInPlace::Done { phase: _, led } => Ok(led),
+            ArrivedInPlace::AlreadyArrived(_phase) => Err(Reason::Internal),
+            ArrivedInPlace::Ended(_shown) => Err(Reason::Internal),
         }
     }
 
@@ -185,10 +185,10 @@ impl<J: Running, F: Fn(u32, u32) -> bool> WorkerTree<J, F> {
         requires rule { Answers (F.pre self.now.phaser.rule.closure) (F.post self.now.phaser.rule.closure) (end_ends_at self.now.phaser.rule.plan) }
     {
         match self.phaser.leave_wait(rt, crew) {
-            Counted::Left(_door, _phase, led) => Ok(led),
-            Counted::Done(_crew, _phase, _led) => Err(Reason::Internal),
-            Counted::AlreadyArrived(_crew, _phase) => Err(Reason::Internal),
-            Counted::Ended(_crew, _shown) => Err(Reason::Internal),
+            ArrivedAtLast::Left(_door, _phase, led) => Ok(led),
+            ArrivedAtLast::Done(_crew, _phase, _led) => Err(Reason::Internal),
+            ArrivedAtLast::AlreadyArrived(_crew, _phase) => Err(Reason::Internal),
+            ArrivedAtLast::Ended(_crew, _shown) => Err(Reason::Internal),
         }
     }
 

@@ -3,7 +3,7 @@ ghost use Rattle.std.specs.Prelude.{◌≡◌};
 ghost use Rattle.advance_rule.specs.Action.{AnswersAction};
 
 use advance_rule::StoredAction;
-use cyclic_gate::{Awaited, BarrierCore, BarrierFault, CyclicGate, GateFault};
+use cyclic_gate::{AwaitedStep, BarrierCore, BarrierFault, CyclicGate, GateFault};
 use std::alloc::AllocError;
 use std::process::Abort;
 use std::sync::Wait;
@@ -23,10 +23,14 @@ fn is_as_it_was<F: Fn(u64) -> bool>(
 }
 
 // Looks at an answer: the caller waits, or three go on.
-fn is_waiting_or_tripped(rt: &impl Abort, awaited: &Result<Awaited, BarrierFault>, is_same: bool) {
+fn is_waiting_or_tripped(
+    rt: &impl Abort,
+    awaited: &Result<AwaitedStep, BarrierFault>,
+    is_same: bool,
+) {
     match awaited {
-        Ok(Awaited::Waits(_)) => assert!(rt; is_same),
-        Ok(Awaited::Tripped(all)) => assert_eq!(rt; all.len(), 3),
+        Ok(AwaitedStep::Waits(_)) => assert!(rt; is_same),
+        Ok(AwaitedStep::Tripped(all)) => assert_eq!(rt; all.len(), 3),
         _ => panic!(rt; "neither waits nor trips"),
     }
 }

@@ -10,10 +10,10 @@ use std::process::Abort;
 use std::sync::Wait;
 use std::thread;
 use std::thread::Threads;
-use tier_table::in_place::Came;
+use tier_table::in_place::ArrivedInPlace;
 use tier_table::tokens::{Crew, Door, Token};
 use tier_table::tree::Tree;
-use tier_table::waiting::{Admitted, Awaited, Counted};
+use tier_table::waiting::{ArrivedAtLast, AwaitedAdvance, RegisteredAtLast};
 
 /// What a thread does.
 #[derive(Clone, Copy)]
@@ -48,7 +48,7 @@ fn joins<R: Wait + Abort>(rt: &R, tree: &Tree<Rule>, door: Door, tier: u16) -> C
 {
     assert!(rt; usize::from(tier) < tree.shape().count());
     match tree.register_wait(rt, door, tier, 1) {
-        Admitted::Joined(crew, _) => crew,
+        RegisteredAtLast::Joined(crew, _) => crew,
         _ => panic!(rt; "not joined"),
     }
 }
@@ -60,7 +60,7 @@ fn arrives<R: Wait + Abort>(rt: &R, tree: &Tree<Rule>, crew: Crew) -> Crew
     ensures { result.tree ≡ tree.now.tree }
 {
     match tree.arrive_wait(rt, crew) {
-        Counted::Done(crew, _, _) => crew,
+        ArrivedAtLast::Done(crew, _, _) => crew,
         _ => panic!(rt; "not arrived"),
     }
 }
@@ -72,7 +72,7 @@ fn leaves<R: Wait + Abort>(rt: &R, tree: &Tree<Rule>, crew: Crew) -> Door
     ensures { result.tree ≡ tree.now.tree }
 {
     match tree.leave_wait(rt, crew) {
-        Counted::Left(door, _, _) => door,
+        ArrivedAtLast::Left(door, _, _) => door,
         _ => panic!(rt; "not left"),
     }
 }
@@ -103,7 +103,7 @@ fn arrives_in_place<R: Wait + Abort>(rt: &R, tree: &Tree<Rule>, crew: &mut Crew)
     ensures { crew.new.tree ≡ tree.now.tree }
 {
     match tree.arrive_in_place(rt, crew) {
-        Came::Done { .. } => {}
+        ArrivedInPlace::Done { .. } => {}
         _ => panic!(rt; "not arrived"),
     }
 }
@@ -116,7 +116,7 @@ fn meets<R: Wait + Abort>(rt: &R, tree: &Tree<Rule>, mut crew: Crew, times: u32)
 {
     for phase in 0..times {
         arrives_in_place(rt, tree, &mut crew);
-        assert!(rt; tree.await_advance(rt, &mut crew) == Awaited::Passed(phase + 1));
+        assert!(rt; tree.await_advance(rt, &mut crew) == AwaitedAdvance::Passed(phase + 1));
     }
     crew
 }
@@ -129,7 +129,7 @@ fn meets_by_crew<R: Wait + Abort>(rt: &R, tree: &Tree<Rule>, mut crew: Crew, tim
 {
     for phase in 0..times {
         crew = arrives(rt, tree, crew);
-        assert!(rt; tree.await_advance(rt, &mut crew) == Awaited::Passed(phase + 1));
+        assert!(rt; tree.await_advance(rt, &mut crew) == AwaitedAdvance::Passed(phase + 1));
     }
     crew
 }
