@@ -11,6 +11,7 @@ ghost use Rattle.tier_calls.specs.Next.{is_passing};
 ghost use Rattle.tier_calls.specs.Goes.{WentOn};
 ghost use Rattle.tier_calls.specs.InPlace.{ArrivesInPlace, HasEnded, MayCome, Comes, RanOver};
 
+use crate::TRIES;
 use crate::going::Course;
 use crate::next::goes_on;
 use crate::seated::Seated;
@@ -21,11 +22,6 @@ use std::sync::Wait;
 use std::thread;
 use tier_core::call::{Played, Progress};
 use tier_steps::view::Passage;
-
-/// How many tries a call that waits makes before its thread lets others run. No call takes more than 16 steps: the law
-/// `calls_are_short` of `tier_laws` counts them. So 16 tries are enough for a call whose exchanges no other thread
-/// makes fail.
-pub const TRIES: u32 = 16;
 
 /// What an arrival answers whose crew stays where it is.
 #[derive(Clone, Copy, PartialEq, Eq)]

@@ -16,3 +16,7 @@ mod stepping;
 pub mod tiers;
 pub mod tokens;
 mod writing;
+
+/// The number of tries that is enough for every call if no other token takes a step meanwhile. No call takes more than 16
+/// steps: the law `calls_are_short` of `tier_laws` counts them.
+pub const TRIES: u32 = 16;

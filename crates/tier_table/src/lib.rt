@@ -10,4 +10,4 @@ pub mod closing;
 pub mod tree;
 pub mod waiting;
 
-pub use tier_calls::{arriving, forcing, in_place, joining, polling, tokens};
+pub use tier_calls::{TRIES, arriving, forcing, in_place, joining, polling, tokens};

@@ -2,7 +2,7 @@
 //!
 //! A thread calls the tree by tokens of its own: a door has no members, a crew has some, all at one tier. `tries` limits
 //! how many exchanges a call makes, since an exchange fails if another thread got there first. 16 is always enough for a
-//! call that no other thread disturbs ([`TRIES`](crate::in_place::TRIES)); a call that ran out of tries says so, and
+//! call that no other thread disturbs ([`TRIES`](crate::TRIES)); a call that ran out of tries says so, and
 //! hands its token back. The calls in [`waiting`](crate::waiting) need no number of tries: they try until they have an
 //! answer.
 
