@@ -5,11 +5,11 @@ ghost use Rattle.advance_rule.specs.Stored.{Stored};
 
 use std::marker::Model;
 
-/// A closure of a generation that answers true where it fails, beside the generation in which it does
-/// (own; Java SE 21's `CyclicBarrier` takes a `Runnable`, which fails by throwing).
+/// A closure of a generation that returns true if it fails, beside the generation in which it does (Java SE 21's
+/// `CyclicBarrier` takes a `Runnable`, which fails by throwing).
 ///
-/// The type can't keep that the closure fails just there, so each call that may reach the closure asks
-/// for it again.
+/// The type can't keep that the closure fails in that generation alone. So each call that may call the closure requires it
+/// again.
 #[derive(Drop)]
 pub struct StoredAction<F: Fn(u64) -> bool> {
     closure: F,
@@ -23,8 +23,8 @@ impl<F: Fn(u64) -> bool> Model for StoredAction<F> {
 }
 
 impl<F: Fn(u64) -> bool> StoredAction<F> {
-    /// Keeps a closure that may be called in every generation up to 18446744073709551615, and answers
-    /// true exactly in the generation `fails`, if there is one.
+    /// Stores a closure that may be called in every generation up to 18446744073709551615, and returns true in generation
+    /// `fails`, if there is one, and in no other.
     pub fn new(closure: F, fails: Option<u64>) -> Self
         requires { AnswersAction (F.pre closure) (F.post closure) fails }
         ensures { result ≡ record { closure = closure; plan = fails } }
@@ -32,14 +32,14 @@ impl<F: Fn(u64) -> bool> StoredAction<F> {
         StoredAction { closure, fails }
     }
 
-    /// The generation in which the action fails.
+    /// Returns the generation in which the action fails.
     pub fn fails(&self) -> Option<u64>
         ensures { result ≡ self.now.plan }
     {
         self.fails
     }
 
-    /// Runs the action in a generation, and answers whether it failed.
+    /// Runs the action in this generation. Returns true if it failed.
     pub fn call(&self, generation: u64) -> bool
         requires rule { AnswersAction (F.pre self.now.closure) (F.post self.now.closure) self.now.plan }
         ensures called { F.post self.now.closure generation result }

@@ -1,5 +1,5 @@
-//! Rules that say when a phaser ends or the action of a barrier fails: closures, each beside the plan that
-//! says what it answers.
+//! Rules that say when a phaser ends, or the action of a barrier fails: closures, each beside the plan that says what the
+//! closure returns. Plans and stored closures are not part of Java's API.
 #![tactic(auto)]
 
 ghost use Rattle.std.specs.Prelude.{◌≡◌, ◌≤◌, None, Some, true};
@@ -14,8 +14,8 @@ mod action;
 
 pub use action::StoredAction;
 
-/// When a phaser ends at an advance: with fewer registered parties than `least`, or at the end of
-/// phase `at` (own; Java SE 21's default for `Phaser.onAdvance` is `least` 1 and no `at`).
+/// When a phaser ends at an advance: with fewer registered parties than `least`, or at the end of phase `at` (Java SE 21's
+/// default for `Phaser.onAdvance` is `least` 1 and no `at`).
 #[derive(Clone, Copy, PartialEq, Eq)]
 pub struct CountPlan {
     /// The fewest parties with which the phaser goes on.
@@ -25,7 +25,7 @@ pub struct CountPlan {
 }
 
 impl CountPlan {
-    /// Whether the phaser ends at the advance of this phase, with this many registered parties.
+    /// Returns true if the phaser ends at the advance of `phase`, with `count` registered parties.
     pub fn ends(&self, phase: u32, count: u32) -> bool
         ensures { result ≡ count_ends self.now phase count }
     {
@@ -33,10 +33,9 @@ impl CountPlan {
     }
 }
 
-/// A closure of a phase and a count of parties, beside the plan that it answers (own).
+/// A closure of a phase and a count of parties, beside the plan that says what it returns.
 ///
-/// The type can't keep that the closure answers its plan, so each call that may reach the closure
-/// asks for it again.
+/// The type can't keep that the closure follows its plan. So each call that may call the closure requires it again.
 #[derive(Drop)]
 pub struct StoredCount<F: Fn(u32, u32) -> bool> {
     closure: F,
@@ -50,8 +49,8 @@ impl<F: Fn(u32, u32) -> bool> Model for StoredCount<F> {
 }
 
 impl<F: Fn(u32, u32) -> bool> StoredCount<F> {
-    /// Keeps a closure that may be called at every phase up to 2147483647 and every count up to 65535,
-    /// and answers its plan there.
+    /// Stores a closure that may be called at every phase up to 2147483647 and every count up to 65535, and returns there
+    /// what the plan says.
     pub fn new(closure: F, plan: CountPlan) -> Self
         requires { Answers (F.pre closure) (F.post closure) (count_ends plan) }
         ensures { result ≡ record { closure = closure; plan = plan } }
@@ -59,14 +58,14 @@ impl<F: Fn(u32, u32) -> bool> StoredCount<F> {
         StoredCount { closure, plan }
     }
 
-    /// What the closure answers.
+    /// Returns the plan.
     pub fn plan(&self) -> CountPlan
         ensures { result ≡ self.now.plan }
     {
         self.plan
     }
 
-    /// Calls the closure with a phase and a count of registered parties.
+    /// Calls the closure with this phase and this count of registered parties.
     pub fn call(&self, phase: u32, count: u32) -> bool
         requires phase { phase ≤ 2147483647 }
         requires count { count ≤ 65535 }
@@ -78,11 +77,11 @@ impl<F: Fn(u32, u32) -> bool> StoredCount<F> {
     }
 }
 
-/// When a tree of phasers ends at an advance of its root: where it is empty, if `when_empty`, or at the
-/// end of phase `at` (own; Java SE 21's default for `Phaser.onAdvance` is `when_empty` and no `at`).
+/// When a tree of phasers ends at an advance of its root: if nobody is registered and `when_empty` is true, or at the
+/// end of phase `at` (Java SE 21's default for `Phaser.onAdvance` is `when_empty` and no `at`).
 #[derive(Clone, Copy, PartialEq, Eq)]
 pub struct EndPlan {
-    /// Whether it ends where nobody is registered.
+    /// Whether the tree ends when nobody is registered.
     pub when_empty: bool,
     /// The phase whose end is its end.
     pub at: Option<u32>,
@@ -110,7 +109,7 @@ impl EndPlan {
         }
     }
 
-    /// Whether it ends at the advance of this phase, where nobody is registered or somebody is.
+    /// Returns true if the tree ends at the advance of `phase`; `empty` says that nobody is registered.
     pub fn ends(&self, phase: u32, empty: bool) -> bool
         ensures { result ≡ end_ends self.now phase empty }
     {
@@ -118,11 +117,10 @@ impl EndPlan {
     }
 }
 
-/// A closure of a phase and a count of parties, beside the plan that it answers: whether the count is
-/// zero is all that it looks at (own).
+/// A closure of a phase and a count of parties, beside the plan that says what it returns. Of the count the plan looks only
+/// at whether it is zero.
 ///
-/// The type can't keep that the closure answers its plan, so each call that may reach the closure
-/// asks for it again.
+/// The type can't keep that the closure follows its plan. So each call that may call the closure requires it again.
 #[derive(Drop)]
 pub struct StoredAdvance<F: Fn(u32, u32) -> bool> {
     closure: F,
@@ -136,8 +134,8 @@ impl<F: Fn(u32, u32) -> bool> Model for StoredAdvance<F> {
 }
 
 impl<F: Fn(u32, u32) -> bool> StoredAdvance<F> {
-    /// Keeps a closure that may be called at every phase up to 2147483647 and every count up to 65535,
-    /// and answers its plan there.
+    /// Stores a closure that may be called at every phase up to 2147483647 and every count up to 65535, and returns there
+    /// what the plan says.
     pub fn new(closure: F, plan: EndPlan) -> Self
         requires { Answers (F.pre closure) (F.post closure) (end_ends_at plan) }
         ensures { result ≡ record { closure = closure; plan = plan } }
@@ -145,14 +143,14 @@ impl<F: Fn(u32, u32) -> bool> StoredAdvance<F> {
         StoredAdvance { closure, plan }
     }
 
-    /// What the closure answers.
+    /// Returns the plan.
     pub fn plan(&self) -> EndPlan
         ensures { result ≡ self.now.plan }
     {
         self.plan
     }
 
-    /// Calls the closure with a phase and a count of registered parties.
+    /// Calls the closure with this phase and this count of registered parties.
     pub fn call(&self, phase: u32, count: u32) -> bool
         requires phase { phase ≤ 2147483647 }
         requires count { count ≤ 65535 }

@@ -33,7 +33,7 @@ GivesNoTurn gate.ActionFailed _ = ⊥
 GivesNoTurn gate.AlreadyWaiting a = a ≡ Already
 GivesNoTurn gate.Memory a = is_change a ≡ true
 
--- How an arrival goes on at the gate: the caller waits for an end behind so many notes, with its index, or goes on as the last.
+-- How an arrival goes on at the gate: the caller waits for an end noted at this place or later, with its index, or goes on as the last.
 abbrev pub IsArrival : Arrival → Answer → ℕ → Type 0
 IsArrival (arrival.Waits index place) (Waiting i) noted = (index ≡ i) × (place ≡ noted)
 IsArrival (arrival.Last index) (Trips all) noted = index ≡ 0

@@ -21,7 +21,7 @@ IsOver between (arrived.Done crew phase led) = crew ≡ between
 IsOver between (arrived.AlreadyArrived crew phase) = crew ≡ between
 IsOver between _ = ⊥
 
--- an arrival with at most so many tries, and then a poll
+-- an arrival with at most `tries` tries, and then a poll
 pub record MeetsBy (old new : Holding) (tries : ℕ) (answer : Polled) : Type 0 where
   pub between : Holding
   pub came : Arrived
