@@ -17,7 +17,7 @@ use Rattle.bsp_cli.specs.Topics.{WritesTopic, BeginsTopic}
 use Rattle.bsp_cli.specs.declared.asked.Topic.{Topic}
 use Rattle.bsp_cli.specs.declared.asked.Topic.TheVariants.{All, Code, Fault}
 use Rattle.bsp_cli.specs.declared.asked.Asked.{Asked}
-use Rattle.bsp_cli.specs.declared.asked.Asked.TheVariants.{Trace, Check, Upgrade, Run, Draw, Explain}
+use Rattle.bsp_cli.specs.declared.asked.Asked.TheVariants.{Run, Draw, Explain}
 use Rattle.bsp_cli.specs.declared.fault.RunFault.{RunFault}
 use Rattle.bsp_cli.specs.declared.fault.RunFault.TheVariants.{Text, Read, Write, Memory, NotStarted, Internal}
 

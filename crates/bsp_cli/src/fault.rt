@@ -77,10 +77,12 @@ pub(crate) fn refuse<E: CountedWrite>(errors: &mut E) -> u8
     COMMAND_LINE_REFUSED
 }
 
-// Writes the line of a fault. Returns its status.
-fn write_line<E: CountedWrite>(errors: &mut E, fault: RunFault) -> u8
+/// Reports why a command did not end. Returns the status. A failure of `errors` changes nothing else.
+#[tactic(auto, using(crate::proofs::Saying::fault_says))]
+pub(crate) fn tell<E: CountedWrite>(errors: &mut E, fault: RunFault) -> u8
     ensures status { result ≡ fault_status fault }
     ensures tells { Tells (E.contents errors.old) (E.contents errors.new) (E.failures errors.old) (E.failures errors.new) (fault_text fault) }
+    ensures says { Says result (E.contents errors.old) (E.contents errors.new) (E.failures errors.old) (E.failures errors.new) }
 {
     match fault {
         RunFault::Text(refusal) => {
@@ -104,14 +106,4 @@ fn write_line<E: CountedWrite>(errors: &mut E, fault: RunFault) -> u8
             INTERNAL
         }
     }
-}
-
-/// Reports why a command did not end. Returns the status. A failure of `errors` changes nothing else.
-#[tactic(auto, using(crate::proofs::Saying::fault_says))]
-pub(crate) fn tell<E: CountedWrite>(errors: &mut E, fault: RunFault) -> u8
-    ensures status { result ≡ fault_status fault }
-    ensures tells { Tells (E.contents errors.old) (E.contents errors.new) (E.failures errors.old) (E.failures errors.new) (fault_text fault) }
-    ensures says { Says result (E.contents errors.old) (E.contents errors.new) (E.failures errors.old) (E.failures errors.new) }
-{
-    write_line(errors, fault)
 }

@@ -1,5 +1,5 @@
 -- The limits of an open body, line by line.
-use Rattle.std.proofs.Common.{◌≡◌, ℕ, ◌+◌, ◌-◌, ◌≤◌, Bool, true, false, ◌&&◌, List, [], ◌∷◌, ◌++◌, length, map, Some, refl, sym, ap, subst, ◌∙◌, arith, cond}
+use Rattle.std.proofs.Common.{◌≡◌, ℕ, ◌+◌, ◌-◌, ◌≤◌, Bool, true, false, List, [], ◌∷◌, ◌++◌, length, map, Some, refl, sym, ap, subst, ◌∙◌, arith, cond}
 use Rattle.std.specs.Prelude.{if◌then◌else◌, max}
 use Rattle.std.specs.List.{list_all}
 use Rattle.std.proofs.lemmas.List.Folds.{list_all-append}
@@ -13,6 +13,7 @@ use Rattle.job_words.proofs.SaidLemmas.{and-true}
 use Rattle.job_reader.specs.Above.{statements_behind}
 use Rattle.job_reader.specs.Kept.{open_behind, Counted}
 use Rattle.job_reader.proofs.StepCode.{step-map}
+use Rattle.job_reader.proofs.ToldInside.{all-mapped}
 
 -- what a line does to the number of open lines
 data Change : Type 0 where
@@ -112,10 +113,6 @@ open-after k (l ∷ ls) = ap (λ (x : ℕ). open_behind x ls) (opened-turned k l
 
 pub counted-none : Counted [] Done 0
 counted-none = record { counts = refl; few = omega arith; open_lines = refl; shallow = omega arith; numbers = refl }
-
-all-mapped : (p : Line → Bool) (xs : List Line) → list_all (λ (b : Bool). b) (map p xs) ≡ list_all p xs
-all-mapped p [] = refl
-all-mapped p (x ∷ xs) = ap (λ (b : Bool). p x && b) (all-mapped p xs)
 
 -- a line more
 pub counted-step : (l : Line) (fs : List Frame) (b : Block) (s : List Frame × Block) (n : ℕ) → Counted fs b n → step_of l fs b ≡ Some s

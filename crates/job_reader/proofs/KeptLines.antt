@@ -53,7 +53,7 @@ use Rattle.job_reader.specs.Reading.{
   unless_bad,
   job_in,
 }
-use Rattle.job_reader.proofs.ToldOuter.{bind-ok}
+use Rattle.job_reader.proofs.ToldOuter.{bind-ok, le-true}
 use Rattle.job_reader.proofs.ToldText.{finished-ok, next}
 use Rattle.job_reader.proofs.ReadWords.{free-named, number-fits}
 use Rattle.job_reader.proofs.BodyCounts.{counted-none}
@@ -96,9 +96,6 @@ zeros-fit (suc n) = zeros-fit n
 -- cells of an array that was read
 abbrev AreCells : List ℤ → Type 0
 AreCells cells = ((nat_le 1 (length cells) && nat_le (length cells) 4096) ≡ true) × (list_all fits_i64 cells ≡ true)
-
-le-true : (a b : ℕ) → nat_le a b ≡ true → a ≤ b
-le-true a b e = grind (arith, common_steps)
 
 filled-cells : (b : Bool) (m : ℕ) (vs cells : List ℤ) → (nat_le 1 m && nat_le m 4096 && nat_le (length vs) m) ≡ b → list_all fits_i64 vs ≡ true
     → (if b then Ok (vs ++ replicate (m - length vs) (pos 0)) else Err BadLength) ≡ Ok cells → AreCells cells
@@ -286,11 +283,11 @@ begins-kept : (bodies : List Word) (ls : List (List ℕ)) (n : ℕ) (j : JobTree
 begins-kept bodies [] n j e = absurd cc
 begins-kept bodies (l ∷ ls) n j e = from-kept bodies n l ls j (is_skipped (words_of l)) (format_of (words_of l)) refl (begins-kept bodies ls (n + 1) j) e
 
-unless-ok : (o : Option ℕ) (r : Result JobTree Refusal) (j : JobTree) → unless_bad o r ≡ Ok j → r ≡ Ok j
+pub unless-ok : (o : Option ℕ) (r : Result JobTree Refusal) (j : JobTree) → unless_bad o r ≡ Ok j → r ≡ Ok j
 unless-ok None r j e = e
 unless-ok (Some n) r j e = absurd cc
 
-long-ok : (b : Bool) (o : Option ℕ) (r : Result JobTree Refusal) (j : JobTree) → (if b then refused 1 TooLong else unless_bad o r) ≡ Ok j → r ≡ Ok j
+pub long-ok : (b : Bool) (o : Option ℕ) (r : Result JobTree Refusal) (j : JobTree) → (if b then refused 1 TooLong else unless_bad o r) ≡ Ok j → r ≡ Ok j
 long-ok true o r j e = absurd cc
 long-ok false o r j e = unless-ok o r j e
 

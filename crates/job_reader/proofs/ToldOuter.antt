@@ -75,7 +75,7 @@ values-said (w ∷ ws) ns e =
     let same : a.0 ∷ b.0 ≡ ns = cc in
     ap (λ (t : Word). t ∷ ws) (number-said w a.0 a.1) ∙ ap (λ (t : Words). signed_decimal a.0 ∷ t) (values-said ws b.0 b.1) ∙ ap (map signed_decimal) same
 
-le-true : (a b : ℕ) → nat_le a b ≡ true → a ≤ b
+pub le-true : (a b : ℕ) → nat_le a b ≡ true → a ≤ b
 le-true a b e = grind (arith, common_steps)
 
 -- the cells that were filled, by whether the length fits

@@ -2,19 +2,19 @@
 use Rattle.std.proofs.Common.{◌⊎◌, inl, inr, ◌≡◌, ℕ, ◌+◌, Bool, true, false, List, [], ◌∷◌, length, take, take_all, Option, Some, None, Result, Ok, Err, refl, sym, ap, subst, ◌∙◌, arith}
 use Rattle.std.specs.Prelude.{if◌then◌else◌, nat_lt}
 use Rattle.std.specs.List.{cons_option}
-use Rattle.text_lines.specs.declared.refusal.Code.TheVariants.{TooLong}
 use Rattle.text_lines.specs.declared.refusal.Refusal.{Refusal}
 use Rattle.text_lines.specs.Text.{lines_of, words_of, is_skipped, bad_byte_line}
 use Rattle.job_words.specs.Words.{Word, Words}
 use Rattle.job_reader.specs.Trees.{JobTree, body_names}
 use Rattle.job_reader.specs.Above.{nothing}
 use Rattle.job_reader.specs.Grammar.{header_words, kept, IsTextOf}
-use Rattle.job_reader.specs.Reading.{refused, format_of, outer_of, declared_by, declared, read_lines, read_behind, read_from, unless_bad, job_in}
+use Rattle.job_reader.specs.Reading.{format_of, outer_of, declared_by, declared, read_lines, read_behind, read_from, job_in}
 use Rattle.job_reader.specs.Laws.{IsRead, IsRefused, EachTextIsReadOrRefused}
 use Rattle.job_reader.proofs.ItemLemmas.{Told, told-nothing}
 use Rattle.job_reader.proofs.ToldText.{lines-told, lines-format}
 use Rattle.job_reader.proofs.Headers.{header-said}
 use Rattle.job_reader.proofs.ToldNames.{names_in, lines-named, skipped-none}
+use Rattle.job_reader.proofs.KeptLines.{long-ok}
 
 header-none : (format : ℕ) → declared_by (header_words format) ≡ None
 unfolding outer_of
@@ -76,14 +76,6 @@ lines-are-text ls j e =
       said = told.said;
       sound = told.sound;
     }
-
-unless-ok : (o : Option ℕ) (r : Result JobTree Refusal) (j : JobTree) → unless_bad o r ≡ Ok j → r ≡ Ok j
-unless-ok None r j e = e
-unless-ok (Some n) r j e = absurd cc
-
-long-ok : (b : Bool) (o : Option ℕ) (r : Result JobTree Refusal) (j : JobTree) → (if b then refused 1 TooLong else unless_bad o r) ≡ Ok j → r ≡ Ok j
-long-ok true o r j e = absurd cc
-long-ok false o r j e = unless-ok o r j e
 
 -- what a text says as a job has that text
 pub text-told : (text : List ℕ) (j : JobTree) → job_in text ≡ Ok j → IsTextOf j (kept (lines_of text))

@@ -176,10 +176,21 @@ fn split_header(text: &[u8]) -> Result<(u32, usize, &[u8]), Refusal>
     Err(Refusal { line, code })
 }
 
-// Reads a text as a job, or returns its first refusal.
-#[tactic(auto, unfolding(crate::specs::Reading::job_in))]
-fn read_text(alloc: Global, text: &[u8]) -> Result<Job, ReadJobFault>
+/// Reads a text as a job, or returns its first refusal. The order is: `TooLong` above 1048576 bytes; the first byte that
+/// isn't allowed; the first line that is refused, by its first fault in the order of `job_words::faults`; `Unclosed` if
+/// the text ends in a body; the first line that names a body that isn't there. Checks the length, the bytes and the header
+/// before it allocates.
+///
+/// ```
+/// let text = b"bsp 1\narray a 1\nbody b\nput a[0] = 7\nend\nstart b 0\n";
+/// let job = read_job(rt.alloc(), text).expect(&rt, "a job");
+/// assert!(rt; job.bodies().len() == 1);
+/// assert!(rt; read_job(rt.alloc(), b"bsp 3\n").is_err());
+/// ```
+#[tactic(auto, using(crate::proofs::ToldWhole::text_steps), unfolding(crate::specs::Reading::job_in))]
+pub fn read_job(alloc: Global, text: &[u8]) -> Result<Job, ReadJobFault>
     ensures read { Gives job_tree result (spec.job_in text.now) }
+    ensures grammar { IfOk result (λ job. IsTextOf (job_tree job) (kept (lines_of text.now))) }
     ensures memory { IfErr result (λ fault. fault ≡ ReadJobFault.Memory → BeginsWell text.now) }
 {
     if text.len() > MOST_BYTES {
@@ -193,24 +204,4 @@ fn read_text(alloc: Global, text: &[u8]) -> Result<Job, ReadJobFault>
     let (format, line, rest) = split_header(text)?;
     let bodies = declared(alloc, text)?;
     read_lines(alloc, format, &bodies, rest, line)
-}
-
-/// Reads a text as a job, or returns its first refusal. The order is: `TooLong` above 1048576 bytes; the first byte that
-/// isn't allowed; the first line that is refused, by its first fault in the order of `job_words::faults`; `Unclosed` if
-/// the text ends in a body; the first line that names a body that isn't there. Checks the length, the bytes and the header
-/// before it allocates.
-///
-/// ```
-/// let text = b"bsp 1\narray a 1\nbody b\nput a[0] = 7\nend\nstart b 0\n";
-/// let job = read_job(rt.alloc(), text).expect(&rt, "a job");
-/// assert!(rt; job.bodies().len() == 1);
-/// assert!(rt; read_job(rt.alloc(), b"bsp 3\n").is_err());
-/// ```
-#[tactic(auto, using(crate::proofs::ToldWhole::text_steps))]
-pub fn read_job(alloc: Global, text: &[u8]) -> Result<Job, ReadJobFault>
-    ensures read { Gives job_tree result (spec.job_in text.now) }
-    ensures grammar { IfOk result (λ job. IsTextOf (job_tree job) (kept (lines_of text.now))) }
-    ensures memory { IfErr result (λ fault. fault ≡ ReadJobFault.Memory → BeginsWell text.now) }
-{
-    read_text(alloc, text)
 }

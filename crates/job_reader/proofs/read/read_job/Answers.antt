@@ -2,7 +2,7 @@ use Rattle.std.proofs.Common.{◌∙◌, sym, ap}
 use Rattle.text_lines.specs.Text.{lines_of}
 use Rattle.job_words.specs.Views.{lent}
 use Rattle.job_reader.proofs.ReadJobs.{text-says}
-use Rattle.job_reader.proofs.read.read_text.Goals as goal
+use Rattle.job_reader.proofs.read.read_job.Goals as goal
 
 pub read_lines-requires-clause-jobs : goal.read_lines-requires-clause-jobs
 read_lines-requires-clause-jobs c =
