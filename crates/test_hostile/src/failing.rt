@@ -1,6 +1,6 @@
 //! The program on devices that give or take little, and that fail.
 
-use crate::devices::{Sink, Source, Then};
+use crate::fakes::{Sink, Source, Then};
 use crate::runs::{Ran, SWAP, ended_with, has_left, run_into, run_on, run_with, texts, whole_of};
 use std::alloc::Global;
 use std::process::Abort;

@@ -3,11 +3,11 @@
 #![tactic(auto)]
 
 #[cfg(test)]
-mod devices;
-#[cfg(test)]
 mod examples;
 #[cfg(test)]
 mod failing;
+#[cfg(test)]
+mod fakes;
 #[cfg(test)]
 mod fronts;
 #[cfg(test)]

@@ -1,5 +1,5 @@
 //! Texts, and runs of the program on them.
-use crate::devices::{Sink, Source, Then};
+use crate::fakes::{Sink, Source, Then};
 use bsp_cli::run;
 use devices::{Reader, Writer};
 use std::alloc::Global;
