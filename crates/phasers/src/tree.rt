@@ -1,14 +1,13 @@
 //! A tree of phasers whose callers owe nothing: the tree ends by its plan, and each token holds on to its tree.
 
-ghost use Rattle.std.specs.Prelude.{◌≡◌, ◌<◌, ◌≤◌, ◌+◌, ℕ, None, Some, Ok, Err, [], ◌∷◌, length, IfOk, IfErr};
-ghost use Rattle.tier_calls.specs.Holding.{Holding, IsSat, split_once};
+ghost use Rattle.std.specs.Prelude.{◌≡◌, ◌<◌, ◌≤◌, ◌+◌, ℕ, None, Some, Ok, Err, length, IfOk, IfErr};
+ghost use Rattle.tier_calls.specs.Holding.{IsSat, split_once};
 ghost use Rattle.tier_calls.specs.InPlace.{ArrivesInPlace};
 ghost use Rattle.tier_calls.specs.InPlace as in_place;
 ghost use Rattle.tier_calls.specs.Polls.{Polls};
 ghost use Rattle.tier_calls.specs.Polls as polls;
 ghost use Rattle.tier_calls.specs.Forces.{Forces, ForcedBy};
 ghost use Rattle.tier_calls.specs.Forces as forces;
-ghost use Rattle.tier_calls.specs.Registers.{Registers};
 ghost use Rattle.tier_steps.specs.declared.view.Passage.TheVariants.{Departure};
 ghost use Rattle.tier_table.specs.AtLast.{token_admitted, token_counted, RegistersAtLast, ArrivesAtLast, AwaitsAdvance, HasEndedJoin, HasEndedArrival, HasEndedWait};
 ghost use Rattle.tier_shape.specs.Leaves.{leaves_of};

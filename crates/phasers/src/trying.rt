@@ -1,6 +1,5 @@
 //! Meetings that don't wait: for callers that may not, as they have no `rt` that waits.
 
-ghost use Rattle.std.specs.Prelude.{◌≡◌, ◌<◌, ℕ, Some};
 ghost use Rattle.tier_calls.specs.Arrives.{Resumes};
 ghost use Rattle.phasers.specs.Trying.{TriesToMeet, resumed_of};
 
