@@ -35,7 +35,7 @@ pub record LandingsAreRefusedInOrder : Type 0 where
   pub outside : (arrays : List (List ℕ × List ℤ)) (es : List (List ℕ × List Put)) (path : List ℕ) (place : ℕ)
       → refusal arrays es ≡ Some (OutOfRange path place) → IsFirstOutside arrays es path place
 
--- A delivery of another step is told so, with 3, also where it is of another job; one of this step and another job is told so, with 1;
+-- A delivery of another step is refused with 3, even if it is of another job; one of this step and another job with 1;
 -- and one of an order of this round is refused as a second one alone, with 2.
 pub record DeliveriesAreRefusedInOrder : Type 0 where
   pub step : (fault : AcceptFault) (r : RoundValue) (d : DeliveryValue) → Refuses fault r d → d.step ≢ r.step → accept_number fault ≡ 3
@@ -61,11 +61,11 @@ falling_run = (of 0 (set 9 (pos 0) ∷ []) ∷ []) ∷ (of 2 [] ∷ of 1 [] ∷ 
 abbrev pub shared_path : List (List (List ℕ × List Put))
 shared_path = (of 0 [] ∷ of 1 (set 9 (pos 0) ∷ []) ∷ []) ∷ (of 1 [] ∷ of 2 [] ∷ []) ∷ []
 
--- puts to no cell of two paths, the first of which stands in the second run, and a sum that overflows in front of them
+-- puts to no cell of two paths, the first of which is in the second run, and a sum before them that overflows
 abbrev pub outside_runs : List (List (List ℕ × List Put))
 outside_runs = (of 0 (add 0 (pos 1) ∷ []) ∷ of 2 (set 9 (pos 0) ∷ []) ∷ []) ∷ (of 1 (set 0 (pos 0) ∷ set 1 (pos 0) ∷ []) ∷ []) ∷ []
 
--- sums that overflow of two paths, the first of which stands in the second run
+-- sums that overflow of two paths, the first of which is in the second run
 abbrev pub over_runs : List (List (List ℕ × List Put))
 over_runs = (of 3 (add 0 (pos 1) ∷ []) ∷ []) ∷ (of 2 (add 0 (pos 1) ∷ []) ∷ []) ∷ []
 

@@ -1,4 +1,4 @@
--- What the report of a job tells of its supersteps (own).
+-- What the report of a job says of its supersteps (own).
 use Rattle.std.specs.Prelude.{◌≡◌, ◌⊎◌, ℕ, suc, ◌+◌, ◌<◌, ◌≤◌, Bool, true, false, List, [], ◌∷◌, ◌++◌, length, map, sum_by, count_by, Some}
 use Rattle.std.specs.List.{flat_map}
 use Rattle.superstep_memory.specs.Landing.{first_over}
@@ -14,7 +14,7 @@ use Rattle.step_core.specs.Superstep.{State, superstep, segments, prints_of, nex
 use Rattle.step_core.specs.JobMeaning.{so_far, report_of}
 use Rattle.step_core.specs.Laws.{deed}
 
--- The records are those of phases 0, 1, 2, .., one for each superstep that was taken, and the prints stand by superstep.
+-- The records are those of phases 0, 1, 2, .., one for each superstep that was taken, and the prints are ordered by superstep.
 pub record IsBySuperstep (st : State) : Type 0 where
   pub records : AreFrom 0 st.records
   pub taken : length st.records ≡ st.step
@@ -23,7 +23,7 @@ pub record IsBySuperstep (st : State) : Type 0 where
 abbrev pub ReportsAreBySuperstep : Type 0
 ReportsAreBySuperstep = (p : Program) (limit n : ℕ) → IsBySuperstep (so_far p limit n)
 
--- Every print of a report is in its text: in front of the record of its superstep stand all prints of it, and no others.
+-- Every print of a report is in its text: the record of a superstep comes after all prints of that superstep, and no others.
 abbrev pub TextsHaveEveryPrint : Type 0
 TextsHaveEveryPrint =
     (p : Program) (limit : ℕ) (r : ReportValue) → report_of p limit ≡ Some r
@@ -40,19 +40,19 @@ has_stopped (Synced t) = false
 has_stopped Stopped = true
 has_stopped (Faulted f) = false
 
--- what a record tells of the superstep of this state: its phase; those live and those spawned; how many were spawned, and how many stopped
+-- what a record says of the superstep of this state: its phase; those live and those spawned; how many were spawned, and how many stopped
 pub record Tells (p : Program) (st : State) (r : PhaseRecord) : Type 0 where
   pub phase : r.phase ≡ st.step
   pub parties : r.parties ≡ length st.live + r.spawned
   pub spawned : r.spawned ≡ sum_by (λ t. length (deed p st t).spawns) st.live
   pub left : r.left ≡ count_by (λ t. has_stopped (deed p st t).after) st.live
 
--- these records tell the supersteps from this one on
+-- these records describe the supersteps from this one on
 abbrev pub TellFrom : Program → ℕ → ℕ → List PhaseRecord → Type 0
 TellFrom p limit k [] = Unit {0}
 TellFrom p limit k (r ∷ rs) = Tells p (so_far p limit k) r × TellFrom p limit (suc k) rs
 
--- Each record tells its superstep.
+-- Each record describes its superstep.
 abbrev pub RecordsTellSupersteps : Type 0
 RecordsTellSupersteps = (p : Program) (limit n : ℕ) → TellFrom p limit 0 (so_far p limit n).records
 
@@ -93,7 +93,7 @@ pub record IsOverflow (p : Program) (st : State) (told : ℕ × List ℕ) : Type
   pub over : first_over st.arrays (map log_of (segments p st.arrays st.step st.live)) ≡ Some (told.1, place)
   pub code : told.0 ≡ 8
 
--- A superstep that ends the job by a fault tells the first faulting live task, or that too many would live on, or the first put
+-- A superstep that ends the job by a fault reports the first faulting live task, or that too many would live on, or the first put
 -- that overflows.
 abbrev pub FaultsTellTheFirst : Type 0
 FaultsTellTheFirst =

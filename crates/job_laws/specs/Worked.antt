@@ -99,7 +99,7 @@ overflowing = program (array (pos 9223372036854775807 ∷ [])) (body 0 (Do (Prin
 abbrev pub in_time : Program
 in_time = record overflowing { starts = start 0 (negsuc 0) ∷ start 0 (pos 1) ∷ [] }
 
--- A sum that overflows under a put that would cover it, and a task behind it that divides by 0.
+-- A sum that overflows under a put that would cover it, and a later task that divides by 0.
 abbrev pub faulting_first : Program
 faulting_first = program (array (pos 9223372036854775807 ∷ []))
     (body 0 (Do (Put Plus (cell (Number (pos 0))) arg) (Do (Put Set (cell (Number (pos 0))) arg) Done))

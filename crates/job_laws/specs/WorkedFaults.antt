@@ -16,7 +16,7 @@ use Rattle.step_core.specs.JobMeaning.{report_of}
 use Rattle.job_laws.specs.Worked.{cell, arg, number, body, start, array, program, superstep, print, report}
 
 -- Where a task may spawn: with a path of fewer than 8 numbers, fewer than 8 spawns in the superstep, and fewer than 65535 in all.
--- The new task's path is its own and, behind that, how many it has spawned before; it begins with its argument, at its body's first
+-- The new task's path is its own, followed by how many it has spawned before; it begins with its argument, at its body's first
 -- statement. Else it faults.
 pub record SpawnsAreNumbered : Type 0 where
   pub goes_on : (s : Setting) (d : Doing) (b : ℕ) (v : ℤ) → length s.path < 8 → length d.spawns < 8 → s.begun + length d.spawns < 65535

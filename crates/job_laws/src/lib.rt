@@ -1,4 +1,4 @@
-//! Laws on what the report of a job tells of its supersteps. Each function does nothing: its contract is the law.
+//! Laws on what the report of a job says of its supersteps. Each function does nothing: its contract is the law.
 #![tactic(auto)]
 
 ghost use Rattle.job_laws.specs.Reports.{
@@ -19,7 +19,7 @@ ghost use Rattle.job_laws.specs.Worked.{JobsAreWorkedOut};
 ghost use Rattle.job_laws.specs.WorkedFaults.{SpawnsAreNumbered, FaultsAreWorkedOut};
 ghost use Rattle.job_laws.specs.WorkedOperators.{OperatorsAreArithmetic, OperatorsAreWorkedOut};
 
-/// The records of a job are those of phases 0, 1, 2, .., one for each superstep taken, and its prints stand by superstep.
+/// The records of a job are those of phases 0, 1, 2, .., one for each superstep taken, and its prints are ordered by superstep.
 pub fn reports_are_by_superstep()
     ensures { ReportsAreBySuperstep }
 {}
@@ -34,7 +34,7 @@ pub fn prints_are_of_their_superstep()
     ensures { PrintsAreOfTheirSuperstep }
 {}
 
-/// Each record tells its superstep: the phase, those live and those spawned, how many were spawned and how many stopped.
+/// Each record describes its superstep: the phase, those live and those spawned, how many were spawned and how many stopped.
 pub fn records_tell_supersteps()
     ensures { RecordsTellSupersteps }
 {}
@@ -73,12 +73,12 @@ pub fn faults_are_worked_out()
     ensures { FaultsAreWorkedOut }
 {}
 
-/// Of puts whose paths don't rise nothing else is told; then the first put to no cell counts, by its path and its place from 0.
+/// Paths that don't rise are refused first; then the first put to no cell, by its path and its place from 0.
 pub fn landings_are_refused_in_order()
     ensures { LandingsAreRefusedInOrder }
 {}
 
-/// A delivery of another step is told so, also where it is of another job; else one of another job; else a second one.
+/// A delivery of another step is refused as such, even if it is of another job; then one of another job; then a second one.
 pub fn deliveries_are_refused_in_order()
     ensures { DeliveriesAreRefusedInOrder }
 {}

@@ -19,7 +19,7 @@ use Rattle.job_schedule.specs.declared.stage.Move.TheVariants.{Takes, Delivers, 
 use Rattle.job_schedule.specs.declared.step.JobStep.{JobStep}
 use Rattle.job_schedule.specs.World.{World, deed_in, initial_world, reached}
 
--- free tokens stand with the next one last
+-- free tokens, the next one last
 abbrev pub world_of : Schedule → World
 world_of s = record {
   program = program_of s.round.job;

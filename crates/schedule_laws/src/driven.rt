@@ -19,7 +19,7 @@ pub fn jobs_are_driven(job: &Job, shape: &Shape, limit: u32)
 }
 
 /// Three schedules, by one worker on one tier, by two workers on three, and by three on an uneven tree of four, with the
-/// answer of each step written down: such schedules exist, and none of these laws is about nothing. They tell which leaf is
+/// answer of each step written down: such schedules exist, and none of these laws is about nothing. They show which leaf is
 /// whose: a start task's, the preferred one of a spawned task, at which it is held, and that of its spawner.
 pub fn schedules_are_worked_out()
     ensures { SchedulesAreWorkedOut }

@@ -39,7 +39,7 @@ DeliveryOrderIsFree =
 abbrev pub IsBeginning : {A : Type 0} → List A → List A → Type 0
 IsBeginning {A} xs ys = (more : List A) × (ys ≡ xs ++ more)
 
--- A longer limit only adds supersteps: the state that the shorter limit leaves stands on the way of the longer one, and what
+-- A longer limit only adds supersteps: the state that the shorter limit leaves is one that the longer one passes through, and what
 -- was printed and recorded up to there is its beginning.
 abbrev pub LongerLimitsOnlyAdd : Type 0
 LongerLimitsOnlyAdd =

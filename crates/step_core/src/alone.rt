@@ -1,4 +1,4 @@
-//! A job on one thread: its tasks stand in one list, in path order, and are changed in place.
+//! A job on one thread: its tasks are in one list, in path order, and are changed in place.
 ghost use Rattle.std.specs.Prelude.{◌≡◌, ◌≤◌, ◌+◌, ◌++◌, ◌∷◌, ◌^◌, ◌<◌, [], ◌↔◌, true, Some, IsTrue, IfOk, OnOk, map, length};
 ghost use Rattle.superstep_memory.specs.Paths.{is_rising};
 ghost use Rattle.phase_records.specs.Status.{IsShort};
@@ -36,7 +36,7 @@ struct Course {
     records: Vec<PhaseRecord>,
 }
 
-// Room for a superstep, kept from one to the next. What stands in it between two means nothing.
+// Room for a superstep, kept from one to the next. What it holds between two means nothing.
 #[derive(Drop)]
 struct Room {
     work: Work,
@@ -126,7 +126,7 @@ fn go_on(course: &mut Course, room: &mut Room, told: PhaseRecord) -> Result<(), 
     Ok(())
 }
 
-// Takes one superstep, or tells the fault that ends the job in it.
+// Takes one superstep, or returns the fault that ends the job in it.
 fn take_superstep(
     alloc: Global,
     job: &Job,
@@ -180,7 +180,7 @@ fn take_superstep(
     }
 }
 
-// Takes supersteps until the job ends, and tells how it did. The room is lent.
+// Takes supersteps until the job ends, and returns how it ended. The room is working space.
 fn run_within<W: Watch>(
     alloc: Global,
     job: &Job,
@@ -212,7 +212,7 @@ fn run_within<W: Watch>(
     }
 }
 
-// Takes supersteps until the job ends, and tells how it did.
+// Takes supersteps until the job ends, and returns how it ended.
 fn run_on<W: Watch>(
     alloc: Global,
     job: &Job,
@@ -282,7 +282,7 @@ pub fn run_alone(alloc: Global, job: &Job, limit: u32) -> Result<Report, AllocEr
     run_watched(alloc, job, limit, &mut NoWatch)
 }
 
-/// What [`run_alone`] leaves. `watch` is told of each superstep before it is taken, and that changes nothing.
+/// What [`run_alone`] leaves. `watch` is called before each superstep, and that changes nothing.
 pub fn run_watched<W: Watch>(
     alloc: Global,
     job: &Job,

@@ -53,7 +53,7 @@ pub fn next_live_synced_or_spawned()
     ensures { NextLiveSyncedOrSpawned }
 {}
 
-/// What a job leaves within a limit is told by its arrays, bodies and start lines: two jobs that have these alike leave the same,
+/// What a job leaves within a limit depends on its arrays, bodies and start lines alone: two jobs that have these alike leave the same,
 /// whatever their formats.
 pub fn formats_mean_the_same()
     ensures { FormatsMeanTheSame }

@@ -1,12 +1,12 @@
-//! Who is told of the supersteps of a job on one thread.
+//! Watchers of the supersteps of a job on one thread.
 
-/// Is told of each superstep of a job on one thread, before it is taken (own).
+/// Is called before each superstep of a job on one thread (own).
 pub trait Watch {
     /// Superstep `step`, from 0, begins with so many live tasks.
     fn superstep(&mut self, step: u32, tasks: usize);
 }
 
-/// Is told, and does nothing (own).
+/// Does nothing (own).
 #[derive(Clone, Copy, Drop)]
 pub struct NoWatch;
 

@@ -1,4 +1,4 @@
--- What live tasks did, without where it lies in memory: the tasks that they spawned stand in one list, those of the
+-- What live tasks did, without its place in memory: the tasks that they spawned are in one list, those of the
 -- first task first.
 use Rattle.std.specs.Prelude.{◌≡◌, ℕ, zero, suc, ◌+◌, List, [], ◌∷◌, length, take}
 use Rattle.task_lang.specs.TaskValue.{TaskValue}

@@ -11,7 +11,7 @@ use Rattle.step_deeds.specs.DeedValue.{DeedValue}
 use Rattle.step_parts.specs.Program.{Program}
 use Rattle.step_parts.specs.Superstep.{segments, first_fault, log_of, print_of, prints_of}
 
--- how the segment of this task ended, as it stands now
+-- how the segment of this task ended, as the task is now
 abbrev pub end_of : List Plan → Bool → TaskValue → After
 end_of ps true u = Synced (task_of ps u)
 end_of ps false u = Stopped
@@ -24,7 +24,7 @@ IsDeed ps u d g = (map (task_of ps) d.spawns ≡ g.spawns) × (g.after ≡ end_o
 abbrev pub at_path : List ℕ → ℕ → ℕ × List ℕ
 at_path path code = (code, path)
 
--- nobody faulted: the puts, prints and the deed came behind the others'; or the fault is told
+-- nobody faulted: the puts, prints and the deed follow the others'; or the fault is reported
 abbrev pub ToldOne : List Plan → Segment → ℕ → Option (ℕ × List ℕ) → TaskValue → TaskValue → List Put → List Put → List DeedValue → List DeedValue → List PrintValue → List PrintValue → Type 0
 ToldOne ps g step (Some f) t u puts qs ds es before after =
     (after ≡ before) × (first_fault ((t.path, g) ∷ []) ≡ Some f)
@@ -42,7 +42,7 @@ AllDone ps us ds ss = ⊥
 abbrev pub deeds_of : Program → List (List ℕ × List ℤ) → ℕ → List TaskValue → List (List ℕ × Segment)
 deeds_of p arrays step ts = segments p arrays step (map (task_of p.plans) ts)
 
--- the first tasks are done, and the others stand as they were
+-- the first tasks are done, and the others are as they were
 pub record IsUnderWay (p : Program) (arrays : List (List ℕ × List ℤ)) (step : ℕ) (olds : List TaskValue) (place : ℕ) (puts : List Put) (tasks : List TaskValue) (ds : List DeedValue) (before after : List PrintValue) : Type 0 where
   pub us : List TaskValue
   pub rest : List TaskValue
@@ -54,12 +54,12 @@ pub record IsUnderWay (p : Program) (arrays : List (List ℕ × List ℤ)) (step
   pub shown : after ≡ before ++ prints_of step front
   pub done : AllDone p.plans us ds front
 
--- the tasks below this place are done; or the first fault of all is told, and what was printed before stays in front
+-- the tasks below this place are done; or the first fault of all is reported, and what was printed before stays
 abbrev pub HasCome : Program → List (List ℕ × List ℤ) → ℕ → List TaskValue → Option (ℕ × List ℕ) → ℕ → List Put → List TaskValue → List DeedValue → List PrintValue → List PrintValue → Type 0
 HasCome p arrays step olds (Some f) place puts us ds before after = (first_fault (deeds_of p arrays step olds) ≡ Some f) × ((more : List PrintValue) × (after ≡ before ++ more))
 HasCome p arrays step olds None place puts us ds before after = IsUnderWay p arrays step olds place puts us ds before after
 
--- of whichever tasks those below one place were done, of these those below the other are, or the first fault is told
+-- of whichever tasks those below one place were done, of these those below the other are, or the first fault is reported
 abbrev pub IsFurther : Program → List (List ℕ × List ℤ) → ℕ → Option (ℕ × List ℕ) → ℕ → ℕ → List Put → List Put → List TaskValue → List TaskValue → List DeedValue → List DeedValue → List PrintValue → List PrintValue → Type 0
 IsFurther p arrays step fault place end puts qs ts us ds es shown after =
     (olds : List TaskValue) (before : List PrintValue) → IsUnderWay p arrays step olds place puts ts ds before shown → HasCome p arrays step olds fault end qs us es before after
@@ -75,7 +75,7 @@ abbrev pub Told : List Plan → List (List ℕ × Segment) → ℕ → Option (�
 Told ps ss step (Some f) puts us ds before after = (first_fault ss ≡ Some f) × ((more : List PrintValue) × (after ≡ before ++ more))
 Told ps ss step None puts us ds before after = IsAllDone ps ss step puts us ds before after
 
--- the path of the task whose put stands at this place of the log
+-- the path of the task whose put is at this place of the log
 abbrev pub maker : List TaskValue → List DeedValue → ℕ → Option (List ℕ)
 maker ts [] place = None
 maker [] (d ∷ ds) place = None

@@ -123,7 +123,7 @@ fn count_stopped(each: &[Deed]) -> u32
     left
 }
 
-// Moves tasks behind others.
+// Moves tasks to the end of others.
 #[inline(always)]
 fn take_all(all: &mut Vec<Task>, spawns: &mut Vec<Task>) -> Result<(), AllocError>
     ensures items { OnOk result (all.new.items ≡ all.old.items ++ spawns.old.items) }
@@ -177,7 +177,7 @@ impl Deeds {
         Ok(())
     }
 
-    /// The fault of the task whose put stands at this place of the log; `None` where fewer were made.
+    /// The fault of the task whose put is at this place of the log. `None` if fewer were made.
     pub fn blame_at(&self, tasks: &[Task], place: usize) -> Option<Blame>
         ensures { result ≡ option_map told_at (maker tasks.now self.now place) }
     {
@@ -216,7 +216,7 @@ impl Deeds {
     }
 
     /// The tasks that go on and those that they spawned, in path order, in place of the tasks. There are so many of them.
-    /// `room` is lent. Where there is no memory the tasks are as they were.
+    /// `room` is working space. Out of memory, the tasks are as they were.
     pub fn regroup(
         &mut self,
         tasks: &mut Vec<Task>,
@@ -290,7 +290,7 @@ impl Deeds {
         self.spawns.is_empty() && none_stopped(&self.each)
     }
 
-    /// Moves what other tasks did behind these. Without memory both are as they were.
+    /// Appends what other tasks did. Out of memory, both are as they were.
     pub fn append(&mut self, others: &mut Deeds) -> Result<(), AllocError>
         ensures joined { OnOk result (self.new ≡ self.old ++ others.old) }
         ensures none_left { OnOk result (others.new ≡ []) }

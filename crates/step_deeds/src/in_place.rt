@@ -30,7 +30,7 @@ pub struct StepScene<'a> {
     pub step: u32,
 }
 
-// Does the task's segment: its puts come behind those in the log, its prints and spawns stand in their buffers, and the
+// Does the task's segment: its puts follow those in the log, its prints and spawns are in their buffers, and the
 // task itself goes on where it synced. After a fault the task means nothing but its path.
 #[inline(always)]
 fn do_task(
@@ -47,7 +47,7 @@ fn do_task(
     segment_into(alloc, scene.job, task, scene.arrays, scene.step, work)
 }
 
-// Keeps what a task did: its prints behind those of others, and its deed. The buffers are empty then.
+// Keeps what a task did: its prints after those of others, and its deed. The buffers are empty then.
 #[inline(always)]
 fn keep(
     step: u32,
@@ -70,9 +70,9 @@ fn keep(
     deeds.push(synced, puts, &mut work.spawns)
 }
 
-// Does the segment of a task, which goes on in its place, and keeps what it did behind what others did: its puts in `work`,
-// its prints and its deed; the buffers are empty again. Or tells the code of its fault; then nothing was printed, and what
-// else stands in `work`, the deeds and the task means nothing but the task's path.
+// Does the segment of a task, which goes on in its place, and keeps what it did after what others did: its puts in `work`,
+// its prints and its deed; the buffers are empty again. Or returns the code of its fault; then nothing was printed, and
+// what else `work`, the deeds and the task hold means nothing, except the task's path.
 #[inline(always)]
 fn do_one(
     alloc: Global,
@@ -105,9 +105,9 @@ fn do_one(
     }
 }
 
-/// Does the segments of the tasks from one place to another, one after another, each in its place; what they did comes behind
-/// what others did. Or tells the first fault; then what stands in `work`, the deeds and the tasks means nothing, and what
-/// was printed before stays in front. It stands once in a program, so that no task is a call.
+/// Does the segments of the tasks from one place to another, one after another, each in its place; what they did follows
+/// what others did. Or returns the first fault; then what `work`, the deeds and the tasks hold means nothing, and what
+/// was printed before stays. A program has one copy of it, so that no task is a call.
 #[inline(never)]
 pub fn do_range(
     alloc: Global,
@@ -142,7 +142,7 @@ pub fn do_range(
     Ok(None)
 }
 
-/// Does the segments of tasks, one after another: all their puts stand in one log then. Or tells the first fault.
+/// Does the segments of tasks, one after another: all their puts are in one log then. Or returns the first fault.
 pub fn do_all(
     alloc: Global,
     scene: &StepScene<'_>,

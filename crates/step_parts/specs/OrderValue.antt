@@ -89,6 +89,6 @@ has_synced g = is_synced g.after
 abbrev pub spawned_paths : Segment → List (List ℕ)
 spawned_paths g = map (λ t. t.path) g.spawns
 
--- a path as it is lent
+-- a path by reference
 abbrev pub now_of : Bor (List ℕ) → List ℕ
 now_of b = b.now

@@ -21,7 +21,7 @@ abbrev pub log_in : List SlotValue → List Put
 log_in [] = []
 log_in (s ∷ ss) = puts_in s ++ log_in ss
 
--- the path of the task whose put stands at this place of them
+-- the path of the task whose put is at this place of them
 abbrev pub path_at : List SlotValue → ℕ → Option (List ℕ)
 path_at [] place = None
 path_at (s ∷ ss) place = if nat_lt place (length (puts_in s)) then Some s.task.path else path_at ss (place - length (puts_in s))
@@ -78,7 +78,7 @@ beside [] ds = []
 beside (t ∷ ts) [] = []
 beside (t ∷ ts) (d ∷ ds) = record { task = t; done = d } ∷ beside ts ds
 
--- the tasks that live on behind what was delivered
+-- the tasks that live on after what was delivered
 abbrev pub living_by : List (Option SegmentValue) → List TaskValue
 living_by [] = []
 living_by (d ∷ ds) = living_of d ++ living_by ds

@@ -51,7 +51,7 @@ pub record Takes (r : RoundValue) (d : DeliveryValue) : Type 0 where
 abbrev pub with_delivery : RoundValue → DeliveryValue → RoundValue
 with_delivery r d = record r { slots = with_segment r.slots d.place d.segment }
 
--- the numbers of refusals; want of memory has none
+-- the numbers of refusals; running out of memory has none
 abbrev pub accept_number : AcceptFault → ℕ
 accept_number accept.Stranger = 1
 accept_number accept.Double = 2

@@ -64,7 +64,7 @@ pub fn overflowed(task: &Task) -> Blame
     }
 }
 
-/// Puts prints of a task behind what is there.
+/// Appends prints of a task.
 pub fn push_prints(
     prints: &mut Vec<Print>,
     step: u32,

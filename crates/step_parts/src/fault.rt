@@ -45,7 +45,7 @@ pub enum CloseFault {
 }
 
 impl CloseFault {
-    /// The number of this refusal; want of memory has none.
+    /// The number of this refusal. `Memory` has none.
     pub fn number(&self) -> Option<u32>
         ensures { result ≡ close_number self.now }
     {

@@ -55,7 +55,7 @@ fn join(alloc: Global, slots: &Slots<'_>) -> Result<PutLog, AllocError>
     Ok(puts)
 }
 
-// The fault of the task whose put stands at this place of all of them.
+// The fault of the task whose put is at this place of all of them.
 fn blame_at(slots: &Slots<'_>, place: usize) -> Option<Blame>
     ensures { result ≡ option_map told_at (path_at slots.now place) }
 {
@@ -72,7 +72,7 @@ fn blame_at(slots: &Slots<'_>, place: usize) -> Option<Blame>
     None
 }
 
-// Lands what was delivered, or tells the first put that overflows, and changes nothing.
+// Lands what was delivered. If a put overflows, reports the first that does and changes nothing.
 fn land_slots(
     alloc: Global,
     arrays: &mut Arrays,
@@ -97,7 +97,7 @@ fn land_slots(
 }
 
 /// Lands what was delivered in the arrays as the superstep began: in place where nobody else has them, else in a copy. Or
-/// tells the first put that overflows, and changes nothing.
+/// reports the first put that overflows, and changes nothing.
 pub(crate) fn land_start_arrays(
     alloc: Global,
     start_arrays: &mut Arc<Arrays>,

@@ -24,7 +24,7 @@ use task_lang::task::{Segment, Task};
 pub struct Live {
     tasks: Arc<Vec<Task>>,
     done: Vec<Option<Segment>>,
-    // Room for the next tasks, kept from one closing to the next. What stands in it means nothing.
+    // Room for the next tasks, kept from one closing to the next. What it holds means nothing.
     room: Vec<Task>,
 }
 
@@ -41,7 +41,7 @@ impl Model for Live {
     ghost invariant = { λ l. length (arc_value l.tasks).items ≡ length l.done.items };
 }
 
-// Lands what was delivered, and keeps what the superstep printed and its record. Or tells the first put that overflows; then, and
+// Lands what was delivered, and keeps what the superstep printed and its record. Or reports the first put that overflows; then, and
 // without memory, nothing changes.
 fn finish(
     alloc: Global,
@@ -94,7 +94,7 @@ fn list_for(
     }
 }
 
-// Lands what was delivered for these tasks, and puts the next into a list that nobody else has. Or tells the first put that
+// Lands what was delivered for these tasks, and puts the next into a list that nobody else has. Or reports the first put that
 // overflows; then, and without memory, nothing changes.
 fn close_into(
     alloc: Global,
@@ -208,7 +208,7 @@ impl Live {
     }
 
     /// Lands what was delivered, keeps what the superstep printed and its record, and goes on to the next live tasks, of
-    /// whom there are so many. Or tells the first put that overflows; then, and without memory, nothing changes.
+    /// whom there are so many. Or reports the first put that overflows; then, and without memory, nothing changes.
     pub fn take_superstep(
         &mut self,
         alloc: Global,

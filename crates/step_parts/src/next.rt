@@ -77,7 +77,7 @@ pub fn put_tasks(living: &mut Vec<Task>, tasks: Vec<Task>)
     }
 }
 
-// Puts the tasks that live on behind what was delivered for a task in their places.
+// Puts the tasks that live on after what was delivered for a task in their places.
 fn put_done(living: &mut Vec<Task>, done: Option<Segment>)
     requires room { vec_len living.old + length (living_of done) ≤ vec_capacity living.old }
     ensures items { living.new.items ≡ reverse (put_all path_in (living_of done) (reverse living.old.items)) }

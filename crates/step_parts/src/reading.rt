@@ -87,7 +87,7 @@ pub fn prints_of(alloc: Global, finished: &[Finished]) -> Result<Vec<Print>, All
     Ok(prints)
 }
 
-// Puts copies of prints behind what is there.
+// Appends copies of prints.
 fn copy_prints(prints: &mut Vec<Print>, more: &[Print]) -> Result<(), AllocError>
     ensures { OnOk result (prints.new.items ≡ prints.old.items ++ more.now) }
 {

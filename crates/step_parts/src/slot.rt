@@ -1,4 +1,4 @@
-//! Live tasks with what was delivered for them, as they are lent, and what a superstep leaves.
+//! Live tasks with what was delivered for them, by reference, and what a superstep leaves.
 ghost use Rattle.std.specs.Prelude.{◌≡◌, ◌≤◌, length};
 
 use phase_records::{JobStatus, PhaseRecord, Print};
@@ -61,7 +61,7 @@ impl<'a> Slots<'a> {
         }
     }
 
-    /// The first one, and those behind it.
+    /// The first one, and the rest.
     pub(crate) fn split_first(&self) -> Option<(Slot<'a>, Slots<'a>)>
         ensures { MatchOption result (self.now ≡ []) (λ split. self.now ≡ split.0 ∷ split.1) }
     {

@@ -59,7 +59,7 @@ tasks_at None = []
 tasks_at (Some None) = []
 tasks_at (Some (Some part)) = part.tasks
 
--- the stretch of this number was there, is lent, and is of this job and step
+-- the stretch of this number was there, is out, and is of this job and step
 pub record IsLent (old new : StretchesValue) (k : ℕ) (s : StretchValue) : Type 0 where
   pub number : s.number ≡ k
   pub there : slice_get old.parts k ≡ Some (Some s.part)
@@ -89,7 +89,7 @@ abbrev pub IsLeft : Unclosed → StretchesValue → StretchesValue → Type 0
 IsLeft unclosed.Missing old new = new ≡ old
 IsLeft (unclosed.Memory e) old new = AreLeft old new
 
--- no task came or left, as the stretches that are there tell
+-- no task came or left, by the stretches that are there
 abbrev pub AllStay : StretchesValue → Type 0
 AllStay v = (left_in (deeds_in v.parts) ≡ 0) × (spawned_in (deeds_in v.parts) ≡ 0)
 

@@ -4,7 +4,7 @@ use Rattle.task_code.specs.JobValue.{JobValue}
 use Rattle.step_stretches.specs.PartValue.{PartValue}
 use Rattle.step_stretches.specs.Parts.{AreOwn, covers, is_finished, tasks_in, puts_in, deeds_in, prints_in, fault_in}
 
--- the tasks of one stand behind those of the other, and all have done their segments, in which nobody faulted
+-- the tasks of one follow those of the other, and all have done their segments, in which nobody faulted
 pub record Follows (a b : PartValue) : Type 0 where
   pub job : b.job ≡ a.job
   pub step : b.step ≡ a.step
@@ -32,7 +32,7 @@ joined_slot None t = t
 joined_slot (Some a) None = Some a
 joined_slot (Some a) (Some b) = Some (joined_part a b)
 
--- these are of this job and step, all there, finished, one behind another to the end, and nobody faulted
+-- these are of this job and step, all there, finished, follow one another to the end, and nobody faulted
 pub record AreWhole (job : JobValue) (step end : ℕ) (ss : List (Option PartValue)) : Type 0 where
   pub own : AreOwn job step ss
   pub whole : covers end 0 ss ≡ true

@@ -19,7 +19,7 @@ pub record PartValue : Type 0 where
   pub prints : List PrintValue
   pub fault : Option (ℕ × List ℕ)
 
--- one whose place among the stretches of its superstep is told
+-- one with its place among the stretches of its superstep
 pub record StretchValue : Type 0 where
   pub number : ℕ
   pub part : PartValue

@@ -18,7 +18,7 @@ abbrev pub AreLive : JobValue → ℕ → ℕ → List TaskValue → Type 0
 AreLive job step first tasks =
     (back : List Task) × (drop first (state_at (program_of job) step).live ≡ map (task_of (plans job.bodies)) tasks ++ back)
 
--- so many of the tasks, which were these, did their segments at this step; or the first fault of all of them is told
+-- so many of the tasks, which were these, did their segments at this step; or the first fault of all of them is known
 abbrev pub HasDone : Program → State → ℕ → List TaskValue → Option (ℕ × List ℕ) → PartValue → Type 0
 HasDone p st step olds None part =
     IsUnderWay p st.arrays step olds part.done part.puts part.tasks part.deeds [] part.prints
@@ -60,7 +60,7 @@ pub record IsDoneTo (end : ℕ) (old new : PartValue) : Type 0 where
 abbrev pub is_finished : PartValue → Bool
 is_finished part = nat_le (length part.tasks) part.done
 
--- what is told of each that is there, one after another
+-- what each that is there has, one after another
 abbrev pub of_slot : {A : Type 0} → (PartValue → List A) → Option PartValue → List A
 of_slot f None = []
 of_slot f (Some part) = f part
@@ -90,7 +90,7 @@ abbrev pub fault_in : List (Option PartValue) → Option (ℕ × List ℕ)
 fault_in [] = None
 fault_in (s ∷ ss) = or_next (fault_of s) (fault_in ss)
 
--- these stretches are all there, finished, and one behind another from this place to the end
+-- these stretches are all there, finished, and follow one another from this place to the end
 abbrev pub covers : ℕ → ℕ → List (Option PartValue) → Bool
 covers end at [] = at == end
 covers end at (None ∷ ss) = false
@@ -105,7 +105,7 @@ abbrev pub AreOwn : JobValue → ℕ → List (Option PartValue) → Type 0
 AreOwn job step [] = Unit {0}
 AreOwn job step (s ∷ ss) = IsOwn job step s × AreOwn job step ss
 
--- these are all there, one behind another from this place on, and nothing of them is done
+-- these are all there, follow one another from this place on, and nothing of them is done
 abbrev pub AreFresh : JobValue → ℕ → ℕ → List (Option PartValue) → Type 0
 AreFresh job step at [] = Unit {0}
 AreFresh job step at (None ∷ ss) = ⊥
@@ -116,7 +116,7 @@ abbrev pub made_in : List DeedValue → ℕ
 made_in [] = 0
 made_in (d ∷ ds) = d.puts + made_in ds
 
--- each task has a deed, and the deeds tell of all puts
+-- each task has a deed, and the deeds account for all puts
 abbrev pub IsEven : Option PartValue → Type 0
 IsEven s = (length (of_slot (λ part. part.tasks) s) ≡ length (of_slot (λ part. part.deeds) s)) × (made_in (of_slot (λ part. part.deeds) s) ≡ length (of_slot (λ part. part.puts) s))
 

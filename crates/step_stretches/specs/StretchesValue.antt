@@ -9,7 +9,7 @@ use Rattle.step_parts.specs.JobMeaning.{state_at, so_far, status}
 use Rattle.step_stretches.specs.PartValue.{PartValue}
 use Rattle.step_stretches.specs.Parts.{AreOwn, AreFresh, covers, tasks_in}
 
--- so many supersteps were taken within this limit; of the next the stretches that aren't lent, by their numbers; and the
+-- so many supersteps were taken within this limit; of the next the stretches that aren't out, by their numbers; and the
 -- fault that has ended the job, if one has
 pub record StretchesValue : Type 0 where
   pub job : JobValue
@@ -46,7 +46,7 @@ pub record IsCourse (v : StretchesValue) : Type 0 where
   pub few : length (before v).live ≤ 4096
   pub own : AreOwn v.job v.step v.parts
 
--- its stretches are all there, nothing of them is done, and their tasks are those that live, one behind another
+-- its stretches are all there, nothing of them is done, and their tasks are those that live, one after another
 pub record AllReady (v : StretchesValue) : Type 0 where
   pub fresh : AreFresh v.job v.step 0 v.parts
   pub tasks : (before v).live ≡ map (task_of (plans v.job.bodies)) (tasks_in v.parts)

@@ -14,7 +14,7 @@ pub enum Unwanted {
     /// No stretch of this superstep has its number.
     #[error("a stretch of another job")]
     Stranger,
-    /// The stretch of its number isn't lent.
+    /// The stretch of its number isn't out.
     #[error("a stretch that isn't lent")]
     Double,
 }

@@ -20,7 +20,7 @@ fn join_slots<'j>(
     }
 }
 
-// Takes the last but one into the last, which stands in front of it. Without memory all are as they were.
+// Takes the last but one into the last, whose tasks come first. Out of memory, all are as they were.
 fn join_last(parts: &mut Vec<Option<Part<'_>>>) -> Result<(), AllocError>
     requires two { 2 ≤ length parts.old.items }
     requires whole { IsWhole (reverse parts.old.items) }
@@ -43,7 +43,7 @@ fn join_last(parts: &mut Vec<Option<Part<'_>>>) -> Result<(), AllocError>
     }
 }
 
-// Takes each into the one in front of it, the first of which stands last.
+// Takes each into the one whose tasks come before its own; the first is last in the list.
 fn join_all(parts: &mut Vec<Option<Part<'_>>>) -> Result<(), AllocError>
     requires whole { IsWhole (reverse parts.old.items) }
     ensures joined { AreJoined (reverse parts.old.items) (reverse parts.new.items) }
@@ -55,7 +55,7 @@ fn join_all(parts: &mut Vec<Option<Part<'_>>>) -> Result<(), AllocError>
     Ok(())
 }
 
-/// Joins these stretches, which are finished and one behind another, into one. Without memory they may be fewer.
+/// Joins these stretches, which are finished and follow one another, into one. Out of memory, there may be fewer of them.
 pub(crate) fn gather(parts: &mut Vec<Option<Part<'_>>>) -> Result<(), AllocError>
     requires whole { IsWhole parts.old.items }
     ensures joined { AreJoined parts.old.items parts.new.items }

@@ -43,7 +43,7 @@ fn write_all(arrays: &mut Arrays, parts: &[Option<Part<'_>>])
     }
 }
 
-// All puts, one stretch behind another.
+// All puts, stretch after stretch.
 fn join(alloc: Global, parts: &[Option<Part<'_>>]) -> Result<PutLog, AllocError>
     ensures { IfOk result (λ puts. puts.items ≡ puts_in parts.now) }
 {
@@ -57,7 +57,7 @@ fn join(alloc: Global, parts: &[Option<Part<'_>>]) -> Result<PutLog, AllocError>
     Ok(puts)
 }
 
-// Lands the puts of stretches, or tells the place of the first that overflows, and changes nothing.
+// Lands the puts of stretches. If one overflows, returns the place of the first that does and changes nothing.
 fn land_parts(
     alloc: Global,
     arrays: &mut Arrays,
@@ -77,7 +77,7 @@ fn land_parts(
     land_log(arrays, &puts, olds)
 }
 
-/// Lands the puts of stretches, one behind another: in place where nobody else has the arrays, else in a copy. Or tells the
+/// Lands the puts of stretches, one after another: in place if nobody else has the arrays, else in a copy. Or returns the
 /// place of the first put that overflows. Then, and without memory, nothing changes.
 pub(crate) fn land_together(
     alloc: Global,
@@ -119,7 +119,7 @@ fn put_in_place(
     }
 }
 
-/// Lands the puts of stretches, with room for what they printed and for a record. Or tells the fault of the first put that
+/// Lands the puts of stretches, with room for what they printed and for a record. Or returns the fault of the first put that
 /// overflows. Then, and without memory, nothing changes.
 pub(crate) fn land_with_room(
     alloc: Global,

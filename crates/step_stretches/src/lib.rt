@@ -1,4 +1,4 @@
-//! A job whose supersteps are taken by stretches: consecutive live tasks that are lent together, done in their places by
+//! A job whose supersteps are taken by stretches: consecutive live tasks that are handed out together, done in place by
 //! whoever has them, and taken back as a whole.
 #![tactic(auto)]
 

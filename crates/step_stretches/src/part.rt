@@ -52,7 +52,7 @@ impl<'j> Model for Part<'j> {
     ghost invariant = { IsPartInside };
 }
 
-// Moves these behind others, for which there is room.
+// Appends these to others, which have room for them.
 fn move_behind<T: Drop>(all: &mut Vec<T>, more: &mut Vec<T>)
     requires { vec_len all.old + length more.old.items ≤ vec_capacity all.old }
     ensures items { all.new.items ≡ all.old.items ++ more.old.items }
@@ -221,7 +221,7 @@ impl<'j> Part<'j> {
         self.do_to(alloc, arrays, end)
     }
 
-    /// Takes in what another, whose tasks stand behind its own, has and did. Without memory both are as they were.
+    /// Takes in what another, whose tasks follow its own, has and did. Out of memory, both are as they were.
     pub(crate) fn join(&mut self, next: &mut Part<'j>) -> Result<(), AllocError>
         requires { Follows self.old next.old }
         ensures joined { OnOk result (self.new ≡ joined_part self.old next.old) }
@@ -279,7 +279,7 @@ impl<'j> Part<'j> {
         self.deeds.record(self.step)
     }
 
-    /// The fault of the task whose put stands at this place of its log.
+    /// The fault of the task whose put is at this place of its log.
     pub(crate) fn blame_at(&self, place: usize) -> Option<Blame>
         ensures { result ≡ option_map told_at (maker self.now.tasks self.now.deeds place) }
     {
@@ -300,8 +300,8 @@ impl<'j> Part<'j> {
         self.deeds.changes(alloc)
     }
 
-    /// Goes on to the next step, at which the same tasks live, at the same places. Its prints come behind those that are
-    /// there, for which there is room.
+    /// Goes on to the next step, at which the same tasks live, at the same places. Its prints are appended to those
+    /// that are there, which have room for them.
     pub(crate) fn renew(&mut self, prints: &mut Vec<Print>)
         requires ahead { AreLive self.old.job (self.old.step + 1) self.old.first self.old.tasks }
         requires below { self.old.step + 1 < 2 ^ 32 }

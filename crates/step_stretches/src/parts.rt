@@ -1,4 +1,4 @@
-//! What is told of stretches together.
+//! What stretches have done together.
 ghost use Rattle.std.specs.Prelude.{◌≡◌, ◌==◌, ◌&&◌, ◌≤◌, ◌+◌, nat_le, IfSome, length};
 ghost use Rattle.std.specs.Option.{option_map};
 ghost use Rattle.step_parts.specs.SlotParts.{told_at};
@@ -18,7 +18,7 @@ fn is_at(part: &Part<'_>, at: usize, end: usize) -> bool
     part.first() == at && part.is_finished() && part.len() <= end - at
 }
 
-/// Whether these stretches are all there, finished, and one behind another up to this place.
+/// Whether these stretches are all there, finished, and follow one another up to this place.
 pub(crate) fn cover(parts: &[Option<Part<'_>>], end: usize) -> bool
     ensures { result ≡ covers end 0 parts.now }
 {
@@ -124,7 +124,7 @@ pub(crate) fn puts_of<'a>(slot: &'a Option<Part<'_>>) -> &'a [Put]
     }
 }
 
-// The fault of the task whose put stands at this place of the log of a stretch.
+// The fault of the task whose put is at this place of the log of a stretch.
 fn blame_in(slot: &Option<Part<'_>>, place: usize) -> Option<Blame>
     ensures { result ≡ option_map told_at (maker (of_slot (λ part. part.tasks) slot.now) (of_slot (λ part. part.deeds) slot.now) place) }
 {
@@ -134,7 +134,7 @@ fn blame_in(slot: &Option<Part<'_>>, place: usize) -> Option<Blame>
     }
 }
 
-/// The fault of the task whose put stands at this place of all logs, one after another.
+/// The fault of the task whose put is at this place of all logs, one after another.
 pub(crate) fn blame_at(parts: &[Option<Part<'_>>], place: usize) -> Option<Blame>
     requires { AreEven parts.now }
     ensures { result ≡ option_map told_at (maker (tasks_in parts.now) (deeds_in parts.now) place) }

@@ -10,7 +10,7 @@ use crate::part::{Handed, Part};
 use phase_records::Print;
 use task_lang::task::Task;
 
-// Moves what was printed behind the prints, for which there is room, and regroups the tasks.
+// Appends what was printed to the prints, which have room for it, and regroups the tasks.
 fn regroup_handed(
     handed: Handed,
     mut room: Vec<Task>,
@@ -40,7 +40,7 @@ fn regroup_handed(
 }
 
 /// The next live tasks, in path order, of whom there are so many: what the one stretch that there is leads to. What it printed
-/// comes behind the prints. There is room for both.
+/// is appended to the prints. There is room for both.
 pub(crate) fn regroup(
     parts: &mut Vec<Option<Part<'_>>>,
     room: Vec<Task>,

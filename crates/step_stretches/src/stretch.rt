@@ -1,4 +1,4 @@
-//! A stretch as it is lent.
+//! A stretch that is handed out.
 use crate::part::Part;
 use std::alloc::{AllocError, Global};
 use std::marker::Model;
@@ -7,7 +7,7 @@ use step_deeds::deeds::Change;
 use superstep_memory::arrays::Arrays;
 use superstep_memory::path::Path;
 
-/// Consecutive live tasks of a superstep, lent to whoever does them, each in its place. Its type keeps that what was done is
+/// Consecutive live tasks of a superstep, handed out to whoever does them, each in its place. Its type keeps that what was done is
 /// what these tasks of the job do at this step. Behind a fault the segments of its other tasks aren't run.
 #[derive(Drop)]
 pub struct Stretch<'j> {
@@ -123,7 +123,7 @@ impl<'j> Stretch<'j> {
         self.part.all_stay()
     }
 
-    /// What each of its tasks did to the list of tasks. There are none behind a fault.
+    /// What each of its tasks did to the list of tasks. There are none after a fault.
     pub fn changes(&self, alloc: Global) -> Result<Vec<Change>, AllocError>
         ensures { IfOk result (λ changes. map change_of changes.items ≡ map change_in self.now.part.deeds) }
     {

@@ -23,7 +23,7 @@ use step_parts::slot::Blame;
 use superstep_memory::arrays::Arrays;
 use task_code::job::Job;
 
-/// The supersteps of a job so far, and the stretches of live tasks of the next that aren't lent. Its type keeps that its arrays,
+/// The supersteps of a job so far, and the stretches of live tasks of the next that aren't out. Its type keeps that its arrays,
 /// prints, records and status are those of the job's supersteps so far, and that each stretch is of the next.
 #[derive(Drop)]
 pub struct Stretches<'j> {
@@ -35,12 +35,12 @@ pub struct Stretches<'j> {
     arrays: Arc<Arrays>,
     // How many tasks live.
     count: usize,
-    // By number: `None` where one is lent.
+    // By number: `None` if one is out.
     parts: Vec<Option<Part<'j>>>,
     prints: Vec<Print>,
     records: Vec<PhaseRecord>,
     fault: Option<Blame>,
-    // Room for landing. What stands in it means nothing.
+    // Room for landing. What it holds means nothing.
     olds: Vec<i64>,
 }
 
@@ -150,7 +150,7 @@ impl<'j> Stretches<'j> {
         self.count
     }
 
-    /// How many tasks the stretch of this number has; none where it is lent. It takes no memory.
+    /// How many tasks the stretch of this number has; none if it is out. It takes no memory.
     pub fn length(&self, number: usize) -> usize
         ensures { result ≡ length (tasks_at (slice_get self.now.parts number)) }
     {
@@ -160,7 +160,7 @@ impl<'j> Stretches<'j> {
         }
     }
 
-    /// Whether the stretch of this number isn't lent, and its tasks have not done their segments. It takes no memory.
+    /// Whether the stretch of this number isn't out, and its tasks haven't done their segments. It takes no memory.
     pub fn is_ready(&self, number: usize) -> bool
         ensures { result ≡ ready_at (slice_get self.now.parts number) }
     {
@@ -170,7 +170,7 @@ impl<'j> Stretches<'j> {
         }
     }
 
-    /// Lends the stretch of this number, where it is ready.
+    /// Hands out the stretch of this number, if it is ready.
     pub fn take(&mut self, number: usize) -> Result<Option<Stretch<'j>>, AllocError>
         ensures lent { IfOk result (λ taken. MatchOption taken
             ((ready_at (slice_get self.old.parts number) ≡ false) × (self.new ≡ self.old))
@@ -207,7 +207,7 @@ impl<'j> Stretches<'j> {
     }
 
     /// Takes a stretch back, as a whole, or refuses to and changes nothing: it is of another step; not all its tasks have done
-    /// their segments; no stretch has its number, or that one isn't lent. The caller knows that it is of this job.
+    /// their segments; no stretch has its number, or that one isn't out. The caller knows that it is of this job.
     pub fn accept(&mut self, stretch: Stretch<'j>) -> Result<(), Unwanted>
         requires job { stretch.part.job ≡ self.old.job }
         ensures taken { OnOk result (Takes self.old stretch.entry) }
@@ -263,7 +263,7 @@ impl<'j> Stretches<'j> {
         }
     }
 
-    // Takes one superstep in which no task faults, and behind which not too many live.
+    // Takes one superstep in which no task faults, and after which not too many live.
     fn go_on(&mut self, alloc: Global, told: PhaseRecord) -> Result<Outcome, AllocError>
         requires running { status_in self.old ≡ None }
         requires whole { is_whole self.old ≡ true }
@@ -282,7 +282,7 @@ impl<'j> Stretches<'j> {
         }
     }
 
-    // Takes one superstep behind which the same tasks live, so that each stretch stays as it is.
+    // Takes one superstep after which the same tasks live, so that each stretch stays as it is.
     fn stay(&mut self, alloc: Global, told: PhaseRecord) -> Result<Outcome, AllocError>
         requires running { status_in self.old ≡ None }
         requires whole { is_whole self.old ≡ true }

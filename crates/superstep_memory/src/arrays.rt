@@ -86,8 +86,8 @@ impl Arrays {
         }
     }
 
-    /// Adds an array behind the others. `false`, and nothing is added, where an array has this name or where
-    /// there are over 4294967296 cells.
+    /// Adds an array after the others. Returns `false`, and adds nothing, if an array has this name or if there are over
+    /// 4294967296 cells.
     pub fn add(&mut self, name: String, cells: Vec<i64>) -> Result<bool, AllocError>
         ensures added { IfOk result (λ added. IsTrue added ↔ IsNew self.old (string_bytes name) cells.items) }
         ensures after { IfOk result (λ added. self.new
@@ -194,7 +194,7 @@ impl Arrays {
         }
     }
 
-    /// A copy of its own.
+    /// A copy.
     pub fn copy(&self, alloc: Global) -> Result<Arrays, AllocError>
         ensures { IfOk result (λ copy. copy ≡ self.now) }
     {

@@ -24,7 +24,7 @@ is_statement _ = true
 abbrev pub statements : List Line → ℕ
 statements code = count_by is_statement code
 
--- how many `if` and `while` lines are open behind a line, where so many were before it
+-- how many `if` and `while` lines are open after a line, if so many were open before it
 abbrev pub opened : ℕ → Line → ℕ
 opened k (line.Do a) = k
 opened k (line.If e n) = k + 1

@@ -53,7 +53,7 @@ mentioned k (i ∷ is) = if i == k then mentioned (k + 1) is else if nat_lt i k 
 abbrev pub are_below : ℕ → List ℕ → Bool
 are_below count is = list_all (λ i. nat_lt i count) is
 
--- each number once, where it stands first
+-- each number once, at its first place
 abbrev pub firsts : List ℕ → List ℕ
 firsts [] = []
 firsts (i ∷ is) = i ∷ filter (λ j. not (j == i)) (firsts is)

@@ -30,7 +30,7 @@ pub record IsBody (b : BodyValue) : Type 0 where
 abbrev pub is_array : List ℕ × List ℤ → Bool
 is_array a = is_free a.0 && nat_le 1 (length a.1) && nat_le (length a.1) most_cells
 
--- What a body of format 1 keeps besides: its locals stand by first mention, and no line is an add.
+-- What a body of format 1 keeps besides: its locals are in the order of first mention, and no line is an add.
 pub record IsOfFirst (b : BodyValue) : Type 0 where
   pub order : IsByMention b
   pub lines : IsTrue (list_all is_of_first b.code)

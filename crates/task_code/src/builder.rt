@@ -1,4 +1,4 @@
-//! Flat code from lines in order: jumps are written where the line that they stand on is closed.
+//! Flat code from lines in order. The jump of a line is written when that line is closed.
 ghost use Rattle.std.specs.Prelude.{
   ◌≡◌,
   ◌<◌,

@@ -37,7 +37,7 @@ pub struct Start {
 }
 
 /// A job: its format, 1 or 2, and its arrays, its bodies and its start lines, each in declared order. In one of format 1 no
-/// line is an add, and the locals of each body stand by first mention.
+/// line is an add, and the locals of each body are in the order of first mention.
 #[derive(Drop)]
 pub struct Job {
     format: u32,
@@ -216,7 +216,7 @@ fn is_job(format: u32, arrays: &Arrays, bodies: &Vec<Body>, starts: &Vec<Start>)
 
 impl Job {
     /// A job of this format, 1 or 2, with these arrays, bodies and start lines. `None` where there is no such format, where
-    /// in format 1 a line is an add or the locals of a body don't stand by first mention, where a name isn't one or a body
+    /// in format 1 a line is an add or the locals of a body aren't in the order of first mention, where a name isn't one or a body
     /// has the name of another, where an array has no cell or over 4096, where a line names an array or a body that isn't
     /// there, where a start line names no body, and above [`MOST_ARRAYS`] arrays, [`MOST_BODIES`] bodies and [`MOST_TASKS`]
     /// start lines (all own).

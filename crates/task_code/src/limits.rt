@@ -44,7 +44,7 @@ pub(crate) fn statements(code: &[Line]) -> usize
     count
 }
 
-// How many lines are open behind this one, where so many were before it.
+// How many lines are open after this one, if so many were open before it.
 fn opened(before: usize, line: &Line) -> usize
     requires { before ≤ 16 }
     ensures { result ≡ spec.opened before line.now }

@@ -136,7 +136,7 @@ fn mention_line(known: usize, line: &Line) -> Option<usize>
     mention_operands(with_set, &operands_of(line, false))
 }
 
-/// Whether lines mention so many locals, each for the first time behind those before it.
+/// Whether lines mention so many locals, each for the first time after those before it.
 pub(crate) fn are_in_order(code: &[Line], count: usize) -> bool
     ensures { IsTrue result ↔ (spec.mentioned 0 (spec.mentions code.now) ≡ Some count) }
 {

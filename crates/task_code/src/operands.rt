@@ -12,7 +12,7 @@ pub(crate) struct Operands {
     pub(crate) right: Option<Operand>,
 }
 
-// The operands of an expression, behind the cell that is put to.
+// The operands of an expression, after the cell that is put to.
 fn of_expr(cell: Option<Operand>, expr: &Expr) -> Operands
     ensures { spec.listed result ≡ spec.if_any [] spec.alone cell ++ spec.over_expr ◌++◌ [] spec.alone expr.now }
 {

@@ -53,7 +53,7 @@ pub fn goes_on_where_it_was_cut()
     ensures { GoesOnWhereItWasCut }
 {}
 
-/// The locals of a body stand by first mention where the lines mention each for the first time in the order of
+/// The locals of a body are in the order of first mention where the lines mention each for the first time in the order of
 /// the locals, and all of them.
 pub fn stand_by_first_mention()
     ensures { ByFirstMention }
