@@ -6,3 +6,6 @@ pub mod LandedLaws
 pub mod Over
 pub mod Taken
 pub mod Merged
+pub mod Rows
+pub mod LotLemmas
+pub mod LotsTaken

@@ -1,6 +1,7 @@
 //! Arrays of numbers by name, in declared order.
 ghost use Rattle.std.specs.Prelude.{
   ◌≡◌,
+  ◌+◌,
   ◌↔◌,
   ◌≤◌,
   ◌^◌,
@@ -21,6 +22,7 @@ ghost use Rattle.std.specs.Prelude.{
 };
 ghost use Rattle.std.specs.Option.{option_map};
 ghost use Rattle.superstep_memory.specs.Seen.{seen};
+ghost use Rattle.superstep_memory.specs.Rows.{row_set, with_row};
 ghost use Rattle.superstep_memory.specs.Cells.{cell_at, place_at, is_cell, value_at, with_place, are_distinct, IsNew};
 
 use indexmap::IndexMap;
@@ -168,8 +170,16 @@ impl Arrays {
     pub(crate) fn value_at(&self, put: Put) -> i64
         ensures { result ≡ value_at self.now put.array put.index }
     {
-        match self.get(usize::from(put.array)) {
-            Some((_, cells)) => cells.get(put.index as usize).copied().unwrap_or(0),
+        self.value_in(usize::from(put.array), put.index as usize)
+    }
+
+    /// What the cell of this number in the array at this place holds, 0 where there is none.
+    #[inline(always)]
+    pub(crate) fn value_in(&self, array: usize, index: usize) -> i64
+        ensures { result ≡ value_at self.now array index }
+    {
+        match self.get(array) {
+            Some((_, cells)) => cells.get(index).copied().unwrap_or(0),
             None => 0,
         }
     }
@@ -182,15 +192,32 @@ impl Arrays {
         self.write_at(usize::from(put.array), put.index as usize, value);
     }
 
-    // Writes a value into the cell of this number of the array at this place, if there is one.
+    /// Writes a value into the cell of this number of the array at this place, if there is one.
     #[inline(always)]
-    fn write_at(&mut self, array: usize, index: usize, value: i64)
+    pub(crate) fn write_at(&mut self, array: usize, index: usize, value: i64)
         ensures { self.new ≡ with_place self.old array index value }
     {
         if let Some(cells) = self.by_name.get_index_mut(array) {
             if index < cells.len() {
                 cells[index] = value;
             }
+        }
+    }
+
+    /// Writes these values into cells side by side, beginning with the cell `first`. Those past the end are left out.
+    #[inline(always)]
+    pub(crate) fn write_row(&mut self, array: u16, first: u32, values: &[i64])
+        ensures { self.new ≡ with_row self.old array first values.now }
+    {
+        self.write_row_at(usize::from(array), first as usize, values);
+    }
+
+    // Writes a row into the array at this place, if there is one.
+    fn write_row_at(&mut self, array: usize, first: usize, values: &[i64])
+        ensures { self.new ≡ with_row self.old array first values.now }
+    {
+        if let Some(cells) = self.by_name.get_index_mut(array) {
+            write_cells(cells, first, values);
         }
     }
 
@@ -220,6 +247,47 @@ impl Arrays {
             }
         }
         true
+    }
+}
+
+// Writes values into cells side by side, all of which are there.
+fn write_within(cells: &mut [i64], first: usize, values: &[i64])
+    requires { first + length values.now ≤ length cells.old }
+    ensures { cells.new ≡ row_set cells.old first values.now }
+{
+    let mut place = first;
+    let mut rest = values;
+    while let Some((value, after)) = rest.split_first() {
+        cells[place] = *value;
+        place += 1;
+        rest = after;
+    }
+}
+
+// Writes values into cells side by side. Those past the end are left out.
+fn write_each(cells: &mut [i64], first: usize, values: &[i64])
+    ensures { cells.new ≡ row_set cells.old first values.now }
+{
+    let mut place = first;
+    let mut rest = values;
+    while let Some((value, after)) = rest.split_first() {
+        if place >= cells.len() {
+            return;
+        }
+        cells[place] = *value;
+        place += 1;
+        rest = after;
+    }
+}
+
+// Writes values into cells side by side. Those past the end are left out.
+fn write_cells(cells: &mut Vec<i64>, first: usize, values: &[i64])
+    ensures { cells.new.items ≡ row_set cells.old.items first values.now }
+{
+    if first <= cells.len() && values.len() <= cells.len() - first {
+        write_within(cells, first, values);
+    } else {
+        write_each(cells, first, values);
     }
 }
 

@@ -5,5 +5,8 @@ pub mod arrays;
 pub mod landing;
 pub mod laws;
 pub mod log;
+mod lots;
+mod lots_landing;
 pub mod path;
+pub mod puts;
 pub mod runs;

@@ -1,0 +1,13 @@
+-- Puts without how they are kept (own).
+use Rattle.std.specs.Prelude.{◌≡◌, List, length}
+use Rattle.superstep_memory.specs.declared.arrays.Put.{Put}
+use Rattle.superstep_memory.specs.declared.puts.Puts.TheInside.{Inside}
+use Rattle.superstep_memory.specs.Lots.{puts_in, rows_among}
+
+abbrev pub puts_seen : Inside → List Put
+puts_seen p = puts_in p.lots.items p.rows.items
+
+-- the puts are counted, and each lot that is a row has a row
+pub record IsInside (p : Inside) : Type 0 where
+  pub count : p.count ≡ length (puts_seen p)
+  pub rows : length p.rows.items ≡ rows_among p.lots.items

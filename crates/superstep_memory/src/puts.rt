@@ -1,0 +1,169 @@
+//! Puts in order, some of them in rows.
+ghost use Rattle.std.specs.Prelude.{◌≡◌, ◌≤◌, ◌++◌, ◌∷◌, ◌↔◌, [], None, true, IsTrue, IsSome, IfOk, OnOk, OnErr, length};
+ghost use Rattle.std.specs.List.{list_all};
+ghost use Rattle.superstep_memory.specs.Cells.{is_cell};
+ghost use Rattle.superstep_memory.specs.Landing.{landed, over_in, is_set};
+ghost use Rattle.superstep_memory.specs.Rows.{row_puts};
+
+use crate::arrays::{Arrays, Put};
+use crate::lots::{Lot, Row};
+use crate::lots_landing::{are_all_in, are_all_sets, land_adds, write_lots};
+use std::alloc::{AllocError, Global};
+use std::marker::Model;
+
+/// Puts in order. A row of puts to cells side by side is kept as its values, so it takes 8 bytes a cell; a single put takes 16.
+#[derive(Drop)]
+pub struct Puts {
+    lots: Vec<Lot>,
+    rows: Vec<Row>,
+    count: usize,
+    // Rows that were cleared away, whose memory later rows may use.
+    spare: Vec<Row>,
+}
+
+impl Model for Puts {
+    ghost use Rattle.std.specs.Prelude.{List};
+    ghost use Rattle.superstep_memory.specs.declared.arrays.Put.{Put};
+
+    ghost Value = { List Put };
+
+    ghost use Rattle.superstep_memory.specs.PutsView.{puts_seen, IsInside};
+
+    ghost view = { puts_seen };
+
+    ghost invariant = { IsInside };
+}
+
+// Keeps rows that are cleared away for later ones, as far as there is memory.
+fn keep_all(rows: &mut Vec<Row>, spare: &mut Vec<Row>)
+    ensures { rows.new.items ≡ [] }
+{
+    while let Some(row) = rows.pop() {
+        let _ = spare.push(row);
+    }
+}
+
+impl Puts {
+    /// No puts.
+    pub fn new(alloc: Global) -> Self
+        ensures { result ≡ [] }
+    {
+        Puts {
+            lots: Vec::new(alloc),
+            rows: Vec::new(alloc),
+            count: 0,
+            spare: Vec::new(alloc),
+        }
+    }
+
+    /// Removes all puts. The memory of rows is kept for [`Puts::room`].
+    pub fn clear(&mut self)
+        ensures { self.new ≡ [] }
+    {
+        self.lots.clear();
+        if !self.rows.is_empty() {
+            keep_all(&mut self.rows, &mut self.spare);
+        }
+        self.count = 0;
+    }
+
+    /// How many puts there are. A row counts as many as it has values.
+    #[inline(always)]
+    pub fn len(&self) -> usize
+        ensures { result ≡ length self.now }
+    {
+        self.count
+    }
+
+    /// Appends one put.
+    #[inline(always)]
+    pub fn put(&mut self, put: Put) -> Result<(), AllocError>
+        ensures added { OnOk result (self.new ≡ self.old ++ put ∷ []) }
+        ensures memory { OnErr result (self.new ≡ self.old) }
+    {
+        let Some(count) = self.count.checked_add(1) else {
+            return Err(AllocError);
+        };
+        self.lots.push(Lot::one(put))?;
+        self.count = count;
+        Ok(())
+    }
+
+    /// Appends a row: these values for cells side by side, beginning with the cell `first`. Each sets its cell.
+    pub fn put_row(&mut self, array: u16, first: u32, values: Vec<i64>) -> Result<(), AllocError>
+        ensures added { OnOk result (self.new ≡ self.old ++ row_puts array first values.items) }
+        ensures memory { OnErr result (self.new ≡ self.old) }
+    {
+        let Some(count) = self.count.checked_add(values.len()) else {
+            return Err(AllocError);
+        };
+        self.rows.reserve(1)?;
+        self.lots.push(Lot::row(array, first))?;
+        self.rows.push_reserved(Row { values });
+        self.count = count;
+        Ok(())
+    }
+
+    /// An empty vector for the values of a row, with the memory of an earlier row if there is one.
+    pub fn room(&mut self, alloc: Global) -> Vec<i64>
+        ensures empty { result.items ≡ [] }
+        ensures same { self.new ≡ self.old }
+    {
+        match self.spare.pop() {
+            Some(Row { mut values }) => {
+                values.clear();
+                values
+            }
+            None => Vec::new(alloc),
+        }
+    }
+
+    /// Moves all puts of `others` to the end of these. Out of memory, both are as they were.
+    pub fn append(&mut self, others: &mut Puts) -> Result<(), AllocError>
+        ensures joined { OnOk result (self.new ≡ self.old ++ others.old) }
+        ensures moved { OnOk result (others.new ≡ []) }
+        ensures memory { OnErr result ((self.new ≡ self.old) × (others.new ≡ others.old)) }
+    {
+        let Some(count) = self.count.checked_add(others.count) else {
+            return Err(AllocError);
+        };
+        self.rows.reserve(others.rows.len())?;
+        self.lots.append(&mut others.lots)?;
+        match self.rows.append(&mut others.rows) {
+            Ok(()) => {}
+            Err(_) => unreachable!(),
+        }
+        self.count = count;
+        others.count = 0;
+        Ok(())
+    }
+
+    /// Whether each put is to a cell that is there.
+    pub fn are_in(&self, arrays: &Arrays) -> bool
+        ensures { result ≡ list_all (is_cell arrays.now) self.now }
+    {
+        are_all_in(arrays, &self.lots, &self.rows)
+    }
+
+    /// Lands the puts, one after another: each in turn sets its cell, or adds to what it holds. Or returns the place, from 0,
+    /// of the first put whose sum is outside of 64 signed bits, and changes nothing. A put to no cell is left out.
+    ///
+    /// Only if a put adds it takes memory: `olds` is working space for what cells held before, which a caller may keep for the
+    /// next landing. What it holds means nothing.
+    pub fn land(
+        &self,
+        arrays: &mut Arrays,
+        olds: &mut Vec<i64>,
+    ) -> Result<Option<usize>, AllocError>
+        ensures place { IfOk result (λ place. place ≡ over_in arrays.old [] 0 self.now) }
+        ensures lands { IfOk result (λ place. place ≡ None → arrays.new ≡ landed self.now arrays.old) }
+        ensures unlanded { IfOk result (λ place. IsSome place → arrays.new ≡ arrays.old) }
+        ensures memory { OnErr result (arrays.new ≡ arrays.old) }
+    {
+        if are_all_sets(&self.lots) {
+            write_lots(arrays, &self.lots, &self.rows);
+            return Ok(None);
+        }
+        land_adds(arrays, &self.lots, &self.rows, self.count, olds)
+    }
+}
