@@ -118,6 +118,14 @@ impl Puts {
         }
     }
 
+    /// Exchanges the memory that both keep for rows.
+    #[inline(always)]
+    pub fn swap_room(&mut self, other: &mut Puts)
+        ensures { (self.new ≡ self.old) × (other.new ≡ other.old) }
+    {
+        std::mem::swap(&mut self.spare, &mut other.spare);
+    }
+
     /// Moves all puts of `others` to the end of these. Out of memory, both are as they were.
     pub fn append(&mut self, others: &mut Puts) -> Result<(), AllocError>
         ensures joined { OnOk result (self.new ≡ self.old ++ others.old) }

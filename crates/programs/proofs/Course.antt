@@ -1,0 +1,382 @@
+-- One superstep, by what its live tasks did in their places.
+use Rattle.std.proofs.Common.{◌≡◌, ℕ, ◌+◌, ◌≤◌, ◌<◌, Bool, true, false, nat_lt, List, [], ◌∷◌, ◌++◌, map, length, Option, Some, None, refl, sym, ap, ◌∙◌, arith, append-nil}
+use Rattle.std.specs.Prelude.{ℤ, if◌then◌else◌}
+use Rattle.std.specs.Option.{option_map}
+use Rattle.std.proofs.lemmas.List.{length-map}
+use Rattle.superstep_memory.specs.declared.arrays.Put.{Put}
+use Rattle.superstep_memory.specs.Landing.{landed, joined, over_in}
+use Rattle.superstep_memory.specs.Logs.{located}
+use Rattle.superstep_memory.specs.Paths.{is_rising}
+use Rattle.superstep_memory.specs.PathOrder.{in_path_order}
+use Rattle.superstep_memory.proofs.Over.{at_log, first_located, over_inside, found_there}
+use Rattle.phase_records.specs.declared.record.PhaseRecord.{PhaseRecord}
+-- One superstep of a job on one thread.
+use Rattle.std.proofs.Common.{◌≡◌, ◌==◌, ℕ, suc, ◌+◌, ◌≤◌, ◌<◌, Bool, true, false, nat_le, List, [], ◌∷◌, ◌++◌, map, length, take, Option, Some, None, refl, sym, ap, ◌∙◌, subst, arith}
+use Rattle.std.specs.Prelude.{ℤ, IsSome, if◌then◌else◌}
+use Rattle.superstep_memory.specs.Landing.{landed, over_in}
+use Rattle.phase_records.specs.PrintValue.{PrintValue}
+use Rattle.phase_records.specs.Status.{Status, Fault, Ended, Limit}
+use Rattle.programs.specs.Meaning.{Segment, children, NumbersItsSpawns, StaysTheSameTask}
+use Rattle.programs.specs.Reads.{Reads}
+use Rattle.programs.specs.DeedValue.{DeedValue}
+use Rattle.programs.specs.Superstep.{State, superstep, closed, ended_by, segments, first_fault, too_many, overflow, fault_eight, or_next, next_live, log_of, prints_of, record_of, live_paths}
+use Rattle.programs.specs.Supersteps.{initial, so_far, status, status_of, told, report_of}
+use Rattle.programs.specs.InPlace.{AllDone, deeds_of, IsAllDone, Told, maker, told_at, living_with, left_in, spawned_in, told_in}
+use Rattle.programs.specs.Course.{course_state, HasFaulted, HasGone, HasTakenOne, left_by}
+use Rattle.programs.specs.declared.alone.Course.{Course}
+use Rattle.programs.proofs.InOrder.{put_all_mapped, count_in_order}
+use Rattle.programs.proofs.InPlace.{no_fault, maker_told, living_told, counted}
+use Rattle.programs.proofs.Runs.{goes, ended_is_last}
+use Rattle.programs.proofs.Apart.{live-paths-rise}
+
+take_front : (xs ys : List PrintValue) → take (length xs) (xs ++ ys) ≡ xs
+take_front [] ys = refl
+take_front (x ∷ xs) ys = ap (λ zs. x ∷ zs) (take_front xs ys)
+
+-- what was printed in the superstep goes
+pub cut_off : (n : ℕ) (xs all ys more : List PrintValue) → ys ≡ take n all → n ≡ length xs → all ≡ xs ++ more → ys ≡ xs
+cut_off n xs all ys more h e a = h ∙ (λ i. take (e i) (a i)) ∙ take_front xs more
+
+pub none_there : (n : ℕ) (b : Bool) → b ≡ (n == 0) → b ≡ true → n ≡ 0
+none_there n b h t = grind arith
+
+pub some_there : (n : ℕ) (b : Bool) → b ≡ (n == 0) → b ≡ false → 0 < n
+some_there n b h t = grind arith
+
+pub is_there : {A : Type 0} {o : Option A} {x : A} → o ≡ Some x → IsSome o
+is_there {o = None} h = cc
+is_there {o = Some y} h = refl
+
+module _ {S T : Type 0} (p : Reads S T) (law : (t : S) → p.says.path (p.meant t) ≡ p.path t) (numbers : NumbersItsSpawns p.says) (stays : StaysTheSameTask p.says) where
+  -- what the live tasks of a state do
+  abbrev pub deeds_at : State T → List (List ℕ × Segment T)
+  deeds_at st = segments p.says st.arrays st.step st.live
+
+  pub none_faults : (us : List S) (ds : List (DeedValue S)) (ss : List (List ℕ × Segment T)) → AllDone p us ds ss → first_fault ss ≡ None
+  none_faults us ds ss h = ap first_fault (sym (append-nil ss)) ∙ no_fault p us ds ss [] h
+
+  -- the next live tasks as they stand in memory
+  pub next_told : (us : List S) (ds : List (DeedValue S)) (ss : List (List ℕ × Segment T)) → AllDone p us ds ss
+      → map p.meant (in_path_order p.path (living_with us ds)) ≡ next_live p.says ss
+  next_told us ds ss h =
+      put_all_mapped p.path p.says.path p.meant law (living_with us ds) []
+      ∙ ap (in_path_order p.says.path) (living_told p us ds ss h)
+
+  pub next_count : (us : List S) (ds : List (DeedValue S)) (ss : List (List ℕ × Segment T)) → AllDone p us ds ss
+      → length (next_live p.says ss) ≡ length (living_with us ds)
+  next_count us ds ss h =
+      ap length (sym (next_told us ds ss h))
+      ∙ length-map (in_path_order p.path (living_with us ds)) p.meant
+      ∙ count_in_order p.path (living_with us ds)
+
+  -- a fault ends the job
+  pub by_fault_in : (st : State T) (f : ℕ × List ℕ) → first_fault (deeds_at st) ≡ Some f → superstep p.says st ≡ ended_by st f
+  by_fault_in st f h =
+      ap (λ o. closed p.says st (deeds_at st) (or_next o (or_next (too_many p.says.most (next_live p.says (deeds_at st))) (overflow st.arrays (deeds_at st))))) h
+
+  pub not_many : (ts : List T) → nat_lt p.says.most (length ts) ≡ false → too_many p.says.most ts ≡ None
+  not_many ts b = ap (λ (t : Bool). if t then Some (7, []) else None) b
+
+  pub are_many : (ts : List T) → nat_lt p.says.most (length ts) ≡ true → too_many p.says.most ts ≡ Some (7, [])
+  are_many ts b = ap (λ (t : Bool). if t then Some (7, []) else None) b
+
+  -- the faults that a superstep is looked through for
+  pub many_told : (st : State T) (us : List S) (ds : List (DeedValue S)) → AllDone p us ds (deeds_at st) → p.says.most < length (living_with us ds)
+      → too_many p.says.most (next_live p.says (deeds_at st)) ≡ Some (7, [])
+  many_told st us ds h lt =
+      let l = next_count us ds (deeds_at st) h in
+      let b : nat_lt p.says.most (length (next_live p.says (deeds_at st))) ≡ true = grind arith in
+      are_many (next_live p.says (deeds_at st)) b
+
+  pub few_told : (st : State T) (us : List S) (ds : List (DeedValue S)) → AllDone p us ds (deeds_at st) → length (living_with us ds) ≤ p.says.most
+      → too_many p.says.most (next_live p.says (deeds_at st)) ≡ None
+  few_told st us ds h le =
+      let l = next_count us ds (deeds_at st) h in
+      let b : nat_lt p.says.most (length (next_live p.says (deeds_at st))) ≡ false = grind arith in
+      not_many (next_live p.says (deeds_at st)) b
+
+  -- too many tasks end it
+  pub by_many_in : (st : State T) (us : List S) (ds : List (DeedValue S)) → AllDone p us ds (deeds_at st) → p.says.most < length (living_with us ds)
+      → superstep p.says st ≡ ended_by st (7, [])
+  by_many_in st us ds h lt =
+      λ i. closed p.says st (deeds_at st)
+      (or_next (none_faults us ds (deeds_at st) h i) (or_next (many_told st us ds h lt i) (overflow st.arrays (deeds_at st))))
+
+  -- what the log tells is what the segments tell
+  pub over_told : (st : State T) (puts : List Put) → puts ≡ joined (map log_of (deeds_at st)) → (o : Option ℕ) → o ≡ over_in st.arrays [] 0 puts
+      → overflow st.arrays (deeds_at st) ≡ option_map fault_eight (at_log (map log_of (deeds_at st)) o)
+  over_told st puts log o e =
+      let logs = map log_of (deeds_at st) in
+      ap (option_map fault_eight)
+      (first_located st.arrays logs ∙ ap (λ (qs : List Put). at_log logs (over_in st.arrays [] 0 qs)) (sym log) ∙ ap (at_log logs) (sym e))
+
+  -- a fault of a put that overflows ends it
+  pub record IsOver (st : State T) (fault : Option (ℕ × List ℕ)) : Type 0 where
+    pub blame : ℕ × List ℕ
+    pub is : fault ≡ Some blame
+    pub over : overflow st.arrays (deeds_at st) ≡ Some blame
+    pub ends : superstep p.says st ≡ ended_by st blame
+
+  -- the first put that overflows ends it
+  pub by_over_in : (st : State T) (puts : List Put) (us : List S) (ds : List (DeedValue S)) (place : ℕ) (fault : Option (ℕ × List ℕ))
+      → AllDone p us ds (deeds_at st) → puts ≡ joined (map log_of (deeds_at st)) → length (living_with us ds) ≤ p.says.most
+      → Some place ≡ over_in st.arrays [] 0 puts → fault ≡ option_map told_at (maker p.path us ds place)
+      → IsOver st fault
+  by_over_in st puts us ds place fault h log le over made = by fault (made ∙ sym (maker_told p us ds ss h place)) (sym told)
+    where
+      ss : List (List ℕ × Segment T)
+      ss = deeds_at st
+
+      told : overflow st.arrays ss ≡ option_map fault_eight (located (map log_of ss) place)
+      told = over_told st puts log (Some place) over
+
+      inside : place < length (joined (map log_of ss))
+      inside = let m = over_inside st.arrays [] 0 place puts (sym over) in let l = ap length log in omega (arith, m.1, l)
+
+      not_none : (o : Option (List ℕ × ℕ)) → None ≡ option_map fault_eight o → o ≡ None
+      not_none None e = refl
+      not_none (Some x) e = cc
+
+      by : (o : Option (ℕ × List ℕ)) → o ≡ option_map fault_eight (located (map log_of ss) place) → option_map fault_eight (located (map log_of ss) place) ≡ overflow st.arrays ss
+          → IsOver st o
+      by None e t = absurd (found_there (map log_of ss) place inside (not_none (located (map log_of ss) place) e))
+      by (Some f) e t = record {
+        blame = f;
+        is = refl;
+        over = sym (e ∙ t);
+        ends = λ i. closed p.says st ss (or_next (none_faults us ds ss h i) (or_next (few_told st us ds h le i) (sym (e ∙ t) i)));
+      }
+
+  -- the record that was made is that of the segments
+  pub record_told : (st : State T) (us : List S) (ds : List (DeedValue S)) → AllDone p us ds (deeds_at st)
+      → told_in st.step ds ≡ record_of st.step (deeds_at st)
+  record_told st us ds h =
+      let k = counted p us ds (deeds_at st) h in
+      λ i. record { phase = st.step; parties = k.deeds i + k.born i; left = k.stopped i; spawned = k.born i }
+
+  -- no put overflows
+  pub none_over : (st : State T) (puts : List Put) → puts ≡ joined (map log_of (deeds_at st)) → None ≡ over_in st.arrays [] 0 puts
+      → overflow st.arrays (deeds_at st) ≡ None
+  none_over st puts log over = over_told st puts log None over
+
+  -- or it goes on
+  pub by_landing_in : (st : State T) (puts : List Put) (us : List S) (ds : List (DeedValue S)) (told : PhaseRecord)
+      → AllDone p us ds (deeds_at st) → puts ≡ joined (map log_of (deeds_at st)) → length (living_with us ds) ≤ p.says.most
+      → told ≡ told_in st.step ds → None ≡ over_in st.arrays [] 0 puts
+      → superstep p.says st ≡ record {
+        step = st.step + 1;
+        arrays = landed puts st.arrays;
+        live = map p.meant (in_path_order p.path (living_with us ds));
+        prints = st.prints ++ prints_of st.step (deeds_at st);
+        records = st.records ++ told ∷ [];
+        fault = None;
+      }
+  by_landing_in st puts us ds told h log le et over =
+      let ss = deeds_at st in
+      (λ i. closed p.says st ss (or_next (none_faults us ds ss h i) (or_next (few_told st us ds h le i) (none_over st puts log over i))))
+      ∙ (λ i. record {
+        step = st.step + 1;
+        arrays = landed (sym log i) st.arrays;
+        live = sym (next_told us ds ss h) i;
+        prints = st.prints ++ prints_of st.step ss;
+        records = st.records ++ sym (et ∙ record_told st us ds h) i ∷ [];
+        fault = None;
+      })
+
+  -- tasks keep their paths
+  paths_kept : (arrays : List (List ℕ × List ℤ)) (step : ℕ) (live : List T) (us : List S) (ds : List (DeedValue S)) → AllDone p us ds (segments p.says arrays step live)
+      → map p.path us ≡ map p.says.path live
+  paths_kept arrays step [] [] ds h = refl
+  paths_kept arrays step [] (u ∷ us) [] h = absurd h
+  paths_kept arrays step [] (u ∷ us) (d ∷ ds) h = absurd h
+  paths_kept arrays step (t ∷ live) [] [] h = absurd h
+  paths_kept arrays step (t ∷ live) [] (d ∷ ds) h = absurd h
+  paths_kept arrays step (t ∷ live) (u ∷ us) [] h = absurd h
+  paths_kept arrays step (t ∷ live) (u ∷ us) (d ∷ ds) h = λ i. h.0 i ∷ paths_kept arrays step live us ds h.2 i
+
+  -- the numbers fit
+  pub record Fits (us : List S) (ds : List (DeedValue S)) : Type 0 where
+    pub few : length ds ≤ p.says.most
+    pub same : length us ≡ length ds
+    pub living : length (living_with us ds) + left_in ds ≡ length ds + spawned_in ds
+    pub rising : is_rising (map p.path us) ≡ true
+
+  pub fits_in : (st : State T) (us : List S) (ds : List (DeedValue S)) → AllDone p us ds (deeds_at st)
+      → length st.live ≤ p.says.most → is_rising (live_paths p.says st) ≡ true → Fits us ds
+  fits_in st us ds h le r =
+      let k = counted p us ds (deeds_at st) h in
+      let e = paths_kept st.arrays st.step st.live us ds h in
+      let l : length us ≡ length st.live = sym (length-map us p.path) ∙ ap length e ∙ length-map st.live p.says.path in
+      let s = k.tasks in
+      record {
+        few = omega (arith, l, s, le);
+        same = k.tasks;
+        living = k.living;
+        rising = ap is_rising e ∙ r;
+      }
+
+  -- who lives on and who left are those that the record counts
+  pub tallied_in : (step : ℕ) (us : List S) (ds : List (DeedValue S)) (told : PhaseRecord) → Fits us ds → told ≡ told_in step ds
+      → length (living_with us ds) + told.left ≡ told.parties
+  tallied_in step us ds told f e =
+      ap (λ (n : ℕ). length (living_with us ds) + n) (ap (λ (r : PhaseRecord). r.left) e) ∙ f.living ∙ sym (ap (λ (r : PhaseRecord). r.parties) e)
+
+  -- paths as they are read
+  paths_read : (ts : List S) → map p.path ts ≡ map p.says.path (map p.meant ts)
+  paths_read [] = refl
+  paths_read (t ∷ ts) = λ i. sym (law t) i ∷ paths_read ts i
+
+  -- deeds are the segments of what the tasks mean
+  pub deeds_told : (arrays : List (List ℕ × List ℤ)) (step : ℕ) (ts : List S) → deeds_of p arrays step ts ≡ segments p.says arrays step (map p.meant ts)
+  deeds_told arrays step [] = refl
+  deeds_told arrays step (t ∷ ts) = λ i. (sym (law t) i, p.says.segment (p.meant t) arrays step) ∷ deeds_told arrays step ts i
+
+  -- what these tasks do
+  abbrev pub deeds_in : Course S → List (List ℕ × Segment T)
+  deeds_in c = segments p.says c.arrays c.step (map p.meant c.tasks.items)
+
+  -- a fault ends the job
+  pub by_fault : (c : Course S) (f : ℕ × List ℕ) → first_fault (deeds_in c) ≡ Some f → superstep p.says (course_state p c) ≡ ended_by (course_state p c) f
+  by_fault c f h = by_fault_in (course_state p c) f h
+
+  -- too many tasks end it
+  pub by_many : (c : Course S) (us : List S) (ds : List (DeedValue S)) → AllDone p us ds (deeds_in c) → p.says.most < length (living_with us ds)
+      → superstep p.says (course_state p c) ≡ ended_by (course_state p c) (7, [])
+  by_many c us ds h lt = by_many_in (course_state p c) us ds h lt
+
+  -- the first put that overflows ends it
+  pub by_over : (old new : Course S) (puts : List Put) (us : List S) (ds : List (DeedValue S)) (after : List PrintValue) (place : ℕ) (fault : Option (ℕ × List ℕ))
+      → IsAllDone p (deeds_in old) old.step puts us ds old.prints.items after → length (living_with us ds) ≤ p.says.most
+      → Some place ≡ over_in old.arrays [] 0 puts → fault ≡ option_map told_at (maker p.path us ds place)
+      → new.step ≡ old.step → new.arrays ≡ old.arrays → new.prints.items ≡ old.prints.items → new.records.items ≡ old.records.items
+      → HasTakenOne p fault old new
+  by_over old new puts us ds after place fault h le over made es ea ep er =
+      let o = by_over_in (course_state p old) puts us ds place fault h.done h.log le over made in
+      subst (λ (x : Option (ℕ × List ℕ)). HasTakenOne p x old new) (sym o.is)
+      (record { fault = o.ends; step = es; arrays = ea; prints = ep; records = er })
+
+  -- or it goes on
+  pub by_landing : (old new : Course S) (puts : List Put) (us : List S) (ds : List (DeedValue S)) (after : List PrintValue) (told : PhaseRecord)
+      → IsAllDone p (deeds_in old) old.step puts us ds old.prints.items after → length (living_with us ds) ≤ p.says.most
+      → told ≡ told_in old.step ds
+      → None ≡ over_in old.arrays [] 0 puts
+      → new.step ≡ old.step + 1 → new.arrays ≡ landed puts old.arrays → new.tasks.items ≡ in_path_order p.path (living_with us ds)
+      → new.prints.items ≡ after → new.records.items ≡ old.records.items ++ told ∷ [] → HasGone p old new
+  by_landing old new puts us ds after told h le et over es ea ek ep er =
+      record {
+        state =
+            (λ i. record {
+              step = es i;
+              arrays = ea i;
+              live = map p.meant (ek i);
+              prints = (ep ∙ h.shown) i;
+              records = er i;
+              fault = None;
+            })
+            ∙ sym (by_landing_in (course_state p old) puts us ds told h.done h.log le et over);
+        step = es;
+        few = let c = ap length ek ∙ count_in_order p.path (living_with us ds) in omega (arith, c, le);
+      }
+
+  -- where no fault was told all tasks did their segments
+  pub did : (old : Course S) (o : Option (ℕ × List ℕ)) (puts : List Put) (us : List S) (ds : List (DeedValue S)) (after : List PrintValue)
+      → Told p (deeds_of p old.arrays old.step old.tasks.items) old.step o puts us ds old.prints.items after → o ≡ None
+      → IsAllDone p (deeds_in old) old.step puts us ds old.prints.items after
+  did old o puts us ds after h e =
+      subst (λ x. Told p (deeds_in old) old.step x puts us ds old.prints.items after) e
+      (subst (λ ss. Told p ss old.step o puts us ds old.prints.items after) (deeds_told old.arrays old.step old.tasks.items) h)
+
+  -- where one was told it is the first, and what was printed before stays in front
+  pub faulted : (old : Course S) (o : Option (ℕ × List ℕ)) (f : ℕ × List ℕ) (puts : List Put) (us : List S) (ds : List (DeedValue S)) (after : List PrintValue)
+      → Told p (deeds_of p old.arrays old.step old.tasks.items) old.step o puts us ds old.prints.items after → o ≡ Some f
+      → (first_fault (deeds_in old) ≡ Some f) × ((more : List PrintValue) × (after ≡ old.prints.items ++ more))
+  faulted old o f puts us ds after h e =
+      subst (λ x. Told p (deeds_in old) old.step x puts us ds old.prints.items after) e
+      (subst (λ ss. Told p ss old.step o puts us ds old.prints.items after) (deeds_told old.arrays old.step old.tasks.items) h)
+
+  pub fits : (old : Course S) (us : List S) (ds : List (DeedValue S)) → AllDone p us ds (deeds_in old)
+      → length old.tasks.items ≤ p.says.most → is_rising (map p.path old.tasks.items) ≡ true → Fits us ds
+  fits old us ds h le r =
+      let l = length-map old.tasks.items p.meant in
+      fits_in (course_state p old) us ds h (omega (arith, l, le)) (ap is_rising (sym (paths_read old.tasks.items)) ∙ r)
+
+  -- who lives on and who left are those that the record counts
+  pub tallied : (old : Course S) (us : List S) (ds : List (DeedValue S)) (told : PhaseRecord) → Fits us ds → told ≡ told_in old.step ds
+      → length (living_with us ds) + told.left ≡ told.parties
+  tallied old us ds told f e = tallied_in old.step us ds told f e
+
+  -- ---- supersteps one after another
+
+  -- the job ends in the state in which this is told
+  ended_at : (arrays : List (List ℕ × List ℤ)) (tasks : List T) (limit n : ℕ) (st : State T) (s : Status) → st ≡ so_far p.says arrays tasks limit n → status limit st ≡ Some s → report_of p.says arrays tasks limit ≡ told st (Some s)
+  ended_at arrays tasks limit n st s e h =
+      let last : so_far p.says arrays tasks limit n ≡ so_far p.says arrays tasks limit limit = ended_is_last p.says arrays tasks limit n s (ap (status limit) (sym e) ∙ h) in
+      ap (λ (x : State T). told x (status limit x)) (sym (e ∙ last)) ∙ ap (told st) h
+
+  pub at_end : (arrays : List (List ℕ × List ℤ)) (tasks : List T) (limit n : ℕ) (c : Course S) (s : Status) → course_state p c ≡ so_far p.says arrays tasks limit n → status limit (course_state p c) ≡ Some s
+      → report_of p.says arrays tasks limit ≡ Some (left_by c s)
+  at_end arrays tasks limit n c s e h = ended_at arrays tasks limit n (course_state p c) s e h
+
+  pub is_running : (arrays : List (List ℕ × List ℤ)) (tasks : List T) (limit : ℕ) (c : Course S) → 0 < length c.tasks.items → c.step < limit → status limit (course_state p c) ≡ None
+  is_running arrays tasks limit c some lt = by c.tasks.items some
+    where
+      late : (b : Bool) → b ≡ false → (if b then Some (Limit c.step) else None) ≡ None
+      late true h = cc
+      late false h = refl
+
+      by : (ts : List S) → 0 < length ts → status_of limit c.step None (map p.meant ts) ≡ None
+      by [] h = absurd (omega arith)
+      by (t ∷ ts) h = let b : nat_le limit c.step ≡ false = grind arith in late (nat_le limit c.step) b
+
+  pub is_over : (arrays : List (List ℕ × List ℤ)) (tasks : List T) (limit : ℕ) (c : Course S) → length c.tasks.items ≡ 0 → status limit (course_state p c) ≡ Some (Ended c.step)
+  is_over arrays tasks limit c none = by c.tasks.items none
+    where
+      by : (ts : List S) → length ts ≡ 0 → status_of limit c.step None (map p.meant ts) ≡ Some (Ended c.step)
+      by [] h = refl
+      by (t ∷ ts) h = absurd (omega arith)
+
+  pub is_late : (arrays : List (List ℕ × List ℤ)) (tasks : List T) (limit : ℕ) (c : Course S) → 0 < length c.tasks.items → limit ≤ c.step → status limit (course_state p c) ≡ Some (Limit c.step)
+  is_late arrays tasks limit c some le = by c.tasks.items some
+    where
+      late : (b : Bool) → b ≡ true → (if b then Some (Limit c.step) else None) ≡ Some (Limit c.step)
+      late true h = refl
+      late false h = cc
+
+      by : (ts : List S) → 0 < length ts → status_of limit c.step None (map p.meant ts) ≡ Some (Limit c.step)
+      by [] h = absurd (omega arith)
+      by (t ∷ ts) h = let b : nat_le limit c.step ≡ true = grind arith in late (nat_le limit c.step) b
+
+  abbrev pub Reached : List (List ℕ × List ℤ) → List T → ℕ → State T → Type 0
+  Reached arrays tasks limit st = (n : ℕ) × (st ≡ so_far p.says arrays tasks limit n)
+
+  -- one superstep more
+  pub reached_more : (arrays : List (List ℕ × List ℤ)) (tasks : List T) (limit : ℕ) (st next : State T) → Reached arrays tasks limit st → status limit st ≡ None → next ≡ superstep p.says st → Reached arrays tasks limit next
+  reached_more arrays tasks limit st next r run e = (
+    suc r.0,
+    e ∙ ap (superstep p.says) r.1
+        ∙ sym (goes p.says arrays tasks (status limit (so_far p.says arrays tasks limit r.0)) (so_far p.says arrays tasks limit r.0) (superstep p.says (so_far p.says arrays tasks limit r.0)) (ap (status limit) (sym r.1) ∙ run)),
+  )
+
+  -- a fault ends the job, and what came before it is left
+  pub at_fault : (arrays : List (List ℕ × List ℤ)) (tasks : List T) (limit : ℕ) (old new : Course S) (f : ℕ × List ℕ) → Reached arrays tasks limit (course_state p old) → status limit (course_state p old) ≡ None
+      → HasFaulted p f old new → report_of p.says arrays tasks limit ≡ Some (left_by new (Fault f.0 new.step f.1))
+  at_fault arrays tasks limit old new f r run h =
+      let st = course_state p old in
+      let more = reached_more arrays tasks limit st (ended_by st f) r run (sym h.fault) in
+      ended_at arrays tasks limit more.0 (ended_by st f) (Fault f.0 st.step f.1) more.1 refl
+      ∙ sym (λ i. Some (record { prints = h.prints i; records = h.records i; arrays = h.arrays i; status = Fault f.0 (h.step i) f.1 }))
+
+  -- live paths rise
+  pub rises : (arrays : List (List ℕ × List ℤ)) (tasks : List T) (limit : ℕ) (c : Course S) → map p.says.path tasks ≡ children [] 0 (length tasks)
+      → Reached arrays tasks limit (course_state p c) → is_rising (map p.path c.tasks.items) ≡ true
+  rises arrays tasks limit c begin r =
+      ap is_rising (paths_read c.tasks.items)
+      ∙ ap (λ (x : State T). is_rising (live_paths p.says x)) r.1 ∙ live-paths-rise p.says numbers stays arrays tasks limit r.0 begin
+
+  -- the paths of the tasks that a run begins with
+  pub starts_told : (ts : List S) → map p.path ts ≡ children [] 0 (length ts) → map p.says.path (map p.meant ts) ≡ children [] 0 (length (map p.meant ts))
+  starts_told ts h = sym (paths_read ts) ∙ h ∙ ap (children [] 0) (sym (length-map ts p.meant))
+
+  -- as it begins
+  pub begins : (c : Course S) → c.step ≡ 0 → c.prints.items ≡ [] → c.records.items ≡ [] → course_state p c ≡ initial c.arrays (map p.meant c.tasks.items)
+  begins c es ep er = λ i. record { step = es i; arrays = c.arrays; live = map p.meant c.tasks.items; prints = ep i; records = er i; fault = None }

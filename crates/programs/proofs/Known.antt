@@ -1,0 +1,38 @@
+-- One superstep, by what its tasks left.
+use Rattle.std.proofs.Common.{◌≡◌, ℕ, true, List, [], ◌∷◌, map, Option, refl, ap, ◌∙◌}
+use Rattle.std.specs.Prelude.{ℤ}
+use Rattle.superstep_memory.specs.declared.arrays.Put.{Put}
+use Rattle.superstep_memory.specs.Paths.{is_rising}
+use Rattle.phase_records.specs.PrintValue.{PrintValue}
+use Rattle.programs.specs.Meaning.{Segment, Frame, NumbersItsSpawns, StaysTheSameTask}
+use Rattle.programs.specs.Reads.{reads}
+use Rattle.programs.specs.DeedValue.{DeedValue}
+use Rattle.programs.specs.InPlace.{Told, deeds_of}
+use Rattle.programs.specs.History.{says_in}
+use Rattle.programs.specs.Done.{HasDoneAll}
+use Rattle.programs.specs.declared.alone.Course.{Course}
+use Rattle.programs.proofs.History.{all_formed, numbers_in, stays_in, entries_rise, agrees}
+
+module _ {S T : Type 0} (f : Frame T) (may : T → List (List ℕ × List ℤ) → ℕ → Segment T → Type 0) (most : ℕ) (meant : S → T) (path : S → List ℕ) (law : (t : S) → f.path (meant t) ≡ path t) where
+  paths_read : (ts : List S) → map f.path (map meant ts) ≡ map path ts
+  paths_read [] = refl
+  paths_read (t ∷ ts) = λ i. law t i ∷ paths_read ts i
+
+  -- what is known of a superstep
+  pub record IsKnown (old : Course S) (fault : Option (ℕ × List ℕ)) (puts : List Put) (us : List S) (ds : List (DeedValue S)) (after : List PrintValue)
+      (h : HasDoneAll f may meant path old.arrays old.step fault puts old.tasks.items us ds old.prints.items after) : Type 0 where
+    pub numbers : NumbersItsSpawns (says_in f most h.entries)
+    pub stays : StaysTheSameTask (says_in f most h.entries)
+    pub told : Told (reads (says_in f most h.entries) meant path) (deeds_of (reads (says_in f most h.entries) meant path) old.arrays old.step old.tasks.items) old.step fault puts us ds old.prints.items after
+
+  pub known : (old : Course S) (fault : Option (ℕ × List ℕ)) (puts : List Put) (us : List S) (ds : List (DeedValue S)) (after : List PrintValue)
+      (h : HasDoneAll f may meant path old.arrays old.step fault puts old.tasks.items us ds old.prints.items after) → is_rising (map path old.tasks.items) ≡ true
+      → IsKnown old fault puts us ds after h
+  known old fault puts us ds after h r =
+      let formed = all_formed f may old.arrays old.step h.entries h.allowed in
+      let rise = entries_rise f (map meant old.tasks.items) h.entries h.tasks (ap is_rising (paths_read old.tasks.items) ∙ r) in
+      record {
+        numbers = numbers_in f most h.entries formed;
+        stays = stays_in f most h.entries formed;
+        told = h.told (says_in f most h.entries) (agrees f most old.arrays old.step h.entries rise);
+      }

@@ -1,0 +1,11 @@
+pub mod InPlace
+pub mod Listed
+pub mod InOrder
+pub mod Runs
+pub mod Apart
+pub mod Course
+pub mod History
+pub mod Ranged
+pub mod Histories
+pub mod Known
+pub mod Reached

@@ -1,0 +1,49 @@
+-- A run between two supersteps, as one thread keeps it.
+use Rattle.std.specs.Prelude.{◌≡◌, ℕ, ◌+◌, ◌≤◌, ℤ, List, map, length, Option, Some, None}
+use Rattle.phase_records.specs.ReportValue.{ReportValue}
+use Rattle.phase_records.specs.Status.{Status}
+use Rattle.programs.specs.declared.alone.Course.{Course}
+use Rattle.programs.specs.Meaning.{Segment, Frame}
+use Rattle.programs.specs.Reads.{Reads, reads}
+use Rattle.programs.specs.History.{Entry, IsEntered, says_in}
+use Rattle.programs.specs.Superstep.{State, superstep, ended_by}
+
+module _ {S T : Type 0} where
+  abbrev pub course_state : Reads S T → Course S → State T
+  course_state p c = record {
+    step = c.step;
+    arrays = c.arrays;
+    live = map p.meant c.tasks.items;
+    prints = c.prints.items;
+    records = c.records.items;
+    fault = None;
+  }
+
+  -- where a fault ended the run its tasks mean nothing
+  pub record HasFaulted (p : Reads S T) (f : ℕ × List ℕ) (old new : Course S) : Type 0 where
+    pub fault : superstep p.says (course_state p old) ≡ ended_by (course_state p old) f
+    pub step : new.step ≡ old.step
+    pub arrays : new.arrays ≡ old.arrays
+    pub prints : new.prints.items ≡ old.prints.items
+    pub records : new.records.items ≡ old.records.items
+
+  pub record HasGone (p : Reads S T) (old new : Course S) : Type 0 where
+    pub state : course_state p new ≡ superstep p.says (course_state p old)
+    pub step : new.step ≡ old.step + 1
+    pub few : length new.tasks.items ≤ p.says.most
+
+  -- one superstep was taken, or a fault ended the run in it
+  abbrev pub HasTakenOne : Reads S T → Option (ℕ × List ℕ) → Course S → Course S → Type 0
+  HasTakenOne p None old new = HasGone p old new
+  HasTakenOne p (Some f) old new = HasFaulted p f old new
+
+  -- one superstep was taken, or a fault ended the run in it, by what the live tasks left
+  pub record HasTaken (f : Frame T) (may : T → List (List ℕ × List ℤ) → ℕ → Segment T → Type 0) (most : ℕ) (meant : S → T) (path : S → List ℕ) (fault : Option (ℕ × List ℕ)) (old new : Course S) : Type 0 where
+    pub entries : List (Entry T)
+    pub entered : IsEntered f may (course_state (reads (says_in f most entries) meant path) old) entries
+    pub taken : HasTakenOne (reads (says_in f most entries) meant path) fault old new
+
+module _ {S : Type 0} where
+  -- what a run leaves that ended so
+  abbrev pub left_by : Course S → Status → ReportValue
+  left_by c s = record { prints = c.prints.items; records = c.records.items; arrays = c.arrays; status = s }

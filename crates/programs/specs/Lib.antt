@@ -1,0 +1,11 @@
+pub mod Meaning
+pub mod Lent
+pub mod Reads
+pub mod DeedValue
+pub mod Superstep
+pub mod Supersteps
+pub mod InPlace
+pub mod DeedsView
+pub mod Course
+pub mod History
+pub mod Done

@@ -1,0 +1,271 @@
+//! A program on one thread: its tasks are in one list, in path order, and are changed in place.
+ghost use Rattle.std.specs.Prelude.{◌≡◌, ◌≤◌, ◌+◌, ◌++◌, ◌∷◌, ◌^◌, ◌<◌, [], ◌↔◌, true, Some, IsTrue, IfOk, OnOk, map, length};
+ghost use Rattle.superstep_memory.specs.Paths.{is_rising};
+ghost use Rattle.phase_records.specs.Status.{IsShort};
+ghost use Rattle.phase_records.specs.StatusSeen.{status_seen};
+ghost use Rattle.superstep_memory.specs.PathOrder.{in_path_order};
+ghost use Rattle.programs.specs.InPlace.{living_with, left_in, spawned_in};
+ghost use Rattle.programs.specs.History.{HasRun};
+ghost use Rattle.programs.specs.Meaning.{children};
+ghost use Rattle.programs.specs.Course.{HasTaken, left_by};
+
+use crate::blame::{Blame, too_many};
+use crate::deeds::Deeds;
+use crate::in_place::{StepScene, do_all};
+use crate::program::{OnPath, Program};
+use crate::work::Work;
+use phase_records::{JobStatus, PhaseRecord, Print, Report};
+use std::alloc::{AllocError, Global};
+use superstep_memory::arrays::Arrays;
+use superstep_memory::puts::Puts;
+
+// A run between two supersteps, its live tasks in path order.
+#[derive(Drop)]
+struct Course<T> {
+    step: u32,
+    arrays: Arrays,
+    tasks: Vec<T>,
+    prints: Vec<Print>,
+    records: Vec<PhaseRecord>,
+}
+
+// Room for a superstep, kept from one to the next. What it holds between two means nothing.
+#[derive(Drop)]
+struct Room<T> {
+    work: Work<T>,
+    deeds: Deeds<T>,
+    living: Vec<T>,
+    olds: Vec<i64>,
+}
+
+// No room yet.
+fn no_room<T: OnPath>(alloc: Global) -> Room<T> {
+    Room {
+        work: Work {
+            puts: Puts::new(alloc),
+            own: Puts::new(alloc),
+            prints: Vec::new(alloc),
+            spawns: Vec::new(alloc),
+        },
+        deeds: Deeds::new(alloc),
+        living: Vec::new(alloc),
+        olds: Vec::new(alloc),
+    }
+}
+
+// Whether the same tasks live on.
+fn all_stay(told: PhaseRecord) -> bool
+    ensures { IsTrue result ↔ ((told.left ≡ 0) × (told.spawned ≡ 0)) }
+{
+    told.left == 0 && told.spawned == 0
+}
+
+// The tasks that live on in place of these. Only where tasks came or left they are moved.
+fn renew<T: OnPath>(
+    tasks: &mut Vec<T>,
+    deeds: &mut Deeds<T>,
+    living: &mut Vec<T>,
+    told: PhaseRecord,
+) -> Result<(), AllocError>
+    requires same { length tasks.old.items ≡ length deeds.old }
+    requires left { told.left ≡ left_in deeds.old }
+    requires spawned { told.spawned ≡ spawned_in deeds.old }
+    requires count { length (living_with tasks.old.items deeds.old) + told.left ≡ told.parties }
+    requires rising { is_rising (map T.path_of tasks.old.items) ≡ true }
+    ensures { OnOk result (tasks.new.items ≡ in_path_order T.path_of (living_with tasks.old.items deeds.old)) }
+{
+    if all_stay(told) {
+        return Ok(());
+    }
+    let count = (told.parties - told.left) as usize;
+    deeds.regroup(tasks, living, count)
+}
+
+// Records what the tasks did, whose log has landed, and goes on to the next live tasks.
+fn go_on<T: OnPath>(
+    course: &mut Course<T>,
+    room: &mut Room<T>,
+    told: PhaseRecord,
+) -> Result<(), AllocError>
+    requires same { length course.old.tasks.items ≡ length room.old.deeds }
+    requires left { told.left ≡ left_in room.old.deeds }
+    requires spawned { told.spawned ≡ spawned_in room.old.deeds }
+    requires count { length (living_with course.old.tasks.items room.old.deeds) + told.left ≡ told.parties }
+    requires rising { is_rising (map T.path_of course.old.tasks.items) ≡ true }
+    requires below { course.old.step + 1 < 2 ^ 32 }
+    ensures step { OnOk result (course.new.step ≡ course.old.step + 1) }
+    ensures arrays { OnOk result (course.new.arrays ≡ course.old.arrays) }
+    ensures tasks { OnOk result (course.new.tasks.items
+        ≡ in_path_order T.path_of (living_with course.old.tasks.items room.old.deeds)) }
+    ensures prints { OnOk result (course.new.prints.items ≡ course.old.prints.items) }
+    ensures records { OnOk result (course.new.records.items ≡ course.old.records.items ++ told ∷ []) }
+{
+    course.records.push(told)?;
+    renew(&mut course.tasks, &mut room.deeds, &mut room.living, told)?;
+    course.step += 1;
+    Ok(())
+}
+
+// Takes one superstep, or returns the fault that ends the run in it. At most so many tasks may live on.
+fn take_superstep<P: Program>(
+    alloc: Global,
+    program: &P,
+    most: u32,
+    course: &mut Course<P::Task>,
+    room: &mut Room<P::Task>,
+) -> Result<Option<Blame>, AllocError>
+    requires ready { P.ready program.now }
+    requires most { most < 2 ^ 31 }
+    requires few { length course.old.tasks.items ≤ most }
+    requires rising { is_rising (map P.Task.path_of course.old.tasks.items) ≡ true }
+    requires below { course.old.step + 1 < 2 ^ 32 }
+    ensures { IfOk result (λ fault. let p = program.now in
+        HasTaken (P.frame p) (P.may p) most (P.meant p) P.Task.path_of fault course.old course.new) }
+{
+    let printed = course.prints.len();
+    room.work.puts.clear();
+    room.deeds.clear();
+    let scene = StepScene {
+        program,
+        arrays: &course.arrays,
+        step: course.step,
+    };
+    let fault = do_all(
+        alloc,
+        &scene,
+        &mut course.tasks,
+        &mut room.work,
+        &mut room.deeds,
+        &mut course.prints,
+    )?;
+    match fault {
+        Some(blame) => {
+            course.prints.truncate(printed);
+            Ok(Some(blame))
+        }
+        None => {
+            if !room.deeds.are_few(most) {
+                course.prints.truncate(printed);
+                return Ok(Some(too_many(alloc)));
+            }
+            let told = room.deeds.record(course.step);
+            let over = room.work.puts.land(&mut course.arrays, &mut room.olds)?;
+            match over {
+                Some(place) => {
+                    course.prints.truncate(printed);
+                    Ok(room.deeds.blame_at(&course.tasks, place))
+                }
+                None => {
+                    go_on(course, room, told)?;
+                    Ok(None)
+                }
+            }
+        }
+    }
+}
+
+// Takes supersteps until the run ends, and returns how it ended. The room is working space.
+fn run_within<P: Program>(
+    alloc: Global,
+    program: &P,
+    most: u32,
+    limit: u32,
+    course: &mut Course<P::Task>,
+    room: &mut Room<P::Task>,
+) -> Result<JobStatus, AllocError>
+    requires ready { P.ready program.now }
+    requires most { most < 2 ^ 31 }
+    requires start { course.old.step ≡ 0 }
+    requires none { (course.old.prints.items ≡ []) × (course.old.records.items ≡ []) }
+    requires paths { map P.Task.path_of course.old.tasks.items ≡ children [] 0 (length course.old.tasks.items) }
+    requires few { length course.old.tasks.items ≤ most }
+    ensures report { IfOk result (λ s. let p = program.now in
+        HasRun (P.frame p) (P.may p) most course.old.arrays (map (P.meant p) course.old.tasks.items) limit (left_by course.new (status_seen s))) }
+    ensures short { IfOk result (λ s. IsShort (status_seen s)) }
+{
+    while course.step < limit {
+        if course.tasks.is_empty() {
+            return Ok(JobStatus::Ended(course.step));
+        }
+        let fault = take_superstep(alloc, program, most, course, room)?;
+        match fault {
+            Some(blame) => return Ok(blame.status(course.step)),
+            None => {}
+        }
+    }
+    if course.tasks.is_empty() {
+        Ok(JobStatus::Ended(course.step))
+    } else {
+        Ok(JobStatus::Limit(course.step))
+    }
+}
+
+// Takes supersteps until the run ends, and returns how it ended.
+fn run_on<P: Program>(
+    alloc: Global,
+    program: &P,
+    most: u32,
+    limit: u32,
+    course: &mut Course<P::Task>,
+) -> Result<JobStatus, AllocError>
+    requires ready { P.ready program.now }
+    requires most { most < 2 ^ 31 }
+    requires start { course.old.step ≡ 0 }
+    requires none { (course.old.prints.items ≡ []) × (course.old.records.items ≡ []) }
+    requires paths { map P.Task.path_of course.old.tasks.items ≡ children [] 0 (length course.old.tasks.items) }
+    requires few { length course.old.tasks.items ≤ most }
+    ensures report { IfOk result (λ s. let p = program.now in
+        HasRun (P.frame p) (P.may p) most course.old.arrays (map (P.meant p) course.old.tasks.items) limit (left_by course.new (status_seen s))) }
+    ensures short { IfOk result (λ s. IsShort (status_seen s)) }
+{
+    let mut room = no_room(alloc);
+    run_within(alloc, program, most, limit, course, &mut room)
+}
+
+// What a run leaves that ended so.
+fn leave<T: OnPath>(course: Course<T>, status: JobStatus) -> Report
+    requires { IsShort (status_seen status) }
+    ensures { result ≡ left_by course (status_seen status) }
+{
+    let Course {
+        step: _,
+        arrays,
+        tasks: _,
+        prints,
+        records,
+    } = course;
+    Report {
+        prints,
+        records,
+        arrays,
+        status,
+    }
+}
+
+/// Runs a program that begins with these arrays and tasks, on one thread: each superstep's tasks one after another, by path. At
+/// most `most` tasks may live at once, and at most `limit` supersteps are taken.
+pub fn run_alone<P: Program>(
+    alloc: Global,
+    program: &P,
+    arrays: Arrays,
+    tasks: Vec<P::Task>,
+    most: u32,
+    limit: u32,
+) -> Result<Report, AllocError>
+    requires ready { P.ready program.now }
+    requires most { most < 2 ^ 31 }
+    requires few { length tasks.items ≤ most }
+    requires paths { map P.Task.path_of tasks.items ≡ children [] 0 (length tasks.items) }
+    ensures { IfOk result (λ report. let p = program.now in
+        HasRun (P.frame p) (P.may p) most arrays (map (P.meant p) tasks.items) limit report) }
+{
+    let mut course = Course {
+        step: 0,
+        arrays,
+        tasks,
+        prints: Vec::new(alloc),
+        records: Vec::new(alloc),
+    };
+    let status = run_on(alloc, program, most, limit, &mut course)?;
+    Ok(leave(course, status))
+}

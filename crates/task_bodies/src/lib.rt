@@ -1,0 +1,10 @@
+//! Tasks that run a body of your own.
+#![tactic(auto)]
+
+pub mod body;
+mod framing;
+pub mod member;
+mod native;
+pub mod run;
+
+pub use native::Native;

@@ -1,0 +1,61 @@
+//! The program of a body of your own.
+ghost use Rattle.std.specs.Prelude.{refl};
+ghost use Rattle.task_bodies.specs.Bodies.{MemberValue, member_frame, BodyMay};
+
+use crate::body::{Ending, TaskBody, View};
+use crate::framing::{open, settle};
+use crate::member::Member;
+use programs::program::Program;
+use programs::work::{Ending as Ended, Work};
+use std::alloc::{AllocError, Global};
+use superstep_memory::arrays::Arrays;
+
+/// The program whose tasks all run this body.
+#[derive(Clone, Copy)]
+pub struct Native<'b, B> {
+    /// The body.
+    pub body: &'b B,
+}
+
+impl<'b, B: TaskBody> Program for Native<'b, B> {
+    type Task = Member<B::Kept>;
+
+    ghost Meant = { MemberValue B.Kept };
+
+    ghost meant = { λ p t. t };
+
+    ghost frame = { λ p. member_frame };
+
+    ghost may = { λ p t arrays step g. BodyMay (B.may p.body.now) t arrays step g };
+
+    ghost ready = { λ p. B.ready p.body.now };
+
+    #[inline(always)]
+    fn segment(
+        &self,
+        alloc: Global,
+        task: &mut Member<B::Kept>,
+        arrays: &Arrays,
+        step: u32,
+        work: &mut Work<Member<B::Kept>>,
+    ) -> Result<Ended, AllocError> {
+        let mut out = open(alloc, work);
+        let view = View {
+            arrays,
+            path: &task.path,
+            step,
+        };
+        let ending = self.body.run(alloc, &mut task.kept, &view, &mut out)?;
+        let ended = match ending {
+            Ending::Fails(code) => return Ok(Ended::Fails(code)),
+            Ending::Syncs => Ended::Stays,
+            Ending::Stops => Ended::Stops,
+        };
+        match settle(task, arrays, out, work)? {
+            Some(code) => Ok(Ended::Fails(code)),
+            None => Ok(ended),
+        }
+    }
+
+    ghost keeps_paths = { λ p t. refl };
+}

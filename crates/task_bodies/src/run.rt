@@ -1,0 +1,50 @@
+//! Runs of tasks of your own.
+ghost use Rattle.std.specs.Prelude.{◌≡◌, ◌≤◌, ◌<◌, [], IfOk, IfErr, length};
+ghost use Rattle.programs.specs.History.{HasRun};
+ghost use Rattle.task_bodies.specs.Bodies.{MemberValue, member_frame, BodyMay, numbered};
+
+use crate::body::TaskBody;
+use crate::member::starts;
+use crate::native::Native;
+use phase_records::Report;
+use programs::alone::run_alone;
+use std::alloc::{AllocError, Global};
+use superstep_memory::arrays::Arrays;
+use thiserror::Error;
+
+/// Why a run isn't begun or isn't ended.
+#[derive(Debug, Drop, Error)]
+pub enum RunFault {
+    /// There are more start tasks than may live at once, or than 65535. Start fewer, and let these spawn the others.
+    #[error("too many start tasks")]
+    TooMany,
+    /// Out of memory. Nothing is left of the run.
+    #[error(transparent)]
+    Memory(#[from(alloc)] AllocError),
+}
+
+/// Runs tasks of this body on one thread, the start tasks with this kept: each superstep's tasks one after another, by path. At
+/// most `most` tasks live at once, and at most `limit` supersteps are taken.
+///
+/// The report has the arrays, the prints, a record for each superstep, and how the run ended: all tasks stopped, the limit was
+/// reached, or a fault, with the number of the fault, the superstep, and the path of the task.
+pub fn run_bodies<B: TaskBody>(
+    alloc: Global,
+    body: &B,
+    arrays: Arrays,
+    tasks: Vec<B::Kept>,
+    most: u32,
+    limit: u32,
+) -> Result<Report, RunFault>
+    requires ready { B.ready body.now }
+    requires most { most < 2147483648 }
+    ensures ran { IfOk result (λ report. HasRun member_frame (BodyMay (B.may body.now)) most arrays (numbered [] 0 tasks.items) limit report) }
+{
+    if tasks.len() > 65535 || tasks.len() > most as usize {
+        return Err(RunFault::TooMany);
+    }
+    let members = starts(alloc, tasks)?;
+    let program = Native { body };
+    let report = run_alone(alloc, &program, arrays, members, most, limit)?;
+    Ok(report)
+}
