@@ -1,6 +1,8 @@
 -- How what a body wrote joins what others wrote (own).
-use Rattle.std.specs.Prelude.{◌≡◌, ℕ, List, ◌++◌, length, Option, Some, None}
+use Rattle.std.specs.Prelude.{◌≡◌, ℕ, ◌++◌, length, Option, Some, None}
 use Rattle.programs.specs.declared.work.Work.{Work}
+use Rattle.programs.specs.declared.work.Ending.{Ending}
+use Rattle.programs.specs.declared.work.Ending.TheVariants as ending
 use Rattle.task_bodies.specs.Bodies.{OutValue, MemberValue, numbered, went}
 
 module _ {K : Type 0} where
@@ -11,7 +13,7 @@ module _ {K : Type 0} where
     pub spawns : new.spawns.items ≡ numbered t.path t.begun o.spawns
     pub task : u ≡ went t (length o.spawns) t.kept
 
-  -- or it is a fault, and the task is as it was
-  abbrev pub IsSettled : Option ℕ → Option ℕ → MemberValue K → MemberValue K → OutValue K → Work (MemberValue K) → Work (MemberValue K) → Type 0
-  IsSettled refused (Some code) t u o old new = (refused ≡ Some code) × (u ≡ t)
-  IsSettled refused None t u o old new = (refused ≡ None) × HasJoined t u o old new
+  -- where it is refused with this number it is a fault, and the task is as it was; else it joins, and its task ends so
+  abbrev pub IsSettled : Option ℕ → MemberValue K → MemberValue K → OutValue K → Work (MemberValue K) → Work (MemberValue K) → Ending → Ending → Type 0
+  IsSettled (Some code) t u o old new ended e = (e ≡ ending.Fails code) × (u ≡ t)
+  IsSettled None t u o old new ended e = (e ≡ ended) × HasJoined t u o old new

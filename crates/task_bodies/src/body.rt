@@ -104,7 +104,10 @@ impl<K: Drop> Out<K> {
     pub fn print(&mut self, value: i64) -> Result<(), AllocError>
         ensures { OnOk result (self.new ≡ record self.old { prints = self.old.prints ++ value ∷ [] }) }
     {
-        self.prints.push(value)
+        match self.prints.push(value) {
+            Ok(()) => Ok(()),
+            Err(_) => Err(AllocError),
+        }
     }
 
     /// Spawns a task that keeps this. It first runs in the next superstep. A task whose path has 8 numbers can't spawn: the run

@@ -1,11 +1,11 @@
 //! How what a body wrote joins what others wrote.
 ghost use Rattle.std.specs.Prelude.{◌≡◌, ◌++◌, [], None, Some, ℕ, List, IfOk, OnOk, length};
 ghost use Rattle.task_bodies.specs.Bodies.{nothing, refused, refused_spawns};
-ghost use Rattle.task_bodies.specs.Settled.{IsSettled};
+ghost use Rattle.task_bodies.specs.Settled.{HasJoined, IsSettled};
 
 use crate::body::Out;
 use crate::member::{Member, number};
-use programs::work::Work;
+use programs::work::{Ending, Work};
 use std::alloc::{AllocError, Global};
 use std::mem;
 use superstep_memory::arrays::Arrays;
@@ -56,20 +56,17 @@ fn refuse<K: Drop>(task: &Member<K>, arrays: &Arrays, out: &Out<K>) -> Option<u8
     refuse_spawns(task.path.len(), task.begun, out.spawns.len())
 }
 
-/// Joins what a body wrote to what others wrote, or returns the fault that it is.
+// Joins what a body wrote, which is no fault, to what others wrote.
 #[inline(always)]
-pub(crate) fn settle<K: Drop>(
+fn join<K: Drop>(
     task: &mut Member<K>,
-    arrays: &Arrays,
     out: Out<K>,
     work: &mut Work<Member<K>>,
-) -> Result<Option<u8>, AllocError>
-    requires { work.old.spawns.items ≡ [] }
-    ensures { IfOk result (λ fault. IsSettled (refused arrays.now task.old.path task.old.begun out.puts (length out.spawns)) fault task.old task.new out work.old work.new) }
+) -> Result<(), AllocError>
+    requires none { work.old.spawns.items ≡ [] }
+    requires fits { refused_spawns task.old.path task.old.begun (length out.spawns) ≡ None }
+    ensures { OnOk result (HasJoined task.old task.new out work.old work.new) }
 {
-    if let Some(code) = refuse(task, arrays, &out) {
-        return Ok(Some(code));
-    }
     let Out {
         mut puts,
         prints,
@@ -84,5 +81,26 @@ pub(crate) fn settle<K: Drop>(
     work.puts.append(&mut puts)?;
     work.own = puts;
     work.prints = prints;
-    Ok(None)
+    Ok(())
+}
+
+/// Joins what a body wrote to what others wrote, and returns how its task ends: so, or by a fault.
+#[inline(always)]
+pub(crate) fn settle<K: Drop>(
+    task: &mut Member<K>,
+    arrays: &Arrays,
+    out: Out<K>,
+    work: &mut Work<Member<K>>,
+    ended: Ending,
+) -> Result<Ending, AllocError>
+    requires { work.old.spawns.items ≡ [] }
+    ensures { IfOk result (λ e. IsSettled (refused arrays.now task.old.path task.old.begun out.puts (length out.spawns)) task.old task.new out work.old work.new ended e) }
+{
+    match refuse(task, arrays, &out) {
+        Some(code) => Ok(Ending::Fails(code)),
+        None => {
+            join(task, out, work)?;
+            Ok(ended)
+        }
+    }
 }

@@ -46,14 +46,10 @@ impl<'b, B: TaskBody> Program for Native<'b, B> {
             step,
         };
         let ending = self.body.run(alloc, &mut task.kept, &view, &mut out)?;
-        let ended = match ending {
-            Ending::Fails(code) => return Ok(Ended::Fails(code)),
-            Ending::Syncs => Ended::Stays,
-            Ending::Stops => Ended::Stops,
-        };
-        match settle(task, arrays, out, work)? {
-            Some(code) => Ok(Ended::Fails(code)),
-            None => Ok(ended),
+        match ending {
+            Ending::Fails(code) => Ok(Ended::Fails(code)),
+            Ending::Stops => settle(task, arrays, out, work, Ended::Stops),
+            Ending::Syncs => settle(task, arrays, out, work, Ended::Stays),
         }
     }
 

@@ -1,0 +1,53 @@
+//! Heat in a rod, in blocks of cells.
+use std::alloc::{AllocError, Global};
+use task_bodies::body::{Ending, Out, TaskBody, View};
+
+/// A rod whose ends keep their temperature. Superstep `last` is the last one.
+#[derive(Clone, Copy)]
+pub struct Rod {
+    pub last: u32,
+}
+
+/// Cells of the rod side by side: the cell before the first of them, and the cell before the last.
+#[derive(Clone, Copy)]
+pub struct Block {
+    pub before: u32,
+    pub end: u32,
+}
+
+fn at(cells: &[i64], place: usize) -> i64 {
+    cells.get(place).copied().unwrap_or(0)
+}
+
+// What the cell after this place becomes.
+fn mixed(cells: &[i64], place: usize) -> i64
+    requires { place < 4294967296 }
+{
+    let own = at(cells, place + 1);
+    let others = at(cells, place).wrapping_add(at(cells, place + 2));
+    others.wrapping_add(own).wrapping_add(own) / 4
+}
+
+impl TaskBody for Rod {
+    type Kept = Block;
+
+    fn run(
+        &self,
+        alloc: Global,
+        block: &mut Block,
+        view: &View<'_>,
+        out: &mut Out<Block>,
+    ) -> Result<Ending, AllocError> {
+        let cells = view.cells(0);
+        let mut values = out.room(alloc);
+        for place in block.before..block.end {
+            values.push(mixed(cells, place as usize))?;
+        }
+        out.put_row(0, block.before.wrapping_add(1), values)?;
+        if view.step < self.last {
+            Ok(Ending::Syncs)
+        } else {
+            Ok(Ending::Stops)
+        }
+    }
+}
