@@ -28,6 +28,14 @@ fn steps(report: &Report) -> u32 {
     }
 }
 
+// How many nodes were reached.
+fn reached(report: &Report) -> usize {
+    match report.arrays.get(usize::from(DISTANCES)) {
+        Some((_, cells)) => cells.iter().filter(|it| **it >= 0).count(),
+        None => 0,
+    }
+}
+
 fn cell(report: &Report, array: u16, index: u32) -> i64 {
     report.arrays.cell(array, i64::from(index)).unwrap_or(0)
 }
@@ -58,7 +66,7 @@ fn serve(alloc: Global) -> Result<Report, RunFault> {
 }
 
 // A graph of 100,000 nodes, in 20 blocks, searched from node 0.
-fn search(alloc: Global) -> Result<Report, RunFault> {
+fn find(alloc: Global) -> Result<Report, RunFault> {
     let mut arrays = Arrays::new(alloc);
     let mut distances = Vec::from_elem(alloc, -1, 100_000)?;
     distances[0] = 0;
@@ -87,13 +95,13 @@ fn main(rt: HostRuntime) -> anyhow::Result<()> {
         cell(&shop, 0, WENT),
         cell(&shop, 0, TIME)
     )?;
-    let graph = search(alloc)?;
+    let graph = find(alloc)?;
     println!(
         rt;
-        "search: {} supersteps, {} rounds, distance of node 99999 is {}",
+        "search: {} supersteps, {} nodes reached, the last ones at distance {}",
         steps(&graph),
-        cell(&graph, ROUNDS, 0),
-        cell(&graph, DISTANCES, 99999)
+        reached(&graph),
+        cell(&graph, ROUNDS, 0)
     )?;
     Ok(())
 }

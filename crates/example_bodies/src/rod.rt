@@ -20,9 +20,8 @@ fn at(cells: &[i64], place: usize) -> i64 {
 }
 
 // What the cell after this place becomes.
-fn mixed(cells: &[i64], place: usize) -> i64
-    requires { place < 4294967296 }
-{
+fn mixed(cells: &[i64], place: u32) -> i64 {
+    let place = place as usize;
     let own = at(cells, place + 1);
     let others = at(cells, place).wrapping_add(at(cells, place + 2));
     others.wrapping_add(own).wrapping_add(own) / 4
@@ -41,7 +40,7 @@ impl TaskBody for Rod {
         let cells = view.cells(0);
         let mut values = out.room(alloc);
         for place in block.before..block.end {
-            values.push(mixed(cells, place as usize))?;
+            values.push(mixed(cells, place))?;
         }
         out.put_row(0, block.before.wrapping_add(1), values)?;
         if view.step < self.last {

@@ -9,3 +9,4 @@ pub mod Ranged
 pub mod Histories
 pub mod Known
 pub mod Reached
+pub mod Exactly

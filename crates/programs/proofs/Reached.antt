@@ -8,7 +8,7 @@ use Rattle.superstep_memory.specs.Paths.{is_rising}
 use Rattle.phase_records.specs.Status.{Status, Fault}
 use Rattle.programs.specs.Meaning.{Segment, Frame, NumbersItsSpawns, StaysTheSameTask, children}
 use Rattle.programs.specs.Reads.{reads}
-use Rattle.programs.specs.Superstep.{superstep}
+use Rattle.programs.specs.Superstep.{State, superstep}
 use Rattle.programs.specs.Supersteps.{so_far, status}
 use Rattle.programs.specs.History.{Entry, says_in, says_by, IsEntered, HasRun}
 use Rattle.programs.specs.Course.{course_state, HasTaken, left_by}
@@ -113,6 +113,7 @@ module _ {S T : Type 0} (f : Frame T) (may : T → List (List ℕ × List ℤ) �
   reached_end c s h e = record {
     history = h.history;
     entered = h.entered;
+    ended = ap (status limit) (sym h.state) ∙ e;
     report = at_end (reads (says_by f most h.history) meant path) law (numbers c h) (stays c h) arrays tasks limit (length h.history) c s h.state e;
   }
 
@@ -122,9 +123,19 @@ module _ {S T : Type 0} (f : Frame T) (may : T → List (List ℕ × List ℤ) �
   reached_fault c new x h run t =
       let n = next_of c new h (Some x) t in
       let formed = formed_by f most may arrays tasks limit n.more n.entered in
+      let s = says_by f most n.more in
+      let st = so_far s arrays tasks limit c.step in
+      let k = n.count in
+      let up : length n.more ≡ suc c.step = omega (arith, k) in
       record {
         history = n.more;
         entered = n.entered;
+        ended =
+            ap (λ (m : ℕ). status limit (so_far s arrays tasks limit m)) up
+            ∙ ap (status limit) (goes s arrays tasks (status limit st) st (superstep s st) (ap (status limit) (sym n.state) ∙ run))
+            ∙ ap (λ (x : State T). status limit (superstep s x)) (sym n.state)
+            ∙ ap (status limit) (n.steps ∙ t.taken.fault)
+            ∙ (λ i. Some (Fault x.0 (sym t.taken.step i) x.1));
         report =
             at_fault (reads (says_by f most n.more) meant path) law (numbers_by f most n.more formed) (stays_by f most n.more formed) arrays tasks limit c new x (c.step, n.state) run
             (record { fault = n.steps ∙ t.taken.fault; step = t.taken.step; arrays = t.taken.arrays; prints = t.taken.prints; records = t.taken.records });

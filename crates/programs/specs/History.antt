@@ -4,7 +4,7 @@ use Rattle.std.specs.Str.{bytes_eq}
 use Rattle.phase_records.specs.ReportValue.{ReportValue}
 use Rattle.programs.specs.Meaning.{Faulted, Segment, Frame, Says, IsFormed}
 use Rattle.programs.specs.Superstep.{State, first_fault}
-use Rattle.programs.specs.Supersteps.{so_far, report_of}
+use Rattle.programs.specs.Supersteps.{so_far, status, report_of}
 
 -- a task as a superstep began, and what its segment left
 pub record Entry (T : Type 0) : Type 0 where
@@ -33,6 +33,10 @@ module _ {T : Type 0} where
   abbrev pub says_by : Frame T → ℕ → List (List (Entry T)) → Says T
   says_by f most history = record { path = f.path; begun = f.begun; most = most; segment = λ t arrays step. left_of f (get_or history step []) t }
 
+  -- what tasks mean that leave this
+  abbrev pub says_of : Frame T → ℕ → (T → List (List ℕ × List ℤ) → ℕ → Segment T) → Says T
+  says_of f most does = record { path = f.path; begun = f.begun; most = most; segment = does }
+
   -- each entry is one that is allowed, and is well formed
   abbrev pub AllAllowed : Frame T → (T → List (List ℕ × List ℤ) → ℕ → Segment T → Type 0) → List (List ℕ × List ℤ) → ℕ → List (Entry T) → Type 0
   AllAllowed f may arrays step [] = Unit {0}
@@ -53,9 +57,10 @@ module _ {T : Type 0} where
     pub tasks : AreOf f st.live es
     pub allowed : AllAllowed f may st.arrays st.step es
 
-  -- This report is what one thread leaves, superstep by superstep, where each task's segment leaves what the history says; and
-  -- each is allowed to leave that.
+  -- This report is what one thread leaves, superstep by superstep, if each task's segment leaves what the history says. Each is
+  -- allowed to leave that, and the history is that of the whole run.
   pub record HasRun (f : Frame T) (may : T → List (List ℕ × List ℤ) → ℕ → Segment T → Type 0) (most : ℕ) (arrays : List (List ℕ × List ℤ)) (tasks : List T) (limit : ℕ) (outcome : ReportValue) : Type 0 where
     pub history : List (List (Entry T))
     pub entered : (n : ℕ) → n < length history → IsEntered f may (so_far (says_by f most history) arrays tasks limit n) (get_or history n [])
+    pub ended : status limit (so_far (says_by f most history) arrays tasks limit (length history)) ≡ Some outcome.status
     pub report : report_of (says_by f most history) arrays tasks limit ≡ Some outcome

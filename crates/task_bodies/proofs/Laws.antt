@@ -1,10 +1,10 @@
 -- What a task leaves whose body left something is well formed.
 use Rattle.std.proofs.Common.{◌≡◌, ℕ, suc, ◌+◌, List, [], ◌∷◌, ◌++◌, map, length, Option, Some, None, refl, sym, ap, ◌∙◌}
 use Rattle.std.specs.Prelude.{ℤ}
-use Rattle.programs.specs.Meaning.{Synced, Stopped, Faulted, IsFormed, children}
+use Rattle.programs.specs.Meaning.{Segment, Synced, Stopped, Faulted, IsFormed, children}
 use Rattle.task_bodies.specs.declared.body.Ending.{Ending}
 use Rattle.task_bodies.specs.declared.body.Ending.TheVariants as ending
-use Rattle.task_bodies.specs.Bodies.{Left, MemberValue, path_of, member_frame, numbered, faulted, went, refused, limited, framed_by, framed}
+use Rattle.task_bodies.specs.Bodies.{Left, MemberValue, path_of, member_frame, numbered, faulted, went, refused, limited, framed_by, framed, BodyMay, body_does}
 
 module _ {K : Type 0} where
   pub numbered_count : (path : List ℕ) (n : ℕ) (ks : List K) → length (numbered path n ks) ≡ length ks
@@ -47,3 +47,9 @@ module _ {K : Type 0} where
       by (ending.Fails code) = faulted_formed t code
       by ending.Stops = stopped_formed t o (refused arrays t.path t.begun o.puts (length o.spawns))
       by ending.Syncs = synced_formed t o (refused arrays t.path t.begun o.puts (length o.spawns))
+
+  -- a body that may leave one thing alone makes its task leave one thing alone
+  pub only_one : (may : List ℕ → List (List ℕ × List ℤ) → ℕ → K → Left K → Type 0) (does : List ℕ → List (List ℕ × List ℤ) → ℕ → K → Left K)
+      → ((path : List ℕ) (arrays : List (List ℕ × List ℤ)) (step : ℕ) (k : K) (o : Left K) → may path arrays step k o → o ≡ does path arrays step k)
+      → (t : MemberValue K) (arrays : List (List ℕ × List ℤ)) (step : ℕ) (g : Segment (MemberValue K)) → BodyMay may t arrays step g → g ≡ body_does does t arrays step
+  only_one may does exact t arrays step g h = h.is ∙ ap (framed arrays t) (exact t.path arrays step t.kept h.left h.allowed)

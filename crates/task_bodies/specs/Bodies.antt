@@ -82,3 +82,7 @@ module _ {K : Type 0} where
     pub left : Left K
     pub allowed : may t.path arrays step t.kept left
     pub is : g ≡ framed arrays t left
+
+  -- what a task leaves whose body does this
+  abbrev pub body_does : (List ℕ → List (List ℕ × List ℤ) → ℕ → K → Left K) → MemberValue K → List (List ℕ × List ℤ) → ℕ → Segment (MemberValue K)
+  body_does does t arrays step = framed arrays t (does t.path arrays step t.kept)

@@ -158,3 +158,11 @@ pub trait TaskBody {
         requires none { out.old ≡ nothing }
         ensures { IfOk result (λ e. may self.now view.now.path.now.items view.now.arrays.now view.now.step kept.old (left_so e kept.new out.new)) };
 }
+
+/// A body of which somebody has written what it does (own): `may` allows that alone.
+pub trait Exact: TaskBody {
+    /// What a task leaves that is at this path and keeps this, by the arrays as the superstep began and its number.
+    ghost does: { Self → List ℕ → List (List ℕ × List ℤ) → ℕ → Self.Kept → Left Self.Kept };
+
+    ghost exact: { (s : Self) (path : List ℕ) (arrays : List (List ℕ × List ℤ)) (step : ℕ) (k : Self.Kept) (o : Left Self.Kept) → Self.may s path arrays step k o → o ≡ does s path arrays step k };
+}

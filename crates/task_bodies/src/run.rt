@@ -1,9 +1,10 @@
 //! Runs of tasks of your own.
-ghost use Rattle.std.specs.Prelude.{◌≡◌, ◌≤◌, ◌<◌, [], IfOk, IfErr, length};
-ghost use Rattle.programs.specs.History.{HasRun};
-ghost use Rattle.task_bodies.specs.Bodies.{MemberValue, member_frame, BodyMay, numbered};
+ghost use Rattle.std.specs.Prelude.{◌≡◌, ◌≤◌, ◌<◌, [], Some, IfOk, IfErr, length};
+ghost use Rattle.programs.specs.History.{HasRun, says_of};
+ghost use Rattle.programs.specs.Supersteps.{report_of};
+ghost use Rattle.task_bodies.specs.Bodies.{MemberValue, member_frame, BodyMay, body_does, numbered};
 
-use crate::body::TaskBody;
+use crate::body::{Exact, TaskBody};
 use crate::member::starts;
 use crate::native::Native;
 use phase_records::Report;
@@ -46,5 +47,22 @@ pub fn run_bodies<B: TaskBody>(
     let members = starts(alloc, tasks)?;
     let program = Native { body };
     let report = run_alone(alloc, &program, arrays, members, most, limit)?;
+    Ok(report)
+}
+
+/// Runs tasks as [`run_bodies`] does. The report is that of what the body does, superstep by superstep.
+pub fn run_exactly<B: Exact>(
+    alloc: Global,
+    body: &B,
+    arrays: Arrays,
+    tasks: Vec<B::Kept>,
+    most: u32,
+    limit: u32,
+) -> Result<Report, RunFault>
+    requires ready { B.ready body.now }
+    requires most { most < 2147483648 }
+    ensures { IfOk result (λ report. report_of (says_of member_frame most (body_does (B.does body.now))) arrays (numbered [] 0 tasks.items) limit ≡ Some report) }
+{
+    let report = run_bodies(alloc, body, arrays, tasks, most, limit)?;
     Ok(report)
 }
