@@ -11,6 +11,7 @@ use rod::{Block, Rod};
 use search::{DISTANCES, Graph, Nodes, ROUNDS};
 use std::alloc::{AllocError, Global};
 use superstep_memory::arrays::Arrays;
+use task_bodies::kernel::{Span, Stencil};
 use task_bodies::run::{RunFault, run_bodies};
 
 // Adds an array of so many cells that hold this.
@@ -56,6 +57,27 @@ fn cool(alloc: Global) -> Result<Report, RunFault> {
     run_bodies(alloc, &Rod { last: 999 }, arrays, blocks, 46, 1000)
 }
 
+// The same rod, by a closure.
+fn cool_by_closure(alloc: Global) -> Result<Report, RunFault> {
+    let mut arrays = Arrays::new(alloc);
+    let mut cells = Vec::from_elem(alloc, 0, 4096)?;
+    cells[0] = 1_000_000_000_000;
+    arrays.add(String::from_str(alloc, "rod")?, cells)?;
+    let mut spans = Vec::new(alloc);
+    for number in 0..46 {
+        spans.push(Span {
+            before: number * 89,
+            end: number * 89 + 89,
+        })?;
+    }
+    let stencil = Stencil {
+        array: 0,
+        last: 999,
+        f: |left: i64, own: i64, right: i64| left.wrapping_add(right).wrapping_add(own).wrapping_add(own) / 4,
+    };
+    run_bodies(alloc, &stencil, arrays, spans, 46, 1000)
+}
+
 // A shop that is open for 1000 supersteps.
 fn serve(alloc: Global) -> Result<Report, RunFault> {
     let mut arrays = Arrays::new(alloc);
@@ -82,26 +104,45 @@ fn find(alloc: Global) -> Result<Report, RunFault> {
     run_bodies(alloc, &Graph { nodes: 100_000 }, arrays, blocks, 20, 10000)
 }
 
+// Supersteps, and the cells 10 and 70.
+fn rod_numbers(alloc: Global) -> Result<(u32, i64, i64), RunFault> {
+    let report = cool(alloc)?;
+    Ok((steps(&report), cell(&report, 0, 10), cell(&report, 0, 70)))
+}
+
+// Whether the closure leaves what the body leaves.
+fn is_same(alloc: Global) -> Result<bool, RunFault> {
+    let one = cool(alloc)?;
+    let other = cool_by_closure(alloc)?;
+    Ok(one.arrays.same_as(&other.arrays))
+}
+
+// Supersteps, who came, who went, and for how long they were there.
+fn shop_numbers(alloc: Global) -> Result<(u32, i64, i64, i64), RunFault> {
+    let report = serve(alloc)?;
+    Ok((
+        steps(&report),
+        cell(&report, 0, CAME),
+        cell(&report, 0, WENT),
+        cell(&report, 0, TIME),
+    ))
+}
+
+// Supersteps, how many nodes were reached, and the greatest distance.
+fn graph_numbers(alloc: Global) -> Result<(u32, usize, i64), RunFault> {
+    let report = find(alloc)?;
+    Ok((steps(&report), reached(&report), cell(&report, ROUNDS, 0)))
+}
+
 fn main(rt: HostRuntime) -> anyhow::Result<()> {
     let alloc = rt.alloc();
-    let rod = cool(alloc)?;
-    println!(rt; "rod: {} supersteps, cells {} {}", steps(&rod), cell(&rod, 0, 10), cell(&rod, 0, 70))?;
-    let shop = serve(alloc)?;
-    println!(
-        rt;
-        "shop: {} supersteps, {} came, {} went, {} in all",
-        steps(&shop),
-        cell(&shop, 0, CAME),
-        cell(&shop, 0, WENT),
-        cell(&shop, 0, TIME)
-    )?;
-    let graph = find(alloc)?;
-    println!(
-        rt;
-        "search: {} supersteps, {} nodes reached, the last ones at distance {}",
-        steps(&graph),
-        reached(&graph),
-        cell(&graph, ROUNDS, 0)
-    )?;
+    let (steps, ten, seventy) = rod_numbers(alloc)?;
+    println!(rt; "rod: {steps} supersteps, cells {ten} {seventy}")?;
+    let same = is_same(alloc)?;
+    println!(rt; "by a closure the same: {same}")?;
+    let (steps, came, went, time) = shop_numbers(alloc)?;
+    println!(rt; "shop: {steps} supersteps, {came} came, {went} went, {time} in all")?;
+    let (steps, nodes, last) = graph_numbers(alloc)?;
+    println!(rt; "search: {steps} supersteps, {nodes} nodes reached, the last ones at distance {last}")?;
     Ok(())
 }

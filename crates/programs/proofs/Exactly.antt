@@ -1,13 +1,13 @@
 -- A run whose tasks may each leave one thing alone.
-use Rattle.std.proofs.Common.{◌≡◌, ℕ, zero, suc, ◌+◌, ◌≤◌, ◌<◌, true, List, [], ◌∷◌, ◌++◌, map, length, Option, Some, None, get_or, refl, sym, ap, ◌∙◌, subst, arith, append-nil}
+use Rattle.std.proofs.Common.{◌≡◌, ℕ, zero, suc, ◌≤◌, true, List, [], ◌∷◌, ◌++◌, map, length, Option, Some, None, get_or, refl, sym, ap, ◌∙◌, arith, append-nil}
 use Rattle.std.specs.Prelude.{ℤ}
 use Rattle.superstep_memory.specs.Paths.{is_rising}
 use Rattle.phase_records.specs.Status.{Status}
 use Rattle.phase_records.specs.ReportValue.{ReportValue}
 use Rattle.programs.specs.Meaning.{After, Synced, Stopped, Faulted, Segment, Frame, Says, children}
 use Rattle.programs.specs.Superstep.{State, superstep, closed, segments, fault_in, first_fault, or_later, or_next, too_many, overflow, next_live, ended_by, live_paths}
-use Rattle.programs.specs.Supersteps.{so_far, status, unless_ended, report_in, report_of}
-use Rattle.programs.specs.History.{Entry, left_of, says_in, says_by, says_of, AllAllowed, segments_in, AreOf, IsEntered, HasRun}
+use Rattle.programs.specs.Supersteps.{so_far, status, report_in, report_of}
+use Rattle.programs.specs.History.{Entry, says_in, says_by, says_of, AllAllowed, segments_in, IsEntered, HasRun}
 use Rattle.programs.specs.Done.{Agrees}
 use Rattle.programs.proofs.History.{AllFormed, numbers_by, stays_by, entries_rise, agrees}
 use Rattle.programs.proofs.Histories.{superstep_by, formed_by}

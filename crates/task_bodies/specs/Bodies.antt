@@ -27,6 +27,11 @@ pub record MemberValue (K : Type 0) : Type 0 where
   pub begun : ℕ
   pub kept : K
 
+-- the cells of an array, none where it isn't there
+abbrev pub cells_in : Option (List ℕ × List ℤ) → List ℤ
+cells_in None = []
+cells_in (Some a) = a.1
+
 abbrev pub when : Bool → ℕ → Option ℕ → Option ℕ
 when b code other = if b then Some code else other
 

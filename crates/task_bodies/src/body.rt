@@ -1,9 +1,9 @@
 //! What a task of your own reads, writes and does.
-ghost use Rattle.std.specs.Prelude.{◌≡◌, ◌++◌, ◌∷◌, ℕ, ℤ, List, [], IfOk, OnOk, OnErr};
+ghost use Rattle.std.specs.Prelude.{◌≡◌, ◌≤◌, ◌^◌, ◌++◌, ◌∷◌, ℕ, ℤ, pos, List, [], length, slice_get, IfOk, OnOk};
 ghost use Rattle.superstep_memory.specs.declared.arrays.PutKind.TheVariants as PutKinds;
 ghost use Rattle.superstep_memory.specs.Cells.{cell_at};
 ghost use Rattle.superstep_memory.specs.Rows.{row_puts};
-ghost use Rattle.task_bodies.specs.Bodies.{OutValue, Left, nothing, left_so};
+ghost use Rattle.task_bodies.specs.Bodies.{OutValue, Left, nothing, left_so, cells_in};
 
 use std::alloc::{AllocError, Global};
 use std::marker::Model;
@@ -25,7 +25,10 @@ pub struct View<'a> {
 impl View<'_> {
     /// The cells of the array at this place, in declared order. Empty if there is no such array.
     #[inline(always)]
-    pub fn cells(&self, array: u16) -> &[i64] {
+    pub fn cells(&self, array: u16) -> &[i64]
+        ensures cells { result.now ≡ cells_in (slice_get self.now.arrays.now array) }
+        ensures small { length result.now ≤ 2 ^ 32 }
+    {
         match self.arrays.get(usize::from(array)) {
             Some((_, cells)) => cells,
             None => &[],
@@ -33,7 +36,9 @@ impl View<'_> {
     }
 
     /// The value of a cell, if there is such a cell.
-    pub fn cell(&self, array: u16, index: u32) -> Option<i64> {
+    pub fn cell(&self, array: u16, index: u32) -> Option<i64>
+        ensures { result ≡ cell_at self.now.arrays.now array (pos index) }
+    {
         self.arrays.cell(array, i64::from(index))
     }
 }

@@ -3,6 +3,7 @@
 
 pub mod body;
 mod framing;
+pub mod kernel;
 pub mod member;
 mod native;
 pub mod run;

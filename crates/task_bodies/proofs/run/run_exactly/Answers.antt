@@ -1,5 +1,5 @@
 use Rattle.std.proofs.Common.{[]}
-use Rattle.task_bodies.specs.Bodies.{MemberValue, BodyMay, member_frame, body_does, numbered}
+use Rattle.task_bodies.specs.Bodies.{BodyMay, member_frame, body_does, numbered}
 use Rattle.programs.proofs.Exactly.{exactly}
 use Rattle.task_bodies.proofs.Laws.{numbered_paths, only_one}
 use Rattle.task_bodies.proofs.run.run_exactly.Goals as goal
