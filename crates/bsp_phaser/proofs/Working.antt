@@ -2,21 +2,20 @@
 use Rattle.std.specs.Prelude.{negsuc}
 use Rattle.std.proofs.Common.{◌≡◌, ◌≤◌, ℕ, ℤ, pos, true, false, refl, sym, ◌∙◌, ap, subst, arith}
 use Rattle.std.proofs.lemmas.Int.{ints}
-use Rattle.phaser_word.specs.Fields.{Fields, IsLegal}
+use Rattle.phaser_word.specs.Fields.{Fields}
 use Rattle.phaser_word.specs.Packed.{packed}
 use Rattle.advance_rule.specs.declared.CountPlan.{CountPlan}
 use Rattle.flat_phaser.specs.Flat.{Flat, shown}
 use Rattle.flat_phaser.specs.Alike.{IsAlike}
 use Rattle.phaser_one.specs.declared.call.Call.{Call}
 use Rattle.phaser_one.specs.declared.call.Call.TheVariants.{Bulk, Arrive, Leave, Await, Force}
-use Rattle.phaser_one.specs.declared.call.Reply.{Reply}
 use Rattle.phaser_one.specs.Calls.{answer, after, opened}
 use Rattle.phaser_one.specs.Seen.{flat_of}
 use Rattle.phaser_one.proofs.WordProofs.{alike_self, alike_words}
 use Rattle.bsp_phaser.specs.Numbers.{IsWordOf}
-use Rattle.bsp_phaser.specs.Steps.{IsStep, IsNew, plan_of, status_of, answer_of}
-use Rattle.bsp_phaser.specs.Readings.{IsReading, parties_in, arrived_in, unarrived_in, ended_in}
-use Rattle.bsp_phaser.specs.Worked.{Makes, Gives, Reads, RunIsWorkedOut}
+use Rattle.bsp_phaser.specs.Steps.{IsNew, plan_of, status_of, answer_of}
+use Rattle.bsp_phaser.specs.Readings.{parties_in, arrived_in, unarrived_in, ended_in}
+use Rattle.bsp_phaser.specs.Worked.{Gives, Reads, RunIsWorkedOut}
 
 meet : {x f g : Flat} → IsAlike x f → IsAlike x g → IsAlike f g
 meet a b = record {
