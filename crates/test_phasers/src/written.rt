@@ -166,10 +166,13 @@ fn threads_pass<R: Threads + Wait + Abort + Sync, F: Fn(u32, u32) -> bool + Sync
         tree.split(&mut door),
         tree.split(&mut door),
     );
-    let crews = vec![
-        in alloc; joins(rt, tree, door, 3, 1), joins(rt, tree, second, 4, 1), joins(rt, tree, third, 5, 1),
-        joins(rt, tree, fourth, 6, 1)
-    ].expect(rt, "memory");
+    let crews = vec![in alloc;
+        joins(rt, tree, door, 3, 1),
+        joins(rt, tree, second, 4, 1),
+        joins(rt, tree, third, 5, 1),
+        joins(rt, tree, fourth, 6, 1),
+    ]
+    .expect(rt, "memory");
     let passed = thread::map_vec(
         rt,
         crews,
