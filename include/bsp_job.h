@@ -10,8 +10,10 @@
  *   bsp_upgrade, status 0: they are that of this job in format 2;
  *   bsp_run, status 0, 2 and 3: they are the text of the report of what that job leaves within the limit, as the
  *   program `bsp run` prints it, and the status is that report's;
- *   10: `out` is too short for that text, which is `told->bytes` bytes long; nothing of `out` is to be relied on;
- *   what of `told` a status doesn't speak of is 0. Nothing halts; every call returns.
+ *   10: `out` is too short for that text, which is `told->bytes` bytes long;
+ *   nothing is promised of the bytes of `out` beyond the text, nor of any of them at 4, 5, 6 and 10: they may change;
+ *   what of `told` a status doesn't speak of is 0: `line` and `code` but at 4, `bytes` at 4, 5 and 6. Nothing halts;
+ *   every call returns.
  *
  * What the caller owes: `text` points to `text_len` bytes, `out` to `out_len` bytes (any pointer but null where the
  * number is 0) and `told` to one object, none of which overlap or are touched by others during the call; malloc,

@@ -1,5 +1,5 @@
 -- What a caller is told of a job's text (own; the numbers of the statuses are those of the program).
-use Rattle.std.specs.Prelude.{◌≡◌, ◌⊎◌, ℕ, ℤ, pos, List, [], ◌∷◌, map, length, Some, Result, Ok, Err}
+use Rattle.std.specs.Prelude.{◌≡◌, ◌≢◌, ◌⊎◌, ℕ, ℤ, pos, List, [], ◌∷◌, map, length, Some, Result, Ok, Err}
 use Rattle.phase_records.specs.Status.{Status, Ended, Fault, Limit}
 use Rattle.phase_records.specs.ReportValue.{ReportValue}
 use Rattle.phase_records.specs.ReportText.{report_text}
@@ -33,6 +33,17 @@ plan_of b = record { ahead = b.block; locals = length b.locals }
 
 abbrev pub program_of_tree : JobTree → Program
 program_of_tree j = record { arrays = j.arrays; plans = map plan_of j.bodies; starts = j.starts }
+
+-- What a status says nothing of is 0: only a given or a too short text has a length, and only a refusal a line and a code.
+pub record IsQuiet (status : ℤ) (told : Told) : Type 0 where
+  pub length : (status ≡ pos 4) ⊎ ((status ≡ pos 5) ⊎ (status ≡ pos 6)) → told.bytes ≡ 0
+  pub refusal : status ≢ pos 4 → (told.line ≡ 0) × (told.code ≡ 0)
+
+-- nothing was told yet
+pub record IsNothing (told : Told) : Type 0 where
+  pub bytes : told.bytes ≡ 0
+  pub line : told.line ≡ 0
+  pub code : told.code ≡ 0
 
 -- status 4, and where the text is refused and why
 pub record IsRefusedAs (refusal : Refusal) (status : ℤ) (told : Told) : Type 0 where

@@ -1,5 +1,5 @@
 //! Jobs as texts, for C: a text is checked, or run on the caller's thread, and the output is put into the caller's bytes.
-//! Nothing here is part of Java's API.
+//! The bytes beyond that text may change. Nothing here is part of Java's API.
 #![tactic(auto)]
 
 ghost use Rattle.std.specs.Prelude.{◌≡◌, ◌⊎◌, ◌≤◌, length, pos};
@@ -7,7 +7,7 @@ ghost use Rattle.phase_records.specs.StatusSeen.{status_seen};
 ghost use Rattle.job_reader.specs.Trees.{job_tree};
 ghost use Rattle.bsp_job.specs.Given.{IsGiven};
 ghost use Rattle.job_reader.specs.Grammar.{canonical_text};
-ghost use Rattle.bsp_job.specs.Jobs.{Checks, Upgrades, Runs, IsRefusedAs, GivesReport, StatusesAreNumbered, status_number};
+ghost use Rattle.bsp_job.specs.Jobs.{Checks, Upgrades, Runs, IsNothing, IsQuiet, IsRefusedAs, GivesReport, StatusesAreNumbered, status_number};
 
 use job_reader::{ReadJobFault, Refusal, canonical, read_job, upgrade};
 use phase_records::{JobStatus, text_of};
@@ -56,7 +56,8 @@ fn give(text: &[u8], done: i32, out: &mut [u8]) -> i32
 
 // Reports where a text is refused, and why.
 fn refuse(refusal: Refusal, told: &mut Told) -> i32
-    ensures { IsRefusedAs refusal result told.new }
+    ensures told { IsRefusedAs refusal result told.new }
+    ensures kept { told.new.bytes ≡ told.old.bytes }
 {
     told.line = refusal.line;
     told.code = u32::from(refusal.code.number());
@@ -76,7 +77,9 @@ fn status_of(status: &JobStatus) -> i32
 
 // Puts the canonical text of a job into the caller's bytes.
 fn write_and_give(alloc: Global, job: &Job, out: &mut [u8], told: &mut Told) -> i32
-    ensures { (result ≡ pos 6) ⊎ IsGiven (canonical_text (job_tree job.now)) out.new (pos 0) result told.new.bytes }
+    requires nothing { IsNothing told.old }
+    ensures given { (result ≡ pos 6) ⊎ IsGiven (canonical_text (job_tree job.now)) out.new (pos 0) result told.new.bytes }
+    ensures quiet { IsQuiet result told.new }
 {
     match canonical(alloc, job) {
         Ok(bytes) => {
@@ -91,7 +94,8 @@ fn write_and_give(alloc: Global, job: &Job, out: &mut [u8], told: &mut Told) -> 
 /// if `out` is too short, and then its bytes are unspecified.
 #[unsafe(no_mangle)]
 pub extern "C" fn bsp_check(alloc: Global, text: &[u8], out: &mut [u8], told: &mut Told) -> i32
-    ensures { Checks text.now out.new result told.new }
+    ensures check { Checks text.now out.new result told.new }
+    ensures quiet { IsQuiet result told.new }
 {
     *told = NOTHING;
     match read_job(alloc, text) {
@@ -105,7 +109,8 @@ pub extern "C" fn bsp_check(alloc: Global, text: &[u8], out: &mut [u8], told: &m
 /// of `bsp_check`.
 #[unsafe(no_mangle)]
 pub extern "C" fn bsp_upgrade(alloc: Global, text: &[u8], out: &mut [u8], told: &mut Told) -> i32
-    ensures { Upgrades text.now out.new result told.new }
+    ensures upgrade { Upgrades text.now out.new result told.new }
+    ensures quiet { IsQuiet result told.new }
 {
     *told = NOTHING;
     match read_job(alloc, text) {
@@ -117,8 +122,10 @@ pub extern "C" fn bsp_upgrade(alloc: Global, text: &[u8], out: &mut [u8], told: 
 
 // Runs a job, and puts the text of its report into the caller's bytes.
 fn run_and_give(alloc: Global, job: &Job, limit: u32, out: &mut [u8], told: &mut Told) -> i32
-    requires { 1 ≤ limit }
-    ensures { (result ≡ pos 6) ⊎ GivesReport (job_tree job.now) limit out.new result told.new }
+    requires limit { 1 ≤ limit }
+    requires nothing { IsNothing told.old }
+    ensures given { (result ≡ pos 6) ⊎ GivesReport (job_tree job.now) limit out.new result told.new }
+    ensures quiet { IsQuiet result told.new }
 {
     let Ok(report) = run_alone(alloc, job, limit) else {
         return NO_MEMORY;
@@ -143,6 +150,7 @@ pub extern "C" fn bsp_run(
 ) -> i32
     ensures none { limit ≡ 0 → result ≡ pos 5 }
     ensures run { 1 ≤ limit → Runs limit text.now out.new result told.new }
+    ensures quiet { IsQuiet result told.new }
 {
     *told = NOTHING;
     if limit == 0 {

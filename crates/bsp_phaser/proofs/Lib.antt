@@ -2,3 +2,4 @@ pub mod Told
 pub mod Stepping
 pub mod Running
 pub mod Passing
+pub mod Working

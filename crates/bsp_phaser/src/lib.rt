@@ -25,6 +25,7 @@ ghost use Rattle.phaser_one.specs.declared.call.Call.TheVariants as spec;
 ghost use Rattle.bsp_phaser.specs.Steps.{IsStep, IsNew, StatusesAreNumbered, status_of_new, plan_of};
 ghost use Rattle.bsp_phaser.specs.Readings.{IsReading, parties_in, arrived_in, unarrived_in, ended_in};
 ghost use Rattle.bsp_phaser.specs.Runs.{ExchangesAreOneRun, NoPhasePassesEarly};
+ghost use Rattle.bsp_phaser.specs.Worked.{RunIsWorkedOut};
 
 mod number;
 mod reading;
@@ -184,4 +185,9 @@ pub fn no_phase_passes_early()
 /// The status of each answer, one by one.
 pub fn statuses_are_numbered()
     ensures { StatusesAreNumbered }
+{}
+
+/// One run through all calls, with each number, status and answer written down.
+pub fn the_run_is_worked_out()
+    ensures { RunIsWorkedOut }
 {}

@@ -1,3 +1,4 @@
 pub mod Behind
 pub mod Joins
 pub mod Strips
+pub mod Working

@@ -1,6 +1,6 @@
 -- The numbers at the axes (own): each stands where its unit is, and is drawn back to its own size by a scale that undoes
 -- the scale of the units.
-use Rattle.std.specs.Prelude.{ℕ, ◌-◌, ◌/◌, List, ◌++◌, codes, decimal}
+use Rattle.std.specs.Prelude.{ℕ, zero, suc, ◌+◌, ◌-◌, ◌/◌, nat_le, if◌then◌else◌, List, [], ◌++◌, codes, decimal}
 
 -- a line across at a number of parties, of so many at most
 abbrev pub party_tick : ℕ → ℕ → List ℕ
@@ -14,6 +14,15 @@ step_tick steps n =
     codes "<g transform=\"translate(" ++ decimal n ++ codes ".5,0) scale(" ++ decimal steps
     ++ codes ",1) scale(.00125,.05)\"><text class=\"m\" y=\"12\">" ++ decimal n ++ codes "</text></g>\n"
 
--- the numbers at an axis: 0, the last, and those at its quarters
+-- the first numbers at an axis, so many
+abbrev pub first_ticks : (ℕ → List ℕ) → ℕ → List ℕ
+first_ticks tick zero = []
+first_ticks tick (suc n) = first_ticks tick n ++ tick n
+
+-- 0, the last, and those at its quarters
+abbrev pub quarters : (ℕ → List ℕ) → ℕ → List ℕ
+quarters tick last = tick 0 ++ tick (last / 4) ++ tick (last / 2) ++ tick (last - last / 4) ++ tick last
+
+-- the numbers at an axis: each up to the last, or if that is above 8 the quarters, so that none is drawn twice
 abbrev pub ticks : (ℕ → List ℕ) → ℕ → List ℕ
-ticks tick last = tick 0 ++ tick (last / 4) ++ tick (last / 2) ++ tick (last - last / 4) ++ tick last
+ticks tick last = if nat_le last 8 then first_ticks tick (last + 1) else quarters tick last

@@ -2,3 +2,4 @@ pub mod Axes
 pub mod Cells
 pub mod Columns
 pub mod Picture
+pub mod Worked

@@ -1,9 +1,12 @@
 //! Numbers at the axes.
 ghost use Rattle.std.specs.Prelude.{◌≡◌, ◌-◌, ◌<◌, ◌++◌, OnOk};
-ghost use Rattle.job_picture.specs.Axes.{party_tick, step_tick, ticks};
+ghost use Rattle.job_picture.specs.Axes.{party_tick, step_tick, first_ticks, quarters, ticks};
 
 use crate::pieces::{push_field, push_text};
 use std::alloc::AllocError;
+
+// The last number of an axis at which each is drawn.
+const ALL_UP_TO: u32 = 8;
 
 // Appends a line across at a number of parties.
 fn push_party_tick(out: &mut Vec<u8>, most: u32, n: u32) -> Result<(), AllocError>
@@ -33,9 +36,19 @@ fn push_step_tick(out: &mut Vec<u8>, steps: usize, n: usize) -> Result<(), Alloc
     push_text(out, b"</text></g>\n")
 }
 
-/// Appends the lines across, from 0 to this number of parties.
-pub(crate) fn push_party_ticks(out: &mut Vec<u8>, most: u32) -> Result<(), AllocError>
-    ensures { OnOk result (out.new.items ≡ out.old.items ++ ticks (party_tick most) most) }
+// Appends a line across at each number of parties below this one.
+fn push_first_parties(out: &mut Vec<u8>, most: u32, count: u32) -> Result<(), AllocError>
+    ensures { OnOk result (out.new.items ≡ out.old.items ++ first_ticks (party_tick most) count) }
+{
+    for n in 0..count {
+        push_party_tick(out, most, n)?;
+    }
+    Ok(())
+}
+
+// Appends lines across at the quarters of this number of parties.
+fn push_party_quarters(out: &mut Vec<u8>, most: u32) -> Result<(), AllocError>
+    ensures { OnOk result (out.new.items ≡ out.old.items ++ quarters (party_tick most) most) }
 {
     push_party_tick(out, most, 0)?;
     push_party_tick(out, most, most / 4)?;
@@ -44,15 +57,45 @@ pub(crate) fn push_party_ticks(out: &mut Vec<u8>, most: u32) -> Result<(), Alloc
     push_party_tick(out, most, most)
 }
 
+/// Appends the lines across, from 0 to this number of parties.
+pub(crate) fn push_party_ticks(out: &mut Vec<u8>, most: u32) -> Result<(), AllocError>
+    ensures { OnOk result (out.new.items ≡ out.old.items ++ ticks (party_tick most) most) }
+{
+    if most <= ALL_UP_TO {
+        return push_first_parties(out, most, most + 1);
+    }
+    push_party_quarters(out, most)
+}
+
+// Appends the number of each of the first supersteps, so many.
+fn push_first_steps(out: &mut Vec<u8>, steps: usize, count: usize) -> Result<(), AllocError>
+    ensures { OnOk result (out.new.items ≡ out.old.items ++ first_ticks (step_tick steps) count) }
+{
+    for n in 0..count {
+        push_step_tick(out, steps, n)?;
+    }
+    Ok(())
+}
+
+// Appends the numbers at the quarters of the supersteps up to this one.
+fn push_step_quarters(out: &mut Vec<u8>, steps: usize, last: usize) -> Result<(), AllocError>
+    ensures { OnOk result (out.new.items ≡ out.old.items ++ quarters (step_tick steps) last) }
+{
+    push_step_tick(out, steps, 0)?;
+    push_step_tick(out, steps, last / 4)?;
+    push_step_tick(out, steps, last / 2)?;
+    push_step_tick(out, steps, last - last / 4)?;
+    push_step_tick(out, steps, last)
+}
+
 /// Appends the numbers below this number of supersteps.
 pub(crate) fn push_step_ticks(out: &mut Vec<u8>, steps: usize) -> Result<(), AllocError>
     requires { 0 < steps }
     ensures { OnOk result (out.new.items ≡ out.old.items ++ ticks (step_tick steps) (steps - 1)) }
 {
     let last = steps - 1;
-    push_step_tick(out, steps, 0)?;
-    push_step_tick(out, steps, last / 4)?;
-    push_step_tick(out, steps, last / 2)?;
-    push_step_tick(out, steps, last - last / 4)?;
-    push_step_tick(out, steps, last)
+    if last <= ALL_UP_TO as usize {
+        return push_first_steps(out, steps, last + 1);
+    }
+    push_step_quarters(out, steps, last)
 }

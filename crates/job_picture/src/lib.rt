@@ -4,6 +4,7 @@
 mod axes;
 mod cells;
 mod columns;
+pub mod laws;
 mod picture;
 mod pieces;
 

@@ -3,14 +3,14 @@ use Rattle.std.specs.Prelude.{◌≡◌, ℕ, List, [], ◌∷◌}
 use Rattle.phaser_word.specs.Fields.{Fields}
 use Rattle.tier_calls.specs.Closes.{TallyWithOthers, IsLeftBy}
 use Rattle.tier_calls.specs.Holding.{Named, Holding, IsSat, split_once, sight_held}
-use Rattle.tier_calls.specs.InPlace.{ArrivesInPlace}
+use Rattle.tier_calls.specs.InPlace.{ArrivesInPlace, FindsArrived}
 use Rattle.tier_calls.specs.JoinsHere.{JoinsHere}
-use Rattle.tier_calls.specs.Made.{HasEntered, HasLooked}
-use Rattle.tier_calls.specs.Registers.{token_of}
+use Rattle.tier_calls.specs.Made.{HasLooked}
+use Rattle.tier_calls.specs.Registers.{EnteredBy, token_of}
 use Rattle.tier_calls.specs.declared.in_place.ArrivedInPlace.{ArrivedInPlace}
 use Rattle.tier_calls.specs.declared.joining.Registered.{Registered}
 use Rattle.tier_calls.specs.declared.joining.Registered.TheVariants as registered
-use Rattle.tier_table.specs.AtLast.{AwaitsAdvance}
+use Rattle.tier_table.specs.AtLast.{AwaitsAdvance, CaughtUpBy}
 use Rattle.tier_table.specs.declared.waiting.AwaitedAdvance.{AwaitedAdvance}
 use Rattle.tier_table.specs.declared.waiting.RegisteredAtLast.{RegisteredAtLast}
 use Rattle.tier_table.specs.declared.waiting.RegisteredAtLast.TheVariants as admitted
@@ -48,14 +48,17 @@ pub record Meets (old new : Holding) (answer : AwaitedAdvance) : Type 0 where
   pub between : Holding
   pub came : ArrivedInPlace
   pub arrives : ArrivesInPlace old between came
+  pub found : FindsArrived old between came
   pub awaits : AwaitsAdvance between new answer
+  pub looked : HasLooked between.steps new.steps
+  pub caught_up : CaughtUpBy answer new
 
 -- a token that was split off a party, by which others joined at its tier
 pub record BringsBy (old new : Holding) (n tries : ℕ) (answer : Registered) : Type 0 where
   pub door : Holding
   pub sat : IsSat old.tree door
   pub joins : JoinsHere (split_once old) new door n tries answer
-  pub entered : HasEntered door.steps (token_of answer).steps
+  pub entered : EnteredBy answer door.steps (token_of answer).steps
   pub looked : HasLooked old.steps new.steps
 
 -- what a party answers that brings others, `n` of them

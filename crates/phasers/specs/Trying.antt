@@ -2,8 +2,8 @@
 use Rattle.std.specs.Prelude.{◌≡◌, ℕ, ◌⊎◌}
 use Rattle.tier_steps.specs.declared.view.Passage.TheVariants.{Arrival}
 use Rattle.tier_calls.specs.Holding.{Holding}
-use Rattle.tier_calls.specs.Arrives.{Arrives}
-use Rattle.tier_calls.specs.Polls.{Polls}
+use Rattle.tier_calls.specs.Arrives.{Arrives, FindsArrived}
+use Rattle.tier_calls.specs.Polls.{Polls, CaughtUpBy}
 use Rattle.tier_calls.specs.declared.arriving.Arrived.{Arrived}
 use Rattle.tier_calls.specs.declared.arriving.Arrived.TheVariants as arrived
 use Rattle.tier_calls.specs.declared.arriving.Resumed.{Resumed}
@@ -26,8 +26,10 @@ pub record MeetsBy (old new : Holding) (tries : ℕ) (answer : Polled) : Type 0 
   pub between : Holding
   pub came : Arrived
   pub arrives : Arrives Arrival old tries came
+  pub found : FindsArrived old came
   pub over : IsOver between came
   pub polls : Polls between new answer
+  pub caught_up : CaughtUpBy answer new
 
 abbrev pub TriesToMeet : {A : Type 0} → Holding → ℕ → Met A → Type 0
 TriesToMeet old tries (met.Passed party phase) = MeetsBy old party tries (polled.Passed phase)

@@ -11,7 +11,7 @@ ghost use Rattle.tier_calls.specs.InPlace as in_place;
 ghost use Rattle.tier_shape.specs.Leaves.{leaves_of};
 ghost use Rattle.tier_shape.specs.Preferred.{leaf_at};
 ghost use Rattle.tier_steps.specs.declared.view.Passage.TheVariants.{Arrival, Departure};
-ghost use Rattle.tier_table.specs.AtLast.{token_counted, ArrivesAtLast, HasEndedArrival};
+ghost use Rattle.tier_table.specs.AtLast.{token_counted, ArrivesAtLast, HasEndedArrival, PassedBy};
 
 use advance_rule::{EndPlan, StoredAdvance};
 use std::alloc::{AllocError, Global};
@@ -122,6 +122,7 @@ impl<A: OnAdvance> SharedTree<A> {
     pub(crate) fn arrive(&self, crew: Crew, tries: u32) -> Arrived
         requires own { crew.tree ≡ self.now }
         ensures answer { Arrives Arrival crew tries result }
+        ensures found { arrives.FindsArrived crew result }
         ensures ended { (phase : ℕ) → crew.view.end_seen ≡ Some phase → arrives.HasEnded result }
     {
         let rule = StoredAdvance::new(|phase: u32, count: u32| self.ends(phase, count), self.plan);
@@ -141,6 +142,7 @@ impl<A: OnAdvance> SharedTree<A> {
     pub(crate) fn arrive_in_place<R: Wait>(&self, rt: &R, crew: &mut Crew) -> ArrivedInPlace
         requires own { crew.old.tree ≡ self.now }
         ensures answer { ArrivesInPlace crew.old crew.new result }
+        ensures found { in_place.FindsArrived crew.old crew.new result }
         ensures ended { (phase : ℕ) → crew.old.view.end_seen ≡ Some phase → in_place.HasEnded result }
     {
         let rule = StoredAdvance::new(|phase: u32, count: u32| self.ends(phase, count), self.plan);
@@ -152,6 +154,7 @@ impl<A: OnAdvance> SharedTree<A> {
         requires own { crew.tree ≡ self.now }
         ensures answer { ArrivesAtLast Departure crew result }
         ensures unsplit { (token_counted result).opened ≡ crew.opened }
+        ensures made { PassedBy Departure crew.steps result }
         ensures ended { (phase : ℕ) → crew.view.end_seen ≡ Some phase → HasEndedArrival result }
     {
         let rule = StoredAdvance::new(|phase: u32, count: u32| self.ends(phase, count), self.plan);

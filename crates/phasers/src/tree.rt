@@ -9,7 +9,9 @@ ghost use Rattle.tier_calls.specs.Polls as polls;
 ghost use Rattle.tier_calls.specs.Forces.{Forces, ForcedBy};
 ghost use Rattle.tier_calls.specs.Forces as forces;
 ghost use Rattle.tier_steps.specs.declared.view.Passage.TheVariants.{Departure};
-ghost use Rattle.tier_table.specs.AtLast.{token_admitted, token_counted, RegistersAtLast, ArrivesAtLast, AwaitsAdvance, HasEndedJoin, HasEndedArrival, HasEndedWait};
+ghost use Rattle.tier_calls.specs.Made.{HasEntered, HasLooked};
+ghost use Rattle.tier_table.specs.AtLast.{token_admitted, token_counted, PassedBy, RegistersAtLast, ArrivesAtLast, AwaitsAdvance, HasEndedJoin, HasEndedArrival, HasEndedWait};
+ghost use Rattle.tier_table.specs.AtLast as at_last;
 ghost use Rattle.tier_shape.specs.Leaves.{leaves_of};
 ghost use Rattle.tier_shape.specs.Preferred.{leaf_at};
 ghost use Rattle.tier_shape.specs.Faults.{fault_number};
@@ -279,6 +281,7 @@ impl<'a, A: OnAdvance> Guest<'a, A> {
         requires members { (0 < members) × (members ≤ 65535) }
         ensures answer { RegistersAtLast self.entry.tree tier members (admitted_of result) }
         ensures unsplit { (token_admitted (admitted_of result)).opened ≡ self.entry.opened }
+        ensures made { HasEntered self.entry.steps (token_admitted (admitted_of result)).steps }
         ensures ended { (phase : ℕ) → self.entry.view.end_seen ≡ Some phase → HasEndedJoin (admitted_of result) }
     {
         let Guest { shared, door } = self;
@@ -298,6 +301,7 @@ impl<'a, A: OnAdvance> Guest<'a, A> {
     pub fn join<R: Wait>(self, rt: &R, number: usize) -> Joined<'a, A>
         ensures answer { RegistersAtLast self.entry.tree (leaf_at (leaves_of self.entry.tree.key.shape) number) 1 (admitted_of result) }
         ensures unsplit { (token_admitted (admitted_of result)).opened ≡ self.entry.opened }
+        ensures made { HasEntered self.entry.steps (token_admitted (admitted_of result)).steps }
         ensures ended { (phase : ℕ) → self.entry.view.end_seen ≡ Some phase → HasEndedJoin (admitted_of result) }
     {
         let tier = self.shared.leaf(number);
@@ -362,6 +366,7 @@ impl<'a, A: OnAdvance> Party<'a, A> {
     /// Lets a member arrive. Doesn't wait for others to arrive.
     pub fn arrive<R: Wait>(&mut self, rt: &R) -> ArrivedInPlace
         ensures answer { ArrivesInPlace self.old self.new result }
+        ensures found { in_place.FindsArrived self.old self.new result }
         ensures ended { (phase : ℕ) → self.old.view.end_seen ≡ Some phase → in_place.HasEnded result }
     {
         self.shared.arrive_in_place(rt, &mut self.crew)
@@ -371,6 +376,7 @@ impl<'a, A: OnAdvance> Party<'a, A> {
     pub fn poll(&mut self) -> Polled
         ensures tree { self.new.tree ≡ self.old.tree }
         ensures answer { Polls self.old self.new result }
+        ensures caught_up { polls.CaughtUpBy result self.new }
         ensures ended { (phase : ℕ) → self.old.view.end_seen ≡ Some phase → polls.HasEnded result }
     {
         let shared = self.shared;
@@ -383,6 +389,8 @@ impl<'a, A: OnAdvance> Party<'a, A> {
         ensures tree { self.new.tree ≡ self.old.tree }
         ensures answer { AwaitsAdvance self.old self.new result }
         ensures unsplit { self.new.opened ≡ self.old.opened }
+        ensures made { HasLooked self.old.steps self.new.steps }
+        ensures caught_up { at_last.CaughtUpBy result self.new }
         ensures ended { (phase : ℕ) → self.old.view.end_seen ≡ Some phase → HasEndedWait result }
     {
         let shared = self.shared;
@@ -433,6 +441,7 @@ impl<'a, A: OnAdvance> Party<'a, A> {
     pub fn leave<R: Wait>(self, rt: &R) -> Departed<'a, A>
         ensures answer { ArrivesAtLast Departure self.entry (counted_of result) }
         ensures unsplit { (token_counted (counted_of result)).opened ≡ self.entry.opened }
+        ensures made { PassedBy Departure self.entry.steps (counted_of result) }
         ensures ended { (phase : ℕ) → self.entry.view.end_seen ≡ Some phase → HasEndedArrival (counted_of result) }
     {
         let Party { shared, crew } = self;

@@ -20,3 +20,5 @@ mod shared;
 mod table;
 #[cfg(test)]
 mod trees;
+#[cfg(test)]
+mod written;

@@ -5,3 +5,5 @@ mod rows;
 mod runs;
 #[cfg(test)]
 mod trees;
+#[cfg(test)]
+mod waits;

@@ -4,6 +4,7 @@ use Rattle.tier_steps.specs.Step.{opening}
 use Rattle.tier_steps.specs.declared.view.View.{View}
 use Rattle.tier_steps.specs.declared.view.Errand.{Errand}
 use Rattle.tier_steps.specs.declared.view.OpeningStage.TheVariants as stage
+use Rattle.tier_steps.specs.declared.kind.Kind.{Kind}
 use Rattle.tier_steps.specs.declared.kind.Kind.TheVariants.{Look}
 use Rattle.tier_steps.proofs.KindLaw.{mine}
 use Rattle.tier_core.specs.declared.call.Played.{Played}
@@ -27,7 +28,12 @@ use Rattle.tier_calls.specs.Arrives.{IsSoon, IsSpent}
 use Rattle.tier_calls.specs.Joins.{IsJoined, Refusal, JoinAnswer, JoinAt}
 use Rattle.tier_steps.specs.declared.view.Errand.TheVariants.{Rest}
 use Rattle.tier_calls.specs.Passes.{IsFresh}
-use Rattle.tier_calls.specs.Registers.{IsLookedAround, IsFor, Registers, Opens, MayAnswer, AnswersJoin, NoBusy, SameAnswer}
+use Rattle.tier_calls.specs.Registers.{IsLookedAround, IsFor, Registers, EnteredBy, Opens, MayAnswer, AnswersJoin, NoBusy, SameAnswer, token_of}
+use Rattle.tier_calls.specs.Made.{HasEntered, HasWatched, MadeOnly, is_entering}
+use Rattle.tier_calls.specs.Next.{is_look}
+use Rattle.tier_calls.proofs.Making.{made_then}
+use Rattle.tier_calls.proofs.Watching.{watches_along, seeks_still}
+use Rattle.tier_calls.proofs.Entering.{looked_first_enters, ran_enters}
 use Rattle.tier_calls.proofs.Seeks.{joins_do_as_asked}
 use Rattle.tier_calls.proofs.Settling.{first_fresh}
 
@@ -140,6 +146,23 @@ module _ (n : Named) (tier size tries : ℕ) (h h' : Holding) (g : Going) (is : 
 
   ends_so : (a : Played) → g.progress ≡ Idle → g.answer ≡ a → JoinAnswer h.tree.key.shape tier size g.token.view a
   ends_so a e f = subst (λ (z : Named). JoinAnswer z.key.shape tier size g.token.view a) (sym is) (over n 0 h.view.tier tier size tries (seeking h' tier size) g begins ran a e f)
+
+  watched : g.progress ≢ Idle → claimed_by g.token.view.errand ≡ 0 → HasWatched h.steps g.token.steps
+  watched more none =
+      subst (λ (ks : List Kind). MadeOnly is_look ks g.token.steps) took.steps
+      (watches_along n.key (position (seeking h' tier size)) (position g) refl (ran.went.goes (position (seeking h' tier size)) starts)
+      (seeks_still n.key.shape 0 h.view.tier tier size g.token.view g.answer g.progress (shown n 0 h.view.tier tier size tries (seeking h' tier size) g begins ran) more none) none)
+
+  entered : HasEntered h.steps g.token.steps
+  entered = made_then is_entering (looked_first_enters took) (ran_enters refl ran)
+
+  pub enters : (r : Registered) → AnswersJoin g r → EnteredBy r h.steps (token_of r).steps
+  enters (registered.Joined crew phase) s = subst (λ (z : Holding). HasEntered h.steps z.steps) (sym s.0) entered
+  enters (registered.Held door' phase cause) s = subst (λ (z : Holding). HasEntered h.steps z.steps) (sym s.0) entered
+  enters (registered.Full door' count) s = subst (λ (z : Holding). HasEntered h.steps z.steps) (sym s.0) entered
+  enters (registered.Ended door' shown_as) s = subst (λ (z : Holding). HasEntered h.steps z.steps) (sym s.0) entered
+  enters (registered.Busy door') s = subst (λ (z : Holding). HasWatched h.steps z.steps) (sym s.0) (watched s.1 s.2)
+  enters (registered.Owing opening') s = subst (λ (z : Going). HasEntered h.steps z.token.steps) (sym s.0) entered
 
   pub registers : (r : Registered) → AnswersJoin g r → Registers h tier size tries r
   registers (registered.Joined crew phase) s =

@@ -26,15 +26,17 @@ use Rattle.tier_calls.specs.Passes.{IsSame}
 use Rattle.tier_calls.specs.Joins.{IsJoined}
 use Rattle.tier_calls.specs.Passes.{EndSeen, IsFresh}
 use Rattle.tier_calls.specs.Arrives.{IsSoon, IsSpent}
-use Rattle.tier_calls.specs.Registers.{IsLookedAround, token_of}
+use Rattle.tier_calls.specs.Registers.{IsLookedAround, EnteredBy, token_of}
 use Rattle.tier_calls.specs.JoinsHere.{Waits, IsStill, IsFullHere, AreSoon, AreSpent, KeepsCrew, AnswersHere, JoinsOnce, JoinsHere}
 use Rattle.tier_calls.specs.declared.joining.Registered.{Registered}
 use Rattle.tier_calls.specs.declared.joining.Registered.TheVariants as registered
 use Rattle.tier_calls.proofs.Turning.{refuse_at, ended_at, glanced}
 use Rattle.tier_calls.proofs.Passing.{still_glance, root_of, glance_unled, looked_unled}
 use Rattle.tier_calls.proofs.Settling.{first_fresh}
-use Rattle.tier_calls.specs.Made.{HasEntered, HasLooked, MadeOnly, is_quiet, is_entering}
-use Rattle.tier_calls.proofs.Making.{made_more, made_none, made_then}
+use Rattle.tier_calls.specs.Made.{HasLooked, MadeOnly, is_quiet, is_entering}
+use Rattle.tier_calls.specs.Next.{is_look}
+use Rattle.tier_calls.proofs.Making.{made_more, made_none, made_then, made_wider}
+use Rattle.tier_calls.proofs.Watching.{join_looks, look_is_entering}
 use Rattle.tier_calls.proofs.Entering.{join_enters, looked_enters}
 use Rattle.tier_calls.proofs.Seeks.{look_unended, look_end, refused_note, refused_size, refused_end, refused_unled, glance_unended}
 
@@ -68,7 +70,7 @@ late_positive w v root current keeps still h = ⊎_elim
     ))
     (either (eqb w.parties 0))
 
-known_by : (ps : List ℕ) (t : ℕ) (w : Fields) (v : View) → (b : Beside ps t w v) → Known ps t w v
+pub known_by : (ps : List ℕ) (t : ℕ) (w : Fields) (v : View) → (b : Beside ps t w v) → Known ps t w v
 known_by ps t w v b = subst (λ (z : Fields). Known ps t z v) b.word (tally_is_known ps b.words b.front v b.back t b.within b.tally)
 
 pub waits_here : {ps : List ℕ} {t : ℕ} {w : Fields} {v : View} → Beside ps t w v → v.errand ≡ Rest → v.tier ≡ t → v.arrived < v.size → lags w v ≡ false → Waits w
@@ -193,12 +195,25 @@ one_enters k old new such is = subst (MadeOnly is_entering old) (sym is) (made_m
 pub peek_made : {h h' : Holding} (t size tries : ℕ) → Took (looking (Join t 0 size) t h'.word) t h'.word tries h h' → MadeOnly is_entering h.steps h'.steps
 peek_made {h} {h'} t size tries took = one_enters (looking (Join t 0 size) t h'.word) h.steps h'.steps (join_enters t 0 size t h'.word) took.steps
 
+-- what the door makes there without the join: looks
+one_looks : (k : Kind) (old new : List Kind) → is_look k ≡ true → new ≡ k ∷ old → MadeOnly is_look old new
+one_looks k old new such is = subst (MadeOnly is_look old) (sym is) (made_more is_look k old old such (made_none is_look old))
+
+peek_looks : {h h' : Holding} (t size tries : ℕ) → Took (looking (Join t 0 size) t h'.word) t h'.word tries h h' → MadeOnly is_look h.steps h'.steps
+peek_looks {h} {h'} t size tries took = one_looks (looking (Join t 0 size) t h'.word) h.steps h'.steps (join_looks t 0 size t h'.word) took.steps
+
+looked_looks : {h h' : Holding} → Looked Look 0 h h' → MadeOnly is_look h.steps h'.steps
+looked_looks {h} {h'} took = one_looks Look h.steps h'.steps refl took.steps
+
+look_made_enters : {a b : List Kind} → MadeOnly is_look a b → MadeOnly is_entering a b
+look_made_enters m = made_wider is_look is_entering look_is_entering m
+
 pub met_late : {h h' : Holding} (t size : ℕ) → IsDoor h → Looked (Join t 0 size) t h h' → h'.word.ended ≡ false → IsFresh h.view → IsStill 0 h h'
 met_late {h} {h'} t size door took going fresh = record {
   spent = record { tree = took.tree; tried = took.tried; opened = took.opened };
   looked = around_by size 0 door took;
   fresh = (let p = peeks size 0 door took in record { unseen = p.unseen going ∙ fresh.unseen; unled = p.unled fresh.unled });
-  made = peek_made t size 0 took;
+  made = peek_looks t size 0 took;
 }
 
 -- a lost try is one more look
@@ -215,7 +230,7 @@ met_busy {h} {h'} {h''} t size door took lost going on fresh =
       spent = record { tree = second.tree ∙ took.tree; tried = (let a = second.tried in let b = took.tried in omega arith); opened = second.opened ∙ took.opened };
       looked = around_then (around_by size 0 door took) (around_by size 1 door' second);
       fresh = (let q = peeks size 1 door' second in record { unseen = q.unseen on ∙ (p.unseen going ∙ fresh.unseen); unled = q.unled (p.unled fresh.unled) });
-      made = made_then is_entering (peek_made t size 0 took) (peek_made t size 1 second);
+      made = made_then is_look (peek_looks t size 0 took) (peek_looks t size 1 second);
     }
 
 pub met_joined : {h h' h'' : Holding} {phase : ℕ} (t size : ℕ) → IsDoor h → IsFresh h.view → Looked (Join t 0 size) t h h' → Won (Join t 0 size) h' h'' → phase ≡ h'.word.phase
@@ -295,7 +310,7 @@ around_none v = record { tier = refl; size = refl; arrived = refl }
 
 pub lagging_round : {old mid new door : Holding} → KeepsCrew 0 old mid → KeepsCrew 1 mid new → IsFresh door.view → AreSpent 1 old new door door × IsLookedAround door.view door.view × IsFresh door.view
 lagging_round {old} {mid} {new} {door} a b fresh = (
-  record { crew_tree = b.tree ∙ a.tree; door_tree = refl; crew = same_then a.crew b.crew; tried = (let x = a.tried in let y = b.tried in omega arith); crew_opened = b.opened ∙ a.opened; door_opened = refl; crew_made = made_then is_quiet a.made b.made; door_made = made_none is_entering door.steps },
+  record { crew_tree = b.tree ∙ a.tree; door_tree = refl; crew = same_then a.crew b.crew; tried = (let x = a.tried in let y = b.tried in omega arith); crew_opened = b.opened ∙ a.opened; door_opened = refl; crew_made = made_then is_quiet a.made b.made; door_made = made_none is_look door.steps },
   around_none door.view,
   fresh,
 )
@@ -310,7 +325,7 @@ soon_then {old} {mid} {new} {door} {d} {after} {a} {b} {tries} x y few = record 
   crew_opened = y.crew_opened ∙ x.crew_opened;
   door_opened = y.door_opened ∙ x.door_opened;
   crew_made = made_then is_quiet x.crew_made y.crew_made;
-  door_made = made_then is_entering x.door_made y.door_made;
+  door_made = made_then is_entering (look_made_enters x.door_made) y.door_made;
 }
 
 pub rounds_answer : {old mid door d : Holding} {made tries : ℕ} (new : Holding) (size : ℕ) (a : Registered) → ((after : Holding) → a ≢ registered.Busy after) → AreSpent made old mid door d → made < tries → JoinsOnce mid new d size a
@@ -333,7 +348,7 @@ spent_then {old} {mid} {new} {door} {d} {after} {a} x y = record {
   crew_opened = y.crew_opened ∙ x.crew_opened;
   door_opened = y.door_opened ∙ x.door_opened;
   crew_made = made_then is_quiet x.crew_made y.crew_made;
-  door_made = made_then is_entering x.door_made y.door_made;
+  door_made = made_then is_look x.door_made y.door_made;
 }
 
 pub waits_by : {w w' seen : Fields} → w ≡ w' → w ≡ seen → Waits seen → Waits w'
@@ -419,7 +434,7 @@ module _ {c c' h h' : Holding} (new : Holding) (size tries : ℕ) (some : c.view
       crew_opened = m.0.crew_opened ∙ seen.opened;
       door_opened = m.0.door_opened ∙ took.opened;
       crew_made = made_then is_quiet (looked_quiet seen) m.0.crew_made;
-      door_made = made_then is_entering (looked_enters took) m.0.door_made;
+      door_made = made_then is_look (looked_looks took) m.0.door_made;
     },
     around_then (looked_around door took) m.1,
     m.2,
@@ -427,18 +442,22 @@ module _ {c c' h h' : Holding} (new : Holding) (size tries : ℕ) (some : c.view
   beside_then (registered.Held after phase cause) door m = absurd m
   beside_then (registered.Owing opening) door m = absurd m
 
-  made_here : (r : Registered) → JoinsHere c' new h' size tries r → MadeOnly is_entering h'.steps (token_of r).steps × MadeOnly is_quiet c'.steps new.steps
-  made_here (registered.Joined crew phase) m = (m.0.door_made, m.0.crew_made)
-  made_here (registered.Full after count) m = (m.0.door_made, m.0.crew_made)
-  made_here (registered.Ended after shown) m = (m.0.door_made, m.0.crew_made)
-  made_here (registered.Busy after) m = (m.0.door_made, m.0.crew_made)
-  made_here (registered.Held after phase cause) m = absurd m
-  made_here (registered.Owing opening) m = absurd m
+  door_enters : (r : Registered) → JoinsHere c' new h' size tries r → EnteredBy r h.steps (token_of r).steps
+  door_enters (registered.Joined crew phase) m = subst (λ (ks : List Kind). MadeOnly is_entering ks crew.steps) took.steps m.0.door_made
+  door_enters (registered.Full after count) m = subst (λ (ks : List Kind). MadeOnly is_entering ks after.steps) took.steps m.0.door_made
+  door_enters (registered.Ended after shown) m = subst (λ (ks : List Kind). MadeOnly is_entering ks after.steps) took.steps m.0.door_made
+  door_enters (registered.Busy after) m = subst (λ (ks : List Kind). MadeOnly is_look ks after.steps) took.steps m.0.door_made
+  door_enters (registered.Held after phase cause) m = absurd m
+  door_enters (registered.Owing opening) m = absurd m
+
+  crew_looks : (r : Registered) → JoinsHere c' new h' size tries r → MadeOnly is_quiet c'.steps new.steps
+  crew_looks (registered.Joined crew phase) m = m.0.crew_made
+  crew_looks (registered.Full after count) m = m.0.crew_made
+  crew_looks (registered.Ended after shown) m = m.0.crew_made
+  crew_looks (registered.Busy after) m = m.0.crew_made
+  crew_looks (registered.Held after phase cause) m = absurd m
+  crew_looks (registered.Owing opening) m = absurd m
 
   -- both have looked at the root first
-  pub looked_then : (r : Registered) → JoinsHere c' new h' size tries r → HasEntered h.steps (token_of r).steps × HasLooked c.steps new.steps
-  looked_then r m =
-      let both = made_here r m in (
-        subst (λ (ks : List Kind). MadeOnly is_entering ks (token_of r).steps) took.steps both.0,
-        subst (λ (ks : List Kind). MadeOnly is_quiet ks new.steps) seen.steps both.1,
-      )
+  pub looked_then : (r : Registered) → JoinsHere c' new h' size tries r → EnteredBy r h.steps (token_of r).steps × HasLooked c.steps new.steps
+  looked_then r m = (door_enters r m, subst (λ (ks : List Kind). MadeOnly is_quiet ks new.steps) seen.steps (crew_looks r m))

@@ -11,10 +11,11 @@ pub mod Breaking
 pub mod Settling
 pub mod Staying
 pub mod Seeks
+pub mod Watching
 pub mod Entering
 pub mod Coming
-pub mod Waits
 pub mod Ending
 pub mod Gathering
 pub mod StayingHere
 pub mod Greeting
+pub mod Waits

@@ -43,6 +43,14 @@ pub made_then : (is : Kind → Bool) {a b c : List Kind} → MadeOnly is a b →
 made_then is {a} {b} {c} x y =
     (y.0 ++ x.0, y.1 ∙ (ap (λ (ks : List Kind). y.0 ++ ks) x.1 ∙ sym (append_assoc y.0 x.0 a)), all_more is y.0 x.0 y.2 x.2)
 
+-- kinds of steps that are among others
+all_wider : (is wide : Kind → Bool) → ((k : Kind) → is k ≡ true → wide k ≡ true) → (xs : List Kind) → AllByRecursion (λ k. is k ≡ true) xs → AllByRecursion (λ k. wide k ≡ true) xs
+all_wider is wide more [] a = a
+all_wider is wide more (x ∷ xs) a = (more x a.0, all_wider is wide more xs a.1)
+
+pub made_wider : (is wide : Kind → Bool) → ((k : Kind) → is k ≡ true → wide k ≡ true) → {a b : List Kind} → MadeOnly is a b → MadeOnly wide a b
+made_wider is wide more m = (m.0, m.1, all_wider is wide more m.0 m.2)
+
 pub glance_quiet : (t : ℕ) → is_quiet (glance t) ≡ true
 glance_quiet zero = refl
 glance_quiet (suc t) = refl

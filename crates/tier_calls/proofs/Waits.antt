@@ -18,7 +18,8 @@ use Rattle.tier_steps.proofs.KindLaw.{mine}
 use Rattle.tier_rule.specs.Tell.{Beside}
 use Rattle.tier_calls.specs.Holding.{Named, Holding, Looked, Took, Won, Lost, IsCrew, shape_of}
 use Rattle.tier_calls.specs.Arrives.{IsLooked, IsSoon}
-use Rattle.tier_calls.specs.Polls.{Polls}
+use Rattle.tier_calls.specs.Polls.{Polls, HasCaughtUp}
+use Rattle.tier_calls.proofs.Greeting.{known_by, waits_here}
 use Rattle.tier_calls.specs.declared.polling.Polled.TheVariants.{Passed, Waiting, Here}
 use Rattle.tier_calls.specs.Passes.{IsFresh}
 use Rattle.tier_calls.proofs.Settling.{first, first_fresh, first_made}
@@ -123,3 +124,32 @@ pub refresh_made : (b : Bool) {h h' : Holding} (h'' : Holding) {t : ℕ} → Loo
 refresh_made true {h} {h'} h'' {t} took won =
     made_then is_quiet (look_made_one took) (subst (MadeOnly is_quiet h'.steps) (sym won.steps) (made_more is_quiet Refresh h'.steps h'.steps refl (made_none is_quiet h'.steps)))
 refresh_made false {h} {h'} h'' {t} took lost = made_then is_quiet (look_made_one took) (glance_made h'.tier h'.steps h''.steps lost.took.steps)
+
+-- a tier where a member is to arrive, and that doesn't lag, is in that member's phase
+pub in_phase : {ps : List ℕ} {t : ℕ} {w : Fields} {v : View} → Beside ps t w v → v.errand ≡ Rest → v.tier ≡ t → v.arrived < v.size → w.ended ≡ false → lags w v ≡ false → w.phase ≡ v.phase
+in_phase {ps} {t} {w} {v} b rests here some going still =
+    let k = known_by ps t w v b in
+    let waits = waits_here b rests here some still going in
+    let current : v.phase ≡ k.root = ⊎_elim (λ (e : v.phase ≡ k.root). e) (λ (e : (next_phase_of v.phase ≡ k.root) × (v.arrived ≡ v.size)). absurd (let a = e.1 in omega arith)) (k.fits.current (omega arith)) in
+    ⊎_elim (λ (e : w.phase ≡ k.root). e ∙ sym current) (λ (e : (next_phase_of w.phase ≡ k.root) × (w.unarrived ≡ 0)). absurd (let a = e.1 in let c = waits.1 in omega arith)) (k.keeps_up waits.0)
+
+-- the root is in the phase of a member that is to arrive
+pub root_in_phase : {ps : List ℕ} {w : Fields} {v : View} → Beside ps 0 w v → v.arrived < v.size → w.phase ≡ v.phase
+root_in_phase {ps} {w} {v} b some =
+    let k = known_by ps 0 w v b in
+    let current : v.phase ≡ k.root = ⊎_elim (λ (e : v.phase ≡ k.root). e) (λ (e : (next_phase_of v.phase ≡ k.root) × (v.arrived ≡ v.size)). absurd (let a = e.1 in omega arith)) (k.fits.current (omega arith)) in
+    (k.at_root refl).0 ∙ sym current
+
+pub caught_up_at_root : {h : Holding} → Beside h.tree.key.shape h.tier h.word h.view → h.view.arrived < h.view.size → h.tier ≡ 0 → h.view.tier ≡ 0 → HasCaughtUp h
+caught_up_at_root {h} b some root own = (root ∙ sym own, inl (root_in_phase (subst (λ (t : ℕ). Beside h.tree.key.shape t h.word h.view) root b) some))
+
+-- after a look at its own tier, below the root, which didn't lag
+pub caught_up_by_look : {h h' : Holding} {t : ℕ} → h.view.tier ≡ t → t ≢ 0 → h.view.errand ≡ Rest → h.view.arrived < h.view.size → Looked Look t h h' → lags h'.word h'.view ≡ false → HasCaughtUp h'
+caught_up_by_look {h} {h'} {t} here below rests some took still =
+    let same = glanced_view below took in
+    let b = subst (λ (n : ℕ). Beside h.tree.key.shape n h'.word h'.view) took.tier took.after in
+    let going = (known_by h.tree.key.shape t h'.word h'.view b).below (omega arith) in
+    let at : h'.view.tier ≡ t = ap (λ (v : View). v.tier) same ∙ here in (
+      took.tier ∙ sym at,
+      inl (in_phase b (ap (λ (v : View). v.errand) same ∙ rests) at (subst (λ (v : View). v.arrived < v.size) (sym same) some) going still),
+    )

@@ -1,5 +1,6 @@
 -- What arrivals and departures answer, by the view of their token (the calls of Java SE 21's `Phaser`; tokens are not part of its API).
-use Rattle.std.specs.Prelude.{true, false, ◌≡◌, ℕ, ◌+◌, ◌<◌, ◌≤◌, ◌⊎◌}
+use Rattle.std.specs.Prelude.{true, false, ◌≡◌, ℕ, ◌+◌, ◌<◌, ◌≤◌, ◌⊎◌, ◌∷◌}
+use Rattle.tier_steps.specs.declared.kind.Kind.TheVariants.{Look}
 use Rattle.tier_steps.specs.Word.{next_phase_of}
 use Rattle.tier_steps.specs.declared.view.View.{View}
 use Rattle.tier_steps.specs.declared.view.Errand.TheVariants.{Rest}
@@ -56,6 +57,15 @@ Arrives own h tries (Ended crew shown) = IsSoon tries h crew × IsLooked h.view 
 Arrives own h tries (Busy crew) = IsSpent tries h crew × IsLooked h.view crew.view × IsFresh crew.view × HasLooked h.steps crew.steps
 Arrives own h tries (Owing errand) = IsSpent tries h errand.token × HasPassed own h.view errand.token.view × (is_owing errand.progress ≡ true) × (errand.token.view.led ≡ false)
     × HasStepped own h.steps errand.token.steps
+
+-- All members had arrived just where the look that begins the call found so: AlreadyArrived follows that look alone, and a call that goes on has an unarrived member.
+abbrev pub FindsArrived : Holding → Arrived → Type 0
+FindsArrived h (Done crew phase led) = Unit {0}
+FindsArrived h (Left door phase led) = Unit {0}
+FindsArrived h (AlreadyArrived crew phase) = crew.steps ≡ Look ∷ h.steps
+FindsArrived h (Ended crew shown) = Unit {0}
+FindsArrived h (Busy crew) = crew.view.arrived < crew.view.size
+FindsArrived h (Owing errand) = Unit {0}
 
 -- the answer says that the tree has ended
 abbrev pub HasEnded : Arrived → Type 0

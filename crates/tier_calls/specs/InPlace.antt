@@ -1,5 +1,6 @@
 -- What an arrival in place answers, by the views of its token before and after (not part of Java's API).
-use Rattle.std.specs.Prelude.{false, ◌≡◌, ℕ}
+use Rattle.std.specs.Prelude.{false, ◌≡◌, ℕ, ◌∷◌}
+use Rattle.tier_steps.specs.declared.kind.Kind.TheVariants.{Look}
 use Rattle.tier_steps.specs.declared.view.Errand.TheVariants.{Rest}
 use Rattle.tier_steps.specs.declared.view.Passage.TheVariants.{Arrival}
 use Rattle.tier_core.specs.declared.call.Progress.TheVariants as progress
@@ -21,6 +22,12 @@ ArrivesInPlace old new (Done phase led) = (new.tree ≡ old.tree) × (new.opened
 ArrivesInPlace old new (AlreadyArrived phase) = (new.tree ≡ old.tree) × (new.opened ≡ old.opened) × IsLooked old.view new.view × IsFresh new.view × (new.view.arrived ≡ new.view.size) × (phase ≡ new.view.phase)
     × HasLooked old.steps new.steps
 ArrivesInPlace old new (Ended shown) = (new.tree ≡ old.tree) × (new.opened ≡ old.opened) × IsLooked old.view new.view × EndSeen new.view shown × HasLooked old.steps new.steps
+
+-- AlreadyArrived follows the look that begins the call, alone.
+abbrev pub FindsArrived : Holding → Holding → ArrivedInPlace → Type 0
+FindsArrived old new (Done phase led) = Unit {0}
+FindsArrived old new (AlreadyArrived phase) = new.steps ≡ Look ∷ old.steps
+FindsArrived old new (Ended shown) = Unit {0}
 
 -- the answer says that the tree has ended
 abbrev pub HasEnded : ArrivedInPlace → Type 0

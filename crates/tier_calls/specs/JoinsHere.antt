@@ -7,6 +7,7 @@ use Rattle.tier_core.specs.declared.call.Played.TheVariants as played
 use Rattle.tier_calls.specs.Holding.{Holding, shape_of, IsCrew}
 use Rattle.tier_calls.specs.Passes.{IsSame}
 use Rattle.tier_calls.specs.Made.{MadeOnly, is_quiet, is_entering}
+use Rattle.tier_calls.specs.Next.{is_look}
 use Rattle.tier_calls.specs.Joins.{IsJoined, Refusal}
 use Rattle.tier_calls.specs.Passes.{EndSeen, IsFresh}
 use Rattle.tier_calls.specs.Arrives.{IsSoon, IsSpent}
@@ -28,7 +29,7 @@ pub record AreSoon (tries : ℕ) (old new door after : Holding) : Type 0 where
   pub crew_made : MadeOnly is_quiet old.steps new.steps
   pub door_made : MadeOnly is_entering door.steps after.steps
 
--- with just so many tries more
+-- with just so many tries more; the door has only looked and noted refusals
 pub record AreSpent (tries : ℕ) (old new door after : Holding) : Type 0 where
   pub crew_tree : new.tree ≡ old.tree
   pub door_tree : after.tree ≡ door.tree
@@ -37,7 +38,7 @@ pub record AreSpent (tries : ℕ) (old new door after : Holding) : Type 0 where
   pub crew_opened : new.opened ≡ old.opened
   pub door_opened : after.opened ≡ door.opened
   pub crew_made : MadeOnly is_quiet old.steps new.steps
-  pub door_made : MadeOnly is_entering door.steps after.steps
+  pub door_made : MadeOnly is_look door.steps after.steps
 
 -- There is no room: the word of the tier itself was noted, whose parties with those members would be too many.
 pub record IsFullHere (parents : List ℕ) (tier size : ℕ) (v : View) (count : ℕ) : Type 0 where
@@ -76,12 +77,12 @@ pub record KeepsCrew (tries : ℕ) (old new : Holding) : Type 0 where
 abbrev pub Waits : Fields → Type 0
 Waits w = w.ended ≡ false → (0 < w.parties) × (0 < w.unarrived)
 
--- a door that has made so many tries, and hasn't seen the end
+-- a door that has made so many tries, has only looked and noted refusals, and hasn't seen the end
 pub record IsStill (tries : ℕ) (door after : Holding) : Type 0 where
   pub spent : IsSpent tries door after
   pub looked : IsLookedAround door.view after.view
   pub fresh : IsFresh after.view
-  pub made : MadeOnly is_entering door.steps after.steps
+  pub made : MadeOnly is_look door.steps after.steps
 
 -- what the door's part of such a try answers
 abbrev pub AnswersHere : Holding → ℕ → ℕ → Registered → Type 0

@@ -9,6 +9,7 @@ use Rattle.tier_core.specs.declared.call.Played.TheVariants.{Done, Ended}
 use Rattle.tier_core.specs.declared.call.Progress.{Progress}
 use Rattle.tier_core.specs.declared.call.Progress.TheVariants.{Idle, Passing, Owing, Due}
 use Rattle.tier_core.specs.Turn.{own_kind}
+use Rattle.tier_calls.specs.Next.{is_look}
 
 -- looks
 abbrev pub is_glance : Kind → Bool
@@ -53,6 +54,10 @@ HasLooked old new = MadeOnly is_quiet (Look ∷ old) new
 -- one look at the root, and then looks and steps of a registration
 abbrev pub HasEntered : List Kind → List Kind → Type 0
 HasEntered old new = MadeOnly is_entering (Look ∷ old) new
+
+-- one look at the root, and then looks and refusals, which change no word
+abbrev pub HasWatched : List Kind → List Kind → Type 0
+HasWatched old new = MadeOnly is_look (Look ∷ old) new
 
 -- a look at the root, looks and refreshes, the step that counts the member, once, and then looks, refreshes and climbs
 abbrev pub HasStepped : Passage → List Kind → List Kind → Type 0

@@ -1,7 +1,8 @@
 -- What a poll answers, by the view of its token (not part of Java's API).
-use Rattle.std.specs.Prelude.{◌≡◌, ◌<◌}
+use Rattle.std.specs.Prelude.{◌≡◌, ◌<◌, ◌⊎◌}
+use Rattle.tier_steps.specs.declared.kind.Kind.TheVariants.{Refresh}
 use Rattle.tier_steps.specs.Word.{next_phase_of}
-use Rattle.tier_calls.specs.Holding.{Holding}
+use Rattle.tier_calls.specs.Holding.{Holding, Lost}
 use Rattle.tier_calls.specs.Passes.{EndSeen, IsFresh}
 use Rattle.tier_calls.specs.Made.{HasLooked}
 use Rattle.tier_calls.specs.Arrives.{IsLooked, IsSoon}
@@ -20,6 +21,17 @@ Polls old new (Passed phase) = IsSoon 1 old new × IsLooked old.view new.view ×
 Polls old new Waiting = IsSoon 1 old new × IsLooked old.view new.view × IsFresh new.view × (new.view.arrived ≡ new.view.size) × HasLooked old.steps new.steps
 Polls old new (Here phase) = IsSoon 1 old new × IsLooked old.view new.view × IsFresh new.view × (new.view.arrived < new.view.size) × (phase ≡ new.view.phase) × HasLooked old.steps new.steps
 Polls old new (Ended shown) = IsSoon 1 old new × IsLooked old.view new.view × EndSeen new.view shown × HasLooked old.steps new.steps
+
+-- The token's last step was at its own tier, which is now in its phase. Or that step was a try to bring the tier into it, and the try was lost.
+abbrev pub HasCaughtUp : Holding → Type 0
+HasCaughtUp new = (new.tier ≡ new.view.tier) × ((new.word.phase ≡ new.view.phase) ⊎ ((before : Holding) × Lost Refresh before new))
+
+-- where a member is to arrive, its tier was brought into its phase
+abbrev pub CaughtUpBy : Polled → Holding → Type 0
+CaughtUpBy (Passed phase) new = HasCaughtUp new
+CaughtUpBy Waiting new = Unit {0}
+CaughtUpBy (Here phase) new = HasCaughtUp new
+CaughtUpBy (Ended shown) new = Unit {0}
 
 -- the answer says that the tree has ended
 abbrev pub HasEnded : Polled → Type 0

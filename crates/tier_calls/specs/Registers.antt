@@ -1,5 +1,6 @@
 -- What registrations answer, by the view of their token (`register` and `bulkRegister` of Java SE 21's `Phaser`; tokens are not part of its API).
-use Rattle.std.specs.Prelude.{◌≡◌, ◌≢◌, ℕ, ◌<◌}
+use Rattle.std.specs.Prelude.{◌≡◌, ◌≢◌, ℕ, ◌<◌, List}
+use Rattle.tier_steps.specs.declared.kind.Kind.{Kind}
 use Rattle.tier_steps.specs.declared.view.View.{View}
 use Rattle.tier_steps.specs.declared.view.Errand.TheVariants.{Rest}
 use Rattle.tier_core.specs.declared.call.Progress.TheVariants as progress
@@ -11,6 +12,7 @@ use Rattle.tier_calls.specs.Calls.{IsAt}
 use Rattle.tier_calls.specs.Openings.{asked_tier, asked_size}
 use Rattle.tier_calls.specs.Joins.{IsJoined, Refusal, JoinAt}
 use Rattle.tier_calls.specs.Passes.{IsFresh}
+use Rattle.tier_calls.specs.Made.{HasEntered, HasWatched}
 use Rattle.tier_calls.specs.Arrives.{IsSoon, IsSpent}
 use Rattle.tier_calls.specs.declared.joining.Registered.{Registered}
 use Rattle.tier_calls.specs.declared.joining.Registered.TheVariants.{Joined, Held, Full, Ended, Busy, Owing}
@@ -37,6 +39,15 @@ Registers h tier size tries (Full door count) = IsSoon tries h door × Refusal (
 Registers h tier size tries (Ended door shown) = IsSoon tries h door × Refusal (shape_of h) tier size door.view (played.Ended shown)
 Registers h tier size tries (Busy door) = IsSpent tries h door × IsLookedAround h.view door.view × IsFresh door.view
 Registers h tier size tries (Owing opening) = IsSpent tries h opening.token × IsFor tier size opening
+
+-- which steps the token took: before Busy only looks and refusals, so it has claimed no tier, not even for a while
+abbrev pub EnteredBy : Registered → List Kind → List Kind → Type 0
+EnteredBy (Joined crew phase) old new = HasEntered old new
+EnteredBy (Held door phase cause) old new = HasEntered old new
+EnteredBy (Full door count) old new = HasEntered old new
+EnteredBy (Ended door shown) old new = HasEntered old new
+EnteredBy (Busy door) old new = HasWatched old new
+EnteredBy (Owing opening) old new = HasEntered old new
 
 -- the token in an answer
 abbrev pub token_of : Registered → Holding

@@ -6,8 +6,8 @@ ghost use Rattle.tier_core.specs.Turn.{lags};
 ghost use Rattle.tier_calls.specs.Holding.{IsCrew, shape_of};
 ghost use Rattle.tier_calls.specs.Passes.{IsFresh};
 ghost use Rattle.tier_calls.specs.JoinsHere.{JoinsHere, JoinsOnce, KeepsCrew, Meets, Waits};
-ghost use Rattle.tier_calls.specs.Made.{HasEntered, HasLooked};
-ghost use Rattle.tier_calls.specs.Registers.{HasEnded, token_of};
+ghost use Rattle.tier_calls.specs.Made.{HasLooked};
+ghost use Rattle.tier_calls.specs.Registers.{EnteredBy, HasEnded, token_of};
 
 use crate::joining::Registered;
 use crate::seated::Seated;
@@ -162,7 +162,7 @@ impl Tiers {
         requires some { crew.old.view.arrived < crew.old.view.size }
         requires size { (0 < size) × (size ≤ MOST_PARTIES) }
         ensures answer { JoinsHere crew.old crew.new door size tries result }
-        ensures made { HasEntered door.steps (token_of result).steps × HasLooked crew.old.steps crew.new.steps }
+        ensures made { EnteredBy result door.steps (token_of result).steps × HasLooked crew.old.steps crew.new.steps }
         ensures ended { (phase : ℕ) → door.view.end_seen ≡ Some phase → HasEnded result }
         ensures crew_ended { (phase : ℕ) → crew.old.view.end_seen ≡ Some phase → HasEnded result }
     {

@@ -1,8 +1,8 @@
 //! Registrations at any tier.
 
 ghost use Rattle.std.specs.Prelude.{◌≡◌, ◌<◌, ◌≤◌, ℕ, Some, length};
-ghost use Rattle.tier_calls.specs.Made.{MadeOnly, HasEntered, is_entering};
-ghost use Rattle.tier_calls.specs.Registers.{token_of, opened_of, Registers, Opens, HasEnded, IsEndedOrOwed, NoBusy, MayAnswer, AnswersJoin, SameAnswer};
+ghost use Rattle.tier_calls.specs.Made.{MadeOnly, is_entering};
+ghost use Rattle.tier_calls.specs.Registers.{token_of, opened_of, Registers, EnteredBy, Opens, HasEnded, IsEndedOrOwed, NoBusy, MayAnswer, AnswersJoin, SameAnswer};
 
 use crate::going::Going;
 use crate::tiers::Tiers;
@@ -109,7 +109,7 @@ impl Tiers {
         requires tier { tier < length self.now.key.shape }
         requires size { (0 < size) × (size ≤ MOST_PARTIES) }
         ensures answer { Registers door tier size tries result }
-        ensures made { HasEntered door.steps (token_of result).steps }
+        ensures made { EnteredBy result door.steps (token_of result).steps }
         ensures ended { (phase : ℕ) → door.view.end_seen ≡ Some phase → HasEnded result }
     {
         let Door { mut token } = door;

@@ -1,10 +1,10 @@
 //! Asking whether a phase has passed.
 
-ghost use Rattle.std.specs.Prelude.{◌≡◌, ◌<◌, ◌≤◌, ◌+◌, ℕ, Some};
+ghost use Rattle.std.specs.Prelude.{◌≡◌, ◌<◌, ◌≤◌, ◌+◌, ℕ, Some, false};
 ghost use Rattle.tier_rule.specs.Tell.{Beside};
 ghost use Rattle.tier_calls.specs.Holding.{IsCrew, shape_of};
 ghost use Rattle.tier_calls.specs.Made.{MadeOnly, is_quiet};
-ghost use Rattle.tier_calls.specs.Polls.{Polls, HasEnded};
+ghost use Rattle.tier_calls.specs.Polls.{Polls, HasCaughtUp, CaughtUpBy, HasEnded};
 
 use crate::seated::Seated;
 use crate::tiers::Tiers;
@@ -27,17 +27,19 @@ pub enum Polled {
 }
 
 impl Tiers {
-    /// Brings the token's own tier into its phase if it lags. Makes at most one try.
+    /// Brings the token's own tier into its phase if it lags, after a look at the root. Makes at most one try.
     fn catch_up(&self, token: &mut Seated)
         requires own { token.old.tree ≡ self.now }
         requires crew { IsCrew token.old }
         requires known { Beside (shape_of token.old) token.old.tier token.old.word token.old.view }
         requires some { token.old.view.arrived < token.old.view.size }
+        requires root { (token.old.tier ≡ 0) × (token.old.word.ended ≡ false) }
         ensures tree { token.new.tree ≡ token.old.tree }
         ensures view { token.new.view ≡ token.old.view }
         ensures tried { token.new.tried ≤ token.old.tried + 1 }
         ensures opened { token.new.opened ≡ token.old.opened }
         ensures made { MadeOnly is_quiet token.old.steps token.new.steps }
+        ensures caught_up { HasCaughtUp token.new }
     {
         let view = token.view();
         if view.tier == 0 {
@@ -57,6 +59,7 @@ impl Tiers {
         requires own { crew.old.tree ≡ self.now }
         ensures tree { crew.new.tree ≡ crew.old.tree }
         ensures answer { Polls crew.old crew.new result }
+        ensures caught_up { CaughtUpBy result crew.new }
         ensures ended { (phase : ℕ) → crew.old.view.end_seen ≡ Some phase → HasEnded result }
     {
         let token = &mut crew.token;

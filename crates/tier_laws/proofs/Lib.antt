@@ -26,3 +26,4 @@ pub mod Waiting
 pub mod Driven
 pub mod Sixteen
 pub mod Worked
+pub mod Refreshing

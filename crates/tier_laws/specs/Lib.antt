@@ -13,3 +13,4 @@ pub mod Ended
 pub mod Waits
 pub mod Driven
 pub mod Worked
+pub mod Refreshes

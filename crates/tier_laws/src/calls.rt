@@ -4,6 +4,7 @@
 ghost use Rattle.tier_laws.specs.Ended.{TokensBeginCalls, EndedTreesTurnCallsAway, ForceEndsTheTree};
 ghost use Rattle.tier_laws.specs.Calls.{OnlyAdvancesMove, PollsFollowTheRoot, PassesBeginWithALook, PassesCount, ClimbsKeepMembers, AdvancesKeepMembers};
 ghost use Rattle.tier_laws.specs.Calls.{JoinsBeginWithALook, JoinsPlaceAtOnce, OpenTiersAdmit, SettlingKeepsMembers};
+ghost use Rattle.tier_laws.specs.Refreshes.{RefreshesAreNext};
 
 /// A token begins a call exactly if it exists, is in no call, and the call fits it: an arrival, a departure and a poll
 /// need a member, a join needs a token without members and a tier that exists, and any token may end the tree.
@@ -76,4 +77,10 @@ pub fn open_tiers_admit()
 /// The steps that give claimed tiers their parties after a join, or release them after a refusal, change no members.
 pub fn settling_keeps_members()
     ensures { SettlingKeepsMembers }
+{}
+
+/// A token brings a tier into its phase only if the tier lags, and is its own, where a member is to arrive, or the one
+/// that it climbs to.
+pub fn refreshes_are_next()
+    ensures { RefreshesAreNext }
 {}

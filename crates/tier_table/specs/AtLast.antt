@@ -1,5 +1,7 @@
 -- What calls that wait answer, by the view of their token: as the calls that they repeat, without a number of tries (own).
-use Rattle.std.specs.Prelude.{◌≡◌, ℕ, ◌<◌, Result, Ok, Err}
+use Rattle.std.specs.Prelude.{◌≡◌, ℕ, ◌<◌, Result, Ok, Err, List, ◌∷◌}
+use Rattle.tier_steps.specs.declared.kind.Kind.{Kind}
+use Rattle.tier_steps.specs.declared.kind.Kind.TheVariants.{Look}
 use Rattle.tier_steps.specs.declared.view.Errand.TheVariants.{Rest}
 use Rattle.tier_steps.specs.declared.view.Passage.{Passage}
 use Rattle.tier_steps.specs.declared.view.Passage.TheVariants.{Departure}
@@ -8,7 +10,8 @@ use Rattle.tier_calls.specs.Holding.{Named, Holding}
 use Rattle.tier_calls.specs.Passes.{IsSame, EndSeen, IsFresh}
 use Rattle.tier_calls.specs.Arrives.{IsLooked, HasPassed}
 use Rattle.tier_calls.specs.Joins.{IsJoined, Refusal}
-use Rattle.tier_calls.specs.Polls.{HasPassedOn}
+use Rattle.tier_calls.specs.Polls.{HasPassedOn, HasCaughtUp}
+use Rattle.tier_calls.specs.Made.{MadeOnly, HasLooked, HasStepped, LedBy, is_upward}
 use Rattle.tier_table.specs.declared.waiting.RegisteredAtLast.{RegisteredAtLast}
 use Rattle.tier_table.specs.declared.waiting.RegisteredAtLast.TheVariants as admitted
 use Rattle.tier_table.specs.declared.waiting.ArrivedAtLast.{ArrivedAtLast}
@@ -58,6 +61,37 @@ token_counted (counted.Done crew phase led) = crew
 token_counted (counted.Left door phase led) = door
 token_counted (counted.AlreadyArrived crew phase) = crew
 token_counted (counted.Ended crew shown) = crew
+
+-- the steps of the token that is handed back
+abbrev pub steps_of : Result RegisteredAtLast Holding → List Kind
+steps_of (Ok answer) = (token_admitted answer).steps
+steps_of (Err door) = door.steps
+
+-- Which steps the token of an arrival or a departure took: as in a call with tries, however often it was repeated. AlreadyArrived follows the look that begins the
+-- call, alone.
+abbrev pub PassedBy : Passage → List Kind → ArrivedAtLast → Type 0
+PassedBy own old (counted.Done crew phase led) = LedBy (HasStepped own old) led crew.steps
+PassedBy own old (counted.Left door phase led) = LedBy (HasStepped own old) led door.steps
+PassedBy own old (counted.AlreadyArrived crew phase) = crew.steps ≡ Look ∷ old
+PassedBy own old (counted.Ended crew shown) = HasLooked old crew.steps
+
+-- one that has counted
+abbrev pub ResumedBy : List Kind → ArrivedAtLast → Type 0
+ResumedBy old (counted.Done crew phase led) = LedBy (MadeOnly is_upward old) led crew.steps
+ResumedBy old (counted.Left door phase led) = LedBy (MadeOnly is_upward old) led door.steps
+ResumedBy old (counted.AlreadyArrived crew phase) = ⊥
+ResumedBy old (counted.Ended crew shown) = ⊥
+
+-- a crew that has looked and has an unarrived member, when the tries of its call ran out
+pub record HasWaited (old new : Holding) : Type 0 where
+  pub looked : HasLooked old.steps new.steps
+  pub some : new.view.arrived < new.view.size
+
+-- where a member is to arrive, its tier was brought into its phase
+abbrev pub CaughtUpBy : AwaitedAdvance → Holding → Type 0
+CaughtUpBy (awaited.Passed phase) new = HasCaughtUp new
+CaughtUpBy (awaited.Here phase) new = HasCaughtUp new
+CaughtUpBy (awaited.Ended shown) new = Unit {0}
 
 -- so many tokens were split off it
 abbrev pub HasSplit : ℕ → Result RegisteredAtLast Holding → Type 0

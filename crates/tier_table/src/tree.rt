@@ -13,10 +13,10 @@ ghost use Rattle.advance_rule.specs.Plan.{end_ends_at};
 ghost use Rattle.tier_steps.specs.declared.view.Passage.TheVariants.{Arrival, Departure};
 ghost use Rattle.tier_calls.specs.Holding.{IsSat, split_once};
 ghost use Rattle.tier_table.specs.Ruled.{IsNew};
-ghost use Rattle.tier_calls.specs.Arrives.{Arrives, Resumes};
+ghost use Rattle.tier_calls.specs.Arrives.{Arrives, FindsArrived, Resumes};
 ghost use Rattle.tier_calls.specs.Arrives as arrives;
-ghost use Rattle.tier_calls.specs.Made.{MadeOnly, HasEntered, HasLooked, is_entering};
-ghost use Rattle.tier_calls.specs.Registers.{token_of, opened_of, Registers, Opens};
+ghost use Rattle.tier_calls.specs.Made.{MadeOnly, HasLooked, is_entering};
+ghost use Rattle.tier_calls.specs.Registers.{token_of, opened_of, Registers, EnteredBy, Opens};
 ghost use Rattle.tier_calls.specs.Registers as registers;
 ghost use Rattle.tier_calls.specs.JoinsHere.{JoinsHere};
 ghost use Rattle.tier_calls.specs.Polls.{Polls};
@@ -138,7 +138,7 @@ impl<F: Fn(u32, u32) -> bool> Tree<F> {
         requires tier { tier < length self.now.tree.key.shape }
         requires members { (0 < members) × (members ≤ 65535) }
         ensures answer { Registers door tier members tries result }
-        ensures made { HasEntered door.steps (token_of result).steps }
+        ensures made { EnteredBy result door.steps (token_of result).steps }
         ensures ended { (phase : ℕ) → door.view.end_seen ≡ Some phase → registers.HasEnded result }
     {
         self.tiers.join(door, tier, members, tries)
@@ -164,7 +164,7 @@ impl<F: Fn(u32, u32) -> bool> Tree<F> {
         requires unarrived { crew.old.view.arrived < crew.old.view.size }
         requires members { (0 < members) × (members ≤ 65535) }
         ensures answer { JoinsHere crew.old crew.new door members tries result }
-        ensures made { HasEntered door.steps (token_of result).steps × HasLooked crew.old.steps crew.new.steps }
+        ensures made { EnteredBy result door.steps (token_of result).steps × HasLooked crew.old.steps crew.new.steps }
         ensures ended { (phase : ℕ) → door.view.end_seen ≡ Some phase → registers.HasEnded result }
         ensures crew_ended { (phase : ℕ) → crew.old.view.end_seen ≡ Some phase → registers.HasEnded result }
     {
@@ -185,6 +185,7 @@ impl<F: Fn(u32, u32) -> bool> Tree<F> {
         requires own { crew.tree ≡ self.now.tree }
         requires rule { Answers (F.pre self.now.rule.closure) (F.post self.now.rule.closure) (end_ends_at self.now.rule.plan) }
         ensures answer { Arrives Arrival crew tries result }
+        ensures found { FindsArrived crew result }
         ensures ended { (phase : ℕ) → crew.view.end_seen ≡ Some phase → arrives.HasEnded result }
     {
         self.tiers.pass(crew, Passage::Arrival, &self.rule, tries)
@@ -196,6 +197,7 @@ impl<F: Fn(u32, u32) -> bool> Tree<F> {
         requires own { crew.tree ≡ self.now.tree }
         requires rule { Answers (F.pre self.now.rule.closure) (F.post self.now.rule.closure) (end_ends_at self.now.rule.plan) }
         ensures answer { Arrives Departure crew tries result }
+        ensures found { FindsArrived crew result }
         ensures ended { (phase : ℕ) → crew.view.end_seen ≡ Some phase → arrives.HasEnded result }
     {
         self.tiers.pass(crew, Passage::Departure, &self.rule, tries)
@@ -222,6 +224,7 @@ impl<F: Fn(u32, u32) -> bool> Tree<F> {
         requires own { crew.old.tree ≡ self.now.tree }
         ensures tree { crew.new.tree ≡ crew.old.tree }
         ensures answer { Polls crew.old crew.new result }
+        ensures caught_up { polls.CaughtUpBy result crew.new }
         ensures ended { (phase : ℕ) → crew.old.view.end_seen ≡ Some phase → polls.HasEnded result }
     {
         self.tiers.poll(crew)

@@ -4,16 +4,18 @@
 //!
 //! The functions take the tiers, and the rule where an advance may be due. [`Tree`] passes its own.
 
-ghost use Rattle.std.specs.Prelude.{◌≡◌, ◌<◌, ◌≤◌, ℕ, Some, length, MatchResult};
+ghost use Rattle.std.specs.Prelude.{◌≡◌, ◌<◌, ◌≤◌, ℕ, Some, length, List, MatchResult};
 ghost use Rattle.advance_rule.specs.Stored.{Answers};
 ghost use Rattle.advance_rule.specs.Plan.{end_ends_at};
 ghost use Rattle.tier_steps.specs.declared.view.Passage.TheVariants.{Arrival, Departure};
 ghost use Rattle.tier_calls.specs.Openings.{asked_tier, asked_size};
 ghost use Rattle.tier_calls.specs.Holding.{Holding};
 ghost use Rattle.tier_calls.specs.Arrives.{IsLooked, HasPassed};
+ghost use Rattle.tier_calls.specs.Made.{MadeOnly, HasEntered, HasLooked, HasStepped, is_entering};
+ghost use Rattle.tier_steps.specs.declared.kind.Kind.{Kind};
 ghost use Rattle.tier_calls.specs.InPlace.{ArrivesInPlace};
 ghost use Rattle.tier_calls.specs.InPlace as in_place;
-ghost use Rattle.tier_table.specs.AtLast.{token_admitted, token_counted, HasSplit, RegistersAtLast, OpensAtLast, ArrivesAtLast, ResumesAtLast, AwaitsAdvance, HasEndedJoin, HasEndedArrival, HasEndedWait};
+ghost use Rattle.tier_table.specs.AtLast.{token_admitted, token_counted, steps_of, HasSplit, HasWaited, PassedBy, ResumedBy, CaughtUpBy, RegistersAtLast, OpensAtLast, ArrivesAtLast, ResumesAtLast, AwaitsAdvance, HasEndedJoin, HasEndedArrival, HasEndedWait};
 
 use crate::tree::Tree;
 use advance_rule::StoredAdvance;
@@ -74,6 +76,7 @@ pub fn open_wait<R: Wait>(tiers: &Tiers, rt: &R, opening: Opening) -> Result<Reg
     requires own { opening.token.tree ≡ tiers.now }
     ensures answer { OpensAtLast tiers.now (asked_tier opening.token.view.errand) (asked_size opening.token.view.errand) result }
     ensures unsplit { HasSplit opening.token.opened result }
+    ensures made { MadeOnly is_entering opening.token.steps (steps_of result) }
 {
     let mut opening = opening;
     for _ in rt.forever() {
@@ -103,6 +106,7 @@ fn join_once<R: Wait>(
     requires members { (0 < members) × (members ≤ 65535) }
     ensures answer { OpensAtLast tiers.now tier members result }
     ensures unsplit { HasSplit door.opened result }
+    ensures made { HasEntered door.steps (steps_of result) }
     ensures ended { (phase : ℕ) → door.view.end_seen ≡ Some phase → MatchResult result HasEndedJoin (λ next. ⊥) }
 {
     match tiers.join(door, tier, members, TRIES) {
@@ -129,6 +133,7 @@ pub fn register_wait<R: Wait>(
     requires members { (0 < members) × (members ≤ 65535) }
     ensures answer { RegistersAtLast tiers.now tier members result }
     ensures unsplit { (token_admitted result).opened ≡ door.opened }
+    ensures made { HasEntered door.steps (token_admitted result).steps }
     ensures ended { (phase : ℕ) → door.view.end_seen ≡ Some phase → HasEndedJoin result }
 {
     let mut door = door;
@@ -154,6 +159,7 @@ fn resume_wait<R: Wait, F: Fn(u32, u32) -> bool>(
     requires plan { rule.now.plan ≡ tiers.now.key.plan }
     ensures answer { ResumesAtLast errand.token result }
     ensures unsplit { (token_counted result).opened ≡ errand.token.opened }
+    ensures made { ResumedBy errand.token.steps result }
 {
     let mut errand = errand;
     for _ in rt.forever() {
@@ -180,6 +186,7 @@ fn settle_wait<R: Wait, F: Fn(u32, u32) -> bool>(
     requires plan { rule.now.plan ≡ tiers.now.key.plan }
     ensures answer { (h : Holding) → 0 < h.view.size → errand.token.tree ≡ h.tree → HasPassed own h.view errand.token.view → ArrivesAtLast own h result }
     ensures unsplit { (token_counted result).opened ≡ errand.token.opened }
+    ensures made { (old : List Kind) → HasStepped own old errand.token.steps → PassedBy own old result }
 {
     match resume_wait(tiers, rt, errand, rule) {
         ArrivedAtLast::Left(door, phase, led) => {
@@ -205,6 +212,7 @@ fn pass_once<R: Wait, F: Fn(u32, u32) -> bool>(
     ensures some { 0 < crew.view.size }
     ensures answer { MatchResult result (λ a. ArrivesAtLast own crew a) (λ next. (next.tree ≡ crew.tree) × IsLooked crew.view next.view) }
     ensures unsplit { MatchResult result (λ a. (token_counted a).opened ≡ crew.opened) (λ next. next.opened ≡ crew.opened) }
+    ensures made { MatchResult result (λ a. PassedBy own crew.steps a) (λ next. HasWaited crew next) }
     ensures ended { (phase : ℕ) → crew.view.end_seen ≡ Some phase → MatchResult result HasEndedArrival (λ next. ⊥) }
 {
     // For the prover: a crew has members.
@@ -232,6 +240,7 @@ pub fn pass_wait<R: Wait, F: Fn(u32, u32) -> bool>(
     requires plan { rule.now.plan ≡ tiers.now.key.plan }
     ensures answer { ArrivesAtLast own crew result }
     ensures unsplit { (token_counted result).opened ≡ crew.opened }
+    ensures made { PassedBy own crew.steps result }
     ensures ended { (phase : ℕ) → crew.view.end_seen ≡ Some phase → HasEndedArrival result }
 {
     let mut crew = crew;
@@ -252,6 +261,8 @@ pub fn await_advance<R: Wait>(tiers: &Tiers, rt: &R, crew: &mut Crew) -> Awaited
     ensures tree { crew.new.tree ≡ crew.old.tree }
     ensures answer { AwaitsAdvance crew.old crew.new result }
     ensures unsplit { crew.new.opened ≡ crew.old.opened }
+    ensures made { HasLooked crew.old.steps crew.new.steps }
+    ensures caught_up { CaughtUpBy result crew.new }
     ensures ended { (phase : ℕ) → crew.old.view.end_seen ≡ Some phase → HasEndedWait result }
 {
     // For the prover: a crew has members.
@@ -286,6 +297,7 @@ impl<F: Fn(u32, u32) -> bool> Tree<F> {
         requires members { (0 < members) × (members ≤ 65535) }
         ensures answer { RegistersAtLast self.now.tree tier members result }
         ensures unsplit { (token_admitted result).opened ≡ door.opened }
+        ensures made { HasEntered door.steps (token_admitted result).steps }
         ensures ended { (phase : ℕ) → door.view.end_seen ≡ Some phase → HasEndedJoin result }
     {
         register_wait(&self.tiers, rt, door, tier, members)
@@ -301,6 +313,7 @@ impl<F: Fn(u32, u32) -> bool> Tree<F> {
         requires rule { Answers (F.pre self.now.rule.closure) (F.post self.now.rule.closure) (end_ends_at self.now.rule.plan) }
         ensures answer { ArrivesAtLast Arrival crew result }
         ensures unsplit { (token_counted result).opened ≡ crew.opened }
+        ensures made { PassedBy Arrival crew.steps result }
         ensures ended { (phase : ℕ) → crew.view.end_seen ≡ Some phase → HasEndedArrival result }
     {
         pass_wait(&self.tiers, rt, crew, Passage::Arrival, &self.rule)
@@ -313,6 +326,7 @@ impl<F: Fn(u32, u32) -> bool> Tree<F> {
         requires own { crew.old.tree ≡ self.now.tree }
         requires rule { Answers (F.pre self.now.rule.closure) (F.post self.now.rule.closure) (end_ends_at self.now.rule.plan) }
         ensures answer { ArrivesInPlace crew.old crew.new result }
+        ensures found { in_place.FindsArrived crew.old crew.new result }
         ensures ended { (phase : ℕ) → crew.old.view.end_seen ≡ Some phase → in_place.HasEnded result }
     {
         self.tiers.arrive_in_place(rt, crew, &self.rule)
@@ -325,6 +339,7 @@ impl<F: Fn(u32, u32) -> bool> Tree<F> {
         requires rule { Answers (F.pre self.now.rule.closure) (F.post self.now.rule.closure) (end_ends_at self.now.rule.plan) }
         ensures answer { ArrivesAtLast Departure crew result }
         ensures unsplit { (token_counted result).opened ≡ crew.opened }
+        ensures made { PassedBy Departure crew.steps result }
         ensures ended { (phase : ℕ) → crew.view.end_seen ≡ Some phase → HasEndedArrival result }
     {
         pass_wait(&self.tiers, rt, crew, Passage::Departure, &self.rule)
@@ -339,6 +354,8 @@ impl<F: Fn(u32, u32) -> bool> Tree<F> {
         ensures tree { crew.new.tree ≡ crew.old.tree }
         ensures answer { AwaitsAdvance crew.old crew.new result }
         ensures unsplit { crew.new.opened ≡ crew.old.opened }
+        ensures made { HasLooked crew.old.steps crew.new.steps }
+        ensures caught_up { CaughtUpBy result crew.new }
         ensures ended { (phase : ℕ) → crew.old.view.end_seen ≡ Some phase → HasEndedWait result }
     {
         await_advance(&self.tiers, rt, crew)

@@ -5,8 +5,8 @@ use Rattle.bsp_job.specs.Jobs.{status_number}
 use Rattle.bsp_job.proofs.Giving.{gives}
 use Rattle.bsp_job.proofs.run_and_give.Goals as goal
 
-pub returns : goal.returns
-returns c =
+pub returns-clause-given : goal.returns-clause-given
+returns-clause-given c =
     let fits : FitsSigned w32 c.give.result = search rules in
     let status : to_z w32 (of_z w32 c.give.result) ≡ c.give.result = omega (arith, ints, fits) in
     let small : FitsSigned w32 c.status_of.result = search rules in

@@ -1,7 +1,10 @@
-use Rattle.std.proofs.Common.{◌∙◌, arith, rules}
+use Rattle.std.proofs.Common.{◌∙◌, refl, inl, inr, arith, rules}
 use Rattle.std.proofs.lemmas.Bool.{false≢true}
-use Rattle.tier_table.proofs.Lasting.{same_then, waits_same, same_looked, same_passed_on}
+use Rattle.tier_table.proofs.Lasting.{same_first, same_then, watched_then, waits_same, same_looked, same_passed_on}
 use Rattle.tier_table.proofs.waiting.await_advance.Goals as goal
+
+pub loop-init : goal.loop-init
+loop-init g c = (tt, tt, refl, same_first c.args.crew.now.view, λ p e. e, refl, inl refl)
 
 pub loop-preserved : goal.loop-preserved
 loop-preserved g c =
@@ -14,6 +17,7 @@ loop-preserved g c =
       same_then kept.3 (waits_same (let x = kept.3.size in let y = told.1.size in omega arith) told.3 told.1),
       λ p e. absurd (c.in-Waiting.ensures.ended p (kept.4 p e)),
       told.0.opened ∙ kept.5,
+      inr (watched_then kept.6 told.4),
     )
 
 pub returns-in-Passed-clause-answer : goal.returns-in-Passed-clause-answer
@@ -58,3 +62,12 @@ returns-in-Here-clause-unsplit g c = c.in-Here.ensures.answer.0.opened ∙ c.loo
 
 pub returns-in-Ended-clause-unsplit : goal.returns-in-Ended-clause-unsplit
 returns-in-Ended-clause-unsplit g c = c.in-Ended.ensures.answer.0.opened ∙ c.loop.invariant.5
+
+pub returns-in-Passed-clause-made : goal.returns-in-Passed-clause-made
+returns-in-Passed-clause-made g c = watched_then c.loop.invariant.6 c.in-Passed.ensures.answer.5
+
+pub returns-in-Here-clause-made : goal.returns-in-Here-clause-made
+returns-in-Here-clause-made g c = watched_then c.loop.invariant.6 c.in-Here.ensures.answer.5
+
+pub returns-in-Ended-clause-made : goal.returns-in-Ended-clause-made
+returns-in-Ended-clause-made g c = watched_then c.loop.invariant.6 c.in-Ended.ensures.answer.3

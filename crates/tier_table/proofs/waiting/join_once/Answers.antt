@@ -1,9 +1,21 @@
-use Rattle.std.proofs.Common.{ℕ, refl, subst, ◌∙◌, rules}
+use Rattle.std.proofs.Common.{◌≡◌, ◌⊎◌, inl, inr, ℕ, List, refl, subst, ◌∙◌, rules}
+use Rattle.tier_steps.specs.declared.kind.Kind.{Kind}
+use Rattle.tier_core.specs.declared.call.Cause.{Cause}
+use Rattle.tier_calls.specs.declared.joining.Registered.{Registered}
+use Rattle.tier_calls.specs.declared.joining.Registered.TheVariants.{Held, Busy}
+use Rattle.tier_calls.specs.Holding.{Holding}
+use Rattle.tier_calls.specs.Made.{HasEntered}
+use Rattle.tier_calls.specs.Registers.{EnteredBy, token_of}
 use Rattle.tier_core.specs.declared.call.Played.TheVariants as played
 use Rattle.tier_calls.specs.Openings.{asked_tier, asked_size}
 use Rattle.tier_table.specs.AtLast.{HasSplit}
-use Rattle.tier_table.proofs.Lasting.{opens_for, refused_for}
+use Rattle.tier_table.proofs.Lasting.{opens_for, refused_for, entered_more, watched_enters}
 use Rattle.tier_table.proofs.waiting.join_once.Goals as goal
+
+-- a registration that is held off, or ran out of tries
+held_off : (r : Registered) (h : Holding) (old : List Kind) → ((phase : ℕ) × (cause : Cause) × (r ≡ Held h phase cause)) ⊎ (r ≡ Busy h) → EnteredBy r old (token_of r).steps → HasEntered old h.steps
+held_off r h old (inl e) m = subst (λ (s : Registered). EnteredBy s old (token_of s).steps) e.2 m
+held_off r h old (inr e) m = watched_enters (subst (λ (s : Registered). EnteredBy s old (token_of s).steps) e m)
 
 pub join-requires-clause-own : goal.join-requires-clause-own
 join-requires-clause-own g c = c.requires.own
@@ -17,7 +29,7 @@ join-requires-clause-size g c = c.requires.members
 pub returns-in-Joined : goal.returns-in-Joined
 returns-in-Joined g c =
     let told = c.in-Joined.ensures.answer in
-    record { answer = (told.0.tree ∙ c.requires.own, told.1, told.2, told.3); unsplit = told.0.opened; ended = λ p e. absurd (c.in-Joined.ensures.ended p e) }
+    record { answer = (told.0.tree ∙ c.requires.own, told.1, told.2, told.3); unsplit = told.0.opened; made = c.in-Joined.ensures.made; ended = λ p e. absurd (c.in-Joined.ensures.ended p e) }
 
 pub returns-in-Full : goal.returns-in-Full
 returns-in-Full g c =
@@ -29,12 +41,13 @@ returns-in-Full g c =
             told.1,
       );
       unsplit = told.0.opened;
+      made = c.in-Full.ensures.made;
       ended = λ p e. absurd (c.in-Full.ensures.ended p e);
     }
 
 pub returns-in-Ended : goal.returns-in-Ended
 returns-in-Ended g c =
-    let told = c.in-Ended.ensures.answer in record { answer = (told.0.tree ∙ c.requires.own, (told.1.0, told.1.1, search rules)); unsplit = told.0.opened; ended = λ p e. tt }
+    let told = c.in-Ended.ensures.answer in record { answer = (told.0.tree ∙ c.requires.own, (told.1.0, told.1.1, search rules)); unsplit = told.0.opened; made = c.in-Ended.ensures.made; ended = λ p e. tt }
 
 pub open_wait-requires : goal.open_wait-requires
 open_wait-requires g c = record { own = c.in-Owing.ensures.answer.0.tree ∙ c.requires.own }
@@ -46,5 +59,9 @@ returns-in-Owing g c =
     record {
       answer = opens_for c.args.tiers.now (asked_tier errand) c.args.tier (asked_size errand) c.args.members c.open_wait.result asked.place asked.members c.open_wait.ensures.answer;
       unsplit = subst (λ (n : ℕ). HasSplit n c.open_wait.result) c.in-Owing.ensures.answer.0.opened c.open_wait.ensures.unsplit;
+      made = entered_more c.in-Owing.ensures.made c.open_wait.ensures.made;
       ended = λ p e. absurd (c.in-Owing.ensures.ended p e);
     }
+
+pub returns-in-Held-clause-made : goal.returns-in-Held-clause-made
+returns-in-Held-clause-made g c = held_off c.join.result c.in-Held.next c.args.door.steps c.in-Held.is c.join.ensures.made

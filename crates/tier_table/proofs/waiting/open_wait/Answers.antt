@@ -1,9 +1,14 @@
-use Rattle.std.proofs.Common.{◌∙◌, rules}
+use Rattle.std.proofs.Common.{◌∙◌, refl, rules}
+use Rattle.tier_calls.specs.Made.{is_entering}
+use Rattle.tier_calls.proofs.Making.{made_none, made_then}
 use Rattle.std.proofs.lemmas.Bool.{false≢true}
 use Rattle.tier_calls.specs.Openings.{asked_tier, asked_size}
 use Rattle.tier_core.specs.declared.call.Played.TheVariants as played
 use Rattle.tier_table.proofs.Lasting.{joined_for, refused_for}
 use Rattle.tier_table.proofs.waiting.open_wait.Goals as goal
+
+pub loop-init : goal.loop-init
+loop-init g c = (tt, tt, c.requires.own, refl, refl, refl, made_none is_entering c.args.opening.token.steps)
 
 pub returns-in-Joined : goal.returns-in-Joined
 returns-in-Joined g c =
@@ -19,6 +24,7 @@ returns-in-Joined g c =
         told.3,
       );
       unsplit = told.0.opened ∙ kept.5;
+      made = made_then is_entering kept.6 c.in-Joined.ensures.made;
     }
 
 pub returns-in-Full : goal.returns-in-Full
@@ -34,14 +40,15 @@ returns-in-Full g c =
             (played.Full c.in-Full.count) kept.2 kept.3 kept.4 told.1,
       );
       unsplit = told.0.opened ∙ kept.5;
+      made = made_then is_entering kept.6 c.in-Full.ensures.made;
     }
 
 pub returns-in-Ended : goal.returns-in-Ended
 returns-in-Ended g c =
-    let told = c.in-Ended.ensures.answer in record { answer = (told.0.tree ∙ c.loop.invariant.2, (told.1.0, told.1.1, search rules)); unsplit = told.0.opened ∙ c.loop.invariant.5 }
+    let told = c.in-Ended.ensures.answer in record { answer = (told.0.tree ∙ c.loop.invariant.2, (told.1.0, told.1.1, search rules)); unsplit = told.0.opened ∙ c.loop.invariant.5; made = made_then is_entering c.loop.invariant.6 c.in-Ended.ensures.made }
 
 pub returns-in-Held : goal.returns-in-Held
-returns-in-Held g c = let told = c.in-Held.ensures.answer in record { answer = told.0.tree ∙ c.loop.invariant.2; unsplit = told.0.opened ∙ c.loop.invariant.5 }
+returns-in-Held g c = let told = c.in-Held.ensures.answer in record { answer = told.0.tree ∙ c.loop.invariant.2; unsplit = told.0.opened ∙ c.loop.invariant.5; made = made_then is_entering c.loop.invariant.6 c.in-Held.ensures.made }
 
 pub open_on-requires : goal.open_on-requires
 open_on-requires g c = record { own = c.loop.invariant.2 }
@@ -49,7 +56,7 @@ open_on-requires g c = record { own = c.loop.invariant.2 }
 pub loop-preserved : goal.loop-preserved
 loop-preserved g c =
     let told = c.in-Owing.ensures.answer in
-    let kept = c.loop.invariant in (tt, tt, told.0.tree ∙ kept.2, told.1.place ∙ kept.3, told.1.members ∙ kept.4, told.0.opened ∙ kept.5)
+    let kept = c.loop.invariant in (tt, tt, told.0.tree ∙ kept.2, told.1.place ∙ kept.3, told.1.members ∙ kept.4, told.0.opened ∙ kept.5, made_then is_entering kept.6 c.in-Owing.ensures.made)
 
 pub loop-preserved-derived : goal.loop-preserved-derived
 loop-preserved-derived g c = (tt, tt)

@@ -1,16 +1,16 @@
-use Rattle.std.proofs.Common.{refl, ◌∙◌}
+use Rattle.std.proofs.Common.{refl, inl, inr, ◌∙◌}
 use Rattle.std.proofs.lemmas.Bool.{false≢true}
-use Rattle.tier_table.proofs.Lasting.{arrives_then, looked_first, looked_then}
+use Rattle.tier_table.proofs.Lasting.{arrives_then, looked_first, looked_then, passes_then, waited_then}
 use Rattle.tier_table.proofs.waiting.pass_wait.Goals as goal
 
 pub loop-init : goal.loop-init
-loop-init g c = (tt, tt, refl, looked_first c.args.crew.view, λ p e. e, refl)
+loop-init g c = (tt, tt, refl, looked_first c.args.crew.view, λ p e. e, refl, inl refl)
 
 pub loop-preserved : goal.loop-preserved
 loop-preserved g c =
     let kept = c.loop.invariant in
     let told = c.in-Err.ensures.answer in
-    (tt, tt, told.0 ∙ kept.2, looked_then c.pass_once.ensures.some kept.3 told.1, λ p e. absurd (c.in-Err.ensures.ended p (kept.4 p e)), c.in-Err.ensures.unsplit ∙ kept.5)
+    (tt, tt, told.0 ∙ kept.2, looked_then c.pass_once.ensures.some kept.3 told.1, λ p e. absurd (c.in-Err.ensures.ended p (kept.4 p e)), c.in-Err.ensures.unsplit ∙ kept.5, inr (waited_then kept.6 c.in-Err.ensures.made))
 
 pub returns-in-Ok-clause-answer : goal.returns-in-Ok-clause-answer
 returns-in-Ok-clause-answer g c =
@@ -35,3 +35,6 @@ unreachable-requires g c = false≢true c.in-None.ensures.steps
 
 pub returns-in-Ok-clause-unsplit : goal.returns-in-Ok-clause-unsplit
 returns-in-Ok-clause-unsplit g c = c.in-Ok.ensures.unsplit ∙ c.loop.invariant.5
+
+pub returns-in-Ok-clause-made : goal.returns-in-Ok-clause-made
+returns-in-Ok-clause-made g c = passes_then c.args.own c.args.crew c.loop.crew c.in-Ok.answer c.loop.invariant.6 c.in-Ok.ensures.answer c.in-Ok.ensures.made

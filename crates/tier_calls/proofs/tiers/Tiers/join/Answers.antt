@@ -2,12 +2,8 @@ use Rattle.std.proofs.Common.{subst}
 use Rattle.tier_calls.specs.Holding.{IsDoor}
 use Rattle.tier_calls.proofs.Seating.{took_by}
 use Rattle.tier_calls.proofs.Settling.{unseen, not_ended}
-use Rattle.tier_calls.proofs.Coming.{join_may_answer, registers}
-use Rattle.std.proofs.Common.{refl, ◌∷◌}
-use Rattle.tier_steps.specs.declared.kind.Kind.TheVariants.{Look}
-use Rattle.tier_calls.specs.Made.{is_entering}
-use Rattle.tier_calls.proofs.Making.{made_then}
-use Rattle.tier_calls.proofs.Entering.{looked_first_enters, ran_enters, answer_enters}
+use Rattle.tier_calls.proofs.Coming.{join_may_answer, registers, enters}
+use Rattle.tier_calls.proofs.Entering.{looked_first_enters}
 use Rattle.tier_calls.proofs.tiers.Tiers.join.Goals as goal
 
 pub answer_join-requires : goal.answer_join-requires
@@ -28,5 +24,5 @@ returns-then-word-clause-made c = looked_first_enters (took_by c.door.view_is c.
 
 pub returns-clause-made : goal.returns-clause-made
 returns-clause-made c =
-    answer_enters (Look ∷ c.args.door.steps) c.go_joining.result c.answer_join.result c.answer_join.ensures
-    (made_then is_entering (looked_first_enters (took_by c.door.view_is c.look.ensures)) (ran_enters refl c.go_joining.ensures))
+    enters c.args.self.now c.args.tier c.args.size c.args.tries c.args.door c.look.new.token c.go_joining.result c.requires.own (subst IsDoor c.door.view_is c.door.invariant)
+    (took_by c.door.view_is c.look.ensures) (not_ended c.word.view_is c.word-word.ensures.word c.if-word.false) c.requires.size.0 c.go_joining.ensures c.answer_join.result c.answer_join.ensures

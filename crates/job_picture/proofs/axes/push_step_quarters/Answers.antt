@@ -1,5 +1,5 @@
 use Rattle.job_picture.proofs.Behind.{onto, last}
-use Rattle.job_picture.proofs.axes.push_step_ticks.Goals as goal
+use Rattle.job_picture.proofs.axes.push_step_quarters.Goals as goal
 
 pub returns : goal.returns
 returns c =
