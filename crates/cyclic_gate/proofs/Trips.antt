@@ -4,7 +4,7 @@ use Rattle.advance_rule.specs.Action.{fails_at}
 use Rattle.cyclic_gate.specs.Machine.{Machine, machine, fresh}
 use Rattle.cyclic_gate.specs.Steps.{Answer, Breaks, Absent, is_in, others, indexed, answer, after, next_generation}
 use Rattle.cyclic_gate.specs.Runs.{answers}
-use Rattle.cyclic_gate.specs.Laws.{times, callers_of, indices_of, GivesEachOnce, IsRightTrip, AllRight, TripsGiveEachOnce, GenerationsFollow}
+use Rattle.cyclic_gate.specs.Laws.{times, callers_of, indices_of, GivesEachOnce, IsRightTrip, AllRight, TripsGiveEachOnce, GenerationsFollow, EndsMoveOrKeep, FailuresAreAsPlanned}
 use Rattle.cyclic_gate.specs.declared.call.Call.{Call}
 use Rattle.cyclic_gate.specs.declared.call.Call.TheVariants.{Await, Abandon, BreakOff, Reset}
 
@@ -96,3 +96,27 @@ next_below g low = grind (arith, nat_tests)
 
 pub generations_follow : GenerationsFollow
 generations_follow = record { below = next_below; half = refl; last = refl; wraps = refl }
+
+pub ends_move_or_keep : EndsMoveOrKeep
+ends_move_or_keep = record {
+  resets = λ fails m. refl;
+  breaks = λ fails m. refl;
+  trip = refl;
+  failure = refl;
+  other_failure = refl;
+  earlier_failure = refl;
+  abandon = refl;
+  break_off = refl;
+  reset = refl;
+  broken_again = refl;
+  mended = refl;
+}
+
+itself : (g : ℕ) → (g == g) ≡ true
+itself g = grind (arith, nat_tests)
+
+apart : (at g : ℕ) → (g ≡ at → ⊥) → (g == at) ≡ false
+apart at g other = grind (arith, nat_tests)
+
+pub failures_are_as_planned : FailuresAreAsPlanned
+failures_are_as_planned = record { never = λ g. refl; there = itself; nowhere_else = apart; worked = (refl, refl, refl) }

@@ -7,13 +7,12 @@ use Rattle.advance_rule.specs.Action.{fails_at}
 use Rattle.cyclic_gate.specs.Machine.{Machine, machine, fresh}
 use Rattle.cyclic_gate.specs.Steps.{Answer, Waiting, Trips, Fails, IsBroken, Breaks, Already, Absent, is_in, others, indexed, index_of, answer, after}
 use Rattle.cyclic_gate.specs.Runs.{after_all}
-use Rattle.cyclic_gate.specs.History.{outcome_of, ledger_entry, calls_of, AreRight, first_end}
+use Rattle.cyclic_gate.specs.History.{LedgerEntry, outcome_of, ledger_entry, calls_of, AreRight, first_end}
 use Rattle.cyclic_gate.specs.Outcomes.{end_or}
 use Rattle.cyclic_gate.specs.Wakers.{is_end, End, end_among, IsTold, left_of, LateWakersAreTold}
 use Rattle.cyclic_gate.proofs.Indexed.{indexed-append}
 use Rattle.cyclic_gate.specs.declared.call.Call.{Call}
 use Rattle.cyclic_gate.specs.declared.call.Call.TheVariants.{Await, Abandon, BreakOff, Reset}
-use Rattle.cyclic_gate.specs.declared.ledger.LedgerEntry.{LedgerEntry}
 use Rattle.cyclic_gate.specs.declared.ledger.Outcome.{Outcome}
 
 -- who stands in a list stands in it with one more behind

@@ -33,11 +33,11 @@ GivesNoTurn gate.ActionFailed _ = ⊥
 GivesNoTurn gate.AlreadyWaiting a = a ≡ Already
 GivesNoTurn gate.Memory a = is_change a ≡ true
 
--- How an arrival goes on at the gate: the caller waits for an end noted at this place or later, with its index, or goes on as the last.
+-- How an arrival goes on at the gate: the caller waits for the end of this generation, with its index, or goes on as the last.
 abbrev pub IsArrival : Arrival → Answer → ℕ → Type 0
-IsArrival (arrival.Waits index place) (Waiting i) noted = (index ≡ i) × (place ≡ noted)
-IsArrival (arrival.Last index) (Trips all) noted = index ≡ 0
-IsArrival _ _ noted = ⊥
+IsArrival (arrival.Waits index mine) (Waiting i) generation = (index ≡ i) × (mine ≡ generation)
+IsArrival (arrival.Last index) (Trips all) generation = index ≡ 0
+IsArrival _ _ generation = ⊥
 
 abbrev pub RefusesArrival : GateFault → Answer → Type 0
 RefusesArrival gate.Broken a = a ≡ IsBroken
@@ -46,7 +46,7 @@ RefusesArrival gate.ActionFailed _ = ⊥
 RefusesArrival gate.AlreadyWaiting a = a ≡ Already
 RefusesArrival gate.Memory a = is_change a ≡ true
 
--- The ledger that an arrival leaves: with the call noted where the caller waits or was the last, also where the action failed then; else as it was.
+-- The ledger that an arrival leaves: after the call where the caller waits or was the last, also where the action failed then; else as it was.
 abbrev pub left_by : Result Arrival GateFault → ℕ → Book → Book
 left_by (Ok arrival) caller b = booked (Await caller) b
 left_by (Err gate.ActionFailed) caller b = booked (Await caller) b

@@ -4,9 +4,13 @@ use Rattle.cyclic_gate.specs.Machine.{Machine}
 use Rattle.cyclic_gate.specs.Steps.{Answer, Waiting, Trips, Fails, IsBroken, Breaks, Already, Absent, answer, after}
 use Rattle.cyclic_gate.specs.Outcomes.{end_or}
 use Rattle.cyclic_gate.specs.declared.call.Call.{Call}
-use Rattle.cyclic_gate.specs.declared.ledger.LedgerEntry.{LedgerEntry}
 use Rattle.cyclic_gate.specs.declared.ledger.Outcome.{Outcome}
 use Rattle.cyclic_gate.specs.declared.ledger.Outcome.TheVariants.{GoesOn, Tripped, Broken}
+
+-- a call, and what it did to the generation in which it was made
+pub record LedgerEntry : Type 0 where
+  pub call : Call
+  pub outcome : Outcome
 
 -- what a call with this answer did to the generation
 abbrev pub outcome_of : Answer → Outcome

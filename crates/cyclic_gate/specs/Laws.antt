@@ -1,10 +1,11 @@
 -- What a barrier promises over whole runs, in the words of those who use it (Java SE 21, `CyclicBarrier`).
-use Rattle.std.specs.Prelude.{◌≡◌, ℕ, ◌+◌, ◌<◌, ◌≤◌, ◌==◌, nat_lt, if◌then◌else◌, List, [], ◌∷◌, ◌++◌, Option}
-use Rattle.cyclic_gate.specs.Machine.{Machine, fresh}
+use Rattle.std.specs.Prelude.{◌≡◌, ℕ, ◌+◌, ◌<◌, ◌≤◌, ◌==◌, nat_lt, if◌then◌else◌, List, [], ◌∷◌, ◌++◌, true, false, Option, None, Some}
+use Rattle.advance_rule.specs.Action.{fails_at}
+use Rattle.cyclic_gate.specs.Machine.{Machine, machine, fresh}
 use Rattle.cyclic_gate.specs.Steps.{Answer, Waiting, Trips, Fails, Breaks, answer, after, others, next_generation}
 use Rattle.cyclic_gate.specs.Runs.{answers}
 use Rattle.cyclic_gate.specs.declared.call.Call.{Call}
-use Rattle.cyclic_gate.specs.declared.call.Call.TheVariants.{Await, Abandon}
+use Rattle.cyclic_gate.specs.declared.call.Call.TheVariants.{Await, Abandon, BreakOff, Reset}
 
 -- how often a number stands in a list
 abbrev pub times : ℕ → List ℕ → ℕ
@@ -66,3 +67,24 @@ pub record GenerationsFollow : Type 0 where
   pub half : next_generation 9223372036854775807 ≡ 9223372036854775808
   pub last : next_generation 18446744073709551614 ≡ 18446744073709551615
   pub wraps : next_generation 18446744073709551615 ≡ 0
+
+-- A trip and a reset take the next generation. A break keeps its own, and nobody waits then: in general, and for a barrier of two parties in generation 7 where caller 5 waits, worked out by hand.
+pub record EndsMoveOrKeep : Type 0 where
+  pub resets : (fails : Option ℕ) (m : Machine) → after fails Reset m ≡ machine m.parties (next_generation m.generation) [] false
+  pub breaks : (fails : Option ℕ) (m : Machine) → after fails BreakOff m ≡ machine m.parties m.generation [] true
+  pub trip : after None (Await 9) (machine 2 7 (5 ∷ []) false) ≡ machine 2 8 [] false
+  pub failure : after (Some 7) (Await 9) (machine 2 7 (5 ∷ []) false) ≡ machine 2 7 [] true
+  pub other_failure : after (Some 8) (Await 9) (machine 2 7 (5 ∷ []) false) ≡ machine 2 8 [] false
+  pub earlier_failure : after (Some 6) (Await 9) (machine 2 7 (5 ∷ []) false) ≡ machine 2 8 [] false
+  pub abandon : after None (Abandon 5) (machine 2 7 (5 ∷ []) false) ≡ machine 2 7 [] true
+  pub break_off : after None BreakOff (machine 2 7 (5 ∷ []) false) ≡ machine 2 7 [] true
+  pub reset : after None Reset (machine 2 7 (5 ∷ []) false) ≡ machine 2 8 [] false
+  pub broken_again : after None BreakOff (machine 2 7 [] true) ≡ machine 2 7 [] true
+  pub mended : after None Reset (machine 2 7 [] true) ≡ machine 2 8 [] false
+
+-- An action that is to fail in a generation fails in that one, and in no other; one that isn't, in none.
+pub record FailuresAreAsPlanned : Type 0 where
+  pub never : (g : ℕ) → fails_at None g ≡ false
+  pub there : (at : ℕ) → fails_at (Some at) at ≡ true
+  pub nowhere_else : (at g : ℕ) → (g ≡ at → ⊥) → fails_at (Some at) g ≡ false
+  pub worked : (fails_at (Some 5) 4 ≡ false) × (fails_at (Some 5) 5 ≡ true) × (fails_at (Some 5) 6 ≡ false)

@@ -8,4 +8,5 @@ pub mod History
 pub mod Ledger
 pub mod Laws
 pub mod Wakers
+pub mod Forgetting
 pub mod Gate

@@ -5,6 +5,8 @@ use Rattle.cyclic_gate.specs.Machine.{Machine}
 use Rattle.cyclic_gate.specs.Steps.{Answer, Waiting, Trips, Fails, IsBroken, Already, Absent, is_change}
 use Rattle.cyclic_gate.specs.declared.call.AwaitedStep.{AwaitedStep}
 use Rattle.cyclic_gate.specs.declared.call.AwaitedStep.TheVariants.{Waits, Tripped, ActionFailed, Broken}
+use Rattle.cyclic_gate.specs.declared.call.Arrived.{Arrived}
+use Rattle.cyclic_gate.specs.declared.call.Arrived.TheVariants as arrived
 use Rattle.cyclic_gate.specs.declared.call.BarrierFault.{BarrierFault}
 use Rattle.cyclic_gate.specs.declared.call.BarrierFault.TheVariants.{NoParty, AlreadyWaiting, NotWaiting, TooMany, Memory}
 
@@ -19,6 +21,14 @@ answer_of (Waits index) = Waiting index
 answer_of (Tripped all) = Trips all.items
 answer_of (ActionFailed others) = Fails others.items
 answer_of Broken = IsBroken
+
+-- the same without the lists of callers
+abbrev pub IsArrived : Arrived → Answer → Type 0
+IsArrived a (Waiting i) = a ≡ arrived.Waits i
+IsArrived a (Trips all) = a ≡ arrived.Tripped
+IsArrived a (Fails others) = a ≡ arrived.ActionFailed
+IsArrived a IsBroken = a ≡ arrived.Broken
+IsArrived a _ = ⊥
 
 -- A fault of a call is the refusal that the machine answers. Memory may run out only in a call that would change something.
 abbrev pub RefusesAwait : BarrierFault → Answer → Type 0
@@ -41,3 +51,9 @@ Ran post (Waits index) = Unit {0}
 Ran post (Tripped all) = post false
 Ran post (ActionFailed others) = post true
 Ran post Broken = Unit {0}
+
+abbrev pub RanFor : (Bool → Type 0) → Arrived → Type 0
+RanFor post (arrived.Waits index) = Unit {0}
+RanFor post arrived.Tripped = post false
+RanFor post arrived.ActionFailed = post true
+RanFor post arrived.Broken = Unit {0}

@@ -3,10 +3,9 @@ use Rattle.std.specs.Prelude.{◌≡◌, ◌⊎◌, ℕ, ◌+◌, Bool, true, fa
 use Rattle.cyclic_gate.specs.Machine.{Machine, fresh}
 use Rattle.cyclic_gate.specs.Steps.{Answer, Waiting, Trips, Fails, IsBroken, Breaks, Already, Absent, answer, after, is_in}
 use Rattle.cyclic_gate.specs.Runs.{after_all}
-use Rattle.cyclic_gate.specs.History.{ledger_entry, calls_of, AreRight, first_end}
+use Rattle.cyclic_gate.specs.History.{LedgerEntry, ledger_entry, calls_of, AreRight, first_end}
 use Rattle.cyclic_gate.specs.declared.call.Call.{Call}
 use Rattle.cyclic_gate.specs.declared.call.Call.TheVariants.{Await, Abandon}
-use Rattle.cyclic_gate.specs.declared.ledger.LedgerEntry.{LedgerEntry}
 use Rattle.cyclic_gate.specs.declared.ledger.Outcome.{Outcome}
 use Rattle.cyclic_gate.specs.declared.ledger.Outcome.TheVariants.{GoesOn, Tripped, Broken}
 

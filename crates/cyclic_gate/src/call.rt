@@ -33,6 +33,19 @@ pub enum AwaitedStep {
     Broken,
 }
 
+/// What an arrival did, without the lists of callers.
+#[derive(Clone, Copy, Debug, PartialEq, Eq)]
+pub enum Arrived {
+    /// The caller waits, with this arrival index.
+    Waits(u32),
+    /// The caller was the last, and the generation tripped.
+    Tripped,
+    /// The caller was the last, and the action failed. The barrier is broken now.
+    ActionFailed,
+    /// The barrier was broken before, and the caller doesn't wait.
+    Broken,
+}
+
 /// Why a call failed. Nothing changed then.
 #[derive(Clone, Copy, Debug, PartialEq, Eq, Error)]
 pub enum BarrierFault {

@@ -10,7 +10,7 @@ ghost use Rattle.cyclic_gate.specs.declared.call.Call.TheVariants.{Await, Abando
 use crate::call::BarrierFault;
 use crate::gate_state::GateState;
 use advance_rule::StoredAction;
-use std::alloc::{AllocError, Global};
+use std::alloc::Global;
 use std::marker::Model;
 use std::sync::Wait;
 use thiserror::Error;
@@ -34,8 +34,9 @@ pub enum GateFault {
 
 /// A cyclic barrier at which threads wait, with its action (Java SE 21, `CyclicBarrier`).
 ///
-/// The barrier is under one lock, beside the history of its calls. The last caller of a generation runs the
-/// action while it holds the lock, so the action must not call the gate. No contract can say what the barrier
+/// The barrier is under one lock, beside the ends of generations that some callers have still to read. There is at most one
+/// for each call of `await_turn` that hasn't returned, however many generations there were: 24 bytes each. The last caller
+/// of a generation runs the action while it holds the lock, so the action must not call the gate. No contract can say what the barrier
 /// was when a call took the lock. So the clauses say that some list of calls leaves a barrier that answers so.
 ///
 /// ```
@@ -71,7 +72,7 @@ impl<F: Fn(u64) -> bool> CyclicGate<F> {
         ensures action { IfOk result (λ gate. gate.action ≡ action) }
         ensures no_party { (result ≡ Err BarrierFault.NoParty) ↔ (parties <ℤ pos 1) }
         ensures too_many { (result ≡ Err BarrierFault.TooMany) ↔ (pos 65535 <ℤ parties) }
-        ensures fault { IfErr result (λ e. (e ≡ BarrierFault.NoParty) ⊎ ((e ≡ BarrierFault.TooMany) ⊎ (e ≡ BarrierFault.Memory))) }
+        ensures fault { IfErr result (λ e. (e ≡ BarrierFault.NoParty) ⊎ (e ≡ BarrierFault.TooMany)) }
     {
         match GateState::new(alloc, parties, action.fails()) {
             Ok(state) => Ok(CyclicGate { action, state }),
@@ -125,11 +126,17 @@ impl<F: Fn(u64) -> bool> CyclicGate<F> {
     }
 
     /// Starts the next generation, unbroken. Returns the callers who waited, whose calls fail with `Broken`,
-    /// in order of arrival (Java SE 21, `CyclicBarrier.reset`).
-    pub fn reset<R: Wait>(&self, rt: &R) -> Result<Vec<u32>, AllocError>
-        ensures answer { AfterSome self.now.parties self.now.action.plan (λ m. IfOk result (λ l.
-            answer self.now.action.plan Reset m ≡ Breaks l.items)) }
+    /// in order of arrival (Java SE 21, `CyclicBarrier.reset`). It needs no memory.
+    pub fn reset<R: Wait>(&self, rt: &R) -> Vec<u32>
+        ensures answer { AfterSome self.now.parties self.now.action.plan (λ m.
+            answer self.now.action.plan Reset m ≡ Breaks result.items) }
     {
         self.state.reset(rt)
+    }
+
+    /// Returns how many ends of generations are kept for callers that waited and haven't been answered yet. It is
+    /// never more than the calls of `await_turn` that haven't returned, however many generations there were.
+    pub fn kept<R: Wait>(&self, rt: &R) -> usize {
+        self.state.kept(rt)
     }
 }

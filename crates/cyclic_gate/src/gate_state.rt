@@ -1,5 +1,5 @@
 //! The barrier under a lock, where threads wait, without its action.
-ghost use Rattle.std.specs.Prelude.{◌≡◌, ◌⊎◌, ◌↔◌, ◌<◌, ◌≤◌, ◌<ℤ◌, pos, length, if◌then◌else◌, IfOk, IfErr, MatchResult};
+ghost use Rattle.std.specs.Prelude.{◌≡◌, ◌⊎◌, ◌↔◌, ◌<◌, ◌≤◌, ◌<ℤ◌, pos, IfOk, IfErr, MatchResult};
 ghost use Rattle.advance_rule.specs.Action.{AnswersAction};
 ghost use Rattle.cyclic_gate.specs.Steps.{answer, Breaks};
 ghost use Rattle.cyclic_gate.specs.Runs.{AfterSome};
@@ -8,19 +8,19 @@ ghost use Rattle.cyclic_gate.specs.Ledger.{booked};
 ghost use Rattle.cyclic_gate.specs.Gate.{GivesTurn, GivesNoTurn, IsArrival, RefusesArrival, left_by};
 ghost use Rattle.cyclic_gate.specs.declared.call.Call.TheVariants.{Await, Abandon, BreakOff, Reset};
 
-use crate::call::{AwaitedStep, BarrierFault};
+use crate::call::{Arrived, BarrierFault};
 use crate::gate::GateFault;
 use crate::ledger::{Ledger, Outcome};
 use advance_rule::StoredAction;
-use std::alloc::{AllocError, Global};
+use std::alloc::Global;
 use std::marker::Model;
 use std::sync::{Condvar, Mutex, Wait};
 
 // How an arrival goes on.
 #[derive(Clone, Copy)]
 enum Arrival {
-    // The caller waits with this index for an end that is noted at this place or later.
-    Waits(u32, usize),
+    // The caller waits with this index for the end of this generation.
+    Waits(u32, u64),
     // The caller is the last, with this index.
     Last(u32),
 }
@@ -39,7 +39,7 @@ fn turn_after(end: Outcome, index: u32, parties: u32) -> Result<u32, GateFault>
 /// A cyclic barrier at which threads wait, without its action: each arrival passes the action in. For a gate
 /// that holds its action see `CyclicGate`.
 ///
-/// The barrier is under one lock, beside the history of its calls. The last caller of a generation runs the
+/// The barrier is under one lock, beside the ends of generations that some callers have still to read. The last caller of a generation runs the
 /// action while it holds the lock, so the action must not call the gate. No contract can say what the barrier
 /// was when a call took the lock. So the clauses say that some list of calls leaves a barrier that answers so.
 ///
@@ -78,21 +78,17 @@ impl GateState {
         ensures fails { IfOk result (λ gate. gate.fails ≡ fails) }
         ensures no_party { (result ≡ Err BarrierFault.NoParty) ↔ (parties <ℤ pos 1) }
         ensures too_many { (result ≡ Err BarrierFault.TooMany) ↔ (pos 65535 <ℤ parties) }
-        ensures fault { IfErr result (λ e. (e ≡ BarrierFault.NoParty) ⊎ ((e ≡ BarrierFault.TooMany) ⊎ (e ≡ BarrierFault.Memory))) }
+        ensures fault { IfErr result (λ e. (e ≡ BarrierFault.NoParty) ⊎ (e ≡ BarrierFault.TooMany)) }
     {
-        match Ledger::new(alloc, parties, fails) {
-            Ok(ledger) => {
-                let parties = ledger.parties();
-                Ok(GateState {
-                    alloc,
-                    parties,
-                    fails,
-                    ledger: Mutex::new(ledger),
-                    ended: Condvar::new(),
-                })
-            }
-            Err(fault) => Err(fault),
-        }
+        let ledger = Ledger::new(alloc, parties, fails)?;
+        let parties = ledger.parties();
+        Ok(GateState {
+            alloc,
+            parties,
+            fails,
+            ledger: Mutex::new(ledger),
+            ended: Condvar::new(),
+        })
     }
 
     /// Returns how many parties meet, from 1 to 65535 (Java SE 21, `CyclicBarrier.getParties`).
@@ -129,11 +125,11 @@ impl GateState {
         }
         match self.arrive(&mut ledger, caller, action)? {
             Arrival::Last(index) => Ok(index),
-            Arrival::Waits(index, place) => {
-                let ledger = self.ended.wait_while(rt, ledger, |ledger| {
-                    ledger.end_since(place) == Outcome::GoesOn
+            Arrival::Waits(index, generation) => {
+                let mut ledger = self.ended.wait_while(rt, ledger, |ledger| {
+                    ledger.end_of(generation) == Outcome::GoesOn
                 });
-                turn_after(ledger.end_since(place), index, self.parties)
+                turn_after(ledger.read_end(generation), index, self.parties)
             }
         }
     }
@@ -148,21 +144,22 @@ impl GateState {
         requires rule { AnswersAction (F.pre action.now.closure) (F.post action.now.closure) action.now.plan }
         requires plan { ledger.old.fails ≡ action.now.plan }
         ensures arrival { MatchResult result
-            (λ a. IsArrival a (answer ledger.old.fails (Await caller) ledger.old.barrier) (length ledger.new.history))
+            (λ a. IsArrival a (answer ledger.old.fails (Await caller) ledger.old.barrier) ledger.old.barrier.generation)
             (λ e. RefusesArrival e (answer ledger.old.fails (Await caller) ledger.old.barrier)) }
         ensures book { ledger.new ≡ left_by result caller ledger.old }
     {
+        let generation = ledger.generation();
         match ledger.await_step(action, caller) {
-            Ok(AwaitedStep::Waits(index)) => Ok(Arrival::Waits(index, ledger.noted())),
-            Ok(AwaitedStep::Tripped(_)) => {
+            Ok(Arrived::Waits(index)) => Ok(Arrival::Waits(index, generation)),
+            Ok(Arrived::Tripped) => {
                 self.ended.notify_all();
                 Ok(Arrival::Last(0))
             }
-            Ok(AwaitedStep::ActionFailed(_)) => {
+            Ok(Arrived::ActionFailed) => {
                 self.ended.notify_all();
                 Err(GateFault::ActionFailed)
             }
-            Ok(AwaitedStep::Broken) => Err(GateFault::Broken),
+            Ok(Arrived::Broken) => Err(GateFault::Broken),
             Err(BarrierFault::AlreadyWaiting) => Err(GateFault::AlreadyWaiting),
             Err(BarrierFault::Memory) => Err(GateFault::Memory),
             Err(_) => Err(GateFault::Broken),
@@ -212,7 +209,7 @@ impl GateState {
     // Breaks the barrier under the lock, and wakes those who wait.
     fn break_now(&self, ledger: &mut Ledger) -> Vec<u32>
         ensures answer { answer ledger.old.fails BreakOff ledger.old.barrier ≡ Breaks result.items }
-        ensures book { ledger.new ≡ (if ledger.old.barrier.broken then ledger.old else booked BreakOff ledger.old) }
+        ensures book { ledger.new ≡ booked BreakOff ledger.old }
     {
         let callers = ledger.break_off();
         self.ended.notify_all();
@@ -220,27 +217,31 @@ impl GateState {
     }
 
     /// Starts the next generation, unbroken. Returns the callers who waited, whose calls fail with `Broken`,
-    /// in order of arrival (Java SE 21, `CyclicBarrier.reset`).
-    pub fn reset<R: Wait>(&self, rt: &R) -> Result<Vec<u32>, AllocError>
-        ensures answer { AfterSome self.now.parties self.now.fails (λ m. IfOk result (λ l.
-            answer self.now.fails Reset m ≡ Breaks l.items)) }
+    /// in order of arrival (Java SE 21, `CyclicBarrier.reset`). It needs no memory.
+    pub fn reset<R: Wait>(&self, rt: &R) -> Vec<u32>
+        ensures answer { AfterSome self.now.parties self.now.fails (λ m.
+            answer self.now.fails Reset m ≡ Breaks result.items) }
     {
         let mut ledger = self.ledger.lock(rt);
         if !ledger.is_of(self.parties, self.fails) {
-            return Ok(Vec::new(self.alloc));
+            return Vec::new(self.alloc);
         }
         self.reset_now(&mut ledger)
     }
 
     // Starts the next generation under the lock, and wakes those who wait.
-    fn reset_now(&self, ledger: &mut Ledger) -> Result<Vec<u32>, AllocError>
-        ensures answer { IfOk result (λ l. answer ledger.old.fails Reset ledger.old.barrier ≡ Breaks l.items) }
-        ensures book { MatchResult result (λ l. ledger.new ≡ booked Reset ledger.old) (λ e. ledger.new ≡ ledger.old) }
+    fn reset_now(&self, ledger: &mut Ledger) -> Vec<u32>
+        ensures answer { answer ledger.old.fails Reset ledger.old.barrier ≡ Breaks result.items }
+        ensures book { ledger.new ≡ booked Reset ledger.old }
     {
-        let Ok(callers) = ledger.reset() else {
-            return Err(AllocError);
-        };
+        let callers = ledger.reset();
         self.ended.notify_all();
-        Ok(callers)
+        callers
+    }
+
+    /// Returns how many ends of generations are kept for callers that waited and haven't been answered yet. It is
+    /// never more than the calls of `await_turn` that haven't returned, however many generations there were.
+    pub fn kept<R: Wait>(&self, rt: &R) -> usize {
+        self.ledger.lock(rt).kept()
     }
 }

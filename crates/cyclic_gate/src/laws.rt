@@ -1,6 +1,7 @@
 //! What a barrier promises over whole runs.
-ghost use Rattle.cyclic_gate.specs.Laws.{TripsGiveEachOnce, EndsNameTheTold, GenerationsFollow};
+ghost use Rattle.cyclic_gate.specs.Laws.{TripsGiveEachOnce, EndsNameTheTold, GenerationsFollow, EndsMoveOrKeep, FailuresAreAsPlanned};
 ghost use Rattle.cyclic_gate.specs.Wakers.{LateWakersAreTold};
+ghost use Rattle.cyclic_gate.specs.Forgetting.{BarriersAreTheirArrivals, ForgettingChangesNoAnswer};
 
 /// In every run, each tripped generation gives each index below the number of parties exactly once, and gives no caller
 /// two (Java SE 21, `CyclicBarrier.await`: "the arrival index of the current thread").
@@ -23,8 +24,35 @@ pub fn late_wakers_are_told()
     ensures { LateWakersAreTold }
 {}
 
+/// Whatever calls there were, the barrier is what the calls since its generation began leave of an unbroken barrier of that
+/// generation, where nobody waits: the arrivals of those who wait, or a break.
+pub fn barriers_are_their_arrivals()
+    ensures { BarriersAreTheirArrivals }
+{}
+
+/// The ledger keeps what its callers need, and no more. In every run of calls and readings, a caller that waits finds in
+/// it the first end that the whole history has after the caller's arrival; and there are never more ends kept and callers
+/// waiting than callers that haven't read their end.
+pub fn forgetting_changes_no_answer()
+    ensures { ForgettingChangesNoAnswer }
+{}
+
 /// After each generation comes the next number, and 0 only after 18446744073709551615.
 #[tactic(auto, using(crate::proofs::Trips::generations_follow))]
 pub fn generations_follow()
     ensures { GenerationsFollow }
+{}
+
+/// A trip and a reset take the next generation, and a break keeps its own: in general, and worked out for a barrier of two
+/// parties in generation 7 where one caller waits (Java SE 21, `CyclicBarrier.reset`; a broken barrier stays broken until
+/// then).
+#[tactic(auto, using(crate::proofs::Trips::ends_move_or_keep))]
+pub fn ends_move_or_keep()
+    ensures { EndsMoveOrKeep }
+{}
+
+/// An action that fails in generation `at` by its plan fails in that one generation, and one without `at` never fails.
+#[tactic(auto, using(crate::proofs::Trips::failures_are_as_planned))]
+pub fn failures_are_as_planned()
+    ensures { FailuresAreAsPlanned }
 {}

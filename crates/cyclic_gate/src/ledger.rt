@@ -1,15 +1,15 @@
-//! The barrier beside the history of its calls, as it is under the gate's lock.
-ghost use Rattle.std.specs.Prelude.{◌≡◌, ◌⊎◌, ◌↔◌, ◌<◌, ◌≤◌, if◌then◌else◌, true, false, [], drop, length, ◌<ℤ◌, pos, IfOk, IfErr, IsTrue, MatchOption, MatchResult};
+//! The barrier beside the ends that its callers have still to read, as it is under the gate's lock.
+ghost use Rattle.std.specs.Prelude.{◌≡◌, ◌⊎◌, ◌↔◌, ◌<◌, ◌≤◌, ◌+◌, true, [], length, ◌<ℤ◌, pos, IfOk, IfErr, IsTrue, MatchResult, vec_len, vec_capacity};
 ghost use Rattle.advance_rule.specs.Action.{AnswersAction};
 ghost use Rattle.cyclic_gate.specs.Machine.{fresh};
-ghost use Rattle.cyclic_gate.specs.Steps.{answer, after, is_change, Absent, Breaks};
+ghost use Rattle.cyclic_gate.specs.Steps.{answer, Breaks};
 ghost use Rattle.cyclic_gate.specs.Runs.{AfterSome};
-ghost use Rattle.cyclic_gate.specs.Seen.{answer_of, RefusesAwait, RefusesAbandon, Ran};
-ghost use Rattle.cyclic_gate.specs.History.{first_end, outcome_of};
-ghost use Rattle.cyclic_gate.specs.Ledger.{Book, book, booked};
+ghost use Rattle.cyclic_gate.specs.Seen.{IsArrived, RefusesAwait, RefusesAbandon, RanFor};
+ghost use Rattle.cyclic_gate.specs.Ledger.{Book, book, booked, end_of, read_by, is_free, kept_after, outcome_for, IsPlace};
 ghost use Rattle.cyclic_gate.specs.declared.call.Call.TheVariants.{Await, Abandon, BreakOff, Reset};
+ghost use Rattle.cyclic_gate.specs.declared.call.Arrived.TheVariants.{Broken};
 
-use crate::call::{AwaitedStep, BarrierFault, Call};
+use crate::call::{Arrived, BarrierFault};
 use crate::state::BarrierState;
 use advance_rule::StoredAction;
 use std::alloc::Global;
@@ -26,74 +26,98 @@ pub enum Outcome {
     Broken,
 }
 
-/// A call that changed the barrier.
+/// How a generation ended that some of its callers haven't read yet.
 #[derive(Clone, Copy)]
-pub struct LedgerEntry {
-    /// The call.
-    pub call: Call,
-    /// What it did to the generation.
+pub struct KeptEnd {
+    /// The generation.
+    pub generation: u64,
+    /// How it ended.
     pub outcome: Outcome,
+    /// How many of its callers haven't read this, from 1 to 65535.
+    pub unread: u32,
 }
 
-/// A barrier and the history of the calls that changed it. At any time the barrier is what these calls leave of a new
-/// one.
+/// A barrier, and the ends of generations that some callers have still to read. In any case some list of calls leaves
+/// the barrier as it is.
 ///
-/// Unless the barrier is broken, one place of the history's memory is kept free for `break_off`.
+/// An end is kept from the call that ends the generation until the last caller that waited in it has read it. So there
+/// are never more of them than calls of `await_turn` that haven't returned, however many generations there were. While
+/// callers wait, the list of ends has room for one more, so that no call that ends a generation needs memory.
 #[derive(Drop)]
 pub struct Ledger {
     fails: Option<u64>,
     state: BarrierState,
-    history: Vec<LedgerEntry>,
+    ends: Vec<KeptEnd>,
 }
 
 impl Model for Ledger {
-    ghost use Rattle.cyclic_gate.specs.Ledger.{Book, book, IsReplay, HasPlace};
+    ghost use Rattle.cyclic_gate.specs.Ledger.{Book, book, IsReached, HasRoom};
     ghost use Rattle.std.specs.Prelude.{vec_len, vec_capacity};
 
     ghost Value = { Book };
 
-    ghost view = { λ l. book l.fails l.state l.history.items };
+    ghost view = { λ l. book l.fails l.state l.ends.items };
 
-    ghost invariant = { λ l. IsReplay l.fails l.state l.history.items × HasPlace l.state (vec_len l.history) (vec_capacity l.history) };
+    ghost invariant = { λ l. IsReached l.fails l.state × HasRoom l.state (vec_len l.ends) (vec_capacity l.ends) };
 }
 
-impl AwaitedStep {
-    // Returns what the arrival did to the generation. An arrival at a broken barrier isn't noted.
-    fn outcome(&self) -> Option<Outcome>
-        ensures { MatchOption result
-            (is_change (answer_of self.now) ≡ false)
-            (λ o. (is_change (answer_of self.now) ≡ true) × (o ≡ outcome_of (answer_of self.now))) }
+impl Arrived {
+    // Returns what the arrival did to the generation.
+    fn outcome(&self) -> Outcome
+        ensures { result ≡ outcome_for self.now }
     {
         match self {
-            AwaitedStep::Waits(_) => Some(Outcome::GoesOn),
-            AwaitedStep::Tripped(_) => Some(Outcome::Tripped),
-            AwaitedStep::ActionFailed(_) => Some(Outcome::Broken),
-            AwaitedStep::Broken => None,
+            Arrived::Waits(_) | Arrived::Broken => Outcome::GoesOn,
+            Arrived::Tripped => Outcome::Tripped,
+            Arrived::ActionFailed => Outcome::Broken,
         }
     }
 }
 
+// Keeps the end of a generation in which so many callers wait, if it ended and any of them wait.
+fn keep(ends: &mut Vec<KeptEnd>, generation: u64, outcome: Outcome, unread: u32)
+    requires { 0 < unread → vec_len ends.old < vec_capacity ends.old }
+    ensures items { ends.new.items ≡ kept_after generation outcome unread ends.old.items }
+    ensures same { outcome ≡ Outcome.GoesOn → ends.new ≡ ends.old }
+{
+    if outcome != Outcome::GoesOn && unread != 0 {
+        ends.push_reserved(KeptEnd {
+            generation,
+            outcome,
+            unread,
+        });
+    }
+}
+
+// Returns where the end of this generation is, or how many ends there are if it isn't kept.
+fn place_of(ends: &[KeptEnd], generation: u64) -> usize
+    ensures { IsPlace generation ends.now result }
+{
+    let mut place = 0;
+    for end in ends {
+        if end.generation == generation {
+            return place;
+        }
+        place += 1;
+    }
+    place
+}
+
 impl Ledger {
-    /// Creates a barrier where `parties` callers meet, and whose action fails in generation `fails`, with an empty
-    /// history. Fails with `NoParty` if `parties` is below 1, and with `TooMany` if it is above 65535.
+    /// Creates a barrier where `parties` callers meet, and whose action fails in generation `fails`. No end is kept.
+    /// Fails with `NoParty` if `parties` is below 1, and with `TooMany` if it is above 65535. It needs no memory.
     pub fn new(alloc: Global, parties: i64, fails: Option<u64>) -> Result<Self, BarrierFault>
         ensures fresh { IfOk result (λ l. (pos l.barrier.parties ≡ parties) × (l ≡ book fails (fresh l.barrier.parties) [])) }
         ensures no_party { (result ≡ Err BarrierFault.NoParty) ↔ (parties <ℤ pos 1) }
         ensures too_many { (result ≡ Err BarrierFault.TooMany) ↔ (pos 65535 <ℤ parties) }
-        ensures fault { IfErr result (λ e. (e ≡ BarrierFault.NoParty) ⊎ ((e ≡ BarrierFault.TooMany) ⊎ (e ≡ BarrierFault.Memory))) }
+        ensures fault { IfErr result (λ e. (e ≡ BarrierFault.NoParty) ⊎ (e ≡ BarrierFault.TooMany)) }
     {
-        let state = match BarrierState::new(alloc, parties) {
-            Ok(state) => state,
-            Err(fault) => return Err(fault),
-        };
-        match Vec::with_capacity(alloc, 1) {
-            Ok(history) => Ok(Ledger {
-                fails,
-                state,
-                history,
-            }),
-            Err(_) => Err(BarrierFault::Memory),
-        }
+        let state = BarrierState::new(alloc, parties)?;
+        Ok(Ledger {
+            fails,
+            state,
+            ends: Vec::new(alloc),
+        })
     }
 
     /// Returns how many parties meet, from 1 to 65535.
@@ -113,129 +137,134 @@ impl Ledger {
         self.state.parties() == parties && self.fails == fails
     }
 
-    /// Returns how many calls are noted.
-    pub fn noted(&self) -> usize
-        ensures { result ≡ length self.now.history }
+    /// Returns the generation, counted from 0; after 18446744073709551615 comes 0.
+    pub fn generation(&self) -> u64
+        ensures { result ≡ self.now.barrier.generation }
     {
-        self.history.len()
+        self.state.generation()
     }
 
-    /// Returns the first end of a generation that is noted at `place` or later. That is how the wait ended of the caller
-    /// whose arrival is the entry before that place.
-    pub fn end_since(&self, place: usize) -> Outcome
-        ensures { result ≡ first_end (drop place self.now.history) }
+    // Returns how many callers wait.
+    fn waiting(&self) -> u32
+        ensures { result ≡ length self.now.barrier.waiting }
     {
-        if self.history.len() <= place {
+        self.state.waiting() as u32
+    }
+
+    /// Returns how many ends are kept.
+    pub fn kept(&self) -> usize
+        ensures { result ≡ length self.now.ends }
+    {
+        self.ends.len()
+    }
+
+    /// Returns how this generation ended, or `GoesOn` if no end of it is kept.
+    pub fn end_of(&self, generation: u64) -> Outcome
+        ensures { result ≡ end_of generation self.now.ends }
+    {
+        match self.ends.get(place_of(&self.ends, generation)) {
+            Some(end) => end.outcome,
+            None => Outcome::GoesOn,
+        }
+    }
+
+    /// Reads how this generation ended, for one of the callers that waited in it. The end is forgotten when the last of
+    /// them has read it. Returns `GoesOn` if no end of this generation is kept.
+    pub fn read_end(&mut self, generation: u64) -> Outcome
+        ensures answer { result ≡ end_of generation self.old.ends }
+        ensures book { self.new ≡ book self.old.fails self.old.barrier (read_by generation self.old.ends) }
+    {
+        let place = place_of(&self.ends, generation);
+        if place == self.ends.len() {
             return Outcome::GoesOn;
         }
-        let (_, later) = self.history.split_at(place);
-        for entry in later {
-            match entry.outcome {
-                Outcome::GoesOn => {}
-                end => return end,
-            }
+        let end = self.ends[place];
+        if end.unread > 1 {
+            self.ends[place] = KeptEnd {
+                unread: end.unread - 1,
+                ..end
+            };
+        } else {
+            self.ends.remove(place);
         }
-        Outcome::GoesOn
+        end.outcome
     }
 
-    /// Arrives as `caller`, and notes the call if it changes something. The last to arrive runs the action. Fails with
-    /// `AlreadyWaiting` if the caller waits already, and with `Memory` if memory runs out.
+    /// Arrives as `caller`. The last to arrive runs the action. Fails with `AlreadyWaiting` if the caller waits already,
+    /// and with `Memory` if memory runs out. It also fails with `Memory` where the caller is the first of its generation
+    /// and the end of a generation of the same number is kept: one that is 2^64 generations old.
     pub fn await_step<F: Fn(u64) -> bool>(
         &mut self,
         action: &StoredAction<F>,
         caller: u32,
-    ) -> Result<AwaitedStep, BarrierFault>
+    ) -> Result<Arrived, BarrierFault>
         requires rule { AnswersAction (F.pre action.now.closure) (F.post action.now.closure) action.now.plan }
         requires plan { self.old.fails ≡ action.now.plan }
         ensures answer { MatchResult result
-            (λ a. answer self.old.fails (Await caller) self.old.barrier ≡ answer_of a)
+            (λ a. IsArrived a (answer self.old.fails (Await caller) self.old.barrier))
             (λ e. RefusesAwait e (answer self.old.fails (Await caller) self.old.barrier)) }
         ensures book { MatchResult result (λ a. self.new ≡ booked (Await caller) self.old) (λ e. self.new ≡ self.old) }
-        ensures ran { IfOk result (Ran (F.post action.now.closure self.old.barrier.generation)) }
+        ensures free { IfOk result (λ a. (a ≡ Broken) ⊎ (is_free self.old ≡ true)) }
+        ensures ran { IfOk result (RanFor (F.post action.now.closure self.old.barrier.generation)) }
     {
         if self.state.is_broken() {
-            return Ok(AwaitedStep::Broken);
+            return Ok(Arrived::Broken);
         }
         if self.state.is_waiting(caller) {
             return Err(BarrierFault::AlreadyWaiting);
         }
-        match self.history.reserve(2) {
+        let generation = self.state.generation();
+        let waiting = self.waiting();
+        if waiting == 0 && self.end_of(generation) != Outcome::GoesOn {
+            return Err(BarrierFault::Memory);
+        }
+        match self.ends.reserve(1) {
             Ok(()) => {}
             Err(_) => return Err(BarrierFault::Memory),
         }
-        match self.state.await_step(action, caller) {
-            Ok(awaited) => {
-                if let Some(outcome) = awaited.outcome() {
-                    self.history.push_reserved(LedgerEntry {
-                        call: Call::Await(caller),
-                        outcome,
-                    });
-                }
-                Ok(awaited)
-            }
-            Err(fault) => Err(fault),
-        }
+        let arrived = self.state.arrive(action, caller)?;
+        keep(&mut self.ends, generation, arrived.outcome(), waiting);
+        Ok(arrived)
     }
 
-    /// Removes a waiting caller, which breaks the barrier, and notes the call. Returns the others, whose wait failed, in
-    /// order of arrival. Fails with `NotWaiting` if the caller doesn't wait, and with `Memory` if memory runs out.
+    /// Removes a waiting caller, which breaks the barrier. Returns the others, whose wait failed, in order of arrival.
+    /// Fails with `NotWaiting` if the caller doesn't wait. It needs no memory.
     pub fn abandon(&mut self, caller: u32) -> Result<Vec<u32>, BarrierFault>
         ensures answer { MatchResult result
             (λ l. answer self.old.fails (Abandon caller) self.old.barrier ≡ Breaks l.items)
             (λ e. RefusesAbandon e (answer self.old.fails (Abandon caller) self.old.barrier)) }
+        ensures fault { IfErr result (λ e. e ≡ BarrierFault.NotWaiting) }
         ensures book { MatchResult result (λ l. self.new ≡ booked (Abandon caller) self.old) (λ e. self.new ≡ self.old) }
     {
-        if !self.state.is_waiting(caller) {
-            return Err(BarrierFault::NotWaiting);
-        }
-        match self.history.reserve(2) {
-            Ok(()) => {}
-            Err(_) => return Err(BarrierFault::Memory),
-        }
-        match self.state.abandon(caller) {
-            Ok(others) => {
-                self.history.push_reserved(LedgerEntry {
-                    call: Call::Abandon(caller),
-                    outcome: Outcome::Broken,
-                });
-                Ok(others)
-            }
-            Err(fault) => Err(fault),
-        }
+        let generation = self.state.generation();
+        let waiting = self.waiting();
+        let others = self.state.abandon(caller)?;
+        keep(&mut self.ends, generation, Outcome::Broken, waiting);
+        Ok(others)
     }
 
-    /// Breaks the barrier, and notes the call. Returns the callers who waited, whose wait failed, in order of arrival. It
-    /// needs no memory. A broken barrier, where nobody waits, stays as it is, and nothing is noted.
+    /// Breaks the barrier. Returns the callers who waited, whose wait failed, in order of arrival. It needs no memory.
     pub fn break_off(&mut self) -> Vec<u32>
         ensures answer { answer self.old.fails BreakOff self.old.barrier ≡ Breaks result.items }
-        ensures book { self.new ≡ (if self.old.barrier.broken then self.old else booked BreakOff self.old) }
+        ensures book { self.new ≡ booked BreakOff self.old }
     {
-        if self.state.is_broken() {
-            return Vec::new(*self.history.allocator());
-        }
-        self.history.push_reserved(LedgerEntry {
-            call: Call::BreakOff,
-            outcome: Outcome::Broken,
-        });
-        self.state.break_off()
+        let generation = self.state.generation();
+        let waiting = self.waiting();
+        let callers = self.state.break_off();
+        keep(&mut self.ends, generation, Outcome::Broken, waiting);
+        callers
     }
 
-    /// Starts the next generation, unbroken, and notes the call. Returns the callers who waited, whose wait failed, in
-    /// order of arrival. Fails with `Memory` if memory runs out.
-    pub fn reset(&mut self) -> Result<Vec<u32>, BarrierFault>
-        ensures answer { MatchResult result
-            (λ l. answer self.old.fails Reset self.old.barrier ≡ Breaks l.items)
-            (λ e. e ≡ BarrierFault.Memory) }
-        ensures book { MatchResult result (λ l. self.new ≡ booked Reset self.old) (λ e. self.new ≡ self.old) }
+    /// Starts the next generation, unbroken. Returns the callers who waited, whose wait failed, in order of arrival. It
+    /// needs no memory.
+    pub fn reset(&mut self) -> Vec<u32>
+        ensures answer { answer self.old.fails Reset self.old.barrier ≡ Breaks result.items }
+        ensures book { self.new ≡ booked Reset self.old }
     {
-        match self.history.reserve(2) {
-            Ok(()) => {}
-            Err(_) => return Err(BarrierFault::Memory),
-        }
-        self.history.push_reserved(LedgerEntry {
-            call: Call::Reset,
-            outcome: Outcome::Broken,
-        });
-        Ok(self.state.reset())
+        let generation = self.state.generation();
+        let waiting = self.waiting();
+        let callers = self.state.reset();
+        keep(&mut self.ends, generation, Outcome::Broken, waiting);
+        callers
     }
 }

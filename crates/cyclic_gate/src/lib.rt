@@ -2,7 +2,8 @@
 //!
 //! * [`BarrierCore`]: the barrier with its action, as a value that one thread steps; [`BarrierState`] is the same without
 //!   its action.
-//! * [`Ledger`]: that state beside the history of its calls, as it is under the gate's lock.
+//! * [`Ledger`]: that state beside the ends of generations that some callers have still to read, as it is under the gate's
+//!   lock.
 //! * [`CyclicGate`]: the barrier with its action under a lock, at which threads wait; [`GateState`] is the same without its
 //!   action.
 //!
@@ -19,11 +20,12 @@ mod ledger;
 mod state;
 
 pub use barrier::BarrierCore;
-pub use call::{AwaitedStep, BarrierFault, Call, MOST_PARTIES};
+pub use call::{Arrived, AwaitedStep, BarrierFault, Call, MOST_PARTIES};
 pub use gate::{CyclicGate, GateFault};
 pub use gate_state::GateState;
 pub use laws::{
-    ends_name_the_told, generations_follow, late_wakers_are_told, trips_give_each_once,
+    barriers_are_their_arrivals, ends_move_or_keep, ends_name_the_told, failures_are_as_planned,
+    forgetting_changes_no_answer, generations_follow, late_wakers_are_told, trips_give_each_once,
 };
-pub use ledger::{Ledger, LedgerEntry, Outcome};
+pub use ledger::{KeptEnd, Ledger, Outcome};
 pub use state::BarrierState;

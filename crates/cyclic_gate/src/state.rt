@@ -3,10 +3,10 @@ ghost use Rattle.std.specs.Prelude.{◌≡◌, ◌⊎◌, ◌↔◌, true, ◌<�
 ghost use Rattle.advance_rule.specs.Action.{AnswersAction};
 ghost use Rattle.cyclic_gate.specs.Machine.{Machine, machine, fresh};
 ghost use Rattle.cyclic_gate.specs.Steps.{answer, after, indexed, is_in, joined, renewed, Absent, Breaks, next_generation};
-ghost use Rattle.cyclic_gate.specs.Seen.{answer_of, RefusesAwait, Ran};
+ghost use Rattle.cyclic_gate.specs.Seen.{answer_of, IsArrived, RefusesAwait, Ran, RanFor};
 ghost use Rattle.cyclic_gate.specs.declared.call.Call.TheVariants.{Await, Abandon, BreakOff, Reset};
 
-use crate::call::{AwaitedStep, BarrierFault, MOST_PARTIES};
+use crate::call::{Arrived, AwaitedStep, BarrierFault, MOST_PARTIES};
 use advance_rule::StoredAction;
 use std::alloc::{AllocError, Global};
 use std::collections::HashSet;
@@ -108,7 +108,8 @@ impl BarrierState {
 
     /// Returns how many callers wait (Java SE 21, `CyclicBarrier.getNumberWaiting`).
     pub fn waiting(&self) -> usize
-        ensures { result ≡ length self.now.waiting }
+        ensures answer { result ≡ length self.now.waiting }
+        ensures range { (result < self.now.parties) × (self.now.parties ≤ 65535) }
     {
         self.waiting.len()
     }
@@ -175,7 +176,8 @@ impl BarrierState {
         let Ok(list) = with_indices(alloc, self.parties, &self.waiting, caller) else {
             return Err(BarrierFault::Memory);
         };
-        if action.call(self.generation) {
+        let failed = action.call(self.generation);
+        if failed {
             return Ok(AwaitedStep::ActionFailed(self.break_off()));
         }
         self.renew();
@@ -212,6 +214,43 @@ impl BarrierState {
             };
         }
         self.trip(action, caller)
+    }
+
+    /// Arrives as `caller`, as `await_step` does, but returns no lists. So the last to arrive needs no memory, and an
+    /// earlier one needs some only where more callers wait than ever since the barrier last broke or was reset.
+    pub fn arrive<F: Fn(u64) -> bool>(
+        &mut self,
+        action: &StoredAction<F>,
+        caller: u32,
+    ) -> Result<Arrived, BarrierFault>
+        requires rule { AnswersAction (F.pre action.now.closure) (F.post action.now.closure) action.now.plan }
+        ensures answer { MatchResult result
+            (λ a. IsArrived a (answer action.now.plan (Await caller) self.old))
+            (λ e. RefusesAwait e (answer action.now.plan (Await caller) self.old)) }
+        ensures state { MatchResult result
+            (λ a. self.new ≡ after action.now.plan (Await caller) self.old)
+            (λ e. self.new ≡ self.old) }
+        ensures ran { IfOk result (RanFor (F.post action.now.closure self.old.generation)) }
+    {
+        if self.broken {
+            return Ok(Arrived::Broken);
+        }
+        if self.is_waiting(caller) {
+            return Err(BarrierFault::AlreadyWaiting);
+        }
+        let others = self.waiting.len() as u32;
+        if others + 1 < self.parties {
+            return match self.join(caller) {
+                Ok(()) => Ok(Arrived::Waits(self.parties - 1 - others)),
+                Err(_) => Err(BarrierFault::Memory),
+            };
+        }
+        if action.call(self.generation) {
+            let _callers = self.break_off();
+            return Ok(Arrived::ActionFailed);
+        }
+        self.renew();
+        Ok(Arrived::Tripped)
     }
 
     /// Removes a waiting caller, which breaks the barrier. Returns the others, whose wait failed, in order of arrival.

@@ -3,3 +3,4 @@ pub mod Following
 pub mod LawProofs
 pub mod RunProofs
 pub mod WordProofs
+pub mod PlanProofs

@@ -3,3 +3,4 @@ pub mod Calls
 pub mod Seen
 pub mod Runs
 pub mod Laws
+pub mod Plans

@@ -1,5 +1,6 @@
 //! Laws of a single phaser in its user's terms. Each law is the contract of a function without parameters that does
 //! nothing.
+ghost use Rattle.phaser_one.specs.Plans.{PlansAreTold};
 ghost use Rattle.phaser_one.specs.Laws.{
   PhaseMovesByOne,
   EndedStays,
@@ -63,4 +64,10 @@ pub fn only_arrivals_ask_the_plan()
 /// A call that fails, or answers that a phase has not passed, leaves the phaser as it is.
 pub fn refusals_leave_all()
     ensures { RefusalsLeaveAll }
+{}
+
+/// What a plan says, as an equivalence with its fields: when a phaser ends by the count of its parties or in one phase, and
+/// when a tree ends, empty or in one phase. Cases beside each bound are worked out.
+pub fn plans_are_told()
+    ensures { PlansAreTold }
 {}

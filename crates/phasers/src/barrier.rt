@@ -9,7 +9,7 @@ ghost use Rattle.cyclic_gate.specs.declared.call.Call.TheVariants.{Await, Abando
 
 pub use advance_rule::StoredAction;
 pub use cyclic_gate::{BarrierCore, BarrierFault, BarrierState, CyclicGate, GateFault, GateState};
-use std::alloc::{AllocError, Global};
+use std::alloc::Global;
 use std::marker::Model;
 use std::sync::Wait;
 
@@ -32,7 +32,8 @@ impl Action for NoAction {
 
 /// A cyclic barrier at which threads wait, with an action or none (Java SE 21, `CyclicBarrier`).
 ///
-/// Callers are known by numbers, and each thread has one of its own. No contract can say what the barrier was when a call
+/// Callers are known by numbers, and each thread has one of its own. However many generations there are, the barrier keeps
+/// at most one entry for each call of `await_turn` that hasn't returned. No contract can say what the barrier was when a call
 /// took its lock. So the clauses say that some list of calls leaves a barrier that answers so.
 ///
 /// ```
@@ -64,7 +65,7 @@ impl<A: Action> Barrier<A> {
         ensures parties { IfOk result (λ b. pos b ≡ parties) }
         ensures no_party { (result ≡ Err BarrierFault.NoParty) ↔ (parties <ℤ pos 1) }
         ensures too_many { (result ≡ Err BarrierFault.TooMany) ↔ (pos 65535 <ℤ parties) }
-        ensures fault { IfErr result (λ e. (e ≡ BarrierFault.NoParty) ⊎ ((e ≡ BarrierFault.TooMany) ⊎ (e ≡ BarrierFault.Memory))) }
+        ensures fault { IfErr result (λ e. (e ≡ BarrierFault.NoParty) ⊎ (e ≡ BarrierFault.TooMany)) }
     {
         match GateState::new(alloc, parties, None) {
             Ok(state) => Ok(Barrier { action, state }),
@@ -120,10 +121,16 @@ impl<A: Action> Barrier<A> {
     }
 
     /// Starts the next generation, unbroken. Returns the callers who waited, whose calls fail with `Broken`, in order of
-    /// arrival (Java SE 21, `CyclicBarrier.reset`).
-    pub fn reset<R: Wait>(&self, rt: &R) -> Result<Vec<u32>, AllocError>
-        ensures answer { AfterSome self.now None (λ m. IfOk result (λ l. answer None Reset m ≡ Breaks l.items)) }
+    /// arrival (Java SE 21, `CyclicBarrier.reset`). It needs no memory.
+    pub fn reset<R: Wait>(&self, rt: &R) -> Vec<u32>
+        ensures answer { AfterSome self.now None (λ m. answer None Reset m ≡ Breaks result.items) }
     {
         self.state.reset(rt)
+    }
+
+    /// Returns how many ends of generations are kept for callers that waited and haven't been answered yet. It is never
+    /// more than the calls of `await_turn` that haven't returned, however many generations there were.
+    pub fn kept<R: Wait>(&self, rt: &R) -> usize {
+        self.state.kept(rt)
     }
 }

@@ -118,7 +118,8 @@ fn a_barrier(rt: HostRuntime) {
     assert!(rt; barrier.abandon(&rt, 7).is_err());
     assert!(rt; barrier.break_off(&rt).is_empty());
     assert!(rt; barrier.await_turn(&rt, 7) == Err(GateFault::Broken));
-    assert!(rt; barrier.reset(&rt).is_ok());
+    assert!(rt; barrier.reset(&rt).is_empty());
+    assert!(rt; barrier.kept(&rt) == 0);
     assert!(rt; barrier.await_turn(&rt, 7) == Ok(0));
 }
 

@@ -73,7 +73,7 @@ fn ends_once<R: Wait, F: Fn(u64) -> bool>(
     ending: Ending,
 ) -> Option<Vec<u32>> {
     match ending {
-        Ending::Resets => gate.reset(rt).ok(),
+        Ending::Resets => Some(gate.reset(rt)),
         Ending::BreaksOff => {
             let callers = gate.break_off(rt);
             if callers.is_empty() {

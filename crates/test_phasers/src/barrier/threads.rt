@@ -135,7 +135,7 @@ fn all_meet_twice<R: Threads + Wait + Abort + Sync, F: Fn(u64) -> bool + Sync>(
     assert!(rt; all_meet(rt, alloc, gate));
     assert!(rt; all_are_broken(rt, alloc, gate));
     assert!(rt; gate.await_turn(rt, 2) == Err(GateFault::Broken));
-    assert!(rt; gate.reset(rt).is_ok());
+    assert!(rt; gate.reset(rt).is_empty());
     assert!(rt; all_meet(rt, alloc, gate));
 }
 
