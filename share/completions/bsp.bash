@@ -1,4 +1,4 @@
-# Completion of bsp for bash: source this file.
+# Completion of bsp for bash: source this file, or put it into ~/.local/share/bash-completion/completions/ as bsp.
 _bsp() {
     local word=${COMP_WORDS[COMP_CWORD]} before=${COMP_WORDS[COMP_CWORD-1]}
     local commands="trace check upgrade run draw explain help"
@@ -6,6 +6,7 @@ _bsp() {
         --workers) COMPREPLY=($(compgen -W "1 2 4 8 16 32 64" -- "$word")); return ;;
         --tree) COMPREPLY=($(compgen -W "flat 2x2 2x3 4x4" -- "$word")); return ;;
         --limit) COMPREPLY=($(compgen -W "1000 1000000" -- "$word")); return ;;
+        -f | --file) COMPREPLY=($(compgen -f -- "$word")); return ;;
         --fault) COMPREPLY=($(compgen -W "1 2 3 4 5 6 7 8" -- "$word")); return ;;
     esac
     if [ "$COMP_CWORD" = 1 ]; then
@@ -13,10 +14,10 @@ _bsp() {
         return
     fi
     case ${COMP_WORDS[1]} in
-        run) COMPREPLY=($(compgen -W "--workers --tree --limit --progress --help" -- "$word")) ;;
-        draw) COMPREPLY=($(compgen -W "--workers --tree --limit --help" -- "$word")) ;;
+        run) COMPREPLY=($(compgen -W "--file --workers --tree --limit --progress --help" -- "$word")) ;;
+        draw) COMPREPLY=($(compgen -W "--file --workers --tree --limit --help" -- "$word")) ;;
         explain) COMPREPLY=($(compgen -W "1 2 3 4 5 6 7 8 9 10 11 12 13 14 --fault --help" -- "$word")) ;;
-        trace | check | upgrade) COMPREPLY=($(compgen -W "--help" -- "$word")) ;;
+        trace | check | upgrade) COMPREPLY=($(compgen -W "--file --help" -- "$word")) ;;
         help) COMPREPLY=($(compgen -W "$commands" -- "$word")) ;;
     esac
 }

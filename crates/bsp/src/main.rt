@@ -3,10 +3,12 @@
 
 use bsp_cli::run_program;
 use devices::Writer;
+use std::io::IsTerminal;
 use std::process::ExitCode;
 
 fn main(rt: HostRuntime) -> ExitCode {
     let mut output = Writer::new(rt.stdout());
     let mut errors = Writer::new(rt.stderr());
-    ExitCode::from(run_program(&rt, &mut output, &mut errors))
+    let terminal = rt.stdin().is_terminal();
+    ExitCode::from(run_program(&rt, terminal, &mut output, &mut errors))
 }

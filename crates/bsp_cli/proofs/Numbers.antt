@@ -66,17 +66,17 @@ no-hyphen most d ds e = go (d == 45) refl
 limit-asked : (name : List ℕ) (d : ℕ) (ds : List ℕ) → (d == 45) ≡ false
     → asked_in (name ∷ codes "run" ∷ codes "--limit" ∷ (d ∷ ds) ∷ []) ≡ Run 1 (number_from 1000000 1000000 (Some (d ∷ ds)))
 unfolding clap_on_literals
-limit-asked name d ds e = simp e refl
+limit-asked name d ds e = rw (e, e, e) refl
 
 limit-taken : (name : List ℕ) (d : ℕ) (ds : List ℕ) → (d == 45) ≡ false → is_taken 1000000 (d ∷ ds) ≡ true
     → refused_by (name ∷ codes "run" ∷ codes "--limit" ∷ (d ∷ ds) ∷ []) ≡ []
 unfolding clap_on_literals
-limit-taken name d ds e a = simp e (rw a refl)
+limit-taken name d ds e a = rw e (rw e (rw e (rw a refl)))
 
 limit-refused : (name : List ℕ) (d : ℕ) (ds : List ℕ) → (d == 45) ≡ false → is_taken 1000000 (d ∷ ds) ≡ false
     → refused_by (name ∷ codes "run" ∷ codes "--limit" ∷ (d ∷ ds) ∷ []) ≡ ValueValidation ∷ []
 unfolding clap_on_literals
-limit-refused name d ds e a = simp e (rw a refl)
+limit-refused name d ds e a = rw e (rw e (rw e (rw a refl)))
 
 no-limit : (name : List ℕ) → refused_by (name ∷ codes "run" ∷ codes "--limit" ∷ [] ∷ []) ≡ ValueValidation ∷ []
 unfolding clap_on_literals
@@ -95,17 +95,17 @@ limits-ask name (d ∷ ds) e =
 workers-asked : (name : List ℕ) (d : ℕ) (ds : List ℕ) → (d == 45) ≡ false
     → asked_in (name ∷ codes "run" ∷ codes "--workers" ∷ (d ∷ ds) ∷ []) ≡ Run (number_from 64 1 (Some (d ∷ ds))) 1000000
 unfolding clap_on_literals
-workers-asked name d ds e = simp e refl
+workers-asked name d ds e = rw (e, e, e) refl
 
 workers-taken : (name : List ℕ) (d : ℕ) (ds : List ℕ) → (d == 45) ≡ false → is_taken 64 (d ∷ ds) ≡ true
     → refused_by (name ∷ codes "run" ∷ codes "--workers" ∷ (d ∷ ds) ∷ []) ≡ []
 unfolding clap_on_literals
-workers-taken name d ds e a = simp e (rw a refl)
+workers-taken name d ds e a = rw e (rw e (rw e (rw a refl)))
 
 workers-refused : (name : List ℕ) (d : ℕ) (ds : List ℕ) → (d == 45) ≡ false → is_taken 64 (d ∷ ds) ≡ false
     → refused_by (name ∷ codes "run" ∷ codes "--workers" ∷ (d ∷ ds) ∷ []) ≡ ValueValidation ∷ []
 unfolding clap_on_literals
-workers-refused name d ds e a = simp e (rw a refl)
+workers-refused name d ds e a = rw e (rw e (rw e (rw a refl)))
 
 no-workers : (name : List ℕ) → refused_by (name ∷ codes "run" ∷ codes "--workers" ∷ [] ∷ []) ≡ ValueValidation ∷ []
 unfolding clap_on_literals

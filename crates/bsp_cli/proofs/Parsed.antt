@@ -3,7 +3,7 @@ use Rattle.std.proofs.Common.{◌≡◌, true, refl}
 use Rattle.clap.specs.Words.{is_simple_and_free, is_simple}
 use Rattle.clap.proofs.OnLiterals.{clap_on_literals}
 use Rattle.bsp_cli.specs.CommandLine.{program}
-use Rattle.bsp_cli.specs.Laws.{EachNameAsks, EachNameHelps, EachNameRefuses, EachNameTellsVersion}
+use Rattle.bsp_cli.specs.Laws.{EachNameAsks, EachNameHelps, EachNameNamesFiles, EachNameRefuses, EachNameTellsVersion}
 
 pub free-program : is_simple_and_free program ≡ true
 unfolding clap_on_literals
@@ -59,6 +59,10 @@ words-refused name = record {
   too_many_workers = refl;
   two_trees = refl;
   twice = refl;
+  no_file = refl;
+  two_files = refl;
+  file_explained = refl;
+  bare_file = refl;
   same = refl;
 }
 
@@ -86,4 +90,22 @@ unfolding clap_on_literals
 words-version name = record {
   long = refl;
   short = refl;
+}
+
+pub words-files : EachNameNamesFiles
+unfolding clap_on_literals
+words-files name = record {
+  run = (refl, refl);
+  run_short = (refl, refl);
+  run_long = (refl, refl);
+  run_joined = (refl, refl);
+  run_attached = (refl, refl);
+  run_hyphen = (refl, refl);
+  run_among = (refl, refl);
+  draw = (refl, refl);
+  check = (refl, refl);
+  upgrade = (refl, refl);
+  trace = (refl, refl);
+  trace_none = (refl, refl);
+  explain = (refl, refl);
 }

@@ -4,7 +4,7 @@ use Rattle.std.specs.Io.KnownBytes.{Appends}
 use Rattle.clap.specs.declared.error.kind.ErrorKind.TheVariants as kinds
 use Rattle.tier_shape.specs.Told.{shape_told}
 use Rattle.bsp_cli.specs.CommandLine.{asked_in, refused_by, tree_asked}
-use Rattle.bsp_cli.specs.Did.{Did, are_refused}
+use Rattle.bsp_cli.specs.Did.{Did, ReadsNothing, are_refused}
 use Rattle.bsp_cli.specs.Texts.{CountsFailures, Says, Tells, WritesSome, version_line}
 
 -- Devices before and after a run: a device as a whole, what it holds or will give, and how often it failed.
@@ -27,6 +27,7 @@ pub record AnswersWords {R W E : Type 0} (words : List (List ℕ)) (reader : Aro
   pub did : refused_by words ≡ [] → Did (asked_in words) (reader.bytes reader.before) (writer.bytes writer.before) (writer.bytes writer.after)
       (Tells (errors.bytes errors.before) (errors.bytes errors.after) (errors.failures errors.before) (errors.failures errors.after)) status
   pub taken : refused_by words ≡ [] → IsOk (shape_told (tree_asked words)) → status ≢ 5
+  pub reads_nothing : refused_by words ≡ [] → ReadsNothing (asked_in words) → IsSame reader
   pub no_tree : refused_by words ≡ [] → IsErr (shape_told (tree_asked words)) → IsSame reader × IsSame writer × ((status ≡ 5) ⊎ (status ≡ 6))
   pub helps : refused_by words ≡ kinds.DisplayHelp ∷ [] → IsSame reader × ((status ≡ 0) ⊎ (status ≡ 6) ⊎ (status ≡ 8))
   pub tells_version : refused_by words ≡ kinds.DisplayVersion ∷ [] → IsSame reader × ((status ≡ 0) ⊎ (status ≡ 6) ⊎ (status ≡ 8))

@@ -33,10 +33,23 @@ tree_rule = record (new_rule (codes "tree")) {
   action = Some Set;
 }
 
+-- `-f FILE`, or `--file FILE`, any text
+abbrev pub file_rule : Rule
+file_rule = record (new_rule (codes "file")) {
+  long = Some (codes "file");
+  short = Some 102;
+  value_names = 1;
+  action = Some Set;
+}
+
+-- a subcommand that reads a text
+abbrev pub text_app : List ℕ → App
+text_app name = with_rule (new_app name) file_rule
+
 -- a subcommand that runs a job, with the options of both
 abbrev pub job_app : List ℕ → App
 job_app name =
-    with_rule (with_rule (with_rule (new_app name) (number_rule (codes "workers") 64)) tree_rule) (number_rule (codes "limit") 1000000)
+    with_rule (with_rule (with_rule (text_app name) (number_rule (codes "workers") 64)) tree_rule) (number_rule (codes "limit") 1000000)
 
 -- `--progress`
 abbrev pub progress_rule : Rule
@@ -66,9 +79,9 @@ program =
     (with_subcommand
     (with_subcommand
     (with_subcommand
-    (with_subcommand (record bare { top = record bare.top { subcommand_required = true; has_version = true } }) (new_app (codes "trace")).top)
-    (new_app (codes "check")).top)
-    (new_app (codes "upgrade")).top)
+    (with_subcommand (record bare { top = record bare.top { subcommand_required = true; has_version = true } }) (text_app (codes "trace")).top)
+    (text_app (codes "check")).top)
+    (text_app (codes "upgrade")).top)
     run_app.top)
     (job_app (codes "draw")).top)
     explain_app.top
@@ -93,6 +106,14 @@ topic_in rows = topic_by (number_from 14 0 (one_of (codes "code") rows)) (number
 -- a tree that isn't given is the root alone
 abbrev pub tree_in : List Row → List ℕ
 tree_in rows = unwrap_or (first_of (codes "tree") rows) (codes "flat")
+
+-- the file that the text is read from: none where standard input is, which a hyphen names too
+abbrev pub unless_hyphen : Option (List ℕ) → Option (List ℕ)
+unless_hyphen None = None
+unless_hyphen (Some text) = if bytes_eq text (codes "-") then None else Some text
+
+abbrev pub file_in : List Row → Option (List ℕ)
+file_in rows = unless_hyphen (first_of (codes "file") rows)
 
 -- the number that was read, if it is one from 1 to the most
 abbrev pub chosen : ℕ → ℕ → Option ℕ → ℕ
@@ -119,6 +140,11 @@ tree_by (Some p) =
     else if bytes_eq p.0 (codes "run") then tree_in p.1
     else if bytes_eq p.0 (codes "draw") then tree_in p.1 else codes "flat"
 
+-- the file that a subcommand names
+abbrev pub file_by : Option (List ℕ × List Row) → Option (List ℕ)
+file_by None = None
+file_by (Some p) = file_in p.1
+
 -- what words ask for, where they are taken
 abbrev pub asked_in : List (List ℕ) → Asked
 asked_in words = asked_by (subcommand_of program words)
@@ -126,6 +152,10 @@ asked_in words = asked_by (subcommand_of program words)
 -- the text of the tree that words ask for, where they are taken
 abbrev pub tree_asked : List (List ℕ) → List ℕ
 tree_asked words = tree_by (subcommand_of program words)
+
+-- the file that words name, where they are taken: none where standard input is read
+abbrev pub file_asked : List (List ℕ) → Option (List ℕ)
+file_asked words = file_by (subcommand_of program words)
 
 -- why words are not taken: nothing where they are
 abbrev pub refused_by : List (List ℕ) → Kinds

@@ -46,6 +46,11 @@ abbrev pub RunsOut : Asked → Option (List ℕ) → Option (List ℕ) → Optio
 RunsOut Trace input old new = Keeps old new ⊎ IfSome input (λ bytes. WritesBeginning bytes old new)
 RunsOut _ input old new = Keeps old new
 
+-- what reads no input
+abbrev pub ReadsNothing : Asked → Type 0
+ReadsNothing (Explain topic) = Unit {0}
+ReadsNothing _ = ⊥
+
 -- a worker of those that are asked for, numbered from 0
 abbrev pub IsWorkerOf : Asked → ℕ → Type 0
 IsWorkerOf (Run workers limit) k = k < workers

@@ -1,8 +1,8 @@
 -- What words ask for, and words that are refused (own).
-use Rattle.std.specs.Prelude.{◌≡◌, ◌≤◌, ℕ, true, false, List, [], ◌∷◌, codes, decimal}
+use Rattle.std.specs.Prelude.{◌≡◌, ◌≤◌, ℕ, true, false, List, [], ◌∷◌, Option, Some, None, codes, decimal}
 use Rattle.std.specs.Str.Parse.{digits_value, starts_with_minus, without_leading_plus}
 use Rattle.clap.specs.ValueTests.{is_unsigned_in}
-use Rattle.bsp_cli.specs.CommandLine.{asked_in, refused_by, tree_asked}
+use Rattle.bsp_cli.specs.CommandLine.{asked_in, file_asked, refused_by, tree_asked}
 use Rattle.bsp_cli.specs.Did.{are_refused}
 use Rattle.clap.specs.declared.error.kind.ErrorKind.TheVariants.{DisplayHelp, DisplayVersion}
 use Rattle.bsp_cli.specs.declared.asked.Topic.TheVariants.{All, Code, Fault}
@@ -16,6 +16,10 @@ Asks words a = (refused_by words ≡ []) × (asked_in words ≡ a)
 -- words that are taken, and the tree that they ask for
 abbrev pub AsksTree : List (List ℕ) → List ℕ → Type 0
 AsksTree words text = (refused_by words ≡ []) × (tree_asked words ≡ text)
+
+-- words that are taken, and the file that they name, if any
+abbrev pub Reads : List (List ℕ) → Option (List ℕ) → Type 0
+Reads words file = (refused_by words ≡ []) × (file_asked words ≡ file)
 
 abbrev pub AreRefused : List (List ℕ) → Type 0
 AreRefused words = are_refused (refused_by words) ≡ true
@@ -42,6 +46,22 @@ pub record WordsAsk (name : List ℕ) : Type 0 where
   pub drawn_by : Asks (name ∷ codes "draw" ∷ codes "--workers" ∷ codes "64" ∷ codes "--limit" ∷ codes "7" ∷ []) (Draw 64 7)
   pub drawn_at : AsksTree (name ∷ codes "draw" ∷ codes "--tree" ∷ codes "2x3" ∷ []) (codes "2x3")
 
+-- each subcommand that reads a text reads it from a file that is named, and else, or from a hyphen, from standard input
+pub record WordsNameFiles (name : List ℕ) : Type 0 where
+  pub run : Reads (name ∷ codes "run" ∷ []) None
+  pub run_short : Reads (name ∷ codes "run" ∷ codes "-f" ∷ codes "swap.job" ∷ []) (Some (codes "swap.job"))
+  pub run_long : Reads (name ∷ codes "run" ∷ codes "--file" ∷ codes "swap.job" ∷ []) (Some (codes "swap.job"))
+  pub run_joined : Reads (name ∷ codes "run" ∷ codes "--file=swap.job" ∷ []) (Some (codes "swap.job"))
+  pub run_attached : Reads (name ∷ codes "run" ∷ codes "-fswap.job" ∷ []) (Some (codes "swap.job"))
+  pub run_hyphen : Reads (name ∷ codes "run" ∷ codes "-f" ∷ codes "-" ∷ []) None
+  pub run_among : Reads (name ∷ codes "run" ∷ codes "--limit" ∷ codes "7" ∷ codes "-f" ∷ codes "a" ∷ codes "--progress" ∷ []) (Some (codes "a"))
+  pub draw : Reads (name ∷ codes "draw" ∷ codes "-f" ∷ codes "swap.job" ∷ []) (Some (codes "swap.job"))
+  pub check : Reads (name ∷ codes "check" ∷ codes "-f" ∷ codes "swap.job" ∷ []) (Some (codes "swap.job"))
+  pub upgrade : Reads (name ∷ codes "upgrade" ∷ codes "--file" ∷ codes "swap.job" ∷ []) (Some (codes "swap.job"))
+  pub trace : Reads (name ∷ codes "trace" ∷ codes "-f" ∷ codes "first.trace" ∷ []) (Some (codes "first.trace"))
+  pub trace_none : Reads (name ∷ codes "trace" ∷ []) None
+  pub explain : Reads (name ∷ codes "explain" ∷ codes "3" ∷ []) None
+
 -- words that aren't taken
 pub record WordsAreRefused (name : List ℕ) : Type 0 where
   pub nothing : AreRefused (name ∷ [])
@@ -63,6 +83,10 @@ pub record WordsAreRefused (name : List ℕ) : Type 0 where
   pub too_many_workers : AreRefused (name ∷ codes "run" ∷ codes "--workers" ∷ codes "65" ∷ [])
   pub two_trees : AreRefused (name ∷ codes "run" ∷ codes "--tree" ∷ codes "2" ∷ codes "--tree" ∷ codes "2" ∷ [])
   pub twice : AreRefused (name ∷ codes "run" ∷ codes "--limit" ∷ codes "3" ∷ codes "--limit" ∷ codes "4" ∷ [])
+  pub no_file : AreRefused (name ∷ codes "run" ∷ codes "-f" ∷ [])
+  pub two_files : AreRefused (name ∷ codes "run" ∷ codes "-f" ∷ codes "a" ∷ codes "-f" ∷ codes "b" ∷ [])
+  pub file_explained : AreRefused (name ∷ codes "explain" ∷ codes "-f" ∷ codes "a" ∷ [])
+  pub bare_file : AreRefused (name ∷ codes "run" ∷ codes "swap.job" ∷ [])
   pub same : AreRefused (name ∷ codes "run" ∷ codes "--limit" ∷ codes "3" ∷ codes "--limit" ∷ codes "3" ∷ [])
 
 -- words that ask for help
@@ -101,6 +125,9 @@ EachNameHelps = (name : List ℕ) → WordsAskForHelp name
 
 abbrev pub EachNameAsks : Type 0
 EachNameAsks = (name : List ℕ) → WordsAsk name
+
+abbrev pub EachNameNamesFiles : Type 0
+EachNameNamesFiles = (name : List ℕ) → WordsNameFiles name
 
 abbrev pub EachNameRefuses : Type 0
 EachNameRefuses = (name : List ℕ) → WordsAreRefused name

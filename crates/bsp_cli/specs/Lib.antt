@@ -4,5 +4,6 @@ pub mod Did
 pub mod Ends
 pub mod Jobs
 pub mod Laws
+pub mod Lines
 pub mod Texts
 pub mod Topics

@@ -1,13 +1,13 @@
 //! What a command line asks for.
-ghost use Rattle.std.specs.Prelude.{◌≡◌, ◌≤◌, false, true, codes, IfOk, IfErr};
+ghost use Rattle.std.specs.Prelude.{◌≡◌, ◌≤◌, false, true, codes, option_map, None, IfOk, IfErr};
 ghost use Rattle.clap.specs.Words.{app_of, found_of, kind_of, new_app, one_of, rows_of, rule_of, subcommand_rows_of};
 ghost use Rattle.clap.specs.declared.builder.command.Command.TheViews.{out-Command as fields_of};
 ghost use Rattle.clap.specs.declared.error.kind.ErrorKind.TheVariants as kinds;
-ghost use Rattle.bsp_cli.specs.CommandLine.{asked_by, bare, chosen, code_rule, explain_app, job_app, limit_in, number_from, number_rule, numbers_rule, program, progress_rule, run_app, topic_in, tree_by, tree_in, tree_rule, workers_in};
+ghost use Rattle.bsp_cli.specs.CommandLine.{asked_by, bare, chosen, code_rule, explain_app, file_by, file_in, file_rule, job_app, limit_in, number_from, number_rule, numbers_rule, program, progress_rule, run_app, text_app, topic_in, tree_by, tree_in, tree_rule, unless_hyphen, workers_in};
 ghost use Rattle.bsp_cli.specs.Ends.{IsAsked, IsTopic};
 ghost use Rattle.bsp_cli.specs.Topics.{topic_by};
 
-use crate::help::{CHECK_LINES, EXAMPLES, RUN_LINES, TRACE_LINES, UPGRADE_LINES};
+use crate::help::{CHECK_LINES, DRAW_LINES, EXAMPLES, RUN_LINES, TRACE_LINES, UPGRADE_LINES};
 use clap::builder::ValueParser;
 use clap::{Arg, ArgAction, ArgMatches, Command, Error};
 use std::alloc::Global;
@@ -50,11 +50,14 @@ pub enum Asked {
     },
 }
 
-/// A command line: its subcommand, the text of the tree at which workers meet, and whether to report progress.
+/// A command line: its subcommand, the text of the tree at which workers meet, the file that it names, and whether to report
+/// progress.
 #[derive(Clone, Copy)]
 pub(crate) struct Request<'a> {
     pub(crate) asked: Asked,
     pub(crate) tree: &'a str,
+    /// The file that the text is read from. `None` is standard input.
+    pub(crate) file: Option<&'a str>,
     /// Whether to report progress. No contract depends on it.
     pub(crate) progress: bool,
 }
@@ -135,6 +138,19 @@ fn tree_option<'a>(alloc: Global) -> Arg<'a>
         .action(ArgAction::Set)
 }
 
+// Makes the option `--file`.
+fn file_option<'a>(alloc: Global) -> Arg<'a>
+    ensures rule { rule_of result ≡ file_rule }
+    ensures local { result.global ≡ false }
+{
+    Arg::new(alloc, "file")
+        .short('f')
+        .long("file")
+        .value_name("FILE")
+        .help("The file to read; standard input where it isn't given, or is -")
+        .action(ArgAction::Set)
+}
+
 // Makes the option `--progress`.
 fn progress_option<'a>(alloc: Global) -> Arg<'a>
     ensures rule { rule_of result ≡ progress_rule }
@@ -166,15 +182,29 @@ fn fault_option<'a>(alloc: Global) -> Arg<'a>
     number_argument(alloc, "fault", "CODE", help, numbers).long("fault")
 }
 
-// Makes a subcommand that runs a job, without its options.
-fn bare_job<'a>(alloc: Global, name: &'a str, about: &'a str, lines: &'a str) -> Command<'a>
+// Makes a subcommand that reads a text, without its options.
+fn bare_text<'a>(alloc: Global, name: &'a str, about: &'a str, lines: &'a str) -> Command<'a>
     ensures app { app_of result ≡ new_app name.entry.now }
     ensures local { (fields_of result).has_globals ≡ false }
 {
     Command::new(alloc, name)
         .about(about)
-        .before_long_help(EXAMPLES)
         .after_long_help(lines)
+}
+
+// Makes a subcommand that reads a text, with the option `--file`.
+fn text_command<'a>(
+    alloc: Global,
+    name: &'a str,
+    about: &'a str,
+    lines: &'a str,
+) -> Result<Command<'a>, Error>
+    ensures app { IfOk result (λ c. app_of c ≡ text_app name.entry.now) }
+    ensures local { IfOk result (λ c. (fields_of c).has_globals ≡ false) }
+    ensures memory { IfErr result (λ e. kind_of e ≡ kinds.OutOfMemory) }
+{
+    let with_file = bare_text(alloc, name, about, lines).arg(file_option(alloc))?;
+    Ok(with_file)
 }
 
 // Makes a subcommand that runs a job, with its options.
@@ -188,7 +218,8 @@ fn job_command<'a>(
     ensures local { IfOk result (λ c. (fields_of c).has_globals ≡ false) }
     ensures memory { IfErr result (λ e. kind_of e ≡ kinds.OutOfMemory) }
 {
-    let with_workers = bare_job(alloc, name, about, lines).arg(workers_option(alloc))?;
+    let with_file = text_command(alloc, name, about, lines)?;
+    let with_workers = with_file.arg(workers_option(alloc))?;
     let with_tree = with_workers.arg(tree_option(alloc))?;
     let with_limit = with_tree.arg(limit_option(alloc))?;
     Ok(with_limit)
@@ -214,39 +245,38 @@ fn draw_command<'a>(alloc: Global) -> Result<Command<'a>, Error>
     ensures memory { IfErr result (λ e. kind_of e ≡ kinds.OutOfMemory) }
 {
     let about = "Runs a job, and prints a picture of its supersteps and arrays, an SVG file";
-    job_command(alloc, "draw", about, RUN_LINES)
+    job_command(alloc, "draw", about, DRAW_LINES)
 }
 
 // Makes the subcommand `trace`.
-fn trace_command<'a>(alloc: Global) -> Command<'a>
-    ensures app { app_of result ≡ new_app (codes "trace") }
-    ensures local { (fields_of result).has_globals ≡ false }
+fn trace_command<'a>(alloc: Global) -> Result<Command<'a>, Error>
+    ensures app { IfOk result (λ c. app_of c ≡ text_app (codes "trace")) }
+    ensures local { IfOk result (λ c. (fields_of c).has_globals ≡ false) }
+    ensures memory { IfErr result (λ e. kind_of e ≡ kinds.OutOfMemory) }
 {
-    Command::new(alloc, "trace")
-        .about(
-            "Runs the calls of a trace, one a line, on a phaser, a tree of phasers or a barrier, and prints what they answer",
-        )
-        .after_long_help(TRACE_LINES)
+    let about =
+        "Runs the calls of a trace, one a line, on a phaser, a tree of phasers or a barrier, and prints what they answer";
+    text_command(alloc, "trace", about, TRACE_LINES)
 }
 
 // Makes the subcommand `check`.
-fn check_command<'a>(alloc: Global) -> Command<'a>
-    ensures app { app_of result ≡ new_app (codes "check") }
-    ensures local { (fields_of result).has_globals ≡ false }
+fn check_command<'a>(alloc: Global) -> Result<Command<'a>, Error>
+    ensures app { IfOk result (λ c. app_of c ≡ text_app (codes "check")) }
+    ensures local { IfOk result (λ c. (fields_of c).has_globals ≡ false) }
+    ensures memory { IfErr result (λ e. kind_of e ≡ kinds.OutOfMemory) }
 {
-    Command::new(alloc, "check")
-        .about("Checks the text of a job, and prints it in its one canonical form")
-        .after_long_help(CHECK_LINES)
+    let about = "Checks the text of a job, and prints it in its one canonical form";
+    text_command(alloc, "check", about, CHECK_LINES)
 }
 
 // Makes the subcommand `upgrade`.
-fn upgrade_command<'a>(alloc: Global) -> Command<'a>
-    ensures app { app_of result ≡ new_app (codes "upgrade") }
-    ensures local { (fields_of result).has_globals ≡ false }
+fn upgrade_command<'a>(alloc: Global) -> Result<Command<'a>, Error>
+    ensures app { IfOk result (λ c. app_of c ≡ text_app (codes "upgrade")) }
+    ensures local { IfOk result (λ c. (fields_of c).has_globals ≡ false) }
+    ensures memory { IfErr result (λ e. kind_of e ≡ kinds.OutOfMemory) }
 {
-    Command::new(alloc, "upgrade")
-        .about("Reads the text of a job of either format, and prints the job in format 2")
-        .after_long_help(UPGRADE_LINES)
+    let about = "Reads the text of a job of either format, and prints the job in format 2";
+    text_command(alloc, "upgrade", about, UPGRADE_LINES)
 }
 
 // Makes the subcommand `explain` without its arguments.
@@ -276,7 +306,7 @@ fn bare_program<'a>(alloc: Global) -> Command<'a>
 {
     Command::new(alloc, "bsp")
         .about("Phasers and bulk-synchronous jobs, from standard input to standard output")
-        .before_long_help(EXAMPLES)
+        .after_long_help(EXAMPLES)
         .version(VERSION)
         .subcommand_required(true)
 }
@@ -286,9 +316,9 @@ pub(crate) fn parser<'a>(alloc: Global) -> Result<Command<'a>, Error>
     ensures app { IfOk result (λ c. app_of c ≡ program) }
     ensures memory { IfErr result (λ e. kind_of e ≡ kinds.OutOfMemory) }
 {
-    let with_trace = bare_program(alloc).subcommand(trace_command(alloc))?;
-    let with_check = with_trace.subcommand(check_command(alloc))?;
-    let with_upgrade = with_check.subcommand(upgrade_command(alloc))?;
+    let with_trace = bare_program(alloc).subcommand(trace_command(alloc)?)?;
+    let with_check = with_trace.subcommand(check_command(alloc)?)?;
+    let with_upgrade = with_check.subcommand(upgrade_command(alloc)?)?;
     let with_run = with_upgrade.subcommand(run_command(alloc)?)?;
     let with_draw = with_run.subcommand(draw_command(alloc)?)?;
     let with_explain = with_draw.subcommand(explain_command(alloc)?)?;
@@ -336,6 +366,23 @@ fn tree_of<'a>(matches: &ArgMatches<'a>) -> &'a str
     }
 }
 
+// Returns the name of a file, or `None` if there is none, or it is a hyphen.
+fn unless_hyphen<'a>(text: Option<&'a str>) -> Option<&'a str>
+    ensures { option_map (λ s. s.now) result ≡ unless_hyphen (option_map (λ s. s.now) text.entry) }
+{
+    match text {
+        Some(name) if name == "-" => None,
+        _ => text,
+    }
+}
+
+// Returns the file that the text is read from, or `None` for standard input.
+fn file_of<'a>(matches: &ArgMatches<'a>) -> Option<&'a str>
+    ensures { option_map (λ s. s.now) result ≡ file_in (rows_of (found_of matches.now)) }
+{
+    unless_hyphen(matches.get_str("file"))
+}
+
 // Returns the number of the code to be explained, or 0 if none is given.
 fn code_of(matches: &ArgMatches<'_>) -> u32
     ensures code { result ≡ number_from 14 0 (one_of (codes "code") (rows_of (found_of matches.now))) }
@@ -377,13 +424,15 @@ fn topic_of(matches: &ArgMatches<'_>) -> Topic
 }
 
 // Returns the request of a subcommand that runs no job.
-fn without_tree<'a>(asked: Asked) -> Request<'a>
+fn without_tree<'a>(asked: Asked, options: &ArgMatches<'a>) -> Request<'a>
     ensures asked { result.asked ≡ asked }
     ensures tree { result.tree.now ≡ codes "flat" }
+    ensures file { option_map (λ s. s.now) result.file ≡ file_in (rows_of (found_of options.now)) }
 {
     Request {
         asked,
         tree: "flat",
+        file: file_of(options),
         progress: false,
     }
 }
@@ -392,11 +441,27 @@ fn without_tree<'a>(asked: Asked) -> Request<'a>
 fn with_tree<'a>(asked: Asked, options: &ArgMatches<'a>, progress: bool) -> Request<'a>
     ensures asked { result.asked ≡ asked }
     ensures tree { result.tree.now ≡ tree_in (rows_of (found_of options.now)) }
+    ensures file { option_map (λ s. s.now) result.file ≡ file_in (rows_of (found_of options.now)) }
 {
     Request {
         asked,
         tree: tree_of(options),
+        file: file_of(options),
         progress,
+    }
+}
+
+// Returns the request of no subcommand, which the parser never gives.
+fn nothing_asked<'a>() -> Request<'a>
+    ensures asked { result.asked ≡ Asked.Trace }
+    ensures tree { result.tree.now ≡ codes "flat" }
+    ensures file { result.file ≡ None }
+{
+    Request {
+        asked: Asked::Trace,
+        tree: "flat",
+        file: None,
+        progress: false,
     }
 }
 
@@ -404,18 +469,19 @@ fn with_tree<'a>(asked: Asked, options: &ArgMatches<'a>, progress: bool) -> Requ
 pub(crate) fn asked_for<'a>(matches: &ArgMatches<'a>) -> Request<'a>
     ensures asked { result.asked ≡ asked_by (subcommand_rows_of matches.now) }
     ensures tree { result.tree.now ≡ tree_by (subcommand_rows_of matches.now) }
+    ensures file { option_map (λ s. s.now) result.file ≡ file_by (subcommand_rows_of matches.now) }
     ensures limit { IsAsked result.asked }
 {
     match matches.subcommand() {
         Some((name, options)) => {
             if name == "check" {
-                return without_tree(Asked::Check);
+                return without_tree(Asked::Check, options);
             }
             if name == "upgrade" {
-                return without_tree(Asked::Upgrade);
+                return without_tree(Asked::Upgrade, options);
             }
             if name == "explain" {
-                return without_tree(Asked::Explain(topic_of(options)));
+                return without_tree(Asked::Explain(topic_of(options)), options);
             }
             let (workers, limit) = (workers_of(options), limit_of(options));
             if name == "run" {
@@ -425,8 +491,8 @@ pub(crate) fn asked_for<'a>(matches: &ArgMatches<'a>) -> Request<'a>
             if name == "draw" {
                 return with_tree(Asked::Draw { workers, limit }, options, false);
             }
-            without_tree(Asked::Trace)
+            without_tree(Asked::Trace, options)
         }
-        None => without_tree(Asked::Trace),
+        None => nothing_asked(),
     }
 }

@@ -1,12 +1,12 @@
 //! The command line.
-ghost use Rattle.std.specs.Prelude.{◌≡◌, ◌≢◌, ◌≤◌, ◌⊎◌, ◌+◌, [], ◌∷◌, true, Ok, IfOk, IfErr, IsOk, IsErr, MatchOption, map, string_bytes};
+ghost use Rattle.std.specs.Prelude.{◌≡◌, ◌≢◌, ◌≤◌, ◌⊎◌, ◌+◌, [], ◌∷◌, true, Ok, IfOk, IfErr, IsOk, IsErr, MatchOption, None, map, option_map, string_bytes};
 ghost use Rattle.std.specs.Io.KnownBytes.{Appends};
 ghost use Rattle.clap.specs.Words.{HasKind, kind_of};
 ghost use Rattle.clap.specs.declared.error.kind.ErrorKind.TheVariants as kinds;
 ghost use Rattle.tier_shape.specs.Told.{shape_told};
 ghost use Rattle.bsp_cli.specs.Answers.{AnswersWords, around};
-ghost use Rattle.bsp_cli.specs.CommandLine.{asked_in, refused_by, tree_asked};
-ghost use Rattle.bsp_cli.specs.Did.{Did};
+ghost use Rattle.bsp_cli.specs.CommandLine.{asked_in, file_asked, refused_by, tree_asked};
+ghost use Rattle.bsp_cli.specs.Did.{Did, ReadsNothing};
 ghost use Rattle.bsp_cli.specs.Ends.{Does, IsAsked, ReadCause, WriteCause};
 ghost use Rattle.bsp_cli.specs.Texts.{CountsFailures, Says, Tells, WritesSome, version_line};
 
@@ -31,12 +31,15 @@ fn parse<'a, S: AsStr>(alloc: Global, words: &'a [S]) -> Result<Request<'a>, Err
     ensures taken { IfOk result (λ r. refused_by (map S.text words.entry.now) ≡ []) }
     ensures asked { IfOk result (λ r. r.asked ≡ asked_in (map S.text words.entry.now)) }
     ensures tree { IfOk result (λ r. r.tree.now ≡ tree_asked (map S.text words.entry.now)) }
+    ensures file { IfOk result (λ r. option_map (λ s. s.now) r.file ≡ file_asked (map S.text words.entry.now)) }
     ensures limit { IfOk result (λ r. IsAsked r.asked) }
     ensures err { IfErr result (HasKind (refused_by (map S.text words.entry.now))) }
 {
     let command = parser(alloc)?;
-    let matches = command.try_get_matches_from(words)?;
-    Ok(asked_for(&matches))
+    match command.try_get_matches_from(words) {
+        Ok(matches) => Ok(asked_for(&matches)),
+        Err(error) => Err(error),
+    }
 }
 
 // Writes a text that was asked for in place of a subcommand. Returns the status.
@@ -129,6 +132,7 @@ fn do_asked<T: Threads + Wait + Sync, R: CountedRead, W: CountedWrite, P: Progre
     progress: &P,
 ) -> Result<u8, RunFault>
     requires { IsAsked request.asked }
+    ensures reads_nothing { ReadsNothing request.entry.asked → reader.new ≡ reader.old }
     ensures does { Does request.entry.asked (R.remaining reader.old) (W.contents writer.old) (W.contents writer.new) result }
     ensures read_failures { ReadCause (R.failures reader.old) (R.failures reader.new) result }
     ensures write_failures { WriteCause (W.failures writer.old) (W.failures writer.new) result }
@@ -185,6 +189,7 @@ fn run_asked<
     requires { IsAsked request.asked }
     ensures did { Did request.entry.asked (R.remaining reader.old) (W.contents writer.old) (W.contents writer.new)
         (Tells (E.contents errors.old) (E.contents errors.new) (E.failures errors.old) (E.failures errors.new)) result }
+    ensures reads_nothing { ReadsNothing request.entry.asked → reader.new ≡ reader.old }
     ensures status { (result ≤ 9) × (result ≢ COMMAND_LINE_REFUSED) }
     ensures silent { result ≤ 3 → errors.new ≡ errors.old }
     ensures says { Says result (E.contents errors.old) (E.contents errors.new) (E.failures errors.old) (E.failures errors.new) }
@@ -211,6 +216,52 @@ fn shape_of(alloc: Global, text: &str) -> Result<Option<Shape>, AllocError>
     }
 }
 
+// Returns the file that a request names, if the text of its tree is one.
+fn file_of<'a>(alloc: Global, request: Request<'a>) -> Result<Option<&'a str>, AllocError>
+    ensures taken { IfOk result (λ file. IsOk (shape_told request.entry.tree.now) → option_map (λ s. s.now) file ≡ option_map (λ s. s.now) request.entry.file) }
+    ensures no_tree { IfOk result (λ file. IsErr (shape_told request.entry.tree.now) → file ≡ None) }
+{
+    match shape_of(alloc, request.tree) {
+        Ok(Some(_)) => Ok(request.file),
+        Ok(None) => Ok(None),
+        Err(error) => Err(error),
+    }
+}
+
+// Returns true if a parse failed because an allocation did.
+fn is_memory(error: &Error) -> bool
+    ensures { kind_of error.now ≡ kinds.OutOfMemory → result ≡ true }
+{
+    match error.kind() {
+        ErrorKind::OutOfMemory => true,
+        _ => false,
+    }
+}
+
+/// Returns the file that a command line names, from which [`run`] is to read: the caller opens it and hands it over as the
+/// reader. Returns `None` if standard input is to be read. So it does if the command line or the text of its tree is
+/// refused: then nothing is read.
+pub fn file_named<'a, S: AsStr>(
+    alloc: Global,
+    words: &'a [S],
+) -> Result<Option<&'a str>, AllocError>
+    ensures named { IfOk result (λ file. refused_by (map S.text words.entry.now) ≡ [] → IsOk (shape_told (tree_asked (map S.text words.entry.now)))
+        → option_map (λ s. s.now) file ≡ file_asked (map S.text words.entry.now)) }
+    ensures refused { IfOk result (λ file. refused_by (map S.text words.entry.now) ≢ [] → file ≡ None) }
+    ensures no_tree { IfOk result (λ file. refused_by (map S.text words.entry.now) ≡ [] → IsErr (shape_told (tree_asked (map S.text words.entry.now)))
+        → file ≡ None) }
+{
+    match parse(alloc, words) {
+        Ok(request) => file_of(alloc, request),
+        Err(error) => {
+            if is_memory(&error) {
+                return Err(AllocError);
+            }
+            Ok(None)
+        }
+    }
+}
+
 // Does what is asked for at the tree that is asked for, if its text is one.
 fn run_request<
     T: Threads + Wait + Sync,
@@ -230,6 +281,7 @@ fn run_request<
     requires { IsAsked request.asked }
     ensures did { Did request.entry.asked (R.remaining reader.old) (W.contents writer.old) (W.contents writer.new)
         (Tells (E.contents errors.old) (E.contents errors.new) (E.failures errors.old) (E.failures errors.new)) result }
+    ensures reads_nothing { ReadsNothing request.entry.asked → reader.new ≡ reader.old }
     ensures taken { IsOk (shape_told request.entry.tree.now) → result ≢ COMMAND_LINE_REFUSED }
     ensures no_tree { IsErr (shape_told request.entry.tree.now)
         → (reader.new ≡ reader.old) × (writer.new ≡ writer.old) × ((result ≡ COMMAND_LINE_REFUSED) ⊎ (result ≡ OUT_OF_MEMORY)) }

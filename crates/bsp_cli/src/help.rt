@@ -1,6 +1,6 @@
-//! The texts of help: what `--help` has, and `-h` hasn't.
+//! The texts of help: what `--help` has, and `-h` hasn't. Examples come last.
 
-/// Two worked examples, on top of all help.
+/// Two worked examples, at the end of the program's help.
 pub(crate) const EXAMPLES: &str = "Two tasks exchange their cells, on four threads:
 
   $ cat examples/swap.job
@@ -14,7 +14,7 @@ pub(crate) const EXAMPLES: &str = "Two tasks exchange their cells, on four threa
   end
   start swap 0
   start swap 1
-  $ bsp run --workers 4 --tree 2x2 < examples/swap.job
+  $ bsp run --workers 4 --tree 2x2 -f examples/swap.job
   phase 0 parties 2 left 0 spawned 0
   print 1 0 20
   print 1 1 10
@@ -29,7 +29,7 @@ Two parties arrive at a phaser, and the second advances it:
   arrive
   arrive
   show
-  $ bsp trace < examples/first.trace
+  $ bsp trace -f examples/first.trace
   0
   advance 0 parties 2
   0
@@ -77,11 +77,24 @@ Codes of refusals:
   4   a line whose first word isn't allowed there
   6   not a number, or one out of its range
   7   words too few, too many or misplaced
-  12  over 4096 commands, or over 256 tokens";
+  12  over 4096 commands, or over 256 tokens
+
+Two parties arrive at a phaser, and the second advances it:
+
+  $ cat examples/first.trace
+  phaser 2
+  arrive
+  arrive
+  show
+  $ bsp trace -f examples/first.trace
+  0
+  advance 0 parties 2
+  0
+  phase 1 parties 2 unarrived 2 ended no";
 
 // The lines of a job, the statuses and the codes of refusals, for the help of `check`, `upgrade` and `run`.
 macro_rules! job_help {
-    ($ends:literal) => {
+    ($ends:literal, $example:literal) => {
         concat!(
             "The first line: bsp 1, or bsp 2
 Then, one a line:
@@ -114,7 +127,10 @@ a local, arg, step or ARRAY[INDEX]. A line that begins with # is a comment.",
   11  an else that fits no if
   12  past a limit of the language
   13  a length outside 1 to 4096, or more values than the length
-  14  a reserved word as a name",
+  14  a reserved word as a name
+
+",
+            $example
         )
     };
 }
@@ -130,7 +146,31 @@ Statuses, and the line on standard error:
   6  out of memory
   8  read or write failed
 
-"
+",
+    "A job in its canonical form:
+
+  $ cat examples/swap.job
+  bsp 1
+  array a 2 10 20
+  body swap
+    let other = 1 - arg
+    put a[arg] = a[other]
+    sync
+    print a[arg]
+  end
+  start swap 0
+  start swap 1
+  $ bsp check -f examples/swap.job
+  bsp 1
+  array a 2 10 20
+  body swap
+  let other = 1 - arg
+  put a[arg] = a[other]
+  sync
+  print a[arg]
+  end
+  start swap 0
+  start swap 1"
 );
 
 // The help of `upgrade`.
@@ -144,12 +184,38 @@ Statuses, and the line on standard error:
   6  out of memory
   8  read or write failed
 
-"
+",
+    "A job in format 2:
+
+  $ cat examples/swap.job
+  bsp 1
+  array a 2 10 20
+  body swap
+    let other = 1 - arg
+    put a[arg] = a[other]
+    sync
+    print a[arg]
+  end
+  start swap 0
+  start swap 1
+  $ bsp upgrade -f examples/swap.job
+  bsp 2
+  array a 2 10 20
+  body swap other
+  let other = 1 - arg
+  put a[arg] = a[other]
+  sync
+  print a[arg]
+  end
+  start swap 0
+  start swap 1"
 );
 
-// The help of `run` and `draw`.
-pub(crate) const RUN_LINES: &str = job_help!(
-    "
+// The statuses and the faults of a job that is run.
+macro_rules! run_help {
+    ($example:literal) => {
+        job_help!(
+            "
 
 Statuses, and the line on standard error:
   0  the job ended
@@ -172,5 +238,39 @@ Faults, as the report's last line tells them:
   7  over 4096 tasks would live on
   8  a cell's sum doesn't fit 64 bits as its values are added
 
-"
+",
+            $example
+        )
+    };
+}
+
+// The help of `run`.
+pub(crate) const RUN_LINES: &str = run_help!(
+    "Two tasks exchange their cells, on four threads:
+
+  $ cat examples/swap.job
+  bsp 1
+  array a 2 10 20
+  body swap
+    let other = 1 - arg
+    put a[arg] = a[other]
+    sync
+    print a[arg]
+  end
+  start swap 0
+  start swap 1
+  $ bsp run --workers 4 --tree 2x2 -f examples/swap.job
+  phase 0 parties 2 left 0 spawned 0
+  print 1 0 20
+  print 1 1 10
+  phase 1 parties 2 left 2 spawned 0
+  array a 20 10
+  ended 2"
+);
+
+// The help of `draw`.
+pub(crate) const DRAW_LINES: &str = run_help!(
+    "A picture of a search in a graph, for a browser:
+
+  $ bsp draw -f examples/breadth.job > breadth.svg"
 );

@@ -1,10 +1,17 @@
 //! Laws on the words of a command line. Each function does nothing: its contract is the law.
-ghost use Rattle.bsp_cli.specs.Laws.{EachNameAsks, EachNameHelps, EachNameRefuses, EachNameTellsVersion};
+ghost use Rattle.bsp_cli.specs.Laws.{EachNameAsks, EachNameHelps, EachNameNamesFiles, EachNameRefuses, EachNameTellsVersion};
 ghost use Rattle.bsp_cli.specs.Laws.{EachLimitAsks, EachNumberAsks, EachNumberOfWorkersAsks, EachOtherNumberIsRefused};
+ghost use Rattle.bsp_cli.specs.Lines.{LinesAreWorkedOut};
 
 /// The words `trace`, `check`, `upgrade`, and `run` with its limits, after any name of the program, ask for that.
 pub fn words_ask()
     ensures { EachNameAsks }
+{}
+
+/// The words `-f FILE` and `--file FILE` of `run`, `draw`, `check`, `upgrade` and `trace` name that file, and `-f -` or neither
+/// names standard input.
+pub fn words_name_files()
+    ensures { EachNameNamesFiles }
 {}
 
 /// These words are refused: no subcommand or an unknown one, too many words, a limit that isn't one, and options that
@@ -41,4 +48,9 @@ pub fn numbers_ask()
 /// Any other text after `run --limit` or `run --workers` is refused, if it doesn't begin with a hyphen.
 pub fn other_numbers_are_refused()
     ensures { EachOtherNumberIsRefused }
+{}
+
+/// The line on standard error of each status that has one is written down, and not said by a rule.
+pub fn lines_are_worked_out()
+    ensures { LinesAreWorkedOut }
 {}

@@ -13,10 +13,13 @@ mod progress;
 mod trace;
 
 pub use asked::{Asked, Topic};
-pub use command_line::{run, run_telling};
+pub use command_line::{file_named, run, run_telling};
 pub use fault::RunFault;
 pub use job::{draw_bytes, run_bytes};
-pub use laws::{words_are_refused, words_ask, words_help, words_tell_the_version};
+pub use laws::{
+    limits_ask, lines_are_worked_out, numbers_ask, other_numbers_are_refused, words_are_refused,
+    words_ask, words_help, words_name_files, words_tell_the_version, workers_ask,
+};
 pub use program::run_program;
 pub use progress::{NoProgress, Progress, WatchEnd};
 

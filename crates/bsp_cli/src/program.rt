@@ -2,16 +2,16 @@
 ghost use Rattle.std.specs.Prelude.{◌≡◌, ◌≤◌, ◌⊎◌};
 ghost use Rattle.bsp_cli.specs.Texts.{Says};
 
-use crate::command_line::run_telling;
+use crate::command_line::{file_named, run_telling};
 use crate::fault::{RunFault, refuse, tell};
 use crate::progress::Teller;
 use crate::status::{COMMAND_LINE_REFUSED, OUT_OF_MEMORY};
 use devices::{CountedWrite, Reader};
-use std::io::Input;
-use std::rt::Clock;
+use std::io::{Input, Read};
+use std::rt::{Clock, Files};
 use std::sync::Wait;
 use std::thread::Threads;
-use std::{env, io};
+use std::{env, fs, io};
 
 // Reports that the words of the command line couldn't be read. Returns the status.
 fn stopped<E: CountedWrite>(errors: &mut E, kind: io::ErrorKind) -> u8
@@ -24,14 +24,64 @@ fn stopped<E: CountedWrite>(errors: &mut E, kind: io::ErrorKind) -> u8
     refuse(errors)
 }
 
-/// Does what the command line of this process asks for, as [`run_telling`] does. Reads standard input, prints to `writer`,
-/// and reports to `errors` what went wrong. Returns the status that the process ends with. Words that aren't text are
-/// refused.
+// Standard input. If it is a terminal, the first read says on standard error that it waits for a text.
+#[derive(Drop)]
+struct Standard<'a, T: Eprint, S: Read + Drop> {
+    rt: &'a T,
+    input: S,
+    tells: bool,
+}
+
+impl<T: Eprint, S: Read + Drop> Read for Standard<'_, T, S> {
+    fn read(&mut self, buffer: &mut [u8]) -> io::Result<usize> {
+        if self.tells {
+            self.tells = false;
+            let _ = eprintln!(self.rt;
+                "reading a text from standard input, up to Ctrl-D; -f FILE reads a file"
+            );
+        }
+        self.input.read(buffer)
+    }
+}
+
+// Where a text is read from. The reads of a file that couldn't be opened fail.
+#[derive(Drop)]
+enum Source<F: Read + Drop, S: Read + Drop> {
+    File(F),
+    Standard(S),
+    Unopened,
+}
+
+impl<F: Read + Drop, S: Read + Drop> Read for Source<F, S> {
+    fn read(&mut self, buffer: &mut [u8]) -> io::Result<usize> {
+        match self {
+            Source::File(file) => file.read(buffer),
+            Source::Standard(input) => input.read(buffer),
+            Source::Unopened => Err(io::ErrorKind::NotFound.into()),
+        }
+    }
+}
+
+// Opens the file that is named, or takes standard input.
+fn opened<T: Files, S: Read + Drop>(rt: &T, file: Option<&str>, standard: S) -> Source<T::File, S> {
+    match file {
+        None => Source::Standard(standard),
+        Some(path) => match fs::open(rt, path) {
+            Ok(file) => Source::File(file),
+            Err(_) => Source::Unopened,
+        },
+    }
+}
+
+/// Does what the command line of this process asks for, as [`run_telling`] does. Reads the file that the command line names,
+/// or else standard input, prints to `writer`, and reports to `errors` what went wrong. Returns the status that the process
+/// ends with. Words that aren't text are refused; the reads of a file that can't be opened fail. If `terminal` is true,
+/// standard input is a terminal, and a first read of it says on standard error what it waits for.
 pub fn run_program<
-    T: env::Env + AllocGlobal + Input + Clock + Eprint + Threads + Wait + Sync,
+    T: env::Env + AllocGlobal + Files + Input + Clock + Eprint + Threads + Wait + Sync,
     W: CountedWrite,
     E: CountedWrite,
->(rt: &T, writer: &mut W, errors: &mut E) -> u8
+>(rt: &T, terminal: bool, writer: &mut W, errors: &mut E) -> u8
     ensures status { result ≤ 9 }
     ensures silent { result ≤ 3 → errors.new ≡ errors.old }
     ensures command_line_refused { result ≡ COMMAND_LINE_REFUSED → writer.new ≡ writer.old }
@@ -44,7 +94,15 @@ pub fn run_program<
     let Ok(words) = words.collect::<Vec<String>>(rt.alloc()) else {
         return stopped(errors, io::ErrorKind::OutOfMemory);
     };
-    let mut reader = Reader::new(rt.reader());
+    let Ok(file) = file_named(rt.alloc(), words.as_slice()) else {
+        return stopped(errors, io::ErrorKind::OutOfMemory);
+    };
+    let standard = Standard {
+        rt,
+        input: rt.reader(),
+        tells: terminal,
+    };
+    let mut reader = Reader::new(opened(rt, file, standard));
     let teller = Teller::new(rt);
     run_telling(
         rt,

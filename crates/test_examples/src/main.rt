@@ -57,6 +57,20 @@ const DRAW_BY_FOUR: [&str; 6] = ["bsp", "draw", "--workers", "4", "--tree", "2x2
 // The jobs whose pictures are stored.
 const PICTURES: [&str; 1] = ["breadth"];
 
+// Jobs that end with a fault and at the limit, the words that draw them, and the status.
+const ENDS: [(&[&str], &str, u8); 2] = [
+    (
+        &["bsp", "draw"],
+        "bsp 1\narray a 1 7\nbody b\nsync\nprint 1 / 0\nend\nstart b 0\n",
+        2,
+    ),
+    (
+        &["bsp", "draw", "--limit", "2"],
+        "bsp 1\nbody b\nwhile 1\nsync\nend\nend\nstart b 0\n",
+        3,
+    ),
+];
+
 // A job of 8001 supersteps, and what its picture has where three share a column.
 const LONG: &str = "bsp 1\nbody b\nwhile step < 8000\nsync\nend\nend\nstart b 0\n";
 
@@ -354,6 +368,39 @@ fn shares_columns<R: Threads + Wait + Sync>(rt: &R, alloc: Global) -> bool {
     }
 }
 
+// Whether a picture is drawn of a job that ends so, with that status and nothing on the errors.
+fn is_drawn<R: Threads + Wait + Sync>(
+    rt: &R,
+    alloc: Global,
+    words: &[&str],
+    text: &str,
+    status: u8,
+) -> bool {
+    let left = run_on(rt, alloc, words, text.as_bytes());
+    match str::from_utf8(left.output.as_slice()) {
+        Ok(text) => {
+            left.status == status
+                && left.errors.is_empty()
+                && text.starts_with("<svg ")
+                && text.ends_with("</svg>\n")
+        }
+        Err(_) => false,
+    }
+}
+
+// Draws a job that faults, and one that the limit stops.
+fn draw_ends<R: AllocGlobal + Print + Threads + Wait + Sync>(rt: &R) -> Result<(), Error> {
+    for (words, text, status) in ENDS {
+        let said = if is_drawn(rt, rt.alloc(), words, text, status) {
+            "is drawn"
+        } else {
+            "is not drawn"
+        };
+        println!(rt; "a job that ends with status {status} {said}")?;
+    }
+    Ok(())
+}
+
 // Draws the pictures.
 fn draw_pictures<R: AllocGlobal + Files + Print + Threads + Wait + Sync>(
     rt: &R,
@@ -372,7 +419,7 @@ fn draw_pictures<R: AllocGlobal + Files + Print + Threads + Wait + Sync>(
         "shares no columns"
     };
     println!(rt; "the picture of 8001 supersteps {said}")?;
-    Ok(())
+    draw_ends(rt)
 }
 
 // Whether a line is a row that holds.

@@ -29,6 +29,15 @@ allowed c = (
   ⊎_elim (λ h. or_left (c == 10) (nat_le 32 c && nat_le c 126) (same c 10 h)) (λ h. or_right (c == 10) (nat_le 32 c && nat_le c 126) ((from_to 32 126 c).1 h)),
 )
 
+pub skipped : (c : ℕ) → ((c == 35) ≡ true) ↔ (c ≡ 35)
+skipped c = (equal c 35, same c 35)
+
+pub meant_as_number : (c : ℕ) → (((c == 45) || (nat_le 48 c && nat_le c 57)) ≡ true) ↔ ((c ≡ 45) ⊎ IsFrom 48 57 c)
+meant_as_number c = (
+  λ e. ⊎_elim (λ h. inl (equal c 45 h)) (λ h. inr ((from_to 48 57 c).0 h)) (or_either (c == 45) (nat_le 48 c && nat_le c 57) e),
+  ⊎_elim (λ h. or_left (c == 45) (nat_le 48 c && nat_le c 57) (same c 45 h)) (λ h. or_right (c == 45) (nat_le 48 c && nat_le c 57) ((from_to 48 57 c).1 h)),
+)
+
 pub in_name : (c : ℕ) → (is_in_name c ≡ true) ↔ (IsFrom 97 122 c ⊎ (IsFrom 48 57 c ⊎ (c ≡ 95)))
 in_name c = (
   λ e. ⊎_elim (λ h. ⊎_elim (λ k. inl ((from_to 97 122 c).0 k)) (λ k. inr (inl ((from_to 48 57 c).0 k))) (or_either (is_lower c) (is_digit c) h)) (λ h. inr (inr (equal c 95 h)))

@@ -1,11 +1,12 @@
 -- Which bytes a text may have, which may stand in a name, and which words are no names, in numbers and written down (own).
-use Rattle.std.specs.Prelude.{◌≡◌, ◌⊎◌, ◌↔◌, ◌≤◌, ℕ, true, false, List, [], ◌∷◌, ◌++◌, length, replicate, codes, None, Some}
+use Rattle.std.specs.Prelude.{◌≡◌, ◌⊎◌, ◌↔◌, ◌≤◌, ℕ, true, false, List, [], ◌∷◌, ◌++◌, filter, length, replicate, codes, None, Some}
 use Rattle.std.specs.List.{list_all, list_any}
 use Rattle.std.specs.Str.{bytes_eq}
 use Rattle.text_lines.specs.declared.refusal.Code.TheVariants.{BadName, Reserved}
-use Rattle.text_lines.specs.Text.{is_allowed, bad_byte_line}
+use Rattle.text_lines.specs.Number.{begins_number}
+use Rattle.text_lines.specs.Text.{is_allowed, is_skipped, bad_byte_line}
 use Rattle.task_code.specs.Names.{is_name, is_in_name, begins_lower, is_reserved}
-use Rattle.job_words.specs.Words.{Word}
+use Rattle.job_words.specs.Words.{Word, Words}
 use Rattle.job_reader.specs.Reading.{job_in}
 use Rattle.text_laws.specs.WorkedRefusals.{refused}
 
@@ -22,6 +23,18 @@ pub record BytesAreTold : Type 0 where
   pub space : bad_byte_line 1 (32 ∷ []) ≡ None
   pub tilde : bad_byte_line 1 (126 ∷ []) ≡ None
   pub above_tilde : bad_byte_line 1 (10 ∷ 126 ∷ 127 ∷ []) ≡ Some 2
+
+-- the 95 bytes from the space to the tilde, in their order
+abbrev pub printable : Word
+printable = codes " !\"#$%&'()*+,-./0123456789:;<=>?@ABCDEFGHIJKLMNOPQRSTUVWXYZ[\\]^_`abcdefghijklmnopqrstuvwxyz{|}~"
+
+-- Which first byte makes a line a comment, and which a word one that is meant as a number: in general, and of the 95 bytes one by one.
+pub record FirstBytesAreTold : Type 0 where
+  pub skipped : (c : ℕ) (cs : Word) (ws : Words) → (is_skipped ((c ∷ cs) ∷ ws) ≡ true) ↔ (c ≡ 35)
+  pub number : (c : ℕ) (cs : Word) → (begins_number (c ∷ cs) ≡ true) ↔ ((c ≡ 45) ⊎ IsFrom 48 57 c)
+  pub count : length printable ≡ 95
+  pub comments : filter (λ c. is_skipped ((c ∷ []) ∷ [])) printable ≡ codes "#"
+  pub numbers : filter (λ c. begins_number (c ∷ [])) printable ≡ codes "-0123456789"
 
 abbrev pub letters : Word
 letters = codes "abcdefghijklmnopqrstuvwxyz"

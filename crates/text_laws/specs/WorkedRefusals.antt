@@ -61,6 +61,22 @@ pub record RefusalsAreWorkedOut : Type 0 where
   pub twice_before_many : job_in (arrays ++ codes "array a 1\n") ≡ refused 18 Twice
   pub many : job_in (arrays ++ codes "array z 1\n") ≡ refused 18 TooMany
   pub many_mentions : job_in (codes "bsp 1\nbody c\nif 1\nelse\nif y\nprint b[0]\n") ≡ refused 6 UnknownName
+  -- a keyword alone has too few words, whatever each of its words would have to be
+  pub let_alone : job_in (codes "bsp 1\nbody c\nlet\nend\n") ≡ refused 3 BadLine
+  pub put_alone : job_in (codes "bsp 1\nbody c\nput\nend\n") ≡ refused 3 BadLine
+  pub add_alone : job_in (codes "bsp 2\nbody c\nadd\nend\n") ≡ refused 3 BadLine
+  pub print_alone : job_in (codes "bsp 1\nbody c\nprint\nend\n") ≡ refused 3 BadLine
+  pub spawn_alone : job_in (codes "bsp 1\nbody c\nspawn\nend\n") ≡ refused 3 BadLine
+  pub if_alone : job_in (codes "bsp 1\nbody c\nif\nend\n") ≡ refused 3 BadLine
+  pub while_alone : job_in (codes "bsp 1\nbody c\nwhile\nend\n") ≡ refused 3 BadLine
+  pub array_alone : job_in (codes "bsp 1\narray\n") ≡ refused 2 BadLine
+  pub body_alone : job_in (codes "bsp 1\nbody\n") ≡ refused 2 BadLine
+  pub start_alone : job_in (codes "bsp 1\nstart\n") ≡ refused 2 BadLine
+  pub start_without : job_in (codes "bsp 1\nstart c\n") ≡ refused 2 BadLine
+  -- a first word that begins with a slash is no comment, and one that begins with a colon isn't meant as a number
+  pub slash_counts : job_in (codes "/ bsp 1\nbsp 1\n") ≡ refused 1 BadHeader
+  pub slash_in_body : job_in (codes "bsp 1\nbody c\n/\nend\n") ≡ refused 3 UnknownLine
+  pub colon_is_name : job_in (codes "bsp 1\nbody c\nprint :5\nend\n") ≡ refused 3 BadName
   -- the first line that is refused counts, whatever its fault, and a body that is missing is looked for at the end
   pub first_line : job_in (codes "bsp 1\nstart X 0\narray step\n") ≡ refused 2 BadName
   pub line_before_missing : job_in (codes "bsp 1\nstart b 0\narray a 0\n") ≡ refused 3 BadLength

@@ -14,15 +14,13 @@ use Rattle.trace_text.specs.Words.{Word, HeadWords, take_number, take_behind, wo
 use Rattle.trace_text.specs.TreeWords.{TreeHeadWords, TreeAsked, take_keyword, words_after_phase, tree_head_words, tree_head_numbers, tree_numbered, made}
 use Rattle.trace_text.specs.BarrierWords.{BarrierHeadWords, barrier_head_words, generation_if, barrier_head_numbers, barrier_numbered}
 use Rattle.trace_text.specs.Trace.{Head, OfPhaser, OfTree, OfBarrier, head_of}
+use Rattle.trace_text.proofs.ReadWords.{from-made, from-next, from-or}
 use Rattle.trace_laws.specs.Heads.{SpellsPhaser, SpellsTree, SpellsBarrier, HeadsAreSpelled}
 use Rattle.trace_laws.proofs.HeadParts.{
   alone,
   keyed,
   worded,
   Begins,
-  from-made,
-  from-next,
-  from-or,
   next-some,
   taken-number,
   taken-behind,

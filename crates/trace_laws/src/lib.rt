@@ -5,7 +5,7 @@ ghost use Rattle.trace_laws.specs.Advances.{AdvancesComeFirst};
 ghost use Rattle.trace_laws.specs.Enough.{RunsReachTheirAnswer, CallsDoneReachTheirAnswer};
 ghost use Rattle.trace_laws.specs.Heads.{HeadsAreSpelled};
 ghost use Rattle.trace_laws.specs.TreeAdvances.{AdvancesOfTreesComeFirst};
-ghost use Rattle.trace_laws.specs.Worked.{TracesAreWorkedOut};
+ghost use Rattle.trace_laws.specs.Worked.{RefusedTracesAreWorkedOut, TracesAreWorkedOut};
 
 /// `run` takes a call to its answer: more steps would print nothing more, and leave the same tree.
 pub fn runs_reach_their_answer()
@@ -38,4 +38,10 @@ pub fn advances_of_trees_come_first()
 /// Three traces, of a phaser, of a tree and of a barrier, print these texts, which are written out in full.
 pub fn traces_are_worked_out()
     ensures { TracesAreWorkedOut }
+{}
+
+/// What some traces are refused for is written down, and not said by a rule: numbers at their limit and one above it, first words
+/// that begin with a slash or a colon, and which fault counts at the limits of commands and tokens.
+pub fn refused_traces_are_worked_out()
+    ensures { RefusedTracesAreWorkedOut }
 {}

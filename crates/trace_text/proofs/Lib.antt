@@ -4,3 +4,6 @@ pub mod TracedRuns
 pub mod AskedLines
 pub mod SpelledCommands
 pub mod TreeRuns
+mod OwnFaults
+pub mod ReadWords
+mod SpelledTrees

@@ -16,6 +16,7 @@ use Rattle.trace_text.specs.declared.words.Form.{Form}
 use Rattle.trace_text.specs.declared.words.Form.TheVariants.{Alone, Bulk, Await}
 use Rattle.trace_text.specs.Words.{Word, form_of, formed, command_of, of_32_bits, or_else}
 use Rattle.trace_text.specs.Laws.{spelled, HasRoom, CommandsAreSpelled}
+use Rattle.trace_text.proofs.SpelledTrees.{trees, barriers}
 
 wide : (n : ℤ) → FitsSigned w32 n → FitsSigned w64 n
 wide (pos n) f = grind (arith, common_steps, ints, f)
@@ -140,4 +141,4 @@ written [] c h = absurd (let wrong : ◌≡◌ {A = Result PhaserCommand Code} (
 written (w ∷ ws) c h = by_form w ws (form_of w) c refl h
 
 pub spelled_law : CommandsAreSpelled
-spelled_law = (read_back, written)
+spelled_law = record { phasers = record { read_back = read_back; written = written }; trees = trees; barriers = barriers }

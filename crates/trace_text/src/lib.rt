@@ -19,7 +19,7 @@ mod words;
 pub use barrier_words::{BarrierCommand, BarrierHead};
 pub use fault::TraceFault;
 pub use head::Head;
-pub use laws::{commands_are_spelled, lines_say_what_is_asked};
+pub use laws::{commands_are_spelled, faults_of_lines_come_first, lines_say_what_is_asked};
 pub use run::run_trace;
 pub use text_lines::{Code, Refusal};
 pub use tree_words::{TokenCall, TreeCommand, TreeHead};

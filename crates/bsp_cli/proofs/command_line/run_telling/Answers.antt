@@ -14,6 +14,7 @@ returns-in-Err g c = record {
         | inr none ↦ absurd none
       ];
   taken = search rules;
+  reads_nothing = search rules;
   no_tree = search rules;
   helps = search rules;
   tells_version = search rules;

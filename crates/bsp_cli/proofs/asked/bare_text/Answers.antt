@@ -1,6 +1,6 @@
 use Rattle.std.proofs.Common.{◌∙◌, ap, refl}
 use Rattle.clap.specs.Simple.{app_of_fields}
-use Rattle.bsp_cli.proofs.asked.upgrade_command.Goals as goal
+use Rattle.bsp_cli.proofs.asked.bare_text.Goals as goal
 
 pub returns-clause-app : goal.returns-clause-app
 returns-clause-app c = ap app_of_fields c.after_long_help.ensures ∙ (ap app_of_fields c.about.ensures ∙ c.new.ensures.app)
