@@ -3,14 +3,12 @@ use Rattle.std.proofs.Common.{◌≡◌, ◌<◌, ◌+◌, ℕ, Bool, true, fals
 use Rattle.std.proofs.lemmas.List.{take_more}
 use Rattle.std.proofs.lemmas.Bool.{false≢true}
 use Rattle.std.proofs.lemmas.Slice.Eq.{bytes_eq-Decides}
-use Rattle.std.proofs.lemmas.Map.Text.{is_eq-slice_cmp}
 use Rattle.std.specs.Prelude.{not, ◌&&◌, ◌||◌}
 use Rattle.std.specs.Borrow.{Bor}
-use Rattle.std.specs.BTreeSet.{BTreeSet, Updates, contains}
-use Rattle.std.specs.Cmp.Lexicographic.{slice_cmp}
+use Rattle.std.specs.HashSet.{HashSet, Updates, contains}
 use Rattle.std.specs.List.{list_all}
-use Rattle.std.specs.declared.cmp.Ordering.{Ordering}
-use Rattle.std.specs.Ordering.{nat_cmp}
+use Rattle.std.specs.declared.hash.FoldHasher.{FoldHasher}
+use Rattle.std.specs.declared.hash.BuildHasherDefault.{BuildHasherDefault}
 use Rattle.std.specs.Str.{bytes_eq}
 use Rattle.task_code.specs.Names.{is_among}
 use Rattle.job_words.specs.Words.{Word}
@@ -18,12 +16,15 @@ use Rattle.job_words.specs.Views.{lent}
 use Rattle.job_words.proofs.NotedLemmas.{lent-append}
 use Rattle.job_reader.specs.Reading.{are_apart}
 
-abbrev pub word_cmp : Bor Word → Bor Word → Ordering
-word_cmp v w = slice_cmp nat_cmp v.now w.now
+abbrev pub word_eq : Bor Word → Bor Word → Bool
+word_eq v w = bytes_eq v.now w.now
+
+abbrev pub WordSet : Type 0
+WordSet = HashSet (Bor Word) (BuildHasherDefault FoldHasher)
 
 -- the set has exactly the words of the list
-abbrev pub AreFound : BTreeSet (Bor Word) → List Word → Type 0
-AreFound set names = (w : Bor Word) → contains word_cmp set w ≡ is_among names w.now
+abbrev pub AreFound : WordSet → List Word → Type 0
+AreFound set names = (w : Bor Word) → contains word_eq set w ≡ is_among names w.now
 
 -- no word is among the names, and none stands there twice
 abbrev pub apart_from : List Word → List Word → Bool
@@ -99,11 +100,10 @@ either false true = refl
 either false false = refl
 
 -- the set after a word is put in
-found-more : (s n : BTreeSet (Bor Word)) (names : List Word) (w : Bor Word) → Updates word_cmp s n w true → AreFound s names → AreFound n (names ++ w.now ∷ [])
+found-more : (s n : WordSet) (names : List Word) (w : Bor Word) → Updates word_eq s n w true → AreFound s names → AreFound n (names ++ w.now ∷ [])
 found-more s n names w u found = λ q.
-    u.0 q ∙ (ap (λ (b : Bool). cond b true (contains word_cmp s q)) (is_eq-slice_cmp w.now q.now)
-    ∙ (ap (λ (b : Bool). cond (bytes_eq w.now q.now) true b) (found q)
-    ∙ (either (bytes_eq w.now q.now) (is_among names q.now) ∙ sym (among-more names w.now q.now))))
+    u.0 q ∙ (ap (λ (b : Bool). cond (bytes_eq w.now q.now) true b) (found q)
+    ∙ (either (bytes_eq w.now q.now) (is_among names q.now) ∙ sym (among-more names w.now q.now)))
 
 lent-take : (ws : List (Bor Word)) (i : ℕ) (d : Bor Word) → i < length ws → lent (take (i + 1) ws) ≡ lent (take i ws) ++ (get_or ws i d).now ∷ []
 lent-take ws i d h = ap lent (take_more ws i d h) ∙ lent-append (take i ws) (get_or ws i d ∷ [])
@@ -116,14 +116,14 @@ absent true a e h = absurd (false≢true (sym e ∙ h))
 absent false a e h = refl
 
 -- the loop after a new word
-pub apart-next : (s n : BTreeSet (Bor Word)) (ws : List (Bor Word)) (i : ℕ) (d : Bor Word) (x a : Bool) → i < length ws
-    → a ≡ not (contains word_cmp s (get_or ws i d)) → a ≡ true → Updates word_cmp s n (get_or ws i d) true
+pub apart-next : (s n : WordSet) (ws : List (Bor Word)) (i : ℕ) (d : Bor Word) (x a : Bool) → i < length ws
+    → a ≡ not (contains word_eq s (get_or ws i d)) → a ≡ true → Updates word_eq s n (get_or ws i d) true
     → AreFound s (lent (take i ws)) → x ≡ apart_from (lent (take i ws)) (lent (drop i ws))
     → AreFound n (lent (take (i + 1) ws)) × (x ≡ apart_from (lent (take (i + 1) ws)) (lent (drop (i + 1) ws)))
 apart-next s n ws i d x a h e t u found rest =
     let w = get_or ws i d in
     let names = lent (take i ws) in
-    let new : is_among names w.now ≡ false = sym (found w) ∙ absent (contains word_cmp s w) a e t in (
+    let new : is_among names w.now ≡ false = sym (found w) ∙ absent (contains word_eq s w) a e t in (
       λ q. found-more s n names w u found q ∙ ap (λ (ns : List Word). is_among ns q.now) (sym (lent-take ws i d h)),
       rest ∙ ap (apart_from names) (lent-drop ws i d h) ∙ apart-goes-on names w.now (lent (drop (i + 1) ws)) new
           ∙ ap (λ (ns : List Word). apart_from ns (lent (drop (i + 1) ws))) (sym (lent-take ws i d h)),

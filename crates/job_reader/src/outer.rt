@@ -10,7 +10,7 @@ use job_words::faults::{both, earlier};
 use job_words::lines::body_at;
 use job_words::words::{is_word, named, numbered};
 use std::alloc::{AllocError, Global};
-use std::collections::BTreeSet;
+use std::collections::HashSet;
 use task_code::job::{MOST_CELLS, Start};
 use task_code::names::{is_name, is_reserved};
 use text_lines::{Code, split_word};
@@ -173,11 +173,11 @@ fn all_named(words: &[&[u8]]) -> Result<(), Code>
     if names { Ok(()) } else { Err(Code::BadName) }
 }
 
-/// Returns true if no word is there twice. Each word is looked up in a set, so the time is almost linear.
+/// Returns true if no word is there twice. Each word is looked up in a set, so the time is linear.
 pub(crate) fn are_apart(alloc: Global, words: &[&[u8]]) -> Result<bool, AllocError>
     ensures { IfOk result (λ apart. apart ≡ spec.are_apart (lent words.now)) }
 {
-    let mut seen = BTreeSet::new(alloc);
+    let mut seen = HashSet::new(alloc);
     for word in words {
         if !seen.insert(*word)? {
             return Ok(false);

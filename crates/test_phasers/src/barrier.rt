@@ -1,5 +1,11 @@
 //! The cyclic barrier: threads at the gate.
 #[cfg(test)]
+mod bounded;
+#[cfg(test)]
+mod counted;
+#[cfg(test)]
 mod ended;
 #[cfg(test)]
 mod threads;
+#[cfg(test)]
+mod woken;

@@ -5,7 +5,7 @@ ghost use Rattle.advance_rule.specs.Stored.{Answers};
 ghost use Rattle.advance_rule.specs.Plan.{count_ends, end_ends_at};
 
 use advance_rule::{CountPlan, EndPlan, StoredAction, StoredAdvance, StoredCount};
-use cyclic_gate::BarrierCore;
+use cyclic_gate::{BarrierCore, BarrierFault};
 use phaser_one::PhaserOne;
 use std::cell::Cell;
 use std::process::Abort;
@@ -57,6 +57,27 @@ fn a_phaser_calls_it_once_an_advance(rt: HostRuntime) {
     passes(&rt, &mut phaser, false, &calls, 2);
     passes(&rt, &mut phaser, true, &calls, 3);
     passes(&rt, &mut phaser, false, &calls, 3);
+}
+
+// Calls that are refused, or that don't arrive, don't ask the rule.
+#[test]
+fn a_phaser_calls_it_at_no_other_call(rt: HostRuntime) {
+    let calls = Cell::new(0u32);
+    let ends = |_phase: u32, count: u32| {
+        note(&calls);
+        count < 1
+    };
+    let plan = CountPlan { least: 1, at: None };
+    let rule = StoredCount::new(ends, plan);
+    let mut phaser = PhaserOne::new(0, 0, rule).expect(&rt, "a phaser");
+    assert!(rt; phaser.arrive().is_err());
+    assert!(rt; phaser.arrive_and_deregister().is_err());
+    assert!(rt; phaser.register().is_ok());
+    assert!(rt; phaser.bulk_register(2).is_ok());
+    assert!(rt; calls.get() == 0);
+    passes(&rt, &mut phaser, false, &calls, 0);
+    passes(&rt, &mut phaser, false, &calls, 0);
+    passes(&rt, &mut phaser, false, &calls, 1);
 }
 
 // A member joins the root.
@@ -166,6 +187,21 @@ fn arrives<F: Fn(u64) -> bool>(
     assert!(rt; calls.get() == want);
 }
 
+// A caller that waits arrives again, though one party alone is missing: it is refused, and the action hasn't run.
+fn comes_again<F: Fn(u64) -> bool>(
+    rt: &impl Abort,
+    barrier: &mut BarrierCore<F>,
+    caller: u32,
+    calls: &Cell<u32>,
+    want: u32,
+)
+    requires { AnswersAction (F.pre barrier.old.action.closure) (F.post barrier.old.action.closure) barrier.old.action.plan }
+    ensures { barrier.new.action ≡ barrier.old.action }
+{
+    assert!(rt; matches!(barrier.await_step(caller), Err(BarrierFault::AlreadyWaiting)));
+    assert!(rt; calls.get() == want);
+}
+
 #[test]
 fn a_barrier_runs_it_once_a_trip(rt: HostRuntime) {
     let calls = Cell::new(0u32);
@@ -176,8 +212,10 @@ fn a_barrier_runs_it_once_a_trip(rt: HostRuntime) {
     let action = StoredAction::new(action, Some(1));
     let mut barrier = BarrierCore::new(rt.alloc(), 2, action).expect(&rt, "a barrier");
     arrives(&rt, &mut barrier, 0, &calls, 0);
+    comes_again(&rt, &mut barrier, 0, &calls, 0);
     arrives(&rt, &mut barrier, 1, &calls, 1);
     arrives(&rt, &mut barrier, 0, &calls, 1);
+    comes_again(&rt, &mut barrier, 0, &calls, 1);
     arrives(&rt, &mut barrier, 1, &calls, 2);
     arrives(&rt, &mut barrier, 0, &calls, 2);
 }

@@ -1,13 +1,12 @@
 use Rattle.std.proofs.Common.{ap}
-use Rattle.std.specs.BTreeMap.{is_at}
 use Rattle.std.specs.List.{list_any}
 use Rattle.job_words.specs.Views.{lent}
-use Rattle.job_reader.proofs.ApartNames.{word_cmp, apart-begins, apart-next}
+use Rattle.job_reader.proofs.ApartNames.{word_eq, apart-begins, apart-next}
 use Rattle.job_reader.proofs.outer.are_apart.Goals as goal
 
 pub loop-word-init : goal.loop-word-init
 loop-word-init c = record {
-  found = λ w. ap (list_any (is_at (word_cmp w))) c.new-seen.ensures.empty;
+  found = λ w. ap (list_any (word_eq w)) c.new-seen.ensures.empty;
   rest = apart-begins (lent c.args.words.now);
 }
 
