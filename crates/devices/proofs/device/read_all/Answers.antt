@@ -1,4 +1,4 @@
-use Rattle.std.proofs.Common.{◌≡◌, Err, ◌≤◌, ◌<◌, ◌+◌, ◌∙◌, ◌++◌, List, ℕ, subst, sym, ap, arith, length, take, length-take-le}
+use Rattle.std.proofs.Common.{◌≡◌, Err, ◌∙◌, List, ℕ, subst, sym, ap, arith, length, take, length-take-le}
 use Rattle.std.specs.Prelude.{IsErrOf}
 use Rattle.std.specs.Io.KnownBytes.{Consumes}
 use Rattle.devices.proofs.ReadBytes.{came_more, came_all, more_behind, no_more_behind, too_many_came}
