@@ -7,7 +7,9 @@ use Rattle.cyclic_gate.specs.Runs.{after_all}
 use Rattle.cyclic_gate.specs.Outcomes.{end_or}
 use Rattle.cyclic_gate.specs.History.{LedgerEntry, outcome_of, ledger_entry, calls_of, AreRight, first_end}
 use Rattle.cyclic_gate.specs.Ledger.{Book, book, kept_after, kept_end, end_of, read_by, is_end_of_generation, is_free}
+use Rattle.cyclic_gate.specs.Forgetting.{arrivals, calls_since, BarriersAreTheirArrivals}
 use Rattle.cyclic_gate.specs.Forgetting.{Waiter, waiter, Run, Event, Called, Wakes, is_made, noted, told_to_wait, waiter_at, without, after_reading, after_event, after_events, begun, FindTheirEnd, ForgettingChangesNoAnswer}
+use Rattle.cyclic_gate.proofs.Replay.{after_parties}
 use Rattle.cyclic_gate.specs.declared.call.Call.{Call}
 use Rattle.cyclic_gate.specs.declared.call.Call.TheVariants.{Await, Abandon, BreakOff, Reset}
 use Rattle.cyclic_gate.specs.declared.ledger.KeptEnd.{KeptEnd}
@@ -212,10 +214,10 @@ read_other g y [] apart = refl
 read_other g y (e ∷ es) apart =
     elim (e.generation == y) as (λ b. (e.generation == y) ≡ b → end_of g (if b then (if nat_lt 1 e.unread then kept_end e.generation e.outcome (e.unread - 1) ∷ es else es) else e ∷ read_by y es) ≡ (if e.generation == g then e.outcome else end_of g es)) [
       | true ↦ λ h. let no : (e.generation == g) ≡ false = grind (arith, nat_tests) in
-        elim (nat_lt 1 e.unread) as (λ b. end_of g (if b then kept_end e.generation e.outcome (e.unread - 1) ∷ es else es) ≡ (if e.generation == g then e.outcome else end_of g es)) [
-          | true ↦ refl
-          | false ↦ rw no refl
-        ]
+          elim (nat_lt 1 e.unread) as (λ b. end_of g (if b then kept_end e.generation e.outcome (e.unread - 1) ∷ es else es) ≡ (if e.generation == g then e.outcome else end_of g es)) [
+            | true ↦ refl
+            | false ↦ rw no refl
+          ]
       | false ↦ λ h. rw (read_other g y es apart) refl
     ] refl
 
@@ -223,13 +225,13 @@ read_same : (y : ℕ) (es : List KeptEnd) → AreGood es → 0 < unread_of y (re
 read_same y [] good some = refl
 read_same y (e ∷ es) good some =
     elim (e.generation == y) as (λ b. (e.generation == y) ≡ b → 0 < unread_of y (if b then (if nat_lt 1 e.unread then kept_end e.generation e.outcome (e.unread - 1) ∷ es else es) else e ∷ read_by y es)
-      → end_of y (if b then (if nat_lt 1 e.unread then kept_end e.generation e.outcome (e.unread - 1) ∷ es else es) else e ∷ read_by y es) ≡ (if b then e.outcome else end_of y es)) [
+    → end_of y (if b then (if nat_lt 1 e.unread then kept_end e.generation e.outcome (e.unread - 1) ∷ es else es) else e ∷ read_by y es) ≡ (if b then e.outcome else end_of y es)) [
       | true ↦ λ h. let same : e.generation ≡ y = grind (arith, nat_tests) in
-        let none : unread_of y es ≡ 0 = subst (λ (n : ℕ). unread_of n es ≡ 0) same good.0.only in
-        elim (nat_lt 1 e.unread) as (λ b. 0 < unread_of y (if b then kept_end e.generation e.outcome (e.unread - 1) ∷ es else es) → end_of y (if b then kept_end e.generation e.outcome (e.unread - 1) ∷ es else es) ≡ e.outcome) [
-          | true ↦ λ k. rw h refl
-          | false ↦ λ k. absurd (omega (arith, none, k))
-        ]
+          let none : unread_of y es ≡ 0 = subst (λ (n : ℕ). unread_of n es ≡ 0) same good.0.only in
+          elim (nat_lt 1 e.unread) as (λ b. 0 < unread_of y (if b then kept_end e.generation e.outcome (e.unread - 1) ∷ es else es) → end_of y (if b then kept_end e.generation e.outcome (e.unread - 1) ∷ es else es) ≡ e.outcome) [
+            | true ↦ λ k. rw h refl
+            | false ↦ λ k. absurd (omega (arith, none, k))
+          ]
       | false ↦ λ h k. let k' = rw h at k in let rest : 0 < unread_of y (read_by y es) = omega (arith, k') in rw h (read_same y es good.1 rest)
     ] refl some
 
@@ -342,9 +344,9 @@ ended parties call b whole unread a is nobody ends was =
         counts = λ g. rw nobody (let c = was.counts g in rw empty at c ∙ same_zero g b.ends m.generation (after b.fails call m).generation);
         alone = λ some. absurd (let none : length (after b.fails call m).waiting ≡ 0 = ap length nobody in omega (arith, none, some));
         found = find_more b.ends b.ends whole n unread was.found (λ g some.
-          let c = was.counts g in
-          let c' : waiters_of g unread ≡ unread_of g b.ends = (rw empty at c) ∙ sym (zero_more (unread_of g b.ends) (m.generation == g)) in
-          sym (end_or-left (end_of g b.ends) (outcome_of a) (has_end g b.ends was.good (omega (arith, c', some)))));
+            let c = was.counts g in
+            let c' : waiters_of g unread ≡ unread_of g b.ends = (rw empty at c) ∙ sym (zero_more (unread_of g b.ends) (m.generation == g)) in
+            sym (end_or-left (end_of g b.ends) (outcome_of a) (has_end g b.ends was.good (omega (arith, c', some)))));
         total = rw nobody (let t = was.total in omega (arith, t, empty));
       })
       | false ↦ λ h. let some : 0 < length m.waiting = grind (arith, nat_tests) in rw ends (record {
@@ -354,16 +356,18 @@ ended parties call b whole unread a is nobody ends was =
         counts = λ g. rw (nobody, unread_of-append g b.ends (kept_end m.generation (outcome_of a) (length m.waiting))) (let c = was.counts g in c ∙ zero_more (unread_of g b.ends + (if m.generation == g then length m.waiting else 0)) ((after b.fails call m).generation == g));
         alone = λ more. absurd (let none : length (after b.fails call m).waiting ≡ 0 = ap length nobody in omega (arith, none, more));
         found = find_more b.ends (b.ends ++ kept_end m.generation (outcome_of a) (length m.waiting) ∷ []) whole n unread was.found (λ g more.
-          end_of-append g b.ends (kept_end m.generation (outcome_of a) (length m.waiting)) was.good ∙ its g more);
+            end_of-append g b.ends (kept_end m.generation (outcome_of a) (length m.waiting)) was.good ∙ its g more);
         total = rw (nobody, total-append b.ends (kept_end m.generation (outcome_of a) (length m.waiting))) (let t = was.total in omega (arith, t));
       })
     ] refl
   where
     same_zero : (g : ℕ) (es : List KeptEnd) (x y : ℕ) → unread_of g es + (if x == g then 0 else 0) ≡ unread_of g es + (if y == g then 0 else 0)
     same_zero g es x y = grind (arith, nat_tests)
+
     zero_more : (k : ℕ) (x : Bool) → k ≡ k + (if x then 0 else 0)
     zero_more k true = omega arith
     zero_more k false = omega arith
+
     has_end : (g : ℕ) (es : List KeptEnd) → AreGood es → 0 < unread_of g es → is_end_of_generation (end_of g es) ≡ true
     has_end g [] good some = absurd (omega arith)
     has_end g (e ∷ es) good some =
@@ -371,6 +375,7 @@ ended parties call b whole unread a is nobody ends was =
           | true ↦ λ k. good.0.end
           | false ↦ λ k. has_end g es good.1 (omega (arith, k))
         ] some
+
     its : (g : ℕ) → 0 < waiters_of g unread → end_or (end_of g b.ends) (if b.barrier.generation == g then outcome_of a else GoesOn) ≡ end_or (end_of g b.ends) (outcome_of a)
     its g more =
         let c = was.counts g in
@@ -413,16 +418,17 @@ read parties n w b whole unread at' is was =
         let c = was.counts g in
         let l = waiters_of-without g n unread w at' in
         let r = read_one g w.generation b.ends was.good some in omega (arith, c, l, r)
+
     same : (g : ℕ) → 0 < waiters_of g (without n unread) → end_of g (read_by w.generation b.ends) ≡ end_of g b.ends
     same g more =
         elim (w.generation == g) as (λ x. (w.generation == g) ≡ x → end_of g (read_by w.generation b.ends) ≡ end_of g b.ends) [
           | true ↦ λ h.
-            let one : w.generation ≡ g = grind (arith, nat_tests) in
-            let some : 0 < unread_of w.generation b.ends = some_unread w.generation b.ends was.good is in
-            let nobody : (if b.barrier.generation == g then length b.barrier.waiting else 0) ≡ 0 = alone' g (subst (λ (k : ℕ). 0 < unread_of k b.ends) one some) in
-            let c = counts' g in
-            let left : 0 < unread_of g (read_by w.generation b.ends) = omega (arith, c, nobody, more) in
-            subst (λ (k : ℕ). 0 < unread_of g (read_by k b.ends) → end_of g (read_by k b.ends) ≡ end_of g b.ends) (sym one) (λ k. read_same g b.ends was.good k) left
+              let one : w.generation ≡ g = grind (arith, nat_tests) in
+              let some : 0 < unread_of w.generation b.ends = some_unread w.generation b.ends was.good is in
+              let nobody : (if b.barrier.generation == g then length b.barrier.waiting else 0) ≡ 0 = alone' g (subst (λ (k : ℕ). 0 < unread_of k b.ends) one some) in
+              let c = counts' g in
+              let left : 0 < unread_of g (read_by w.generation b.ends) = omega (arith, c, nobody, more) in
+              subst (λ (k : ℕ). 0 < unread_of g (read_by k b.ends) → end_of g (read_by k b.ends) ≡ end_of g b.ends) (sym one) (λ k. read_same g b.ends was.good k) left
           | false ↦ λ h. read_other g w.generation b.ends h
         ] refl
       where
@@ -430,11 +436,11 @@ read parties n w b whole unread at' is was =
         alone' g some =
             elim (b.barrier.generation == g) as (λ x. (b.barrier.generation == g) ≡ x → (if x then length b.barrier.waiting else 0) ≡ 0) [
               | true ↦ λ h.
-                let one : b.barrier.generation ≡ g = grind (arith, nat_tests) in
-                elim (nat_lt 0 (length b.barrier.waiting)) as (λ z. nat_lt 0 (length b.barrier.waiting) ≡ z → length b.barrier.waiting ≡ 0) [
-                  | true ↦ λ k. let waits : 0 < length b.barrier.waiting = grind (arith, nat_tests) in let none : unread_of g b.ends ≡ 0 = subst (λ (k : ℕ). unread_of k b.ends ≡ 0) one (was.alone waits) in absurd (omega (arith, none, some))
-                  | false ↦ λ k. grind (arith, nat_tests)
-                ] refl
+                  let one : b.barrier.generation ≡ g = grind (arith, nat_tests) in
+                  elim (nat_lt 0 (length b.barrier.waiting)) as (λ z. nat_lt 0 (length b.barrier.waiting) ≡ z → length b.barrier.waiting ≡ 0) [
+                    | true ↦ λ k. let waits : 0 < length b.barrier.waiting = grind (arith, nat_tests) in let none : unread_of g b.ends ≡ 0 = subst (λ (k : ℕ). unread_of k b.ends ≡ 0) one (was.alone waits) in absurd (omega (arith, none, some))
+                    | false ↦ λ k. grind (arith, nat_tests)
+                  ] refl
               | false ↦ λ h. refl
             ] refl
 
@@ -455,13 +461,13 @@ step parties fails (Wakes n) r was =
     elim (waiter_at n r.unread) as (λ o. waiter_at n r.unread ≡ o → KeptIn parties fails (after_reading n o r)) [
       | None ↦ λ is. was
       | Some w ↦ λ is. elim (is_end_of_generation (end_of w.generation r.book.ends)) as (λ x. is_end_of_generation (end_of w.generation r.book.ends) ≡ x → KeptIn parties fails (if x then record {
-          book = book r.book.fails r.book.barrier (read_by w.generation r.book.ends);
-          whole = r.whole;
-          unread = without n r.unread;
-        } else r)) [
-          | true ↦ λ ends. (was.0, read parties n w r.book r.whole r.unread is ends was.1)
-          | false ↦ λ ends. was
-        ] refl
+        book = book r.book.fails r.book.barrier (read_by w.generation r.book.ends);
+        whole = r.whole;
+        unread = without n r.unread;
+      } else r)) [
+        | true ↦ λ ends. (was.0, read parties n w r.book r.whole r.unread is ends was.1)
+        | false ↦ λ ends. was
+      ] refl
     ] refl
 
 steps : (parties : ℕ) (fails : Option ℕ) (es : List Event) (r : Run) → KeptIn parties fails r → KeptIn parties fails (after_events es r)
@@ -484,3 +490,47 @@ forgetting_changes_no_answer parties fails events =
       found = find_end r r.unread kept.found;
       few = let f = few r.book.ends kept.good in let t = kept.total in omega (arith, f, t);
     }
+
+-- the barrier is its arrivals
+abbrev IsItsArrivals : Option ℕ → Machine → Type 0
+IsItsArrivals fails m = after_all fails (calls_since m) (machine m.parties m.generation [] false) ≡ m
+
+arrivals-append : (ws : List ℕ) (c : ℕ) → arrivals (ws ++ c ∷ []) ≡ arrivals ws ++ Await c ∷ []
+arrivals-append [] c = refl
+arrivals-append (w ∷ ws) c = ap (λ (l : List Call). Await w ∷ l) (arrivals-append ws c)
+
+left-append : (fails : Option ℕ) (cs : List Call) (c : Call) (m : Machine) → after_all fails (cs ++ c ∷ []) m ≡ after fails c (after_all fails cs m)
+left-append fails [] c m = refl
+left-append fails (x ∷ xs) c m = left-append fails xs c (after fails x m)
+
+await_arrivals : (fails : Option ℕ) (c p g : ℕ) (ws : List ℕ) (b b2 b3 b4 : Bool) → is_in c ws ≡ b2 → (length ws + 1 == p) ≡ b3 → fails_at fails g ≡ b4
+    → IsItsArrivals fails (machine p g ws b) → IsItsArrivals fails (after fails (Await c) (machine p g ws b))
+await_arrivals fails c p g ws true b2 b3 b4 e2 e3 e4 was = was
+await_arrivals fails c p g ws false true b3 b4 e2 e3 e4 was = rw e2 was
+await_arrivals fails c p g ws false false true true e2 e3 e4 was = rw (e2, e3, e4) refl
+await_arrivals fails c p g ws false false true false e2 e3 e4 was = rw (e2, e3, e4) refl
+await_arrivals fails c p g ws false false false b4 e2 e3 e4 was =
+    let joins : after fails (Await c) (machine p g ws false) ≡ machine p g (ws ++ c ∷ []) false = rw (e2, e3) refl in
+    let new : after_all fails (arrivals (ws ++ c ∷ [])) (machine p g [] false) ≡ machine p g (ws ++ c ∷ []) false =
+    ap (λ (l : List Call). after_all fails l (machine p g [] false)) (arrivals-append ws c) ∙ (left-append fails (arrivals ws) (Await c) (machine p g [] false) ∙ (ap (after fails (Await c)) was ∙ joins)) in
+    rw (e2, e3) new
+
+call_arrivals : (fails : Option ℕ) (call : Call) (m : Machine) → IsItsArrivals fails m → IsItsArrivals fails (after fails call m)
+call_arrivals fails (Await c) m was = await_arrivals fails c m.parties m.generation m.waiting m.broken _ _ _ refl refl refl was
+call_arrivals fails (Abandon c) m was = elim (is_in c m.waiting) as (λ b. IsItsArrivals fails (if b then broken_off m else m)) [ true ↦ refl | false ↦ was ]
+call_arrivals fails BreakOff m was = refl
+call_arrivals fails Reset m was = refl
+
+record Arrived (parties : ℕ) (fails : Option ℕ) (m : Machine) : Type 0 where
+  pub parties' : m.parties ≡ parties
+  pub arrivals' : IsItsArrivals fails m
+
+all_arrivals : (fails : Option ℕ) (calls : List Call) (parties : ℕ) (m : Machine) → Arrived parties fails m → Arrived parties fails (after_all fails calls m)
+all_arrivals fails [] parties m was = was
+all_arrivals fails (c ∷ cs) parties m was = all_arrivals fails cs parties (after fails c m) (record { parties' = after_parties fails c m ∙ was.parties'; arrivals' = call_arrivals fails c m was.arrivals' })
+
+pub barriers_are_their_arrivals : BarriersAreTheirArrivals
+barriers_are_their_arrivals parties fails calls =
+    let m = after_all fails calls (fresh parties) in
+    let all : Arrived parties fails m = all_arrivals fails calls parties (fresh parties) (record { parties' = refl; arrivals' = refl }) in
+    subst (λ (p : ℕ). after_all fails (calls_since m) (machine p m.generation [] false) ≡ m) all.parties' all.arrivals'

@@ -1,6 +1,6 @@
 -- The ledger beside the whole history of its calls, which nothing keeps (own).
-use Rattle.std.specs.Prelude.{◌≡◌, ℕ, ◌+◌, ◌≤◌, Bool, true, zero, suc, if◌then◌else◌, List, [], ◌∷◌, ◌++◌, length, drop, Option, None, Some}
-use Rattle.cyclic_gate.specs.Machine.{fresh}
+use Rattle.std.specs.Prelude.{◌≡◌, ℕ, ◌+◌, ◌≤◌, Bool, true, false, zero, suc, if◌then◌else◌, List, [], ◌∷◌, ◌++◌, length, drop, Option, None, Some}
+use Rattle.cyclic_gate.specs.Machine.{Machine, machine, fresh}
 use Rattle.cyclic_gate.specs.Steps.{Answer, Waiting, answer, is_change}
 use Rattle.cyclic_gate.specs.Runs.{after_all}
 use Rattle.cyclic_gate.specs.History.{LedgerEntry, ledger_entry, calls_of, AreRight, first_end}
@@ -94,3 +94,18 @@ pub record ForgetsNothingNeeded (parties : ℕ) (r : Run) : Type 0 where
 -- Whatever happens, the ledger forgets no end that a caller has still to read, and keeps no other.
 abbrev pub ForgettingChangesNoAnswer : Type 0
 ForgettingChangesNoAnswer = (parties : ℕ) (fails : Option ℕ) (events : List Event) → ForgetsNothingNeeded parties (after_events events (begun parties fails))
+
+-- The calls since the generation began that made the barrier what it is: the arrivals of those who wait, or a break.
+abbrev pub arrivals : List ℕ → List Call
+arrivals [] = []
+arrivals (c ∷ cs) = Await c ∷ arrivals cs
+
+abbrev pub calls_since : Machine → List Call
+calls_since m = if m.broken then BreakOff ∷ [] else arrivals m.waiting
+
+-- Whatever the calls before, the barrier is what the calls since the generation began leave of an unbroken one of that generation, where nobody waits. So nothing of what came before has to be kept.
+abbrev pub BarriersAreTheirArrivals : Type 0
+BarriersAreTheirArrivals =
+    (parties : ℕ) (fails : Option ℕ) (calls : List Call)
+    → after_all fails (calls_since (after_all fails calls (fresh parties))) (machine parties (after_all fails calls (fresh parties)).generation [] false)
+    ≡ after_all fails calls (fresh parties)

@@ -1,7 +1,7 @@
 //! What a barrier promises over whole runs.
 ghost use Rattle.cyclic_gate.specs.Laws.{TripsGiveEachOnce, EndsNameTheTold, GenerationsFollow, EndsMoveOrKeep, FailuresAreAsPlanned};
 ghost use Rattle.cyclic_gate.specs.Wakers.{LateWakersAreTold};
-ghost use Rattle.cyclic_gate.specs.Forgetting.{ForgettingChangesNoAnswer};
+ghost use Rattle.cyclic_gate.specs.Forgetting.{BarriersAreTheirArrivals, ForgettingChangesNoAnswer};
 
 /// In every run, each tripped generation gives each index below the number of parties exactly once, and gives no caller
 /// two (Java SE 21, `CyclicBarrier.await`: "the arrival index of the current thread").
@@ -22,6 +22,12 @@ pub fn ends_name_the_told()
 #[tactic(auto, using(crate::proofs::Waking::late_wakers_are_told))]
 pub fn late_wakers_are_told()
     ensures { LateWakersAreTold }
+{}
+
+/// Whatever calls there were, the barrier is what the calls since its generation began leave of an unbroken barrier of that
+/// generation, where nobody waits: the arrivals of those who wait, or a break.
+pub fn barriers_are_their_arrivals()
+    ensures { BarriersAreTheirArrivals }
 {}
 
 /// The ledger keeps what its callers need, and no more. In every run of calls and readings, a caller that waits finds in

@@ -24,7 +24,8 @@ pub use call::{Arrived, AwaitedStep, BarrierFault, Call, MOST_PARTIES};
 pub use gate::{CyclicGate, GateFault};
 pub use gate_state::GateState;
 pub use laws::{
-    ends_move_or_keep, ends_name_the_told, failures_are_as_planned, forgetting_changes_no_answer, generations_follow, late_wakers_are_told, trips_give_each_once,
+    barriers_are_their_arrivals, ends_move_or_keep, ends_name_the_told, failures_are_as_planned,
+    forgetting_changes_no_answer, generations_follow, late_wakers_are_told, trips_give_each_once,
 };
 pub use ledger::{KeptEnd, Ledger, Outcome};
 pub use state::BarrierState;
