@@ -3,7 +3,6 @@
 use crate::fakes::{Sink, Source, Then};
 use crate::runs::{Ran, SWAP, ended_with, has_left, run_into, run_on, run_with, texts, whole_of};
 use std::alloc::Global;
-use std::io::ErrorKind;
 use std::process::Abort;
 use std::sync::Wait;
 use std::thread::Threads;
@@ -19,10 +18,9 @@ fn run_dripping<R: Abort + Threads + Wait + Sync>(
     text: &str,
     room: usize,
     once: bool,
-    fault: ErrorKind,
 ) -> Ran {
     let mut reads = 0;
-    let input = Source::dripping(text.as_bytes(), room, once, fault, &mut reads);
+    let input = Source::dripping(text.as_bytes(), room, once, &mut reads);
     run_on(rt, alloc, words, input)
 }
 
@@ -36,7 +34,7 @@ fn reads_fail<R: Abort + Threads + Wait + Sync>(
     once: bool,
 ) {
     for room in 0..text.len() + 1 {
-        let left = run_dripping(rt, alloc, words, text, room, once, ErrorKind::Other);
+        let left = run_dripping(rt, alloc, words, text, room, once);
         has_left(rt, &left, 8, b"", FAILED, room);
     }
 }
@@ -49,8 +47,7 @@ fn reads_suffice<R: Abort + Threads + Wait + Sync>(
     text: &str,
 ) {
     let whole = whole_of(rt, alloc, words, text);
-    let room = text.len() + 1;
-    let left = run_dripping(rt, alloc, words, text, room, false, ErrorKind::Other);
+    let left = run_dripping(rt, alloc, words, text, text.len() + 1, false);
     has_left(rt, &left, 0, &whole, b"", text.len());
 }
 
@@ -116,45 +113,6 @@ fn a_writer_that_fails_once_has_failed(rt: HostRuntime) {
     }
 }
 
-// Runs the program on readers and writers that a signal interrupts once, at each byte: all is as without it.
-fn interruptions_change_nothing<R: Abort + Threads + Wait + Sync>(
-    rt: &R,
-    alloc: Global,
-    words: &[&str],
-    text: &str,
-) {
-    let whole = whole_of(rt, alloc, words, text);
-    for room in 0..text.len() + 1 {
-        let left = run_dripping(rt, alloc, words, text, room, true, ErrorKind::Interrupted);
-        has_left(rt, &left, 0, &whole, b"", room);
-    }
-    for room in 0..whole.len() {
-        let mut reads = 0;
-        let input = Source::of(text.as_bytes(), &mut reads);
-        let left = run_into(rt, alloc, words, input, room, 3, Then::IsInterruptedOnce);
-        has_left(rt, &left, 0, &whole, b"", room);
-    }
-}
-
-#[test]
-fn an_interrupted_read_or_write_is_tried_again(rt: HostRuntime) {
-    for (word, text) in texts() {
-        interruptions_change_nothing(&rt, rt.alloc(), &["bsp", word], text);
-    }
-}
-
-// Devices that are interrupted for good have failed, in the end.
-#[test]
-fn endless_interruptions_are_a_failure(rt: HostRuntime) {
-    for (word, text) in texts() {
-        let words = ["bsp", word];
-        let left = run_dripping(&rt, rt.alloc(), &words, text, 3, false, ErrorKind::Interrupted);
-        has_left(&rt, &left, 8, b"", FAILED, 3);
-        let whole = whole_of(&rt, rt.alloc(), &words, text);
-        is_cut(&rt, rt.alloc(), &words, text, &whole[..3], 3, Then::IsInterrupted);
-    }
-}
-
 // Runs the program on a writer of errors that takes four bytes.
 fn run_curtly<R: Threads + Wait + Sync>(
     rt: &R,
@@ -166,7 +124,7 @@ fn run_curtly<R: Threads + Wait + Sync>(
     let mut errors = Vec::new(alloc);
     let mut out = Vec::new(alloc);
     let mut reads = 0;
-    let input = Source::dripping(text.as_bytes(), room, false, ErrorKind::Other, &mut reads);
+    let input = Source::dripping(text.as_bytes(), room, false, &mut reads);
     let error_writer = Sink {
         taken: &mut errors,
         room: 4,
@@ -218,7 +176,7 @@ fn is_refused_in_time<R: Abort + Threads + Wait + Sync>(
     text: &[u8],
 ) {
     let mut reads = 0;
-    let input = Source::dripping(text, usize::MAX, false, ErrorKind::Other, &mut reads);
+    let input = Source::dripping(text, usize::MAX, false, &mut reads);
     let left = run_on(rt, alloc, words, input);
     has_left(rt, &left, 4, b"", b"refused line 1 code 1\n", text.len());
     assert_eq!(rt; reads, 1048577);

@@ -27,8 +27,6 @@ pub(crate) struct Source<'a> {
     pub(crate) room: usize,
     /// Whether they go well again behind that one.
     pub(crate) once: bool,
-    /// How it fails.
-    pub(crate) fault: io::ErrorKind,
     /// How many reads there were.
     pub(crate) reads: &'a mut u64,
 }
@@ -41,25 +39,17 @@ impl<'a> Source<'a> {
             most: usize::MAX,
             room: usize::MAX,
             once: false,
-            fault: io::ErrorKind::Other,
             reads,
         }
     }
 
-    /// Gives a byte a read, and fails in this way behind so many reads, for good or once.
-    pub(crate) fn dripping(
-        rest: &'a [u8],
-        room: usize,
-        once: bool,
-        fault: io::ErrorKind,
-        reads: &'a mut u64,
-    ) -> Self {
+    /// Gives a byte a read, and fails behind so many reads, for good or once.
+    pub(crate) fn dripping(rest: &'a [u8], room: usize, once: bool, reads: &'a mut u64) -> Self {
         Source {
             rest,
             most: 1,
             room,
             once,
-            fault,
             reads,
         }
     }
@@ -72,7 +62,7 @@ impl Read for Source<'_> {
             if self.once {
                 self.room = usize::MAX;
             }
-            return Err(self.fault.into());
+            return Err(io::ErrorKind::Other.into());
         }
         self.room -= 1;
         Ok(give(&mut self.rest, buffer, self.most))
@@ -88,10 +78,6 @@ pub(crate) enum Then {
     TakesNone,
     /// It fails once, and takes all that comes behind.
     FailsOnce,
-    /// A signal interrupts it once, and it takes all that comes behind.
-    IsInterruptedOnce,
-    /// Signals interrupt it from now on.
-    IsInterrupted,
 }
 
 /// Takes bytes.
@@ -129,11 +115,6 @@ impl<'a> Sink<'a> {
                 self.room = usize::MAX;
                 Err(io::ErrorKind::Other.into())
             }
-            Then::IsInterruptedOnce => {
-                self.room = usize::MAX;
-                Err(io::ErrorKind::Interrupted.into())
-            }
-            Then::IsInterrupted => Err(io::ErrorKind::Interrupted.into()),
         }
     }
 }
