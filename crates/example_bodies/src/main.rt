@@ -15,7 +15,13 @@ use task_bodies::kernel::{Span, Stencil};
 use task_bodies::run::{RunFault, run_bodies};
 
 // Adds an array of so many cells that hold this.
-fn add(alloc: Global, arrays: &mut Arrays, name: &str, count: usize, value: i64) -> Result<(), AllocError> {
+fn add(
+    alloc: Global,
+    arrays: &mut Arrays,
+    name: &str,
+    count: usize,
+    value: i64,
+) -> Result<(), AllocError> {
     let cells = Vec::from_elem(alloc, value, count)?;
     arrays.add(String::from_str(alloc, name)?, cells)?;
     Ok(())
@@ -73,7 +79,11 @@ fn cool_by_closure(alloc: Global) -> Result<Report, RunFault> {
     let stencil = Stencil {
         array: 0,
         last: 999,
-        f: |left: i64, own: i64, right: i64| left.wrapping_add(right).wrapping_add(own).wrapping_add(own) / 4,
+        f: |left: i64, own: i64, right: i64| left
+            .wrapping_add(right)
+            .wrapping_add(own)
+            .wrapping_add(own)
+            / 4,
     };
     run_bodies(alloc, &stencil, arrays, spans, 46, 1000)
 }
@@ -143,6 +153,8 @@ fn main(rt: HostRuntime) -> anyhow::Result<()> {
     let (steps, came, went, time) = shop_numbers(alloc)?;
     println!(rt; "shop: {steps} supersteps, {came} came, {went} went, {time} in all")?;
     let (steps, nodes, last) = graph_numbers(alloc)?;
-    println!(rt; "search: {steps} supersteps, {nodes} nodes reached, the last ones at distance {last}")?;
+    println!(rt;
+        "search: {steps} supersteps, {nodes} nodes reached, the last ones at distance {last}"
+    )?;
     Ok(())
 }

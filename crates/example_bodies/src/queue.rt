@@ -19,7 +19,9 @@ pub enum Role {
 
 /// Cells of the shop's array: how many customers came, how many went, and how long all of them were there.
 pub const CAME: u32 = 0;
+
 pub const WENT: u32 = 1;
+
 pub const TIME: u32 = 2;
 
 // The next number of a random sequence.
@@ -28,7 +30,12 @@ fn next(state: u32) -> u32 {
 }
 
 impl Shop {
-    fn let_in(&self, state: u32, view: &View<'_>, out: &mut Out<Role>) -> Result<(u32, Ending), AllocError> {
+    fn let_in(
+        &self,
+        state: u32,
+        view: &View<'_>,
+        out: &mut Out<Role>,
+    ) -> Result<(u32, Ending), AllocError> {
         let state = next(state);
         for _ in 0..state >> 30 {
             out.add(0, CAME, 1)?;

@@ -33,7 +33,13 @@ impl Graph {
     }
 
     // Reaches the neighbours of a node that no way is known to.
-    fn go_on(&self, node: u32, distance: i64, distances: &[i64], out: &mut Out<Nodes>) -> Result<bool, AllocError> {
+    fn go_on(
+        &self,
+        node: u32,
+        distance: i64,
+        distances: &[i64],
+        out: &mut Out<Nodes>,
+    ) -> Result<bool, AllocError> {
         let mut found = false;
         for neighbour in self.neighbours(node) {
             if distances.get(neighbour as usize).copied() == Some(-1) {

@@ -198,7 +198,12 @@ fn comes_again<F: Fn(u64) -> bool>(
     requires { AnswersAction (F.pre barrier.old.action.closure) (F.post barrier.old.action.closure) barrier.old.action.plan }
     ensures { barrier.new.action ≡ barrier.old.action }
 {
-    assert!(rt; matches!(barrier.await_step(caller), Err(BarrierFault::AlreadyWaiting)));
+    assert!(rt;
+        matches!(
+            barrier.await_step(caller),
+            Err(BarrierFault::AlreadyWaiting)
+        )
+    );
     assert!(rt; calls.get() == want);
 }
 

@@ -5,8 +5,8 @@ use advance_rule::StoredAction;
 use cyclic_gate::CyclicGate;
 use std::alloc::Global;
 use std::process::Abort;
-use std::sync::atomic::{AtomicU64, Ordering};
 use std::sync::Wait;
+use std::sync::atomic::{AtomicU64, Ordering};
 use std::thread;
 use std::thread::Threads;
 

@@ -6,8 +6,8 @@ use advance_rule::StoredAction;
 use cyclic_gate::{CyclicGate, GateFault};
 use std::alloc::Global;
 use std::process::Abort;
-use std::sync::atomic::{AtomicU32, Ordering};
 use std::sync::Wait;
+use std::sync::atomic::{AtomicU32, Ordering};
 use std::thread;
 use std::thread::Threads;
 
