@@ -51,10 +51,8 @@ impl<F: Fn(u64) -> bool> BarrierCore<F> {
         ensures too_many { (result ≡ Err BarrierFault.TooMany) ↔ (pos 65535 <ℤ parties) }
         ensures fault { IfErr result (λ e. (e ≡ BarrierFault.NoParty) ⊎ (e ≡ BarrierFault.TooMany)) }
     {
-        match BarrierState::new(alloc, parties) {
-            Ok(state) => Ok(BarrierCore { action, state }),
-            Err(fault) => Err(fault),
-        }
+        let state = BarrierState::new(alloc, parties)?;
+        Ok(BarrierCore { action, state })
     }
 
     /// Returns how many parties meet, from 1 to 65535 (Java SE 21, `CyclicBarrier.getParties`).

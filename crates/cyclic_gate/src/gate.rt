@@ -74,10 +74,8 @@ impl<F: Fn(u64) -> bool> CyclicGate<F> {
         ensures too_many { (result ≡ Err BarrierFault.TooMany) ↔ (pos 65535 <ℤ parties) }
         ensures fault { IfErr result (λ e. (e ≡ BarrierFault.NoParty) ⊎ (e ≡ BarrierFault.TooMany)) }
     {
-        match GateState::new(alloc, parties, action.fails()) {
-            Ok(state) => Ok(CyclicGate { action, state }),
-            Err(fault) => Err(fault),
-        }
+        let state = GateState::new(alloc, parties, action.fails())?;
+        Ok(CyclicGate { action, state })
     }
 
     /// Returns how many parties meet, from 1 to 65535 (Java SE 21, `CyclicBarrier.getParties`).

@@ -67,10 +67,8 @@ impl<A: Action> Barrier<A> {
         ensures too_many { (result ≡ Err BarrierFault.TooMany) ↔ (pos 65535 <ℤ parties) }
         ensures fault { IfErr result (λ e. (e ≡ BarrierFault.NoParty) ⊎ (e ≡ BarrierFault.TooMany)) }
     {
-        match GateState::new(alloc, parties, None) {
-            Ok(state) => Ok(Barrier { action, state }),
-            Err(fault) => Err(fault),
-        }
+        let state = GateState::new(alloc, parties, None)?;
+        Ok(Barrier { action, state })
     }
 
     /// Returns how many parties meet, from 1 to 65535 (Java SE 21, `CyclicBarrier.getParties`).
