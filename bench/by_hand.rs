@@ -151,6 +151,28 @@ fn turns(steps: usize, turns: i64, threads: usize) -> String {
     finish(records(steps), &cells, steps + 1)
 }
 
+/// A rod of 4096 cells that cools, in two buffers; or in blocks of which each logs a row, all of which land at the end.
+fn rod(supersteps: usize, logged: bool) -> String {
+    let mut cells = vec![0i64; 4096];
+    cells[0] = 1_000_000_000_000;
+    let mix = |cells: &[i64], i: usize| cells[i - 1].wrapping_add(cells[i + 1]).wrapping_add(cells[i]).wrapping_add(cells[i]) / 4;
+    let mut next = cells.clone();
+    for _ in 0..supersteps {
+        if logged {
+            let rows: Vec<(usize, Vec<i64>)> = (0..46).map(|b| (b * 89 + 1, (b * 89 + 1..b * 89 + 90).map(|i| mix(&cells, i)).collect())).collect();
+            for (first, row) in &rows {
+                cells[*first..*first + row.len()].copy_from_slice(row);
+            }
+        } else {
+            for i in 1..4095 {
+                next[i] = mix(&cells, i);
+            }
+            std::mem::swap(&mut cells, &mut next);
+        }
+    }
+    format!("{} {}\n", cells[10], cells[70])
+}
+
 /// Threads that meet at a barrier so many times.
 fn meet(threads: usize, phases: usize) -> String {
     let barrier = Barrier::new(threads);
@@ -177,6 +199,8 @@ fn main() {
         "remainder" => remainder(steps),
         "spawns" => spawns(steps),
         "turns" => turns(steps, number(3) as i64, number(4)),
+        "rod" => rod(steps, false),
+        "rows" => rod(steps, true),
         "meet" => meet(number(2), number(3)),
         other => panic!("no such job: {other}"),
     };
