@@ -60,7 +60,8 @@ fn cool(alloc: Global) -> Result<Report, RunFault> {
             end: number * 89 + 89,
         })?;
     }
-    run_bodies(alloc, &Rod { last: 999 }, arrays, blocks, 46, 1000)
+    let ran = run_bodies(alloc, &Rod { last: 999 }, arrays, blocks, 46, 1000)?;
+    Ok(ran.report)
 }
 
 // The same rod, by a closure.
@@ -85,7 +86,8 @@ fn cool_by_closure(alloc: Global) -> Result<Report, RunFault> {
             .wrapping_add(own)
             / 4,
     };
-    run_bodies(alloc, &stencil, arrays, spans, 46, 1000)
+    let ran = run_bodies(alloc, &stencil, arrays, spans, 46, 1000)?;
+    Ok(ran.report)
 }
 
 // A shop that is open for 1000 supersteps.
@@ -94,7 +96,8 @@ fn serve(alloc: Global) -> Result<Report, RunFault> {
     add(alloc, &mut arrays, "shop", 3, 0)?;
     let mut door = Vec::new(alloc);
     door.push(Role::Door(1))?;
-    run_bodies(alloc, &Shop { open: 999 }, arrays, door, 1000, 10000)
+    let ran = run_bodies(alloc, &Shop { open: 999 }, arrays, door, 1000, 10000)?;
+    Ok(ran.report)
 }
 
 // A graph of 100,000 nodes, in 20 blocks, searched from node 0.
@@ -111,7 +114,8 @@ fn find(alloc: Global) -> Result<Report, RunFault> {
             end: number * 5000 + 5000,
         })?;
     }
-    run_bodies(alloc, &Graph { nodes: 100_000 }, arrays, blocks, 20, 10000)
+    let ran = run_bodies(alloc, &Graph { nodes: 100_000 }, arrays, blocks, 20, 10000)?;
+    Ok(ran.report)
 }
 
 // Supersteps, and the cells 10 and 70.

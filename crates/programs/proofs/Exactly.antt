@@ -74,7 +74,7 @@ module _ {T : Type 0} (f : Frame T) (may : T → List (List ℕ × List ℤ) →
           ∙ sym (fault_ends (says_of f most does) st (segments (says_of f most does) st.arrays st.step st.live) x
           (ap first_fault of_first ∙ first_some (segments_in f es) (segments (says_of f most does) st.arrays st.step h.tasks.back) x e))
 
-  module _ (arrays : List (List ℕ × List ℤ)) (tasks : List T) (limit : ℕ) (begin : map f.path tasks ≡ children [] 0 (length tasks)) (outcome : ReportValue) (h : HasRun f may most arrays tasks limit outcome) where
+  module _ (arrays : List (List ℕ × List ℤ)) (tasks : List T) (limit : ℕ) (begin : map f.path tasks ≡ children [] 0 (length tasks)) (outcome : ReportValue) (living : List T) (h : HasRun f may most arrays tasks limit outcome living) where
     formed : (n : ℕ) → AllFormed f (get_or h.history n [])
     formed = formed_by f most may arrays tasks limit h.history h.entered
 

@@ -10,7 +10,7 @@ use Rattle.programs.specs.Meaning.{Segment, Frame, NumbersItsSpawns, StaysTheSam
 use Rattle.programs.specs.Reads.{reads}
 use Rattle.programs.specs.Superstep.{State, superstep}
 use Rattle.programs.specs.Supersteps.{so_far, status}
-use Rattle.programs.specs.History.{Entry, says_in, says_by, IsEntered, HasRun}
+use Rattle.programs.specs.History.{living_after, Entry, says_in, says_by, IsEntered, HasRun}
 use Rattle.programs.specs.Course.{course_state, HasTaken, left_by}
 use Rattle.programs.specs.declared.alone.Course.{Course}
 use Rattle.programs.proofs.History.{numbers_by, stays_by}
@@ -109,17 +109,18 @@ module _ {S T : Type 0} (f : Frame T) (may : T → List (List ℕ × List ℤ) �
 
   -- it has ended
   pub reached_end : (c : Course S) (s : Status) (h : IsReached c) → status limit (course_state (reads (says_by f most h.history) meant path) c) ≡ Some s
-      → HasRun f may most arrays tasks limit (left_by c s)
-  reached_end c s h e = record {
+      → ((live : List T) → living_after s live ≡ live) → HasRun f may most arrays tasks limit (left_by c s) (map meant c.tasks.items)
+  reached_end c s h e all = record {
     history = h.history;
     entered = h.entered;
     ended = ap (status limit) (sym h.state) ∙ e;
     report = at_end (reads (says_by f most h.history) meant path) law (numbers c h) (stays c h) arrays tasks limit (length h.history) c s h.state e;
+    at_end = all (so_far (says_by f most h.history) arrays tasks limit (length h.history)).live ∙ ap (λ (x : State T). x.live) (sym h.state);
   }
 
   -- a fault has ended it
   pub reached_fault : (c new : Course S) (x : ℕ × List ℕ) (h : IsReached c) → status limit (course_state (reads (says_by f most h.history) meant path) c) ≡ None
-      → HasTaken f may most meant path (Some x) c new → HasRun f may most arrays tasks limit (left_by new (Fault x.0 new.step x.1))
+      → HasTaken f may most meant path (Some x) c new → HasRun f may most arrays tasks limit (left_by new (Fault x.0 new.step x.1)) []
   reached_fault c new x h run t =
       let n = next_of c new h (Some x) t in
       let formed = formed_by f most may arrays tasks limit n.more n.entered in
@@ -139,6 +140,7 @@ module _ {S T : Type 0} (f : Frame T) (may : T → List (List ℕ × List ℤ) �
         report =
             at_fault (reads (says_by f most n.more) meant path) law (numbers_by f most n.more formed) (stays_by f most n.more formed) arrays tasks limit c new x (c.step, n.state) run
             (record { fault = n.steps ∙ t.taken.fault; step = t.taken.step; arrays = t.taken.arrays; prints = t.taken.prints; records = t.taken.records });
+        at_end = refl;
       }
 
   -- the paths of live tasks rise

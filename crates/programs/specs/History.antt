@@ -2,6 +2,7 @@
 use Rattle.std.specs.Prelude.{◌≡◌, ◌<◌, ◌==◌, ◌&&◌, ℕ, ℤ, Bool, if◌then◌else◌, List, [], ◌∷◌, ◌++◌, map, length, get_or, None, Some}
 use Rattle.std.specs.Str.{bytes_eq}
 use Rattle.phase_records.specs.ReportValue.{ReportValue}
+use Rattle.phase_records.specs.Status.{Status, Ended, Fault, Limit}
 use Rattle.programs.specs.Meaning.{Faulted, Segment, Frame, Says, IsFormed}
 use Rattle.programs.specs.Superstep.{State, first_fault}
 use Rattle.programs.specs.Supersteps.{so_far, status, report_of}
@@ -57,10 +58,17 @@ module _ {T : Type 0} where
     pub tasks : AreOf f st.live es
     pub allowed : AllAllowed f may st.arrays st.step es
 
+  -- the tasks that a run leaves which ended so: those that still live, none after a fault
+  abbrev pub living_after : Status → List T → List T
+  living_after (Fault code step path) live = []
+  living_after (Ended steps) live = live
+  living_after (Limit steps) live = live
+
   -- This report is what one thread leaves, superstep by superstep, if each task's segment leaves what the history says. Each is
-  -- allowed to leave that, and the history is that of the whole run.
-  pub record HasRun (f : Frame T) (may : T → List (List ℕ × List ℤ) → ℕ → Segment T → Type 0) (most : ℕ) (arrays : List (List ℕ × List ℤ)) (tasks : List T) (limit : ℕ) (outcome : ReportValue) : Type 0 where
+  -- allowed to leave that, and the history is that of the whole run. These tasks live at its end.
+  pub record HasRun (f : Frame T) (may : T → List (List ℕ × List ℤ) → ℕ → Segment T → Type 0) (most : ℕ) (arrays : List (List ℕ × List ℤ)) (tasks : List T) (limit : ℕ) (outcome : ReportValue) (living : List T) : Type 0 where
     pub history : List (List (Entry T))
     pub entered : (n : ℕ) → n < length history → IsEntered f may (so_far (says_by f most history) arrays tasks limit n) (get_or history n [])
     pub ended : status limit (so_far (says_by f most history) arrays tasks limit (length history)) ≡ Some outcome.status
     pub report : report_of (says_by f most history) arrays tasks limit ≡ Some outcome
+    pub at_end : living_after outcome.status (so_far (says_by f most history) arrays tasks limit (length history)).live ≡ living

@@ -180,7 +180,7 @@ fn run_within<P: Program>(
     requires paths { map P.Task.path_of course.old.tasks.items ≡ children [] 0 (length course.old.tasks.items) }
     requires few { length course.old.tasks.items ≤ most }
     ensures report { IfOk result (λ s. let p = program.now in
-        HasRun (P.frame p) (P.may p) most course.old.arrays (map (P.meant p) course.old.tasks.items) limit (left_by course.new (status_seen s))) }
+        HasRun (P.frame p) (P.may p) most course.old.arrays (map (P.meant p) course.old.tasks.items) limit (left_by course.new (status_seen s)) (map (P.meant p) course.new.tasks.items)) }
     ensures short { IfOk result (λ s. IsShort (status_seen s)) }
 {
     while course.step < limit {
@@ -189,7 +189,10 @@ fn run_within<P: Program>(
         }
         let fault = take_superstep(alloc, program, most, course, room)?;
         match fault {
-            Some(blame) => return Ok(blame.status(course.step)),
+            Some(blame) => {
+                course.tasks.clear();
+                return Ok(blame.status(course.step));
+            }
             None => {}
         }
     }
@@ -215,31 +218,42 @@ fn run_on<P: Program>(
     requires paths { map P.Task.path_of course.old.tasks.items ≡ children [] 0 (length course.old.tasks.items) }
     requires few { length course.old.tasks.items ≤ most }
     ensures report { IfOk result (λ s. let p = program.now in
-        HasRun (P.frame p) (P.may p) most course.old.arrays (map (P.meant p) course.old.tasks.items) limit (left_by course.new (status_seen s))) }
+        HasRun (P.frame p) (P.may p) most course.old.arrays (map (P.meant p) course.old.tasks.items) limit (left_by course.new (status_seen s)) (map (P.meant p) course.new.tasks.items)) }
     ensures short { IfOk result (λ s. IsShort (status_seen s)) }
 {
     let mut room = no_room(alloc);
     run_within(alloc, program, most, limit, course, &mut room)
 }
 
+/// What a run leaves.
+#[derive(Drop)]
+pub struct Ran<T> {
+    /// Arrays, prints, records, and how it ended.
+    pub report: Report,
+    /// The tasks that still live, in path order, if the limit was reached. After a fault there are none.
+    pub tasks: Vec<T>,
+}
+
 // What a run leaves that ended so.
-fn leave<T: OnPath>(course: Course<T>, status: JobStatus) -> Report
+fn leave<T: OnPath>(course: Course<T>, status: JobStatus) -> Ran<T>
     requires { IsShort (status_seen status) }
-    ensures { result ≡ left_by course (status_seen status) }
+    ensures report { result.report ≡ left_by course (status_seen status) }
+    ensures tasks { result.tasks.items ≡ course.tasks.items }
 {
     let Course {
         step: _,
         arrays,
-        tasks: _,
+        tasks,
         prints,
         records,
     } = course;
-    Report {
+    let report = Report {
         prints,
         records,
         arrays,
         status,
-    }
+    };
+    Ran { report, tasks }
 }
 
 /// Runs a program that begins with these arrays and tasks, on one thread: each superstep's tasks one after another, by path. At
@@ -251,13 +265,13 @@ pub fn run_alone<P: Program>(
     tasks: Vec<P::Task>,
     most: u32,
     limit: u32,
-) -> Result<Report, AllocError>
+) -> Result<Ran<P::Task>, AllocError>
     requires ready { P.ready program.now }
     requires most { most < 2 ^ 31 }
     requires few { length tasks.items ≤ most }
     requires paths { map P.Task.path_of tasks.items ≡ children [] 0 (length tasks.items) }
-    ensures { IfOk result (λ report. let p = program.now in
-        HasRun (P.frame p) (P.may p) most arrays (map (P.meant p) tasks.items) limit report) }
+    ensures { IfOk result (λ ran. let p = program.now in
+        HasRun (P.frame p) (P.may p) most arrays (map (P.meant p) tasks.items) limit ran.report (map (P.meant p) ran.tasks.items)) }
 {
     let mut course = Course {
         step: 0,

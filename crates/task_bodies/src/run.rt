@@ -5,10 +5,9 @@ ghost use Rattle.programs.specs.Supersteps.{report_of};
 ghost use Rattle.task_bodies.specs.Bodies.{MemberValue, member_frame, BodyMay, body_does, numbered};
 
 use crate::body::{Exact, TaskBody};
-use crate::member::starts;
+use crate::member::{Member, starts};
 use crate::native::Native;
-use phase_records::Report;
-use programs::alone::run_alone;
+use programs::alone::{Ran, run_alone};
 use std::alloc::{AllocError, Global};
 use superstep_memory::arrays::Arrays;
 use thiserror::Error;
@@ -28,7 +27,8 @@ pub enum RunFault {
 /// most `most` tasks live at once, and at most `limit` supersteps are taken.
 ///
 /// The report has the arrays, the prints, a record for each superstep, and how the run ended: all tasks stopped, the limit was
-/// reached, or a fault, with the number of the fault, the superstep, and the path of the task.
+/// reached, or a fault, with the number of the fault, the superstep, and the path of the task. If the limit was reached, the tasks
+/// that still live come back with what they keep.
 pub fn run_bodies<B: TaskBody>(
     alloc: Global,
     body: &B,
@@ -36,18 +36,18 @@ pub fn run_bodies<B: TaskBody>(
     tasks: Vec<B::Kept>,
     most: u32,
     limit: u32,
-) -> Result<Report, RunFault>
+) -> Result<Ran<Member<B::Kept>>, RunFault>
     requires ready { B.ready body.now }
     requires most { most < 2147483648 }
-    ensures ran { IfOk result (λ report. HasRun member_frame (BodyMay (B.may body.now)) most arrays (numbered [] 0 tasks.items) limit report) }
+    ensures ran { IfOk result (λ ran. HasRun member_frame (BodyMay (B.may body.now)) most arrays (numbered [] 0 tasks.items) limit ran.report ran.tasks.items) }
 {
     if tasks.len() > 65535 || tasks.len() > most as usize {
         return Err(RunFault::TooMany);
     }
     let members = starts(alloc, tasks)?;
     let program = Native { body };
-    let report = run_alone(alloc, &program, arrays, members, most, limit)?;
-    Ok(report)
+    let ran = run_alone(alloc, &program, arrays, members, most, limit)?;
+    Ok(ran)
 }
 
 /// Runs tasks as [`run_bodies`] does. The report is that of what the body does, superstep by superstep.
@@ -58,11 +58,11 @@ pub fn run_exactly<B: Exact>(
     tasks: Vec<B::Kept>,
     most: u32,
     limit: u32,
-) -> Result<Report, RunFault>
+) -> Result<Ran<Member<B::Kept>>, RunFault>
     requires ready { B.ready body.now }
     requires most { most < 2147483648 }
-    ensures { IfOk result (λ report. report_of (says_of member_frame most (body_does (B.does body.now))) arrays (numbered [] 0 tasks.items) limit ≡ Some report) }
+    ensures { IfOk result (λ ran. report_of (says_of member_frame most (body_does (B.does body.now))) arrays (numbered [] 0 tasks.items) limit ≡ Some ran.report) }
 {
-    let report = run_bodies(alloc, body, arrays, tasks, most, limit)?;
-    Ok(report)
+    let ran = run_bodies(alloc, body, arrays, tasks, most, limit)?;
+    Ok(ran)
 }

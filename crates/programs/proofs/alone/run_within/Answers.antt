@@ -1,5 +1,6 @@
-use Rattle.std.proofs.Common.{map, refl, sym, subst, arith, Option, ℕ, List}
+use Rattle.std.proofs.Common.{[], map, refl, sym, subst, arith, Option, ℕ, List}
 use Rattle.phase_records.specs.Status.{Status}
+use Rattle.phase_records.specs.StatusSeen.{status_seen}
 use Rattle.programs.specs.Reads.{reads}
 use Rattle.programs.specs.History.{says_by, HasRun}
 use Rattle.programs.specs.Course.{HasTaken, left_by}
@@ -50,7 +51,7 @@ returns-then-is_empty-clause-report g c =
     let same = stays f may c.args.most meant path law arrays tasks c.args.limit c.loop-course.course h in
     let none = none_there _ c.is_empty.result c.is_empty.ensures c.if-is_empty.true in
     reached_end f may c.args.most meant path law arrays tasks c.args.limit c.loop-course.course _ h
-    (is_over p law few same arrays tasks c.args.limit c.loop-course.course (omega (arith, none, c.loop-course.course.tasks.ok.0)))
+    (is_over p law few same arrays tasks c.args.limit c.loop-course.course (omega (arith, none, c.loop-course.course.tasks.ok.0))) (λ live. refl)
 
 pub returns-in-Some-clause-report : goal.returns-in-Some-clause-report
 returns-in-Some-clause-report g c =
@@ -68,9 +69,10 @@ returns-in-Some-clause-report g c =
     let same = stays f may c.args.most meant path law arrays tasks c.args.limit c.loop-course.course h in
     let some = some_there _ c.is_empty.result c.is_empty.ensures c.if-is_empty.false in
     let run = is_running p law few same arrays tasks c.args.limit c.loop-course.course (omega (arith, some, c.loop-course.course.tasks.ok.0)) c.loop-course-test.true in
-    subst (λ (s : Status). HasRun f may c.args.most arrays tasks c.args.limit (left_by c.take_superstep.new.course s)) (sym c.status.ensures.status)
+    subst (λ (ts : List g.row.P-Task.Denot). HasRun f may c.args.most arrays tasks c.args.limit (left_by c.take_superstep.new.course (status_seen c.status.result)) (map meant ts)) (sym c.clear.ensures.items)
+    (subst (λ (s : Status). HasRun f may c.args.most arrays tasks c.args.limit (left_by c.take_superstep.new.course s) []) (sym c.status.ensures.status)
     (reached_fault f may c.args.most meant path law arrays tasks c.args.limit c.loop-course.course c.take_superstep.new.course c.in-Some.blame h run
-    (subst (λ (o : Option (ℕ × List ℕ)). HasTaken f may c.args.most meant path o c.loop-course.course c.take_superstep.new.course) c.in-Some.is c.in_ok-fault.ensures))
+    (subst (λ (o : Option (ℕ × List ℕ)). HasTaken f may c.args.most meant path o c.loop-course.course c.take_superstep.new.course) c.in-Some.is c.in_ok-fault.ensures)))
 
 pub loop-course-preserved : goal.loop-course-preserved
 loop-course-preserved g c =
@@ -110,7 +112,7 @@ returns-then-is_empty-2-clause-report g c =
     let same = stays f may c.args.most meant path law arrays tasks c.args.limit c.loop-course.course h in
     let none = none_there _ c.is_empty-2.result c.is_empty-2.ensures c.if-is_empty-2.true in
     reached_end f may c.args.most meant path law arrays tasks c.args.limit c.loop-course.course _ h
-    (is_over p law few same arrays tasks c.args.limit c.loop-course.course (omega (arith, none, c.loop-course.course.tasks.ok.0)))
+    (is_over p law few same arrays tasks c.args.limit c.loop-course.course (omega (arith, none, c.loop-course.course.tasks.ok.0))) (λ live. refl)
 
 pub returns-else-is_empty-2-clause-report : goal.returns-else-is_empty-2-clause-report
 returns-else-is_empty-2-clause-report g c =
@@ -128,4 +130,4 @@ returns-else-is_empty-2-clause-report g c =
     let same = stays f may c.args.most meant path law arrays tasks c.args.limit c.loop-course.course h in
     let some = some_there _ c.is_empty-2.result c.is_empty-2.ensures c.if-is_empty-2.false in
     reached_end f may c.args.most meant path law arrays tasks c.args.limit c.loop-course.course _ h
-    (is_late p law few same arrays tasks c.args.limit c.loop-course.course (omega (arith, some, c.loop-course.course.tasks.ok.0)) (omega (arith, c.loop-course-test.false)))
+    (is_late p law few same arrays tasks c.args.limit c.loop-course.course (omega (arith, some, c.loop-course.course.tasks.ok.0)) (omega (arith, c.loop-course-test.false))) (λ live. refl)

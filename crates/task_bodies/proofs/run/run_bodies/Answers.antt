@@ -20,6 +20,8 @@ run_alone-requires-clause-paths g c =
 pub returns : goal.returns
 returns g c = record {
   ran =
-      subst (λ (ts : List (MemberValue g.row.B-Kept.Denot)). HasRun member_frame (BodyMay (g.B.TaskBody.may c.args.body.now)) c.args.most c.args.arrays ts c.args.limit c.in_ok-report.report)
-      (same_of c.in_ok-members.members.items ∙ c.in_ok-members.ensures.tasks) c.in_ok-report.ensures;
+      subst (λ (ts : List (MemberValue g.row.B-Kept.Denot)). HasRun member_frame (BodyMay (g.B.TaskBody.may c.args.body.now)) c.args.most c.args.arrays ts c.args.limit c.in_ok-ran.ran.report c.in_ok-ran.ran.tasks.items)
+      (same_of c.in_ok-members.members.items ∙ c.in_ok-members.ensures.tasks)
+      (subst (λ (us : List (MemberValue g.row.B-Kept.Denot)). HasRun member_frame (BodyMay (g.B.TaskBody.may c.args.body.now)) c.args.most c.args.arrays (map (λ t. t) c.in_ok-members.members.items) c.args.limit c.in_ok-ran.ran.report us)
+      (same_of c.in_ok-ran.ran.tasks.items) c.in_ok-ran.ensures);
 }
