@@ -7,12 +7,12 @@ mod search;
 
 use phase_records::{JobStatus, Report};
 use queue::{CAME, Role, Shop, TIME, WENT};
-use rod::{Block, Rod};
+use rod::{Block, Rod, UntilWarm};
 use search::{DISTANCES, Graph, Nodes, ROUNDS};
 use std::alloc::{AllocError, Global};
 use superstep_memory::arrays::Arrays;
 use task_bodies::kernel::{Span, Stencil};
-use task_bodies::run::{RunFault, run_bodies};
+use task_bodies::run::{RunFault, run_bodies, run_bodies_watched};
 
 // Adds an array of so many cells that hold this.
 fn add(
@@ -47,12 +47,17 @@ fn cell(report: &Report, array: u16, index: u32) -> i64 {
     report.arrays.cell(array, i64::from(index)).unwrap_or(0)
 }
 
-// A rod of 4096 cells, of which the first is hot, in 46 blocks.
-fn cool(alloc: Global) -> Result<Report, RunFault> {
+// A rod of 4096 cells, of which the first is hot.
+fn hot_end(alloc: Global) -> Result<Arrays, AllocError> {
     let mut arrays = Arrays::new(alloc);
     let mut cells = Vec::from_elem(alloc, 0, 4096)?;
     cells[0] = 1_000_000_000_000;
     arrays.add(String::from_str(alloc, "rod")?, cells)?;
+    Ok(arrays)
+}
+
+// The rod in 46 blocks.
+fn blocks(alloc: Global) -> Result<Vec<Block>, AllocError> {
     let mut blocks = Vec::new(alloc);
     for number in 0..46 {
         blocks.push(Block {
@@ -60,16 +65,40 @@ fn cool(alloc: Global) -> Result<Report, RunFault> {
             end: number * 89 + 89,
         })?;
     }
+    Ok(blocks)
+}
+
+// The rod after 1000 supersteps.
+fn cool(alloc: Global) -> Result<Report, RunFault> {
+    let arrays = hot_end(alloc)?;
+    let blocks = blocks(alloc)?;
     let ran = run_bodies(alloc, &Rod { last: 999 }, arrays, blocks, 46, 1000)?;
+    Ok(ran.report)
+}
+
+// The rod as soon as cell 20 is warm.
+fn warm(alloc: Global) -> Result<Report, RunFault> {
+    let arrays = hot_end(alloc)?;
+    let blocks = blocks(alloc)?;
+    let mut watch = UntilWarm {
+        cell: 20,
+        least: 1_000_000_000,
+    };
+    let ran = run_bodies_watched(
+        alloc,
+        &Rod { last: 999 },
+        arrays,
+        blocks,
+        46,
+        1000,
+        &mut watch,
+    )?;
     Ok(ran.report)
 }
 
 // The same rod, by a closure.
 fn cool_by_closure(alloc: Global) -> Result<Report, RunFault> {
-    let mut arrays = Arrays::new(alloc);
-    let mut cells = Vec::from_elem(alloc, 0, 4096)?;
-    cells[0] = 1_000_000_000_000;
-    arrays.add(String::from_str(alloc, "rod")?, cells)?;
+    let arrays = hot_end(alloc)?;
     let mut spans = Vec::new(alloc);
     for number in 0..46 {
         spans.push(Span {
@@ -124,6 +153,12 @@ fn rod_numbers(alloc: Global) -> Result<(u32, i64, i64), RunFault> {
     Ok((steps(&report), cell(&report, 0, 10), cell(&report, 0, 70)))
 }
 
+// Supersteps until cell 20 is warm, and how warm it is.
+fn warm_numbers(alloc: Global) -> Result<(u32, i64), RunFault> {
+    let report = warm(alloc)?;
+    Ok((steps(&report), cell(&report, 0, 20)))
+}
+
 // Whether the closure leaves what the body leaves.
 fn is_same(alloc: Global) -> Result<bool, RunFault> {
     let one = cool(alloc)?;
@@ -152,6 +187,8 @@ fn main(rt: HostRuntime) -> anyhow::Result<()> {
     let alloc = rt.alloc();
     let (steps, ten, seventy) = rod_numbers(alloc)?;
     println!(rt; "rod: {steps} supersteps, cells {ten} {seventy}")?;
+    let (steps, twenty) = warm_numbers(alloc)?;
+    println!(rt; "rod: cell 20 is warm after {steps} supersteps: {twenty}")?;
     let same = is_same(alloc)?;
     println!(rt; "by a closure the same: {same}")?;
     let (steps, came, went, time) = shop_numbers(alloc)?;

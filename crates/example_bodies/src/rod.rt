@@ -1,5 +1,7 @@
 //! Heat in a rod, in blocks of cells.
 use std::alloc::{AllocError, Global};
+use superstep_memory::arrays::Arrays;
+use task_bodies::Watch;
 use task_bodies::body::{Ending, Out, TaskBody, View};
 
 /// A rod whose ends keep their temperature. Superstep `last` is the last one.
@@ -47,6 +49,22 @@ impl TaskBody for Rod {
             Ok(Ending::Syncs)
         } else {
             Ok(Ending::Stops)
+        }
+    }
+}
+
+/// Stops a run as soon as this cell of the rod holds so much.
+#[derive(Clone, Copy)]
+pub struct UntilWarm {
+    pub cell: u32,
+    pub least: i64,
+}
+
+impl Watch for UntilWarm {
+    fn goes_on(&mut self, step: u32, arrays: &Arrays, tasks: usize) -> bool {
+        match arrays.cell(0, i64::from(self.cell)) {
+            Some(value) => value < self.least,
+            None => false,
         }
     }
 }

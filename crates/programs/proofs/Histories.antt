@@ -1,11 +1,11 @@
 -- Supersteps of a history.
 use Rattle.std.proofs.Common.{◌≡◌, ℕ, zero, suc, ◌+◌, ◌≤◌, ◌<◌, Bool, true, false, nat_lt, List, [], ◌∷◌, ◌++◌, length, Option, Some, None, get_or, refl, sym, ap, ◌∙◌, subst, arith}
-use Rattle.std.specs.Prelude.{ℤ}
+use Rattle.std.specs.Prelude.{ℤ, nat_le, if◌then◌else◌}
 use Rattle.std.proofs.lemmas.List.{get_or_append_left}
-use Rattle.phase_records.specs.Status.{Status}
+use Rattle.phase_records.specs.Status.{Status, Limit}
 use Rattle.programs.specs.Meaning.{Segment, Frame, Says}
 use Rattle.programs.specs.Superstep.{State, superstep, closed, segments, fault_in}
-use Rattle.programs.specs.Supersteps.{so_far, status, unless_ended}
+use Rattle.programs.specs.Supersteps.{so_far, status, status_of, unless_ended}
 use Rattle.programs.specs.History.{Entry, left_of, says_in, says_by, IsEntered}
 use Rattle.programs.proofs.History.{AllFormed, all_formed}
 use Rattle.std.proofs.lemmas.Bool.Decides.{nat_tests}
@@ -76,3 +76,29 @@ module _ {T : Type 0} (f : Frame T) (most : ℕ) where
           let st = so_far (says_by f most h) arrays tasks limit n in
           all_formed f may st.arrays st.step (get_or h n []) (entered n lt).allowed
       by false e = let le : length h ≤ n = grind (arith, nat_tests) in subst (AllFormed f) (sym (past h n le)) tt
+
+  -- before its end a run doesn't depend on its limit
+  pub so_far_shorter : (s : Says T) (arrays : List (List ℕ × List ℤ)) (tasks : List T) (limit shorter m : ℕ) → shorter ≤ limit → m ≤ shorter
+      → so_far s arrays tasks shorter m ≡ so_far s arrays tasks limit m
+  so_far_shorter s arrays tasks limit shorter zero le lm = refl
+  so_far_shorter s arrays tasks limit shorter (suc m) le lm =
+      let before = so_far_shorter s arrays tasks limit shorter m le (omega (arith, lm)) in
+      let st = so_far s arrays tasks limit m in
+      let b = so_far_bound s arrays tasks limit m in
+      (λ i. unless_ended (status shorter (before i)) (before i) (superstep s (before i)))
+      ∙ ap (λ (o : Option Status). unless_ended o st (superstep s st)) (by st.fault st.live (omega (arith, b, lm)))
+    where
+      st : State T
+      st = so_far s arrays tasks limit m
+
+      no_limit : (l : ℕ) → st.step < l → (if nat_le l st.step then Some (Limit st.step) else None) ≡ None
+      no_limit l lt = test (nat_le l st.step) refl
+        where
+          test : (c : Bool) → nat_le l st.step ≡ c → (if c then Some (Limit st.step) else None) ≡ None
+          test true e = absurd (let k : l ≤ st.step = grind (arith, nat_tests) in omega (arith, k, lt))
+          test false e = refl
+
+      by : (f : Option (ℕ × List ℕ)) (live : List T) → st.step < shorter → status_of shorter st.step f live ≡ status_of limit st.step f live
+      by (Some f) live lt = refl
+      by None [] lt = refl
+      by None (t ∷ ts) lt = no_limit shorter lt ∙ sym (no_limit limit (omega (arith, lt, le)))

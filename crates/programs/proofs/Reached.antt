@@ -1,21 +1,22 @@
 -- A run on one thread, superstep by superstep.
-use Rattle.std.proofs.Common.{◌≡◌, ℕ, suc, ◌+◌, ◌≤◌, ◌<◌, Bool, true, false, nat_lt, List, [], ◌∷◌, ◌++◌, map, length, Option, Some, None, get_or, refl, sym, ap, ◌∙◌, subst, arith}
-use Rattle.std.specs.Prelude.{ℤ}
+use Rattle.std.proofs.Common.{◌≡◌, ℕ, suc, ◌+◌, ◌≤◌, ◌<◌, Bool, true, false, nat_lt, List, [], ◌∷◌, ◌++◌, map, length, Option, Some, None, get_or, refl, sym, ap, ◌∙◌, subst, arith, inl, inr}
+use Rattle.std.specs.Prelude.{ℤ, ◌⊎◌}
 use Rattle.std.proofs.lemmas.Bool.Decides.{nat_tests}
 use Rattle.std.proofs.lemmas.List.{length-map, length-append, get_or_append_left}
 use Rattle.std.proofs.Math.Seq.{get_or-append_seam}
 use Rattle.superstep_memory.specs.Paths.{is_rising}
-use Rattle.phase_records.specs.Status.{Status, Fault}
+use Rattle.phase_records.specs.ReportValue.{ReportValue}
+use Rattle.phase_records.specs.Status.{Status, Fault, Limit}
 use Rattle.programs.specs.Meaning.{Segment, Frame, NumbersItsSpawns, StaysTheSameTask, children}
 use Rattle.programs.specs.Reads.{reads}
 use Rattle.programs.specs.Superstep.{State, superstep}
 use Rattle.programs.specs.Supersteps.{so_far, status}
-use Rattle.programs.specs.History.{living_after, Entry, says_in, says_by, IsEntered, HasRun}
+use Rattle.programs.specs.History.{living_after, Entry, says_in, says_by, IsEntered, HasRun, HasRunTo}
 use Rattle.programs.specs.Course.{course_state, HasTaken, left_by}
 use Rattle.programs.specs.declared.alone.Course.{Course}
 use Rattle.programs.proofs.History.{numbers_by, stays_by}
-use Rattle.programs.proofs.Histories.{superstep_by, so_far_more, formed_by}
-use Rattle.programs.proofs.Course.{at_end, at_fault, rises}
+use Rattle.programs.proofs.Histories.{superstep_by, so_far_more, so_far_shorter, formed_by}
+use Rattle.programs.proofs.Course.{at_end, at_fault, is_late, rises}
 use Rattle.programs.proofs.Runs.{goes}
 
 module _ {S T : Type 0} (f : Frame T) (may : T → List (List ℕ × List ℤ) → ℕ → Segment T → Type 0) (most : ℕ) (meant : S → T) (path : S → List ℕ) (law : (t : S) → f.path (meant t) ≡ path t)
@@ -118,6 +119,24 @@ module _ {S T : Type 0} (f : Frame T) (may : T → List (List ℕ × List ℤ) �
     at_end = all (so_far (says_by f most h.history) arrays tasks limit (length h.history)).live ∙ ap (λ (x : State T). x.live) (sym h.state);
   }
 
+  -- it is stopped where tasks live
+  pub reached_stop : (c : Course S) (h : IsReached c) → 0 < length c.tasks.items → c.step ≤ limit
+      → HasRun f may most arrays tasks c.step (left_by c (Limit c.step)) (map meant c.tasks.items)
+  reached_stop c h some le =
+      let s = says_by f most h.history in
+      let same : (n : ℕ) → n ≤ c.step → so_far s arrays tasks c.step n ≡ so_far s arrays tasks limit n =
+      λ n lm. so_far_shorter f most s arrays tasks limit c.step n le lm in
+      let k = h.count in
+      let state = h.state ∙ sym (same (length h.history) (omega (arith, k))) in
+      let late = is_late (reads s meant path) law (numbers c h) (stays c h) arrays tasks c.step c some (omega arith) in
+      record {
+        history = h.history;
+        entered = λ n lt. subst (λ st. IsEntered f may st (get_or h.history n [])) (sym (same n (omega (arith, lt, k)))) (h.entered n lt);
+        ended = ap (status c.step) (sym state) ∙ late;
+        report = at_end (reads s meant path) law (numbers c h) (stays c h) arrays tasks c.step (length h.history) c (Limit c.step) state late;
+        at_end = ap (λ (x : State T). x.live) (sym state);
+      }
+
   -- a fault has ended it
   pub reached_fault : (c new : Course S) (x : ℕ × List ℕ) (h : IsReached c) → status limit (course_state (reads (says_by f most h.history) meant path) c) ≡ None
       → HasTaken f may most meant path (Some x) c new → HasRun f may most arrays tasks limit (left_by new (Fault x.0 new.step x.1)) []
@@ -156,3 +175,17 @@ starts_read {S = S} f meant path law ts h = read ts ∙ h ∙ ap (children [] 0)
     read : (us : List S) → map f.path (map meant us) ≡ map path us
     read [] = refl
     read (t ∷ us) = λ i. law t i ∷ read us i
+
+-- a run to its limit
+pub to_limit : {T : Type 0} (stops : Type 0) (f : Frame T) (may : T → List (List ℕ × List ℤ) → ℕ → Segment T → Type 0) (most : ℕ) (arrays : List (List ℕ × List ℤ)) (tasks : List T) (limit : ℕ) (outcome : ReportValue) (living : List T)
+    → HasRun f may most arrays tasks limit outcome living → HasRunTo stops f may most arrays tasks limit outcome living
+to_limit stops f may most arrays tasks limit outcome living h = record { taken = limit; within = omega arith; stopped = inl refl; run = h }
+
+-- one that nobody may stop is to its limit
+pub never_stopped : {T : Type 0} (f : Frame T) (may : T → List (List ℕ × List ℤ) → ℕ → Segment T → Type 0) (most : ℕ) (arrays : List (List ℕ × List ℤ)) (tasks : List T) (limit : ℕ) (outcome : ReportValue) (living : List T)
+    → HasRunTo ⊥ f may most arrays tasks limit outcome living → HasRun f may most arrays tasks limit outcome living
+never_stopped f may most arrays tasks limit outcome living h = by h.stopped
+  where
+    by : (h.taken ≡ limit) ⊎ ⊥ → HasRun f may most arrays tasks limit outcome living
+    by (inl e) = subst (λ (n : ℕ). HasRun f may most arrays tasks n outcome living) e h.run
+    by (inr x) = absurd x

@@ -1,5 +1,5 @@
 -- What tasks left in a run, superstep by superstep, and what a run leaves that has this history (own).
-use Rattle.std.specs.Prelude.{◌≡◌, ◌<◌, ◌==◌, ◌&&◌, ℕ, ℤ, Bool, if◌then◌else◌, List, [], ◌∷◌, ◌++◌, map, length, get_or, None, Some}
+use Rattle.std.specs.Prelude.{◌≡◌, ◌<◌, ◌≤◌, ◌⊎◌, ◌==◌, ◌&&◌, ℕ, ℤ, Bool, if◌then◌else◌, List, [], ◌∷◌, ◌++◌, map, length, get_or, None, Some}
 use Rattle.std.specs.Str.{bytes_eq}
 use Rattle.phase_records.specs.ReportValue.{ReportValue}
 use Rattle.phase_records.specs.Status.{Status, Ended, Fault, Limit}
@@ -72,3 +72,10 @@ module _ {T : Type 0} where
     pub ended : status limit (so_far (says_by f most history) arrays tasks limit (length history)) ≡ Some outcome.status
     pub report : report_of (says_by f most history) arrays tasks limit ≡ Some outcome
     pub at_end : living_after outcome.status (so_far (says_by f most history) arrays tasks limit (length history)).live ≡ living
+
+  -- The run was taken to this limit, or was stopped before, by who may stop it: then it is the run to that earlier limit.
+  pub record HasRunTo (stops : Type 0) (f : Frame T) (may : T → List (List ℕ × List ℤ) → ℕ → Segment T → Type 0) (most : ℕ) (arrays : List (List ℕ × List ℤ)) (tasks : List T) (limit : ℕ) (outcome : ReportValue) (living : List T) : Type 0 where
+    pub taken : ℕ
+    pub within : taken ≤ limit
+    pub stopped : (taken ≡ limit) ⊎ stops
+    pub run : HasRun f may most arrays tasks taken outcome living

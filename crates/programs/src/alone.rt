@@ -5,7 +5,7 @@ ghost use Rattle.phase_records.specs.Status.{IsShort};
 ghost use Rattle.phase_records.specs.StatusSeen.{status_seen};
 ghost use Rattle.superstep_memory.specs.PathOrder.{in_path_order};
 ghost use Rattle.programs.specs.InPlace.{living_with, left_in, spawned_in};
-ghost use Rattle.programs.specs.History.{HasRun};
+ghost use Rattle.programs.specs.History.{HasRun, HasRunTo};
 ghost use Rattle.programs.specs.Meaning.{children};
 ghost use Rattle.programs.specs.Course.{HasTaken, left_by};
 
@@ -13,6 +13,7 @@ use crate::blame::{Blame, too_many};
 use crate::deeds::Deeds;
 use crate::in_place::{StepScene, do_all};
 use crate::program::{OnPath, Program};
+use crate::watch::{NoWatch, Watch};
 use crate::work::Work;
 use phase_records::{JobStatus, PhaseRecord, Print, Report};
 use std::alloc::{AllocError, Global};
@@ -165,13 +166,14 @@ fn take_superstep<P: Program>(
 }
 
 // Takes supersteps until the run ends, and returns how it ended. The room is working space.
-fn run_within<P: Program>(
+fn run_within<P: Program, W: Watch>(
     alloc: Global,
     program: &P,
     most: u32,
     limit: u32,
     course: &mut Course<P::Task>,
     room: &mut Room<P::Task>,
+    watch: &mut W,
 ) -> Result<JobStatus, AllocError>
     requires ready { P.ready program.now }
     requires most { most < 2 ^ 31 }
@@ -180,12 +182,15 @@ fn run_within<P: Program>(
     requires paths { map P.Task.path_of course.old.tasks.items ≡ children [] 0 (length course.old.tasks.items) }
     requires few { length course.old.tasks.items ≤ most }
     ensures report { IfOk result (λ s. let p = program.now in
-        HasRun (P.frame p) (P.may p) most course.old.arrays (map (P.meant p) course.old.tasks.items) limit (left_by course.new (status_seen s)) (map (P.meant p) course.new.tasks.items)) }
+        HasRunTo W.MayStop (P.frame p) (P.may p) most course.old.arrays (map (P.meant p) course.old.tasks.items) limit (left_by course.new (status_seen s)) (map (P.meant p) course.new.tasks.items)) }
     ensures short { IfOk result (λ s. IsShort (status_seen s)) }
 {
     while course.step < limit {
         if course.tasks.is_empty() {
             return Ok(JobStatus::Ended(course.step));
+        }
+        if !watch.goes_on(course.step, &course.arrays, course.tasks.len()) {
+            return Ok(JobStatus::Limit(course.step));
         }
         let fault = take_superstep(alloc, program, most, course, room)?;
         match fault {
@@ -204,12 +209,13 @@ fn run_within<P: Program>(
 }
 
 // Takes supersteps until the run ends, and returns how it ended.
-fn run_on<P: Program>(
+fn run_on<P: Program, W: Watch>(
     alloc: Global,
     program: &P,
     most: u32,
     limit: u32,
     course: &mut Course<P::Task>,
+    watch: &mut W,
 ) -> Result<JobStatus, AllocError>
     requires ready { P.ready program.now }
     requires most { most < 2 ^ 31 }
@@ -218,11 +224,11 @@ fn run_on<P: Program>(
     requires paths { map P.Task.path_of course.old.tasks.items ≡ children [] 0 (length course.old.tasks.items) }
     requires few { length course.old.tasks.items ≤ most }
     ensures report { IfOk result (λ s. let p = program.now in
-        HasRun (P.frame p) (P.may p) most course.old.arrays (map (P.meant p) course.old.tasks.items) limit (left_by course.new (status_seen s)) (map (P.meant p) course.new.tasks.items)) }
+        HasRunTo W.MayStop (P.frame p) (P.may p) most course.old.arrays (map (P.meant p) course.old.tasks.items) limit (left_by course.new (status_seen s)) (map (P.meant p) course.new.tasks.items)) }
     ensures short { IfOk result (λ s. IsShort (status_seen s)) }
 {
     let mut room = no_room(alloc);
-    run_within(alloc, program, most, limit, course, &mut room)
+    run_within(alloc, program, most, limit, course, &mut room, watch)
 }
 
 /// What a run leaves.
@@ -273,6 +279,27 @@ pub fn run_alone<P: Program>(
     ensures { IfOk result (λ ran. let p = program.now in
         HasRun (P.frame p) (P.may p) most arrays (map (P.meant p) tasks.items) limit ran.report (map (P.meant p) ran.tasks.items)) }
 {
+    let ran = run_watched(alloc, program, arrays, tasks, most, limit, &mut NoWatch)?;
+    Ok(ran)
+}
+
+/// Runs a program as [`run_alone`] does. `watch` is called before each superstep, and may stop the run.
+pub fn run_watched<P: Program, W: Watch>(
+    alloc: Global,
+    program: &P,
+    arrays: Arrays,
+    tasks: Vec<P::Task>,
+    most: u32,
+    limit: u32,
+    watch: &mut W,
+) -> Result<Ran<P::Task>, AllocError>
+    requires ready { P.ready program.now }
+    requires most { most < 2 ^ 31 }
+    requires few { length tasks.items ≤ most }
+    requires paths { map P.Task.path_of tasks.items ≡ children [] 0 (length tasks.items) }
+    ensures { IfOk result (λ ran. let p = program.now in
+        HasRunTo W.MayStop (P.frame p) (P.may p) most arrays (map (P.meant p) tasks.items) limit ran.report (map (P.meant p) ran.tasks.items)) }
+{
     let mut course = Course {
         step: 0,
         arrays,
@@ -280,6 +307,6 @@ pub fn run_alone<P: Program>(
         prints: Vec::new(alloc),
         records: Vec::new(alloc),
     };
-    let status = run_on(alloc, program, most, limit, &mut course)?;
+    let status = run_on(alloc, program, most, limit, &mut course, watch)?;
     Ok(leave(course, status))
 }

@@ -9,3 +9,4 @@ mod native;
 pub mod run;
 
 pub use native::Native;
+pub use programs::watch::{NoWatch, Watch};

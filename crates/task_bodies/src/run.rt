@@ -1,13 +1,14 @@
 //! Runs of tasks of your own.
 ghost use Rattle.std.specs.Prelude.{◌≡◌, ◌≤◌, ◌<◌, [], Some, IfOk, IfErr, length};
-ghost use Rattle.programs.specs.History.{HasRun, says_of};
+ghost use Rattle.programs.specs.History.{HasRun, HasRunTo, says_of};
 ghost use Rattle.programs.specs.Supersteps.{report_of};
 ghost use Rattle.task_bodies.specs.Bodies.{MemberValue, member_frame, BodyMay, body_does, numbered};
 
 use crate::body::{Exact, TaskBody};
 use crate::member::{Member, starts};
 use crate::native::Native;
-use programs::alone::{Ran, run_alone};
+use programs::alone::{Ran, run_watched};
+use programs::watch::{NoWatch, Watch};
 use std::alloc::{AllocError, Global};
 use superstep_memory::arrays::Arrays;
 use thiserror::Error;
@@ -41,12 +42,31 @@ pub fn run_bodies<B: TaskBody>(
     requires most { most < 2147483648 }
     ensures ran { IfOk result (λ ran. HasRun member_frame (BodyMay (B.may body.now)) most arrays (numbered [] 0 tasks.items) limit ran.report ran.tasks.items) }
 {
+    let ran = run_bodies_watched(alloc, body, arrays, tasks, most, limit, &mut NoWatch)?;
+    Ok(ran)
+}
+
+/// Runs tasks as [`run_bodies`] does. `watch` is called before each superstep, and may stop the run there, as a limit does: if the
+/// values no longer change, or if you only want to look on.
+pub fn run_bodies_watched<B: TaskBody, W: Watch>(
+    alloc: Global,
+    body: &B,
+    arrays: Arrays,
+    tasks: Vec<B::Kept>,
+    most: u32,
+    limit: u32,
+    watch: &mut W,
+) -> Result<Ran<Member<B::Kept>>, RunFault>
+    requires ready { B.ready body.now }
+    requires most { most < 2147483648 }
+    ensures ran { IfOk result (λ ran. HasRunTo W.MayStop member_frame (BodyMay (B.may body.now)) most arrays (numbered [] 0 tasks.items) limit ran.report ran.tasks.items) }
+{
     if tasks.len() > 65535 || tasks.len() > most as usize {
         return Err(RunFault::TooMany);
     }
     let members = starts(alloc, tasks)?;
     let program = Native { body };
-    let ran = run_alone(alloc, &program, arrays, members, most, limit)?;
+    let ran = run_watched(alloc, &program, arrays, members, most, limit, watch)?;
     Ok(ran)
 }
 

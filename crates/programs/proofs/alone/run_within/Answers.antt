@@ -1,11 +1,11 @@
-use Rattle.std.proofs.Common.{[], map, refl, sym, subst, arith, Option, ℕ, List}
+use Rattle.std.proofs.Common.{[], map, refl, sym, subst, arith, Option, ℕ, List, inr}
 use Rattle.phase_records.specs.Status.{Status}
 use Rattle.phase_records.specs.StatusSeen.{status_seen}
 use Rattle.programs.specs.Reads.{reads}
 use Rattle.programs.specs.History.{says_by, HasRun}
 use Rattle.programs.specs.Course.{HasTaken, left_by}
 use Rattle.programs.proofs.Course.{is_running, is_over, is_late, none_there, some_there}
-use Rattle.programs.proofs.Reached.{reached_none, numbers, stays, reached_more, reached_end, reached_fault, reached_rises, starts_read}
+use Rattle.programs.proofs.Reached.{reached_none, numbers, stays, reached_more, reached_end, reached_fault, reached_rises, reached_stop, starts_read, to_limit}
 use Rattle.programs.proofs.alone.run_within.Goals as goal
 
 pub loop-course-init : goal.loop-course-init
@@ -50,8 +50,33 @@ returns-then-is_empty-clause-report g c =
     let few = numbers f may c.args.most meant path law arrays tasks c.args.limit c.loop-course.course h in
     let same = stays f may c.args.most meant path law arrays tasks c.args.limit c.loop-course.course h in
     let none = none_there _ c.is_empty.result c.is_empty.ensures c.if-is_empty.true in
-    reached_end f may c.args.most meant path law arrays tasks c.args.limit c.loop-course.course _ h
-    (is_over p law few same arrays tasks c.args.limit c.loop-course.course (omega (arith, none, c.loop-course.course.tasks.ok.0))) (λ live. refl)
+    to_limit _ f may c.args.most arrays tasks c.args.limit _ _
+    (reached_end f may c.args.most meant path law arrays tasks c.args.limit c.loop-course.course _ h
+    (is_over p law few same arrays tasks c.args.limit c.loop-course.course (omega (arith, none, c.loop-course.course.tasks.ok.0))) (λ live. refl))
+
+pub returns-then-not-goes_on-clause-report : goal.returns-then-not-goes_on-clause-report
+returns-then-not-goes_on-clause-report g c =
+    let q = c.args.program.now in
+    let f = g.P.Program.frame q in
+    let may = g.P.Program.may q in
+    let meant = g.P.Program.meant q in
+    let path = g.P.Task.OnPath.path_of in
+    let law = g.met.P.Program.keeps_paths q in
+    let arrays = c.args.course.now.arrays in
+    let tasks = map meant c.args.course.now.tasks.items in
+    let h = c.loop-course.invariant.reached in
+    let p = reads (says_by f c.args.most h.history) meant path in
+    let few = numbers f may c.args.most meant path law arrays tasks c.args.limit c.loop-course.course h in
+    let same = stays f may c.args.most meant path law arrays tasks c.args.limit c.loop-course.course h in
+    let some = some_there _ c.is_empty.result c.is_empty.ensures c.if-is_empty.false in
+    record {
+      taken = c.loop-course.course.step;
+      within = omega (arith, c.loop-course-test.true);
+      stopped = inr (c.goes_on.ensures c.if-not-goes_on.true);
+      run =
+          reached_stop f may c.args.most meant path law arrays tasks c.args.limit c.loop-course.course h
+          (omega (arith, some, c.loop-course.course.tasks.ok.0)) (omega (arith, c.loop-course-test.true));
+    }
 
 pub returns-in-Some-clause-report : goal.returns-in-Some-clause-report
 returns-in-Some-clause-report g c =
@@ -69,10 +94,11 @@ returns-in-Some-clause-report g c =
     let same = stays f may c.args.most meant path law arrays tasks c.args.limit c.loop-course.course h in
     let some = some_there _ c.is_empty.result c.is_empty.ensures c.if-is_empty.false in
     let run = is_running p law few same arrays tasks c.args.limit c.loop-course.course (omega (arith, some, c.loop-course.course.tasks.ok.0)) c.loop-course-test.true in
-    subst (λ (ts : List g.row.P-Task.Denot). HasRun f may c.args.most arrays tasks c.args.limit (left_by c.take_superstep.new.course (status_seen c.status.result)) (map meant ts)) (sym c.clear.ensures.items)
+    to_limit _ f may c.args.most arrays tasks c.args.limit _ _
+    (subst (λ (ts : List g.row.P-Task.Denot). HasRun f may c.args.most arrays tasks c.args.limit (left_by c.take_superstep.new.course (status_seen c.status.result)) (map meant ts)) (sym c.clear.ensures.items)
     (subst (λ (s : Status). HasRun f may c.args.most arrays tasks c.args.limit (left_by c.take_superstep.new.course s) []) (sym c.status.ensures.status)
     (reached_fault f may c.args.most meant path law arrays tasks c.args.limit c.loop-course.course c.take_superstep.new.course c.in-Some.blame h run
-    (subst (λ (o : Option (ℕ × List ℕ)). HasTaken f may c.args.most meant path o c.loop-course.course c.take_superstep.new.course) c.in-Some.is c.in_ok-fault.ensures)))
+    (subst (λ (o : Option (ℕ × List ℕ)). HasTaken f may c.args.most meant path o c.loop-course.course c.take_superstep.new.course) c.in-Some.is c.in_ok-fault.ensures))))
 
 pub loop-course-preserved : goal.loop-course-preserved
 loop-course-preserved g c =
@@ -111,8 +137,9 @@ returns-then-is_empty-2-clause-report g c =
     let few = numbers f may c.args.most meant path law arrays tasks c.args.limit c.loop-course.course h in
     let same = stays f may c.args.most meant path law arrays tasks c.args.limit c.loop-course.course h in
     let none = none_there _ c.is_empty-2.result c.is_empty-2.ensures c.if-is_empty-2.true in
-    reached_end f may c.args.most meant path law arrays tasks c.args.limit c.loop-course.course _ h
-    (is_over p law few same arrays tasks c.args.limit c.loop-course.course (omega (arith, none, c.loop-course.course.tasks.ok.0))) (λ live. refl)
+    to_limit _ f may c.args.most arrays tasks c.args.limit _ _
+    (reached_end f may c.args.most meant path law arrays tasks c.args.limit c.loop-course.course _ h
+    (is_over p law few same arrays tasks c.args.limit c.loop-course.course (omega (arith, none, c.loop-course.course.tasks.ok.0))) (λ live. refl))
 
 pub returns-else-is_empty-2-clause-report : goal.returns-else-is_empty-2-clause-report
 returns-else-is_empty-2-clause-report g c =
@@ -129,5 +156,6 @@ returns-else-is_empty-2-clause-report g c =
     let few = numbers f may c.args.most meant path law arrays tasks c.args.limit c.loop-course.course h in
     let same = stays f may c.args.most meant path law arrays tasks c.args.limit c.loop-course.course h in
     let some = some_there _ c.is_empty-2.result c.is_empty-2.ensures c.if-is_empty-2.false in
-    reached_end f may c.args.most meant path law arrays tasks c.args.limit c.loop-course.course _ h
-    (is_late p law few same arrays tasks c.args.limit c.loop-course.course (omega (arith, some, c.loop-course.course.tasks.ok.0)) (omega (arith, c.loop-course-test.false))) (λ live. refl)
+    to_limit _ f may c.args.most arrays tasks c.args.limit _ _
+    (reached_end f may c.args.most meant path law arrays tasks c.args.limit c.loop-course.course _ h
+    (is_late p law few same arrays tasks c.args.limit c.loop-course.course (omega (arith, some, c.loop-course.course.tasks.ok.0)) (omega (arith, c.loop-course-test.false))) (λ live. refl))
