@@ -1,12 +1,17 @@
-//! Tasks that run bodies of one's own: heat in a rod, a shop whose customers come and go, a search in a graph.
+//! Tasks that run bodies of one's own: heat in a rod, a shop whose customers come and go, a search
+//! in a graph, its ranks, and the game of life.
 #![tactic(auto)]
 
+mod life;
 mod queue;
+mod rank;
 mod rod;
 mod search;
 
+use life::{Life, Rows};
 use phase_records::{JobStatus, Report};
 use queue::{CAME, Role, Shop, TIME, WENT};
+use rank::Ranks;
 use rod::{Block, Rod, UntilWarm};
 use search::{DISTANCES, Graph, Nodes, ROUNDS};
 use std::alloc::{AllocError, Global};
@@ -147,6 +152,62 @@ fn find(alloc: Global) -> Result<Report, RunFault> {
     Ok(ran.report)
 }
 
+// The graph of 1000 nodes, in 10 blocks, after 20 rounds.
+fn ranked(alloc: Global) -> Result<Report, RunFault> {
+    let mut arrays = Arrays::new(alloc);
+    add(alloc, &mut arrays, "ranks", 1000, 1_000_000_000)?;
+    add(alloc, &mut arrays, "sums", 1000, 0)?;
+    let mut blocks = Vec::new(alloc);
+    for number in 0..10 {
+        blocks.push(Nodes {
+            first: number * 100,
+            end: number * 100 + 100,
+        })?;
+    }
+    let graph = Graph { nodes: 1000 };
+    let ran = run_bodies(alloc, &Ranks { graph, last: 39 }, arrays, blocks, 10, 40)?;
+    Ok(ran.report)
+}
+
+// A field of 512 rows and columns, in the middle of which five cells live.
+fn five(alloc: Global) -> Result<Arrays, AllocError> {
+    let mut arrays = Arrays::new(alloc);
+    let mut cells = Vec::from_elem(alloc, 0, 262_144)?;
+    for place in [130_817, 130_818, 131_328, 131_329, 131_841] {
+        if let Some(cell) = cells.get_mut(place) {
+            *cell = 1;
+        }
+    }
+    arrays.add(String::from_str(alloc, "field")?, cells)?;
+    Ok(arrays)
+}
+
+// The field after 30 supersteps, in 16 blocks of rows.
+fn live(alloc: Global) -> Result<Report, RunFault> {
+    let arrays = five(alloc)?;
+    let mut blocks = Vec::new(alloc);
+    for number in 0..16 {
+        blocks.push(Rows {
+            first: number * 32,
+            end: number * 32 + 32,
+        })?;
+    }
+    let life = Life {
+        width: 512,
+        last: 29,
+    };
+    let ran = run_bodies(alloc, &life, arrays, blocks, 16, 30)?;
+    Ok(ran.report)
+}
+
+// How many cells of array 0 aren't 0.
+fn count(report: &Report) -> usize {
+    match report.arrays.get(0) {
+        Some((_, cells)) => cells.iter().filter(|it| **it != 0).count(),
+        None => 0,
+    }
+}
+
 // Supersteps, and the cells 10 and 70.
 fn rod_numbers(alloc: Global) -> Result<(u32, i64, i64), RunFault> {
     let report = cool(alloc)?;
@@ -183,6 +244,22 @@ fn graph_numbers(alloc: Global) -> Result<(u32, usize, i64), RunFault> {
     Ok((steps(&report), reached(&report), cell(&report, ROUNDS, 0)))
 }
 
+// The ranks of the nodes 0, 1 and 7.
+fn rank_numbers(alloc: Global) -> Result<(i64, i64, i64), RunFault> {
+    let report = ranked(alloc)?;
+    Ok((
+        cell(&report, 0, 0),
+        cell(&report, 0, 1),
+        cell(&report, 0, 7),
+    ))
+}
+
+// Supersteps, and how many cells live.
+fn life_numbers(alloc: Global) -> Result<(u32, usize), RunFault> {
+    let report = live(alloc)?;
+    Ok((steps(&report), count(&report)))
+}
+
 fn main(rt: HostRuntime) -> anyhow::Result<()> {
     let alloc = rt.alloc();
     let (steps, ten, seventy) = rod_numbers(alloc)?;
@@ -197,5 +274,9 @@ fn main(rt: HostRuntime) -> anyhow::Result<()> {
     println!(rt;
         "search: {steps} supersteps, {nodes} nodes reached, the last ones at distance {last}"
     )?;
+    let (first, second, eighth) = rank_numbers(alloc)?;
+    println!(rt; "ranks: {first} {second} {eighth}")?;
+    let (steps, living) = life_numbers(alloc)?;
+    println!(rt; "life: {living} cells live after {steps} supersteps")?;
     Ok(())
 }

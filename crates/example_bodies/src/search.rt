@@ -22,7 +22,7 @@ pub const ROUNDS: u16 = 1;
 
 impl Graph {
     // The nodes to which this one has edges.
-    fn neighbours(&self, node: u32) -> [u32; 2] {
+    pub fn neighbours(&self, node: u32) -> [u32; 2] {
         if self.nodes == 0 {
             return [0, 0];
         }
