@@ -11,7 +11,7 @@ use Rattle.programs.specs.Meaning.{Segment, Frame, NumbersItsSpawns, StaysTheSam
 use Rattle.programs.specs.Reads.{reads}
 use Rattle.programs.specs.Superstep.{State, superstep}
 use Rattle.programs.specs.Supersteps.{so_far, status}
-use Rattle.programs.specs.History.{living_after, Entry, says_in, says_by, IsEntered, HasRun, HasRunTo}
+use Rattle.programs.specs.History.{living_after, Entry, says_in, says_by, IsEntered, OfState, HasRun, HasRunTo}
 use Rattle.programs.specs.Course.{course_state, HasTaken, left_by}
 use Rattle.programs.specs.declared.alone.Course.{Course}
 use Rattle.programs.proofs.History.{numbers_by, stays_by}
@@ -28,7 +28,7 @@ module _ {S T : Type 0} (f : Frame T) (may : T → List (List ℕ × List ℤ) �
     pub entered : (n : ℕ) → n < length history → IsEntered f may (so_far (says_by f most history) arrays tasks limit n) (get_or history n [])
     pub state : course_state (reads (says_by f most history) meant path) c ≡ so_far (says_by f most history) arrays tasks limit (length history)
 
-  pub reached_none : (c : Course S) → c.step ≡ 0 → c.prints.items ≡ [] → c.records.items ≡ [] → c.arrays ≡ arrays → map meant c.tasks.items ≡ tasks → IsReached c
+  abbrev pub reached_none : (c : Course S) → c.step ≡ 0 → c.prints.items ≡ [] → c.records.items ≡ [] → c.arrays ≡ arrays → map meant c.tasks.items ≡ tasks → IsReached c
   reached_none c es ep er ea et = record {
     history = [];
     count = sym es;
@@ -43,7 +43,7 @@ module _ {S T : Type 0} (f : Frame T) (may : T → List (List ℕ × List ℤ) �
   stays c h = stays_by f most h.history (formed_by f most may arrays tasks limit h.history h.entered)
 
   -- one superstep more is entered
-  entered_more : (history : List (List (Entry T))) (es : List (Entry T)) → ((n : ℕ) → n < length history → IsEntered f may (so_far (says_by f most history) arrays tasks limit n) (get_or history n []))
+  pub entered_more : (history : List (List (Entry T))) (es : List (Entry T)) → ((n : ℕ) → n < length history → IsEntered f may (so_far (says_by f most history) arrays tasks limit n) (get_or history n []))
       → IsEntered f may (so_far (says_by f most history) arrays tasks limit (length history)) es
       → (n : ℕ) → n < length (history ++ es ∷ []) → IsEntered f may (so_far (says_by f most (history ++ es ∷ [])) arrays tasks limit n) (get_or (history ++ es ∷ []) n [])
   entered_more history es before now n lt = by (nat_lt n (length history)) refl
@@ -64,15 +64,45 @@ module _ {S T : Type 0} (f : Frame T) (may : T → List (List ℕ × List ℤ) �
           (subst (IsEntered f may (so_far (says_by f most history) arrays tasks limit (length history)))
           (sym (ap (λ (k : ℕ). get_or more k []) same ∙ get_or-append_seam history es [] [])) now)
 
-  -- what the entries of the next superstep make of it
-  record IsNextOf (c new : Course S) (h : IsReached c) (fault : Option (ℕ × List ℕ)) (t : HasTaken f may most meant path fault c new) : Type 0 where
-    more : List (List (Entry T))
-    count : length more ≡ c.step + 1
-    entered : (n : ℕ) → n < length more → IsEntered f may (so_far (says_by f most more) arrays tasks limit n) (get_or more n [])
-    state : course_state (reads (says_by f most more) meant path) c ≡ so_far (says_by f most more) arrays tasks limit c.step
-    steps : superstep (says_by f most more) (course_state (reads (says_by f most more) meant path) c) ≡ superstep (says_in f most t.entries) (course_state (reads (says_in f most t.entries) meant path) c)
+  -- this holds of the states as the supersteps of a history began
+  abbrev pub AllBegan : (State T → Type 0) → List (List (Entry T)) → Type 0
+  AllBegan seen history = (n : ℕ) → n < length history → seen (so_far (says_by f most history) arrays tasks limit n)
 
-  next_of : (c new : Course S) (h : IsReached c) (fault : Option (ℕ × List ℕ)) (t : HasTaken f may most meant path fault c new) → IsNextOf c new h fault t
+  pub none_began : (seen : State T → Type 0) → AllBegan seen []
+  none_began seen n lt = absurd (omega (arith, lt))
+
+  -- it holds of one superstep more
+  pub began_more : (seen : State T → Type 0) (history : List (List (Entry T))) (es : List (Entry T)) → AllBegan seen history
+      → seen (so_far (says_by f most history) arrays tasks limit (length history)) → AllBegan seen (history ++ es ∷ [])
+  began_more seen history es before now n lt = by (nat_lt n (length history)) refl
+    where
+      more : List (List (Entry T))
+      more = history ++ es ∷ []
+
+      by : (b : Bool) → nat_lt n (length history) ≡ b → seen (so_far (says_by f most more) arrays tasks limit n)
+      by true e =
+          let k : n < length history = grind (arith, nat_tests) in
+          subst seen (sym (so_far_more f most history (es ∷ []) arrays tasks limit n (omega (arith, k)))) (before n k)
+      by false e =
+          let le : length history ≤ n = grind (arith, nat_tests) in
+          let l = length-append history (es ∷ []) in
+          let same : n ≡ length history = omega (arith, le, l, lt) in
+          subst seen (sym (ap (so_far (says_by f most more) arrays tasks limit) same ∙ so_far_more f most history (es ∷ []) arrays tasks limit (length history) (omega arith))) now
+
+  -- what is seen of the run is seen of the state that it has reached
+  pub seen_now : (seen : ℕ → List (List ℕ × List ℤ) → ℕ → Type 0) (c : Course S) (h : IsReached c) → seen c.step c.arrays (length c.tasks.items)
+      → OfState seen (so_far (says_by f most h.history) arrays tasks limit (length h.history))
+  seen_now seen c h x = subst (OfState seen) h.state (subst (seen c.step c.arrays) (sym (length-map c.tasks.items meant)) x)
+
+  -- what the entries of the next superstep make of it
+  pub record IsNextOf (c new : Course S) (h : IsReached c) (fault : Option (ℕ × List ℕ)) (t : HasTaken f may most meant path fault c new) : Type 0 where
+    pub more : List (List (Entry T))
+    pub count : length more ≡ c.step + 1
+    pub entered : (n : ℕ) → n < length more → IsEntered f may (so_far (says_by f most more) arrays tasks limit n) (get_or more n [])
+    pub state : course_state (reads (says_by f most more) meant path) c ≡ so_far (says_by f most more) arrays tasks limit c.step
+    pub steps : superstep (says_by f most more) (course_state (reads (says_by f most more) meant path) c) ≡ superstep (says_in f most t.entries) (course_state (reads (says_in f most t.entries) meant path) c)
+
+  abbrev pub next_of : (c new : Course S) (h : IsReached c) (fault : Option (ℕ × List ℕ)) (t : HasTaken f may most meant path fault c new) → IsNextOf c new h fault t
   next_of c new h fault t =
       let more = h.history ++ t.entries ∷ [] in
       let l = length-append h.history (t.entries ∷ []) in
@@ -90,7 +120,7 @@ module _ {S T : Type 0} (f : Frame T) (may : T → List (List ℕ × List ℤ) �
       }
 
   -- one superstep more
-  pub reached_more : (c new : Course S) (h : IsReached c) → status limit (course_state (reads (says_by f most h.history) meant path) c) ≡ None
+  abbrev pub reached_more : (c new : Course S) (h : IsReached c) → status limit (course_state (reads (says_by f most h.history) meant path) c) ≡ None
       → HasTaken f may most meant path None c new → IsReached new
   reached_more c new h run t =
       let x = next_of c new h None t in
@@ -109,7 +139,7 @@ module _ {S T : Type 0} (f : Frame T) (may : T → List (List ℕ × List ℤ) �
       }
 
   -- it has ended
-  pub reached_end : (c : Course S) (s : Status) (h : IsReached c) → status limit (course_state (reads (says_by f most h.history) meant path) c) ≡ Some s
+  abbrev pub reached_end : (c : Course S) (s : Status) (h : IsReached c) → status limit (course_state (reads (says_by f most h.history) meant path) c) ≡ Some s
       → ((live : List T) → living_after s live ≡ live) → HasRun f may most arrays tasks limit (left_by c s) (map meant c.tasks.items)
   reached_end c s h e all = record {
     history = h.history;
@@ -120,7 +150,7 @@ module _ {S T : Type 0} (f : Frame T) (may : T → List (List ℕ × List ℤ) �
   }
 
   -- it is stopped where tasks live
-  pub reached_stop : (c : Course S) (h : IsReached c) → 0 < length c.tasks.items → c.step ≤ limit
+  abbrev pub reached_stop : (c : Course S) (h : IsReached c) → 0 < length c.tasks.items → c.step ≤ limit
       → HasRun f may most arrays tasks c.step (left_by c (Limit c.step)) (map meant c.tasks.items)
   reached_stop c h some le =
       let s = says_by f most h.history in
@@ -137,8 +167,23 @@ module _ {S T : Type 0} (f : Frame T) (may : T → List (List ℕ × List ℤ) �
         at_end = ap (λ (x : State T). x.live) (sym state);
       }
 
+  -- it was stopped where tasks live, by who looks on
+  pub stopped_by : (stops goes : ℕ → List (List ℕ × List ℤ) → ℕ → Type 0) (c : Course S) (h : IsReached c) → 0 < length c.tasks.items → c.step ≤ limit
+      → AllBegan (OfState goes) h.history → stops c.step c.arrays (length c.tasks.items)
+      → HasRunTo stops goes f may most arrays tasks limit (left_by c (Limit c.step)) (map meant c.tasks.items)
+  stopped_by stops lets c h some le went x =
+      let s = says_by f most h.history in
+      let k = h.count in
+      record {
+        taken = c.step;
+        within = le;
+        run = reached_stop c h some le;
+        went = λ n lt. let m : n < length h.history = lt in subst (OfState lets) (sym (so_far_shorter f most s arrays tasks limit c.step n le (omega (arith, m, k)))) (went n m);
+        stopped = inr (subst (stops c.step c.arrays) (sym (length-map c.tasks.items meant)) x);
+      }
+
   -- a fault has ended it
-  pub reached_fault : (c new : Course S) (x : ℕ × List ℕ) (h : IsReached c) → status limit (course_state (reads (says_by f most h.history) meant path) c) ≡ None
+  abbrev pub reached_fault : (c new : Course S) (x : ℕ × List ℕ) (h : IsReached c) → status limit (course_state (reads (says_by f most h.history) meant path) c) ≡ None
       → HasTaken f may most meant path (Some x) c new → HasRun f may most arrays tasks limit (left_by new (Fault x.0 new.step x.1)) []
   reached_fault c new x h run t =
       let n = next_of c new h (Some x) t in
@@ -177,14 +222,15 @@ starts_read {S = S} f meant path law ts h = read ts ∙ h ∙ ap (children [] 0)
     read (t ∷ us) = λ i. law t i ∷ read us i
 
 -- a run to its limit
-pub to_limit : {T : Type 0} (stops : Type 0) (f : Frame T) (may : T → List (List ℕ × List ℤ) → ℕ → Segment T → Type 0) (most : ℕ) (arrays : List (List ℕ × List ℤ)) (tasks : List T) (limit : ℕ) (outcome : ReportValue) (living : List T)
-    → HasRun f may most arrays tasks limit outcome living → HasRunTo stops f may most arrays tasks limit outcome living
-to_limit stops f may most arrays tasks limit outcome living h = record { taken = limit; within = omega arith; stopped = inl refl; run = h }
+pub to_limit : {T : Type 0} (stops goes : ℕ → List (List ℕ × List ℤ) → ℕ → Type 0) (f : Frame T) (may : T → List (List ℕ × List ℤ) → ℕ → Segment T → Type 0) (most : ℕ) (arrays : List (List ℕ × List ℤ)) (tasks : List T) (limit : ℕ) (outcome : ReportValue) (living : List T)
+    (run : HasRun f may most arrays tasks limit outcome living) → ((n : ℕ) → n < length run.history → OfState goes (so_far (says_by f most run.history) arrays tasks limit n))
+    → HasRunTo stops goes f may most arrays tasks limit outcome living
+to_limit stops goes f may most arrays tasks limit outcome living run went = record { taken = limit; within = omega arith; run = run; went = went; stopped = inl refl }
 
 -- one that nobody may stop is to its limit
-pub never_stopped : {T : Type 0} (f : Frame T) (may : T → List (List ℕ × List ℤ) → ℕ → Segment T → Type 0) (most : ℕ) (arrays : List (List ℕ × List ℤ)) (tasks : List T) (limit : ℕ) (outcome : ReportValue) (living : List T)
-    → HasRunTo ⊥ f may most arrays tasks limit outcome living → HasRun f may most arrays tasks limit outcome living
-never_stopped f may most arrays tasks limit outcome living h = by h.stopped
+pub never_stopped : {T : Type 0} (goes : ℕ → List (List ℕ × List ℤ) → ℕ → Type 0) (f : Frame T) (may : T → List (List ℕ × List ℤ) → ℕ → Segment T → Type 0) (most : ℕ) (arrays : List (List ℕ × List ℤ)) (tasks : List T) (limit : ℕ) (outcome : ReportValue) (living : List T)
+    → HasRunTo (λ step arrays tasks. ⊥) goes f may most arrays tasks limit outcome living → HasRun f may most arrays tasks limit outcome living
+never_stopped goes f may most arrays tasks limit outcome living h = by h.stopped
   where
     by : (h.taken ≡ limit) ⊎ ⊥ → HasRun f may most arrays tasks limit outcome living
     by (inl e) = subst (λ (n : ℕ). HasRun f may most arrays tasks n outcome living) e h.run

@@ -73,9 +73,14 @@ module _ {T : Type 0} where
     pub report : report_of (says_by f most history) arrays tasks limit ≡ Some outcome
     pub at_end : living_after outcome.status (so_far (says_by f most history) arrays tasks limit (length history)).live ≡ living
 
-  -- The run was taken to this limit, or was stopped before, by who may stop it: then it is the run to that earlier limit.
-  pub record HasRunTo (stops : Type 0) (f : Frame T) (may : T → List (List ℕ × List ℤ) → ℕ → Segment T → Type 0) (most : ℕ) (arrays : List (List ℕ × List ℤ)) (tasks : List T) (limit : ℕ) (outcome : ReportValue) (living : List T) : Type 0 where
+  -- who looks on saw this state as this says
+  abbrev pub OfState : (ℕ → List (List ℕ × List ℤ) → ℕ → Type 0) → State T → Type 0
+  OfState seen st = seen st.step st.arrays (length st.live)
+
+  -- Who looks on let each superstep of a run begin. The run was taken to this limit, or who looks on stopped it before. Then it is the run to that earlier limit.
+  pub record HasRunTo (stops goes : ℕ → List (List ℕ × List ℤ) → ℕ → Type 0) (f : Frame T) (may : T → List (List ℕ × List ℤ) → ℕ → Segment T → Type 0) (most : ℕ) (arrays : List (List ℕ × List ℤ)) (tasks : List T) (limit : ℕ) (outcome : ReportValue) (living : List T) : Type 0 where
     pub taken : ℕ
     pub within : taken ≤ limit
-    pub stopped : (taken ≡ limit) ⊎ stops
     pub run : HasRun f may most arrays tasks taken outcome living
+    pub went : (n : ℕ) → n < length run.history → OfState goes (so_far (says_by f most run.history) arrays tasks taken n)
+    pub stopped : (taken ≡ limit) ⊎ stops taken outcome.arrays (length living)

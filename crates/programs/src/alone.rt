@@ -182,7 +182,7 @@ fn run_within<P: Program, W: Watch>(
     requires paths { map P.Task.path_of course.old.tasks.items ≡ children [] 0 (length course.old.tasks.items) }
     requires few { length course.old.tasks.items ≤ most }
     ensures report { IfOk result (λ s. let p = program.now in
-        HasRunTo W.MayStop (P.frame p) (P.may p) most course.old.arrays (map (P.meant p) course.old.tasks.items) limit (left_by course.new (status_seen s)) (map (P.meant p) course.new.tasks.items)) }
+        HasRunTo W.stops W.goes (P.frame p) (P.may p) most course.old.arrays (map (P.meant p) course.old.tasks.items) limit (left_by course.new (status_seen s)) (map (P.meant p) course.new.tasks.items)) }
     ensures short { IfOk result (λ s. IsShort (status_seen s)) }
 {
     while course.step < limit {
@@ -224,7 +224,7 @@ fn run_on<P: Program, W: Watch>(
     requires paths { map P.Task.path_of course.old.tasks.items ≡ children [] 0 (length course.old.tasks.items) }
     requires few { length course.old.tasks.items ≤ most }
     ensures report { IfOk result (λ s. let p = program.now in
-        HasRunTo W.MayStop (P.frame p) (P.may p) most course.old.arrays (map (P.meant p) course.old.tasks.items) limit (left_by course.new (status_seen s)) (map (P.meant p) course.new.tasks.items)) }
+        HasRunTo W.stops W.goes (P.frame p) (P.may p) most course.old.arrays (map (P.meant p) course.old.tasks.items) limit (left_by course.new (status_seen s)) (map (P.meant p) course.new.tasks.items)) }
     ensures short { IfOk result (λ s. IsShort (status_seen s)) }
 {
     let mut room = no_room(alloc);
@@ -298,7 +298,7 @@ pub fn run_watched<P: Program, W: Watch>(
     requires few { length tasks.items ≤ most }
     requires paths { map P.Task.path_of tasks.items ≡ children [] 0 (length tasks.items) }
     ensures { IfOk result (λ ran. let p = program.now in
-        HasRunTo W.MayStop (P.frame p) (P.may p) most arrays (map (P.meant p) tasks.items) limit ran.report (map (P.meant p) ran.tasks.items)) }
+        HasRunTo W.stops W.goes (P.frame p) (P.may p) most arrays (map (P.meant p) tasks.items) limit ran.report (map (P.meant p) ran.tasks.items)) }
 {
     let mut course = Course {
         step: 0,

@@ -59,7 +59,7 @@ pub fn run_bodies_watched<B: TaskBody, W: Watch>(
 ) -> Result<Ran<Member<B::Kept>>, RunFault>
     requires ready { B.ready body.now }
     requires most { most < 2147483648 }
-    ensures ran { IfOk result (λ ran. HasRunTo W.MayStop member_frame (BodyMay (B.may body.now)) most arrays (numbered [] 0 tasks.items) limit ran.report ran.tasks.items) }
+    ensures ran { IfOk result (λ ran. HasRunTo W.stops W.goes member_frame (BodyMay (B.may body.now)) most arrays (numbered [] 0 tasks.items) limit ran.report ran.tasks.items) }
 {
     if tasks.len() > 65535 || tasks.len() > most as usize {
         return Err(RunFault::TooMany);

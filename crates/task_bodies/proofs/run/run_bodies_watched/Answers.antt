@@ -20,8 +20,8 @@ run_watched-requires-clause-paths g c =
 pub returns : goal.returns
 returns g c = record {
   ran =
-      subst (λ (ts : List (MemberValue g.row.B-Kept.Denot)). HasRunTo g.W.Watch.MayStop member_frame (BodyMay (g.B.TaskBody.may c.args.body.now)) c.args.most c.args.arrays ts c.args.limit c.in_ok-ran.ran.report c.in_ok-ran.ran.tasks.items)
+      subst (λ (ts : List (MemberValue g.row.B-Kept.Denot)). HasRunTo g.W.Watch.stops g.W.Watch.goes member_frame (BodyMay (g.B.TaskBody.may c.args.body.now)) c.args.most c.args.arrays ts c.args.limit c.in_ok-ran.ran.report c.in_ok-ran.ran.tasks.items)
       (same_of c.in_ok-members.members.items ∙ c.in_ok-members.ensures.tasks)
-      (subst (λ (us : List (MemberValue g.row.B-Kept.Denot)). HasRunTo g.W.Watch.MayStop member_frame (BodyMay (g.B.TaskBody.may c.args.body.now)) c.args.most c.args.arrays (map (λ t. t) c.in_ok-members.members.items) c.args.limit c.in_ok-ran.ran.report us)
+      (subst (λ (us : List (MemberValue g.row.B-Kept.Denot)). HasRunTo g.W.Watch.stops g.W.Watch.goes member_frame (BodyMay (g.B.TaskBody.may c.args.body.now)) c.args.most c.args.arrays (map (λ t. t) c.in_ok-members.members.items) c.args.limit c.in_ok-ran.ran.report us)
       (same_of c.in_ok-ran.ran.tasks.items) c.in_ok-ran.ensures);
 }
