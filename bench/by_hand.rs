@@ -3,6 +3,7 @@
 //! nanoseconds that took.
 use std::fmt::Write;
 use std::hint::black_box;
+use std::sync::atomic::{AtomicI64, Ordering::Relaxed};
 use std::sync::Barrier;
 use std::time::Instant;
 
@@ -170,7 +171,69 @@ fn rod(supersteps: usize, logged: bool) -> String {
             std::mem::swap(&mut cells, &mut next);
         }
     }
-    format!("{} {}\n", cells[10], cells[70])
+    three_numbers(&cells)
+}
+
+/// The same rod in two buffers, in equal parts on threads that meet at a barrier after each superstep.
+fn rod_on_threads(supersteps: usize, threads: usize) -> String {
+    let buffer = || (0..4096).map(|i| AtomicI64::new(if i == 0 { 1_000_000_000_000 } else { 0 })).collect::<Vec<_>>();
+    let (even, odd) = (buffer(), buffer());
+    let barrier = Barrier::new(threads);
+    std::thread::scope(|scope| {
+        for thread in 0..threads {
+            let (even, odd, barrier) = (&even, &odd, &barrier);
+            scope.spawn(move || {
+                let cells = 1 + 4094 * thread / threads..1 + 4094 * (thread + 1) / threads;
+                for step in 0..supersteps {
+                    let (from, to) = if step % 2 == 0 { (even, odd) } else { (odd, even) };
+                    for i in cells.clone() {
+                        let (left, own, right) = (from[i - 1].load(Relaxed), from[i].load(Relaxed), from[i + 1].load(Relaxed));
+                        to[i].store(left.wrapping_add(right).wrapping_add(own).wrapping_add(own) / 4, Relaxed);
+                    }
+                    barrier.wait();
+                }
+            });
+        }
+    });
+    let cells: Vec<i64> = (if supersteps % 2 == 0 { even } else { odd }).iter().map(|cell| cell.load(Relaxed)).collect();
+    three_numbers(&cells)
+}
+
+/// Two cells, and how many hold something.
+fn three_numbers(cells: &[i64]) -> String {
+    format!("{} {} {}\n", cells[10], cells[70], cells.iter().filter(|cell| **cell != 0).count())
+}
+
+/// The game of life on 512 rows of 512 cells, in two buffers, in equal parts on threads that meet at a barrier after each superstep.
+fn life(supersteps: usize, threads: usize) -> String {
+    const WIDTH: usize = 512;
+    let lives = |place: usize| [130_817, 130_818, 131_328, 131_329, 131_841].contains(&place);
+    let buffer = || (0..WIDTH * WIDTH).map(|place| AtomicI64::new(i64::from(lives(place)))).collect::<Vec<_>>();
+    let (even, odd) = (buffer(), buffer());
+    let barrier = Barrier::new(threads);
+    std::thread::scope(|scope| {
+        for thread in 0..threads {
+            let (even, odd, barrier) = (&even, &odd, &barrier);
+            scope.spawn(move || {
+                let rows = WIDTH * thread / threads..WIDTH * (thread + 1) / threads;
+                for step in 0..supersteps {
+                    let (from, to) = if step % 2 == 0 { (even, odd) } else { (odd, even) };
+                    let at = |row: usize, column: usize| if row < WIDTH && column < WIDTH { from[row * WIDTH + column].load(Relaxed) } else { 0 };
+                    for row in rows.clone() {
+                        for column in 0..WIDTH {
+                            let three = |row| at(row, column.wrapping_sub(1)) + at(row, column) + at(row, column + 1);
+                            let around = three(row.wrapping_sub(1)) + three(row) + three(row + 1);
+                            let next = around == 3 || around == 4 && at(row, column) == 1;
+                            to[row * WIDTH + column].store(i64::from(next), Relaxed);
+                        }
+                    }
+                    barrier.wait();
+                }
+            });
+        }
+    });
+    let cells: Vec<i64> = (if supersteps % 2 == 0 { even } else { odd }).iter().map(|cell| cell.load(Relaxed)).collect();
+    three_numbers(&cells)
 }
 
 /// Threads that meet at a barrier so many times.
@@ -201,6 +264,8 @@ fn main() {
         "turns" => turns(steps, number(3) as i64, number(4)),
         "rod" => rod(steps, false),
         "rows" => rod(steps, true),
+        "life" => life(steps, number(3)),
+        "rod_on_threads" => rod_on_threads(steps, number(3)),
         "meet" => meet(number(2), number(3)),
         other => panic!("no such job: {other}"),
     };

@@ -1,8 +1,7 @@
 /* bsp_job.h: jobs of the task language as texts (docs/LANGUAGE.md, docs/FORMATS.md).
  *
- * Proved: the three calls, which the static library libbsp_job.a has; nothing is inline here. They take memory from the
- * program's malloc, realloc and free, and give all of it back. Link liblibc_c.a of the toolchain too, which has the
- * three calls between (docs/EMBEDDING.md).
+ * Proved: the three calls, which the libraries libbsp_job.a and libbsp.so have; nothing is inline here. They take memory
+ * from the program's malloc, realloc and free, and give all of it back. docs/EMBEDDING.md says how to link.
  *
  * What is promised, for any bytes of any length:
  *   a text is one job or is refused at its first fault, which is told by line and code (status 4);
@@ -15,7 +14,7 @@
  *   what of `told` a status doesn't speak of is 0: `line` and `code` but at 4, `bytes` at 4, 5 and 6. Nothing halts;
  *   every call returns.
  *
- * What the caller owes: `text` points to `text_len` bytes, `out` to `out_len` bytes (any pointer but null where the
+ * What the caller owes: `text` points to `text_len` bytes, `out` to `out_len` bytes (any pointer, also NULL, where the
  * number is 0) and `told` to one object, none of which overlap or are touched by others during the call; malloc,
  * realloc and free are those of one allocator; no call from a signal's handler, nor in the child of a process with
  * threads. Calls may run on any threads at once. */

@@ -81,6 +81,11 @@ int main(int argc, char **argv) {
         text[5] = (uint8_t)byte;
         want(bsp_run(text, 6, 1, out, sizeof out, &told) == (byte == 10 || byte == 32 ? 0 : 4));
     }
+    /* a length of 0 with no pointer */
+    want(bsp_check(0, 0, 0, 0, &told) == BSP_JOB_REFUSED && told.line == 1 && told.code == 3);
+    want(bsp_upgrade(0, 0, out, sizeof out, &told) == BSP_JOB_REFUSED && told.line == 1 && told.code == 3);
+    memcpy(text, "bsp 1", 5);
+    want(bsp_run(text, 5, 1, 0, 0, &told) == BSP_JOB_SHORT && told.bytes == 8);
     printf("%ld calls, %ld wrong\n", tried, wrong);
     return wrong != 0;
 }

@@ -40,4 +40,5 @@ def main(program, rows):
     return wrong != 0
 
 
-sys.exit(main(*sys.argv[1:]))
+if __name__ == "__main__":
+    sys.exit(main(*sys.argv[1:]))

@@ -14,10 +14,11 @@ _bsp() {
         return
     fi
     case ${COMP_WORDS[1]} in
-        run) COMPREPLY=($(compgen -W "--file --workers --tree --limit --progress --help" -- "$word")) ;;
+        run) COMPREPLY=($(compgen -W "--file --workers --tree --limit --progress --json --help" -- "$word")) ;;
         draw) COMPREPLY=($(compgen -W "--file --workers --tree --limit --help" -- "$word")) ;;
         explain) COMPREPLY=($(compgen -W "1 2 3 4 5 6 7 8 9 10 11 12 13 14 --fault --help" -- "$word")) ;;
-        trace | check | upgrade) COMPREPLY=($(compgen -W "--file --help" -- "$word")) ;;
+        check) COMPREPLY=($(compgen -W "--file --all --help" -- "$word")) ;;
+        trace | upgrade) COMPREPLY=($(compgen -W "--file --help" -- "$word")) ;;
         help) COMPREPLY=($(compgen -W "$commands" -- "$word")) ;;
     esac
 }

@@ -16,5 +16,7 @@ complete -c bsp -n "__fish_seen_subcommand_from $jobs" -l workers -x -a '1 2 4 8
 complete -c bsp -n "__fish_seen_subcommand_from $jobs" -l tree -x -a 'flat 2x2 2x3 4x4' -d 'the tree'
 complete -c bsp -n "__fish_seen_subcommand_from $jobs" -l limit -x -a '1000 1000000' -d 'the most supersteps'
 complete -c bsp -n '__fish_seen_subcommand_from run' -l progress -d 'tells how far the job has come'
+complete -c bsp -n '__fish_seen_subcommand_from run' -l json -d 'prints the report as JSON'
+complete -c bsp -n '__fish_seen_subcommand_from check' -l all -d 'lists all faulty lines'
 complete -c bsp -n '__fish_seen_subcommand_from explain' -l fault -x -a '1 2 3 4 5 6 7 8' -d 'the number of a fault'
 complete -c bsp -n '__fish_seen_subcommand_from explain' -a '1 2 3 4 5 6 7 8 9 10 11 12 13 14' -d 'the code of a refusal'

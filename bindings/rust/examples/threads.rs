@@ -1,5 +1,5 @@
 //! Threads that meet at one word, and times beside `std::sync::Barrier`.
-use bsp_phaser::{Phaser, Refused};
+use bsp::{Phaser, Refused};
 use std::sync::Barrier;
 use std::sync::atomic::{AtomicU32, Ordering::SeqCst};
 use std::time::{Duration, Instant};
@@ -38,7 +38,7 @@ fn main() -> Result<(), Refused> {
         let phaser = Phaser::new(threads as i64)?;
         let ours = best(&|| (0..rounds).for_each(|_| assert!(phaser.arrive_and_wait().is_ok())));
         let barrier = Barrier::new(threads);
-        let theirs = best(&|| (0..rounds).for_each(|_| drop(barrier.wait())));
+        let theirs = best(&|| (0..rounds).for_each(|_| { barrier.wait(); }));
         print!(" {threads} threads {:.2}", ours.as_secs_f64() / theirs.as_secs_f64());
     }
     println!();

@@ -10,5 +10,6 @@ fn main(rt: HostRuntime) -> ExitCode {
     let mut output = Writer::new(rt.stdout());
     let mut errors = Writer::new(rt.stderr());
     let terminal = rt.stdin().is_terminal();
-    ExitCode::from(run_program(&rt, terminal, &mut output, &mut errors))
+    let reasons = rt.stderr().is_terminal();
+    ExitCode::from(run_program(&rt, terminal, reasons, &mut output, &mut errors))
 }

@@ -1,5 +1,6 @@
 mod Faulted
 mod Limits
+mod Listings
 mod Numbers
 mod Parsed
 mod Refusals

@@ -1,17 +1,22 @@
 -- What `run` makes of a number behind an option, whatever the number is.
-use Rattle.std.proofs.Common.{◌≡◌, ℕ, ◌<◌, ◌≤◌, ◌^◌, Bool, true, false, true≢false, List, [], ◌∷◌, ◌==◌, ◌&&◌, codes, cond, decimal, drop, length, nat_lt, nat_le, refl, sym, ap, ◌∙◌, subst, arith, Some}
+use Rattle.std.proofs.Common.{◌≡◌, ℕ, ◌<◌, ◌≤◌, ◌^◌, Bool, true, false, true≢false, List, [], ◌∷◌, ◌==◌, ◌&&◌, codes, cond, decimal, drop, length, nat_lt, nat_le, refl, sym, ap, ◌∙◌, subst, arith, Some, ap₂, find}
 use Rattle.std.specs.Prelude.{if◌then◌else◌}
 use Rattle.std.specs.Char.{digit_value}
 use Rattle.std.specs.Str.Parse.{AllDigits, IsNumeral, digits_value, without_leading_plus}
 use Rattle.std.proofs.lemmas.Bool.{eqb-true, leb-true, lt-ltb}
 use Rattle.std.proofs.lemmas.Fmt.{decimal_is_IsNumeral}
+use Rattle.std.specs.Option.{unwrap_or}
+use Rattle.clap.specs.Faults.{check_fault, defaults_fault, settle_fault, walk_fault}
+use Rattle.clap.specs.Kinds.{Kinds, or_else}
+use Rattle.clap.specs.Simple.{Shape, built, label_of, new_shape, subcommand_of}
 use Rattle.clap.specs.ValueTests.{is_numeral, is_unsigned_in}
+use Rattle.clap.specs.Walk.{Held, answers_to, finished, nothing_held, settled, walk, walk_from}
 use Rattle.clap.specs.declared.builder.value_parser.ValueParser.TheVariants as vp
 use Rattle.clap.specs.declared.error.kind.ErrorKind.TheVariants.{ValueValidation}
 use Rattle.clap.proofs.OnLiterals.{clap_on_literals}
 use Rattle.clap.proofs.ValueTestLemmas.{Accepts-accepts}
 use Rattle.clap.proofs.WalkLemmas.{both}
-use Rattle.bsp_cli.specs.CommandLine.{asked_in, number_from, refused_by}
+use Rattle.bsp_cli.specs.CommandLine.{asked_by, asked_in, number_from, program, refused_by}
 use Rattle.bsp_cli.specs.Did.{are_refused}
 use Rattle.bsp_cli.specs.Laws.{Asks, EachLimitAsks, EachNumberAsks, EachNumberOfWorkersAsks, EachOtherNumberIsRefused}
 use Rattle.bsp_cli.specs.declared.asked.Asked.TheVariants.{Run}
@@ -61,22 +66,72 @@ no-hyphen most d ds e = go (d == 45) refl
         sym (numeral most (45 ∷ ds) here) ∙ hyphened ds
     go false h = refl
 
+-- ---- the words after `run`
+
+-- `run` as the parser builds it
+abbrev run : Shape
+run = unwrap_or (find (λ s. answers_to (codes "run") (label_of s)) (built program).subs) (new_shape [])
+
+-- an option and its value are held
+abbrev one_held : List ℕ → List ℕ → Held
+one_held name text = record {
+  rows = [];
+  pending = Some (name, text ∷ []);
+  skip = 0;
+}
+
+-- what refuses the words: a fault met on the way, or one of what is held at their end
+abbrev ends_by : Kinds → Held → Kinds
+ends_by met h =
+    or_else met
+    (or_else []
+    (or_else (settle_fault run.rules run.args_override_self h)
+    (or_else (defaults_fault (settled run.rules h).rows run.rules) (check_fault run (finished run.rules h) false))))
+
 -- ---- `--limit`
+
+limit-walked : (d : ℕ) (ds : List ℕ) → (d == 45) ≡ false
+    → (walk run.rules [] nothing_held (codes "--limit" ∷ (d ∷ ds) ∷ [])).held ≡ one_held (codes "limit") (d ∷ ds)
+unfolding clap_on_literals
+limit-walked d ds e = rw (e, e) refl
+
+limit-met : (d : ℕ) (ds : List ℕ) → (d == 45) ≡ false
+    → walk_fault run [] (walk_from nothing_held) (codes "--limit" ∷ (d ∷ ds) ∷ []) ≡ []
+unfolding clap_on_literals
+limit-met d ds e = rw (e, e) refl
+
+limit-entered : (name : List ℕ) (d : ℕ) (ds : List ℕ)
+    → subcommand_of program (name ∷ codes "run" ∷ codes "--limit" ∷ (d ∷ ds) ∷ [])
+    ≡ Some (codes "run", finished run.rules (walk run.rules [] nothing_held (codes "--limit" ∷ (d ∷ ds) ∷ [])).held)
+unfolding clap_on_literals
+limit-entered name d ds = refl
+
+limit-said : (d : ℕ) (ds : List ℕ) → (d == 45) ≡ false
+    → asked_by (Some (codes "run", finished run.rules (one_held (codes "limit") (d ∷ ds)))) ≡ Run 1 (number_from 1000000 1000000 (Some (d ∷ ds)))
+unfolding clap_on_literals
+limit-said d ds e = rw e refl
 
 limit-asked : (name : List ℕ) (d : ℕ) (ds : List ℕ) → (d == 45) ≡ false
     → asked_in (name ∷ codes "run" ∷ codes "--limit" ∷ (d ∷ ds) ∷ []) ≡ Run 1 (number_from 1000000 1000000 (Some (d ∷ ds)))
+limit-asked name d ds e =
+    ap asked_by (limit-entered name d ds)
+    ∙ ap (λ (h : Held). asked_by (Some (codes "run", finished run.rules h))) (limit-walked d ds e)
+    ∙ limit-said d ds e
+
+limit-fault : (name : List ℕ) (d : ℕ) (ds : List ℕ) → (d == 45) ≡ false
+    → refused_by (name ∷ codes "run" ∷ codes "--limit" ∷ (d ∷ ds) ∷ []) ≡ or_else (ends_by [] (one_held (codes "limit") (d ∷ ds))) []
 unfolding clap_on_literals
-limit-asked name d ds e = rw (e, e, e) refl
+limit-fault name d ds e = ap₂ (λ (met : Kinds) (h : Held). or_else (ends_by met h) []) (limit-met d ds e) (limit-walked d ds e)
 
 limit-taken : (name : List ℕ) (d : ℕ) (ds : List ℕ) → (d == 45) ≡ false → is_taken 1000000 (d ∷ ds) ≡ true
     → refused_by (name ∷ codes "run" ∷ codes "--limit" ∷ (d ∷ ds) ∷ []) ≡ []
 unfolding clap_on_literals
-limit-taken name d ds e a = rw e (rw e (rw e (rw a refl)))
+limit-taken name d ds e a = limit-fault name d ds e ∙ rw e (rw a refl)
 
 limit-refused : (name : List ℕ) (d : ℕ) (ds : List ℕ) → (d == 45) ≡ false → is_taken 1000000 (d ∷ ds) ≡ false
     → refused_by (name ∷ codes "run" ∷ codes "--limit" ∷ (d ∷ ds) ∷ []) ≡ ValueValidation ∷ []
 unfolding clap_on_literals
-limit-refused name d ds e a = rw e (rw e (rw e (rw a refl)))
+limit-refused name d ds e a = limit-fault name d ds e ∙ rw e (rw a refl)
 
 no-limit : (name : List ℕ) → refused_by (name ∷ codes "run" ∷ codes "--limit" ∷ [] ∷ []) ≡ ValueValidation ∷ []
 unfolding clap_on_literals
@@ -92,20 +147,48 @@ limits-ask name (d ∷ ds) e =
 
 -- ---- `--workers`
 
+workers-walked : (d : ℕ) (ds : List ℕ) → (d == 45) ≡ false
+    → (walk run.rules [] nothing_held (codes "--workers" ∷ (d ∷ ds) ∷ [])).held ≡ one_held (codes "workers") (d ∷ ds)
+unfolding clap_on_literals
+workers-walked d ds e = rw (e, e) refl
+
+workers-met : (d : ℕ) (ds : List ℕ) → (d == 45) ≡ false
+    → walk_fault run [] (walk_from nothing_held) (codes "--workers" ∷ (d ∷ ds) ∷ []) ≡ []
+unfolding clap_on_literals
+workers-met d ds e = rw (e, e) refl
+
+workers-entered : (name : List ℕ) (d : ℕ) (ds : List ℕ)
+    → subcommand_of program (name ∷ codes "run" ∷ codes "--workers" ∷ (d ∷ ds) ∷ [])
+    ≡ Some (codes "run", finished run.rules (walk run.rules [] nothing_held (codes "--workers" ∷ (d ∷ ds) ∷ [])).held)
+unfolding clap_on_literals
+workers-entered name d ds = refl
+
+workers-said : (d : ℕ) (ds : List ℕ) → (d == 45) ≡ false
+    → asked_by (Some (codes "run", finished run.rules (one_held (codes "workers") (d ∷ ds)))) ≡ Run (number_from 64 1 (Some (d ∷ ds))) 1000000
+unfolding clap_on_literals
+workers-said d ds e = rw e refl
+
 workers-asked : (name : List ℕ) (d : ℕ) (ds : List ℕ) → (d == 45) ≡ false
     → asked_in (name ∷ codes "run" ∷ codes "--workers" ∷ (d ∷ ds) ∷ []) ≡ Run (number_from 64 1 (Some (d ∷ ds))) 1000000
+workers-asked name d ds e =
+    ap asked_by (workers-entered name d ds)
+    ∙ ap (λ (h : Held). asked_by (Some (codes "run", finished run.rules h))) (workers-walked d ds e)
+    ∙ workers-said d ds e
+
+workers-fault : (name : List ℕ) (d : ℕ) (ds : List ℕ) → (d == 45) ≡ false
+    → refused_by (name ∷ codes "run" ∷ codes "--workers" ∷ (d ∷ ds) ∷ []) ≡ or_else (ends_by [] (one_held (codes "workers") (d ∷ ds))) []
 unfolding clap_on_literals
-workers-asked name d ds e = rw (e, e, e) refl
+workers-fault name d ds e = ap₂ (λ (met : Kinds) (h : Held). or_else (ends_by met h) []) (workers-met d ds e) (workers-walked d ds e)
 
 workers-taken : (name : List ℕ) (d : ℕ) (ds : List ℕ) → (d == 45) ≡ false → is_taken 64 (d ∷ ds) ≡ true
     → refused_by (name ∷ codes "run" ∷ codes "--workers" ∷ (d ∷ ds) ∷ []) ≡ []
 unfolding clap_on_literals
-workers-taken name d ds e a = rw e (rw e (rw e (rw a refl)))
+workers-taken name d ds e a = workers-fault name d ds e ∙ rw e (rw a refl)
 
 workers-refused : (name : List ℕ) (d : ℕ) (ds : List ℕ) → (d == 45) ≡ false → is_taken 64 (d ∷ ds) ≡ false
     → refused_by (name ∷ codes "run" ∷ codes "--workers" ∷ (d ∷ ds) ∷ []) ≡ ValueValidation ∷ []
 unfolding clap_on_literals
-workers-refused name d ds e a = rw e (rw e (rw e (rw a refl)))
+workers-refused name d ds e a = workers-fault name d ds e ∙ rw e (rw a refl)
 
 no-workers : (name : List ℕ) → refused_by (name ∷ codes "run" ∷ codes "--workers" ∷ [] ∷ []) ≡ ValueValidation ∷ []
 unfolding clap_on_literals

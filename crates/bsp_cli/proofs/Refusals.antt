@@ -8,7 +8,7 @@ use Rattle.clap.specs.declared.error.kind.ErrorKind.{ErrorKind}
 use Rattle.clap.specs.declared.error.kind.ErrorKind.TheVariants as kinds
 use Rattle.bsp_cli.specs.Did.{Did, RunsOut, is_refusal, are_refused}
 use Rattle.bsp_cli.specs.declared.asked.Asked.{Asked}
-use Rattle.bsp_cli.specs.declared.asked.Asked.TheVariants.{Trace, Check, Upgrade, Run, Draw, Explain}
+use Rattle.bsp_cli.specs.declared.asked.Asked.TheVariants.{Trace, Check, CheckAll, Upgrade, Run, RunJson, Draw, Explain}
 
 keeps : (old : Option (List ℕ)) → Keeps old old
 keeps None = tt
@@ -17,8 +17,10 @@ keeps (Some xs) = refl
 out : (a : Asked) (input old : Option (List ℕ)) → RunsOut a input old old
 out Trace input old = inl (keeps old)
 out Check input old = keeps old
+out CheckAll input old = keeps old
 out Upgrade input old = keeps old
 out (Run workers limit) input old = keeps old
+out (RunJson workers limit) input old = keeps old
 out (Explain topic) input old = keeps old
 out (Draw workers limit) input old = keeps old
 

@@ -4,6 +4,7 @@ use Rattle.std.specs.Prelude.{IfSome}
 use Rattle.phase_records.specs.ReportValue.{ReportValue}
 use Rattle.phase_records.specs.ReportText.{report_text}
 use Rattle.job_picture.specs.Picture.{picture}
+use Rattle.report_json.specs.ReportJson.{json_text}
 use Rattle.phase_records.specs.Status.{Status, Ended, Fault, Limit}
 use Rattle.phase_records.specs.StatusSeen.{status_seen}
 use Rattle.phase_records.specs.declared.record.JobStatus.{JobStatus}
@@ -18,7 +19,7 @@ use Rattle.step_core.specs.JobMeaning.{report_of}
 use Rattle.bsp_cli.specs.Jobs.{plan_of, program_of_tree, status_number}
 use Rattle.std.specs.Io.KnownBytes.{Keeps}
 use Rattle.bsp_cli.specs.Ends.{IsOfPool, ReadCause, WriteCause, Reports, Runs, Does, end_result}
-use Rattle.bsp_cli.specs.declared.asked.Asked.TheVariants.{Run, Draw}
+use Rattle.bsp_cli.specs.declared.asked.Asked.TheVariants.{Run, RunJson, Draw}
 use Rattle.bsp_cli.specs.declared.fault.RunFault.{RunFault}
 use Rattle.bsp_cli.specs.declared.fault.RunFault.TheVariants.{Text, Read, Write, Memory, NotStarted, Internal}
 
@@ -66,6 +67,18 @@ does workers limit input old new (Err Write) h = h
 does workers limit input old new (Err Memory) h = h
 does workers limit input old new (Err (NotStarted k)) h = h
 does workers limit input old new (Err Internal) h = h
+
+-- and written as JSON
+pub does_json : (workers limit : ℕ) (input old new : Option (List ℕ)) (r : Result JobStatus RunFault) → Runs json_text workers limit input old new r
+    → Does (RunJson workers limit) input old new (end_result r)
+does_json workers limit input old new (Ok status) h =
+    (small (status_seen status), if-some input (λ bytes w. (w.0, w.1, w.2, ap status_number w.3)) h)
+does_json workers limit input old new (Err (Text x)) h = h
+does_json workers limit input old new (Err Read) h = h
+does_json workers limit input old new (Err Write) h = h
+does_json workers limit input old new (Err Memory) h = h
+does_json workers limit input old new (Err (NotStarted k)) h = h
+does_json workers limit input old new (Err Internal) h = h
 
 -- and drawn
 pub draws : (workers limit : ℕ) (input old new : Option (List ℕ)) (r : Result JobStatus RunFault) → Runs picture workers limit input old new r

@@ -1,5 +1,5 @@
 -- The command line (own): the program's name, a subcommand, and its options.
-use Rattle.std.specs.Prelude.{ℕ, ◌&&◌, true, pos, nat_le, if◌then◌else◌, List, codes, Option, Some, None}
+use Rattle.std.specs.Prelude.{ℕ, ◌&&◌, Bool, true, false, pos, nat_le, if◌then◌else◌, List, codes, Option, Some, None}
 use Rattle.std.specs.Str.{bytes_eq}
 use Rattle.std.specs.Str.Parse.{digits_value, without_leading_plus}
 use Rattle.std.specs.Option.{unwrap_or}
@@ -11,7 +11,7 @@ use Rattle.clap.specs.declared.builder.value_parser.ValueParser.TheVariants as p
 use Rattle.bsp_cli.specs.Topics.{topic_by}
 use Rattle.bsp_cli.specs.declared.asked.Topic.{Topic}
 use Rattle.bsp_cli.specs.declared.asked.Asked.{Asked}
-use Rattle.bsp_cli.specs.declared.asked.Asked.TheVariants.{Trace, Check, Upgrade, Run, Draw, Explain}
+use Rattle.bsp_cli.specs.declared.asked.Asked.TheVariants.{Trace, Check, CheckAll, Upgrade, Run, RunJson, Draw, Explain}
 
 -- an argument that is one of these numbers
 abbrev pub numbers_rule : List ℕ → ValueParser → Rule
@@ -46,6 +46,16 @@ file_rule = record (new_rule (codes "file")) {
 abbrev pub text_app : List ℕ → App
 text_app name = with_rule (new_app name) file_rule
 
+-- `--all`
+abbrev pub all_rule : Rule
+all_rule = record (new_rule (codes "all")) {
+  long = Some (codes "all");
+  action = Some SetTrue;
+}
+
+abbrev pub check_app : App
+check_app = with_rule (text_app (codes "check")) all_rule
+
 -- a subcommand that runs a job, with the options of both
 abbrev pub job_app : List ℕ → App
 job_app name =
@@ -58,8 +68,15 @@ progress_rule = record (new_rule (codes "progress")) {
   action = Some SetTrue;
 }
 
+-- `--json`
+abbrev pub json_rule : Rule
+json_rule = record (new_rule (codes "json")) {
+  long = Some (codes "json");
+  action = Some SetTrue;
+}
+
 abbrev pub run_app : App
-run_app = with_rule (job_app (codes "run")) progress_rule
+run_app = with_rule (with_rule (job_app (codes "run")) progress_rule) json_rule
 
 -- the number of a code, a word without a dash
 abbrev pub code_rule : Rule
@@ -80,7 +97,7 @@ program =
     (with_subcommand
     (with_subcommand
     (with_subcommand (record bare { top = record bare.top { subcommand_required = true; has_version = true } }) (text_app (codes "trace")).top)
-    (text_app (codes "check")).top)
+    check_app.top)
     (text_app (codes "upgrade")).top)
     run_app.top)
     (job_app (codes "draw")).top)
@@ -103,6 +120,14 @@ limit_in rows = number_from 1000000 1000000 (one_of (codes "limit") rows)
 abbrev pub topic_in : List Row → Topic
 topic_in rows = topic_by (number_from 14 0 (one_of (codes "code") rows)) (number_from 8 0 (one_of (codes "fault") rows))
 
+-- whether a flag is given, by the text that says so
+abbrev pub is_set : Option (List ℕ) → Bool
+is_set None = false
+is_set (Some text) = bytes_eq text (codes "true")
+
+abbrev pub flag_in : List ℕ → List Row → Bool
+flag_in name rows = is_set (first_of name rows)
+
 -- a tree that isn't given is the root alone
 abbrev pub tree_in : List Row → List ℕ
 tree_in rows = unwrap_or (first_of (codes "tree") rows) (codes "flat")
@@ -120,14 +145,22 @@ abbrev pub chosen : ℕ → ℕ → Option ℕ → ℕ
 chosen most usual None = usual
 chosen most usual (Some n) = if nat_le 1 n && nat_le n most then n else usual
 
+-- what `check` asks for: the job alone, or also its faulty lines
+abbrev pub check_by : Bool → Asked
+check_by all = if all then CheckAll else Check
+
+-- what `run` asks for: its report as a text, or as JSON
+abbrev pub run_by : Bool → ℕ → ℕ → Asked
+run_by json workers limit = if json then RunJson workers limit else Run workers limit
+
 -- what a subcommand asks for, by its name and its options
 abbrev pub asked_by : Option (List ℕ × List Row) → Asked
 asked_by None = Trace
 asked_by (Some p) =
-    if bytes_eq p.0 (codes "check") then Check
+    if bytes_eq p.0 (codes "check") then check_by (flag_in (codes "all") p.1)
     else if bytes_eq p.0 (codes "upgrade") then Upgrade
     else if bytes_eq p.0 (codes "explain") then Explain (topic_in p.1)
-    else if bytes_eq p.0 (codes "run") then Run (workers_in p.1) (limit_in p.1)
+    else if bytes_eq p.0 (codes "run") then run_by (flag_in (codes "json") p.1) (workers_in p.1) (limit_in p.1)
     else if bytes_eq p.0 (codes "draw") then Draw (workers_in p.1) (limit_in p.1) else Trace
 
 -- the text of the tree at which workers meet; traces, and texts that are checked or upgraded, have none

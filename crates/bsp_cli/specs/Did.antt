@@ -1,28 +1,32 @@
 -- What the program did, by its status.
 use Rattle.std.specs.Prelude.{◌≡◌, ◌≤◌, ◌<◌, ◌⊎◌, ℕ, Bool, true, false, List, [], ◌∷◌, Option, IfSome, Err}
 use Rattle.std.specs.List.{list_all}
-use Rattle.std.specs.Io.KnownBytes.{Keeps}
+use Rattle.std.specs.Io.KnownBytes.{Appends, Keeps}
 use Rattle.text_lines.specs.declared.refusal.Refusal.{Refusal}
 use Rattle.phase_records.specs.ReportText.{report_text}
 use Rattle.job_picture.specs.Picture.{picture}
+use Rattle.report_json.specs.ReportJson.{json_text}
 use Rattle.trace_text.specs.Trace.{asked_of}
 use Rattle.trace_text.specs.Outcome.{WritesAnswers, WritesBeginning}
 use Rattle.job_reader.specs.Reading.{job_in}
+use Rattle.job_faults.specs.Listing.{listing}
 use Rattle.clap.specs.declared.error.kind.ErrorKind.{ErrorKind}
 use Rattle.clap.specs.declared.error.kind.ErrorKind.TheVariants as kinds
 use Rattle.clap.specs.Words.{Kinds}
-use Rattle.bsp_cli.specs.Jobs.{WritesCanonical, BeginsCanonical, WritesUpgraded, BeginsUpgraded, WritesReport, BeginsReport}
+use Rattle.bsp_cli.specs.Jobs.{WritesCanonical, BeginsCanonical, BeginsListing, WritesUpgraded, BeginsUpgraded, WritesReport, BeginsReport}
 use Rattle.bsp_cli.specs.Texts.{refusal_line, worker_line}
 use Rattle.bsp_cli.specs.Topics.{WritesTopic, BeginsTopic}
 use Rattle.bsp_cli.specs.declared.asked.Asked.{Asked}
-use Rattle.bsp_cli.specs.declared.asked.Asked.TheVariants.{Trace, Check, Upgrade, Run, Draw, Explain}
+use Rattle.bsp_cli.specs.declared.asked.Asked.TheVariants.{Trace, Check, CheckAll, Upgrade, Run, RunJson, Draw, Explain}
 
 -- the input was read, and all that is asked for was written
 abbrev pub Finishes : Asked → List ℕ → Option (List ℕ) → Option (List ℕ) → ℕ → Type 0
 Finishes Trace input old new status = (status ≡ 0) × WritesAnswers input old new
 Finishes Check input old new status = (status ≡ 0) × WritesCanonical input old new
+Finishes CheckAll input old new status = (status ≡ 0) × WritesCanonical input old new
 Finishes Upgrade input old new status = (status ≡ 0) × WritesUpgraded input old new
 Finishes (Run workers limit) input old new status = WritesReport report_text limit input old new status
+Finishes (RunJson workers limit) input old new status = WritesReport json_text limit input old new status
 Finishes (Explain topic) input old new status = (status ≡ 0) × WritesTopic topic old new
 Finishes (Draw workers limit) input old new status = WritesReport picture limit input old new status
 
@@ -30,8 +34,10 @@ Finishes (Draw workers limit) input old new status = WritesReport picture limit 
 abbrev pub Begins : Asked → List ℕ → Option (List ℕ) → Option (List ℕ) → Type 0
 Begins Trace input old new = WritesBeginning input old new
 Begins Check input old new = BeginsCanonical input old new
+Begins CheckAll input old new = BeginsCanonical input old new ⊎ BeginsListing input old new
 Begins Upgrade input old new = BeginsUpgraded input old new
 Begins (Run workers limit) input old new = BeginsReport report_text limit input old new
+Begins (RunJson workers limit) input old new = BeginsReport json_text limit input old new
 Begins (Explain topic) input old new = BeginsTopic topic old new
 Begins (Draw workers limit) input old new = BeginsReport picture limit input old new
 
@@ -40,6 +46,11 @@ abbrev pub Refuses : Asked → List ℕ → Refusal → Type 0
 Refuses Trace input r = asked_of input ≡ Err r
 Refuses (Explain topic) input r = ⊥
 Refuses _ input r = job_in input ≡ Err r
+
+-- what is written where the input is refused: the list of its faulty lines, if that is asked for, and else nothing
+abbrev pub Lists : Asked → Option (List ℕ) → Option (List ℕ) → Option (List ℕ) → Type 0
+Lists CheckAll input old new = IfSome input (λ bytes. Appends old new (listing bytes))
+Lists _ input old new = Keeps old new
 
 -- if memory ran out, only a trace may have written some of its answers
 abbrev pub RunsOut : Asked → Option (List ℕ) → Option (List ℕ) → Option (List ℕ) → Type 0
@@ -54,13 +65,14 @@ ReadsNothing _ = ⊥
 -- a worker of those that are asked for, numbered from 0
 abbrev pub IsWorkerOf : Asked → ℕ → Type 0
 IsWorkerOf (Run workers limit) k = k < workers
+IsWorkerOf (RunJson workers limit) k = k < workers
 IsWorkerOf (Draw workers limit) k = k < workers
 IsWorkerOf _ k = ⊥
 
 -- what is asked for is done if the status is 0, 2 or 3; else the output and the line on standard error say what went wrong
 pub record Did (a : Asked) (input old new : Option (List ℕ)) (told : List ℕ → Type 0) (status : ℕ) : Type 0 where
   pub finished : status ≤ 3 → IfSome input (λ bytes. Finishes a bytes old new status)
-  pub refused : status ≡ 4 → Keeps old new × (r : Refusal) × told (refusal_line r) × IfSome input (λ bytes. Refuses a bytes r)
+  pub refused : status ≡ 4 → Lists a input old new × (r : Refusal) × told (refusal_line r) × IfSome input (λ bytes. Refuses a bytes r)
   pub memory : status ≡ 6 → RunsOut a input old new
   pub not_started : status ≡ 7 → Keeps old new × (k : ℕ) × IsWorkerOf a k × told (worker_line k)
   pub failed : status ≡ 8 → Keeps old new ⊎ IfSome input (λ bytes. Begins a bytes old new)

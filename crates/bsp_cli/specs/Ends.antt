@@ -10,14 +10,16 @@ use Rattle.trace_text.specs.Trace.{asked_of}
 use Rattle.trace_text.specs.Outcome.{WritesAnswers, WritesBeginning}
 use Rattle.job_reader.specs.Trees.{job_tree}
 use Rattle.job_reader.specs.Reading.{job_in}
-use Rattle.bsp_cli.specs.Jobs.{status_number, WritesCanonical, BeginsCanonical, WritesUpgraded, BeginsUpgraded, WritesReportOf, BeginsReport}
-use Rattle.bsp_cli.specs.Did.{Finishes, Begins, Refuses, RunsOut, IsWorkerOf}
+use Rattle.job_faults.specs.Listing.{listing}
+use Rattle.text_lines.specs.declared.refusal.Refusal.{Refusal}
+use Rattle.bsp_cli.specs.Jobs.{status_number, WritesCanonical, BeginsCanonical, BeginsListing, WritesUpgraded, BeginsUpgraded, WritesReportOf, BeginsReport}
+use Rattle.bsp_cli.specs.Did.{Finishes, Begins, Lists, Refuses, RunsOut, IsWorkerOf}
 use Rattle.bsp_cli.specs.Texts.{fault_status}
 use Rattle.bsp_cli.specs.Topics.{WritesTopic, BeginsTopic}
 use Rattle.bsp_cli.specs.declared.asked.Topic.{Topic}
 use Rattle.bsp_cli.specs.declared.asked.Topic.TheVariants.{All, Code, Fault}
 use Rattle.bsp_cli.specs.declared.asked.Asked.{Asked}
-use Rattle.bsp_cli.specs.declared.asked.Asked.TheVariants.{Run, Draw, Explain}
+use Rattle.bsp_cli.specs.declared.asked.Asked.TheVariants.{Run, RunJson, Draw, Explain}
 use Rattle.bsp_cli.specs.declared.fault.RunFault.{RunFault}
 use Rattle.bsp_cli.specs.declared.fault.RunFault.TheVariants.{Text, Read, Write, Memory, NotStarted, Internal}
 
@@ -54,6 +56,36 @@ Checks input old new (Err Read) = Keeps old new
 Checks input old new (Err Write) = IfSome input (λ bytes. BeginsCanonical bytes old new)
 Checks input old new (Err Memory) = Keeps old new
 Checks input old new _ = ⊥
+
+-- a text was written, or a beginning of it if the writer failed
+abbrev pub Writes : List ℕ → Option (List ℕ) → Option (List ℕ) → Result (Unit {0}) RunFault → Type 0
+Writes text old new (Ok x) = Appends old new text
+Writes text old new (Err Write) = AppendsBeginning old new text
+Writes text old new (Err Memory) = Keeps old new
+Writes text old new _ = ⊥
+
+-- the lines of a refused text were written, or a beginning of them if the writer failed
+abbrev pub ListsFaults : List ℕ → Refusal → Option (List ℕ) → Option (List ℕ) → Result (Unit {0}) RunFault → Type 0
+ListsFaults lines r old new (Err (Text q)) = (q ≡ r) × Appends old new lines
+ListsFaults lines r old new (Err Write) = AppendsBeginning old new lines
+ListsFaults lines r old new (Err Memory) = Keeps old new
+ListsFaults lines r old new _ = ⊥
+
+-- a text's canonical text was written, or its faulty lines; or a beginning of them
+abbrev pub ChecksText : List ℕ → Option (List ℕ) → Option (List ℕ) → Result (Unit {0}) RunFault → Type 0
+ChecksText text old new (Ok x) = WritesCanonical text old new
+ChecksText text old new (Err (Text r)) = (job_in text ≡ Err r) × Appends old new (listing text)
+ChecksText text old new (Err Write) = BeginsCanonical text old new ⊎ BeginsListing text old new
+ChecksText text old new (Err Memory) = Keeps old new
+ChecksText text old new _ = ⊥
+
+abbrev pub ChecksAll : Option (List ℕ) → Option (List ℕ) → Option (List ℕ) → Result (Unit {0}) RunFault → Type 0
+ChecksAll input old new (Ok x) = IfSome input (λ bytes. WritesCanonical bytes old new)
+ChecksAll input old new (Err (Text r)) = IfSome input (λ bytes. job_in bytes ≡ Err r) × IfSome input (λ bytes. Appends old new (listing bytes))
+ChecksAll input old new (Err Read) = Keeps old new
+ChecksAll input old new (Err Write) = IfSome input (λ bytes. BeginsCanonical bytes old new ⊎ BeginsListing bytes old new)
+ChecksAll input old new (Err Memory) = Keeps old new
+ChecksAll input old new _ = ⊥
 
 abbrev pub Upgrades : Option (List ℕ) → Option (List ℕ) → Option (List ℕ) → Result (Unit {0}) RunFault → Type 0
 Upgrades input old new (Ok x) = IfSome input (λ bytes. WritesUpgraded bytes old new)
@@ -95,7 +127,7 @@ Runs form workers limit input old new _ = Keeps old new
 -- what is asked for was done, whichever it is
 abbrev pub Does : Asked → Option (List ℕ) → Option (List ℕ) → Option (List ℕ) → Result ℕ RunFault → Type 0
 Does a input old new (Ok status) = (status ≤ 3) × IfSome input (λ bytes. Finishes a bytes old new status)
-Does a input old new (Err (Text r)) = IfSome input (λ bytes. Refuses a bytes r) × Keeps old new
+Does a input old new (Err (Text r)) = IfSome input (λ bytes. Refuses a bytes r) × Lists a input old new
 Does a input old new (Err Write) = IfSome input (λ bytes. Begins a bytes old new)
 Does a input old new (Err Memory) = RunsOut a input old new
 Does a input old new (Err (NotStarted k)) = Keeps old new × IsWorkerOf a k
@@ -110,6 +142,7 @@ IsTopic (Fault n) = (1 ≤ n) × (n ≤ 8)
 -- workers and limit are in range, and there is what is to be explained
 abbrev pub IsAsked : Asked → Type 0
 IsAsked (Run workers limit) = ((1 ≤ workers) × (workers ≤ 64)) × ((1 ≤ limit) × (limit ≤ 1000000))
+IsAsked (RunJson workers limit) = ((1 ≤ workers) × (workers ≤ 64)) × ((1 ≤ limit) × (limit ≤ 1000000))
 IsAsked (Explain topic) = IsTopic topic
 IsAsked (Draw workers limit) = ((1 ≤ workers) × (workers ≤ 64)) × ((1 ≤ limit) × (limit ≤ 1000000))
 IsAsked _ = Unit {0}

@@ -1,5 +1,5 @@
 -- What `check`, `upgrade`, `run` and `draw` print of a job's text (own).
-use Rattle.std.specs.Prelude.{◌≡◌, ℕ, List, map, length, Option, Some, Ok}
+use Rattle.std.specs.Prelude.{◌≡◌, ℕ, List, map, length, Option, Some, Ok, Err}
 use Rattle.std.specs.Io.KnownBytes.{Appends}
 use Rattle.devices.specs.Device.{AppendsBeginning}
 use Rattle.phase_records.specs.Status.{Status, Ended, Fault, Limit}
@@ -10,6 +10,8 @@ use Rattle.job_reader.specs.Reading.{job_in}
 use Rattle.job_reader.specs.Grammar.{canonical_text}
 use Rattle.job_reader.specs.Upgrade.{upgraded_tree}
 use Rattle.step_core.specs.Program.{Program}
+use Rattle.text_lines.specs.declared.refusal.Refusal.{Refusal}
+use Rattle.job_faults.specs.Listing.{listing}
 use Rattle.step_core.specs.JobMeaning.{report_of}
 
 -- the status of a job that ended so: a fault is 2, the limit is 3
@@ -32,6 +34,10 @@ WritesCanonical input old new = (job : JobTree) × (job_in input ≡ Ok job) × 
 -- or a beginning of it
 abbrev pub BeginsCanonical : List ℕ → Option (List ℕ) → Option (List ℕ) → Type 0
 BeginsCanonical input old new = (job : JobTree) × (job_in input ≡ Ok job) × AppendsBeginning old new (canonical_text job)
+
+-- the input is refused, and a beginning of the list of its faulty lines was written
+abbrev pub BeginsListing : List ℕ → Option (List ℕ) → Option (List ℕ) → Type 0
+BeginsListing input old new = (r : Refusal) × (job_in input ≡ Err r) × AppendsBeginning old new (listing input)
 
 -- the input is the text of a job, and its canonical text as a job of format 2 was written
 abbrev pub WritesUpgraded : List ℕ → Option (List ℕ) → Option (List ℕ) → Type 0

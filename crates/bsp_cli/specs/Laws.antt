@@ -7,7 +7,7 @@ use Rattle.bsp_cli.specs.Did.{are_refused}
 use Rattle.clap.specs.declared.error.kind.ErrorKind.TheVariants.{DisplayHelp, DisplayVersion}
 use Rattle.bsp_cli.specs.declared.asked.Topic.TheVariants.{All, Code, Fault}
 use Rattle.bsp_cli.specs.declared.asked.Asked.{Asked}
-use Rattle.bsp_cli.specs.declared.asked.Asked.TheVariants.{Trace, Check, Upgrade, Run, Draw, Explain}
+use Rattle.bsp_cli.specs.declared.asked.Asked.TheVariants.{Trace, Check, CheckAll, Upgrade, Run, RunJson, Draw, Explain}
 
 -- words that are taken, and what they ask for
 abbrev pub Asks : List (List ℕ) → Asked → Type 0
@@ -28,6 +28,8 @@ AreRefused words = are_refused (refused_by words) ≡ true
 pub record WordsAsk (name : List ℕ) : Type 0 where
   pub trace : Asks (name ∷ codes "trace" ∷ []) Trace
   pub check : Asks (name ∷ codes "check" ∷ []) Check
+  pub check_all : Asks (name ∷ codes "check" ∷ codes "--all" ∷ []) CheckAll
+  pub check_all_file : Asks (name ∷ codes "check" ∷ codes "--all" ∷ codes "-f" ∷ codes "a" ∷ []) CheckAll
   pub upgrade : Asks (name ∷ codes "upgrade" ∷ []) Upgrade
   pub run : Asks (name ∷ codes "run" ∷ []) (Run 1 1000000)
   pub least : Asks (name ∷ codes "run" ∷ codes "--limit" ∷ codes "1" ∷ []) (Run 1 1)
@@ -38,6 +40,10 @@ pub record WordsAsk (name : List ℕ) : Type 0 where
   pub flat : AsksTree (name ∷ codes "run" ∷ []) (codes "flat")
   pub tree : AsksTree (name ∷ codes "run" ∷ codes "--tree" ∷ codes "2x3" ∷ []) (codes "2x3")
   pub progress : Asks (name ∷ codes "run" ∷ codes "--progress" ∷ codes "--limit" ∷ codes "7" ∷ []) (Run 1 7)
+  pub json : Asks (name ∷ codes "run" ∷ codes "--json" ∷ []) (RunJson 1 1000000)
+  pub json_first : Asks (name ∷ codes "run" ∷ codes "--json" ∷ codes "--workers" ∷ codes "4" ∷ codes "--limit" ∷ codes "7" ∷ []) (RunJson 4 7)
+  pub json_last : Asks (name ∷ codes "run" ∷ codes "-f" ∷ codes "a" ∷ codes "--progress" ∷ codes "--limit=7" ∷ codes "--json" ∷ []) (RunJson 1 7)
+  pub json_tree : AsksTree (name ∷ codes "run" ∷ codes "--json" ∷ codes "--tree" ∷ codes "2x3" ∷ []) (codes "2x3")
   pub explain : Asks (name ∷ codes "explain" ∷ []) (Explain All)
   pub explain_code : Asks (name ∷ codes "explain" ∷ codes "14" ∷ []) (Explain (Code 14))
   pub explain_fault : Asks (name ∷ codes "explain" ∷ codes "--fault" ∷ codes "8" ∷ []) (Explain (Fault 8))
@@ -57,6 +63,7 @@ pub record WordsNameFiles (name : List ℕ) : Type 0 where
   pub run_among : Reads (name ∷ codes "run" ∷ codes "--limit" ∷ codes "7" ∷ codes "-f" ∷ codes "a" ∷ codes "--progress" ∷ []) (Some (codes "a"))
   pub draw : Reads (name ∷ codes "draw" ∷ codes "-f" ∷ codes "swap.job" ∷ []) (Some (codes "swap.job"))
   pub check : Reads (name ∷ codes "check" ∷ codes "-f" ∷ codes "swap.job" ∷ []) (Some (codes "swap.job"))
+  pub check_all : Reads (name ∷ codes "check" ∷ codes "-f" ∷ codes "swap.job" ∷ codes "--all" ∷ []) (Some (codes "swap.job"))
   pub upgrade : Reads (name ∷ codes "upgrade" ∷ codes "--file" ∷ codes "swap.job" ∷ []) (Some (codes "swap.job"))
   pub trace : Reads (name ∷ codes "trace" ∷ codes "-f" ∷ codes "first.trace" ∷ []) (Some (codes "first.trace"))
   pub trace_none : Reads (name ∷ codes "trace" ∷ []) None
@@ -74,6 +81,13 @@ pub record WordsAreRefused (name : List ℕ) : Type 0 where
   pub other_fault : AreRefused (name ∷ codes "explain" ∷ codes "--fault" ∷ codes "9" ∷ [])
   pub progress_drawn : AreRefused (name ∷ codes "draw" ∷ codes "--progress" ∷ [])
   pub progress_twice : AreRefused (name ∷ codes "run" ∷ codes "--progress" ∷ codes "--progress" ∷ [])
+  pub all_run : AreRefused (name ∷ codes "run" ∷ codes "--all" ∷ [])
+  pub all_upgraded : AreRefused (name ∷ codes "upgrade" ∷ codes "--all" ∷ [])
+  pub all_twice : AreRefused (name ∷ codes "check" ∷ codes "--all" ∷ codes "--all" ∷ [])
+  pub json_drawn : AreRefused (name ∷ codes "draw" ∷ codes "--json" ∷ [])
+  pub json_checked : AreRefused (name ∷ codes "check" ∷ codes "--json" ∷ [])
+  pub json_twice : AreRefused (name ∷ codes "run" ∷ codes "--json" ∷ codes "--json" ∷ [])
+  pub json_value : AreRefused (name ∷ codes "run" ∷ codes "--json=true" ∷ [])
   pub more_draw : AreRefused (name ∷ codes "draw" ∷ codes "job" ∷ [])
   pub drawn_never : AreRefused (name ∷ codes "draw" ∷ codes "--limit" ∷ codes "0" ∷ [])
   pub drawn_by_none : AreRefused (name ∷ codes "draw" ∷ codes "--workers" ∷ codes "0" ∷ [])

@@ -3,7 +3,7 @@ ghost use Rattle.std.specs.Prelude.{◌≡◌, ◌≤◌, false, true, codes, op
 ghost use Rattle.clap.specs.Words.{app_of, found_of, kind_of, new_app, one_of, rows_of, rule_of, subcommand_rows_of};
 ghost use Rattle.clap.specs.declared.builder.command.Command.TheViews.{out-Command as fields_of};
 ghost use Rattle.clap.specs.declared.error.kind.ErrorKind.TheVariants as kinds;
-ghost use Rattle.bsp_cli.specs.CommandLine.{asked_by, bare, chosen, code_rule, explain_app, file_by, file_in, file_rule, job_app, limit_in, number_from, number_rule, numbers_rule, program, progress_rule, run_app, text_app, topic_in, tree_by, tree_in, tree_rule, unless_hyphen, workers_in};
+ghost use Rattle.bsp_cli.specs.CommandLine.{all_rule, asked_by, bare, check_app, check_by, chosen, code_rule, explain_app, file_by, file_in, file_rule, flag_in, is_set, job_app, json_rule, limit_in, number_from, number_rule, numbers_rule, program, progress_rule, run_app, run_by, text_app, topic_in, tree_by, tree_in, tree_rule, unless_hyphen, workers_in};
 ghost use Rattle.bsp_cli.specs.Ends.{IsAsked, IsTopic};
 ghost use Rattle.bsp_cli.specs.Topics.{topic_by};
 
@@ -30,10 +30,19 @@ pub enum Asked {
     Trace,
     /// Checks a job's text.
     Check,
+    /// Checks a job's text, and lists its faulty lines.
+    CheckAll,
     /// Writes a job in format 2.
     Upgrade,
     /// Runs a job.
     Run {
+        /// Returns the number of workers.
+        workers: u32,
+        /// The largest number of supersteps.
+        limit: u32,
+    },
+    /// Runs a job, and writes its report as JSON.
+    RunJson {
         /// Returns the number of workers.
         workers: u32,
         /// The largest number of supersteps.
@@ -162,6 +171,28 @@ fn progress_option<'a>(alloc: Global) -> Arg<'a>
         .action(ArgAction::SetTrue)
 }
 
+// Makes the option `--all`.
+fn all_option<'a>(alloc: Global) -> Arg<'a>
+    ensures rule { rule_of result ≡ all_rule }
+    ensures local { result.global ≡ false }
+{
+    Arg::new(alloc, "all")
+        .long("all")
+        .help("Lists the faulty lines, at most 20, on standard output")
+        .action(ArgAction::SetTrue)
+}
+
+// Makes the option `--json`.
+fn json_option<'a>(alloc: Global) -> Arg<'a>
+    ensures rule { rule_of result ≡ json_rule }
+    ensures local { result.global ≡ false }
+{
+    Arg::new(alloc, "json")
+        .long("json")
+        .help("Prints the report as one JSON object, for other programs to read")
+        .action(ArgAction::SetTrue)
+}
+
 // Makes the argument for the code of a refusal.
 fn code_argument<'a>(alloc: Global) -> Arg<'a>
     ensures rule { rule_of result ≡ code_rule }
@@ -235,7 +266,8 @@ fn run_command<'a>(alloc: Global) -> Result<Command<'a>, Error>
         "Runs a job, and prints its supersteps with what they print, its arrays, and how it ended";
     let bare = job_command(alloc, "run", about, RUN_LINES)?;
     let with_progress = bare.arg(progress_option(alloc))?;
-    Ok(with_progress)
+    let with_json = with_progress.arg(json_option(alloc))?;
+    Ok(with_json)
 }
 
 // Makes the subcommand `draw`.
@@ -261,12 +293,14 @@ fn trace_command<'a>(alloc: Global) -> Result<Command<'a>, Error>
 
 // Makes the subcommand `check`.
 fn check_command<'a>(alloc: Global) -> Result<Command<'a>, Error>
-    ensures app { IfOk result (λ c. app_of c ≡ text_app (codes "check")) }
+    ensures app { IfOk result (λ c. app_of c ≡ check_app) }
     ensures local { IfOk result (λ c. (fields_of c).has_globals ≡ false) }
     ensures memory { IfErr result (λ e. kind_of e ≡ kinds.OutOfMemory) }
 {
     let about = "Checks the text of a job, and prints it in its one canonical form";
-    text_command(alloc, "check", about, CHECK_LINES)
+    let bare = text_command(alloc, "check", about, CHECK_LINES)?;
+    let with_all = bare.arg(all_option(alloc))?;
+    Ok(with_all)
 }
 
 // Makes the subcommand `upgrade`.
@@ -366,6 +400,41 @@ fn tree_of<'a>(matches: &ArgMatches<'a>) -> &'a str
     }
 }
 
+// Returns true if this text says that a flag is given.
+fn is_set(text: Option<&str>) -> bool
+    ensures { result ≡ is_set (option_map (λ s. s.now) text.entry) }
+{
+    match text {
+        Some(text) => text == "true",
+        None => false,
+    }
+}
+
+// Returns true if all faulty lines are to be listed.
+fn all_of(matches: &ArgMatches<'_>) -> bool
+    ensures { result ≡ flag_in (codes "all") (rows_of (found_of matches.now)) }
+{
+    is_set(matches.get_str("all"))
+}
+
+// Returns what `check` asks for.
+fn check_by(all: bool) -> Asked
+    ensures asked { result ≡ check_by all }
+    ensures known { IsAsked result }
+{
+    if all {
+        return Asked::CheckAll;
+    }
+    Asked::Check
+}
+
+// Returns true if the report is to be written as JSON.
+fn json_of(matches: &ArgMatches<'_>) -> bool
+    ensures { result ≡ flag_in (codes "json") (rows_of (found_of matches.now)) }
+{
+    is_set(matches.get_str("json"))
+}
+
 // Returns the name of a file, or `None` if there is none, or it is a hyphen.
 fn unless_hyphen<'a>(text: Option<&'a str>) -> Option<&'a str>
     ensures { option_map (λ s. s.now) result ≡ unless_hyphen (option_map (λ s. s.now) text.entry) }
@@ -423,6 +492,19 @@ fn topic_of(matches: &ArgMatches<'_>) -> Topic
     topic_by(code_of(matches), fault_of(matches))
 }
 
+// Returns what `run` asks for.
+fn run_by(json: bool, workers: u32, limit: u32) -> Asked
+    requires workers { (1 ≤ workers) × (workers ≤ 64) }
+    requires limit { (1 ≤ limit) × (limit ≤ 1000000) }
+    ensures asked { result ≡ run_by json workers limit }
+    ensures limit { IsAsked result }
+{
+    if json {
+        return Asked::RunJson { workers, limit };
+    }
+    Asked::Run { workers, limit }
+}
+
 // Returns the request of a subcommand that runs no job.
 fn without_tree<'a>(asked: Asked, options: &ArgMatches<'a>) -> Request<'a>
     ensures asked { result.asked ≡ asked }
@@ -475,7 +557,7 @@ pub(crate) fn asked_for<'a>(matches: &ArgMatches<'a>) -> Request<'a>
     match matches.subcommand() {
         Some((name, options)) => {
             if name == "check" {
-                return without_tree(Asked::Check, options);
+                return without_tree(check_by(all_of(options)), options);
             }
             if name == "upgrade" {
                 return without_tree(Asked::Upgrade, options);
@@ -485,7 +567,7 @@ pub(crate) fn asked_for<'a>(matches: &ArgMatches<'a>) -> Request<'a>
             }
             let (workers, limit) = (workers_of(options), limit_of(options));
             if name == "run" {
-                let asked = Asked::Run { workers, limit };
+                let asked = run_by(json_of(options), workers, limit);
                 return with_tree(asked, options, options.get_flag("progress"));
             }
             if name == "draw" {

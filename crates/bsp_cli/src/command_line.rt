@@ -13,7 +13,7 @@ ghost use Rattle.bsp_cli.specs.Texts.{CountsFailures, Says, Tells, WritesSome, v
 use crate::asked::{Asked, Request, VERSION_LINE, asked_for, parser};
 use crate::explain::explain;
 use crate::fault::{RunFault, refuse, tell};
-use crate::job::{check, draw_bytes, run_bytes, run_status, upgrade};
+use crate::job::{check, check_all, draw_bytes, run_bytes, run_json_bytes, run_status, upgrade};
 use crate::progress::{NoProgress, Progress};
 use crate::status::{COMMAND_LINE_REFUSED, DEVICE_FAILED, OUT_OF_MEMORY};
 use crate::trace::trace;
@@ -146,6 +146,10 @@ fn do_asked<T: Threads + Wait + Sync, R: CountedRead, W: CountedWrite, P: Progre
             check(alloc, reader, writer)?;
             Ok(0)
         }
+        Asked::CheckAll => {
+            check_all(alloc, reader, writer)?;
+            Ok(0)
+        }
         Asked::Upgrade => {
             upgrade(alloc, reader, writer)?;
             Ok(0)
@@ -161,6 +165,14 @@ fn do_asked<T: Threads + Wait + Sync, R: CountedRead, W: CountedWrite, P: Progre
                 None
             };
             run_status(run_bytes(rt, alloc, reader, writer, shape, workers, limit, progress))
+        }
+        Asked::RunJson { workers, limit } => {
+            let progress = if request.progress {
+                Some(progress)
+            } else {
+                None
+            };
+            run_status(run_json_bytes(rt, alloc, reader, writer, shape, workers, limit, progress))
         }
         Asked::Draw { workers, limit } => run_status(draw_bytes(
             rt, alloc, reader, writer, shape, workers, limit,

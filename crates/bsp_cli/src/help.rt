@@ -1,7 +1,11 @@
 //! The texts of help: what `--help` has, and `-h` hasn't. Examples come last.
 
-/// Two worked examples, at the end of the program's help.
-pub(crate) const EXAMPLES: &str = "Two tasks exchange their cells, on four threads:
+/// Reasons and two worked examples, at the end of the program's help.
+pub(crate) const EXAMPLES: &str =
+    "With --why anywhere in a command line, or if standard error is a terminal, the reason follows
+the line of a command line that is refused.
+
+Two tasks exchange their cells, on four threads:
 
   $ cat examples/swap.job
   bsp 1
@@ -146,6 +150,11 @@ Statuses, and the line on standard error:
   6  out of memory
   8  read or write failed
 
+With --all, standard output lists the faulty lines of a refused text, at most 20, each as
+line L code C NAME. The first is the one on standard error. A faulty line is left out when
+the lines after it are looked at, but it still opens or closes its if or while. The list
+ends after a fault of the whole text (codes 1, 3, 10), or of a line that opens a body.
+
 ",
     "A job in its canonical form:
 
@@ -265,7 +274,11 @@ pub(crate) const RUN_LINES: &str = run_help!(
   print 1 1 10
   phase 1 parties 2 left 2 spawned 0
   array a 20 10
-  ended 2"
+  ended 2
+
+The report as a JSON object, for other programs:
+
+  $ bsp run --json -f examples/swap.job > swap.json"
 );
 
 // The help of `draw`.

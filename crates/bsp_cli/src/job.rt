@@ -3,19 +3,25 @@ ghost use Rattle.std.specs.Prelude.{◌≡◌, ◌≤◌, ℕ, Some, IfOk, IfErr
 ghost use Rattle.phase_records.specs.StatusSeen.{status_seen};
 ghost use Rattle.bsp_cli.specs.Jobs.{status_number};
 ghost use Rattle.phase_records.specs.ReportText.{report_text};
+ghost use Rattle.job_faults.specs.Listing.{listing};
 ghost use Rattle.job_picture.specs.Picture.{picture};
+ghost use Rattle.job_reader.specs.Grammar.{canonical_text};
+ghost use Rattle.job_reader.specs.Trees.{job_tree};
+ghost use Rattle.report_json.specs.ReportJson.{json_text};
 ghost use Rattle.step_core.specs.Program.{program_of};
 ghost use Rattle.step_core.specs.JobMeaning.{report_of};
 ghost use Rattle.worker_pool.specs.Refusals.{IsOfWorkers};
-ghost use Rattle.bsp_cli.specs.Ends.{TakesJob, Checks, Upgrades, IsOfPool, Reports, Runs, ReadCause, WriteCause, end_result};
+ghost use Rattle.bsp_cli.specs.Ends.{TakesJob, Checks, ChecksAll, ChecksText, ListsFaults, Writes, Upgrades, IsOfPool, Reports, Runs, ReadCause, WriteCause, end_result};
 
 use crate::fault::RunFault;
 use crate::progress::{NoProgress, Progress, WatchEnd};
 use crate::status::{LIMIT_REACHED, TASK_FAULT};
 use devices::{CountedRead, CountedWrite, ReadFault, read_all, write_all};
+use job_faults::listing_of;
 use job_picture::picture_of;
 use job_reader::{Code, ReadJobFault, Refusal, read_job, upgrade as upgraded, write_job};
 use phase_records::{JobStatus, Report, WriteFault, write_report};
+use report_json::json_text_of;
 use std::alloc::{AllocError, Global};
 use std::sync::Wait;
 use std::thread::Threads;
@@ -60,6 +66,92 @@ pub(crate) fn check<R: CountedRead, W: CountedWrite>(
         Ok(()) => Ok(()),
         Err(WriteFault::Write) => Err(RunFault::Write),
         Err(WriteFault::Memory) => Err(RunFault::Memory),
+    }
+}
+
+// Writes the canonical text of a job.
+fn write_canonical<W: CountedWrite>(
+    alloc: Global,
+    job: &Job,
+    writer: &mut W,
+) -> Result<(), RunFault>
+    ensures writes { Writes (canonical_text (job_tree job.now)) (W.contents writer.old) (W.contents writer.new) result }
+    ensures write_failures { WriteCause (W.failures writer.old) (W.failures writer.new) result }
+{
+    match write_job(alloc, job, writer) {
+        Ok(()) => Ok(()),
+        Err(WriteFault::Write) => Err(RunFault::Write),
+        Err(WriteFault::Memory) => Err(RunFault::Memory),
+    }
+}
+
+// Writes the lines that tell of a text's faulty lines. Returns the first of them as a fault.
+fn write_faults<W: CountedWrite>(
+    writer: &mut W,
+    lines: &[u8],
+    refusal: Refusal,
+) -> Result<(), RunFault>
+    ensures lists { ListsFaults lines.now refusal (W.contents writer.old) (W.contents writer.new) result }
+    ensures write_failures { WriteCause (W.failures writer.old) (W.failures writer.new) result }
+{
+    match write_all(writer, lines) {
+        Ok(()) => Err(RunFault::Text(refusal)),
+        Err(_) => Err(RunFault::Write),
+    }
+}
+
+// Writes the faulty lines of a text that is refused so. Allocates before it writes the first byte.
+fn list_faults<W: CountedWrite>(
+    alloc: Global,
+    text: &[u8],
+    refusal: Refusal,
+    writer: &mut W,
+) -> Result<(), RunFault>
+    ensures lists { ListsFaults (listing text.now) refusal (W.contents writer.old) (W.contents writer.new) result }
+    ensures write_failures { WriteCause (W.failures writer.old) (W.failures writer.new) result }
+{
+    match listing_of(alloc, text) {
+        Ok(lines) => write_faults(writer, &lines, refusal),
+        Err(AllocError) => Err(RunFault::Memory),
+    }
+}
+
+// Writes the canonical text of a job, or the faulty lines of a text that is refused.
+#[tactic(auto, using(crate::proofs::Listings::checks_job, crate::proofs::Listings::checks_refused))]
+fn check_text<W: CountedWrite>(alloc: Global, text: &[u8], writer: &mut W) -> Result<(), RunFault>
+    ensures checks { ChecksText text.now (W.contents writer.old) (W.contents writer.new) result }
+    ensures write_failures { WriteCause (W.failures writer.old) (W.failures writer.new) result }
+{
+    match read_job(alloc, text) {
+        Ok(job) => write_canonical(alloc, &job, writer),
+        Err(ReadJobFault::Text(refusal)) => list_faults(alloc, text, refusal, writer),
+        Err(ReadJobFault::Memory) => Err(RunFault::Memory),
+    }
+}
+
+/// Reads a job and writes its canonical text. If it is refused, writes its faulty lines, and returns the first.
+#[tactic(auto, using(crate::proofs::Listings::checks_known, crate::proofs::Listings::checks_long, crate::proofs::Listings::checks_unread))]
+pub(crate) fn check_all<R: CountedRead, W: CountedWrite>(
+    alloc: Global,
+    reader: &mut R,
+    writer: &mut W,
+) -> Result<(), RunFault>
+    ensures checks { ChecksAll (R.remaining reader.old) (W.contents writer.old) (W.contents writer.new) result }
+    ensures read_failures { ReadCause (R.failures reader.old) (R.failures reader.new) result }
+    ensures write_failures { WriteCause (W.failures writer.old) (W.failures writer.new) result }
+{
+    match read_all(alloc, reader) {
+        Ok(text) => check_text(alloc, &text, writer),
+        Err(ReadFault::TooLong) => {
+            let code = Code::TooLong;
+            write_faults(
+                writer,
+                b"line 1 code 1 TooLong\n",
+                Refusal { line: 1, code },
+            )
+        }
+        Err(ReadFault::Read) => Err(RunFault::Read),
+        Err(ReadFault::Memory) => Err(RunFault::Memory),
     }
 }
 
@@ -197,6 +289,25 @@ fn write_end<W: CountedWrite>(
     }
 }
 
+// Writes a report as JSON. Returns how its job ended. Allocates before it writes the first byte.
+fn json_end<W: CountedWrite>(
+    alloc: Global,
+    report: Report,
+    writer: &mut W,
+) -> Result<JobStatus, RunFault>
+    ensures reports { Reports json_text report (W.contents writer.old) (W.contents writer.new) result }
+    ensures write_failures { WriteCause (W.failures writer.old) (W.failures writer.new) result }
+{
+    let text = match json_text_of(alloc, &report) {
+        Ok(text) => text,
+        Err(AllocError) => return Err(RunFault::Memory),
+    };
+    match write_all(writer, &text) {
+        Ok(()) => Ok(status_of(report)),
+        Err(_) => Err(RunFault::Write),
+    }
+}
+
 // Writes the picture of a report. Returns how its job ended. Allocates before it writes the first byte.
 fn draw_end<W: CountedWrite>(
     alloc: Global,
@@ -259,6 +370,35 @@ pub fn run_bytes<T: Threads + Wait + Sync, R: CountedRead, W: CountedWrite, P: P
     let job = take_job(alloc, reader)?;
     match leave(rt, alloc, &job, shape, workers, limit, progress) {
         Ok(report) => write_end(alloc, report, writer),
+        Err(refused) => Err(fault_of(refused)),
+    }
+}
+
+/// Reads a job to the reader's end, runs it as [`run_bytes`] does, and writes its report as one JSON object and a line feed.
+pub fn run_json_bytes<
+    T: Threads + Wait + Sync,
+    R: CountedRead,
+    W: CountedWrite,
+    P: Progress + Sync,
+>(
+    rt: &T,
+    alloc: Global,
+    reader: &mut R,
+    writer: &mut W,
+    shape: Shape,
+    workers: u32,
+    limit: u32,
+    progress: Option<&P>,
+) -> Result<JobStatus, RunFault>
+    requires workers { (1 ≤ workers) × (workers ≤ 64) }
+    requires limit { (1 ≤ limit) × (limit ≤ 2147483648) }
+    ensures runs { Runs json_text workers limit (R.remaining reader.old) (W.contents writer.old) (W.contents writer.new) result }
+    ensures read_failures { ReadCause (R.failures reader.old) (R.failures reader.new) result }
+    ensures write_failures { WriteCause (W.failures writer.old) (W.failures writer.new) result }
+{
+    let job = take_job(alloc, reader)?;
+    match leave(rt, alloc, &job, shape, workers, limit, progress) {
+        Ok(report) => json_end(alloc, report, writer),
         Err(refused) => Err(fault_of(refused)),
     }
 }

@@ -1,4 +1,11 @@
 //! The program's command line, and what each subcommand does. Nothing here is part of Java's API.
+//!
+//! # Where things are
+//!
+//! * `asked.rt`: the parser and what words ask for; `help.rt`: the texts of help; `trace.rt`, `job.rt` and
+//!   `explain.rt`: the subcommands; `progress.rt`: progress while a job runs; `why.rt`: the reasons for people;
+//!   `fault.rt`: the line on standard error; `command_line.rt`: the whole; `program.rt`: from the system's words.
+//! * `specs/CommandLine.antt`: words; `Did.antt`: what a status means.
 #![tactic(auto)]
 
 mod asked;
@@ -11,11 +18,12 @@ mod laws;
 mod program;
 mod progress;
 mod trace;
+mod why;
 
 pub use asked::{Asked, Topic};
 pub use command_line::{file_named, run, run_telling};
 pub use fault::RunFault;
-pub use job::{draw_bytes, run_bytes};
+pub use job::{draw_bytes, run_bytes, run_json_bytes};
 pub use laws::{
     limits_ask, lines_are_worked_out, numbers_ask, other_numbers_are_refused, words_are_refused,
     words_ask, words_help, words_name_files, words_tell_the_version, workers_ask,

@@ -6,7 +6,9 @@ use crate::command_line::{file_named, run_telling};
 use crate::fault::{RunFault, refuse, tell};
 use crate::progress::Teller;
 use crate::status::{COMMAND_LINE_REFUSED, OUT_OF_MEMORY};
+use crate::why::{WHY, reason_of};
 use devices::{CountedWrite, Reader};
+use std::alloc::{AllocError, Global};
 use std::io::{Input, Read};
 use std::rt::{Clock, Files};
 use std::sync::Wait;
@@ -73,15 +75,32 @@ fn opened<T: Files, S: Read + Drop>(rt: &T, file: Option<&str>, standard: S) -> 
     }
 }
 
+// Returns the words but for those that ask for reasons.
+fn without_why(alloc: Global, words: &[String]) -> Result<Vec<&str>, AllocError> {
+    words
+        .iter()
+        .map(|word| word.as_str())
+        .filter(|word| *word != WHY)
+        .collect(alloc)
+}
+
+// Says on standard error why a command line of these words is refused.
+fn tell_reason<T: AllocGlobal + Eprint>(rt: &T, words: &[&str]) {
+    if let Ok(reason) = reason_of(rt.alloc(), words) {
+        let _ = eprint!(rt; "{reason}");
+    }
+}
+
 /// Does what the command line of this process asks for, as [`run_telling`] does. Reads the file that the command line names,
 /// or else standard input, prints to `writer`, and reports to `errors` what went wrong. Returns the status that the process
 /// ends with. Words that aren't text are refused; the reads of a file that can't be opened fail. If `terminal` is true,
-/// standard input is a terminal, and a first read of it says on standard error what it waits for.
+/// standard input is a terminal, and a first read of it says on standard error what it waits for. If `reasons` is true, or a
+/// word is `--why`, standard error gets the reason after the line of a refused command line.
 pub fn run_program<
     T: env::Env + AllocGlobal + Files + Input + Clock + Eprint + Threads + Wait + Sync,
     W: CountedWrite,
     E: CountedWrite,
->(rt: &T, terminal: bool, writer: &mut W, errors: &mut E) -> u8
+>(rt: &T, terminal: bool, reasons: bool, writer: &mut W, errors: &mut E) -> u8
     ensures status { result ≤ 9 }
     ensures silent { result ≤ 3 → errors.new ≡ errors.old }
     ensures command_line_refused { result ≡ COMMAND_LINE_REFUSED → writer.new ≡ writer.old }
@@ -94,7 +113,10 @@ pub fn run_program<
     let Ok(words) = words.collect::<Vec<String>>(rt.alloc()) else {
         return stopped(errors, io::ErrorKind::OutOfMemory);
     };
-    let Ok(file) = file_named(rt.alloc(), words.as_slice()) else {
+    let Ok(asked) = without_why(rt.alloc(), &words) else {
+        return stopped(errors, io::ErrorKind::OutOfMemory);
+    };
+    let Ok(file) = file_named(rt.alloc(), asked.as_slice()) else {
         return stopped(errors, io::ErrorKind::OutOfMemory);
     };
     let standard = Standard {
@@ -104,13 +126,17 @@ pub fn run_program<
     };
     let mut reader = Reader::new(opened(rt, file, standard));
     let teller = Teller::new(rt);
-    run_telling(
+    let status = run_telling(
         rt,
         rt.alloc(),
-        words.as_slice(),
+        asked.as_slice(),
         &mut reader,
         writer,
         errors,
         &teller,
-    )
+    );
+    if status == COMMAND_LINE_REFUSED && (reasons || asked.len() < words.len()) {
+        tell_reason(rt, &asked);
+    }
+    status
 }

@@ -1,5 +1,9 @@
 //! Jobs as texts, for C: a text is checked, or run on the caller's thread, and the output is put into the caller's bytes.
 //! The bytes beyond that text may change. Nothing here is part of Java's API.
+//!
+//! # Where things are
+//!
+//! * `lib.rt`: the three exported calls; `specs/Jobs.antt`: what they give.
 #![tactic(auto)]
 
 ghost use Rattle.std.specs.Prelude.{◌≡◌, ◌⊎◌, ◌≤◌, length, pos};

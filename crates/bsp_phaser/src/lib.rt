@@ -16,6 +16,11 @@
 //! | 6 | fewer than 0 parties to add |
 //!
 //! After a status other than 0 the next number is the old one, and `answer` is 0.
+//!
+//! # Where things are
+//!
+//! * `lib.rt`: the exported calls; `step.rt`: a call on a number; `reading.rt`: what a number says; `number.rt`:
+//!   which numbers are words.
 #![tactic(auto)]
 
 ghost use Rattle.std.specs.Prelude.{◌≡◌, ◌≢◌, ◌≤◌, pos};

@@ -9,6 +9,14 @@
 //!
 //! Not part of Java's API: callers are numbers, an action answers true if it fails, and `abandon` and `break_off` are in
 //! place of interrupts, timeouts and broken threads.
+//!
+//! # Where things are
+//!
+//! * `call.rt`: calls and answers as data; `state.rt` and `barrier.rt`: the barrier as a value; `ledger.rt`: the
+//!   ends beside it; `gate_state.rt` and `gate.rt`: the lock; `laws.rt`: the laws.
+//! * `proofs/Indexed.antt`: callers with their indices; `Trips.antt`, `Told.antt`, `Waking.antt` and
+//!   `Forgetting.antt`: the laws; `Replay.antt`: that some list of calls leaves the barrier; `Ends.antt`: the ends
+//!   that are kept.
 #![tactic(auto)]
 
 mod barrier;

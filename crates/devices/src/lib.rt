@@ -1,4 +1,10 @@
 //! Readers and writers whose calls and failures are counted, and texts that are read and written whole.
+//!
+//! # Where things are
+//!
+//! * `device.rt`: readers and writers; `metered.rt`: a device whose calls are counted; `count.rt`: the ghost
+//!   counts.
+//! * `proofs/PassedBytes.antt`: bytes that went out one after another.
 #![tactic(auto)]
 
 mod count;

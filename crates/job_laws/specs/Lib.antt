@@ -4,3 +4,5 @@ pub mod WorkedOperators
 pub mod WorkedFaults
 pub mod Refusals
 pub mod WorkedTexts
+pub mod WorkedTests
+pub mod Outcomes

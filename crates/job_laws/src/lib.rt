@@ -17,6 +17,8 @@ ghost use Rattle.job_laws.specs.Refusals.{
 ghost use Rattle.job_laws.specs.WorkedTexts.{ReportsAreWrittenSo};
 ghost use Rattle.job_laws.specs.Worked.{JobsAreWorkedOut};
 ghost use Rattle.job_laws.specs.WorkedFaults.{SpawnsAreNumbered, FaultsAreWorkedOut};
+ghost use Rattle.job_laws.specs.WorkedTests.{TestsAreWorkedOut};
+ghost use Rattle.job_laws.specs.Outcomes.{OutcomesTellWhy, OutcomesAreWorkedOut, DeliveriesNameTheirSpawns};
 ghost use Rattle.job_laws.specs.WorkedOperators.{OperatorsAreArithmetic, OperatorsAreWorkedOut};
 
 /// The records of a job are those of phases 0, 1, 2, .., one for each superstep taken, and its prints are ordered by superstep.
@@ -71,6 +73,27 @@ pub fn spawns_are_numbered()
 /// written down and not said by a rule.
 pub fn faults_are_worked_out()
     ensures { FaultsAreWorkedOut }
+{}
+
+/// What some tests and indices lead to is written down and not said by a rule: each number but 0 is a yes, also a negative one, and no
+/// negative number is an index.
+pub fn tests_are_worked_out()
+    ensures { TestsAreWorkedOut }
+{}
+
+/// A superstep's outcome is the first of: a task faulted, over 4096 tasks would live on, a sum overflowed, its puts landed.
+pub fn outcomes_tell_why()
+    ensures { OutcomesTellWhy }
+{}
+
+/// How some supersteps end is written down and not said by a rule: one for each outcome, and those where two would fit.
+pub fn outcomes_are_worked_out()
+    ensures { OutcomesAreWorkedOut }
+{}
+
+/// A delivery has the paths of the tasks that its task spawned in the order of the spawns: the task's path, followed by the next numbers.
+pub fn deliveries_name_their_spawns()
+    ensures { DeliveriesNameTheirSpawns }
 {}
 
 /// Paths that don't rise are refused first; then the first put to no cell, by its path and its place from 0.

@@ -1,4 +1,11 @@
 //! A picture of what a job leaves, as the text of an SVG file.
+//!
+//! # Where things are
+//!
+//! * `columns.rt`: supersteps as columns; `axes.rt`: the numbers at the axes; `cells.rt`: arrays as strips of
+//!   cells; `picture.rt`: the whole.
+//! * `specs/` has a file for each, and `Worked` with one picture worked out.
+//! * `proofs/Behind.antt`: texts one after another.
 #![tactic(auto)]
 
 mod axes;

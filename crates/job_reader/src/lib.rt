@@ -1,4 +1,12 @@
 //! The text of a job: read as the job that it says or refused at its first fault, and written in one way.
+//!
+//! # Where things are
+//!
+//! * `outer.rt`: lines outside bodies; `inside.rt`: lines of an open body; `state.rt` and `so_far.rt`: what has
+//!   been read; `read.rt`: the one pass; `push.rt` and `write.rt`: the canonical text; `upgrades.rt`: a job in
+//!   format 2.
+//! * `specs/Reading.antt`: what a text says; `Grammar.antt`: which lines are a job's; `Kept.antt`: what the job so
+//!   far and its open body keep.
 #![tactic(auto)]
 
 mod fault;

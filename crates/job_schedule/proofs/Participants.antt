@@ -13,7 +13,7 @@ use Rattle.step_core.specs.Program.{Program}
 use Rattle.step_core.specs.Superstep.{segments}
 use Rattle.step_core.specs.OrderValue.{has_synced, spawned_paths}
 use Rattle.step_core.specs.Laws.{paths_on, synced_path}
-use Rattle.step_parts.proofs.InOrder.{put_all_mapped}
+use Rattle.superstep_memory.proofs.InOrder.{put_all_mapped}
 use Rattle.job_schedule.specs.declared.stage.Stage.{Stage}
 use Rattle.job_schedule.specs.declared.stage.Stage.TheVariants.{Waits, Taken, Polling, Joining, Arriving, Leaving, Over}
 use Rattle.job_schedule.specs.ParticipantValue.{ChildValue, ParticipantValue, participant_at, participant_path, child_path, waiting, own_participant, child_participant, living_participants, next_participants, is_over, all_over, is_delivered}

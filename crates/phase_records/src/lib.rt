@@ -1,4 +1,8 @@
 //! What a job leaves: the records of its supersteps, its report, and the report's text.
+//!
+//! # Where things are
+//!
+//! * `record.rt`: what a job leaves; `report.rt`: its text (`specs/ReportText.antt`).
 #![tactic(auto)]
 
 mod laws;

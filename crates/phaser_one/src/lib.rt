@@ -3,6 +3,12 @@
 //!
 //! Three things are not part of Java's API: the number of a phase that an ended phaser shows, that the end is looked at
 //! before the limit of parties, and a first phase other than 0.
+//!
+//! # Where things are
+//!
+//! * `phaser.rt`: the calls; `step.rt`: what each does to a word; `call.rt`: calls as data.
+//! * `proofs/Counting.antt`: counts of members of one owner; `Following.antt`: one call; `RunProofs.antt`: lists of
+//!   calls; `LawProofs.antt`: the laws.
 #![tactic(auto)]
 
 mod call;

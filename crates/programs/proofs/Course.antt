@@ -24,7 +24,7 @@ use Rattle.programs.specs.Supersteps.{initial, so_far, status, status_of, told, 
 use Rattle.programs.specs.InPlace.{AllDone, deeds_of, IsAllDone, Told, maker, told_at, living_with, left_in, spawned_in, told_in}
 use Rattle.programs.specs.Course.{course_state, HasFaulted, HasGone, HasTakenOne, left_by}
 use Rattle.programs.specs.declared.alone.Course.{Course}
-use Rattle.programs.proofs.InOrder.{put_all_mapped, count_in_order}
+use Rattle.superstep_memory.proofs.InOrder.{put_all_mapped, count_in_order}
 use Rattle.programs.proofs.InPlace.{no_fault, maker_told, living_told, counted}
 use Rattle.programs.proofs.Runs.{goes, ended_is_last}
 use Rattle.programs.proofs.Apart.{live-paths-rise}

@@ -1,6 +1,5 @@
 pub mod InPlace
 pub mod Listed
-pub mod InOrder
 pub mod Runs
 pub mod Apart
 pub mod Course

@@ -154,6 +154,7 @@ module _ {S T : Type 0} (f : Frame T) (may : T → List (List ℕ × List ℤ) �
     tasks = h.tasks;
     whole = λ e. h.to;
     faults = λ x e. absurd (not_some x e);
+    calm = λ e. h.calm;
     further = h.further;
   }
     where
@@ -185,6 +186,7 @@ module _ {S T : Type 0} (f : Frame T) (may : T → List (List ℕ × List ℤ) �
             ∙ first_none (segments_in f h.entries) ((f.path e.task, e.left) ∷ []) h.calm
             ∙ ap (λ (p : List ℕ). first_fault ((p, one.left) ∷ [])) (law t)
             ∙ (told (says_in f 0 [])).1 ∙ k;
+        calm = λ k. absurd (some_none x k);
         further = λ s a.
             let b = agrees_front s arrays step h.entries e a in
             faults_further (reads s meant path) arrays step first place end puts qs rs ts tasks us ds es fs shown after last t u x (h.further s b.0) lt g

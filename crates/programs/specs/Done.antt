@@ -35,6 +35,7 @@ module _ {S T : Type 0} where
     pub tasks : map (λ e. e.task) entries ≡ map meant done
     pub whole : fault ≡ None → length front + length done ≡ end
     pub faults : (x : ℕ × List ℕ) → fault ≡ Some x → first_fault (segments_in f entries) ≡ Some x
+    pub calm : fault ≡ None → first_fault (segments_in f entries) ≡ None
     pub further : (s : Says T) → Agrees s arrays step entries → IsFurther (reads s meant path) arrays step fault first end puts qs ts us ds es before after
 
   -- all live tasks did theirs, or those up to the first fault

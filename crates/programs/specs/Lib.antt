@@ -9,3 +9,4 @@ pub mod DeedsView
 pub mod Course
 pub mod History
 pub mod Done
+pub mod Changes

@@ -4,14 +4,16 @@ ghost use Rattle.std.specs.Option.{option_map};
 ghost use Rattle.std.specs.Vec.{vec_len, vec_capacity};
 ghost use Rattle.superstep_memory.specs.PathOrder.{put_all, in_path_order};
 ghost use Rattle.programs.specs.DeedsView.{deeds_with, spawned_by, stopped_by, behind};
+ghost use Rattle.programs.specs.Changes.{change_of, change_in};
 ghost use Rattle.programs.specs.InPlace.{told_at, told_in, maker, kept, living_with, left_in, spawned_in};
 
-use crate::blame::{Blame, overflowed};
+use crate::blame::{Blame, overflowed, task_path};
 use crate::next::put_task;
 use crate::program::OnPath;
 use phase_records::PhaseRecord;
 use std::alloc::{AllocError, Global};
 use std::marker::Model;
+use superstep_memory::path::Path;
 
 // What a task did: whether it goes on, how many puts it made, which are its part of the log, and how many tasks it
 // spawned.
@@ -239,6 +241,53 @@ impl<T: OnPath> Deeds<T> {
     }
 }
 
+/// What a task did to the list of tasks: whether it goes on, and the paths of the tasks that it spawned, in program order.
+#[derive(Drop)]
+pub struct Change {
+    /// Whether it synced.
+    pub synced: bool,
+    /// The paths of the tasks that it spawned.
+    pub spawned: Vec<Path>,
+}
+
+// The paths of tasks.
+fn paths_in<T: OnPath>(alloc: Global, tasks: &[T]) -> Result<Vec<Path>, AllocError>
+    ensures { IfOk result (λ paths. map (λ p. p.items) paths.items ≡ map T.path_of tasks.now) }
+{
+    let mut paths = Vec::new(alloc);
+    let mut rest = tasks;
+    while let Some((task, after)) = rest.split_first() {
+        paths.push(task_path(task))?;
+        rest = after;
+    }
+    Ok(paths)
+}
+
+// What each task did to the list of tasks.
+fn changes_of<T: OnPath>(
+    alloc: Global,
+    each: &[Deed],
+    spawns: &[T],
+) -> Result<Vec<Change>, AllocError>
+    requires { spawned_by each.now ≡ length spawns.now }
+    ensures { IfOk result (λ changes. map change_of changes.items ≡ map (change_in T.path_of) (deeds_with each.now spawns.now)) }
+{
+    let mut changes = Vec::with_capacity(alloc, each.len())?;
+    let mut rest = each;
+    let mut others = spawns;
+    while let Some((deed, after)) = rest.split_first() {
+        let (own, behind) = others.split_at(deed.spawned);
+        let spawned = paths_in(alloc, own)?;
+        changes.push(Change {
+            synced: deed.synced,
+            spawned,
+        })?;
+        rest = after;
+        others = behind;
+    }
+    Ok(changes)
+}
+
 // Whether no task stopped.
 fn none_stopped(each: &[Deed]) -> bool
     ensures { IsTrue result ↔ (stopped_by each.now ≡ 0) }
@@ -259,6 +308,34 @@ impl<T: OnPath> Deeds<T> {
         ensures { IsTrue result ↔ ((left_in self.now ≡ 0) × (spawned_in self.now ≡ 0)) }
     {
         self.spawns.is_empty() && none_stopped(&self.each)
+    }
+
+    /// What each task did to the list of tasks.
+    pub fn changes(&self, alloc: Global) -> Result<Vec<Change>, AllocError>
+        ensures { IfOk result (λ changes. map change_of changes.items ≡ map (change_in T.path_of) self.now) }
+    {
+        changes_of(alloc, &self.each, &self.spawns)
+    }
+
+    /// How many tasks stopped.
+    pub fn left(&self) -> usize
+        ensures { result ≡ left_in self.now }
+    {
+        count_stopped(&self.each)
+    }
+
+    /// How many tasks were spawned.
+    pub fn spawned(&self) -> usize
+        ensures { result ≡ spawned_in self.now }
+    {
+        self.spawns.len()
+    }
+
+    /// How many tasks did something.
+    pub fn len(&self) -> usize
+        ensures { result ≡ length self.now }
+    {
+        self.each.len()
     }
 
     /// Appends what other tasks did. Out of memory, both are as they were.

@@ -19,7 +19,7 @@ use Rattle.step_parts.specs.SlotParts.{path_in, told_at}
 use Rattle.step_parts.specs.Superstep.{State, superstep, closed, ended_by, segments, first_fault, too_many, overflow, fault_eight, or_next, next_live, log_of, prints_of, record_of, live_paths}
 use Rattle.step_deeds.specs.DeedValue.{DeedValue}
 use Rattle.step_deeds.specs.InPlace.{AllDone, maker, living_with, left_in, spawned_in, AllFew, told_in}
-use Rattle.step_parts.proofs.InOrder.{put_all_mapped, count_in_order}
+use Rattle.superstep_memory.proofs.InOrder.{put_all_mapped, count_in_order}
 use Rattle.step_deeds.proofs.InPlace.{no_fault, maker_told, living_told, counted}
 
 -- what the live tasks of a state do

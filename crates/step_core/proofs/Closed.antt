@@ -26,7 +26,7 @@ use Rattle.step_parts.specs.Slots.{Slot, slot_of, slots_of, told_by, task_in, de
 use Rattle.step_parts.specs.SlotParts.{path_in, path_of, living_in, fresh_slot, IsSmall, AllSmall}
 use Rattle.step_parts.specs.RoundValue.{RoundValue, IsRound, Fits, AllFit, AllFresh, Opens, state_of, status_in, slots_in, whole, with_fault}
 use Rattle.step_parts.proofs.Runs.{goes, no_fault}
-use Rattle.step_parts.proofs.InOrder.{put_all_mapped, count_in_order}
+use Rattle.superstep_memory.proofs.InOrder.{put_all_mapped, count_in_order}
 use Rattle.std.proofs.lemmas.List.{length-map}
 use Rattle.step_parts.proofs.Deeds.{living_mapped}
 

@@ -24,7 +24,7 @@ use Rattle.step_parts.specs.JobMeaning.{initial, so_far, status, status_of, star
 use Rattle.step_deeds.specs.InPlace.{AllDone, deeds_of, IsAllDone, Told, maker, living_with, told_in}
 use Rattle.step_core.specs.Course.{course_state, HasFaulted, HasGone, HasTakenOne, left_by}
 use Rattle.step_core.specs.declared.alone.Course.{Course}
-use Rattle.step_parts.proofs.InOrder.{count_in_order}
+use Rattle.superstep_memory.proofs.InOrder.{count_in_order}
 use Rattle.step_parts.proofs.Runs.{goes, ended_is_last}
 use Rattle.step_parts.proofs.Deeds.{paths_mapped}
 use Rattle.step_core.proofs.Apart.{live-paths-rise}
@@ -166,7 +166,7 @@ abbrev pub Reached : Program → ℕ → State → Type 0
 Reached p limit st = (n : ℕ) × (st ≡ so_far p limit n)
 
 -- one superstep more
-pub reached_more : (p : Program) (limit : ℕ) (st next : State) → Reached p limit st → status limit st ≡ None → next ≡ superstep p st → Reached p limit next
+abbrev pub reached_more : (p : Program) (limit : ℕ) (st next : State) → Reached p limit st → status limit st ≡ None → next ≡ superstep p st → Reached p limit next
 reached_more p limit st next r run e = (
   suc r.0,
   e ∙ ap (superstep p) r.1

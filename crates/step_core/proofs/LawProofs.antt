@@ -49,7 +49,7 @@ use Rattle.step_core.specs.Laws.{
 use Rattle.step_core.proofs.Rounds.{taken, set_is_with, here, tasks_stay}
 use Rattle.step_core.proofs.Closed.{all_delivered}
 use Rattle.step_parts.proofs.Runs.{always_told}
-use Rattle.step_parts.proofs.InOrder.{put_all_mapped}
+use Rattle.superstep_memory.proofs.InOrder.{put_all_mapped}
 use Rattle.std.proofs.lemmas.List.{map-append}
 use Rattle.task_lang.proofs.AllSegments.{stays-the-same-task}
 use Rattle.step_parts.specs.OrderValue.{spawned_paths, is_synced}

@@ -5,3 +5,4 @@ pub mod Apart
 pub mod Landings
 pub mod ByDeeds
 pub mod Course
+pub mod Watching

@@ -11,3 +11,4 @@ pub use Rattle.step_parts.specs.Taking
 pub mod Laws
 pub mod Course
 pub mod RoundView
+pub mod Watching

@@ -10,6 +10,7 @@ ghost use Rattle.step_parts.specs.SlotParts.{path_in};
 ghost use Rattle.step_deeds.specs.InPlace.{living_with, left_in, spawned_in};
 ghost use Rattle.step_parts.specs.JobMeaning.{start_tasks, initial, report_of};
 ghost use Rattle.step_core.specs.Course.{course_state, HasTakenOne, left_by};
+ghost use Rattle.step_core.specs.Watching.{SawAll};
 
 use crate::watch::{NoWatch, Watch};
 use phase_records::{JobStatus, PhaseRecord, Print, Report};
@@ -192,6 +193,7 @@ fn run_within<W: Watch>(
     requires start { course_state (program_of job.now) course.old ≡ initial (program_of job.now) }
     requires few { length course.old.tasks.items ≤ 4096 }
     ensures report { IfOk result (λ s. report_of (program_of job.now) limit ≡ Some (left_by course.new (status_seen s))) }
+    ensures seen { IfOk result (λ s. SawAll W.seen (program_of job.now) limit) }
     ensures short { IfOk result (λ s. IsShort (status_seen s)) }
 {
     while course.step < limit {
@@ -223,6 +225,7 @@ fn run_on<W: Watch>(
     requires start { course_state (program_of job.now) course.old ≡ initial (program_of job.now) }
     requires few { length course.old.tasks.items ≤ 4096 }
     ensures report { IfOk result (λ s. report_of (program_of job.now) limit ≡ Some (left_by course.new (status_seen s))) }
+    ensures seen { IfOk result (λ s. SawAll W.seen (program_of job.now) limit) }
     ensures short { IfOk result (λ s. IsShort (status_seen s)) }
 {
     let mut room = no_room(alloc);
@@ -290,7 +293,8 @@ pub fn run_watched<W: Watch>(
     watch: &mut W,
 ) -> Result<Report, AllocError>
     requires { 1 ≤ limit }
-    ensures { IfOk result (λ report. report_of (program_of job.now) limit ≡ Some report) }
+    ensures report { IfOk result (λ report. report_of (program_of job.now) limit ≡ Some report) }
+    ensures seen { IfOk result (λ report. SawAll W.seen (program_of job.now) limit) }
 {
     let mut course = begin(alloc, job)?;
     let status = run_on(alloc, job, limit, &mut course, watch)?;

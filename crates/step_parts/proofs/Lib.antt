@@ -1,4 +1,3 @@
-pub mod InOrder
 pub mod Deeds
 pub mod Beside
 pub mod Runs

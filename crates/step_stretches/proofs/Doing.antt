@@ -1,5 +1,5 @@
 -- More tasks of a stretch.
-use Rattle.std.proofs.Common.{◌≡◌, ℕ, List, [], Option, Some, None, length, refl, sym, ◌∙◌, subst}
+use Rattle.std.proofs.Common.{◌≡◌, ℕ, List, [], Option, Some, None, length, refl, ◌∙◌, subst}
 use Rattle.std.specs.Prelude.{ℤ, Bool, false, is_some}
 use Rattle.superstep_memory.specs.declared.arrays.Put.{Put}
 use Rattle.phase_records.specs.PrintValue.{PrintValue}

@@ -17,7 +17,7 @@ use Rattle.step_parts.specs.SlotParts.{path_in}
 use Rattle.step_parts.specs.Taking.{outcome_of, outcome_by}
 use Rattle.step_parts.specs.declared.fault.Outcome as outcomes
 use Rattle.step_parts.specs.declared.fault.Outcome.TheVariants.{Landed, Faulted, TooMany, Overflowed}
-use Rattle.step_parts.proofs.InOrder.{count_in_order}
+use Rattle.superstep_memory.proofs.InOrder.{count_in_order}
 use Rattle.step_parts.proofs.Runs.{no_fault, below_limit}
 use Rattle.step_deeds.specs.InPlace.{living_with, told_in}
 use Rattle.step_deeds.proofs.InPlace.{all_stay, counted}

@@ -5,3 +5,4 @@ pub mod Whole
 pub mod Joining
 pub mod Going
 pub mod Lending
+pub mod Refusing

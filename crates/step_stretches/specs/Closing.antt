@@ -25,12 +25,22 @@ use Rattle.step_stretches.specs.StretchesValue.{StretchesValue, AllReady, is_who
 abbrev pub with_slot : StretchesValue → ℕ → Option PartValue → StretchesValue
 with_slot v number slot = record v { parts = slice_set v.parts number slot }
 
--- why a stretch isn't taken back
+-- a stretch that isn't out
+abbrev pub is_there : Option (Option PartValue) → Bool
+is_there None = false
+is_there (Some None) = false
+is_there (Some (Some part)) = true
+
+-- it is of this step, and all its tasks have done their segments
+abbrev pub IsOfStepAndFinished : StretchesValue → StretchValue → Type 0
+IsOfStepAndFinished v s = (s.part.step ≡ v.step) × (is_finished s.part ≡ true)
+
+-- Why a stretch isn't taken back: the first of these reasons.
 abbrev pub Refuses : Unwanted → StretchesValue → StretchValue → Type 0
 Refuses unwanted.WrongStep v s = s.part.step ≡ v.step → ⊥
-Refuses unwanted.Unfinished v s = is_finished s.part ≡ false
-Refuses unwanted.Stranger v s = slice_get v.parts s.number ≡ None
-Refuses unwanted.Double v s = (slice_get v.parts s.number ≡ Some None) → ⊥
+Refuses unwanted.Unfinished v s = (s.part.step ≡ v.step) × (is_finished s.part ≡ false)
+Refuses unwanted.Stranger v s = IsOfStepAndFinished v s × (slice_get v.parts s.number ≡ None)
+Refuses unwanted.Double v s = IsOfStepAndFinished v s × (is_there (slice_get v.parts s.number) ≡ true)
 
 -- when it is taken back
 pub record Takes (v : StretchesValue) (s : StretchValue) : Type 0 where

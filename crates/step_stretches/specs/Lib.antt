@@ -5,3 +5,4 @@ pub mod StretchesValue
 pub mod StretchesView
 pub mod Joining
 pub mod Closing
+pub mod Laws

@@ -9,3 +9,4 @@ pub mod Merged
 pub mod Rows
 pub mod LotLemmas
 pub mod LotsTaken
+pub mod InOrder

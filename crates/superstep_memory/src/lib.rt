@@ -1,4 +1,13 @@
 //! Shared arrays, the paths of tasks, and the puts that land in the arrays at the end of a superstep.
+//!
+//! # Where things are
+//!
+//! * `arrays.rt`: arrays, puts and logs; `path.rt`: the order of paths; `log.rt`: one log, taken or given back;
+//!   `landing.rt`: landing; `runs.rt`: runs of logs.
+//! * `specs/PathOrder.antt`: things in path order; `Landing.antt`: what puts leave and which overflow; `Runs.antt`:
+//!   what runs are.
+//! * `proofs/Landed.antt`: one put after another; `Over.antt`: the first that overflows; `Taken.antt`: puts taken
+//!   and given back; `Merged.antt` and `InOrder.antt`: lists in path order; `LandedLaws.antt`: the laws.
 #![tactic(auto)]
 
 pub mod arrays;

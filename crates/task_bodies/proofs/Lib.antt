@@ -1,3 +1,4 @@
 pub mod Framed
 pub mod Laws
 pub mod Mapped
+pub mod Many

@@ -1,11 +1,15 @@
 -- Tasks that run a body: what each keeps, where it is, and how what a body leaves becomes what a task leaves (own).
-use Rattle.std.specs.Prelude.{◌≡◌, ℕ, zero, suc, ◌+◌, ℤ, Bool, not, nat_le, nat_lt, if◌then◌else◌, List, [], ◌∷◌, ◌++◌, length, Option, Some, None}
+use Rattle.std.specs.Prelude.{◌≡◌, ℕ, zero, suc, ◌+◌, ℤ, Bool, not, ◌||◌, nat_le, nat_lt, if◌then◌else◌, List, [], ◌∷◌, ◌++◌, length, Option, Some, None}
 use Rattle.std.specs.List.{list_all}
 use Rattle.superstep_memory.specs.declared.arrays.Put.{Put}
 use Rattle.superstep_memory.specs.Cells.{is_cell}
 use Rattle.programs.specs.Meaning.{After, Synced, Stopped, Faulted, Segment, Frame}
 use Rattle.task_bodies.specs.declared.body.Ending.{Ending}
 use Rattle.task_bodies.specs.declared.body.Ending.TheVariants as ending
+
+-- so many start tasks are too many: more than may live, or than a path's first number counts
+abbrev pub are_too_many : ℕ → ℕ → Bool
+are_too_many most count = nat_lt 65535 count || nat_lt most count
 
 -- what a body has written
 pub record OutValue (K : Type 0) : Type 0 where

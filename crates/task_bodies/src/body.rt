@@ -1,5 +1,5 @@
 //! What a task of your own reads, writes and does.
-ghost use Rattle.std.specs.Prelude.{◌≡◌, ◌≤◌, ◌^◌, ◌++◌, ◌∷◌, ℕ, ℤ, pos, List, [], length, slice_get, IfOk, OnOk};
+ghost use Rattle.std.specs.Prelude.{◌≡◌, ◌≤◌, ◌^◌, ◌++◌, ◌∷◌, ℕ, ℤ, pos, List, [], length, slice_get, IfOk, OnOk, OnErr};
 ghost use Rattle.superstep_memory.specs.declared.arrays.PutKind.TheVariants as PutKinds;
 ghost use Rattle.superstep_memory.specs.Cells.{cell_at};
 ghost use Rattle.superstep_memory.specs.Rows.{row_puts};
@@ -64,7 +64,8 @@ impl<K: Drop> Out<K> {
     /// Sets a cell. If there is no such cell, the run ends with fault 3.
     #[inline(always)]
     pub fn put(&mut self, array: u16, index: u32, value: i64) -> Result<(), AllocError>
-        ensures { OnOk result (self.new ≡ record self.old { puts = self.old.puts ++ record { array = array; index = index; kind = PutKinds.Set; value = value } ∷ [] }) }
+        ensures done { OnOk result (self.new ≡ record self.old { puts = self.old.puts ++ record { array = array; index = index; kind = PutKinds.Set; value = value } ∷ [] }) }
+        ensures memory { OnErr result (self.new ≡ self.old) }
     {
         self.puts.put(Put {
             array,
@@ -78,7 +79,8 @@ impl<K: Drop> Out<K> {
     /// Bits of an `f64` can't be added so.
     #[inline(always)]
     pub fn add(&mut self, array: u16, index: u32, value: i64) -> Result<(), AllocError>
-        ensures { OnOk result (self.new ≡ record self.old { puts = self.old.puts ++ record { array = array; index = index; kind = PutKinds.Add; value = value } ∷ [] }) }
+        ensures done { OnOk result (self.new ≡ record self.old { puts = self.old.puts ++ record { array = array; index = index; kind = PutKinds.Add; value = value } ∷ [] }) }
+        ensures memory { OnErr result (self.new ≡ self.old) }
     {
         self.puts.put(Put {
             array,
@@ -92,7 +94,8 @@ impl<K: Drop> Out<K> {
     /// than single puts: 8 bytes a cell, and one look at the array.
     #[inline(always)]
     pub fn put_row(&mut self, array: u16, first: u32, values: Vec<i64>) -> Result<(), AllocError>
-        ensures { OnOk result (self.new ≡ record self.old { puts = self.old.puts ++ row_puts array first values.items }) }
+        ensures done { OnOk result (self.new ≡ record self.old { puts = self.old.puts ++ row_puts array first values.items }) }
+        ensures memory { OnErr result (self.new ≡ self.old) }
     {
         self.puts.put_row(array, first, values)
     }
@@ -107,7 +110,8 @@ impl<K: Drop> Out<K> {
 
     /// Prints a value.
     pub fn print(&mut self, value: i64) -> Result<(), AllocError>
-        ensures { OnOk result (self.new ≡ record self.old { prints = self.old.prints ++ value ∷ [] }) }
+        ensures done { OnOk result (self.new ≡ record self.old { prints = self.old.prints ++ value ∷ [] }) }
+        ensures memory { OnErr result (self.new ≡ self.old) }
     {
         match self.prints.push(value) {
             Ok(()) => Ok(()),
@@ -118,7 +122,8 @@ impl<K: Drop> Out<K> {
     /// Spawns a task that keeps this. It first runs in the next superstep. A task whose path has 8 numbers can't spawn: the run
     /// ends with fault 5. A task can spawn 65535 tasks in all; with one more, the run ends with fault 6.
     pub fn spawn(&mut self, kept: K) -> Result<(), AllocError>
-        ensures { OnOk result (self.new ≡ record self.old { spawns = self.old.spawns ++ kept ∷ [] }) }
+        ensures done { OnOk result (self.new ≡ record self.old { spawns = self.old.spawns ++ kept ∷ [] }) }
+        ensures memory { OnErr result (self.new ≡ self.old) }
     {
         match self.spawns.push(kept) {
             Ok(()) => Ok(()),

@@ -31,7 +31,7 @@ impl<F: Fn(i64, i64, i64) -> i64> TaskBody for Stencil<F> {
 
     ghost ready = { λ s. F.IsAlwaysCallable s.f };
 
-    ghost may = { λ s path arrays step k o. StencilMay (λ l m r v. F.post s.f l m r v) s.array arrays k o };
+    ghost may = { λ s path arrays step k o. StencilMay (λ l m r v. F.post s.f l m r v) s.array s.last arrays step k o };
 
     fn run(
         &self,

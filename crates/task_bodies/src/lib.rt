@@ -1,4 +1,10 @@
 //! Tasks that run a body of your own.
+//!
+//! # Where things are
+//!
+//! * `body.rt`: what you write; `run.rt`: runs; `kernel.rt`: bodies that are a closure; `member.rt`: tasks; `native.rt`:
+//!   the program of a body; `framing.rt`: how what a body wrote joins what others wrote.
+//! * `specs/Bodies.antt`: what bodies leave; `Kernels.antt`: what kernels leave; `Settled.antt`: how both join.
 #![tactic(auto)]
 
 pub mod body;

@@ -82,8 +82,8 @@ pub(crate) fn number<K: Drop>(
     Ok(())
 }
 
-/// The tasks that a run begins with.
-pub(crate) fn starts<K: Drop>(alloc: Global, kept: Vec<K>) -> Result<Vec<Member<K>>, AllocError>
+/// The tasks that a run begins with, which keep this.
+pub fn starts<K: Drop>(alloc: Global, kept: Vec<K>) -> Result<Vec<Member<K>>, AllocError>
     requires few { length kept.items ≤ 65535 }
     ensures tasks { IfOk result (λ tasks. tasks.items ≡ numbered [] 0 kept.items) }
 {

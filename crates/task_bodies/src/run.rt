@@ -1,15 +1,16 @@
 //! Runs of tasks of your own.
-ghost use Rattle.std.specs.Prelude.{◌≡◌, ◌≤◌, ◌<◌, [], Some, IfOk, IfErr, length};
+ghost use Rattle.std.specs.Prelude.{◌≡◌, ◌<◌, ◌↔◌, [], Some, true, false, IfOk, IfErr, length};
+ghost use Rattle.task_bodies.specs.declared.run.RunFault.TheVariants.{TooMany as TooManyStart};
 ghost use Rattle.programs.specs.History.{HasRun, HasRunTo, says_of};
 ghost use Rattle.programs.specs.Supersteps.{report_of};
-ghost use Rattle.task_bodies.specs.Bodies.{MemberValue, member_frame, BodyMay, body_does, numbered};
+ghost use Rattle.task_bodies.specs.Bodies.{MemberValue, member_frame, are_too_many, BodyMay, body_does, numbered};
 
 use crate::body::{Exact, TaskBody};
 use crate::member::{Member, starts};
 use crate::native::Native;
 use programs::alone::{Ran, run_watched};
 use programs::watch::{NoWatch, Watch};
-use std::alloc::{AllocError, Global};
+use std::alloc::{AllocError, AllocFailed, Global};
 use superstep_memory::arrays::Arrays;
 use thiserror::Error;
 
@@ -21,7 +22,23 @@ pub enum RunFault {
     TooMany,
     /// Out of memory. Nothing is left of the run.
     #[error(transparent)]
-    Memory(#[from(alloc)] AllocError),
+    Memory(AllocError),
+}
+
+impl From<AllocError> for RunFault {
+    ghost from_gives = { λ _ e. (e ≡ TooManyStart) → ⊥ };
+
+    fn from(fault: AllocError) -> RunFault {
+        RunFault::Memory(fault)
+    }
+}
+
+impl<T: Drop> From<AllocFailed<T>> for RunFault {
+    ghost from_gives = { λ _ e. (e ≡ TooManyStart) → ⊥ };
+
+    fn from(_failed: AllocFailed<T>) -> RunFault {
+        RunFault::Memory(AllocError)
+    }
 }
 
 /// Runs tasks of this body on one thread, the start tasks with this kept: each superstep's tasks one after another, by path. At
@@ -41,6 +58,8 @@ pub fn run_bodies<B: TaskBody>(
     requires ready { B.ready body.now }
     requires most { most < 2147483648 }
     ensures ran { IfOk result (λ ran. HasRun member_frame (BodyMay (B.may body.now)) most arrays (numbered [] 0 tasks.items) limit ran.report ran.tasks.items) }
+    ensures few { IfOk result (λ ran. are_too_many most (length tasks.items) ≡ false) }
+    ensures fault { IfErr result (λ e. (e ≡ TooManyStart) ↔ (are_too_many most (length tasks.items) ≡ true)) }
 {
     let ran = run_bodies_watched(alloc, body, arrays, tasks, most, limit, &mut NoWatch)?;
     Ok(ran)
@@ -60,6 +79,8 @@ pub fn run_bodies_watched<B: TaskBody, W: Watch>(
     requires ready { B.ready body.now }
     requires most { most < 2147483648 }
     ensures ran { IfOk result (λ ran. HasRunTo W.stops W.goes member_frame (BodyMay (B.may body.now)) most arrays (numbered [] 0 tasks.items) limit ran.report ran.tasks.items) }
+    ensures few { IfOk result (λ ran. are_too_many most (length tasks.items) ≡ false) }
+    ensures fault { IfErr result (λ e. (e ≡ TooManyStart) ↔ (are_too_many most (length tasks.items) ≡ true)) }
 {
     if tasks.len() > 65535 || tasks.len() > most as usize {
         return Err(RunFault::TooMany);
@@ -81,7 +102,9 @@ pub fn run_exactly<B: Exact>(
 ) -> Result<Ran<Member<B::Kept>>, RunFault>
     requires ready { B.ready body.now }
     requires most { most < 2147483648 }
-    ensures { IfOk result (λ ran. report_of (says_of member_frame most (body_does (B.does body.now))) arrays (numbered [] 0 tasks.items) limit ≡ Some ran.report) }
+    ensures report { IfOk result (λ ran. report_of (says_of member_frame most (body_does (B.does body.now))) arrays (numbered [] 0 tasks.items) limit ≡ Some ran.report) }
+    ensures few { IfOk result (λ ran. are_too_many most (length tasks.items) ≡ false) }
+    ensures fault { IfErr result (λ e. (e ≡ TooManyStart) ↔ (are_too_many most (length tasks.items) ≡ true)) }
 {
     let ran = run_bodies(alloc, body, arrays, tasks, most, limit)?;
     Ok(ran)

@@ -54,7 +54,8 @@ impl<'a> Row<'a> {
     }
 }
 
-// A short text written out: each piece `{N:piece}` N times, and a line's end at the end.
+// A short text written out: each piece `{N:piece}` N times, and a line's end at the end. A `{` with no number after it is
+// a `{`.
 fn written_out(alloc: Global, short: &str) -> Result<String, AllocError> {
     let mut whole = String::new(alloc);
     let mut is_first = true;
@@ -75,8 +76,11 @@ fn written_out(alloc: Global, short: &str) -> Result<String, AllocError> {
 // Writes a part that begins behind a `{`.
 fn write_part(alloc: Global, whole: &mut String, part: &str) -> Result<(), AllocError> {
     let (repeated, rest) = part.split_once('}').unwrap_or(("", part));
-    let (count_word, piece) = repeated.split_once(':').unwrap_or(("0", ""));
-    let count = count_word.parse::<u32>().unwrap_or(0);
+    let (count_word, piece) = repeated.split_once(':').unwrap_or(("", ""));
+    let Ok(count) = count_word.parse::<u32>() else {
+        whole.push('{')?;
+        return write_lines(alloc, whole, part, None);
+    };
     for number in 0..count {
         write_lines(alloc, whole, piece, Some(number))?;
     }

@@ -1,4 +1,4 @@
-//! Landing and rounds: deliveries in any order, and refusals.
+//! Landing, rounds and runs on one thread: deliveries in any order, refusals, and who looks on.
 #[cfg(test)]
 mod calls;
 #[cfg(test)]
@@ -13,3 +13,5 @@ mod orders;
 mod rounds;
 #[cfg(test)]
 mod turns;
+#[cfg(test)]
+mod watched;

@@ -5,6 +5,13 @@
 //! * [`upgrades`]: what is upgraded is read as it was written; texts of format 2, worked out.
 //! * [`worked`]: bytes and names in numbers; the order of faults; refusals, worked out.
 //! * [`refusals`]: the refusal of a line doesn't depend on what follows it, and the lines above it can be continued to a job.
+//!
+//! # Where things are
+//!
+//! * `proofs/Chain.antt`: lines in turn; `InBody.antt`: a body's lines read back; `Items.antt`: items in turn;
+//!   `Whole.antt`: texts; `CanonicalJob.antt`: the canonical text; `Seen.antt`: what a line's fault depends on;
+//!   `SeenLines.antt`: that it does; `Folds.antt`: lines up to the first fault; `Closing.antt`: the ends;
+//!   `Named.antt` and `Lacking.antt`: the missing bodies; `Held.antt` and `Above.antt`: the laws.
 #![tactic(auto)]
 
 mod canonical;

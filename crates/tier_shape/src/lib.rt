@@ -1,6 +1,12 @@
 //! Trees of tiers: the parent of each tier, the leaves, and the paths up to the root.
 //!
 //! Not part of Java's API.
+//!
+//! # Where things are
+//!
+//! * `leaves.rt`: leaves by number (`specs/Preferred.antt`).
+//! * `specs/Parents.antt`: the shape as a list; `Paths.antt`, `Leaves.antt`, `Widths.antt`: what a text of widths
+//!   says; `Told.antt`: the same as a function.
 #![tactic(auto)]
 
 ghost use Rattle.std.specs.Prelude.{◌≡◌, ℕ, ◌+◌, ◌<◌, ◌≤◌, ◌↔◌, ◌&&◌, List, length, false, nat_lt, if◌then◌else◌};

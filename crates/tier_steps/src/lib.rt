@@ -8,6 +8,12 @@
 //! * [`step`]: what each kind of step does to a word and to a view.
 //! * [`laws`]: each kind of step keeps the tally of words and views, and is a step of one flat phaser over all
 //!   members of all tokens.
+//!
+//! # Where things are
+//!
+//! * `view.rt`, `kind.rt`: the data; `step.rt`: the Rust twins of the steps; `laws.rt`: the laws.
+//! * `proofs/Balance.antt` and `Keeping.antt`: the tally after a step; `Advance.antt`: the root's advance;
+//!   `FlatLaw.antt`: the labels.
 #![tactic(auto)]
 
 pub mod kind;

@@ -4,6 +4,11 @@
 //! * [`waiting`]: its calls that wait, and the same as functions over the tiers and the rule.
 //! * [`tokens`]: who calls: doors, without members, and crews, with members.
 //! * [`arriving`], [`in_place`], [`joining`], [`polling`], [`forcing`], [`closing`]: the answers.
+//!
+//! # Where things are
+//!
+//! * `tree.rt`: the tree; `waiting.rt`: its calls that wait.
+//! * `proofs/Lasting.antt`: answers that last.
 #![tactic(auto)]
 
 pub mod closing;

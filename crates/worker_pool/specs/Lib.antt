@@ -1,3 +1,5 @@
+pub mod Mark
+pub mod JobEngine
 pub mod QueueValue
 pub mod Entries
 pub mod JobPlan

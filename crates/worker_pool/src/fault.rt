@@ -41,12 +41,14 @@ impl From<AllocError> for Refused {
     }
 }
 
-/// Why a worker stopped before the end of the job.
-#[derive(Clone, Copy)]
-pub(crate) enum Reason {
+/// Why a worker stops before the end of a run (own).
+#[derive(Clone, Copy, Debug, PartialEq, Eq, Error)]
+pub enum Reason {
     /// It ran out of memory.
+    #[error("out of memory")]
     Memory,
-    /// The queue or the tree refused what it never refuses.
+    /// The engine, the queue or the tree refused what it never refuses.
+    #[error("internal")]
     Internal,
 }
 

@@ -1,11 +1,11 @@
 //! Participants, grouped by the stretch of their tasks.
+use crate::engine::Engine;
 use crate::fault::Reason;
 use crate::participant::{Group, Participant};
 use crate::queue::Running;
 use std::alloc::AllocError;
 use std::cmp::Ordering;
 use std::collections::VecDeque;
-use step_stretches::Stretches;
 
 /// Sorts participants by path.
 pub(crate) fn in_path_order<J: Running>(participants: &mut Vec<Participant<J>>) {
@@ -81,15 +81,15 @@ fn push_first<J: Running>(
 
 /// Groups participants, which are in path order, by the stretches of their tasks. No worker holds a stretch. Takes all
 /// participants.
-pub(crate) fn groups_of<J: Running>(
-    stretches: &Stretches<'_>,
+pub(crate) fn groups_of<E: Engine, J: Running>(
+    engine: &E,
     participants: &mut Vec<Participant<J>>,
 ) -> Result<VecDeque<Group<J>>, Reason> {
     let mut groups = VecDeque::new(*participants.allocator());
-    let count = stretches.len();
+    let count = engine.len();
     for behind in 0..count {
         let number = count - 1 - behind;
-        let Some(at) = participants.len().checked_sub(stretches.length(number)) else {
+        let Some(at) = participants.len().checked_sub(engine.length(number)) else {
             return Err(Reason::Internal);
         };
         let group = participants.split_off(at)?;

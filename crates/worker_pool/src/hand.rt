@@ -1,32 +1,32 @@
 //! A stretch that a worker holds.
-ghost use Rattle.std.specs.Prelude.{◌≡◌, ◌+◌, true, false, IfOk, OnOk};
-ghost use Rattle.step_stretches.specs.Parts.{IsDoneTo, is_finished};
+ghost use Rattle.std.specs.Prelude.{◌≡◌, ◌+◌, ◌<◌, ◌≤◌, IfOk, OnOk};
 ghost use Rattle.worker_pool.specs.Changes.{Tells};
 
+use crate::engine::Stretch;
 use crate::fault::Reason;
 use crate::hooks::Gate;
 use crate::queue::Running;
 use std::alloc::{AllocError, Global};
 use std::marker::{Model, PhantomData};
 use std::sync::Wait;
-use step_stretches::{Change, Stretch};
+use step_stretches::Change;
 
-/// A stretch that a worker holds. Its type keeps that it is of the job that runs.
+/// A stretch that a worker holds. Its type keeps that it is of the engine that runs.
 #[derive(Drop)]
-pub(crate) struct HeldStretch<'j, J: Running> {
-    stretch: Stretch<'j>,
+pub(crate) struct HeldStretch<S: Stretch, J: Running> {
+    stretch: S,
     of: PhantomData<J>,
 }
 
-impl<'j, J: Running> Model for HeldStretch<'j, J> {
+impl<S: Stretch, J: Running> Model for HeldStretch<S, J> {
     ghost use Rattle.std.specs.Prelude.{◌≡◌};
-    ghost use Rattle.step_stretches.specs.PartValue.{StretchValue};
+    ghost use Rattle.worker_pool.specs.Mark.{unlimited};
 
-    ghost Value = { StretchValue };
+    ghost Value = { S };
 
     ghost view = { λ l. l.stretch };
 
-    ghost invariant = { λ l. l.stretch.part.job ≡ J.job };
+    ghost invariant = { λ l. S.mark l.stretch ≡ unlimited J.mark };
 }
 
 /// How the tasks of a stretch changed the list of live tasks.
@@ -39,24 +39,28 @@ pub(crate) enum Changes {
 }
 
 // Runs the next segment of a stretch.
-fn do_one(alloc: Global, stretch: &mut Stretch<'_>) -> Result<(), AllocError>
-    requires { is_finished stretch.old.part ≡ false }
-    ensures more { OnOk result (IsDoneTo (stretch.old.part.done + 1) stretch.old.part stretch.new.part) }
-    ensures same { stretch.new.part.job ≡ stretch.old.part.job }
+fn do_one<S: Stretch>(alloc: Global, stretch: &mut S) -> Result<(), AllocError>
+    requires { S.done stretch.old < S.len stretch.old }
+    ensures run { OnOk result (S.runs_to (S.done stretch.old + 1) stretch.old stretch.new) }
+    ensures done { OnOk result (S.done stretch.new ≡ S.done stretch.old + 1) }
+    ensures len { OnOk result (S.len stretch.new ≡ S.len stretch.old) }
+    ensures mark { S.mark stretch.new ≡ S.mark stretch.old }
 {
     stretch.do_next(alloc)
 }
 
 // Runs the next segment of a stretch between the two calls of a gate.
-fn do_gated<R: Wait, G: Gate>(
+fn do_gated<S: Stretch, R: Wait, G: Gate>(
     rt: &R,
     alloc: Global,
     gate: &G,
-    stretch: &mut Stretch<'_>,
+    stretch: &mut S,
 ) -> Result<(), AllocError>
-    requires { is_finished stretch.old.part ≡ false }
-    ensures more { OnOk result (IsDoneTo (stretch.old.part.done + 1) stretch.old.part stretch.new.part) }
-    ensures same { stretch.new.part.job ≡ stretch.old.part.job }
+    requires { S.done stretch.old < S.len stretch.old }
+    ensures run { OnOk result (S.runs_to (S.done stretch.old + 1) stretch.old stretch.new) }
+    ensures done { OnOk result (S.done stretch.new ≡ S.done stretch.old + 1) }
+    ensures len { OnOk result (S.len stretch.new ≡ S.len stretch.old) }
+    ensures mark { S.mark stretch.new ≡ S.mark stretch.old }
 {
     let Some(path) = stretch.next_path() else {
         return do_one(alloc, stretch);
@@ -69,10 +73,10 @@ fn do_gated<R: Wait, G: Gate>(
 }
 
 // Runs all segments that are left, by one call.
-fn do_rest(alloc: Global, stretch: &mut Stretch<'_>) -> Result<(), AllocError>
-    requires { is_finished stretch.old.part ≡ false }
-    ensures done { OnOk result (is_finished stretch.new.part ≡ true) }
-    ensures same { stretch.new.part.job ≡ stretch.old.part.job }
+fn do_rest<S: Stretch>(alloc: Global, stretch: &mut S) -> Result<(), AllocError>
+    requires { S.done stretch.old < S.len stretch.old }
+    ensures done { OnOk result (S.len stretch.new ≤ S.done stretch.new) }
+    ensures mark { S.mark stretch.new ≡ S.mark stretch.old }
 {
     stretch.do_rest(alloc)
 }
@@ -80,14 +84,14 @@ fn do_rest(alloc: Global, stretch: &mut Stretch<'_>) -> Result<(), AllocError>
 // Runs all segments of a stretch. If the gate isn't open, the stretch has one task, whose segment runs between the two
 // calls of the gate. There it has more only if there was no memory to cut it; then the call fails, since one of the tasks
 // could wait for another.
-fn do_all<R: Wait, G: Gate>(
+fn do_all<S: Stretch, R: Wait, G: Gate>(
     rt: &R,
     alloc: Global,
     gate: &G,
-    stretch: &mut Stretch<'_>,
+    stretch: &mut S,
 ) -> Result<(), AllocError>
-    ensures done { OnOk result (is_finished stretch.new.part ≡ true) }
-    ensures same { stretch.new.part.job ≡ stretch.old.part.job }
+    ensures done { OnOk result (S.len stretch.new ≤ S.done stretch.new) }
+    ensures mark { S.mark stretch.new ≡ S.mark stretch.old }
 {
     if stretch.is_finished() {
         return Ok(());
@@ -101,15 +105,15 @@ fn do_all<R: Wait, G: Gate>(
     do_gated(rt, alloc, gate, stretch)
 }
 
-impl<'j, J: Running> HeldStretch<'j, J> {
-    ghost use Rattle.std.specs.Prelude.{◌≡◌, true, IfOk, OnOk};
-    ghost use Rattle.step_stretches.specs.Parts.{is_finished};
+impl<S: Stretch, J: Running> HeldStretch<S, J> {
+    ghost use Rattle.std.specs.Prelude.{◌≡◌, ◌≤◌, IfOk, OnOk};
     ghost use Rattle.worker_pool.specs.Changes.{Tells};
+    ghost use Rattle.worker_pool.specs.Mark.{unlimited};
 
-    /// Holds a stretch of the job that runs.
-    pub(crate) fn new(stretch: Stretch<'j>) -> Self
-        requires { stretch.part.job ≡ J.job }
-        ensures { result ≡ stretch.entry }
+    /// Holds a stretch of the engine that runs.
+    pub(crate) fn new(stretch: S) -> Self
+        requires { S.mark stretch ≡ unlimited J.mark }
+        ensures { result ≡ stretch }
     {
         HeldStretch {
             stretch,
@@ -119,7 +123,7 @@ impl<'j, J: Running> HeldStretch<'j, J> {
 
     /// Its superstep, counted from 0.
     pub(crate) fn step(&self) -> u32
-        ensures { result ≡ self.now.part.step }
+        ensures { result ≡ S.step self.now }
     {
         self.stretch.step()
     }
@@ -132,8 +136,8 @@ impl<'j, J: Running> HeldStretch<'j, J> {
         alloc: Global,
         gate: &G,
     ) -> Result<Changes, Reason>
-        ensures done { OnOk result (is_finished self.new.part ≡ true) }
-        ensures told { IfOk result (λ changes. Tells self.new.part changes) }
+        ensures done { OnOk result (S.len self.new ≤ S.done self.new) }
+        ensures told { IfOk result (Tells (S.stays self.new) (S.faulted self.new) (S.told self.new)) }
     {
         match do_all(rt, alloc, gate, &mut self.stretch) {
             Ok(()) => changes_of(alloc, &self.stretch),
@@ -142,17 +146,17 @@ impl<'j, J: Running> HeldStretch<'j, J> {
     }
 
     /// Gives up the stretch.
-    pub(crate) fn into_stretch(self) -> Stretch<'j>
-        ensures stretch { result ≡ self.entry }
-        ensures job { result.part.job ≡ J.job }
+    pub(crate) fn into_stretch(self) -> S
+        ensures stretch { result ≡ self }
+        ensures mark { S.mark result ≡ unlimited J.mark }
     {
         self.stretch
     }
 }
 
 // Returns how the tasks of a stretch changed the list of live tasks.
-fn changes_of(alloc: Global, stretch: &Stretch<'_>) -> Result<Changes, Reason>
-    ensures { IfOk result (λ changes. Tells stretch.now.part changes) }
+fn changes_of<S: Stretch>(alloc: Global, stretch: &S) -> Result<Changes, Reason>
+    ensures { IfOk result (Tells (S.stays stretch.now) (S.faulted stretch.now) (S.told stretch.now)) }
 {
     if stretch.all_stay() && !stretch.has_faulted() {
         return Ok(Changes::Same);

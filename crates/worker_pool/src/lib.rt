@@ -1,18 +1,23 @@
-//! Runs jobs on worker threads, which synchronize at a tree of phasers, superstep by superstep.
+//! Runs jobs, and other engines of supersteps, on worker threads, which synchronize at a tree of phasers.
 //!
-//! * `run`, `start`: one run, from its first registration to the report.
+//! * `engine`: what workers run. `job_engine`: the stretches of a job as an engine.
+//! * `run`, `start`: one run, from its first registration to what it leaves.
 //! * `work`: the loop of one worker.
 //! * `shared`: what all workers share: the queue under a lock, and the tree without one.
 //! * `queue`, `groups`: which stretches are ready, and which participants are back from the tree.
 //! * `hand`: a stretch while a worker holds it. `participant`: a task's token on the tree.
 //! * `tree`, `leaves`: the calls of the tree, and the leaves of its tasks.
-//! * `hooks`: what a caller hooks into a run. `fault`: why a run gives no report.
+//! * `hooks`: what a caller hooks into a run. `fault`: why a run leaves nothing.
+//! * `specs/Mark.antt`: what a run is of; `JobEngine.antt`: a job as an engine; `JobPlan.antt`: when the tree of a
+//!   job ends.
 #![tactic(auto)]
 
+pub mod engine;
 mod fault;
 mod groups;
 mod hand;
 mod hooks;
+mod job_engine;
 mod leaves;
 mod participant;
 mod queue;
@@ -23,7 +28,7 @@ mod tree;
 mod within;
 mod work;
 
-pub use fault::Refused;
+pub use fault::{Reason, Refused};
 pub use hooks::{AllStart, Gate, OpenGate, Starter};
-pub use run::run_job;
+pub use run::{limit_in, run_engine, run_job, stretches_wanted};
 pub use within::run_within;

@@ -1,30 +1,23 @@
-//! The stretches of a job as workers share them, and which of them are ready.
-ghost use Rattle.std.specs.Prelude.{◌≡◌, ℕ, Some, true, IfOk, IfErr, OnOk, OnErr};
-ghost use Rattle.step_core.specs.Program.{program_of};
-ghost use Rattle.step_core.specs.JobMeaning.{report_of};
-ghost use Rattle.step_stretches.specs.StretchesValue.{state_of, is_whole};
-ghost use Rattle.step_stretches.specs.Closing.{Takes, with_slot, IsClosed, IsAt};
+//! An engine as workers share it, and which of its stretches are ready.
+ghost use Rattle.std.specs.Prelude.{◌≡◌, ◌⊎◌, ℕ, true, IfOk, IfErr, OnOk, OnErr};
 ghost use Rattle.worker_pool.specs.Refusals.{IsOfWorkers};
 
-use crate::fault::{Reason, Refused, reason_of_closing, reason_of_delivery};
+use crate::engine::{Closed, Engine};
+use crate::fault::{Reason, Refused};
 use crate::groups::{groups_of, in_path_order, move_groups, move_participants, push_group};
 use crate::hand::HeldStretch;
 use crate::participant::{Group, Participant};
-use phase_records::Report;
 use std::alloc::Global;
 use std::collections::VecDeque;
 use std::marker::{Brand, Model, PhantomData};
-use step_stretches::{Outcome, Stretches};
 
-/// What a run is of: the job, the limit, the number of workers, and the tree at which they meet. Each run picks its own.
+/// What a run is of: the mark of its engine, the number of workers, and the tree at which they meet. Each run picks its own.
 pub trait Running {
     ghost use Rattle.std.specs.Prelude.{ℕ};
-    ghost use Rattle.task_code.specs.JobValue.{JobValue};
     ghost use Rattle.tier_table.specs.Holding.{Named};
+    ghost use Rattle.worker_pool.specs.Mark.{Mark};
 
-    ghost job: { JobValue };
-
-    ghost limit: { ℕ };
+    ghost mark: { Mark };
 
     ghost workers: { ℕ };
 
@@ -33,10 +26,9 @@ pub trait Running {
 
 impl Running for Brand {
     ghost use Rattle.std.specs.Prelude.{[], false, None};
+    ghost use Rattle.worker_pool.specs.Mark.{OfJob};
 
-    ghost job = { record { format = 1; arrays = []; bodies = []; starts = [] } };
-
-    ghost limit = { 1 };
+    ghost mark = { OfJob (record { format = 1; arrays = []; bodies = []; starts = [] }) 1 };
 
     ghost workers = { 1 };
 
@@ -46,11 +38,11 @@ impl Running for Brand {
     } };
 }
 
-/// The stretches of the job that runs, the groups of their participants, and the first refusal. Its type keeps that the
-/// stretches are of that job and limit, and that a worker that couldn't be started is one of the run's.
+/// The engine that runs, the groups of its participants, and the first refusal. Its type keeps that the engine is of the
+/// run's mark, and that a worker that couldn't be started is one of the run's.
 #[derive(Drop)]
-pub(crate) struct Queue<'j, J: Running> {
-    stretches: Stretches<'j>,
+pub(crate) struct Queue<E: Engine, J: Running> {
+    engine: E,
     // The groups of stretches that are ready and that no worker has taken.
     ready: VecDeque<Group<J>>,
     // The groups of this superstep that are back from the tree. If all tasks stay, they are ready once it is closed.
@@ -68,9 +60,9 @@ pub(crate) struct Queue<'j, J: Running> {
 
 /// What a worker does next.
 #[derive(Drop)]
-pub(crate) enum Next<'j, J: Running> {
+pub(crate) enum Next<E: Engine, J: Running> {
     /// Run the segments of this stretch, whose tasks have these participants.
-    Run(HeldStretch<'j, J>, Group<J>),
+    Run(HeldStretch<E::Stretch, J>, Group<J>),
     /// Stop.
     Stop,
 }
@@ -80,41 +72,36 @@ pub(crate) enum Next<'j, J: Running> {
 pub(crate) enum HandedBack {
     /// No stretch became ready.
     Unchanged,
-    /// Stretches became ready, or the job has ended without a fault.
+    /// Stretches became ready, or the run has ended without a fault.
     Ready,
-    /// A fault has ended the job; the tree has to be ended too.
+    /// A fault has ended the run; the tree has to be ended too.
     Ended,
 }
 
-impl<'j, J: Running> Model for Queue<'j, J> {
+impl<E: Engine, J: Running> Model for Queue<E, J> {
     ghost use Rattle.std.specs.Prelude.{◌≡◌, IfSome};
     ghost use Rattle.worker_pool.specs.QueueValue.{QueueValue};
     ghost use Rattle.worker_pool.specs.Refusals.{IsOfWorkers};
 
-    ghost Value = { QueueValue };
+    ghost Value = { QueueValue E };
 
-    ghost view = { λ b. record { stretches = b.stretches; first = b.first } };
+    ghost view = { λ b. record { engine = b.engine; first = b.first } };
 
-    ghost invariant = { λ b. (b.stretches.job ≡ J.job) × (b.stretches.limit ≡ J.limit) × IfSome b.first (IsOfWorkers J.workers) };
+    ghost invariant = { λ b. (E.mark b.engine ≡ J.mark) × IfSome b.first (IsOfWorkers J.workers) };
 }
 
-impl<'j, J: Running> Queue<'j, J> {
-    ghost use Rattle.std.specs.Prelude.{◌≡◌, ◌||◌, Some, None, Err, true, false, is_some, IfOk, IfSome, IfErr, OnOk, OnErr};
-    ghost use Rattle.step_core.specs.Program.{program_of};
-    ghost use Rattle.step_core.specs.JobMeaning.{report_of};
-    ghost use Rattle.step_stretches.specs.StretchesValue.{state_of, status_in, is_whole};
-    ghost use Rattle.step_stretches.specs.Closing.{Takes, with_slot, IsClosed, IsAt};
-    ghost use Rattle.worker_pool.specs.QueueValue.{with_stretches, refused_by};
+impl<E: Engine, J: Running> Queue<E, J> {
+    ghost use Rattle.std.specs.Prelude.{◌≡◌, ◌||◌, None, Err, true, false, is_some, IfOk, IfSome, IfErr, OnOk, OnErr};
+    ghost use Rattle.worker_pool.specs.QueueValue.{with_engine, refused_by};
     ghost use Rattle.worker_pool.specs.Refusals.{IsOfWorkers, refusal_of};
 
-    /// Makes a queue of these stretches, whose participants are in these groups. All of them are ready.
-    pub(crate) fn new(alloc: Global, stretches: Stretches<'j>, ready: VecDeque<Group<J>>) -> Self
-        requires job { stretches.job ≡ J.job }
-        requires limit { stretches.limit ≡ J.limit }
-        ensures { result ≡ record { stretches = stretches.entry; first = None } }
+    /// Makes a queue of this engine, the participants of whose stretches are in these groups. All of them are ready.
+    pub(crate) fn new(alloc: Global, engine: E, ready: VecDeque<Group<J>>) -> Self
+        requires mark { E.mark engine ≡ J.mark }
+        ensures { result ≡ record { engine = engine; first = None } }
     {
         Queue {
-            stretches,
+            engine,
             ready,
             back: VecDeque::new(alloc),
             coming: Vec::new(alloc),
@@ -125,11 +112,11 @@ impl<'j, J: Running> Queue<'j, J> {
         }
     }
 
-    /// Returns whether workers stop: the job has ended, or the run is refused.
+    /// Returns whether workers stop: the run has ended, or the run is refused.
     pub(crate) fn is_over(&self) -> bool
-        ensures { result ≡ (is_some self.now.first || is_some (status_in self.now.stretches)) }
+        ensures { result ≡ (is_some self.now.first || E.ended self.now.engine) }
     {
-        self.first.is_some() || self.stretches.has_ended()
+        self.first.is_some() || self.engine.has_ended()
     }
 
     /// Returns whether a worker has to wait: no stretch is ready, and workers don't stop.
@@ -138,8 +125,8 @@ impl<'j, J: Running> Queue<'j, J> {
     }
 
     // Hands out the stretch of a group that was ready.
-    fn hand_out(&mut self, group: Group<J>) -> Result<Next<'j, J>, Reason> {
-        match self.stretches.take(group.number) {
+    fn hand_out(&mut self, group: Group<J>) -> Result<Next<E, J>, Reason> {
+        match self.engine.take(group.number) {
             Ok(Some(stretch)) => Ok(Next::Run(HeldStretch::new(stretch), group)),
             Ok(None) => Err(Reason::Internal),
             Err(_) => Err(Reason::Memory),
@@ -147,7 +134,7 @@ impl<'j, J: Running> Queue<'j, J> {
     }
 
     /// Hands out the first ready stretch, or tells the worker to stop.
-    pub(crate) fn next(&mut self) -> Result<Next<'j, J>, Reason> {
+    pub(crate) fn next(&mut self) -> Result<Next<E, J>, Reason> {
         if self.is_over() {
             return Ok(Next::Stop);
         }
@@ -158,18 +145,18 @@ impl<'j, J: Running> Queue<'j, J> {
     }
 
     /// Takes a stretch back whose segments have run. `stay` says whether each task goes on and none was spawned.
-    pub(crate) fn deliver(&mut self, held: HeldStretch<'j, J>, stay: bool) -> Result<(), Reason>
-        ensures taken { OnOk result (Takes self.old.stretches held.entry) }
-        ensures added { OnOk result (self.new ≡ with_stretches self.old (with_slot self.old.stretches held.entry.number (Some held.entry.part))) }
+    pub(crate) fn deliver(
+        &mut self,
+        held: HeldStretch<E::Stretch, J>,
+        stay: bool,
+    ) -> Result<(), Reason>
+        ensures taken { OnOk result (E.accepts self.old.engine held) }
+        ensures added { OnOk result (self.new ≡ with_engine self.old (E.with_stretch self.old.engine held)) }
         ensures unchanged { OnErr result (self.new ≡ self.old) }
     {
-        match self.stretches.accept(held.into_stretch()) {
-            Ok(()) => {
-                self.moves = self.moves || !stay;
-                Ok(())
-            }
-            Err(fault) => Err(reason_of_delivery(fault)),
-        }
+        self.engine.accept(held.into_stretch())?;
+        self.moves = self.moves || !stay;
+        Ok(())
     }
 
     /// Notes why the run is refused. The first note stays.
@@ -194,11 +181,11 @@ impl<'j, J: Running> Queue<'j, J> {
     fn pair_up(&mut self) -> Result<bool, Reason>
         ensures { self.new ≡ self.old }
     {
-        if self.coming.len() < self.stretches.count() {
+        if self.coming.len() < self.engine.count() {
             return Ok(false);
         }
         in_path_order(&mut self.coming);
-        self.ready = groups_of(&self.stretches, &mut self.coming)?;
+        self.ready = groups_of(&self.engine, &mut self.coming)?;
         Ok(true)
     }
 
@@ -219,15 +206,15 @@ impl<'j, J: Running> Queue<'j, J> {
     }
 
     // Closes the superstep.
-    fn close(&mut self, alloc: Global) -> Result<Outcome, Reason>
-        ensures whole { OnOk result (is_whole self.old.stretches ≡ true) }
-        ensures closed { IfOk result (λ outcome. IsClosed self.old.stretches self.new.stretches outcome) }
+    fn close(&mut self, alloc: Global) -> Result<Closed, Reason>
+        ensures whole { OnOk result (E.whole self.old.engine ≡ true) }
+        ensures closed { IfOk result (λ closed. E.closes self.old.engine self.new.engine closed) }
         ensures first { self.new.first ≡ self.old.first }
     {
-        let outcome = close_superstep(&mut self.stretches, alloc)?;
+        let closed = close_superstep(&mut self.engine, alloc)?;
         self.is_cut = self.moves;
         self.moves = false;
-        Ok(outcome)
+        Ok(closed)
     }
 
     // Makes the next superstep's stretches ready, as far as their participants are back. Returns whether some are.
@@ -253,7 +240,7 @@ impl<'j, J: Running> Queue<'j, J> {
     ) -> Result<HandedBack, Reason>
         ensures unled { led ≡ false → self.new ≡ self.old }
     {
-        if self.stretches.step() != step {
+        if self.engine.step() != step {
             return after_late(self.take_back_late(group));
         }
         push_group(&mut self.back, group)?;
@@ -261,28 +248,24 @@ impl<'j, J: Running> Queue<'j, J> {
             return Ok(HandedBack::Unchanged);
         }
         match self.close(alloc)? {
-            Outcome::Landed => {
+            Closed::Landed => {
                 let _ready = self.open()?;
                 Ok(HandedBack::Ready)
             }
-            Outcome::Faulted | Outcome::TooMany | Outcome::Overflowed => Ok(HandedBack::Ended),
+            Closed::Ended => Ok(HandedBack::Ended),
         }
     }
 
-    /// Returns the report of the job that has ended, or the first refusal of the run.
-    pub(crate) fn conclude(self, alloc: Global) -> Result<Report, Refused>
-        ensures report { IfOk result (λ report. report_of (program_of J.job) J.limit ≡ Some report) }
-        ensures first { IfSome self.entry.first (λ refused. result ≡ Err refused) }
+    /// Returns what the run that has ended leaves, or the first refusal of the run.
+    pub(crate) fn conclude(self, alloc: Global) -> Result<E::Outcome, Refused>
+        ensures outcome { IfOk result (E.gives J.mark) }
+        ensures first { IfSome self.first (λ refused. result ≡ Err refused) }
         ensures started { IfErr result (IsOfWorkers J.workers) }
     {
-        let Queue {
-            stretches,
-            first,
-            ..
-        } = self;
+        let Queue { engine, first, .. } = self;
         match first {
             Some(refused) => Err(refused),
-            None => report_by(alloc, stretches),
+            None => outcome_by(alloc, engine),
         }
     }
 }
@@ -296,31 +279,27 @@ fn after_late(ready: Result<bool, Reason>) -> Result<HandedBack, Reason> {
     })
 }
 
-// Returns the report of a job that has ended.
-fn report_by(alloc: Global, stretches: Stretches<'_>) -> Result<Report, Refused>
-    ensures report { IfOk result (λ report. report_of (program_of stretches.entry.job) stretches.entry.limit ≡ Some report) }
+// Returns what a run that has ended leaves.
+fn outcome_by<E: Engine>(alloc: Global, engine: E) -> Result<E::Outcome, Refused>
+    ensures outcome { IfOk result (E.gives (E.mark engine)) }
     ensures started { (workers : ℕ) → IfErr result (IsOfWorkers workers) }
 {
-    // For the prover: the contract of `has_ended` says that the stretches are on the course of their job.
-    let _ = stretches.has_ended();
-    match stretches.into_report(alloc) {
-        Ok(Some(report)) => Ok(report),
+    match engine.into_outcome(alloc) {
+        Ok(Some(outcome)) => Ok(outcome),
         Ok(None) => Err(Refused::Internal),
         Err(_) => Err(Refused::Memory),
     }
 }
 
-// Closes a superstep of a job that hasn't ended.
-fn close_superstep(stretches: &mut Stretches<'_>, alloc: Global) -> Result<Outcome, Reason>
-    ensures whole { OnOk result (is_whole stretches.old ≡ true) }
-    ensures closed { IfOk result (λ outcome. IsClosed stretches.old stretches.new outcome) }
-    ensures kept { OnErr result (IsAt stretches.new stretches.old.job stretches.old.limit (state_of stretches.old)) }
+// Closes a superstep of a run that hasn't ended.
+fn close_superstep<E: Engine>(engine: &mut E, alloc: Global) -> Result<Closed, Reason>
+    ensures whole { OnOk result (E.whole engine.old ≡ true) }
+    ensures closed { IfOk result (λ closed. E.closes engine.old engine.new closed) }
+    ensures mark { E.mark engine.new ≡ E.mark engine.old }
+    ensures kept { OnErr result ((engine.new ≡ engine.old) ⊎ E.keeps engine.old engine.new) }
 {
-    if stretches.has_ended() {
+    if engine.has_ended() {
         return Err(Reason::Internal);
     }
-    match stretches.close(alloc) {
-        Ok(outcome) => Ok(outcome),
-        Err(fault) => Err(reason_of_closing(fault)),
-    }
+    engine.close(alloc)
 }

@@ -1,4 +1,4 @@
-//! Runs a job on worker threads.
+//! Runs an engine on worker threads.
 ghost use Rattle.std.specs.Prelude.{◌≡◌, ◌≤◌, ◌<◌, ◌++◌, ◌∷◌, [], false, Some, IfOk, IfErr, OnOk, map, length};
 ghost use Rattle.advance_rule.specs.Stored.{Answers};
 ghost use Rattle.advance_rule.specs.Action.{AnswersAction};
@@ -11,6 +11,7 @@ ghost use Rattle.tier_table.specs.Ruled.{IsNew};
 ghost use Rattle.worker_pool.specs.JobPlan.{limit_of, IsJobPlan};
 ghost use Rattle.worker_pool.specs.Refusals.{IsOfWorkers};
 
+use crate::engine::Engine;
 use crate::fault::{Reason, Refused};
 use crate::groups::groups_of;
 use crate::hooks::{Gate, Starter};
@@ -45,10 +46,9 @@ const STRETCHES_EACH: usize = 8;
 // microseconds.
 const MOST_SPINS: u32 = 2000;
 
-// What a run begins with: the job's stretches, the tree at which workers meet, its first token, and its leaves.
+// The tree at which workers meet, its first token, and its leaves.
 #[derive(Drop)]
-struct Opening<'j, F: Fn(u32, u32) -> bool> {
-    stretches: Stretches<'j>,
+struct Opening<F: Fn(u32, u32) -> bool> {
     tree: Tree<F>,
     door: Door,
     leaves: Vec<u16>,
@@ -81,15 +81,15 @@ fn register_one<J: Running, R: Wait, F: Fn(u32, u32) -> bool>(
 
 // Registers the start tasks, in order, before any worker is started. `participants` is empty at first. The path of a
 // start task is the number of its start line.
-fn register_all<J: Running, R: Wait, F: Fn(u32, u32) -> bool>(
+fn register_all<E: Engine, J: Running, R: Wait, F: Fn(u32, u32) -> bool>(
     rt: &R,
     alloc: Global,
     tree: &WorkerTree<J, F>,
     own: &mut OwnToken<J>,
-    stretches: &Stretches<'_>,
+    engine: &E,
     participants: &mut Vec<Participant<J>>,
 ) -> Result<(), Reason> {
-    for number in 0..stretches.count() {
+    for number in 0..engine.count() {
         let Ok(line) = u16::try_from(number) else {
             return Err(Reason::Internal);
         };
@@ -100,32 +100,31 @@ fn register_all<J: Running, R: Wait, F: Fn(u32, u32) -> bool>(
 }
 
 // Registers the start tasks, and groups their participants by stretch.
-fn registered<J: Running, R: Wait, F: Fn(u32, u32) -> bool>(
+fn registered<E: Engine, J: Running, R: Wait, F: Fn(u32, u32) -> bool>(
     rt: &R,
     alloc: Global,
     tree: &WorkerTree<J, F>,
     own: &mut OwnToken<J>,
-    stretches: &Stretches<'_>,
+    engine: &E,
 ) -> Result<VecDeque<Group<J>>, Reason> {
     let mut participants = Vec::new(alloc);
-    register_all(rt, alloc, tree, own, stretches, &mut participants)?;
-    groups_of(stretches, &mut participants)
+    register_all(rt, alloc, tree, own, engine, &mut participants)?;
+    groups_of(engine, &mut participants)
 }
 
 // What the workers share.
-fn shared_by<'j, J: Running, F: Fn(u32, u32) -> bool>(
+fn shared_by<E: Engine, J: Running, F: Fn(u32, u32) -> bool>(
     alloc: Global,
-    stretches: Stretches<'j>,
+    engine: E,
     tree: WorkerTree<J, F>,
     groups: VecDeque<Group<J>>,
     spins: u32,
-) -> Shared<'j, J, F>
-    requires job { stretches.job ≡ J.job }
-    requires limit { stretches.limit ≡ J.limit }
+) -> Shared<E, J, F>
+    requires mark { E.mark engine ≡ J.mark }
     ensures { result.tree ≡ tree }
 {
     Shared {
-        queue: Mutex::new(Queue::new(alloc, stretches, groups)),
+        queue: Mutex::new(Queue::new(alloc, engine, groups)),
         changed: Condvar::new(),
         wakeups: AtomicU64::new(0),
         passing: AtomicBool::new(false),
@@ -134,9 +133,9 @@ fn shared_by<'j, J: Running, F: Fn(u32, u32) -> bool>(
     }
 }
 
-// Registers the start tasks, starts the workers, and returns the report once all workers have stopped.
+// Registers the start tasks, starts the workers, and returns what the run leaves once all workers have stopped.
 fn run_at<
-    'j,
+    E: Engine + Send,
     J: Running + Send + Sync,
     R: Threads + Wait + Sync,
     F: Fn(u32, u32) -> bool + Sync + Drop,
@@ -146,35 +145,36 @@ fn run_at<
 >(
     rt: &R,
     alloc: Global,
-    stretches: Stretches<'j>,
+    engine: E,
     tree: WorkerTree<J, F>,
     door: Door,
     barrier: &Result<CyclicGate<A>, BarrierFault>,
     setup: Setup<'_, G, S>,
-) -> Result<Report, Refused>
-    requires job { stretches.job ≡ J.job }
-    requires limit { stretches.limit ≡ J.limit }
+) -> Result<E::Outcome, Refused>
+where
+    E::Stretch: Send,
+    requires mark { E.mark engine ≡ J.mark }
     requires workers { setup.workers ≡ J.workers }
     requires tree { door.tree ≡ J.tree }
     requires rule { Answers (F.pre tree.phaser.rule.closure) (F.post tree.phaser.rule.closure) (end_ends_at tree.phaser.rule.plan) }
     requires action { IfOk barrier.now (λ barrier. AnswersAction (A.pre barrier.action.closure) (A.post barrier.action.closure) barrier.action.plan) }
-    ensures report { IfOk result (λ report. report_of (program_of J.job) J.limit ≡ Some report) }
+    ensures outcome { IfOk result (E.gives J.mark) }
     ensures started { IfErr result (IsOfWorkers setup.entry.workers) }
 {
     let mut own = OwnToken::new(door);
-    let (groups, fault) = match registered(rt, alloc, &tree, &mut own, &stretches) {
+    let (groups, fault) = match registered(rt, alloc, &tree, &mut own, &engine) {
         Ok(groups) => (groups, None),
         Err(reason) => (VecDeque::new(alloc), Some(reason)),
     };
     let spins = spins_of(rt, setup.workers);
-    let shared = shared_by(alloc, stretches, tree, groups, spins);
+    let shared = shared_by(alloc, engine, tree, groups, spins);
     start_registered(rt, alloc, &shared, &mut own, barrier, setup, fault);
     shared.conclude(alloc)
 }
 
 // Starts the workers if the start tasks were registered and there is a barrier. Otherwise notes why not.
 fn start_registered<
-    'j,
+    E: Engine + Send,
     J: Running + Send + Sync,
     R: Threads + Wait + Sync,
     F: Fn(u32, u32) -> bool + Sync,
@@ -184,12 +184,14 @@ fn start_registered<
 >(
     rt: &R,
     alloc: Global,
-    shared: &Shared<'j, J, F>,
+    shared: &Shared<E, J, F>,
     own: &mut OwnToken<J>,
     barrier: &Result<CyclicGate<A>, BarrierFault>,
     setup: Setup<'_, G, S>,
     fault: Option<Reason>,
 )
+where
+    E::Stretch: Send,
     requires workers { setup.workers ≡ J.workers }
     requires rule { Answers (F.pre shared.now.tree.phaser.rule.closure) (F.post shared.now.tree.phaser.rule.closure) (end_ends_at shared.now.tree.phaser.rule.plan) }
     requires action { IfOk barrier.now (λ barrier. AnswersAction (A.pre barrier.action.closure) (A.post barrier.action.closure) barrier.action.plan) }
@@ -205,34 +207,36 @@ fn start_registered<
     }
 }
 
-// Runs the job that was opened.
+// Runs an engine at the tree that was opened.
 fn run_shared<
-    'j,
+    E: Engine + Send,
     J: Running + Send + Sync,
     R: Threads + Wait + Sync,
     F: Fn(u32, u32) -> bool + Sync + Drop,
     G: Gate + Sync,
     S: Starter,
->(rt: &R, alloc: Global, opening: Opening<'j, F>, setup: Setup<'_, G, S>) -> Result<Report, Refused>
-    requires job { opening.stretches.job ≡ J.job }
-    requires limit { opening.stretches.limit ≡ J.limit }
+>(
+    rt: &R,
+    alloc: Global,
+    engine: E,
+    opening: Opening<F>,
+    setup: Setup<'_, G, S>,
+) -> Result<E::Outcome, Refused>
+where
+    E::Stretch: Send,
+    requires mark { E.mark engine ≡ J.mark }
     requires workers { setup.workers ≡ J.workers }
     requires tree { (opening.tree.tree ≡ J.tree) × (opening.door.tree ≡ J.tree) }
     requires leaves { (opening.leaves.items ≡ leaves_of J.tree.key.shape) × (0 < length opening.leaves.items) }
     requires rule { Answers (F.pre opening.tree.rule.closure) (F.post opening.tree.rule.closure) (end_ends_at opening.tree.rule.plan) }
-    ensures report { IfOk result (λ report. report_of (program_of J.job) J.limit ≡ Some report) }
+    ensures outcome { IfOk result (E.gives J.mark) }
     ensures started { IfErr result (IsOfWorkers setup.entry.workers) }
 {
-    let Opening {
-        stretches,
-        tree,
-        door,
-        leaves,
-    } = opening;
+    let Opening { tree, door, leaves } = opening;
     let tree = WorkerTree::<J, F>::new(tree, Leaves::new(leaves));
     let action = StoredAction::new(do_nothing, None);
     let barrier = CyclicGate::new(alloc, i64::from(setup.workers), action);
-    run_at(rt, alloc, stretches, tree, door, &barrier, setup)
+    run_at(rt, alloc, engine, tree, door, &barrier, setup)
 }
 
 /// Runs `job` on `workers` threads that synchronize at a tree of phasers of this shape. The report is the one that a
@@ -280,44 +284,78 @@ pub fn run_job<
     ensures report { IfOk result (λ report. report_of (program_of job.now) (limit_of advance.plan) ≡ Some report) }
     ensures started { IfErr result (IsOfWorkers workers) }
 {
+    let count = stretches_wanted(gate, workers);
+    match Stretches::new(alloc, job, limit_in(advance.plan()), count) {
+        Ok(stretches) => run_engine(rt, alloc, stretches, shape, workers, advance, gate, starter),
+        Err(_) => Err(Refused::Memory),
+    }
+}
+
+/// Runs `engine` on `workers` threads that synchronize at a tree of phasers of this `shape`, superstep by superstep
+/// (own). Returns what the run leaves.
+///
+/// The closure of `advance` is called once a superstep, after the last arrival, with the phase and the number of parties
+/// at the root. Its plan mustn't end the tree before the engine ends, or the run fails with `Internal`. `gate` is called
+/// round each segment, and `starter` before each worker is started. The engine should cut its live tasks into
+/// [`stretches_wanted`] stretches. If the gate isn't open, a stretch of more than one task fails the run with `Memory`.
+///
+/// The paths of the start tasks are [0], [1], and so on, in the order of the engine. With more than 65536 of them the run
+/// fails with `Internal`.
+///
+/// Returns after joining all workers that were started. Termination is not part of the contract.
+pub fn run_engine<
+    E: Engine + Send,
+    R: Threads + Wait + Sync,
+    F: Fn(u32, u32) -> bool + Sync + Drop,
+    G: Gate + Sync,
+    S: Starter,
+>(
+    rt: &R,
+    alloc: Global,
+    engine: E,
+    shape: Shape,
+    workers: u32,
+    advance: StoredAdvance<F>,
+    gate: &G,
+    starter: &S,
+) -> Result<E::Outcome, Refused>
+where
+    E::Stretch: Send,
+    requires workers { (1 ≤ workers) × (workers ≤ 64) }
+    requires plan { IsJobPlan advance.plan }
+    requires rule { Answers (F.pre advance.closure) (F.post advance.closure) (end_ends_at advance.plan) }
+    ensures outcome { IfOk result (E.gives (E.mark engine)) }
+    ensures started { IfErr result (IsOfWorkers workers) }
+{
     let setup = Setup {
         workers,
         gate,
         starter,
     };
-    match opening_of(alloc, job, shape, advance, stretches_wanted(gate, workers)) {
-        Ok(opening) => run_shared::<Brand, R, F, G, S>(rt, alloc, opening, setup),
+    match opening_of(alloc, shape, advance) {
+        Ok(opening) => run_shared::<E, Brand, R, F, G, S>(rt, alloc, engine, opening, setup),
         Err(_) => Err(Refused::Memory),
     }
 }
 
-// Cuts a job into about `count` stretches, and makes the tree at which workers meet.
-fn opening_of<'j, F: Fn(u32, u32) -> bool + Drop>(
+// Makes the tree at which workers meet.
+fn opening_of<F: Fn(u32, u32) -> bool + Drop>(
     alloc: Global,
-    job: &'j Job,
     shape: Shape,
     advance: StoredAdvance<F>,
-    count: usize,
-) -> Result<Opening<'j, F>, AllocError>
+) -> Result<Opening<F>, AllocError>
     requires plan { IsJobPlan advance.plan }
-    requires count { 1 ≤ count }
-    ensures stretches { IfOk result (λ o. (o.stretches.job ≡ job.now) × (o.stretches.limit ≡ limit_of advance.plan)) }
     ensures tree { IfOk result (λ o. IsNew shape 0 advance o.tree o.door) }
     ensures leaves { IfOk result (λ o. (o.leaves.items ≡ leaves_of shape) × (0 < length o.leaves.items)) }
 {
-    let stretches = Stretches::new(alloc, job, limit_in(advance.plan()), count)?;
     let leaves = leaves_in(alloc, &shape)?;
     let (tree, door) = Tree::new(alloc, shape, 0, advance)?;
-    Ok(Opening {
-        stretches,
-        tree,
-        door,
-        leaves,
-    })
+    Ok(Opening { tree, door, leaves })
 }
 
-// About how many stretches the live tasks are cut into: one for each task if the gate wants to see each segment.
-fn stretches_wanted<G: Gate>(gate: &G, workers: u32) -> usize
+/// About how many stretches an engine should cut its live tasks into for a run on so many workers: some for each worker,
+/// or if the gate isn't open, one for each task.
+pub fn stretches_wanted<G: Gate>(gate: &G, workers: u32) -> usize
     requires { 1 ≤ workers }
     ensures { 1 ≤ result }
 {
@@ -336,8 +374,8 @@ fn spins_of<R: Threads>(rt: &R, workers: u32) -> u32 {
     }
 }
 
-// The limit of supersteps that a plan stands for.
-fn limit_in(plan: EndPlan) -> u32
+/// The limit of supersteps that a plan stands for.
+pub fn limit_in(plan: EndPlan) -> u32
     requires { IsJobPlan plan }
     ensures limit { result ≡ limit_of plan }
     ensures some { 1 ≤ result }

@@ -1,10 +1,10 @@
 //! What the workers of a run share.
+use crate::engine::Engine;
 use crate::fault::{Reason, Refused};
 use crate::hand::{Changes, HeldStretch};
 use crate::participant::{Group, OwnToken, Participant};
 use crate::queue::{HandedBack, Next, Queue, Running};
 use crate::tree::WorkerTree;
-use phase_records::Report;
 use std::alloc::Global;
 use std::collections::VecDeque;
 use std::hint::spin_loop;
@@ -16,8 +16,8 @@ use superstep_memory::path::Path;
 /// The queue under a lock, and the tree without one. No call of the tree is made while the lock is held. A worker that
 /// waits for a ready stretch first spins, then sleeps until the queue has changed.
 #[derive(Drop)]
-pub(crate) struct Shared<'j, J: Running, F: Fn(u32, u32) -> bool> {
-    pub(crate) queue: Mutex<Queue<'j, J>>,
+pub(crate) struct Shared<E: Engine, J: Running, F: Fn(u32, u32) -> bool> {
+    pub(crate) queue: Mutex<Queue<E, J>>,
     pub(crate) changed: Condvar,
     // Counts wake-ups: stretches became ready, or workers must stop. It wraps around.
     pub(crate) wakeups: AtomicU64,
@@ -28,16 +28,14 @@ pub(crate) struct Shared<'j, J: Running, F: Fn(u32, u32) -> bool> {
     pub(crate) tree: WorkerTree<J, F>,
 }
 
-impl<'j, J: Running, F: Fn(u32, u32) -> bool> Shared<'j, J, F> {
-    ghost use Rattle.std.specs.Prelude.{◌≡◌, ◌<◌, Some, IfOk, IfErr};
+impl<E: Engine, J: Running, F: Fn(u32, u32) -> bool> Shared<E, J, F> {
+    ghost use Rattle.std.specs.Prelude.{◌≡◌, ◌<◌, IfOk, IfErr};
     ghost use Rattle.advance_rule.specs.Stored.{Answers};
     ghost use Rattle.advance_rule.specs.Plan.{end_ends_at};
-    ghost use Rattle.step_core.specs.Program.{program_of};
-    ghost use Rattle.step_core.specs.JobMeaning.{report_of};
     ghost use Rattle.worker_pool.specs.Refusals.{IsOfWorkers};
 
     /// Returns what a worker does next. Waits until a stretch is ready or workers stop.
-    pub(crate) fn next<R: Wait>(&self, rt: &R) -> Result<Next<'j, J>, Reason> {
+    pub(crate) fn next<R: Wait>(&self, rt: &R) -> Result<Next<E, J>, Reason> {
         let queue = self.queue.lock(rt);
         let queue = if queue.is_idle() {
             self.spin(rt, queue)
@@ -52,8 +50,8 @@ impl<'j, J: Running, F: Fn(u32, u32) -> bool> Shared<'j, J, F> {
     fn spin<'a, R: Wait>(
         &'a self,
         rt: &R,
-        queue: MutexGuard<'a, Queue<'j, J>>,
-    ) -> MutexGuard<'a, Queue<'j, J>> {
+        queue: MutexGuard<'a, Queue<E, J>>,
+    ) -> MutexGuard<'a, Queue<E, J>> {
         let seen = self.wakeups.load(Ordering::SeqCst);
         drop(queue);
         for _ in 0..self.spins {
@@ -87,7 +85,7 @@ impl<'j, J: Running, F: Fn(u32, u32) -> bool> Shared<'j, J, F> {
     pub(crate) fn deliver<R: Wait>(
         &self,
         rt: &R,
-        held: HeldStretch<'j, J>,
+        held: HeldStretch<E::Stretch, J>,
         changes: &Changes,
     ) -> Result<(), Reason> {
         let stay = matches!(changes, Changes::Same);
@@ -273,9 +271,9 @@ impl<'j, J: Running, F: Fn(u32, u32) -> bool> Shared<'j, J, F> {
         self.tree.force(rt, own);
     }
 
-    /// Returns the report, or why there is none, once all workers have stopped.
-    pub(crate) fn conclude(self, alloc: Global) -> Result<Report, Refused>
-        ensures report { IfOk result (λ report. report_of (program_of J.job) J.limit ≡ Some report) }
+    /// Returns what the run leaves, or why it leaves nothing, once all workers have stopped.
+    pub(crate) fn conclude(self, alloc: Global) -> Result<E::Outcome, Refused>
+        ensures outcome { IfOk result (E.gives J.mark) }
         ensures started { IfErr result (IsOfWorkers J.workers) }
     {
         let Shared {

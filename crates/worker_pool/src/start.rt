@@ -6,6 +6,7 @@ ghost use Rattle.advance_rule.specs.Stored.{Answers};
 ghost use Rattle.advance_rule.specs.Plan.{end_ends_at};
 ghost use Rattle.worker_pool.specs.Refusals.{IsOfWorkers};
 
+use crate::engine::Engine;
 use crate::fault::Refused;
 use crate::hooks::{Gate, Starter};
 use crate::participant::OwnToken;
@@ -27,9 +28,9 @@ pub(crate) struct Setup<'a, G: Gate, S: Starter> {
 }
 
 // Notes why the run is refused before all workers have come to the barrier, and stops those that wait there.
-fn call_off<'j, J: Running, R: Wait, F: Fn(u32, u32) -> bool, A: Fn(u64) -> bool>(
+fn call_off<E: Engine, J: Running, R: Wait, F: Fn(u32, u32) -> bool, A: Fn(u64) -> bool>(
     rt: &R,
-    shared: &Shared<'j, J, F>,
+    shared: &Shared<E, J, F>,
     barrier: &CyclicGate<A>,
     refused: Refused,
 )
@@ -42,10 +43,17 @@ fn call_off<'j, J: Running, R: Wait, F: Fn(u32, u32) -> bool, A: Fn(u64) -> bool
 
 // What a started worker does: it waits for the others at the barrier, then works. If it runs out of memory there, it
 // stops the others.
-fn wait_and_work<'j, J: Running, R: Wait, F: Fn(u32, u32) -> bool, A: Fn(u64) -> bool, G: Gate>(
+fn wait_and_work<
+    E: Engine,
+    J: Running,
+    R: Wait,
+    F: Fn(u32, u32) -> bool,
+    A: Fn(u64) -> bool,
+    G: Gate,
+>(
     rt: &R,
     alloc: Global,
-    shared: &Shared<'j, J, F>,
+    shared: &Shared<E, J, F>,
     gate: &G,
     barrier: &CyclicGate<A>,
     k: u32,
@@ -89,7 +97,7 @@ fn join_all<R: Threads + Wait>(rt: &R, started: Vec<JoinHandle<()>>) {
 /// Starts the workers, and returns after joining all that were started. If one can't be started, that is noted and the
 /// others stop before they take a task.
 pub(crate) fn start_all<
-    'j,
+    E: Engine + Send,
     J: Running + Send + Sync,
     R: Threads + Wait + Sync,
     F: Fn(u32, u32) -> bool + Sync,
@@ -99,11 +107,13 @@ pub(crate) fn start_all<
 >(
     rt: &R,
     alloc: Global,
-    shared: &Shared<'j, J, F>,
+    shared: &Shared<E, J, F>,
     own: &mut OwnToken<J>,
     barrier: &CyclicGate<A>,
     setup: Setup<'_, G, S>,
 )
+where
+    E::Stretch: Send,
     requires workers { setup.workers ≡ J.workers }
     requires rule { Answers (F.pre shared.now.tree.phaser.rule.closure) (F.post shared.now.tree.phaser.rule.closure) (end_ends_at shared.now.tree.phaser.rule.plan) }
     requires action { AnswersAction (A.pre barrier.now.action.closure) (A.post barrier.now.action.closure) barrier.now.action.plan }

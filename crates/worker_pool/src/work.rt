@@ -2,6 +2,7 @@
 ghost use Rattle.advance_rule.specs.Stored.{Answers};
 ghost use Rattle.advance_rule.specs.Plan.{end_ends_at};
 
+use crate::engine::Engine;
 use crate::fault::Reason;
 use crate::hand::HeldStretch;
 use crate::hooks::Gate;
@@ -12,10 +13,10 @@ use std::alloc::Global;
 use std::sync::Wait;
 
 /// Runs stretches until workers stop. `own` is the worker's own token, by which it can end the tree.
-pub(crate) fn work<'j, J: Running, R: Wait, F: Fn(u32, u32) -> bool, G: Gate>(
+pub(crate) fn work<E: Engine, J: Running, R: Wait, F: Fn(u32, u32) -> bool, G: Gate>(
     rt: &R,
     alloc: Global,
-    shared: &Shared<'j, J, F>,
+    shared: &Shared<E, J, F>,
     gate: &G,
     own: &mut OwnToken<J>,
 )
@@ -31,10 +32,10 @@ pub(crate) fn work<'j, J: Running, R: Wait, F: Fn(u32, u32) -> bool, G: Gate>(
 }
 
 // Runs the next stretch. Returns false if workers stop.
-fn do_next<'j, J: Running, R: Wait, F: Fn(u32, u32) -> bool, G: Gate>(
+fn do_next<E: Engine, J: Running, R: Wait, F: Fn(u32, u32) -> bool, G: Gate>(
     rt: &R,
     alloc: Global,
-    shared: &Shared<'j, J, F>,
+    shared: &Shared<E, J, F>,
     gate: &G,
     own: &mut OwnToken<J>,
 ) -> Result<bool, Reason>
@@ -50,13 +51,13 @@ fn do_next<'j, J: Running, R: Wait, F: Fn(u32, u32) -> bool, G: Gate>(
 }
 
 // Runs the segments of a stretch, delivers it, and then synchronizes its tasks.
-fn do_stretch<'j, J: Running, R: Wait, F: Fn(u32, u32) -> bool, G: Gate>(
+fn do_stretch<E: Engine, J: Running, R: Wait, F: Fn(u32, u32) -> bool, G: Gate>(
     rt: &R,
     alloc: Global,
-    shared: &Shared<'j, J, F>,
+    shared: &Shared<E, J, F>,
     gate: &G,
     own: &mut OwnToken<J>,
-    mut held: HeldStretch<'j, J>,
+    mut held: HeldStretch<E::Stretch, J>,
     group: Group<J>,
 ) -> Result<(), Reason>
     requires rule { Answers (F.pre shared.now.tree.phaser.rule.closure) (F.post shared.now.tree.phaser.rule.closure) (end_ends_at shared.now.tree.phaser.rule.plan) }

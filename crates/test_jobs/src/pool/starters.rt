@@ -65,3 +65,10 @@ fn swaps_sent_home<R: Threads + Wait + Sync>(rt: &R, alloc: Global) -> bool {
 fn a_worker_that_is_not_started_sends_all_home(rt: HostRuntime) {
     assert!(rt; swaps_sent_home(&rt, rt.alloc()));
 }
+
+#[test]
+fn refusals_have_their_numbers(rt: HostRuntime) {
+    assert!(rt; Refused::Memory.number() == 1);
+    assert!(rt; Refused::NotStarted(5).number() == 2);
+    assert!(rt; Refused::Internal.number() == 3);
+}

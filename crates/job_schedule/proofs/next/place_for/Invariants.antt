@@ -1,6 +1,6 @@
 use Rattle.std.proofs.Common.{length}
 use Rattle.job_schedule.specs.ParticipantValue.{participant_path}
-use Rattle.step_parts.proofs.InOrder.{Passed}
+use Rattle.superstep_memory.proofs.InOrder.{Passed}
 use Rattle.job_schedule.proofs.next.place_for.Given as goal
 
 abbrev pub invariant-loop-last : goal.invariant-loop-last

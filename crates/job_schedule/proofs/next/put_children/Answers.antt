@@ -1,6 +1,6 @@
 use Rattle.std.proofs.Common.{◌∙◌, ◌∷◌, ◌++◌, [], map, ap, sym}
 use Rattle.job_schedule.specs.ParticipantValue.{ParticipantValue, participant_path, child_participant}
-use Rattle.step_parts.proofs.InOrder.{put_next}
+use Rattle.superstep_memory.proofs.InOrder.{put_next}
 use Rattle.job_schedule.proofs.Participating.{children_last}
 use Rattle.job_schedule.proofs.next.put_children.Goals as goal
 

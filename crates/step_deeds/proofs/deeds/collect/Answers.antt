@@ -4,7 +4,7 @@ use Rattle.task_lang.specs.TaskValue.{TaskValue}
 use Rattle.step_parts.specs.SlotParts.{path_in}
 use Rattle.step_deeds.specs.DeedsView.{behind, deeds_with}
 use Rattle.step_deeds.specs.InPlace.{living_with, kept}
-use Rattle.step_parts.proofs.InOrder.{put_next_all, length_cut}
+use Rattle.superstep_memory.proofs.InOrder.{put_next_all, length_cut}
 use Rattle.step_deeds.proofs.Listed.{last_deed}
 use Rattle.step_deeds.proofs.deeds.collect.Goals as goal
 

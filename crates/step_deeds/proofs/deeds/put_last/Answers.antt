@@ -1,7 +1,7 @@
 use Rattle.std.proofs.Common.{◌≡◌, ◌≤◌, ◌-◌, ◌++◌, ◌∷◌, [], ℕ, arith, ◌∙◌, sym, ap, length}
 use Rattle.std.specs.Prelude.{take}
 use Rattle.step_parts.specs.SlotParts.{path_in}
-use Rattle.step_parts.proofs.InOrder.{put_next, length_cut}
+use Rattle.superstep_memory.proofs.InOrder.{put_next, length_cut}
 use Rattle.step_deeds.specs.DeedsView.{behind}
 use Rattle.step_deeds.proofs.Listed.{take_front, behind_front}
 use Rattle.step_deeds.proofs.deeds.put_last.Goals as goal

@@ -1,6 +1,6 @@
 use Rattle.std.proofs.Common.{◌∙◌, arith}
 use Rattle.step_parts.specs.SlotParts.{path_in, living_by, living_of}
-use Rattle.step_parts.proofs.InOrder.{put_next_all, length_cut}
+use Rattle.superstep_memory.proofs.InOrder.{put_next_all, length_cut}
 use Rattle.step_parts.proofs.Deeds.{living_last}
 use Rattle.step_parts.proofs.next.collect_living.Goals as goal
 

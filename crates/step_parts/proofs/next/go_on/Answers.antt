@@ -2,7 +2,7 @@ use Rattle.std.proofs.Common.{◌≡◌, ◌∙◌, ap, arith, length}
 use Rattle.std.proofs.lemmas.List.{length-reverse}
 use Rattle.superstep_memory.specs.PathOrder.{in_path_order}
 use Rattle.step_parts.specs.SlotParts.{path_in, living_by}
-use Rattle.step_parts.proofs.InOrder.{count_in_order}
+use Rattle.superstep_memory.proofs.InOrder.{count_in_order}
 use Rattle.step_parts.proofs.next.go_on.Goals as goal
 
 pub set_undone-requires-clause-room : goal.set_undone-requires-clause-room

@@ -1,6 +1,6 @@
 use Rattle.std.proofs.Common.{length}
 use Rattle.step_parts.specs.SlotParts.{path_in}
-use Rattle.step_parts.proofs.InOrder.{Passed}
+use Rattle.superstep_memory.proofs.InOrder.{Passed}
 use Rattle.step_parts.proofs.next.place_for.Given as goal
 
 abbrev pub invariant-loop-last : goal.invariant-loop-last

@@ -1,6 +1,6 @@
 use Rattle.std.proofs.Common.{◌∙◌, ◌∷◌, [], arith}
 use Rattle.step_parts.specs.SlotParts.{path_in}
-use Rattle.step_parts.proofs.InOrder.{put_next, length_cut}
+use Rattle.superstep_memory.proofs.InOrder.{put_next, length_cut}
 use Rattle.step_parts.proofs.next.put_tasks.Goals as goal
 
 pub loop-task-preserved : goal.loop-task-preserved

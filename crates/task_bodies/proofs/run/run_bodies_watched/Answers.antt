@@ -3,6 +3,7 @@ use Rattle.programs.specs.Meaning.{children}
 use Rattle.programs.specs.History.{HasRunTo}
 use Rattle.task_bodies.specs.Bodies.{MemberValue, BodyMay, member_frame, path_of}
 use Rattle.task_bodies.proofs.Laws.{numbered_count, numbered_paths}
+use Rattle.task_bodies.proofs.Many.{not_too_many}
 use Rattle.task_bodies.proofs.Framed.{same_of}
 use Rattle.task_bodies.proofs.run.run_bodies_watched.Goals as goal
 
@@ -24,4 +25,6 @@ returns g c = record {
       (same_of c.in_ok-members.members.items ∙ c.in_ok-members.ensures.tasks)
       (subst (λ (us : List (MemberValue g.row.B-Kept.Denot)). HasRunTo g.W.Watch.stops g.W.Watch.goes member_frame (BodyMay (g.B.TaskBody.may c.args.body.now)) c.args.most c.args.arrays (map (λ t. t) c.in_ok-members.members.items) c.args.limit c.in_ok-ran.ran.report us)
       (same_of c.in_ok-ran.ran.tasks.items) c.in_ok-ran.ensures);
+  few = not_too_many c.args.most (length c.args.tasks.items) (omega (arith, c.if-len-most.false, c.len-else-len-gt65535.ensures, c.args.tasks.ok.0)) (omega (arith, c.if-len-most.false, c.len-else-len-gt65535.ensures, c.args.tasks.ok.0));
+  fault = tt;
 }

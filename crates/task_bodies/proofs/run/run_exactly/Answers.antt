@@ -7,5 +7,10 @@ use Rattle.task_bodies.proofs.run.run_exactly.Goals as goal
 pub returns : goal.returns
 returns g c =
     let b = c.args.body.now in
-    exactly member_frame (BodyMay (g.B.TaskBody.may b)) c.args.most (body_does (g.B.Exact.does b)) (only_one (g.B.TaskBody.may b) (g.B.Exact.does b) (g.met.B.Exact.exact b))
-    c.args.arrays (numbered [] 0 c.args.tasks.items) c.args.limit (numbered_paths [] 0 c.args.tasks.items) c.in_ok-ran.ran.report c.in_ok-ran.ran.tasks.items c.in_ok-ran.ensures.ran
+    record {
+      report =
+          exactly member_frame (BodyMay (g.B.TaskBody.may b)) c.args.most (body_does (g.B.Exact.does b)) (only_one (g.B.TaskBody.may b) (g.B.Exact.does b) (g.met.B.Exact.exact b))
+          c.args.arrays (numbered [] 0 c.args.tasks.items) c.args.limit (numbered_paths [] 0 c.args.tasks.items) c.in_ok-ran.ran.report c.in_ok-ran.ran.tasks.items c.in_ok-ran.ensures.ran;
+      few = c.in_ok-ran.ensures.few;
+      fault = tt;
+    }

@@ -1,0 +1,16 @@
+//! The faulty lines of the text of a job: its first refusal, and then those of the lines after it, read as if that line
+//! were left out. Nothing here is part of Java's API.
+//!
+//! # Where things are
+//!
+//! * `faults.rt`: faulty lines; `lines.rt`: lines by number; `told.rt`: the list as a text.
+//! * `specs/Faults.antt`: what is listed.
+#![tactic(auto)]
+
+mod faults;
+pub mod laws;
+mod lines;
+mod told;
+
+pub use faults::{MOST_LISTED, faults_of};
+pub use told::listing_of;

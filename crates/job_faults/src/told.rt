@@ -1,0 +1,72 @@
+//! The faulty lines of a text as a text.
+ghost use Rattle.std.specs.Prelude.{◌≡◌, ◌++◌, OnOk, IfOk};
+ghost use Rattle.std.specs.List.{flat_map};
+ghost use Rattle.job_faults.specs.Listing.{code_name, fault_line, listing};
+
+use crate::faults::faults_of;
+use itoa::{Buffer, Integer};
+use job_reader::{Code, Refusal};
+use std::alloc::{AllocError, Global};
+
+// Returns the name of a code.
+fn code_name(code: Code) -> &'static str
+    ensures { result.now ≡ code_name code }
+{
+    match code {
+        Code::TooLong => "TooLong",
+        Code::BadByte => "BadByte",
+        Code::BadHeader => "BadHeader",
+        Code::UnknownLine => "UnknownLine",
+        Code::BadName => "BadName",
+        Code::BadNumber => "BadNumber",
+        Code::BadLine => "BadLine",
+        Code::Twice => "Twice",
+        Code::UnknownName => "UnknownName",
+        Code::Unclosed => "Unclosed",
+        Code::BadNesting => "BadNesting",
+        Code::TooMany => "TooMany",
+        Code::BadLength => "BadLength",
+        Code::Reserved => "Reserved",
+    }
+}
+
+// Appends a text and a number.
+fn push_field<I: Integer>(out: &mut Vec<u8>, name: &[u8], n: I) -> Result<(), AllocError>
+    ensures { OnOk result (out.new.items ≡ out.old.items ++ name.now ++ I.text n) }
+{
+    out.extend_from_slice(name)?;
+    out.extend_from_slice(Buffer::new().format(n).as_bytes())
+}
+
+// Appends the line that tells of a faulty line.
+fn push_fault(out: &mut Vec<u8>, refusal: Refusal) -> Result<(), AllocError>
+    ensures { OnOk result (out.new.items ≡ out.old.items ++ fault_line refusal) }
+{
+    push_field(out, b"line ", refusal.line)?;
+    push_field(out, b" code ", refusal.code.number())?;
+    out.extend_from_slice(b" ")?;
+    out.extend_from_slice(code_name(refusal.code).as_bytes())?;
+    out.extend_from_slice(b"\n")
+}
+
+// Appends a line for each faulty line.
+fn push_faults(out: &mut Vec<u8>, faults: &[Refusal]) -> Result<(), AllocError>
+    ensures { OnOk result (out.new.items ≡ out.old.items ++ flat_map fault_line faults.now) }
+{
+    let mut rest = faults;
+    while let Some((refusal, after)) = rest.split_first() {
+        push_fault(out, *refusal)?;
+        rest = after;
+    }
+    Ok(())
+}
+
+/// Returns the faulty lines of a text, as [`faults_of`] does, each as a line `line L code C NAME`: its number from 1, and
+/// the number and the name of its code.
+pub fn listing_of(alloc: Global, text: &[u8]) -> Result<Vec<u8>, AllocError>
+    ensures { IfOk result (λ lines. lines.items ≡ listing text.now) }
+{
+    let mut out = Vec::new(alloc);
+    push_faults(&mut out, &faults_of(alloc, text)?)?;
+    Ok(out)
+}

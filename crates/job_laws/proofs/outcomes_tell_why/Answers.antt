@@ -1,0 +1,5 @@
+use Rattle.job_laws.proofs.Told.{outcomes}
+use Rattle.job_laws.proofs.outcomes_tell_why.Goals as goal
+
+pub returns : goal.returns
+returns c = outcomes

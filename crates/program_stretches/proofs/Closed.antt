@@ -1,0 +1,376 @@
+-- A superstep whose stretches have all run is closed.
+use Rattle.std.proofs.Common.{◌≡◌, ◌==◌, ℕ, zero, suc, ◌+◌, ◌≤◌, ◌<◌, Bool, true, false, nat_le, List, [], ◌∷◌, ◌++◌, map, length, Option, Some, None, refl, sym, ap, ◌∙◌, subst, ⊎_elim, inl, inr, drop, arith}
+use Rattle.std.specs.Prelude.{ℤ, ◌&&◌, ◌⊎◌, not, if◌then◌else◌}
+use Rattle.std.specs.Option.{option_map}
+use Rattle.std.proofs.lemmas.List.{length-map}
+use Rattle.superstep_memory.specs.declared.arrays.Put.{Put}
+use Rattle.superstep_memory.specs.Landing.{landed, over_in}
+use Rattle.superstep_memory.specs.Paths.{is_rising}
+use Rattle.superstep_memory.specs.PathOrder.{in_path_order}
+use Rattle.phase_records.specs.PrintValue.{PrintValue}
+use Rattle.phase_records.specs.declared.record.PhaseRecord.{PhaseRecord}
+use Rattle.phase_records.specs.Status.{Status, Ended, Fault, Limit}
+use Rattle.phase_records.specs.ReportValue.{ReportValue}
+use Rattle.programs.specs.History.{HasRun, living_after}
+use Rattle.superstep_memory.proofs.InOrder.{count_in_order}
+use Rattle.programs.specs.Meaning.{children}
+use Rattle.programs.specs.DeedValue.{DeedValue}
+use Rattle.programs.specs.Superstep.{State, ended_by}
+use Rattle.programs.specs.Supersteps.{status}
+use Rattle.programs.specs.InPlace.{living_with, left_in, spawned_in, told_in, told_at, maker}
+use Rattle.programs.proofs.Reached.{starts_read}
+use Rattle.program_stretches.specs.declared.fault.Outcome.{Outcome}
+use Rattle.program_stretches.specs.declared.fault.Outcome.TheVariants.{Landed, Faulted, TooMany, Overflowed}
+use Rattle.program_stretches.specs.Parts.{Reading, HasDone, AreOwn, AreFresh, fresh_part, covers, is_done, fault_in, tasks_in, puts_in, deeds_in, prints_in, without_puts, without_prints, renewed}
+use Rattle.program_stretches.specs.Opening.{OpeningValue, live_of}
+use Rattle.program_stretches.specs.Did.{DidAll, IsStepTo}
+use Rattle.program_stretches.specs.StretchesValue.{StretchesValue, state_with, status_for, status_in, is_at_limit, IsAfter, IsOpen, IsCourse, HaveRun}
+use Rattle.program_stretches.specs.Closing.{EndsAs, EndsBy, IsClosed, IsSameRun, HasLeft, opened_with}
+use Rattle.program_stretches.proofs.Taken.{has_run, faulted, fits, FitsAll, many, over, goes_on, paths_rise}
+use Rattle.program_stretches.proofs.Course.{status_is, after_next}
+use Rattle.program_stretches.proofs.Whole.{both, at_number, drop_more, drop_end, HaveDid, have_did}
+use Rattle.program_stretches.specs.PartValue.{PartValue}
+
+module _ {Q S T : Type 0} (m : Q → Reading S T) (v : StretchesValue Q S) (law : (t : S) → (m v.program).frame.path ((m v.program).meant t) ≡ (m v.program).path t) (run : status_in v ≡ None) where
+  -- the run as the superstep began
+  abbrev pub state_of : OpeningValue Q S → State T
+  state_of o = state_with v (map (m v.program).meant (live_of o))
+
+  module _ (o : OpeningValue Q S) (begun : IsAfter m v (map (m v.program).meant (live_of o))) where
+    start_paths : map (m v.program).frame.path (map (m v.program).meant (live_of begun.begun.first)) ≡ children [] 0 (length (map (m v.program).meant (live_of begun.begun.first)))
+    start_paths = starts_read (m v.program).frame (m v.program).meant (m v.program).path law (live_of begun.begun.first) begun.begun.paths
+
+    few_tasks : length (live_of o) ≤ v.most
+    few_tasks = let l = length-map (live_of o) (m v.program).meant in let f = begun.few in omega (arith, l, f)
+
+    going : status v.limit (state_of o) ≡ None
+    going = status_is m v (map (m v.program).meant (live_of o)) begun.count ∙ run
+
+    -- a task's fault ends it
+    pub ends_fault : (x : ℕ × List ℕ) (puts : List Put) (us : List S) (ds : List (DeedValue S)) (after : List PrintValue) → DidAll (m v.program) v.arrays v.step (Some x) puts (live_of o) us ds after
+        → IsStepTo (m v.program).frame (m v.program).may v.most (state_of o) (ended_by (state_of o) x) Faulted
+    ends_fault x puts us ds after d =
+        faulted (m v.program) law v.most begun.begun.first.arrays (map (m v.program).meant (live_of begun.begun.first)) v.limit start_paths (state_of o) begun.reached going (live_of o) refl few_tasks
+        (Some x) puts us ds after d x refl
+
+    module _ (puts : List Put) (us : List S) (ds : List (DeedValue S)) (after : List PrintValue) (d : DidAll (m v.program) v.arrays v.step None puts (live_of o) us ds after) where
+      pub record Fit : Type 0 where
+        pub same : length us ≡ length ds
+        pub all : length ds ≡ v.count
+        pub living : length (living_with us ds) + left_in ds ≡ length ds + spawned_in ds
+        pub rising : is_rising (map (m v.program).path us) ≡ true
+
+      pub fit : Fit
+      fit =
+          let f = fits (m v.program) law v.most begun.begun.first.arrays (map (m v.program).meant (live_of begun.begun.first)) v.limit start_paths (state_of o) begun.reached going (live_of o) refl few_tasks
+          None puts us ds after d refl in
+          record { same = f.same; all = f.all ∙ sym (length-map (live_of o) (m v.program).meant) ∙ sym begun.count; living = f.living; rising = f.rising }
+
+      -- too many tasks end it
+      pub ends_many : v.most + left_in ds < length ds + spawned_in ds → IsStepTo (m v.program).frame (m v.program).may v.most (state_of o) (ended_by (state_of o) (7, [])) TooMany
+      ends_many lt =
+          let l = fit.living in
+          many (m v.program) law v.most begun.begun.first.arrays (map (m v.program).meant (live_of begun.begun.first)) v.limit start_paths (state_of o) begun.reached going (live_of o) refl few_tasks
+          None puts us ds after d refl (omega (arith, l, lt))
+
+      -- a put that overflows ends it
+      pub record EndsOver (blame : Option (ℕ × List ℕ)) : Type 0 where
+        pub cause : ℕ × List ℕ
+        pub is : blame ≡ Some cause
+        pub step : IsStepTo (m v.program).frame (m v.program).may v.most (state_of o) (ended_by (state_of o) cause) Overflowed
+
+      pub ends_over : (place : ℕ) (blame : Option (ℕ × List ℕ)) → length ds + spawned_in ds ≤ v.most + left_in ds → Some place ≡ over_in v.arrays [] 0 puts
+          → blame ≡ option_map told_at (maker (m v.program).path us ds place) → EndsOver blame
+      ends_over place blame le there made =
+          let l = fit.living in
+          let e = over (m v.program) law v.most begun.begun.first.arrays (map (m v.program).meant (live_of begun.begun.first)) v.limit start_paths (state_of o) begun.reached going (live_of o) refl few_tasks
+          None puts us ds after d refl place blame (omega (arith, l, le)) there made in
+          record { cause = e.cause; is = e.is; step = e.step }
+
+      -- or it goes on
+      pub goes : (told : PhaseRecord) → length ds + spawned_in ds ≤ v.most + left_in ds → told ≡ told_in v.step ds → None ≡ over_in v.arrays [] 0 puts
+          → IsStepTo (m v.program).frame (m v.program).may v.most (state_of o) (record {
+            step = v.step + 1;
+            arrays = landed puts v.arrays;
+            live = map (m v.program).meant (in_path_order (m v.program).path (living_with us ds));
+            prints = v.prints ++ after;
+            records = v.records ++ told ∷ [];
+            fault = None;
+          }) Landed
+      goes told le e none =
+          let l = fit.living in
+          goes_on (m v.program) law v.most begun.begun.first.arrays (map (m v.program).meant (live_of begun.begun.first)) v.limit start_paths (state_of o) begun.reached going (live_of o) refl few_tasks
+          None puts us ds after d refl told (omega (arith, l, le)) e none
+
+  -- a fault is how it ends
+  pub closed_end : (o : OpeningValue Q S) (older : List (OpeningValue Q S)) → v.log ≡ o ∷ older → (f : ℕ × List ℕ) (w : StretchesValue Q S) → w ≡ record v { fault = Some f }
+      → (out : Outcome) → IsStepTo (m v.program).frame (m v.program).may v.most (state_of o) (ended_by (state_of o) f) out → ((x : StretchesValue Q S) (live : List T) → x.fault ≡ Some f → EndsAs m out x live) → IsClosed m v w out
+  closed_end o older log f w e out step leaves =
+      subst (λ (x : StretchesValue Q S). IsClosed m v x out) (sym e) (record {
+        opening = o;
+        older = older;
+        log = log;
+        live = map (m v.program).meant (live_of o);
+        step = step;
+        leaves = leaves (record v { fault = Some f }) (map (m v.program).meant (live_of o)) refl;
+        same = record { named = refl; program = refl; most = refl; limit = refl };
+      })
+
+-- the run after a superstep whose puts have landed, before the next is opened
+abbrev pub landed_with : {Q S : Type 0} → StretchesValue Q S → List Put → PhaseRecord → List PrintValue → ℕ → StretchesValue Q S
+landed_with v puts told after count = record v { step = v.step + 1; arrays = landed puts v.arrays; count = count; prints = v.prints ++ after; records = v.records ++ told ∷ [] }
+
+module _ {Q S T : Type 0} (m : Q → Reading S T) (v : StretchesValue Q S) (law : (t : S) → (m v.program).frame.path ((m v.program).meant t) ≡ (m v.program).path t) (run : status_in v ≡ None)
+    (puts : List Put) (us : List S) (ds : List (DeedValue S)) (after : List PrintValue) (h : HaveRun m v puts us ds after)
+    (le : length ds + spawned_in ds ≤ v.most + left_in ds) (told : PhaseRecord) (is_told : told ≡ told_in v.step ds) (none : None ≡ over_in v.arrays [] 0 puts)
+    (next : List S) (is_next : next ≡ in_path_order (m v.program).path (living_with us ds)) where
+  step_landed : IsStepTo (m v.program).frame (m v.program).may v.most (state_of m v law run h.opening) (state_with (landed_with v puts told after (length next)) (map (m v.program).meant next)) Landed
+  step_landed =
+      subst (λ (st : State T). IsStepTo (m v.program).frame (m v.program).may v.most (state_of m v law run h.opening) st Landed)
+      (λ i. record {
+        step = v.step + 1;
+        arrays = landed puts v.arrays;
+        live = map (m v.program).meant (sym is_next i);
+        prints = v.prints ++ after;
+        records = v.records ++ told ∷ [];
+        fault = unfaulted (sym run) i;
+      })
+      (goes m v law run h.opening h.begun puts us ds after h.did told le is_told none)
+    where
+      by : (o : Option (ℕ × List ℕ)) → None ≡ status_for v.limit v.step o v.count → None ≡ o
+      by None e = refl
+      by (Some f) e = cc
+
+      unfaulted : None ≡ status_in v → None ≡ v.fault
+      unfaulted e = by v.fault e
+
+  pub after_landed : IsAfter m (landed_with v puts told after (length next)) (map (m v.program).meant next)
+  after_landed =
+      let f = fit m v law run h.opening h.begun puts us ds after h.did in
+      let living = f.living in
+      let n = ap length is_next ∙ count_in_order (m v.program).path (living_with us ds) in
+      let l = length-map next (m v.program).meant in
+      after_next m v (landed_with v puts told after (length next)) (map (m v.program).meant (live_of h.opening)) (map (m v.program).meant next) law h.begun run step_landed.step refl refl refl refl (sym l)
+      (omega (arith, l, n, living, le))
+
+  pub closed_landed : (parts : List (Option (PartValue S))) → AreFresh 0 parts → tasks_in parts ≡ next → (w : StretchesValue Q S) → w ≡ opened_with (landed_with v puts told after (length next)) parts → IsClosed m v w Landed
+  closed_landed parts fresh tasks w e =
+      subst (λ (x : StretchesValue Q S). IsClosed m v x Landed) (sym e) (record {
+        opening = h.opening;
+        older = h.older;
+        log = h.is;
+        live = map (m v.program).meant next;
+        step = step_landed;
+        leaves = (by v.fault (sym run), fresh, ap (map (m v.program).meant) (sym tasks));
+        same = record { named = refl; program = refl; most = refl; limit = refl };
+      })
+    where
+      by : (o : Option (ℕ × List ℕ)) → None ≡ status_for v.limit v.step o v.count → o ≡ None
+      by None e = refl
+      by (Some f) e = cc
+
+-- a run that goes on is below its limit
+pub below_limit : {Q S : Type 0} (v : StretchesValue Q S) → status_in v ≡ None → v.step < v.limit
+below_limit v run = by v.fault v.count run
+  where
+    late : (b : Bool) → (if b then Some (Limit v.step) else None) ≡ None → b ≡ false
+    late true h = cc
+    late false h = refl
+
+    by : (f : Option (ℕ × List ℕ)) (n : ℕ) → status_for v.limit v.step f n ≡ None → v.step < v.limit
+    by (Some f) n h = cc
+    by None zero h = cc
+    by None (suc n) h = let b = late (nat_le v.limit v.step) h in grind arith
+
+-- ---- what stretches keep when they hand over
+
+module _ {S : Type 0} where
+  pub tasks_stay : (ss : List (Option (PartValue S))) → tasks_in (map without_prints ss) ≡ tasks_in ss
+  tasks_stay [] = refl
+  tasks_stay (None ∷ ss) = tasks_stay ss
+  tasks_stay (Some part ∷ ss) = ap (λ (ts : List S). part.tasks ++ ts) (tasks_stay ss)
+
+  pub deeds_stay : (ss : List (Option (PartValue S))) → deeds_in (map without_prints ss) ≡ deeds_in ss
+  deeds_stay [] = refl
+  deeds_stay (None ∷ ss) = deeds_stay ss
+  deeds_stay (Some part ∷ ss) = ap (λ (ts : List (DeedValue S)). part.deeds ++ ts) (deeds_stay ss)
+
+  pub tasks_renewed : (ss : List (Option (PartValue S))) → tasks_in (map renewed (map without_prints ss)) ≡ tasks_in ss
+  tasks_renewed [] = refl
+  tasks_renewed (None ∷ ss) = tasks_renewed ss
+  tasks_renewed (Some part ∷ ss) = ap (λ (ts : List S). part.tasks ++ ts) (tasks_renewed ss)
+
+  pub fresh_renewed : (done : Bool) (end at : ℕ) (ss : List (Option (PartValue S))) → covers done end at ss ≡ true → AreFresh at (map renewed (map without_prints ss))
+  fresh_renewed done end at [] h = tt
+  fresh_renewed done end at (None ∷ ss) h = cc
+  fresh_renewed done end at (Some part ∷ ss) h =
+      let a = both ((part.first == at) && is_done done part.done) (covers done end (at + length part.tasks) ss) h in
+      let b = both (part.first == at) (is_done done part.done) a.0 in
+      let first = at_number part.first at b.0 in
+      (ap (λ (k : ℕ). fresh_part k part.tasks) first, fresh_renewed done end (at + length part.tasks) ss a.1)
+
+  -- where no puts are left
+  pub covers_on : (done : Bool) (end at : ℕ) (ss : List (Option (PartValue S))) → covers done end at (map without_puts ss) ≡ covers done end at ss
+  covers_on done end at [] = refl
+  covers_on done end at (None ∷ ss) = refl
+  covers_on done end at (Some part ∷ ss) = ap (λ (b : Bool). (part.first == at) && is_done done part.done && b) (covers_on done end (at + length part.tasks) ss)
+
+  pub tasks_on : (ss : List (Option (PartValue S))) → tasks_in (map without_puts ss) ≡ tasks_in ss
+  tasks_on [] = refl
+  tasks_on (None ∷ ss) = tasks_on ss
+  tasks_on (Some part ∷ ss) = ap (λ (ts : List S). part.tasks ++ ts) (tasks_on ss)
+
+  pub deeds_on : (ss : List (Option (PartValue S))) → deeds_in (map without_puts ss) ≡ deeds_in ss
+  deeds_on [] = refl
+  deeds_on (None ∷ ss) = deeds_on ss
+  deeds_on (Some part ∷ ss) = ap (λ (ts : List (DeedValue S)). part.deeds ++ ts) (deeds_on ss)
+
+  pub prints_on : (ss : List (Option (PartValue S))) → prints_in (map without_puts ss) ≡ prints_in ss
+  prints_on [] = refl
+  prints_on (None ∷ ss) = prints_on ss
+  prints_on (Some part ∷ ss) = ap (λ (ts : List PrintValue). part.prints ++ ts) (prints_on ss)
+
+-- the same stretches have run
+pub have_same : {Q S T : Type 0} (m : Q → Reading S T) (v : StretchesValue Q S) {puts qs : List Put} {us ws : List S} {ds es : List (DeedValue S)} {after last : List PrintValue} → HaveRun m v puts us ds after
+    → puts ≡ qs → us ≡ ws → ds ≡ es → after ≡ last → HaveRun m v qs ws es last
+have_same m v {puts} {qs} {us} {ws} {ds} {es} {after} {last} h a b c d =
+    subst (λ ps. HaveRun m v ps ws es last) a (subst (λ ts. HaveRun m v puts ts es last) b (subst (λ xs. HaveRun m v puts us xs last) c (subst (λ ps. HaveRun m v puts us ds ps) d h)))
+
+-- ---- from the stretches of a superstep to what they did
+
+module _ {Q S T : Type 0} (m : Q → Reading S T) where
+  -- the same run with other stretches
+  pub after_with : (v : StretchesValue Q S) (ps : List (Option (PartValue S))) (live : List T) → IsAfter m v live → IsAfter m (record v { parts = ps }) live
+  after_with v ps live h = record {
+    begun = record { first = h.begun.first; since = h.begun.since; is = h.begun.is; program = h.begun.program; most = h.begun.most; limit = h.begun.limit; paths = h.begun.paths };
+    reached = h.reached;
+    count = h.count;
+    few = h.few;
+  }
+
+  pub closed_from : (v : StretchesValue Q S) (ps : List (Option (PartValue S))) (w : StretchesValue Q S) (out : Outcome) → IsClosed m (record v { parts = ps }) w out → IsClosed m v w out
+  closed_from v ps w out h = record {
+    opening = h.opening;
+    older = h.older;
+    log = h.log;
+    live = h.live;
+    step = h.step;
+    leaves = h.leaves;
+    same = record { named = h.same.named; program = h.same.program; most = h.same.most; limit = h.same.limit };
+  }
+
+  -- stretches that cover the live tasks are those of an opened superstep
+  pub open_whole : (v : StretchesValue Q S) (h : IsCourse m v) → covers true v.count 0 v.parts ≡ true → status_in v ≡ None → IsOpen m v h.live
+  open_whole v h c run = ⊎_elim none (λ o. o) h.opened
+    where
+      by : (f : Option (ℕ × List ℕ)) (n : ℕ) → (0 == n) ≡ true → status_for v.limit v.step f n ≡ None → ⊥
+      by (Some f) n e r = cc
+      by None zero e r = cc
+      by None (suc n) e r = let k = at_number 0 (suc n) e in absurd (omega (arith, k))
+
+      none : v.parts ≡ [] → IsOpen m v h.live
+      none e = absurd (by v.fault v.count (sym (ap (λ (ss : List (Option (PartValue S))). covers true v.count 0 ss) e) ∙ c) run)
+
+  module _ (v : StretchesValue Q S) (h : IsCourse m v) (c : covers true v.count 0 v.parts ≡ true) (run : status_in v ≡ None) where
+    abbrev pub open_now : IsOpen m v h.live
+    open_now = open_whole v h c run
+
+    pub begun_now : IsAfter m v (map (m v.program).meant (live_of open_now.opening))
+    begun_now = subst (IsAfter m v) open_now.lives h.after
+
+    pub did_now : HaveDid (m v.program) v.arrays (live_of open_now.opening) v.step v.parts (live_of open_now.opening)
+    did_now =
+        let l = length-map (live_of open_now.opening) (m v.program).meant in
+        let n = h.after.count ∙ ap length open_now.lives ∙ l in
+        have_did (m v.program) v.arrays (live_of open_now.opening) v.step v.count 0 v.parts open_now.own c n
+
+    -- none faulted
+    pub run_now : fault_in v.parts ≡ None → HaveRun m (record v { parts = [] }) (puts_in v.parts) (tasks_in v.parts) (deeds_in v.parts) (prints_in v.parts)
+    run_now e = record {
+      opening = open_now.opening;
+      older = open_now.older;
+      is = open_now.is;
+      count = open_now.count;
+      begun = after_with v [] (map (m v.program).meant (live_of open_now.opening)) begun_now;
+      did = did_now.quiet e;
+    }
+
+    -- one did
+    pub fault_now : ((t : S) → (m v.program).frame.path ((m v.program).meant t) ≡ (m v.program).path t) → (x : ℕ × List ℕ) → fault_in v.parts ≡ Some x
+        → IsStepTo (m v.program).frame (m v.program).may v.most (state_with v (map (m v.program).meant (live_of open_now.opening))) (ended_by (state_with v (map (m v.program).meant (live_of open_now.opening))) x) Faulted
+    fault_now law x e =
+        let l = did_now.loud x e in
+        ends_fault m v law run open_now.opening begun_now x l.0 l.1.0 l.1.1.0 l.1.1.1.0 l.1.1.1.1
+
+-- ---- what a run leaves
+
+module _ {S T : Type 0} (r : Reading S T) (arrays : List (List ℕ × List ℤ)) (live : List S) (step : ℕ) where
+  -- stretches that haven't run and cover the live tasks have these
+  pub live_still : (end at : ℕ) (ss : List (Option (PartValue S))) → AreOwn r arrays live step ss → covers false end at ss ≡ true → end ≡ length live → tasks_in ss ≡ drop at live
+  live_still end at [] own h e = sym (ap (λ (k : ℕ). drop k live) (at_number at end h ∙ e) ∙ drop_end live)
+  live_still end at (None ∷ ss) own h e = cc
+  live_still end at (Some part ∷ ss) own h e =
+      let a = both ((part.first == at) && not part.done) (covers false end (at + length part.tasks) ss) h in
+      let b = both (part.first == at) (not part.done) a.0 in
+      let first = at_number part.first at b.0 in
+      let p = own.0 in
+      let t = subst (λ (d : Bool). HasDone r arrays step d p.olds part) (not_done part.done b.1) p.told in
+      let tasks = ap (λ (x : PartValue S). x.tasks) t in
+      let from = ap (λ (k : ℕ). drop k live) (sym first) ∙ p.live_from in
+      (λ i. tasks i ++ live_still end (at + length part.tasks) ss own.1 a.1 e i)
+      ∙ ap (λ (ts : List S). p.olds ++ ts) (drop_more live p.olds p.back at (length part.tasks) from (ap length tasks)) ∙ sym from
+    where
+      not_done : (d : Bool) → not d ≡ true → d ≡ false
+      not_done true e = cc
+      not_done false e = refl
+
+module _ {Q S T : Type 0} (m : Q → Reading S T) (v : StretchesValue Q S) (h : IsCourse m v) where
+  -- the tasks that still live are those of the stretches
+  pub living_is : (s : Status) → status_in v ≡ Some s → (tasks : List S) → tasks ≡ (if is_at_limit s then tasks_in v.parts else []) → (is_at_limit s ≡ true → covers false v.count 0 v.parts ≡ true)
+      → living_after s h.live ≡ map (m v.program).meant tasks
+  living_is (Fault code step path) e tasks t c = ap (map (m v.program).meant) (sym t)
+  living_is (Ended steps) e tasks t c = none h.live (by v.fault v.count h.live e h.after.count) ∙ ap (map (m v.program).meant) (sym t)
+    where
+      late_not : (b : Bool) → (if b then Some (Limit v.step) else None) ≡ Some (Ended steps) → ⊥
+      late_not true e = cc
+      late_not false e = cc
+
+      by : (f : Option (ℕ × List ℕ)) (n : ℕ) (ts : List T) → status_for v.limit v.step f n ≡ Some (Ended steps) → n ≡ length ts → length ts ≡ 0
+      by (Some f) n ts e l = cc
+      by None zero ts e l = sym l
+      by None (suc n) ts e l = absurd (late_not (nat_le v.limit v.step) e)
+
+      none : (ts : List T) → length ts ≡ 0 → ts ≡ []
+      none [] n = refl
+      none (x ∷ ts) n = absurd (omega arith)
+  living_is (Limit steps) e tasks t c = by h.opened
+    where
+      some : (f : Option (ℕ × List ℕ)) (n : ℕ) → status_for v.limit v.step f n ≡ Some (Limit steps) → (0 == n) ≡ true → ⊥
+      some (Some f) n e z = cc
+      some None zero e z = cc
+      some None (suc n) e z = let k = at_number 0 (suc n) z in absurd (omega (arith, k))
+
+      by : (v.parts ≡ []) ⊎ IsOpen m v h.live → h.live ≡ map (m v.program).meant tasks
+      by (inl n) = absurd (some v.fault v.count e (sym (ap (λ (ss : List (Option (PartValue S))). covers false v.count 0 ss) n) ∙ c refl))
+      by (inr o) =
+          let l = length-map (live_of o.opening) (m v.program).meant in
+          let k = h.after.count ∙ ap length o.lives ∙ l in
+          o.lives ∙ ap (map (m v.program).meant) (sym (live_still (m v.program) v.arrays (live_of o.opening) v.step v.count 0 v.parts o.own (c refl) k) ∙ sym t)
+
+  -- what it leaves
+  pub has_left : (law : (t : S) → (m v.program).frame.path ((m v.program).meant t) ≡ (m v.program).path t) (s : Status) → status_in v ≡ Some s → (tasks : List S)
+      → tasks ≡ (if is_at_limit s then tasks_in v.parts else []) → (is_at_limit s ≡ true → covers false v.count 0 v.parts ≡ true)
+      → (outcome : ReportValue) → outcome ≡ record { prints = v.prints; records = v.records; arrays = v.arrays; status = s } → HasLeft m v.log outcome tasks
+  has_left law s e tasks t c outcome is =
+      let b = h.after.begun in
+      record {
+        first = b.first;
+        since = b.since;
+        begun = b.is;
+        run =
+            subst (λ (n : ℕ). HasRun (m b.first.program).frame (m b.first.program).may b.first.most b.first.arrays (map (m b.first.program).meant (live_of b.first)) n outcome (map (m b.first.program).meant tasks)) b.limit
+            (subst (λ (n : ℕ). HasRun (m b.first.program).frame (m b.first.program).may n b.first.arrays (map (m b.first.program).meant (live_of b.first)) v.limit outcome (map (m b.first.program).meant tasks)) b.most
+            (subst (λ (q : Q). HasRun (m q).frame (m q).may v.most b.first.arrays (map (m q).meant (live_of b.first)) v.limit outcome (map (m q).meant tasks)) b.program
+            (has_run (m v.program) law v.most b.first.arrays (map (m v.program).meant (live_of b.first)) v.limit (state_with v h.live) h.after.reached s (status_is m v h.live h.after.count ∙ e) outcome is
+            (map (m v.program).meant tasks) (living_is s e tasks t c))));
+      }

@@ -1,0 +1,185 @@
+-- A run by stretches, from one call to the next.
+use Rattle.std.proofs.Common.{◌≡◌, ◌⊎◌, ℕ, zero, suc, ◌+◌, ◌≤◌, ◌<◌, Bool, true, false, nat_le, List, [], ◌∷◌, ◌++◌, length, map, Option, Some, None, refl, sym, ap, ◌∙◌, subst, inl, inr, ⊎_elim, slice_get, arith, append-nil, length-append}
+use Rattle.std.specs.Prelude.{ℤ, if◌then◌else◌}
+use Rattle.std.proofs.lemmas.List.{length-map}
+use Rattle.atomic_table.specs.Seated.{TableId}
+use Rattle.phase_records.specs.PrintValue.{PrintValue}
+use Rattle.phase_records.specs.declared.record.PhaseRecord.{PhaseRecord}
+use Rattle.phase_records.specs.Status.{Status, Ended, Fault, Limit}
+use Rattle.programs.specs.Meaning.{children}
+use Rattle.programs.specs.Superstep.{State, ended_by}
+use Rattle.programs.specs.Supersteps.{status, status_of}
+use Rattle.program_stretches.specs.PartValue.{PartValue}
+use Rattle.program_stretches.specs.Parts.{Reading, IsPartOf, IsOwn, AreOwn, AreFresh, tasks_in}
+use Rattle.program_stretches.specs.Opening.{OpeningValue, live_of}
+use Rattle.program_stretches.specs.Reached.{IsReached}
+use Rattle.program_stretches.specs.Did.{IsStep}
+use Rattle.program_stretches.specs.StretchesValue.{StretchesValue, StretchValue, state_with, status_for, status_in, with_slot, HasBegun, IsAfter, IsOpen, IsStretch, IsCourse}
+use Rattle.program_stretches.proofs.Owning.{fresh_own, own_set, some_there}
+use Rattle.program_stretches.proofs.Taken.{reached_next}
+
+module _ {Q S T : Type 0} (m : Q → Reading S T) where
+  -- before the first superstep
+  pub course_begun : (v : StretchesValue Q S) (o : OpeningValue Q S) → v.log ≡ o ∷ [] → v.program ≡ o.program → v.most ≡ o.most → v.limit ≡ o.limit → v.arrays ≡ o.arrays → v.parts ≡ o.parts → AreFresh 0 o.parts
+      → map (m v.program).path (live_of o) ≡ children [] 0 (length (live_of o)) → v.count ≡ length (live_of o) → length (live_of o) ≤ v.most
+      → v.step ≡ 0 → v.prints ≡ [] → v.records ≡ [] → v.fault ≡ None → IsCourse m v
+  course_begun v o log program most limit arrays parts fresh paths count few es ep er ef =
+      let q = v.program in
+      let live = map (m q).meant (live_of o) in
+      let l = length-map (live_of o) (m q).meant in
+      record {
+        live = live;
+        after = record {
+          begun = record { first = o; since = []; is = log; program = program; most = most; limit = limit; paths = paths };
+          reached = record {
+            history = [];
+            entered = λ n lt. absurd (omega (arith, lt));
+            state = λ i. record { step = es i; arrays = arrays i; live = live; prints = ep i; records = er i; fault = ef i };
+          };
+          count = count ∙ sym l;
+          few = omega (arith, l, few);
+        };
+        opened = inr (record {
+          opening = o;
+          older = [];
+          is = log;
+          count = ap length log ∙ ap (λ (n : ℕ). n + 1) (sym es);
+          program = program;
+          arrays = arrays;
+          lives = refl;
+          own = subst (λ ss. AreOwn (m q) v.arrays (live_of o) v.step ss) (sym parts) (fresh_own (m q) v.arrays v.step o.parts fresh);
+        });
+      }
+
+  -- what the status says of the live tasks
+  status_same : (limit step : ℕ) (fault : Option (ℕ × List ℕ)) (count : ℕ) (live : List T) → count ≡ length live → status_of limit step fault live ≡ status_for limit step fault count
+  status_same limit step (Some f) count live e = refl
+  status_same limit step None zero [] e = refl
+  status_same limit step None zero (t ∷ live) e = absurd (omega arith)
+  status_same limit step None (suc n) [] e = absurd (omega arith)
+  status_same limit step None (suc n) (t ∷ live) e = refl
+
+  pub status_is : (v : StretchesValue Q S) (live : List T) → v.count ≡ length live → status v.limit (state_with v live) ≡ status_in v
+  status_is v live e = status_same v.limit v.step v.fault v.count live e
+
+  -- one superstep more
+  pub after_next : (v w : StretchesValue Q S) (live next : List T) → ((t : S) → (m v.program).frame.path ((m v.program).meant t) ≡ (m v.program).path t) → (h : IsAfter m v live) → status_in v ≡ None
+      → IsStep (m v.program).frame (m v.program).may v.most (state_with v live) (state_with w next)
+      → w.log ≡ v.log → w.program ≡ v.program → w.most ≡ v.most → w.limit ≡ v.limit → w.count ≡ length next → length next ≤ w.most → IsAfter m w next
+  after_next v w live next law h run s log program most limit count few = record {
+    begun = record {
+      first = h.begun.first;
+      since = h.begun.since;
+      is = log ∙ h.begun.is;
+      program = program ∙ h.begun.program;
+      most = most ∙ h.begun.most;
+      limit = limit ∙ h.begun.limit;
+      paths = subst (λ (q : Q). map (m q).path (live_of h.begun.first) ≡ children [] 0 (length (live_of h.begun.first))) (sym program) h.begun.paths;
+    };
+    reached =
+        subst (λ (q : Q). IsReached (m q).frame (m q).may w.most h.begun.first.arrays (map (m q).meant (live_of h.begun.first)) w.limit (state_with w next)) (sym program)
+        (subst (λ (n : ℕ). IsReached (m v.program).frame (m v.program).may n h.begun.first.arrays (map (m v.program).meant (live_of h.begun.first)) w.limit (state_with w next)) (sym most)
+        (subst (λ (n : ℕ). IsReached (m v.program).frame (m v.program).may v.most h.begun.first.arrays (map (m v.program).meant (live_of h.begun.first)) n (state_with w next)) (sym limit)
+        (reached_next (m v.program) law v.most h.begun.first.arrays (map (m v.program).meant (live_of h.begun.first)) v.limit (state_with v live) (state_with w next) h.reached (status_is v live h.count ∙ run) s)));
+    count = count;
+    few = few;
+  }
+
+  -- the next superstep is opened
+  pub course_opened : (v w : StretchesValue Q S) (o : OpeningValue Q S) → (h : IsAfter m v (map (m v.program).meant (live_of o))) → length v.log ≡ v.step → AreFresh 0 o.parts → o.program ≡ v.program → o.arrays ≡ v.arrays
+      → w ≡ record v { log = o ∷ v.log; parts = o.parts } → IsCourse m w
+  course_opened v w o h count fresh program arrays is =
+      let q = v.program in
+      let opened : StretchesValue Q S = record v { log = o ∷ v.log; parts = o.parts } in
+      subst (IsCourse m) (sym is) (record {
+        live = map (m q).meant (live_of o);
+        after = record {
+          begun = record {
+            first = h.begun.first;
+            since = o ∷ h.begun.since;
+            is = ap (λ (l : List (OpeningValue Q S)). o ∷ l) h.begun.is;
+            program = h.begun.program;
+            most = h.begun.most;
+            limit = h.begun.limit;
+            paths = h.begun.paths;
+          };
+          reached = h.reached;
+          count = h.count;
+          few = h.few;
+        };
+        opened = inr (record {
+          opening = o;
+          older = v.log;
+          is = refl;
+          count = ap suc count ∙ (let e : suc v.step ≡ v.step + 1 = omega arith in e);
+          program = sym program;
+          arrays = sym arrays;
+          lives = refl;
+          own = fresh_own (m q) v.arrays v.step o.parts fresh;
+        });
+      })
+
+  -- two logs of one name, as long as each other, are the same
+  pub same_log : (earlier log since : List (OpeningValue Q S)) → log ≡ since ++ earlier → length earlier ≡ length log → log ≡ earlier
+  same_log earlier log [] e l = e
+  same_log earlier log (x ∷ since) e l = let n = ap length e in let k = length-append since earlier in absurd (omega (arith, n, k, l))
+
+  -- the last of a log
+  pub last_same : (since more : List (OpeningValue Q S)) (a b : OpeningValue Q S) → since ++ a ∷ [] ≡ more ++ b ∷ [] → a ≡ b
+  last_same since more a b e = sym (last_of a since a) ∙ ap (last a) e ∙ last_of a more b
+    where
+      last : OpeningValue Q S → List (OpeningValue Q S) → OpeningValue Q S
+      last d [] = d
+      last d (x ∷ xs) = last x xs
+
+      last_of : (d : OpeningValue Q S) → (xs : List (OpeningValue Q S)) (y : OpeningValue Q S) → last d (xs ++ y ∷ []) ≡ y
+      last_of d [] y = refl
+      last_of d (x ∷ xs) y = last_of x xs y
+
+  -- where there is a stretch, or was one, the superstep is opened
+  pub is_open : (v : StretchesValue Q S) (h : IsCourse m v) (k : ℕ) (s : Option (PartValue S)) → slice_get v.parts k ≡ Some s → IsOpen m v h.live
+  is_open v h k s e = ⊎_elim (λ n. absurd (some_there v.parts k s e n)) (λ o. o) h.opened
+
+  -- one stretch is changed
+  pub course_slot : (v : StretchesValue Q S) (k : ℕ) (s : Option (PartValue S)) (h : IsCourse m v) (o : IsOpen m v h.live) → IsOwn (m v.program) v.arrays (live_of o.opening) v.step s → IsCourse m (with_slot v k s)
+  course_slot v k s h o own = record {
+    live = h.live;
+    after = record {
+      begun = record { first = h.after.begun.first; since = h.after.begun.since; is = h.after.begun.is; program = h.after.begun.program; most = h.after.begun.most; limit = h.after.begun.limit; paths = h.after.begun.paths };
+      reached = h.after.reached;
+      count = h.after.count;
+      few = h.after.few;
+    };
+    opened = inr (record {
+      opening = o.opening;
+      older = o.older;
+      is = o.is;
+      count = o.count;
+      program = o.program;
+      arrays = o.arrays;
+      lives = o.lives;
+      own = own_set (m v.program) v.arrays (live_of o.opening) v.step v.parts k s o.own own;
+    });
+  }
+
+  head_same : (a b : OpeningValue Q S) (xs ys : List (OpeningValue Q S)) → a ∷ xs ≡ b ∷ ys → a ≡ b
+  head_same a b xs ys e = ap (first a) e
+    where
+      first : OpeningValue Q S → List (OpeningValue Q S) → OpeningValue Q S
+      first d [] = d
+      first d (x ∷ xs) = x
+
+  -- a stretch that comes back is of the live tasks
+  pub own_back : (ready : Q → Type 0) (v : StretchesValue Q S) (h : IsCourse m v) (o : IsOpen m v h.live) (s : StretchValue Q S) (k : IsStretch m ready s) (since : List (OpeningValue Q S))
+      → v.log ≡ since ++ s.log → s.step ≡ v.step → IsPartOf (m v.program) v.arrays (live_of o.opening) v.step s.part
+  own_back ready v h o s k since e step =
+      let a = k.count in
+      let b = o.count in
+      let logs = same_log s.log v.log since e (omega (arith, a, b, step)) in
+      let opening = head_same k.opening o.opening k.older o.older (sym k.is ∙ sym logs ∙ o.is) in
+      let program = k.program ∙ ap (λ (x : OpeningValue Q S). x.program) opening ∙ sym o.program in
+      let arrays = k.arrays ∙ ap (λ (x : OpeningValue Q S). x.arrays) opening ∙ sym o.arrays in
+      subst (λ (q : Q). IsPartOf (m q) v.arrays (live_of o.opening) v.step s.part) program
+      (subst (λ xs. IsPartOf (m s.program) xs (live_of o.opening) v.step s.part) arrays
+      (subst (λ (x : OpeningValue Q S). IsPartOf (m s.program) s.arrays (live_of x) v.step s.part) opening
+      (subst (λ (n : ℕ). IsPartOf (m s.program) s.arrays (live_of k.opening) n s.part) step k.part)))

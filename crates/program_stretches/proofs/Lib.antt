@@ -1,0 +1,7 @@
+pub mod Whole
+pub mod Taken
+pub mod Along
+pub mod Cutting
+pub mod Owning
+pub mod Course
+pub mod Closed

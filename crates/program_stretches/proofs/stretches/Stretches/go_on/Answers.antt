@@ -1,0 +1,263 @@
+use Rattle.std.proofs.Common.{◌≡◌, true, ◌+◌, ◌≤◌, ◌<◌, ◌++◌, ◌∙◌, ℕ, Option, Some, None, List, length, map, ap, sym, subst, arith}
+use Rattle.std.specs.Prelude.{MatchOption}
+use Rattle.superstep_memory.specs.declared.arrays.Put.{Put}
+use Rattle.programs.specs.InPlace.{left_in, spawned_in, told_in}
+use Rattle.programs.proofs.InPlace.{few_left}
+use Rattle.program_stretches.specs.declared.fault.Outcome.TheVariants.{TooMany}
+use Rattle.program_stretches.specs.Parts.{reading_of, covers, tasks_in, puts_in, deeds_in, prints_in}
+use Rattle.program_stretches.specs.Opening.{live_of}
+use Rattle.program_stretches.specs.StretchesValue.{StretchesValue}
+use Rattle.program_stretches.specs.Closing.{EndsBy}
+use Rattle.program_stretches.proofs.Closed.{fit, ends_many, closed_end, have_same, tasks_on, deeds_on, prints_on, covers_on}
+use Rattle.program_stretches.proofs.stretches.Stretches.go_on.Goals as goal
+
+counted_there : (o : Option ℕ) (A : Type 0) (F : ℕ → Type 0) → MatchOption o A F → {x : ℕ} → o ≡ Some x → F x
+counted_there None A F h e = cc
+counted_there (Some y) A F h e = subst F (same e) h
+  where
+    value : Option ℕ → ℕ
+    value None = y
+    value (Some x) = x
+
+    same : {x : ℕ} → Some y ≡ Some x → y ≡ x
+    same e = ap value e
+
+not_counted : (o : Option ℕ) (A : Type 0) (F : ℕ → Type 0) → MatchOption o A F → o ≡ None → A
+not_counted None A F h e = h
+not_counted (Some y) A F h e = cc
+
+pub count_left-left-requires : goal.count_left-left-requires
+count_left-left-requires g c =
+    let m = reading_of g.P.Program.frame g.P.Program.may g.P.Program.meant g.P.Task.OnPath.path_of in
+    let a = c.args.self.now in
+    let law = g.met.P.Program.keeps_paths a.program in
+    let h = c.requires.run in
+    let f = fit m a law c.requires.running h.opening h.begun _ _ _ _ h.did in
+    let ds = deeds_in c.args.parts.items in
+    let left = few_left ds in
+    let all = f.all in
+    let count = ap (λ (x : StretchesValue g.row.P.Denot g.row.P-Task.Denot). x.count) c.self.view_is in
+    let few = let b = h.begun.few in let n = h.begun.count in
+    let x : a.count ≤ a.most = omega (arith, b, n) in x in
+    let most = ap (λ (x : StretchesValue g.row.P.Denot g.row.P-Task.Denot). x.most) c.self.view_is in
+    let bound = c.self.invariant.most in
+    let e = ap left_in (ap deeds_in c.deref.ensures.value) in
+    omega (arith, e, left, all, count)
+
+pub overflow_sub-stay : goal.overflow_sub-stay
+overflow_sub-stay g c =
+    let m = reading_of g.P.Program.frame g.P.Program.may g.P.Program.meant g.P.Task.OnPath.path_of in
+    let a = c.args.self.now in
+    let law = g.met.P.Program.keeps_paths a.program in
+    let h = c.requires.run in
+    let f = fit m a law c.requires.running h.opening h.begun _ _ _ _ h.did in
+    let ds = deeds_in c.args.parts.items in
+    let left = few_left ds in
+    let all = f.all in
+    let count = ap (λ (x : StretchesValue g.row.P.Denot g.row.P-Task.Denot). x.count) c.self.view_is in
+    let few = let b = h.begun.few in let n = h.begun.count in
+    let x : a.count ≤ a.most = omega (arith, b, n) in x in
+    let most = ap (λ (x : StretchesValue g.row.P.Denot g.row.P-Task.Denot). x.most) c.self.view_is in
+    let bound = c.self.invariant.most in
+    let e = ap left_in (ap deeds_in c.deref.ensures.value) in
+    let n = c.count_left-left.ensures in
+    omega (arith, e, n, left, all, count)
+
+pub end-requires-clause-ends : goal.end-requires-clause-ends
+end-requires-clause-ends g c =
+    let m = reading_of g.P.Program.frame g.P.Program.may g.P.Program.meant g.P.Task.OnPath.path_of in
+    let a = c.args.self.now in
+    let law = g.met.P.Program.keeps_paths a.program in
+    let h = c.requires.run in
+    let f = fit m a law c.requires.running h.opening h.begun _ _ _ _ h.did in
+    let ds = deeds_in c.args.parts.items in
+    let left = few_left ds in
+    let all = f.all in
+    let count = ap (λ (x : StretchesValue g.row.P.Denot g.row.P-Task.Denot). x.count) c.self.view_is in
+    let few = let b = h.begun.few in let n = h.begun.count in
+    let x : a.count ≤ a.most = omega (arith, b, n) in x in
+    let most = ap (λ (x : StretchesValue g.row.P.Denot g.row.P-Task.Denot). x.most) c.self.view_is in
+    let bound = c.self.invariant.most in
+    let e = ap left_in (ap deeds_in c.deref.ensures.value) in
+    let n = c.count_left-left.ensures in
+    let over = not_counted c.count_spawned.result _ _ c.count_spawned.ensures c.in_default.is in
+    let s = ap spawned_in (ap deeds_in c.deref-2.ensures.value) in
+    let step = ends_many m a law c.requires.running h.opening h.begun _ _ _ _ h.did (omega (arith, e, n, over, s, left, all, count, few, most)) in
+    subst (EndsBy m a) (sym c.too_many.ensures) (record { live = map (m a.program).meant (live_of h.opening); begun = h.begun; step = step.step })
+
+pub returns-in_default-clause-closed : goal.returns-in_default-clause-closed
+returns-in_default-clause-closed g c =
+    let m = reading_of g.P.Program.frame g.P.Program.may g.P.Program.meant g.P.Task.OnPath.path_of in
+    let a = c.args.self.now in
+    let law = g.met.P.Program.keeps_paths a.program in
+    let h = c.requires.run in
+    let f = fit m a law c.requires.running h.opening h.begun _ _ _ _ h.did in
+    let ds = deeds_in c.args.parts.items in
+    let left = few_left ds in
+    let all = f.all in
+    let count = ap (λ (x : StretchesValue g.row.P.Denot g.row.P-Task.Denot). x.count) c.self.view_is in
+    let few = let b = h.begun.few in let n = h.begun.count in
+    let x : a.count ≤ a.most = omega (arith, b, n) in x in
+    let most = ap (λ (x : StretchesValue g.row.P.Denot g.row.P-Task.Denot). x.most) c.self.view_is in
+    let bound = c.self.invariant.most in
+    let e = ap left_in (ap deeds_in c.deref.ensures.value) in
+    let n = c.count_left-left.ensures in
+    let over = not_counted c.count_spawned.result _ _ c.count_spawned.ensures c.in_default.is in
+    let s = ap spawned_in (ap deeds_in c.deref-2.ensures.value) in
+    let step = ends_many m a law c.requires.running h.opening h.begun _ _ _ _ h.did (omega (arith, e, n, over, s, left, all, count, few, most)) in
+    closed_end m a law c.requires.running h.opening h.older h.is _ c.end.new.self (c.end.ensures ∙ (λ i. record a { fault = Some (c.too_many.ensures i) }))
+    TooMany step (λ x live k. (_, k))
+
+pub overflow_cast-told-2 : goal.overflow_cast-told-2
+overflow_cast-told-2 g c =
+    let m = reading_of g.P.Program.frame g.P.Program.may g.P.Program.meant g.P.Task.OnPath.path_of in
+    let a = c.args.self.now in
+    let law = g.met.P.Program.keeps_paths a.program in
+    let h = c.requires.run in
+    let f = fit m a law c.requires.running h.opening h.begun _ _ _ _ h.did in
+    let ds = deeds_in c.args.parts.items in
+    let left = few_left ds in
+    let all = f.all in
+    let count = ap (λ (x : StretchesValue g.row.P.Denot g.row.P-Task.Denot). x.count) c.self.view_is in
+    let few = let b = h.begun.few in let n = h.begun.count in
+    let x : a.count ≤ a.most = omega (arith, b, n) in x in
+    let most = ap (λ (x : StretchesValue g.row.P.Denot g.row.P-Task.Denot). x.most) c.self.view_is in
+    let bound = c.self.invariant.most in
+    let e = ap left_in (ap deeds_in c.deref.ensures.value) in
+    let n = c.count_left-left.ensures in
+    omega (arith, e, n, left, all, count, few, most, bound)
+
+pub stay-requires-clause-run : goal.stay-requires-clause-run
+stay-requires-clause-run g c =
+    let m = reading_of g.P.Program.frame g.P.Program.may g.P.Program.meant g.P.Task.OnPath.path_of in
+    let h = c.requires.run in
+    let rest = c.in_ok-give_all_puts.ensures.rest in
+    let tasks = ap tasks_in rest ∙ tasks_on c.args.parts.items in
+    let deeds = ap deeds_in rest ∙ deeds_on c.args.parts.items in
+    let prints = ap prints_in rest ∙ prints_on c.args.parts.items in
+    let puts = c.in_ok-give_all_puts.ensures.given ∙ ap (λ (ps : List Put). ps ++ puts_in c.args.parts.items) c.requires.no_puts in
+    have_same m c.args.self.now h (sym puts) (sym tasks) (sym deeds) (sym prints)
+
+pub stay-requires-clause-few : goal.stay-requires-clause-few
+stay-requires-clause-few g c =
+    let m = reading_of g.P.Program.frame g.P.Program.may g.P.Program.meant g.P.Task.OnPath.path_of in
+    let a = c.args.self.now in
+    let law = g.met.P.Program.keeps_paths a.program in
+    let h = c.requires.run in
+    let f = fit m a law c.requires.running h.opening h.begun _ _ _ _ h.did in
+    let ds = deeds_in c.args.parts.items in
+    let left = few_left ds in
+    let all = f.all in
+    let count = ap (λ (x : StretchesValue g.row.P.Denot g.row.P-Task.Denot). x.count) c.self.view_is in
+    let few = let b = h.begun.few in let n = h.begun.count in
+    let x : a.count ≤ a.most = omega (arith, b, n) in x in
+    let most = ap (λ (x : StretchesValue g.row.P.Denot g.row.P-Task.Denot). x.most) c.self.view_is in
+    let bound = c.self.invariant.most in
+    let rest = c.in_ok-give_all_puts.ensures.rest in
+    let tasks = ap tasks_in rest ∙ tasks_on c.args.parts.items in
+    let deeds = ap deeds_in rest ∙ deeds_on c.args.parts.items in
+    let prints = ap prints_in rest ∙ prints_on c.args.parts.items in
+    let puts = c.in_ok-give_all_puts.ensures.given ∙ ap (λ (ps : List Put). ps ++ puts_in c.args.parts.items) c.requires.no_puts in
+    let told = c.count_left-left.ensures ∙ ap left_in (ap deeds_in c.deref.ensures.value) in
+    let made = counted_there c.count_spawned.result _ _ c.count_spawned.ensures c.in-Some.is in
+    let spawned = made.0 ∙ ap spawned_in (ap deeds_in c.deref-2.ensures.value) in
+    let fits = made.1 in
+    let n = ap (λ xs. length xs + spawned_in xs) deeds in
+    let k = ap left_in deeds in
+    omega (arith, n, k, all, count, most, left, told, spawned, fits, few)
+
+pub stay-requires-clause-told : goal.stay-requires-clause-told
+stay-requires-clause-told g c =
+    let m = reading_of g.P.Program.frame g.P.Program.may g.P.Program.meant g.P.Task.OnPath.path_of in
+    let a = c.args.self.now in
+    let law = g.met.P.Program.keeps_paths a.program in
+    let h = c.requires.run in
+    let f = fit m a law c.requires.running h.opening h.begun _ _ _ _ h.did in
+    let ds = deeds_in c.args.parts.items in
+    let left = few_left ds in
+    let all = f.all in
+    let count = ap (λ (x : StretchesValue g.row.P.Denot g.row.P-Task.Denot). x.count) c.self.view_is in
+    let few = let b = h.begun.few in let n = h.begun.count in
+    let x : a.count ≤ a.most = omega (arith, b, n) in x in
+    let most = ap (λ (x : StretchesValue g.row.P.Denot g.row.P-Task.Denot). x.most) c.self.view_is in
+    let bound = c.self.invariant.most in
+    let rest = c.in_ok-give_all_puts.ensures.rest in
+    let tasks = ap tasks_in rest ∙ tasks_on c.args.parts.items in
+    let deeds = ap deeds_in rest ∙ deeds_on c.args.parts.items in
+    let prints = ap prints_in rest ∙ prints_on c.args.parts.items in
+    let puts = c.in_ok-give_all_puts.ensures.given ∙ ap (λ (ps : List Put). ps ++ puts_in c.args.parts.items) c.requires.no_puts in
+    let told = c.count_left-left.ensures ∙ ap left_in (ap deeds_in c.deref.ensures.value) in
+    let made = counted_there c.count_spawned.result _ _ c.count_spawned.ensures c.in-Some.is in
+    let spawned = made.0 ∙ ap spawned_in (ap deeds_in c.deref-2.ensures.value) in
+    let fits = made.1 in
+    (λ i. record { phase = (c.self.view_is i).step; parties = (count ∙ sym all) i + spawned i; left = told i; spawned = spawned i })
+    ∙ ap (told_in c.args.self.now.step) (sym deeds)
+
+pub stay-requires-clause-covered : goal.stay-requires-clause-covered
+stay-requires-clause-covered g c = ap (covers true c.args.self.now.count 0) c.in_ok-give_all_puts.ensures.rest ∙ covers_on true c.args.self.now.count 0 c.args.parts.items ∙ c.requires.covered
+
+pub move_on-requires-clause-run : goal.move_on-requires-clause-run
+move_on-requires-clause-run g c =
+    let m = reading_of g.P.Program.frame g.P.Program.may g.P.Program.meant g.P.Task.OnPath.path_of in
+    let h = c.requires.run in
+    let rest = c.in_ok-give_all_puts.ensures.rest in
+    let tasks = ap tasks_in rest ∙ tasks_on c.args.parts.items in
+    let deeds = ap deeds_in rest ∙ deeds_on c.args.parts.items in
+    let prints = ap prints_in rest ∙ prints_on c.args.parts.items in
+    let puts = c.in_ok-give_all_puts.ensures.given ∙ ap (λ (ps : List Put). ps ++ puts_in c.args.parts.items) c.requires.no_puts in
+    have_same m c.args.self.now h (sym puts) (sym tasks) (sym deeds) (sym prints)
+
+pub move_on-requires-clause-few : goal.move_on-requires-clause-few
+move_on-requires-clause-few g c =
+    let m = reading_of g.P.Program.frame g.P.Program.may g.P.Program.meant g.P.Task.OnPath.path_of in
+    let a = c.args.self.now in
+    let law = g.met.P.Program.keeps_paths a.program in
+    let h = c.requires.run in
+    let f = fit m a law c.requires.running h.opening h.begun _ _ _ _ h.did in
+    let ds = deeds_in c.args.parts.items in
+    let left = few_left ds in
+    let all = f.all in
+    let count = ap (λ (x : StretchesValue g.row.P.Denot g.row.P-Task.Denot). x.count) c.self.view_is in
+    let few = let b = h.begun.few in let n = h.begun.count in
+    let x : a.count ≤ a.most = omega (arith, b, n) in x in
+    let most = ap (λ (x : StretchesValue g.row.P.Denot g.row.P-Task.Denot). x.most) c.self.view_is in
+    let bound = c.self.invariant.most in
+    let rest = c.in_ok-give_all_puts.ensures.rest in
+    let tasks = ap tasks_in rest ∙ tasks_on c.args.parts.items in
+    let deeds = ap deeds_in rest ∙ deeds_on c.args.parts.items in
+    let prints = ap prints_in rest ∙ prints_on c.args.parts.items in
+    let puts = c.in_ok-give_all_puts.ensures.given ∙ ap (λ (ps : List Put). ps ++ puts_in c.args.parts.items) c.requires.no_puts in
+    let told = c.count_left-left.ensures ∙ ap left_in (ap deeds_in c.deref.ensures.value) in
+    let made = counted_there c.count_spawned.result _ _ c.count_spawned.ensures c.in-Some.is in
+    let spawned = made.0 ∙ ap spawned_in (ap deeds_in c.deref-2.ensures.value) in
+    let fits = made.1 in
+    let n = ap (λ xs. length xs + spawned_in xs) deeds in
+    let k = ap left_in deeds in
+    omega (arith, n, k, all, count, most, left, told, spawned, fits, few)
+
+pub move_on-requires-clause-told : goal.move_on-requires-clause-told
+move_on-requires-clause-told g c =
+    let m = reading_of g.P.Program.frame g.P.Program.may g.P.Program.meant g.P.Task.OnPath.path_of in
+    let a = c.args.self.now in
+    let law = g.met.P.Program.keeps_paths a.program in
+    let h = c.requires.run in
+    let f = fit m a law c.requires.running h.opening h.begun _ _ _ _ h.did in
+    let ds = deeds_in c.args.parts.items in
+    let left = few_left ds in
+    let all = f.all in
+    let count = ap (λ (x : StretchesValue g.row.P.Denot g.row.P-Task.Denot). x.count) c.self.view_is in
+    let few = let b = h.begun.few in let n = h.begun.count in
+    let x : a.count ≤ a.most = omega (arith, b, n) in x in
+    let most = ap (λ (x : StretchesValue g.row.P.Denot g.row.P-Task.Denot). x.most) c.self.view_is in
+    let bound = c.self.invariant.most in
+    let rest = c.in_ok-give_all_puts.ensures.rest in
+    let tasks = ap tasks_in rest ∙ tasks_on c.args.parts.items in
+    let deeds = ap deeds_in rest ∙ deeds_on c.args.parts.items in
+    let prints = ap prints_in rest ∙ prints_on c.args.parts.items in
+    let puts = c.in_ok-give_all_puts.ensures.given ∙ ap (λ (ps : List Put). ps ++ puts_in c.args.parts.items) c.requires.no_puts in
+    let told = c.count_left-left.ensures ∙ ap left_in (ap deeds_in c.deref.ensures.value) in
+    let made = counted_there c.count_spawned.result _ _ c.count_spawned.ensures c.in-Some.is in
+    let spawned = made.0 ∙ ap spawned_in (ap deeds_in c.deref-2.ensures.value) in
+    let fits = made.1 in
+    (λ i. record { phase = (c.self.view_is i).step; parties = (count ∙ sym all) i + spawned i; left = told i; spawned = spawned i })
+    ∙ ap (told_in c.args.self.now.step) (sym deeds)

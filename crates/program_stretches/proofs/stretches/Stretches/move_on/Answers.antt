@@ -1,0 +1,117 @@
+use Rattle.std.proofs.Common.{◌≡◌, ◌+◌, ◌≤◌, ◌++◌, ◌∷◌, ◌∙◌, [], None, List, length, map, ap, sym, subst, refl, inl, arith}
+use Rattle.superstep_memory.specs.Landing.{over_in}
+use Rattle.superstep_memory.specs.PathOrder.{in_path_order}
+use Rattle.phase_records.specs.declared.record.PhaseRecord.{PhaseRecord}
+use Rattle.programs.specs.InPlace.{living_with}
+use Rattle.programs.proofs.InPlace.{few_left}
+use Rattle.program_stretches.specs.Parts.{reading_of, tasks_in, deeds_in, prints_in}
+use Rattle.program_stretches.specs.StretchesValue.{StretchesValue, IsAfter, IsCourse, status_in}
+use Rattle.program_stretches.specs.StretchesView.{stretches_of}
+use Rattle.program_stretches.specs.Closing.{opened_with}
+use Rattle.program_stretches.proofs.Closed.{fit, after_landed, closed_landed, landed_with, below_limit}
+use Rattle.program_stretches.proofs.stretches.Stretches.move_on.Goals as goal
+
+pub overflow_sub-count : goal.overflow_sub-count
+overflow_sub-count g c =
+    let e = ap (λ (r : PhaseRecord). r.left) c.requires.told in
+    let f = ap (λ (r : PhaseRecord). r.parties) c.requires.told in
+    let l = few_left (deeds_in c.args.parts.items) in
+    omega (arith, e, f, l)
+
+pub regroup-requires-clause-same : goal.regroup-requires-clause-same
+regroup-requires-clause-same g c =
+    let m = reading_of g.P.Program.frame g.P.Program.may g.P.Program.meant g.P.Task.OnPath.path_of in
+    let h = c.requires.run in
+    let f = fit m c.args.self.now (g.met.P.Program.keeps_paths c.args.self.now.program) c.requires.running h.opening h.begun _ _ _ _ h.did in
+    ap length c.in_ok-gather.ensures.tasks ∙ f.same ∙ sym (ap length c.in_ok-gather.ensures.deeds)
+
+pub regroup-requires-clause-count : goal.regroup-requires-clause-count
+regroup-requires-clause-count g c =
+    let m = reading_of g.P.Program.frame g.P.Program.may g.P.Program.meant g.P.Task.OnPath.path_of in
+    let h = c.requires.run in
+    let f = fit m c.args.self.now (g.met.P.Program.keeps_paths c.args.self.now.program) c.requires.running h.opening h.begun _ _ _ _ h.did in
+    let living = f.living in
+    let e = ap (λ (r : PhaseRecord). r.left) c.requires.told in
+    let p = ap (λ (r : PhaseRecord). r.parties) c.requires.told in
+    let n : length (living_with c.gather.new.tasks.items c.gather.new.deeds) ≡ length (living_with (tasks_in c.args.parts.items) (deeds_in c.args.parts.items)) =
+    (λ i. length (living_with (c.in_ok-gather.ensures.tasks i) (c.in_ok-gather.ensures.deeds i))) in
+    omega (arith, living, e, p, n)
+
+pub overflow_add-self : goal.overflow_add-self
+overflow_add-self g c =
+    let b = below_limit (stretches_of c.self.inside) (ap (λ (x : StretchesValue g.row.P.Denot g.row.P-Task.Denot). status_in x) c.self.view_is ∙ c.requires.running) in
+    let l = c.self.invariant.limit in
+    omega (arith, b, l)
+
+pub invariant_of-self-in-None : goal.invariant_of-self-in-None
+invariant_of-self-in-None g c =
+    let m = reading_of g.P.Program.frame g.P.Program.may g.P.Program.meant g.P.Task.OnPath.path_of in
+    let a = c.args.self.now in
+    let v = stretches_of c.self.inside in
+    let law = g.met.P.Program.keeps_paths a.program in
+    let ds = deeds_in c.args.parts.items in
+    let after = prints_in c.args.parts.items in
+    let next = c.regroup.new.tasks.items in
+    let is_next = c.regroup.ensures ∙ (λ i. in_path_order g.P.Task.OnPath.path_of (living_with (c.in_ok-gather.ensures.tasks i) (c.in_ok-gather.ensures.deeds i))) in
+    let none = sym c.in-None.is ∙ c.in_ok-place.ensures.place ∙ ap (λ (x : StretchesValue g.row.P.Denot g.row.P-Task.Denot). over_in x.arrays [] 0 c.args.puts.now) c.self.view_is in
+    let begun = after_landed m a law c.requires.running c.args.puts.now (tasks_in c.args.parts.items) ds after c.requires.run c.requires.few c.args.told c.requires.told none next is_next in
+    let prints = c.append_reserved.ensures ∙ (λ i. c.in_ok-reserve.ensures.items i ++ c.in_ok-gather.ensures.prints i) in
+    let records = c.push_reserved.ensures.items ∙ ap (λ (rs : List PhaseRecord). rs ++ c.args.told ∷ []) c.in_ok-reserve-2.ensures.items in
+    let arrays = c.in_ok-place.ensures.lands c.in-None.is in
+    let count : c.len-self-inside.result ≡ length next = omega (arith, c.len-self-inside.ensures, c.regroup.new.tasks.ok.0) in
+    let same : stretches_of (record c.self.inside { step = c.self.inside.step + 1; arrays = c.land_shared.new.arrays; count = c.len-self-inside.result; prints = c.append_reserved.new.prints; records = c.push_reserved.new.self }) ≡ landed_with a c.args.puts.now c.args.told after (length next) =
+    (λ i. record v { step = v.step + 1; arrays = arrays i; count = count i; prints = prints i; records = records i })
+    ∙ (λ i. landed_with (c.self.view_is i) c.args.puts.now c.args.told after (length next)) in
+    record {
+      course = subst (IsCourse m) (sym same) (record { live = map (m a.program).meant next; after = begun; opened = inl c.requires.none });
+      same = c.self.invariant.same;
+      is_ready = c.self.invariant.is_ready;
+      pieces = c.self.invariant.pieces;
+      most = c.self.invariant.most;
+      limit = c.self.invariant.limit;
+    }
+
+pub reopen-requires-clause-after : goal.reopen-requires-clause-after
+reopen-requires-clause-after g c =
+    let m = reading_of g.P.Program.frame g.P.Program.may g.P.Program.meant g.P.Task.OnPath.path_of in
+    let a = c.args.self.now in
+    let v = stretches_of c.self.inside in
+    let law = g.met.P.Program.keeps_paths a.program in
+    let ds = deeds_in c.args.parts.items in
+    let after = prints_in c.args.parts.items in
+    let next = c.regroup.new.tasks.items in
+    let is_next = c.regroup.ensures ∙ (λ i. in_path_order g.P.Task.OnPath.path_of (living_with (c.in_ok-gather.ensures.tasks i) (c.in_ok-gather.ensures.deeds i))) in
+    let none = sym c.in-None.is ∙ c.in_ok-place.ensures.place ∙ ap (λ (x : StretchesValue g.row.P.Denot g.row.P-Task.Denot). over_in x.arrays [] 0 c.args.puts.now) c.self.view_is in
+    let begun = after_landed m a law c.requires.running c.args.puts.now (tasks_in c.args.parts.items) ds after c.requires.run c.requires.few c.args.told c.requires.told none next is_next in
+    let prints = c.append_reserved.ensures ∙ (λ i. c.in_ok-reserve.ensures.items i ++ c.in_ok-gather.ensures.prints i) in
+    let records = c.push_reserved.ensures.items ∙ ap (λ (rs : List PhaseRecord). rs ++ c.args.told ∷ []) c.in_ok-reserve-2.ensures.items in
+    let arrays = c.in_ok-place.ensures.lands c.in-None.is in
+    let count : c.len-self-inside.result ≡ length next = omega (arith, c.len-self-inside.ensures, c.regroup.new.tasks.ok.0) in
+    let same : stretches_of (record c.self.inside { step = c.self.inside.step + 1; arrays = c.land_shared.new.arrays; count = c.len-self-inside.result; prints = c.append_reserved.new.prints; records = c.push_reserved.new.self }) ≡ landed_with a c.args.puts.now c.args.told after (length next) =
+    (λ i. record v { step = v.step + 1; arrays = arrays i; count = count i; prints = prints i; records = records i })
+    ∙ (λ i. landed_with (c.self.view_is i) c.args.puts.now c.args.told after (length next)) in
+    subst (λ (ts : List g.row.P-Task.Denot). IsAfter m (stretches_of (record c.self.inside { step = c.self.inside.step + 1; arrays = c.land_shared.new.arrays; count = c.len-self-inside.result; prints = c.append_reserved.new.prints; records = c.push_reserved.new.self })) (map (m v.program).meant ts)) (sym c.cut.ensures.tasks)
+    (subst (λ (x : StretchesValue g.row.P.Denot g.row.P-Task.Denot). IsAfter m x (map (m x.program).meant next)) (sym same) begun)
+
+pub returns-clause-closed : goal.returns-clause-closed
+returns-clause-closed g c =
+    let m = reading_of g.P.Program.frame g.P.Program.may g.P.Program.meant g.P.Task.OnPath.path_of in
+    let a = c.args.self.now in
+    let v = stretches_of c.self.inside in
+    let law = g.met.P.Program.keeps_paths a.program in
+    let ds = deeds_in c.args.parts.items in
+    let after = prints_in c.args.parts.items in
+    let next = c.regroup.new.tasks.items in
+    let is_next = c.regroup.ensures ∙ (λ i. in_path_order g.P.Task.OnPath.path_of (living_with (c.in_ok-gather.ensures.tasks i) (c.in_ok-gather.ensures.deeds i))) in
+    let none = sym c.in-None.is ∙ c.in_ok-place.ensures.place ∙ ap (λ (x : StretchesValue g.row.P.Denot g.row.P-Task.Denot). over_in x.arrays [] 0 c.args.puts.now) c.self.view_is in
+    let begun = after_landed m a law c.requires.running c.args.puts.now (tasks_in c.args.parts.items) ds after c.requires.run c.requires.few c.args.told c.requires.told none next is_next in
+    let prints = c.append_reserved.ensures ∙ (λ i. c.in_ok-reserve.ensures.items i ++ c.in_ok-gather.ensures.prints i) in
+    let records = c.push_reserved.ensures.items ∙ ap (λ (rs : List PhaseRecord). rs ++ c.args.told ∷ []) c.in_ok-reserve-2.ensures.items in
+    let arrays = c.in_ok-place.ensures.lands c.in-None.is in
+    let count : c.len-self-inside.result ≡ length next = omega (arith, c.len-self-inside.ensures, c.regroup.new.tasks.ok.0) in
+    let same : stretches_of (record c.self.inside { step = c.self.inside.step + 1; arrays = c.land_shared.new.arrays; count = c.len-self-inside.result; prints = c.append_reserved.new.prints; records = c.push_reserved.new.self }) ≡ landed_with a c.args.puts.now c.args.told after (length next) =
+    (λ i. record v { step = v.step + 1; arrays = arrays i; count = count i; prints = prints i; records = records i })
+    ∙ (λ i. landed_with (c.self.view_is i) c.args.puts.now c.args.told after (length next)) in
+    closed_landed m a law c.requires.running c.args.puts.now (tasks_in c.args.parts.items) ds after c.requires.run c.requires.few c.args.told c.requires.told none next is_next
+    c.cut.new.parts.items c.cut.ensures.fresh c.cut.ensures.tasks c.reopen.new.self
+    (c.in_ok-reopen-in-None.ensures.opened ∙ ap (λ (x : StretchesValue g.row.P.Denot g.row.P-Task.Denot). opened_with x c.cut.new.parts.items) same)

@@ -1,0 +1,10 @@
+pub mod PartValue
+pub mod Parts
+pub mod PartView
+pub mod Reached
+pub mod Opening
+pub mod Did
+pub mod StretchesValue
+pub mod StretchView
+pub mod StretchesView
+pub mod Closing

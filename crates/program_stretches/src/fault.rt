@@ -1,0 +1,44 @@
+//! Why stretches aren't taken back, why a superstep isn't closed, and how it ends.
+use std::alloc::AllocError;
+use thiserror::Error;
+
+/// Why a stretch isn't taken back (own). Nothing changes then.
+#[derive(Clone, Copy, Debug, PartialEq, Eq, Error)]
+pub enum Unwanted {
+    /// It is of another superstep.
+    #[error("a stretch of another superstep")]
+    WrongStep,
+    /// Its tasks haven't run.
+    #[error("a stretch that hasn't run")]
+    Unfinished,
+    /// No stretch of this superstep has its number.
+    #[error("a stretch with an unknown number")]
+    Stranger,
+    /// The stretch of its number wasn't taken.
+    #[error("a stretch that wasn't taken")]
+    Double,
+}
+
+/// Why a superstep isn't closed (own).
+#[derive(Debug, Drop, Error)]
+pub enum Unclosed {
+    /// A stretch isn't back, or its tasks haven't run. Nothing changes.
+    #[error("a stretch that isn't back")]
+    Missing,
+    /// Out of memory. The live tasks are lost, so the run can only be given up.
+    #[error(transparent)]
+    Memory(#[from(alloc)] AllocError),
+}
+
+/// How a superstep ends (own).
+#[derive(Clone, Copy, Debug, PartialEq, Eq)]
+pub enum Outcome {
+    /// Its puts have landed.
+    Landed,
+    /// A task faulted, which ends the run.
+    Faulted,
+    /// More tasks than the most would live on, which ends the run.
+    TooMany,
+    /// A sum of puts overflowed, which ends the run.
+    Overflowed,
+}

@@ -1,0 +1,27 @@
+//! Supersteps of a program that are taken by stretches: consecutive live tasks that are handed out together, run by whoever has
+//! them, and taken back as a whole.
+//!
+//! # Where things are
+//!
+//! * `part.rt`: a stretch and what its tasks did; `stretch.rt`: one that was taken; `parts.rt`: several together;
+//!   `hand_over.rt`: what they hand over in the end; `landing.rt`: how puts land; `cut.rt`: new stretches;
+//!   `opened.rt`: a superstep as it begins; `stretches.rt`: the whole.
+//! * `specs/StretchesValue.antt`: the supersteps; `Closing.antt`: how they are taken, taken back and closed;
+//!   `Reached.antt`: the history so far.
+#![tactic(auto)]
+
+mod cut;
+mod fault;
+mod hand_over;
+mod landing;
+mod opened;
+mod part;
+mod parts;
+mod stretch;
+mod stretches;
+
+pub use fault::{Outcome, Unclosed, Unwanted};
+pub use opened::Opened;
+pub use programs::deeds::Change;
+pub use stretch::Stretch;
+pub use stretches::{Left, Stretches};

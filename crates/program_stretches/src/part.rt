@@ -1,0 +1,256 @@
+//! A stretch of live tasks, and what they did.
+ghost use Rattle.std.specs.Prelude.{◌≡◌, [], true, length, OnOk, OnErr};
+ghost use Rattle.program_stretches.specs.Parts.{HasRun, reading_of, fresh_part};
+
+use phase_records::Print;
+use programs::blame::{Blame, copy_path, task_path};
+use programs::deeds::{Change, Deeds};
+use programs::in_place::{StepScene, do_range};
+use programs::program::{OnPath, Program};
+use programs::work::Work;
+use std::alloc::{AllocError, Global};
+use std::marker::Model;
+use superstep_memory::arrays::Arrays;
+use superstep_memory::path::Path;
+use superstep_memory::puts::Puts;
+
+/// Consecutive live tasks of a superstep, and what they did in it, each in its place.
+#[derive(Drop)]
+pub struct Part<T> {
+    // The place of its first task among the live ones.
+    first: usize,
+    tasks: Vec<T>,
+    // Whether they have run.
+    done: bool,
+    // Their puts, and room for a segment.
+    work: Work<T>,
+    deeds: Deeds<T>,
+    prints: Vec<Print>,
+    fault: Option<Blame>,
+}
+
+impl<T> Model for Part<T> {
+    ghost use Rattle.program_stretches.specs.PartValue.{PartValue};
+
+    ghost Value = { PartValue T };
+
+    ghost use Rattle.program_stretches.specs.PartView.{part_of};
+
+    ghost view = { part_of };
+}
+
+/// Copies a blame. It takes no memory.
+pub(crate) fn blame_again(blame: &Blame) -> Blame
+    ensures { result ≡ blame.now }
+{
+    Blame {
+        code: blame.code,
+        path: copy_path(&blame.path),
+    }
+}
+
+impl<T: OnPath> Part<T> {
+    ghost use Rattle.std.specs.Prelude.{◌≡◌, ◌≤◌, ◌<◌, ◌+◌, ◌++◌, ◌↔◌, [], true, false, IsTrue, IfOk, OnOk, OnErr, is_some, length, map, slice_get};
+    ghost use Rattle.std.specs.Option.{option_map};
+    ghost use Rattle.std.specs.Vec.{vec_len, vec_capacity};
+    ghost use Rattle.programs.specs.InPlace.{told_at, maker, left_in, spawned_in};
+    ghost use Rattle.programs.specs.Changes.{change_of, change_in};
+    ghost use Rattle.program_stretches.specs.Parts.{fresh_part};
+
+    /// These tasks, the first of which has this place among the live ones, before their segments.
+    pub(crate) fn new(alloc: Global, first: usize, tasks: Vec<T>) -> Self
+        ensures { result ≡ fresh_part first tasks.items }
+    {
+        Part {
+            first,
+            tasks,
+            done: false,
+            work: Work {
+                puts: Puts::new(alloc),
+                own: Puts::new(alloc),
+                prints: Vec::new(alloc),
+                spawns: Vec::new(alloc),
+            },
+            deeds: Deeds::new(alloc),
+            prints: Vec::new(alloc),
+            fault: None,
+        }
+    }
+
+    /// How many tasks it has.
+    pub(crate) fn len(&self) -> usize
+        ensures { result ≡ length self.now.tasks }
+    {
+        self.tasks.len()
+    }
+
+    /// The place of its first task among the live ones.
+    pub(crate) fn first(&self) -> usize
+        ensures { result ≡ self.now.first }
+    {
+        self.first
+    }
+
+    /// Whether its tasks have run.
+    pub(crate) fn is_done(&self) -> bool
+        ensures { result ≡ self.now.done }
+    {
+        self.done
+    }
+
+    /// The path of its first task, if it has one.
+    pub(crate) fn first_path(&self) -> Option<Path>
+        ensures { option_map (λ p. p.items) result ≡ slice_get (map T.path_of self.now.tasks) 0 }
+    {
+        match self.tasks.first() {
+            Some(task) => Some(task_path(task)),
+            None => None,
+        }
+    }
+
+    /// Its first fault.
+    pub(crate) fn fault(&self) -> Option<Blame>
+        ensures { result ≡ self.now.fault }
+    {
+        match &self.fault {
+            Some(blame) => Some(blame_again(blame)),
+            None => None,
+        }
+    }
+
+    /// Whether one of its tasks has faulted.
+    pub(crate) fn has_faulted(&self) -> bool
+        ensures { result ≡ is_some self.now.fault }
+    {
+        self.fault.is_some()
+    }
+
+    /// How many values it printed.
+    pub(crate) fn print_count(&self) -> usize
+        ensures { result ≡ length self.now.prints }
+    {
+        self.prints.len()
+    }
+
+    /// How many of its tasks stopped.
+    pub(crate) fn left(&self) -> usize
+        ensures { result ≡ left_in self.now.deeds }
+    {
+        self.deeds.left()
+    }
+
+    /// How many tasks its tasks spawned.
+    pub(crate) fn spawned(&self) -> usize
+        ensures { result ≡ spawned_in self.now.deeds }
+    {
+        self.deeds.spawned()
+    }
+
+    /// Whether the same tasks live on.
+    pub(crate) fn all_stay(&self) -> bool
+        ensures { IsTrue result ↔ ((left_in self.now.deeds ≡ 0) × (spawned_in self.now.deeds ≡ 0)) }
+    {
+        self.deeds.all_stay()
+    }
+
+    /// What each of its tasks did to the list of tasks, up to the first fault.
+    pub(crate) fn changes(&self, alloc: Global) -> Result<Vec<Change>, AllocError>
+        ensures { IfOk result (λ changes. map change_of changes.items ≡ map (change_in T.path_of) self.now.deeds) }
+    {
+        self.deeds.changes(alloc)
+    }
+
+    /// Moves its puts to the end of others.
+    pub(crate) fn give_puts(&mut self, puts: &mut Puts) -> Result<(), AllocError>
+        ensures given { OnOk result (puts.new ≡ puts.old ++ self.old.puts) }
+        ensures rest { OnOk result (self.new ≡ record self.old { puts = [] }) }
+    {
+        puts.append(&mut self.work.puts)
+    }
+
+    /// Moves its tasks and deeds to the end of others.
+    pub(crate) fn give_tasks(
+        &mut self,
+        tasks: &mut Vec<T>,
+        deeds: &mut Deeds<T>,
+    ) -> Result<(), AllocError>
+        ensures tasks { OnOk result (tasks.new.items ≡ tasks.old.items ++ self.old.tasks) }
+        ensures deeds { OnOk result (deeds.new ≡ deeds.old ++ self.old.deeds) }
+        ensures rest { OnOk result (self.new ≡ record self.old { tasks = []; deeds = [] }) }
+    {
+        deeds.append(&mut self.deeds)?;
+        tasks.append(&mut self.tasks)?;
+        Ok(())
+    }
+
+    /// Moves its prints to the end of others, which have room for them.
+    pub(crate) fn give_prints(&mut self, prints: &mut Vec<Print>)
+        requires room { vec_len prints.old + length self.old.prints ≤ vec_capacity prints.old }
+        ensures given { prints.new.items ≡ prints.old.items ++ self.old.prints }
+        ensures room { vec_capacity prints.old ≤ vec_capacity prints.new }
+        ensures rest { self.new ≡ record self.old { prints = [] } }
+    {
+        match prints.append(&mut self.prints) {
+            Ok(()) => {}
+            Err(_) => unreachable!(),
+        }
+    }
+
+    /// The same tasks before their segments of the next superstep.
+    pub(crate) fn renew(&mut self)
+        ensures { self.new ≡ fresh_part self.old.first self.old.tasks }
+    {
+        self.done = false;
+        self.work.puts.clear();
+        self.deeds.clear();
+        self.prints.clear();
+        self.fault = None;
+    }
+}
+
+/// Runs the tasks of a stretch, each in its place, over these arrays. Out of memory, the tasks are lost.
+pub(crate) fn run_part<P: Program>(
+    alloc: Global,
+    program: &P,
+    arrays: &Arrays,
+    step: u32,
+    part: &mut Part<P::Task>,
+) -> Result<(), AllocError>
+    requires ready { P.ready program.now }
+    ensures ran { OnOk result (HasRun (reading_of P.frame P.may P.meant P.Task.path_of program.now) arrays.now step part.old.tasks part.new) }
+    ensures count { OnOk result (length part.new.tasks ≡ length part.old.tasks) }
+    ensures done { OnOk result (part.new.done ≡ true) }
+    ensures place { part.new.first ≡ part.old.first }
+    ensures lost { OnErr result (part.new ≡ fresh_part part.old.first []) }
+{
+    part.work.puts.clear();
+    part.deeds.clear();
+    part.prints.clear();
+    let scene = StepScene {
+        program,
+        arrays,
+        step,
+    };
+    let end = part.tasks.len();
+    match do_range(
+        alloc,
+        &scene,
+        &mut part.tasks,
+        0,
+        end,
+        &mut part.work,
+        &mut part.deeds,
+        &mut part.prints,
+    ) {
+        Ok(fault) => {
+            part.done = true;
+            part.fault = fault;
+            Ok(())
+        }
+        Err(fault) => {
+            part.tasks.clear();
+            part.renew();
+            Err(fault)
+        }
+    }
+}

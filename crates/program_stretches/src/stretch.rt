@@ -1,0 +1,115 @@
+//! A stretch that was taken.
+use crate::opened::Opened;
+use crate::part::{Part, run_part};
+use programs::deeds::Change;
+use programs::program::Program;
+use snapshot_log::log::Snapshot;
+use std::alloc::{AllocError, Global};
+use std::marker::Model;
+use std::sync::Arc;
+use superstep_memory::arrays::Arrays;
+use superstep_memory::path::Path;
+
+/// Consecutive live tasks of a superstep, taken by whoever runs them. Its type keeps that what was done is what these tasks may
+/// leave in this superstep.
+#[derive(Drop)]
+pub struct Stretch<'p, P: Program> {
+    pub(crate) program: &'p P,
+    pub(crate) number: usize,
+    pub(crate) step: u32,
+    pub(crate) arrays: Arc<Arrays>,
+    pub(crate) part: Part<P::Task>,
+    pub(crate) snapshot: Snapshot<Opened<'p, P, P::Task>>,
+}
+
+impl<'p, P: Program> Model for Stretch<'p, P> {
+    ghost use Rattle.program_stretches.specs.Parts.{reading_of};
+    ghost use Rattle.program_stretches.specs.StretchesValue.{StretchValue, IsStretch};
+    ghost use Rattle.program_stretches.specs.StretchView.{stretch_of};
+
+    ghost Value = { StretchValue P P.Task };
+
+    ghost view = { stretch_of };
+
+    ghost invariant = { λ s. IsStretch (reading_of P.frame P.may P.meant P.Task.path_of) P.ready (stretch_of s) };
+}
+
+impl<'p, P: Program> Stretch<'p, P> {
+    ghost use Rattle.std.specs.Prelude.{◌≡◌, ◌↔◌, true, false, IsTrue, IfOk, OnOk, is_some, length, map, slice_get};
+    ghost use Rattle.std.specs.Option.{option_map};
+    ghost use Rattle.programs.specs.InPlace.{left_in, spawned_in};
+    ghost use Rattle.programs.specs.Changes.{change_of, change_in};
+
+    /// Its number among the stretches of its superstep, from 0, in path order.
+    pub fn number(&self) -> usize
+        ensures { result ≡ self.now.number }
+    {
+        self.number
+    }
+
+    /// How many tasks it has.
+    pub fn len(&self) -> usize
+        ensures { result ≡ length self.now.part.tasks }
+    {
+        self.part.len()
+    }
+
+    /// Its superstep, from 0.
+    pub fn step(&self) -> u32
+        ensures { result ≡ self.now.step }
+    {
+        self.step
+    }
+
+    /// Whether its tasks have run.
+    pub fn is_done(&self) -> bool
+        ensures { result ≡ self.now.part.done }
+    {
+        self.part.is_done()
+    }
+
+    /// The path of its first task, if it has one.
+    pub fn first_path(&self) -> Option<Path>
+        ensures { option_map (λ p. p.items) result ≡ slice_get (map P.Task.path_of self.now.part.tasks) 0 }
+    {
+        self.part.first_path()
+    }
+
+    /// Runs its tasks, each in its place. Out of memory, the tasks are lost.
+    pub fn run(&mut self, alloc: Global) -> Result<(), AllocError>
+        requires { self.old.part.done ≡ false }
+        ensures done { OnOk result (self.new.part.done ≡ true) }
+        ensures count { OnOk result (length self.new.part.tasks ≡ length self.old.part.tasks) }
+        ensures same { self.new ≡ record self.old { part = self.new.part } }
+        ensures place { self.new.part.first ≡ self.old.part.first }
+    {
+        run_part(alloc, self.program, &self.arrays, self.step, &mut self.part)
+    }
+
+    /// Whether one of its tasks has faulted.
+    pub fn has_faulted(&self) -> bool
+        ensures { result ≡ is_some self.now.part.fault }
+    {
+        self.part.has_faulted()
+    }
+
+    /// Whether the same tasks live on, as far as tasks have run.
+    pub fn all_stay(&self) -> bool
+        ensures { IsTrue result ↔ ((left_in self.now.part.deeds ≡ 0) × (spawned_in self.now.part.deeds ≡ 0)) }
+    {
+        self.part.all_stay()
+    }
+
+    /// What each of its tasks did to the list of tasks, up to the first fault.
+    pub fn changes(&self, alloc: Global) -> Result<Vec<Change>, AllocError>
+        ensures { IfOk result (λ changes. map change_of changes.items ≡ map (change_in P.Task.path_of) self.now.part.deeds) }
+    {
+        self.part.changes(alloc)
+    }
+
+    /// Gives the stretch up.
+    pub(crate) fn give_up(self) {
+        let Stretch { snapshot, .. } = self;
+        snapshot.give_up();
+    }
+}

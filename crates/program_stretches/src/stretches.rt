@@ -1,0 +1,695 @@
+//! The supersteps of a program, taken by stretches.
+ghost use Rattle.std.specs.Prelude.{◌≡◌, ◌≤◌, ◌<◌, ◌+◌, ◌++◌, if◌then◌else◌, [], IfOk, OnOk, length};
+ghost use Rattle.phase_records.specs.Status.{IsShort};
+ghost use Rattle.phase_records.specs.StatusSeen.{status_seen};
+ghost use Rattle.program_stretches.specs.StretchesValue.{is_at_limit};
+ghost use Rattle.std.specs.Vec.{vec_len, vec_capacity};
+ghost use Rattle.superstep_memory.specs.PathOrder.{in_path_order};
+ghost use Rattle.programs.specs.InPlace.{living_with};
+ghost use Rattle.program_stretches.specs.Parts.{AreFresh, tasks_in, deeds_in, prints_in};
+ghost use Rattle.std.specs.Arc.{arc_value};
+
+use crate::cut::cut;
+use crate::fault::{Outcome, Unclosed, Unwanted};
+use crate::hand_over::{give_all_prints, give_all_puts, give_all_tasks, renew_all};
+use crate::landing::land_shared;
+use crate::opened::Opened;
+use crate::part::{Part, blame_again};
+use crate::parts::{count_left, count_prints, count_spawned, cover, find_fault};
+use crate::stretch::Stretch;
+use phase_records::{JobStatus, PhaseRecord, Print, Report};
+use programs::alone::Ran;
+use programs::blame::{Blame, too_many};
+use programs::deeds::Deeds;
+use programs::program::{OnPath, Program};
+use snapshot_log::log::{Log, Snapshot, Start, Writer};
+use std::alloc::{AllocError, Global};
+use std::marker::Model;
+use std::mem;
+use std::sync::Arc;
+use superstep_memory::arrays::Arrays;
+use superstep_memory::puts::Puts;
+
+/// The supersteps of a run so far, and the stretches of live tasks of the next that aren't taken. Its type keeps that its arrays,
+/// prints, records and status are those of a history of supersteps, each task of which left what it may leave.
+#[derive(Drop)]
+pub struct Stretches<'t, 'p, P: Program> {
+    log: &'t Log<Opened<'p, P, P::Task>>,
+    writer: Writer<Opened<'p, P, P::Task>>,
+    program: &'p P,
+    // How many tasks may live at once.
+    most: u32,
+    limit: u32,
+    // About how many stretches the live tasks are cut into.
+    pieces: usize,
+    step: u32,
+    arrays: Arc<Arrays>,
+    // How many tasks live.
+    count: usize,
+    // By number: `None` if one is taken.
+    parts: Vec<Option<Part<P::Task>>>,
+    prints: Vec<Print>,
+    records: Vec<PhaseRecord>,
+    fault: Option<Blame>,
+    // Room for landing. What it holds means nothing.
+    olds: Vec<i64>,
+}
+
+impl<'t, 'p, P: Program> Model for Stretches<'t, 'p, P> {
+    ghost use Rattle.program_stretches.specs.Parts.{reading_of};
+    ghost use Rattle.program_stretches.specs.StretchesValue.{StretchesValue};
+    ghost use Rattle.program_stretches.specs.StretchesView.{stretches_of, IsStretchesInside};
+
+    ghost Value = { StretchesValue P P.Task };
+
+    ghost view = { stretches_of };
+
+    ghost invariant = { λ i. IsStretchesInside (reading_of P.frame P.may P.meant P.Task.path_of) P.ready i };
+}
+
+impl<'t, 'p, P: Program> Stretches<'t, 'p, P> {
+    ghost use Rattle.std.specs.Prelude.{◌≡◌, ◌≤◌, ◌<◌, ◌+◌, ◌^◌, ◌∷◌, [], None, Some, true, false, IsTrue, IfOk, IfSome, OnOk, IfErr, OnErr, MatchOption, is_some, not, ◌||◌, length, map, slice_get};
+    ghost use Rattle.std.specs.Option.{option_map};
+    ghost use Rattle.phase_records.specs.Status.{IsShort};
+    ghost use Rattle.phase_records.specs.StatusSeen.{status_seen};
+    ghost use Rattle.programs.specs.Meaning.{children};
+    ghost use Rattle.programs.specs.InPlace.{told_in, left_in, spawned_in};
+    ghost use Rattle.superstep_memory.specs.Landing.{over_in};
+    ghost use Rattle.program_stretches.specs.Parts.{reading_of, AreFresh, covers, tasks_in, puts_in, deeds_in, prints_in};
+    ghost use Rattle.program_stretches.specs.StretchesValue.{status_in, can_leave, ready_at, tasks_at, with_slot, IsAfter, HaveRun};
+    ghost use Rattle.program_stretches.specs.Closing.{IsBegun, IsTaken, Refuses, Accepts, IsSameRun, NotClosed, IsClosed, EndsBy, HasLeft, opened_with};
+
+    /// The stretches of a program that begins with these arrays and tasks, before the first superstep, by a new log. At most `most`
+    /// tasks may live at once, and at most `limit` supersteps are taken. Whenever tasks come or leave, the live ones are cut into
+    /// about `pieces` stretches.
+    pub fn new(
+        alloc: Global,
+        log: &'t Log<Opened<'p, P, P::Task>>,
+        start: Start<Opened<'p, P, P::Task>>,
+        program: &'p P,
+        arrays: Arrays,
+        tasks: Vec<P::Task>,
+        most: u32,
+        limit: u32,
+        pieces: usize,
+    ) -> Result<Self, AllocError>
+        requires start { start ≡ log.now }
+        requires ready { P.ready program.now }
+        requires most { most < 2 ^ 31 }
+        requires few { length tasks.items ≤ most }
+        requires paths { map P.Task.path_of tasks.items ≡ children [] 0 (length tasks.items) }
+        requires pieces { 1 ≤ pieces }
+        ensures { IfOk result (λ all. IsBegun log.now program.now arrays tasks.items most limit all) }
+    {
+        let Ok(ready) = get_ready(alloc, arrays, tasks, pieces) else {
+            start.give_up();
+            return Err(AllocError);
+        };
+        let Ready {
+            arrays,
+            shared,
+            count,
+            parts,
+        } = ready;
+        let mut writer = log.write(start);
+        let Opened { parts, .. } = writer.note(
+            log,
+            Opened {
+                program,
+                most,
+                limit,
+                arrays: shared,
+                parts,
+            },
+        );
+        Ok(Stretches {
+            log,
+            writer,
+            program,
+            most,
+            limit,
+            pieces,
+            step: 0,
+            arrays,
+            count,
+            parts,
+            prints: Vec::new(alloc),
+            records: Vec::new(alloc),
+            fault: None,
+            olds: Vec::new(alloc),
+        })
+    }
+
+    /// What the log of openings is now.
+    pub fn snapshot(&mut self) -> Snapshot<Opened<'p, P, P::Task>>
+        ensures same { self.new ≡ self.old }
+        ensures snapshot { result ≡ record { name = self.old.name; log = self.old.log } }
+    {
+        self.writer.snapshot(self.log)
+    }
+
+    /// How the run has ended, if it has: by a fault, with no task left, or at the limit, looked at in this order. It takes no memory.
+    pub fn status(&self) -> Option<JobStatus>
+        ensures status { option_map status_seen result ≡ status_in self.now }
+        ensures short { IfSome result (λ status. IsShort (status_seen status)) }
+    {
+        if let Some(blame) = &self.fault {
+            return Some(blame_again(blame).status(self.step));
+        }
+        if self.count == 0 {
+            return Some(JobStatus::Ended(self.step));
+        }
+        if self.limit <= self.step {
+            return Some(JobStatus::Limit(self.step));
+        }
+        None
+    }
+
+    /// Whether the run has ended. It takes no memory.
+    pub fn has_ended(&self) -> bool
+        ensures { result ≡ is_some (status_in self.now) }
+    {
+        self.fault.is_some() || self.count == 0 || self.limit <= self.step
+    }
+
+    /// How many supersteps were taken. It takes no memory.
+    pub fn step(&self) -> u32
+        ensures { result ≡ self.now.step }
+    {
+        self.step
+    }
+
+    /// How many stretches the live tasks are cut into. It takes no memory.
+    pub fn len(&self) -> usize
+        ensures { result ≡ length self.now.parts }
+    {
+        self.parts.len()
+    }
+
+    /// How many tasks live. It takes no memory.
+    pub fn count(&self) -> usize
+        ensures { result ≡ self.now.count }
+    {
+        self.count
+    }
+
+    /// How many tasks the stretch of this number has; none if it is taken. It takes no memory.
+    pub fn length(&self, number: usize) -> usize
+        ensures { result ≡ length (tasks_at (slice_get self.now.parts number)) }
+    {
+        match self.parts.get(number) {
+            Some(Some(part)) => part.len(),
+            Some(None) | None => 0,
+        }
+    }
+
+    /// Whether the stretch of this number is there and hasn't run. It takes no memory.
+    pub fn is_ready(&self, number: usize) -> bool
+        ensures { result ≡ ready_at (slice_get self.now.parts number) }
+    {
+        match self.parts.get(number) {
+            Some(Some(part)) => !part.is_done(),
+            Some(None) | None => false,
+        }
+    }
+
+    /// Gives out the stretch of this number, if it is ready.
+    pub fn take(&mut self, number: usize) -> Result<Option<Stretch<'p, P>>, AllocError>
+        ensures taken { IfOk result (λ taken. MatchOption taken
+            ((ready_at (slice_get self.old.parts number) ≡ false) × (self.new ≡ self.old))
+            (λ stretch. IsTaken self.old self.new number stretch)) }
+        ensures unchanged { OnErr result (self.new ≡ self.old) }
+    {
+        if !self.is_ready(number) {
+            return Ok(None);
+        }
+        let arrays = Arc::try_clone(&self.arrays)?;
+        let snapshot = self.writer.snapshot(self.log);
+        match mem::replace(&mut self.parts[number], None) {
+            Some(part) => Ok(Some(Stretch {
+                program: self.program,
+                number,
+                step: self.step,
+                arrays,
+                part,
+                snapshot,
+            })),
+            None => unreachable!(),
+        }
+    }
+
+    // Why a stretch isn't taken back, if it isn't.
+    fn refuses(&self, stretch: &Stretch<'p, P>) -> Option<Unwanted>
+        ensures { MatchOption result (Accepts self.now stretch.now) (λ fault. Refuses fault self.now stretch.now) }
+    {
+        if stretch.step() != self.step {
+            return Some(Unwanted::WrongStep);
+        }
+        if !stretch.is_done() {
+            return Some(Unwanted::Unfinished);
+        }
+        match self.parts.get(stretch.number()) {
+            Some(None) => None,
+            Some(Some(_)) => Some(Unwanted::Double),
+            None => Some(Unwanted::Stranger),
+        }
+    }
+
+    /// Takes a stretch back, as a whole, or refuses to and changes nothing: it is of another superstep; its tasks haven't run; no
+    /// stretch has its number, or that one wasn't taken. The caller knows that it is of this run.
+    pub fn accept(&mut self, stretch: Stretch<'p, P>) -> Result<(), Unwanted>
+        requires { stretch.name ≡ self.old.name }
+        ensures accepted { OnOk result (Accepts self.old stretch.entry) }
+        ensures added { OnOk result (self.new ≡ with_slot self.old stretch.entry.number (Some stretch.entry.part)) }
+        ensures refused { IfErr result (λ fault. Refuses fault self.old stretch.entry) }
+        ensures unchanged { OnErr result (self.new ≡ self.old) }
+    {
+        if let Some(fault) = self.refuses(&stretch) {
+            stretch.give_up();
+            return Err(fault);
+        }
+        let Stretch {
+            program: _,
+            number,
+            step: _,
+            arrays: _,
+            part,
+            snapshot,
+        } = stretch;
+        self.writer.compare(self.log, snapshot);
+        self.parts[number] = Some(part);
+        Ok(())
+    }
+
+    // Ends the run by this fault. The superstep leaves nothing else.
+    fn end(&mut self, blame: Blame)
+        requires none { self.old.parts ≡ [] }
+        requires running { status_in self.old ≡ None }
+        requires ends { EndsBy (reading_of P.frame P.may P.meant P.Task.path_of) self.old blame }
+        ensures { self.new ≡ record self.old { fault = Some blame } }
+    {
+        self.fault = Some(blame);
+    }
+
+    // Ends the run by the put at this place of the log, which overflows.
+    fn overflow(
+        &mut self,
+        puts: &Puts,
+        tasks: &[P::Task],
+        deeds: &Deeds<P::Task>,
+        prints: &[Print],
+        place: usize,
+    ) -> Outcome
+        requires none { self.old.parts ≡ [] }
+        requires running { status_in self.old ≡ None }
+        requires run { HaveRun (reading_of P.frame P.may P.meant P.Task.path_of) self.old puts.now tasks.now deeds.now prints.now }
+        requires few { length deeds.now + spawned_in deeds.now ≤ self.old.most + left_in deeds.now }
+        requires over { Some place ≡ over_in self.old.arrays [] 0 puts.now }
+        ensures { IsClosed (reading_of P.frame P.may P.meant P.Task.path_of) self.old self.new result }
+    {
+        match deeds.blame_at(tasks, place) {
+            Some(blame) => {
+                self.end(blame);
+                Outcome::Overflowed
+            }
+            None => unreachable!(),
+        }
+    }
+
+    // Opens the next superstep with these stretches. If memory runs out, there are none.
+    fn reopen(&mut self, parts: Vec<Option<Part<P::Task>>>) -> Result<(), AllocError>
+        requires none { self.old.parts ≡ [] }
+        requires count { length self.old.log ≡ self.old.step }
+        requires fresh { AreFresh 0 parts.items }
+        requires after { IsAfter (reading_of P.frame P.may P.meant P.Task.path_of) self.old (map (P.meant self.old.program) (tasks_in parts.items)) }
+        ensures opened { OnOk result (self.new ≡ opened_with self.old parts.items) }
+        ensures memory { OnErr result (self.new ≡ self.old) }
+    {
+        let arrays = Arc::try_clone(&self.arrays)?;
+        let opened = Opened {
+            program: self.program,
+            most: self.most,
+            limit: self.limit,
+            arrays,
+            parts,
+        };
+        let Opened { parts, .. } = self.writer.note(self.log, opened);
+        self.parts = parts;
+        Ok(())
+    }
+
+    // Takes one superstep after which the same tasks live, so that each stretch stays as it is.
+    fn stay(
+        &mut self,
+        alloc: Global,
+        mut parts: Vec<Option<Part<P::Task>>>,
+        puts: &Puts,
+        told: PhaseRecord,
+    ) -> Result<Outcome, AllocError>
+        requires none { self.old.parts ≡ [] }
+        requires running { status_in self.old ≡ None }
+        requires run { HaveRun (reading_of P.frame P.may P.meant P.Task.path_of) self.old puts.now (tasks_in parts.items) (deeds_in parts.items) (prints_in parts.items) }
+        requires covered { covers true self.old.count 0 parts.items ≡ true }
+        requires few { length (deeds_in parts.items) + spawned_in (deeds_in parts.items) ≤ self.old.most + left_in (deeds_in parts.items) }
+        requires told { told ≡ told_in self.old.step (deeds_in parts.items) }
+        requires stays { (told.left ≡ 0) × (told.spawned ≡ 0) }
+        ensures closed { IfOk result (λ outcome. IsClosed (reading_of P.frame P.may P.meant P.Task.path_of) self.old self.new outcome) }
+        ensures lost { OnErr result (self.new.parts ≡ []) }
+        ensures same { IsSameRun self.old self.new }
+    {
+        make_room(&parts, &mut self.prints, &mut self.records)?;
+        match land_shared(alloc, &mut self.arrays, puts, &mut self.olds)? {
+            Some(place) => {
+                let mut tasks = Vec::new(alloc);
+                let mut deeds = Deeds::new(alloc);
+                let mut prints = Vec::new(alloc);
+                gather(&mut parts, &mut tasks, &mut deeds, &mut prints)?;
+                Ok(self.overflow(puts, &tasks, &deeds, &prints, place))
+            }
+            None => {
+                give_all_prints(&mut parts, &mut self.prints);
+                renew_all(&mut parts);
+                self.records.push_reserved(told);
+                self.step += 1;
+                self.reopen(parts)?;
+                Ok(Outcome::Landed)
+            }
+        }
+    }
+
+    // Takes one superstep in which tasks came or left.
+    fn move_on(
+        &mut self,
+        alloc: Global,
+        mut parts: Vec<Option<Part<P::Task>>>,
+        puts: &Puts,
+        told: PhaseRecord,
+    ) -> Result<Outcome, AllocError>
+        requires none { self.old.parts ≡ [] }
+        requires running { status_in self.old ≡ None }
+        requires run { HaveRun (reading_of P.frame P.may P.meant P.Task.path_of) self.old puts.now (tasks_in parts.items) (deeds_in parts.items) (prints_in parts.items) }
+        requires few { length (deeds_in parts.items) + spawned_in (deeds_in parts.items) ≤ self.old.most + left_in (deeds_in parts.items) }
+        requires told { told ≡ told_in self.old.step (deeds_in parts.items) }
+        ensures closed { IfOk result (λ outcome. IsClosed (reading_of P.frame P.may P.meant P.Task.path_of) self.old self.new outcome) }
+        ensures lost { OnErr result (self.new.parts ≡ []) }
+        ensures same { IsSameRun self.old self.new }
+    {
+        let count = (told.parties - told.left) as usize;
+        let mut room = Vec::with_capacity(alloc, count)?;
+        let mut next = Vec::with_capacity(alloc, 1)?;
+        let mut tasks = Vec::new(alloc);
+        let mut deeds = Deeds::new(alloc);
+        let mut prints = Vec::new(alloc);
+        gather(&mut parts, &mut tasks, &mut deeds, &mut prints)?;
+        self.prints.reserve(prints.len())?;
+        self.records.reserve(1)?;
+        match land_shared(alloc, &mut self.arrays, puts, &mut self.olds)? {
+            Some(place) => Ok(self.overflow(puts, &tasks, &deeds, &prints, place)),
+            None => {
+                append_reserved(&mut self.prints, &mut prints);
+                regroup(&mut deeds, &mut tasks, &mut room, count);
+                self.records.push_reserved(told);
+                self.step += 1;
+                self.count = tasks.len();
+                cut(alloc, tasks, self.pieces, &mut next);
+                self.reopen(next)?;
+                Ok(Outcome::Landed)
+            }
+        }
+    }
+
+    // Takes one superstep of stretches that have all run, in which no task faulted.
+    fn go_on(
+        &mut self,
+        alloc: Global,
+        mut parts: Vec<Option<Part<P::Task>>>,
+        puts: &mut Puts,
+    ) -> Result<Outcome, AllocError>
+        requires none { self.old.parts ≡ [] }
+        requires running { status_in self.old ≡ None }
+        requires run { HaveRun (reading_of P.frame P.may P.meant P.Task.path_of) self.old (puts_in parts.items) (tasks_in parts.items) (deeds_in parts.items) (prints_in parts.items) }
+        requires covered { covers true self.old.count 0 parts.items ≡ true }
+        requires no_puts { puts.old ≡ [] }
+        ensures closed { IfOk result (λ outcome. IsClosed (reading_of P.frame P.may P.meant P.Task.path_of) self.old self.new outcome) }
+        ensures lost { OnErr result (self.new.parts ≡ []) }
+        ensures same { IsSameRun self.old self.new }
+    {
+        let left = count_left(&parts, self.count);
+        let stay = self.count - left;
+        let most = self.most as usize - stay;
+        let Some(spawned) = count_spawned(&parts, most) else {
+            self.end(too_many(alloc));
+            return Ok(Outcome::TooMany);
+        };
+        let told = PhaseRecord {
+            phase: self.step,
+            parties: (self.count + spawned) as u32,
+            left: left as u32,
+            spawned: spawned as u32,
+        };
+        give_all_puts(&mut parts, puts)?;
+        if left == 0 && spawned == 0 {
+            self.stay(alloc, parts, puts, told)
+        } else {
+            self.move_on(alloc, parts, puts, told)
+        }
+    }
+
+    /// Takes one superstep, if each live task has run and its stretch is back, or refuses to and changes nothing. A task's fault, more
+    /// tasks than the most, or a sum of puts that overflows, is no refusal: it ends the run, and the superstep leaves nothing else. If
+    /// memory runs out, the live tasks are lost, and the run can only be given up.
+    pub fn close(&mut self, alloc: Global) -> Result<Outcome, Unclosed>
+        requires running { status_in self.old ≡ None }
+        ensures whole { OnOk result (covers true self.old.count 0 self.old.parts ≡ true) }
+        ensures closed { IfOk result (λ outcome. IsClosed (reading_of P.frame P.may P.meant P.Task.path_of) self.old self.new outcome) }
+        ensures refused { IfErr result (λ fault. NotClosed fault self.old self.new) }
+        ensures same { IsSameRun self.old self.new }
+    {
+        if !cover(&self.parts, true, self.count) {
+            return Err(Unclosed::Missing);
+        }
+        let parts = mem::replace(&mut self.parts, Vec::new(alloc));
+        if let Some(blame) = find_fault(&parts) {
+            self.end(blame);
+            return Ok(Outcome::Faulted);
+        }
+        // The rows' memory came from the stretches, which don't get it back. It is released here.
+        let mut puts = Puts::new(alloc);
+        match self.go_on(alloc, parts, &mut puts) {
+            Ok(outcome) => Ok(outcome),
+            Err(fault) => Err(Unclosed::Memory(fault)),
+        }
+    }
+
+    // Whether no stretch is taken or has run, if tasks still live.
+    fn is_at_rest(&self, lives: bool) -> bool
+        ensures { result ≡ (not lives || covers false self.now.count 0 self.now.parts) }
+    {
+        if !lives {
+            return true;
+        }
+        cover(&self.parts, false, self.count)
+    }
+
+    // Gives the run up.
+    fn give_up(self) {
+        let Stretches { writer, .. } = self;
+        writer.give_up();
+    }
+
+    /// What the run leaves, once it has ended, with the writer of its log. `None` if it hasn't ended, or if it ended at the limit
+    /// while a stretch was taken.
+    pub fn into_left(self, alloc: Global) -> Result<Option<Left<'p, P>>, AllocError>
+        ensures left { IfOk result (λ left. IfSome left (λ l. (l.writer.name ≡ self.entry.name)
+            × HasLeft (reading_of P.frame P.may P.meant P.Task.path_of) l.writer.log l.ran.report l.ran.tasks.items)) }
+        ensures some { IfOk result (λ left. is_some left ≡ can_leave self.entry) }
+    {
+        let Some(status) = self.status() else {
+            self.give_up();
+            return Ok(None);
+        };
+        let lives = is_limit(&status);
+        if !self.is_at_rest(lives) {
+            self.give_up();
+            return Ok(None);
+        }
+        let Stretches {
+            writer,
+            arrays,
+            mut parts,
+            prints,
+            records,
+            ..
+        } = self;
+        match finish(alloc, arrays, &mut parts, lives) {
+            Ok((arrays, tasks)) => {
+                let report = Report {
+                    prints,
+                    records,
+                    arrays,
+                    status,
+                };
+                let ran = Ran { report, tasks };
+                Ok(Some(Left { ran, writer }))
+            }
+            Err(fault) => {
+                writer.give_up();
+                Err(fault)
+            }
+        }
+    }
+}
+
+/// What a run leaves: its report, the tasks that still live, and the writer of its log.
+#[derive(Drop)]
+pub struct Left<'p, P: Program> {
+    /// The report, and the tasks that still live.
+    pub ran: Ran<P::Task>,
+    /// The writer of the log of its openings.
+    pub writer: Writer<Opened<'p, P, P::Task>>,
+}
+
+// Whether a run ended at its limit.
+fn is_limit(status: &JobStatus) -> bool
+    requires { IsShort (status_seen status.now) }
+    ensures { result ≡ is_at_limit (status_seen status.now) }
+{
+    matches!(status, JobStatus::Limit(_))
+}
+
+// The arrays: themselves if nobody else has them, else a copy.
+fn own_arrays(alloc: Global, shared: Arc<Arrays>) -> Result<Arrays, AllocError>
+    ensures { IfOk result (λ arrays. arrays ≡ arc_value shared) }
+{
+    match Arc::try_unwrap(shared) {
+        Ok(arrays) => Ok(arrays),
+        Err(shared) => shared.copy(alloc),
+    }
+}
+
+// The arrays that a run leaves, and the tasks of its stretches if they still live.
+fn finish<T: OnPath>(
+    alloc: Global,
+    shared: Arc<Arrays>,
+    parts: &mut Vec<Option<Part<T>>>,
+    lives: bool,
+) -> Result<(Arrays, Vec<T>), AllocError>
+    ensures arrays { IfOk result (λ r. r.0 ≡ arc_value shared) }
+    ensures tasks { IfOk result (λ r. r.1.items ≡ if lives then tasks_in parts.old.items else []) }
+{
+    let arrays = own_arrays(alloc, shared)?;
+    let mut tasks = Vec::new(alloc);
+    if lives {
+        let mut deeds = Deeds::new(alloc);
+        give_all_tasks(parts, &mut tasks, &mut deeds)?;
+    }
+    Ok((arrays, tasks))
+}
+
+// Makes room for what stretches printed, and for a record.
+fn make_room<T: OnPath>(
+    parts: &[Option<Part<T>>],
+    prints: &mut Vec<Print>,
+    records: &mut Vec<PhaseRecord>,
+) -> Result<(), AllocError>
+    ensures prints { prints.new.items ≡ prints.old.items }
+    ensures records { records.new.items ≡ records.old.items }
+    ensures room { OnOk result (vec_len prints.new + length (prints_in parts.now) ≤ vec_capacity prints.new) }
+    ensures one { OnOk result (vec_len records.new < vec_capacity records.new) }
+{
+    let Some(count) = count_prints(parts) else {
+        return Err(AllocError);
+    };
+    prints.reserve(count)?;
+    records.reserve(1)?;
+    Ok(())
+}
+
+// Moves the tasks of all stretches, what they did, and what they printed into lists.
+fn gather<T: OnPath>(
+    parts: &mut Vec<Option<Part<T>>>,
+    tasks: &mut Vec<T>,
+    deeds: &mut Deeds<T>,
+    prints: &mut Vec<Print>,
+) -> Result<(), AllocError>
+    requires none { (tasks.old.items ≡ []) × (deeds.old ≡ []) × (prints.old.items ≡ []) }
+    ensures tasks { OnOk result (tasks.new.items ≡ tasks_in parts.old.items) }
+    ensures deeds { OnOk result (deeds.new ≡ deeds_in parts.old.items) }
+    ensures prints { OnOk result (prints.new.items ≡ prints_in parts.old.items) }
+{
+    let Some(count) = count_prints(parts) else {
+        return Err(AllocError);
+    };
+    prints.reserve(count)?;
+    give_all_prints(parts, prints);
+    give_all_tasks(parts, tasks, deeds)
+}
+
+// Appends prints to others, which have room for them.
+fn append_reserved(prints: &mut Vec<Print>, more: &mut Vec<Print>)
+    requires { vec_len prints.old + length more.old.items ≤ vec_capacity prints.old }
+    ensures { prints.new.items ≡ prints.old.items ++ more.old.items }
+{
+    match prints.append(more) {
+        Ok(()) => {}
+        Err(_) => unreachable!(),
+    }
+}
+
+// The next live tasks, of whom there are so many, in place of the tasks. There is room for them.
+fn regroup<T: OnPath>(deeds: &mut Deeds<T>, tasks: &mut Vec<T>, room: &mut Vec<T>, count: usize)
+    requires same { length tasks.old.items ≡ length deeds.old }
+    requires count { length (living_with tasks.old.items deeds.old) ≤ count }
+    requires room { count ≤ vec_capacity room.old }
+    ensures { tasks.new.items ≡ in_path_order T.path_of (living_with tasks.old.items deeds.old) }
+{
+    match deeds.regroup(tasks, room, count) {
+        Ok(()) => {}
+        Err(_) => unreachable!(),
+    }
+}
+
+// What a run begins with: the arrays, for two that share them, and the stretches of so many tasks.
+#[derive(Drop)]
+struct Ready<T> {
+    arrays: Arc<Arrays>,
+    shared: Arc<Arrays>,
+    count: usize,
+    parts: Vec<Option<Part<T>>>,
+}
+
+// Shares the arrays, and cuts the tasks into about so many stretches.
+fn get_ready<T: OnPath>(
+    alloc: Global,
+    arrays: Arrays,
+    tasks: Vec<T>,
+    pieces: usize,
+) -> Result<Ready<T>, AllocError>
+    requires { 1 ≤ pieces }
+    ensures arrays { IfOk result (λ r. (arc_value r.arrays ≡ arrays) × (arc_value r.shared ≡ arrays)) }
+    ensures count { IfOk result (λ r. r.count ≡ length tasks.items) }
+    ensures fresh { IfOk result (λ r. AreFresh 0 r.parts.items) }
+    ensures tasks { IfOk result (λ r. tasks_in r.parts.items ≡ tasks.items) }
+{
+    let mut parts = Vec::with_capacity(alloc, 1)?;
+    let arrays = share(alloc, arrays)?;
+    let shared = Arc::try_clone(&arrays)?;
+    let count = tasks.len();
+    cut(alloc, tasks, pieces, &mut parts);
+    Ok(Ready {
+        arrays,
+        shared,
+        count,
+        parts,
+    })
+}
+
+// Arrays that several may share.
+fn share(alloc: Global, arrays: Arrays) -> Result<Arc<Arrays>, AllocError>
+    ensures { IfOk result (λ shared. arc_value shared ≡ arrays) }
+{
+    match Arc::new(alloc, arrays) {
+        Ok(shared) => Ok(shared),
+        Err(_) => Err(AllocError),
+    }
+}

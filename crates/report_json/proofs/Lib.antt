@@ -1,0 +1,4 @@
+pub mod Joined
+pub mod Members
+pub mod ReadBack
+pub mod Working

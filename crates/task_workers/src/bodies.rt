@@ -1,0 +1,83 @@
+//! Runs of tasks of your own on worker threads.
+ghost use Rattle.std.specs.Prelude.{◌≡◌, ◌≤◌, [], false, IfOk, IfErr, length};
+ghost use Rattle.programs.specs.History.{HasRun};
+ghost use Rattle.task_bodies.specs.Bodies.{member_frame, BodyMay, numbered};
+ghost use Rattle.task_workers.specs.Leaving.{are_too_many_parties, RefusesFor};
+
+use crate::run::run_program;
+use advance_rule::{EndPlan, StoredAdvance};
+use programs::alone::Ran;
+use std::alloc::Global;
+use std::sync::Wait;
+use std::thread::Threads;
+use superstep_memory::arrays::Arrays;
+use task_bodies::Native;
+use task_bodies::body::TaskBody;
+use task_bodies::member::{Member, starts};
+use thiserror::Error;
+use tier_shape::Shape;
+use worker_pool::{Gate, Refused, Starter};
+
+/// Why a run on workers isn't begun or isn't ended.
+#[derive(Debug, Drop, Error)]
+pub enum WorkersFault {
+    /// More than 65535 tasks may live at once, or there are more start tasks than may live at once. On workers each task is a party
+    /// of a tier, which has at most 65535. Start fewer, and let these spawn the others.
+    #[error("too many tasks for workers")]
+    TooMany,
+    /// The run was refused: out of memory, or a worker that couldn't be started.
+    #[error("{0}")]
+    Refused(Refused),
+}
+
+/// Runs tasks of this body, the start tasks with this kept, on `workers` threads that synchronize at a tree of phasers of this
+/// shape, for at most `limit` supersteps. At most `most` tasks live at once. What the run leaves is what `run_bodies` of
+/// `task_bodies` may leave on one thread: the same supersteps, each task on the arrays as its superstep began, and puts that land by
+/// path. If the body's result depends on its arguments alone, both leave the same.
+///
+/// `gate` is called before and after each segment, and `starter` before each worker is started. Pass `&OpenGate` and `&AllStart` for
+/// none. Returns after joining all workers. Termination is not part of the contract.
+pub fn run_bodies_on_workers<
+    B: TaskBody + Sync,
+    R: Threads + Wait + Sync,
+    G: Gate + Sync,
+    S: Starter,
+>(
+    rt: &R,
+    alloc: Global,
+    body: &B,
+    arrays: Arrays,
+    tasks: Vec<B::Kept>,
+    most: u32,
+    limit: u32,
+    shape: Shape,
+    workers: u32,
+    gate: &G,
+    starter: &S,
+) -> Result<Ran<Member<B::Kept>>, WorkersFault>
+where
+    B::Kept: Send,
+    requires ready { B.ready body.now }
+    requires workers { (1 ≤ workers) × (workers ≤ 64) }
+    requires limit { (1 ≤ limit) × (limit ≤ 2147483648) }
+    ensures ran { IfOk result (λ ran. HasRun member_frame (BodyMay (B.may body.now)) most arrays (numbered [] 0 tasks.items) limit ran.report ran.tasks.items) }
+    ensures few { IfOk result (λ ran. are_too_many_parties most (length tasks.items) ≡ false) }
+    ensures refused { IfErr result (RefusesFor workers most (length tasks.items)) }
+{
+    if most > 65535 || tasks.len() > most as usize {
+        return Err(WorkersFault::TooMany);
+    }
+    let Ok(members) = starts(alloc, tasks) else {
+        return Err(WorkersFault::Refused(Refused::Memory));
+    };
+    let program = Native { body };
+    let last = limit - 1;
+    let plan = EndPlan::at_phase(last);
+    let advance = StoredAdvance::new(|phase: u32, count: u32| count == 0 || phase == last, plan);
+    match run_program(
+        rt, alloc, &program, arrays, members, most, shape, workers, advance, gate, starter,
+    ) {
+        Ok(ran) => Ok(ran),
+        Err(refused) => Err(WorkersFault::Refused(refused)),
+    }
+}

@@ -1,0 +1,90 @@
+//! What who looks on at a job on one thread is told: each superstep once, with its number and how many tasks live.
+use crate::left::job_of;
+use std::alloc::Global;
+use step_core::{Watch, run_watched};
+use task_code::job::Job;
+
+// A task that spawns two.
+const SPAWNS: &str = "bsp 1
+body p
+spawn c 0
+spawn c 1
+sync
+end
+body c
+end
+start p 0
+";
+
+// A task that faults in its second superstep.
+const FAULTS: &str = "bsp 1
+body b
+sync
+print 1 / arg
+end
+start b 0
+";
+
+// Two tasks that never end.
+const FOREVER: &str = "bsp 1
+body b
+while 1
+sync
+end
+end
+start b 0
+start b 0
+";
+
+// The first eight calls, and how many there were.
+#[derive(Drop)]
+struct Notes {
+    calls: [(u32, usize); 8],
+    count: usize,
+}
+
+impl Watch for Notes {
+    fn superstep(&mut self, step: u32, tasks: usize) {
+        if let Some(call) = self.calls.get_mut(self.count) {
+            *call = (step, tasks);
+        }
+        self.count = self.count.saturating_add(1);
+    }
+}
+
+// Whether these calls were made, and no others.
+fn are(notes: &Notes, want: &[(u32, usize)]) -> bool {
+    let mut same = notes.count == want.len();
+    for (call, told) in notes.calls.iter().zip(want) {
+        same = same && call.0 == told.0 && call.1 == told.1;
+    }
+    same
+}
+
+// Whether a run of this job within three supersteps makes these calls.
+fn is_told(alloc: Global, job: &Job, want: &[(u32, usize)]) -> bool {
+    let mut notes = Notes {
+        calls: [(0, 0); 8],
+        count: 0,
+    };
+    match run_watched(alloc, job, 3, &mut notes) {
+        Ok(_) => are(&notes, want),
+        Err(_) => false,
+    }
+}
+
+// Whether a run of the job of this text does.
+fn tells(alloc: Global, text: &str, want: &[(u32, usize)]) -> bool {
+    match job_of(alloc, text) {
+        Ok(job) => is_told(alloc, &job, want),
+        Err(_) => false,
+    }
+}
+
+#[test]
+fn each_superstep_is_told_once(rt: HostRuntime) {
+    assert!(rt; tells(rt.alloc(), SPAWNS, &[(0, 1), (1, 3)]));
+    assert!(rt; tells(rt.alloc(), FAULTS, &[(0, 1), (1, 1)]));
+    assert!(rt; tells(rt.alloc(), FOREVER, &[(0, 2), (1, 2), (2, 2)]));
+    assert!(rt; tells(rt.alloc(), "bsp 1\n", &[]));
+}
