@@ -48,6 +48,18 @@ pub lots_left : {all ys : Arrays} (rest : List Lot) (left : List Row) → length
 lots_left {ys = ys} [] left e h = sym (h ∙ landed_none ys)
 lots_left (l ∷ ls) left e h = absurd (omega arith)
 
+-- a lot in front is appended
+pub lot_copied : (ps qs : List Put) (rest : List Lot) (left later : List Row) (l : Lot) (ls : List Lot) → rest ≡ l ∷ ls → qs ≡ ps ++ puts_of l left → later ≡ rows_after l left
+    → qs ++ puts_in ls later ≡ ps ++ puts_in rest left
+lot_copied ps qs rest left later l ls cut to after =
+    (λ i. to i ++ puts_in ls (after i))
+    ∙ append_assoc ps (puts_of l left) (puts_in ls (rows_after l left))
+    ∙ ap (λ (x : List Lot). ps ++ puts_in x left) (sym cut)
+
+pub none_copied : (ps : List Put) (rest : List Lot) (left : List Row) → length rest ≡ 0 → ps ≡ ps ++ puts_in rest left
+none_copied ps [] left e = sym (append-nil ps)
+none_copied ps (l ∷ ls) left e = absurd (omega arith)
+
 -- ---- one lot
 
 -- one put that sets is written

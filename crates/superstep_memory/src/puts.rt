@@ -4,6 +4,7 @@ ghost use Rattle.std.specs.List.{list_all};
 ghost use Rattle.superstep_memory.specs.Cells.{is_cell};
 ghost use Rattle.superstep_memory.specs.Landing.{landed, over_in, is_set};
 ghost use Rattle.superstep_memory.specs.Rows.{row_puts};
+ghost use Rattle.superstep_memory.specs.Lots.{puts_of, rows_after};
 
 use crate::arrays::{Arrays, Put};
 use crate::lots::{Lot, Row};
@@ -143,6 +144,43 @@ impl Puts {
         }
         self.count = count;
         others.count = 0;
+        Ok(())
+    }
+
+    // Appends a copy of the puts of a lot, the first of these rows if it is one. Returns the rows that are left.
+    fn append_lot<'a>(
+        &mut self,
+        alloc: Global,
+        lot: Lot,
+        rows: &'a [Row],
+    ) -> Result<&'a [Row], AllocError>
+        ensures puts { OnOk result (self.new ≡ self.old ++ puts_of lot rows.now) }
+        ensures rows { IfOk result (λ left. left.now ≡ rows_after lot rows.now) }
+    {
+        if !lot.is_row {
+            self.put(lot.put())?;
+            return Ok(rows);
+        }
+        match rows.split_first() {
+            Some((row, after)) => {
+                let values = Vec::from_slice(alloc, &row.values)?;
+                self.put_row(lot.array, lot.index, values)?;
+                Ok(after)
+            }
+            None => Ok(rows),
+        }
+    }
+
+    /// Appends copies of all puts of `others`. If memory runs out, some are missing.
+    pub fn append_copy(&mut self, alloc: Global, others: &Puts) -> Result<(), AllocError>
+        ensures { OnOk result (self.new ≡ self.old ++ others.now) }
+    {
+        let mut rest = others.lots.as_slice();
+        let mut left = others.rows.as_slice();
+        while let Some((lot, after)) = rest.split_first() {
+            left = self.append_lot(alloc, *lot, left)?;
+            rest = after;
+        }
         Ok(())
     }
 
