@@ -7,8 +7,8 @@ use crate::fault::Fault;
 use smallvec::SmallVec;
 use std::alloc::{AllocError, Global};
 use std::marker::Model;
-use superstep_memory::arrays::Put;
 use superstep_memory::path::Path;
+use superstep_memory::puts::Puts;
 use task_code::body::Body;
 
 /// A task between two segments.
@@ -60,7 +60,7 @@ pub enum After {
 #[derive(Drop)]
 pub struct Segment {
     /// What is to be put into the arrays.
-    pub puts: Vec<Put>,
+    pub puts: Puts,
     /// What was printed.
     pub prints: Vec<i64>,
     /// The tasks that begin in the next superstep.
@@ -74,7 +74,7 @@ impl Model for Segment {
 
     ghost Value = { SegmentValue };
 
-    ghost view = { λ s. record { puts = s.puts.items; prints = s.prints.items; spawns = s.spawns.items; after = s.after } };
+    ghost view = { λ s. record { puts = s.puts; prints = s.prints.items; spawns = s.spawns.items; after = s.after } };
 }
 
 impl Task {
