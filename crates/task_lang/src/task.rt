@@ -4,6 +4,7 @@ ghost use Rattle.task_lang.specs.Meaning.{started, plan_at};
 ghost use Rattle.task_lang.specs.Views.{plans, task_of};
 
 use crate::fault::Fault;
+use programs::program::OnPath;
 use smallvec::SmallVec;
 use std::alloc::{AllocError, Global};
 use std::marker::Model;
@@ -43,6 +44,15 @@ impl Model for Task {
     } };
 
     ghost invariant = { λ t. IsTask t.path.items t.spawned };
+}
+
+impl OnPath for Task {
+    ghost path_of = { λ t. t.path };
+
+    #[inline(always)]
+    fn path(&self) -> &Path {
+        &self.path
+    }
 }
 
 /// How a segment ends.

@@ -15,9 +15,9 @@ use std::marker::{Brand, Model, PhantomData};
 pub trait Running {
     ghost use Rattle.std.specs.Prelude.{ℕ};
     ghost use Rattle.tier_table.specs.Holding.{Named};
-    ghost use Rattle.worker_pool.specs.Mark.{Mark};
+    ghost use Rattle.atomic_table.specs.Seated.{TableId};
 
-    ghost mark: { Mark };
+    ghost mark: { TableId };
 
     ghost workers: { ℕ };
 
@@ -26,9 +26,8 @@ pub trait Running {
 
 impl Running for Brand {
     ghost use Rattle.std.specs.Prelude.{[], false, None};
-    ghost use Rattle.worker_pool.specs.Mark.{OfJob};
 
-    ghost mark = { OfJob (record { format = 1; arrays = []; bodies = []; starts = [] }) 1 };
+    ghost mark = { record { words = 0; slots = 0; views_name = 0; atom = 0; block = 0; offset = 0; slot_names = [] } };
 
     ghost workers = { 1 };
 

@@ -5,12 +5,12 @@ use crate::hand::{Changes, HeldStretch};
 use crate::participant::{Group, OwnToken, Participant};
 use crate::queue::{HandedBack, Next, Queue, Running};
 use crate::tree::WorkerTree;
+use programs::deeds::Change;
 use std::alloc::Global;
 use std::collections::VecDeque;
 use std::hint::spin_loop;
 use std::sync::atomic::{AtomicBool, AtomicU64, Ordering};
 use std::sync::{Condvar, Mutex, MutexGuard, Wait};
-use step_stretches::Change;
 use superstep_memory::path::Path;
 
 /// The queue under a lock, and the tree without one. No call of the tree is made while the lock is held. A worker that
