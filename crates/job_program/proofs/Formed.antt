@@ -1,5 +1,5 @@
 -- What a task of a job leaves is well formed, and is what its segment left.
-use Rattle.std.proofs.Common.{◌≡◌, ℕ, zero, suc, ◌+◌, List, [], ◌∷◌, ◌++◌, map, length, refl, ap, ◌∙◌, arith}
+use Rattle.std.proofs.Common.{◌≡◌, ℕ, zero, suc, ◌+◌, List, [], ◌∷◌, ◌++◌, map, length, refl, ap, ◌∙◌, subst, arith}
 use Rattle.std.specs.Prelude.{ℤ}
 use Rattle.task_lang.specs.FaultCode.{code_of}
 use Rattle.task_lang.specs.TaskValue.{TaskValue}
@@ -53,13 +53,15 @@ left_as ps (ends.Fault f) t u a b g h = (ap (λ (x : job.Segment). as_after x.af
 left_as ps ends.Stopped t u a b g h = (record { puts = h.0.puts; prints = h.0.prints; spawns = h.0.spawns }, ap as_after h.1, ap path_in h.2)
 left_as ps (ends.Synced place) t u a b g h = (record { puts = h.0.puts; prints = h.0.prints; spawns = h.0.spawns }, ap as_after h.1, ap path_in h.2)
 
--- a segment left what a task of the program may leave
-pub job_left : (ps : List job.Plan) (arrays : List (List ℕ × List ℤ)) (step : ℕ) (e : code.Ending) (t u : TaskValue) (a b : Work TaskValue)
-    → lent.IsLeft ps e t u a b (job.segment_of ps (task_of ps t) arrays step)
+-- a segment that ended so left what a task of the program may leave
+pub job_left : (ps : List job.Plan) (arrays : List (List ℕ × List ℤ)) (step : ℕ) (d e : code.Ending) (t u : TaskValue) (a b : Work TaskValue)
+    → d ≡ e → lent.IsLeft ps d t u a b (job.segment_of ps (task_of ps t) arrays step)
     → HasLeft job_frame (JobMay ps) (task_of ps) path_in arrays step (as_ending e) t u a b
-job_left ps arrays step e t u a b h = record {
+job_left ps arrays step d e t u a b is h = record {
   left = job_does ps (task_of ps t) arrays step;
   allowed = refl;
   formed = job_formed ps (task_of ps t) arrays step;
-  is = left_as ps e t u a b (job.segment_of ps (task_of ps t) arrays step) h;
+  is =
+      left_as ps e t u a b (job.segment_of ps (task_of ps t) arrays step)
+      (subst (λ (x : code.Ending). lent.IsLeft ps x t u a b (job.segment_of ps (task_of ps t) arrays step)) is h);
 }
