@@ -5,14 +5,11 @@ ghost use Rattle.step_parts.specs.JobMeaning.{report_of};
 ghost use Rattle.step_core.specs.Watching.{SawAll};
 
 use crate::watch::{Looking, NoWatch, Watch};
-use job_program::{JobProgram, start_all};
+use job_program::{Beginning, JobProgram, MOST_TASKS, begin};
 use phase_records::Report;
 use programs::alone::{Ran, run_watched as run_program};
 use std::alloc::{AllocError, Global};
 use task_code::job::Job;
-
-/// How many tasks of a job may live at once.
-const MOST_TASKS: u32 = 4096;
 
 /// What a job leaves, within this limit of supersteps: each superstep's tasks one after another, by path.
 ///
@@ -42,8 +39,7 @@ pub fn run_watched<W: Watch>(
     ensures report { IfOk result (λ report. report_of (program_of job.now) limit ≡ Some report) }
     ensures seen { IfOk result (λ report. SawAll W.seen (program_of job.now) limit) }
 {
-    let arrays = job.arrays().copy(alloc)?;
-    let tasks = start_all(alloc, job.bodies(), job.starts())?;
+    let Beginning { arrays, tasks } = begin(alloc, job)?;
     let program = JobProgram { job };
     let mut looking = Looking { watch };
     let ran = run_program(

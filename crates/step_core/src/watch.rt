@@ -24,6 +24,7 @@ impl Watch for NoWatch {
 }
 
 // A watcher of a job, as a watcher of its program that never stops it.
+#[derive(Drop)]
 pub(crate) struct Looking<'w, W> {
     pub(crate) watch: &'w mut W,
 }
