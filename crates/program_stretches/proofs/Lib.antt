@@ -5,3 +5,4 @@ pub mod Cutting
 pub mod Owning
 pub mod Course
 pub mod Closed
+pub mod InTurn
