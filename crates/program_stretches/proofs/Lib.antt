@@ -6,3 +6,4 @@ pub mod Owning
 pub mod Course
 pub mod Closed
 pub mod Refusing
+pub mod InTurn
