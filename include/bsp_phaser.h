@@ -1,32 +1,32 @@
 /* bsp_phaser.h: a phaser (after Java's Phaser) in one 64-bit word.
  *
- * Proved: the calls bsp_phaser_*, which the static library libbsp_phaser.a has. NOT proved: what is inline
- * below, bsp_shared_* and bsp_word_*, which is C over those calls: its loops, its waiting and its memory.
+ * Proved: the calls bsp_phaser_*, which are in the static library libbsp_phaser.a. NOT proved: what is inline
+ * below, bsp_shared_* and bsp_word_*: C over those calls, with its loops, its waiting and its memory.
  *
- * A word packs unarrived (bits 0 to 15), parties (16 to 31), phase (32 to 62) and the end (63); it is the word
- * of a phaser where no more are unarrived than there are parties. Each bsp_phaser_* call takes a word and tells
- * by its status what it did; those that change a phaser give the next word:
+ * A word packs unarrived (bits 0 to 15), parties (16 to 31), phase (32 to 62) and the end (63). It is the word
+ * of a phaser if no more parties are unarrived than are registered. Each bsp_phaser_* call takes a word and
+ * returns a status; the calls that change a phaser give the next word:
  *
  *   0  done; `next` is the word after the call, `answer` its phase
- *   1  the number is no word of a phaser                          BSP_NO_WORD
+ *   1  the number isn't a phaser's word                           BSP_NO_WORD
  *   2  the phase that was asked for isn't over                    BSP_WAITING
- *   3  fewer than 0 parties, or more than 65535, of a new one     BSP_TOO_MANY
- *   4  no room for so many more parties                           BSP_FULL
- *   5  an arrival or a departure where nobody is unarrived        BSP_NOBODY_UNARRIVED
- *   6  fewer than 0 parties to be added                           BSP_NEGATIVE
+ *   3  a new phaser with fewer than 0 or over 65535 parties       BSP_TOO_MANY
+ *   4  no room for that many more parties                         BSP_FULL
+ *   5  an arrival or a departure, but nobody is unarrived         BSP_NOBODY_UNARRIVED
+ *   6  fewer than 0 parties to add                                BSP_NEGATIVE
  *
- * What is promised of each call, for every number: the status is 1 exactly where the number is no word of a
- * phaser; with any status but 0 `next` is the number itself and `answer` is 0; else `next` packs a word that
+ * What is promised of each call, for every number: the status is 1 exactly if the number isn't a phaser's word;
+ * with any status but 0, `next` is the number itself and `answer` is 0; otherwise `next` packs a word that
  * follows by that call on the phaser, and status and answer are those of its reply. Nothing halts, nothing is
- * kept, no memory is taken, and nothing is read or written but through the two pointers.
+ * kept, no memory is allocated, and nothing is read or written except through the two pointers.
  *
- * What the caller owes: each pointer points to an object of its type that nobody else touches during the call,
- * and the two of one call don't overlap.
+ * The caller ensures that each pointer points to an object of its type that nobody else uses during the call,
+ * and that the two of one call don't overlap.
  *
- * A user keeps a word in an atomic and exchanges it for the next one, as bsp_shared_* does. If each exchange
- * puts there what a call gave of the word that stood there, the calls in the order of the exchanges are a run of
- * one phaser, whatever the number of threads (the law exchanges_are_one_run), and no call takes the phase on
- * before all parties then registered have arrived (no_phase_passes_early).
+ * Keep a word in an atomic, and exchange it for the next one, as bsp_shared_* does. If each exchange stores what
+ * a call returned for the word that was there, the calls in the order of the exchanges are a run of one phaser,
+ * with any number of threads (the law exchanges_are_one_run), and no phase passes before all parties registered
+ * then have arrived (no_phase_passes_early).
  */
 #ifndef BSP_PHASER_H
 #define BSP_PHASER_H
@@ -55,40 +55,40 @@ enum {
 /* as `at`: no phase ends the phaser (as any number above 2147483647) */
 #define BSP_NEVER UINT32_MAX
 
-/* A new phaser with so many parties, none of which has arrived, in this phase: 0, and its word in `word`. Status 1
- * above phase 2147483647, else 3 below 0 parties and above 65535; then `word` stays as it was. */
+/* Creates a phaser in this phase, none of whose parties has arrived: status 0, and its word in `word`. Status 1 for a
+ * phase above 2147483647, otherwise 3 for fewer than 0 or over 65535 parties; then `word` stays as it was. */
 int32_t bsp_phaser_new(int64_t parties, uint32_t phase, uint64_t *word);
 
-/* One party arrives (Phaser.arrive). The last one brings the next phase, and there the phaser ends with fewer
- * parties than `least` (1 is Java's rule), or if the phase that passes is `at`. Answers the phase of the arrival;
- * once the phaser has ended, the phase shown, which is negative, and nothing changes. Status 0, 1 or 5. */
+/* One party arrives (Phaser.arrive). The last one to arrive takes the next phase, and then the phaser ends if fewer
+ * than `least` parties are registered (1 is Java's rule), or if the phase that passes is `at`. The answer is the phase
+ * of the arrival; after the end it is the phase shown, which is negative, and nothing changes. Status 0, 1 or 5. */
 int32_t bsp_phaser_arrive(uint64_t word, uint32_t least, uint32_t at, uint64_t *next, int32_t *answer);
 
-/* One party arrives and leaves (Phaser.arriveAndDeregister). All else as bsp_phaser_arrive; `least` is held
- * against the parties that are left. */
+/* One party arrives and leaves (Phaser.arriveAndDeregister). Otherwise as bsp_phaser_arrive; `least` is compared
+ * with the parties that are left. */
 int32_t bsp_phaser_leave(uint64_t word, uint32_t least, uint32_t at, uint64_t *next, int32_t *answer);
 
-/* So many parties register (Phaser.bulkRegister); 0 adds nobody. Answers the phase to which this applies, and once
- * the phaser has ended the phase shown. Status 0, 1, 4 or 6; 6 also after the end. */
+/* Registers `count` parties (Phaser.bulkRegister); 0 adds nobody. The answer is the phase to which this applies, or
+ * after the end the phase shown. Status 0, 1, 4 or 6; 6 also after the end. */
 int32_t bsp_phaser_register(uint64_t word, int64_t count, uint64_t *next, int32_t *answer);
 
-/* Whether this phase is over (Phaser.awaitAdvance, without waiting); the word stays, so there is no next one.
- * Status 2 where it is the current phase of a phaser that hasn't ended. Else 0: a negative phase is answered as it
- * is; then, once ended, the phase shown; else the current phase. */
+/* Whether this phase is over (Phaser.awaitAdvance, without waiting). The word stays, so there is no next one. Status
+ * 2 if it is the current phase of a phaser that hasn't ended. Otherwise 0, and the answer is a negative phase itself;
+ * after the end, the phase shown; otherwise the current phase. */
 int32_t bsp_phaser_await(uint64_t word, int32_t phase, int32_t *answer);
 
-/* Ends the phaser at once (Phaser.forceTermination); its phase and counts stay. Answers the phase shown. Status 0
- * or 1. */
+/* Ends the phaser at once (Phaser.forceTermination); its phase and counts stay. The answer is the phase shown. Status
+ * 0 or 1. */
 int32_t bsp_phaser_force(uint64_t word, uint64_t *next, int32_t *answer);
 
-/* The phase shown: the phase, and 2147483648 less once the phaser has ended, so that it is negative just then.
- * Status 0 or 1, and so of the four below; with 1 the answer is 0. */
+/* The phase shown: the phase, or after the end the phase minus 2147483648, which is negative. Status 0 or 1, as for
+ * the four below; with 1 the answer is 0. */
 int32_t bsp_phaser_phase(uint64_t word, int32_t *answer);
-/* How many are registered, how many of them have arrived in this phase, and how many haven't. */
+/* How many parties are registered, how many of them have arrived in this phase, and how many haven't. */
 int32_t bsp_phaser_parties(uint64_t word, int32_t *answer);
 int32_t bsp_phaser_arrived(uint64_t word, int32_t *answer);
 int32_t bsp_phaser_unarrived(uint64_t word, int32_t *answer);
-/* 1 where the phaser has ended, else 0. */
+/* 1 if the phaser has ended, otherwise 0. */
 int32_t bsp_phaser_ended(uint64_t word, int32_t *answer);
 
 #ifdef __cplusplus
@@ -96,14 +96,13 @@ int32_t bsp_phaser_ended(uint64_t word, int32_t *answer);
 #endif
 
 /* ---- From here on nothing is proved ---------------------------------------------------------------------
- * A word that threads share. Set it by bsp_word_set before the threads start, and change it by bsp_shared_* alone:
- * these wake who waits. Each is a loop of compare-and-swap, which is lock-free: an exchange fails only where
- * another thread's has succeeded. They return the status, and the answer through the pointer.
+ * A word that threads share. Set it by bsp_word_set before the threads start, and change it only by bsp_shared_*,
+ * which wake the waiters. Each is a loop of compare-and-swap, which is lock-free: an exchange fails only if another
+ * thread's has succeeded. They return the status, and the answer through the pointer.
  *
- * On Linux who waits spins a little, yields, and then sleeps on the half of the word that holds phase and end
- * (a futex), so that each advance costs one call of the system; elsewhere it spins and yields. Define
- * BSP_WORD_BETWEEN_PROCESSES where the word lies in memory that processes share, and BSP_NO_SLEEP to spin and
- * yield alone. */
+ * On Linux a waiter spins a little, yields, and then sleeps on the half of the word that has phase and end (a
+ * futex), so each advance costs one system call; elsewhere it spins and yields. Define BSP_WORD_BETWEEN_PROCESSES
+ * if the word is in memory that processes share, and BSP_NO_SLEEP to only spin and yield. */
 
 #ifdef __cplusplus
 typedef std::atomic<uint64_t> bsp_word;
@@ -149,7 +148,7 @@ static inline void *bsp_word_phase_(bsp_word *word) {
 static inline void bsp_word_set(bsp_word *word, uint64_t value) { BSP_C11(atomic_store)(word, value); }
 static inline uint64_t bsp_word_get(bsp_word *word) { return BSP_C11(atomic_load)(word); }
 
-/* puts the next word where the old one still stands, and wakes who waits where phase or end have changed */
+/* stores the next word if the old one is still there, and wakes the waiters if phase or end have changed */
 static inline int bsp_word_exchange_(bsp_word *word, uint64_t *old, uint64_t next) {
     uint64_t before = *old;
     if (!BSP_C11(atomic_compare_exchange_weak)(word, old, next)) return 0;
@@ -189,7 +188,7 @@ static inline int32_t bsp_shared_force(bsp_word *word, int32_t *answer) {
     }
 }
 
-/* waits until this phase is over, and answers as bsp_phaser_await does then; never status 2 */
+/* waits until this phase is over, and then answers as bsp_phaser_await; never status 2 */
 static inline int32_t bsp_shared_await(bsp_word *word, int32_t phase, int32_t *answer) {
     for (unsigned turn = 0;; turn++) {
         uint64_t seen = bsp_word_get(word);
@@ -201,8 +200,8 @@ static inline int32_t bsp_shared_await(bsp_word *word, int32_t phase, int32_t *a
 }
 
 /* The cyclic barrier: arrives, waits for the phase to pass, and returns the arrival index, as Java's
- * CyclicBarrier.await does: parties - 1 for the first to arrive, 0 for the last. Else the negative of a status,
- * -BSP_NO_WORD or -BSP_NOBODY_UNARRIVED, and -BSP_ENDED where the phaser ended before all had arrived. */
+ * CyclicBarrier.await does: parties - 1 for the first to arrive, 0 for the last. Otherwise the negative of a status:
+ * -BSP_NO_WORD, -BSP_NOBODY_UNARRIVED, or -BSP_ENDED if the phaser ended before all had arrived. */
 static inline int32_t bsp_shared_arrive_and_wait(bsp_word *word, uint32_t least) {
     uint64_t old = bsp_word_get(word), next;
     int32_t phase, before, now, status;

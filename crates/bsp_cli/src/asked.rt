@@ -118,7 +118,7 @@ fn workers_option<'a>(alloc: Global) -> Arg<'a>
     ensures rule { rule_of result ≡ number_rule (codes "workers") 64 }
     ensures local { result.global ≡ false }
 {
-    let help = "How many threads run the tasks, 1 to 64; 1 where it isn't given";
+    let help = "Number of worker threads, 1 to 64 [default: 1]";
     let numbers = clap::value_parser!(u32).range(1..=64);
     number_argument(alloc, "workers", "N", help, numbers).long("workers")
 }
@@ -128,7 +128,7 @@ fn limit_option<'a>(alloc: Global) -> Arg<'a>
     ensures rule { rule_of result ≡ number_rule (codes "limit") 1000000 }
     ensures local { result.global ≡ false }
 {
-    let help = "The most supersteps, 1 to 1000000; 1000000 where it isn't given";
+    let help = "Most supersteps, 1 to 1000000 [default: 1000000]";
     let numbers = clap::value_parser!(u32).range(1..=1_000_000);
     number_argument(alloc, "limit", "N", help, numbers).long("limit")
 }
@@ -142,7 +142,7 @@ fn tree_option<'a>(alloc: Global) -> Arg<'a>
         .long("tree")
         .value_name("WIDTHS")
         .help(
-            "The tree at which workers meet: flat, or widths from the root as 2x3; flat where it isn't given",
+            "Tree at which workers meet: flat, or widths from the root such as 2x3 [default: flat]",
         )
         .action(ArgAction::Set)
 }
@@ -156,7 +156,7 @@ fn file_option<'a>(alloc: Global) -> Arg<'a>
         .short('f')
         .long("file")
         .value_name("FILE")
-        .help("The file to read; standard input where it isn't given, or is -")
+        .help("File to read; - is standard input [default: -]")
         .action(ArgAction::Set)
 }
 
@@ -167,7 +167,7 @@ fn progress_option<'a>(alloc: Global) -> Arg<'a>
 {
     Arg::new(alloc, "progress")
         .long("progress")
-        .help("Tells on standard error, about each second, how far the job has come")
+        .help("Prints progress to standard error about once a second")
         .action(ArgAction::SetTrue)
 }
 
@@ -198,7 +198,7 @@ fn code_argument<'a>(alloc: Global) -> Arg<'a>
     ensures rule { rule_of result ≡ code_rule }
     ensures local { result.global ≡ false }
 {
-    let help = "The code of a job's refusal, 1 to 14; all are listed where it isn't given";
+    let help = "Code of a job's refusal, 1 to 14; without it, all are listed";
     let numbers = clap::value_parser!(u32).range(1..=14);
     number_argument(alloc, "code", "CODE", help, numbers)
 }
@@ -208,7 +208,7 @@ fn fault_option<'a>(alloc: Global) -> Arg<'a>
     ensures rule { rule_of result ≡ number_rule (codes "fault") 8 }
     ensures local { result.global ≡ false }
 {
-    let help = "The number of a task's fault, 1 to 8";
+    let help = "Number of a task's fault, 1 to 8";
     let numbers = clap::value_parser!(u32).range(1..=8);
     number_argument(alloc, "fault", "CODE", help, numbers).long("fault")
 }
@@ -276,7 +276,7 @@ fn draw_command<'a>(alloc: Global) -> Result<Command<'a>, Error>
     ensures local { IfOk result (λ c. (fields_of c).has_globals ≡ false) }
     ensures memory { IfErr result (λ e. kind_of e ≡ kinds.OutOfMemory) }
 {
-    let about = "Runs a job, and prints a picture of its supersteps and arrays, an SVG file";
+    let about = "Runs a job, and draws its supersteps and arrays as SVG";
     job_command(alloc, "draw", about, DRAW_LINES)
 }
 
@@ -287,7 +287,7 @@ fn trace_command<'a>(alloc: Global) -> Result<Command<'a>, Error>
     ensures memory { IfErr result (λ e. kind_of e ≡ kinds.OutOfMemory) }
 {
     let about =
-        "Runs the calls of a trace, one a line, on a phaser, a tree of phasers or a barrier, and prints what they answer";
+        "Runs the calls of a trace, one per line, on a phaser, a tree of phasers or a barrier, and prints their answers";
     text_command(alloc, "trace", about, TRACE_LINES)
 }
 
@@ -297,7 +297,7 @@ fn check_command<'a>(alloc: Global) -> Result<Command<'a>, Error>
     ensures local { IfOk result (λ c. (fields_of c).has_globals ≡ false) }
     ensures memory { IfErr result (λ e. kind_of e ≡ kinds.OutOfMemory) }
 {
-    let about = "Checks the text of a job, and prints it in its one canonical form";
+    let about = "Checks the text of a job, and prints it in canonical form";
     let bare = text_command(alloc, "check", about, CHECK_LINES)?;
     let with_all = bare.arg(all_option(alloc))?;
     Ok(with_all)
@@ -319,7 +319,7 @@ fn bare_explain<'a>(alloc: Global) -> Command<'a>
     ensures local { (fields_of result).has_globals ≡ false }
 {
     Command::new(alloc, "explain").about(
-        "Tells what a code of a job's refusal or a fault means, with a text that gets it; reads nothing",
+        "Explains a code of a job's refusal, or a fault, with an example and a fix; reads nothing",
     )
 }
 

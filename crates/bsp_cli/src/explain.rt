@@ -38,8 +38,8 @@ Faults of a task, by bsp explain --fault CODE:
 
 const TOO_LONG: &str = "code 1 TooLong: over 1048576 bytes
 
-The text is longer than the 1048576 bytes that a text may have. The line is
-always 1, and nothing else is looked at.
+The text is longer than the 1048576 bytes that a text may have. The reported
+line is always 1.
 
 Start fewer tasks with larger parts of the work, or leave out array values
 that are 0.
@@ -73,36 +73,36 @@ Put the line bsp 1 or bsp 2 on top.
 
 const UNKNOWN_LINE: &str = "code 4 UnknownLine: a line whose first word isn't allowed there
 
-Outside of bodies stand array, body and start, inside of them the statements.
-The line add is known in format 2 only.
+Outside bodies, a line begins with array, body or start; inside, with the word
+of a statement. Only format 2 has add.
 
 A text that gets it:
 
     bsp 1
     print 1
 
-Move the line into a body, or behind its end; for add begin the text with bsp
-2.
+Move the line into a body, or after its end. To use add, begin the text with
+bsp 2.
 ";
 
 const BAD_NAME: &str = "code 5 BadName: not a name
 
-A name is a lower-case letter and up to 15 lower-case letters, digits or _.
-The word that stands where one is meant is none.
+The line has a word that isn't a name where it must have one. A name is a
+lower-case letter and up to 15 lower-case letters, digits or _.
 
 A text that gets it:
 
     bsp 1
     array Sum 1
 
-Write the name in lower case and in 16 signs at most, and begin it with a
-letter.
+Write the name in lower case, begin it with a letter, and use at most 16
+characters.
 ";
 
 const BAD_NUMBER: &str = "code 6 BadNumber: not a number, or one out of its range
 
-A number is whole, of 64 signed bits, without a plus in front and without a 0
-before other digits.
+A number is a whole number of 64 signed bits, without a plus in front and
+without leading zeros.
 
 A text that gets it:
 
@@ -117,7 +117,7 @@ Write 5 for 05 and for +5, and numbers below 9223372036854775808.
 const BAD_LINE: &str = "code 7 BadLine: words too few, too many or misplaced
 
 The line begins well, but its other words don't fit: an expression with two
-operators, a comment behind a statement, a cell without its brackets.
+operators, a comment after a statement, a cell without its brackets.
 
 A text that gets it:
 
@@ -126,7 +126,7 @@ A text that gets it:
     let x = 1 + 2 + 3
     end
 
-Use another let for a part of the expression, and a line of its own for a
+Use another let for a part of the expression, and a separate line for a
 comment.
 ";
 
@@ -147,21 +147,21 @@ Give one of them another name. An array and a body may share one.
 const UNKNOWN_NAME: &str =
     "code 9 UnknownName: no such array above, no such body, or in bsp 2 no such local
 
-The line names an array that isn't declared above it, a body that stands
-nowhere, or in format 2 a local that the first line of the body doesn't list.
+The line names an array that isn't declared above it, a body that isn't
+declared, or in format 2 a local that the first line of the body doesn't list.
 
 A text that gets it:
 
     bsp 1
     start main 0
 
-Mend the spelling, move the array line up, or list the local behind the body's
-name.
+Correct the spelling, move the array line up, or list the local after the
+body's name.
 ";
 
 const UNCLOSED: &str = "code 10 Unclosed: the text ends in a body
 
-The last body has no end of its own: each if, while and body wants one.
+The last body isn't closed: each if, while and body needs an end.
 
 A text that gets it:
 
@@ -176,8 +176,8 @@ Count the lines end from the body's line on, and add the one that is missing.
 
 const BAD_NESTING: &str = "code 11 BadNesting: an else that fits no if
 
-An else stands where the innermost open line isn't an if, or where that if has
-one already.
+There is an else, but the innermost open line isn't an if, or that if has an
+else already.
 
 A text that gets it:
 
@@ -186,14 +186,14 @@ A text that gets it:
     else
     end
 
-Take the else away, or put an if before it.
+Remove the else, or put an if before it.
 ";
 
 const TOO_MANY: &str = "code 12 TooMany: past a limit of the language
 
 At most 16 arrays, 64 bodies, 4096 starts, 1024 statements and 32 locals a
-body, and 16 lines if and while open at once. The line is the first that goes
-over.
+body, and 16 lines if and while open at once. The line is the first past a
+limit.
 
 A text that gets it:
 
@@ -229,8 +229,8 @@ A text that gets it:
     let step = 1
     end
 
-Take another name. In expressions arg and step stand for the task's argument
-and the superstep.
+Use another name. In expressions, arg is the task's argument and step the
+superstep.
 ";
 
 // What a code of a refusal means, a text that gets it, and how to mend it.
@@ -307,7 +307,7 @@ Cells are numbered from 0: the last of 4 is a[3]. Test the index with if.
 
 const BUDGET: &str = "fault 4: statement number 100001 of a task in one superstep
 
-A task does at most 100000 statements between two syncs. Mostly a while never
+A task runs at most 100000 statements between two syncs. Usually a while never
 ends.
 
 A text that gets it:
@@ -324,8 +324,8 @@ Put a sync into the loop, or share the work among more tasks or supersteps.
 
 const DEPTH: &str = "fault 5: a spawn by a task whose path has 8 numbers
 
-A task that was spawned by one that was spawned, and so on, eight deep, can't
-spawn.
+A task's path has one number for its start line and one for each spawn. With 8
+numbers a task can't spawn.
 
 A text that gets it:
 
@@ -335,8 +335,8 @@ A text that gets it:
     end
     start b 0
 
-Start the tasks by lines of their own, and let them wait until they have
-something to do.
+Begin with more start lines, and let those tasks wait until they have something
+to do.
 ";
 
 const SPAWNS: &str = "fault 6: the ninth spawn of a task in one superstep, or its 65536th in all
@@ -362,16 +362,16 @@ Put a sync between the spawns, or let the spawned tasks spawn.
 
 const MANY_TASKS: &str = "fault 7: over 4096 tasks would live on
 
-At the end of a superstep more than 4096 tasks would go on. No task is to
-blame, and the report shows none.
+At the end of a superstep more than 4096 tasks would go on. The fault is no
+single task's, so the report has - as its path.
 
 Let tasks stop before others are spawned, or give each more of the work.
 ";
 
 const SUM: &str = "fault 8: a cell's sum doesn't fit 64 bits as its values are added
 
-What tasks add to one cell in a superstep, in the order of their paths, leaves
-the numbers of 64 bits.
+The values that tasks add to one cell in a superstep, in the order of their
+paths, give a sum outside 64 signed bits.
 
 A text that gets it:
 
@@ -382,7 +382,7 @@ A text that gets it:
     end
     start b 0
 
-Add to several cells, or add less: the sum is looked at after each value.
+Add to several cells, or add less: the sum is checked after each value.
 ";
 
 // What a fault means, a text that gets it, and how to mend it.
@@ -415,7 +415,7 @@ fn text_on(topic: Topic) -> &'static str
     }
 }
 
-/// Tells what a code or a fault means, or which there are. Nothing is read.
+/// Writes what a code or a fault means, or the list of all. Reads nothing.
 pub(crate) fn explain<W: CountedWrite>(writer: &mut W, topic: Topic) -> Result<(), RunFault>
     requires topic { IsTopic topic }
     ensures explains { Explains topic (W.contents writer.old) (W.contents writer.new) result }

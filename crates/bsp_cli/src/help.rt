@@ -5,7 +5,7 @@ pub(crate) const EXAMPLES: &str =
     "With --why anywhere in a command line, or if standard error is a terminal, the reason follows
 the line of a command line that is refused.
 
-Two tasks exchange their cells, on four threads:
+Two tasks swap their cells, on four threads:
 
   $ cat examples/swap.job
   bsp 1
@@ -41,7 +41,7 @@ Two parties arrive at a phaser, and the second advances it:
 
 // The lines of a trace and the statuses, for the help of `trace`.
 pub(crate) const TRACE_LINES: &str = "The first line: phaser PARTIES [PHASE] [least L] [at Q]
-Then, one a line:
+Then, one per line:
   register      one party registers
   bulk N        N parties register
   arrive        one party arrives
@@ -50,20 +50,20 @@ Then, one a line:
   force         ends the phaser
   show          shows phase, parties, unarrived, ended
 Or the first line: tree WIDTHS [PHASE] [keep] [at Q]
-Then, one a line, with CALL: join T N, arrive, leave, poll or force:
-  token         a token comes in
+Then, one per line, with CALL: join T N, arrive, leave, poll or force:
+  token         adds a token
   begin K CALL  token K begins a call
   go K          token K takes the next step of its call
   finish K      token K takes the advance that it must take
-  run K         token K goes on to its answer
+  run K         token K takes steps until its answer
   do K CALL     begin and run
   show T        shows tier T
 Or the first line: barrier PARTIES [fails G]
-Then, one a line:
+Then, one per line:
   await C       caller C arrives
   abandon C     caller C, which waits, leaves early
   break         a party that won't come breaks the barrier
-  reset         the barrier begins anew
+  reset         the barrier starts over
   show          shows parties, waiting, generation, broken
 A line that begins with # is a comment.
 
@@ -101,7 +101,7 @@ macro_rules! job_help {
     ($ends:literal, $example:literal) => {
         concat!(
             "The first line: bsp 1, or bsp 2
-Then, one a line:
+Then, one per line:
   array NAME LENGTH [VALUE ..]  an array; values left out are 0
   body NAME [LOCAL ..]          a body begins, and a line end ends it; bsp 2 lists its locals
   start NAME N                  a task of that body, with the argument N
@@ -144,7 +144,7 @@ pub(crate) const CHECK_LINES: &str = job_help!(
     "
 
 Statuses, and the line on standard error:
-  0  the text is a job's
+  0  the text is a job
   4  the text is refused: refused line L code C
   5  command line refused
   6  out of memory
@@ -235,9 +235,9 @@ Statuses, and the line on standard error:
   6  out of memory
   7  worker K not started
   8  read or write failed
-  9  internal: workers met a refusal that they never meet
+  9  internal error: a bug in bsp, please report it
 
-Faults, as the report's last line tells them:
+Faults, as the report's last line numbers them:
   1  a result doesn't fit 64 bits
   2  a division by 0
   3  an index outside its array
@@ -255,7 +255,7 @@ Faults, as the report's last line tells them:
 
 // The help of `run`.
 pub(crate) const RUN_LINES: &str = run_help!(
-    "Two tasks exchange their cells, on four threads:
+    "Two tasks swap their cells, on four threads:
 
   $ cat examples/swap.job
   bsp 1
