@@ -13,13 +13,13 @@ not_both h k = let wrong : true ≡ false = sym h ∙ k in cc
 nothing_is_some : {A : Type 0} {x : A} → None ≡ Some x → ⊥
 nothing_is_some e = cc
 
+nowhere : {S : Type 0} {o : Option (Option (PartValue S))} → is_there o ≡ true → o ≡ None → ⊥
+nowhere h k = not_both h (ap is_there k)
+
+gone : {S : Type 0} {o : Option (Option (PartValue S))} → is_there o ≡ true → o ≡ Some None → ⊥
+gone h k = not_both h (ap is_there k)
+
 module _ {Q S : Type 0} where
-  nowhere : {o : Option (Option (PartValue S))} → is_there o ≡ true → o ≡ None → ⊥
-  nowhere h k = not_both h (ap is_there k)
-
-  gone : {o : Option (Option (PartValue S))} → is_there o ≡ true → o ≡ Some None → ⊥
-  gone h k = not_both h (ap is_there k)
-
   by_step : (fault : Unwanted) (v : StretchesValue Q S) (s : StretchValue Q S) → Refuses fault v s → s.step ≢ v.step → fault ≡ WrongStep
   by_step WrongStep v s h k = refl
   by_step Unfinished v s h k = absurd (k h.0)

@@ -1,19 +1,22 @@
 -- A job on one thread, from the run of its program.
-use Rattle.std.proofs.Common.{◌≡◌, ℕ, ◌+◌, ◌-◌, ◌<◌, ◌≤◌, ◌⊎◌, Bool, true, false, nat_lt, List, length, Some, None, refl, sym, ap, ◌∙◌, subst, arith}
+use Rattle.std.proofs.Common.{◌≡◌, ℕ, ◌+◌, ◌-◌, ◌<◌, ◌≤◌, ◌⊎◌, inl, inr, Bool, true, false, nat_lt, List, map, length, Some, None, refl, sym, ap, ◌∙◌, subst, arith}
 use Rattle.std.specs.Prelude.{ℤ}
 use Rattle.std.proofs.lemmas.Bool.{ltb-true, ltb-false}
 use Rattle.phase_records.specs.ReportValue.{ReportValue}
 use Rattle.phase_records.specs.Status.{Status}
+use Rattle.task_code.specs.JobValue.{JobValue}
+use Rattle.task_lang.specs.TaskValue.{TaskValue}
+use Rattle.task_lang.specs.Views.{plans, task_of}
 use Rattle.task_lang.specs.Meaning as job
-use Rattle.step_parts.specs.Program.{Program}
-use Rattle.step_parts.specs.JobMeaning.{so_far, status}
+use Rattle.step_parts.specs.Program.{Program, program_of}
+use Rattle.step_parts.specs.JobMeaning.{so_far, status, start_tasks, report_of}
 use Rattle.step_parts.proofs.Runs.{going_on, ended_stays}
 use Rattle.programs.specs.Superstep as gn
 use Rattle.programs.specs.Supersteps as gm
-use Rattle.programs.specs.History.{says_by, HasRun, OfState}
+use Rattle.programs.specs.History.{says_by, HasRun, HasRunTo, OfState}
 use Rattle.programs.proofs.Exactly.{so_far_same}
 use Rattle.job_program.specs.JobTasks.{job_frame, job_does, JobMay}
-use Rattle.job_program.proofs.Same.{as_state, status_as, so_far_as, starts, starts_begin}
+use Rattle.job_program.proofs.Same.{as_state, status_as, so_far_as, starts, starts_begin, job_report}
 use Rattle.step_core.specs.Watching.{SawAll}
 
 module _ (seen : ℕ → List (List ℕ × List ℤ) → ℕ → Type 0) (p : Program) (limit : ℕ) (outcome : ReportValue) (living : List job.Task)
@@ -49,3 +52,28 @@ module _ (seen : ℕ → List (List ℕ × List ℤ) → ℕ → Type 0) (p : Pr
       let st = so_far p limit n in
       let at : OfState seen (as_state st) = subst (OfState seen) (same n (omega (arith, lt))) (went n lt) in
       subst (λ (k : ℕ). seen k st.arrays (length st.live)) ((going_on p limit n run).step) at
+
+-- a run of a job's program leaves its report, and shows each of its supersteps to a watcher that never stops it
+pub record Leaves (seen : ℕ → List (List ℕ × List ℤ) → ℕ → Type 0) (p : Program) (limit : ℕ) (outcome : ReportValue) : Type 0 where
+  pub report : report_of p limit ≡ Some outcome
+  pub saw : SawAll seen p limit
+
+module _ (seen : ℕ → List (List ℕ × List ℤ) → ℕ → Type 0) (limit : ℕ) (outcome : ReportValue) (living : List job.Task) where
+  leaves_from : (p : Program) → HasRunTo (λ step arrays tasks. ⊥) seen job_frame (JobMay p.plans) 4096 p.arrays (starts p) limit outcome living → Leaves seen p limit outcome
+  leaves_from p h = by h.stopped
+    where
+      at : Leaves seen p h.taken outcome
+      at = record { report = job_report p h.taken outcome living h.run; saw = saw_all seen p h.taken outcome living h.run h.went }
+
+      by : (h.taken ≡ limit) ⊎ ⊥ → Leaves seen p limit outcome
+      by (inl e) = subst (λ (n : ℕ). Leaves seen p n outcome) e at
+      by (inr x) = absurd x
+
+  pub job_leaves : (j : JobValue) (arrays : List (List ℕ × List ℤ)) (ts : List TaskValue)
+      → arrays ≡ j.arrays → map (task_of (plans j.bodies)) ts ≡ start_tasks (plans j.bodies) 0 j.starts
+      → HasRunTo (λ step arrays tasks. ⊥) seen job_frame (JobMay (plans j.bodies)) 4096 arrays (map (task_of (plans j.bodies)) ts) limit outcome living
+      → Leaves seen (program_of j) limit outcome
+  job_leaves j arrays ts ea et h =
+      leaves_from (program_of j)
+      (subst (λ (xs : List (List ℕ × List ℤ)). HasRunTo (λ step ys tasks. ⊥) seen job_frame (JobMay (plans j.bodies)) 4096 xs (starts (program_of j)) limit outcome living) ea
+      (subst (λ (us : List job.Task). HasRunTo (λ step ys tasks. ⊥) seen job_frame (JobMay (plans j.bodies)) 4096 arrays us limit outcome living) et h))
