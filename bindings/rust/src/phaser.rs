@@ -13,7 +13,7 @@ pub enum Refused {
     TooMany,
     /// No room for so many more parties.
     Full,
-    /// An arrival or a departure where nobody is unarrived.
+    /// An arrival or a departure, but nobody is unarrived.
     NobodyUnarrived,
     /// Fewer than 0 parties to be added.
     Negative,
@@ -88,7 +88,7 @@ impl Phaser {
         Ok(Phaser { word: AtomicU64::new(word) })
     }
 
-    /// The phaser that has this word; refused where none has it.
+    /// Returns the phaser that has this word. Refuses a number that is no phaser's word.
     pub fn of_word(word: u64) -> Result<Phaser, Refused> {
         let mut phase = 0;
         told(sys::bsp_phaser_phase(word, &mut phase), phase)?;

@@ -276,7 +276,7 @@ fn draw_command<'a>(alloc: Global) -> Result<Command<'a>, Error>
     ensures local { IfOk result (λ c. (fields_of c).has_globals ≡ false) }
     ensures memory { IfErr result (λ e. kind_of e ≡ kinds.OutOfMemory) }
 {
-    let about = "Runs a job, and draws its supersteps and arrays as SVG";
+    let about = "Runs a job, and prints a picture of its supersteps and arrays, an SVG file";
     job_command(alloc, "draw", about, DRAW_LINES)
 }
 
