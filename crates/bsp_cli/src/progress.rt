@@ -158,12 +158,19 @@ impl<'a, T: Clock + Eprint> Teller<'a, T> {
 }
 
 impl<T: Clock + Eprint> Gate for Teller<'_, T> {
+    fn is_open(&self) -> bool {
+        true
+    }
+
+    fn stretch<R: Wait>(&self, rt: &R, step: u32, tasks: usize) {
+        let tasks = u32::try_from(tasks).unwrap_or(u32::MAX);
+        let mut seen = self.seen.lock(rt);
+        *seen = seen_after(self.rt, *seen, step, tasks);
+    }
+
     fn enter<R: Wait>(&self, _rt: &R, _path: &Path, _step: u32) {}
 
-    fn leave<R: Wait>(&self, rt: &R, _path: &Path, step: u32) {
-        let mut seen = self.seen.lock(rt);
-        *seen = seen_after(self.rt, *seen, step, 1);
-    }
+    fn leave<R: Wait>(&self, _rt: &R, _path: &Path, _step: u32) {}
 }
 
 impl<'a, T: Clock + Eprint> Progress for Teller<'a, T> {

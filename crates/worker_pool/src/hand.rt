@@ -126,7 +126,7 @@ impl<S: Stretch, J: Running> HeldStretch<S, J> {
         self.stretch.step()
     }
 
-    /// Runs its segments, with no lock held; if the gate isn't open, between the two calls of the gate. Returns how its
+    /// Runs its segments, with no lock held, after a call of the gate; if the gate isn't open, between two more calls of it. Returns how its
     /// tasks changed the list of live tasks.
     pub(crate) fn run<R: Wait, G: Gate>(
         &mut self,
@@ -137,6 +137,7 @@ impl<S: Stretch, J: Running> HeldStretch<S, J> {
         ensures done { OnOk result (S.len self.new ≤ S.done self.new) }
         ensures told { IfOk result (Tells (S.stays self.new) (S.faulted self.new) (S.told self.new)) }
     {
+        gate.stretch(rt, self.stretch.step(), self.stretch.len());
         match do_all(rt, alloc, gate, &mut self.stretch) {
             Ok(()) => changes_of(alloc, &self.stretch),
             Err(_) => Err(Reason::Memory),
