@@ -43,7 +43,13 @@ pub fn run_watched<W: Watch>(
     let program = JobProgram { job };
     let mut looking = Looking { watch };
     let ran = run_program(
-        alloc, &program, arrays, tasks, MOST_TASKS, limit, &mut looking,
+        alloc,
+        &program,
+        arrays,
+        tasks,
+        MOST_TASKS,
+        limit,
+        &mut looking,
     )?;
     let Ran { report, tasks: _ } = ran;
     Ok(report)

@@ -134,9 +134,7 @@ fn counts_all<R: Threads + Wait + Sync>(rt: &R, alloc: Global, job: &Job, worker
     let ran = left_by(
         rt, alloc, job, "2", workers, 1000000, &gate, &AllStart, &sum,
     );
-    ran.is_ok()
-        && gate.tasks.load(Ordering::SeqCst) == 9
-        && gate.steps.load(Ordering::SeqCst) == 16
+    ran.is_ok() && gate.tasks.load(Ordering::SeqCst) == 9 && gate.steps.load(Ordering::SeqCst) == 16
 }
 
 // Whether one worker does, and three.

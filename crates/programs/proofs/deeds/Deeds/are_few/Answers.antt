@@ -21,8 +21,7 @@ pub returns : goal.returns
 returns g c =
     let k = counts c.self.inside c.args.self.now c.self.invariant (sym c.self.view_is) in
     let left : c.count_stopped.result ≡ left_in c.args.self.now = c.count_stopped.ensures ∙ ap stopped_by c.deref.ensures.value ∙ k.stopped in
-    let l = few_left c.args.self.now in
-    (
+    let l = few_left c.args.self.now in (
       λ yes. let few = c.fit-2.ensures.0 yes in
           omega (arith, few, left, l, k.count, k.spawned, c.len-count.ensures, c.len-spawned.ensures, c.self.inside.each.ok.0, c.self.inside.spawns.ok.0),
       λ le. c.fit-2.ensures.1 (omega (arith, le, left, l, k.count, k.spawned, c.len-count.ensures, c.len-spawned.ensures, c.self.inside.each.ok.0, c.self.inside.spawns.ok.0)),
