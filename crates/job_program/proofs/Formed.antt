@@ -1,5 +1,5 @@
 -- What a task of a job leaves is well formed, and is what its segment left.
-use Rattle.std.proofs.Common.{◌≡◌, ℕ, zero, suc, ◌+◌, List, [], ◌∷◌, ◌++◌, map, length, refl, ap, ◌∙◌, subst, arith}
+use Rattle.std.proofs.Common.{◌≡◌, ℕ, zero, suc, ◌+◌, List, [], ◌∷◌, ◌++◌, length, refl, ap, ◌∙◌, subst, arith}
 use Rattle.std.specs.Prelude.{ℤ}
 use Rattle.task_lang.specs.FaultCode.{code_of}
 use Rattle.task_lang.specs.TaskValue.{TaskValue}
@@ -14,8 +14,8 @@ use Rattle.step_parts.specs.SlotParts.{path_in}
 use Rattle.programs.specs.declared.work.Work.{Work}
 use Rattle.programs.specs.declared.work.Ending.{Ending}
 use Rattle.programs.specs.declared.work.Ending.TheVariants as ending
-use Rattle.programs.specs.Meaning.{After, Synced, Stopped, Faulted, Segment, children, IsFormed}
-use Rattle.programs.specs.Lent.{HasAdded, IsLeft, HasLeft}
+use Rattle.programs.specs.Meaning.{Synced, children, IsFormed}
+use Rattle.programs.specs.Lent.{IsLeft, HasLeft}
 use Rattle.job_program.specs.JobTasks.{as_after, as_segment, job_frame, job_does, JobMay}
 
 children_cons : (path : List ℕ) (b n : ℕ) → task.children path b (suc n) ≡ (path ++ b ∷ []) ∷ task.children path (suc b) n

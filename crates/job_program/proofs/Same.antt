@@ -1,5 +1,5 @@
 -- A job, and the program that it is, mean the same.
-use Rattle.std.proofs.Common.{◌≡◌, ℕ, zero, suc, ◌+◌, ◌≤◌, Bool, true, false, List, [], ◌∷◌, ◌++◌, map, length, Option, Some, None, refl, sym, ap, ◌∙◌, subst, arith}
+use Rattle.std.proofs.Common.{◌≡◌, ℕ, zero, suc, ◌+◌, List, [], ◌∷◌, ◌++◌, map, length, Option, Some, None, refl, sym, ap, ◌∙◌, subst}
 use Rattle.std.specs.Prelude.{ℤ}
 use Rattle.std.specs.Option.{option_map}
 use Rattle.std.proofs.lemmas.List.{length-map}
@@ -9,7 +9,6 @@ use Rattle.superstep_memory.specs.PathOrder.{in_path_order}
 use Rattle.phase_records.specs.PrintValue.{PrintValue}
 use Rattle.phase_records.specs.Status.{Status}
 use Rattle.phase_records.specs.ReportValue.{ReportValue}
-use Rattle.task_lang.specs.FaultCode.{code_of}
 use Rattle.task_lang.specs.TaskValue.{TaskValue}
 use Rattle.task_lang.specs.Views.{task_of}
 use Rattle.task_lang.specs.Meaning as job
@@ -20,7 +19,7 @@ use Rattle.step_parts.specs.SlotParts.{path_in}
 use Rattle.step_parts.specs.Program.{Program, program_of}
 use Rattle.step_parts.specs.Superstep as jb
 use Rattle.step_parts.specs.JobMeaning as jm
-use Rattle.programs.specs.Meaning.{After, Synced, Stopped, Faulted, Segment, Says, children}
+use Rattle.programs.specs.Meaning.{Segment, children}
 use Rattle.programs.specs.Superstep as gn
 use Rattle.programs.specs.Supersteps as gm
 use Rattle.programs.specs.History.{HasRun}
