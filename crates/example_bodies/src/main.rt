@@ -4,13 +4,13 @@
 
 mod exact;
 
+use exact::{ExactRod, pieces};
 use example_tasks::life::next;
 use example_tasks::queue::{CAME, Shop, TIME, WENT};
 use example_tasks::rank::Ranks;
 use example_tasks::rod::{Rod, UntilWarm};
 use example_tasks::search::{DISTANCES, Graph, ROUNDS};
 use example_tasks::start;
-use exact::{ExactRod, pieces};
 use phase_records::{JobStatus, Report};
 use std::alloc::{AllocError, Global};
 use superstep_memory::arrays::Arrays;
@@ -40,7 +40,14 @@ fn cell(report: &Report, array: u16, index: u32) -> i64 {
 // The rod after 1000 supersteps.
 fn cool(alloc: Global) -> Result<Report, RunFault> {
     let start = start::rod(alloc)?;
-    let ran = run_bodies(alloc, &Rod { last: 999 }, start.arrays, start.tasks, 46, 1000)?;
+    let ran = run_bodies(
+        alloc,
+        &Rod { last: 999 },
+        start.arrays,
+        start.tasks,
+        46,
+        1000,
+    )?;
     Ok(ran.report)
 }
 
@@ -90,21 +97,42 @@ fn cool_by_closure(alloc: Global) -> Result<Report, RunFault> {
 fn cool_exactly(alloc: Global) -> Result<Report, RunFault> {
     let start = start::rod(alloc)?;
     let pieces = pieces(alloc)?;
-    let ran = run_exactly(alloc, &ExactRod { last: 999 }, start.arrays, pieces, 46, 1000)?;
+    let ran = run_exactly(
+        alloc,
+        &ExactRod { last: 999 },
+        start.arrays,
+        pieces,
+        46,
+        1000,
+    )?;
     Ok(ran.report)
 }
 
 // A shop that is open for 1000 supersteps.
 fn serve(alloc: Global) -> Result<Report, RunFault> {
     let start = start::shop(alloc)?;
-    let ran = run_bodies(alloc, &Shop { open: 999 }, start.arrays, start.tasks, 1000, 10000)?;
+    let ran = run_bodies(
+        alloc,
+        &Shop { open: 999 },
+        start.arrays,
+        start.tasks,
+        1000,
+        10000,
+    )?;
     Ok(ran.report)
 }
 
 // A graph of 100,000 nodes, searched from node 0.
 fn find(alloc: Global) -> Result<Report, RunFault> {
     let start = start::graph(alloc)?;
-    let ran = run_bodies(alloc, &Graph { nodes: 100_000 }, start.arrays, start.tasks, 20, 10000)?;
+    let ran = run_bodies(
+        alloc,
+        &Graph { nodes: 100_000 },
+        start.arrays,
+        start.tasks,
+        20,
+        10000,
+    )?;
     Ok(ran.report)
 }
 
@@ -112,7 +140,14 @@ fn find(alloc: Global) -> Result<Report, RunFault> {
 fn ranked(alloc: Global) -> Result<Report, RunFault> {
     let start = start::ranks(alloc)?;
     let graph = Graph { nodes: 1000 };
-    let ran = run_bodies(alloc, &Ranks { graph, last: 39 }, start.arrays, start.tasks, 10, 40)?;
+    let ran = run_bodies(
+        alloc,
+        &Ranks { graph, last: 39 },
+        start.arrays,
+        start.tasks,
+        10,
+        40,
+    )?;
     Ok(ran.report)
 }
 
@@ -143,29 +178,44 @@ fn spans(alloc: Global, count: u32, size: u32) -> Result<Vec<Cells>, AllocError>
     Ok(spans)
 }
 
-// The sum of the squares of 0 to 999, by two kernels: the first squares, the second adds up into a cell of its own array.
-fn squares(alloc: Global) -> Result<Report, RunFault> {
+// The numbers 0 to 999, and a cell for a sum.
+fn numbers(alloc: Global) -> Result<Arrays, AllocError> {
     let mut arrays = Arrays::new(alloc);
     let mut numbers = Vec::new(alloc);
     for number in 0..1000 {
         numbers.push(number)?;
     }
     arrays.add(String::from_str(alloc, "numbers")?, numbers)?;
-    arrays.add(String::from_str(alloc, "sum")?, Vec::from_elem(alloc, 0, 1)?)?;
+    let sum = Vec::from_elem(alloc, 0, 1)?;
+    arrays.add(String::from_str(alloc, "sum")?, sum)?;
+    Ok(arrays)
+}
+
+// The squares of the numbers.
+fn squares(alloc: Global) -> Result<Report, RunFault> {
+    let arrays = numbers(alloc)?;
+    let spans = spans(alloc, 10, 100)?;
     let square = Map {
         from: 0,
         into: 0,
         last: 0,
         f: |it: i64| it.wrapping_mul(it),
     };
-    let squared = run_bodies(alloc, &square, arrays, spans(alloc, 10, 100)?, 10, 1)?;
+    let ran = run_bodies(alloc, &square, arrays, spans, 10, 1)?;
+    Ok(ran.report)
+}
+
+// The sum of the squares.
+fn added_up(alloc: Global) -> Result<Report, RunFault> {
+    let squares = squares(alloc)?;
+    let spans = spans(alloc, 10, 100)?;
     let add_up = Reduce {
         array: 0,
         into: 1,
         cell: 0,
         f: |it: i64| it,
     };
-    let ran = run_bodies(alloc, &add_up, squared.report.arrays, spans(alloc, 10, 100)?, 10, 1)?;
+    let ran = run_bodies(alloc, &add_up, squares.arrays, spans, 10, 1)?;
     Ok(ran.report)
 }
 
@@ -202,7 +252,7 @@ fn are_same(alloc: Global) -> Result<(bool, bool), RunFault> {
 
 // The sum of the squares.
 fn square_numbers(alloc: Global) -> Result<i64, RunFault> {
-    let report = squares(alloc)?;
+    let report = added_up(alloc)?;
     Ok(cell(&report, 1, 0))
 }
 
