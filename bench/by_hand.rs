@@ -236,6 +236,43 @@ fn life(supersteps: usize, threads: usize) -> String {
     three_numbers(&cells)
 }
 
+/// A search in a graph of so many nodes, each with two edges, in equal parts on threads that meet at a barrier after each superstep.
+fn search(nodes: usize, threads: usize) -> String {
+    let distances: Vec<AtomicI64> = (0..nodes).map(|node| AtomicI64::new(if node == 0 { 0 } else { -1 })).collect();
+    let rounds = AtomicI64::new(0);
+    let barrier = Barrier::new(threads);
+    std::thread::scope(|scope| {
+        for thread in 0..threads {
+            let (distances, rounds, barrier) = (&distances, &rounds, &barrier);
+            scope.spawn(move || {
+                let mut now = 0;
+                loop {
+                    for node in nodes * thread / threads..nodes * (thread + 1) / threads {
+                        if distances[node].load(Relaxed) != now {
+                            continue;
+                        }
+                        for neighbour in [(2 * node + 1) % nodes, (3 * node + 7) % nodes] {
+                            if distances[neighbour].load(Relaxed) == -1 {
+                                distances[neighbour].store(now + 1, Relaxed);
+                                rounds.store(now + 1, Relaxed);
+                            }
+                        }
+                    }
+                    barrier.wait();
+                    let found = rounds.load(Relaxed);
+                    barrier.wait();
+                    now += 1;
+                    if found < now {
+                        return;
+                    }
+                }
+            });
+        }
+    });
+    let cells: Vec<i64> = distances.iter().map(|cell| cell.load(Relaxed)).collect();
+    three_numbers(&cells)
+}
+
 /// Threads that meet at a barrier so many times.
 fn meet(threads: usize, phases: usize) -> String {
     let barrier = Barrier::new(threads);
@@ -265,6 +302,7 @@ fn main() {
         "rod" => rod(steps, false),
         "rows" => rod(steps, true),
         "life" => life(steps, number(3)),
+        "search" => search(steps, number(3)),
         "rod_on_threads" => rod_on_threads(steps, number(3)),
         "meet" => meet(number(2), number(3)),
         other => panic!("no such job: {other}"),

@@ -1,6 +1,6 @@
 -- What a piece of the rod leaves (own).
-use Rattle.std.specs.Prelude.{ℕ, zero, suc, ◌+◌, ◌-◌, ℤ, pos, w64, List, [], ◌∷◌, get_or, slice_get}
-use Rattle.std.specs.Int.{int_div, int_wrapping_add}
+use Rattle.std.specs.Prelude.{ℕ, zero, suc, ◌+◌, ◌-◌, ℤ, pos, int_div, List, [], ◌∷◌, get_or, slice_get}
+use Rattle.std.specs.Int.{w64, int_wrapping_add}
 use Rattle.superstep_memory.specs.Rows.{row_puts}
 use Rattle.task_bodies.specs.Bodies.{Left, cells_in}
 use Rattle.task_bodies.specs.Kernels.{ends_in}

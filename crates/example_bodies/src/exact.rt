@@ -1,5 +1,6 @@
 //! The rod again, by a body of which is written what it does.
-ghost use Rattle.std.specs.Prelude.{◌≡◌, get_or, pos};
+ghost use Rattle.std.specs.Prelude.{◌≡◌, get_or, pos, int_div};
+ghost use Rattle.std.specs.Int.{w64, int_wrapping_add};
 ghost use Rattle.task_bodies.specs.Kernels.{ends_in};
 ghost use Rattle.example_bodies.specs.Rod.{mixed, rod_does};
 
@@ -37,14 +38,26 @@ fn at(cells: &[i64], place: usize) -> i64
     cells.get(place).copied().unwrap_or(0)
 }
 
+fn sum(one: i64, other: i64) -> i64
+    ensures { result ≡ int_wrapping_add w64 one other }
+{
+    one.wrapping_add(other)
+}
+
+fn quarter(value: i64) -> i64
+    ensures { result ≡ int_div value (pos 4) }
+{
+    value / 4
+}
+
 // What the cell at this place becomes.
 fn mixed(cells: &[i64], place: u32) -> i64
     ensures { result ≡ mixed cells.now place }
 {
     let place = place as usize;
     let own = at(cells, place);
-    let others = at(cells, place.saturating_sub(1)).wrapping_add(at(cells, place + 1));
-    others.wrapping_add(own).wrapping_add(own) / 4
+    let others = sum(at(cells, place.saturating_sub(1)), at(cells, place + 1));
+    quarter(sum(sum(others, own), own))
 }
 
 // How a task ends that runs up to this superstep.

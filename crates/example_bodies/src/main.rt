@@ -178,39 +178,44 @@ fn spans(alloc: Global, count: u32, size: u32) -> Result<Vec<Cells>, AllocError>
     Ok(spans)
 }
 
-// The sum of the squares of 0 to 999, by two kernels: the first squares, the second adds up into a cell of its own array.
-fn squares(alloc: Global) -> Result<Report, RunFault> {
+// The numbers 0 to 999, and a cell for a sum.
+fn numbers(alloc: Global) -> Result<Arrays, AllocError> {
     let mut arrays = Arrays::new(alloc);
     let mut numbers = Vec::new(alloc);
     for number in 0..1000 {
         numbers.push(number)?;
     }
     arrays.add(String::from_str(alloc, "numbers")?, numbers)?;
-    arrays.add(
-        String::from_str(alloc, "sum")?,
-        Vec::from_elem(alloc, 0, 1)?,
-    )?;
+    let sum = Vec::from_elem(alloc, 0, 1)?;
+    arrays.add(String::from_str(alloc, "sum")?, sum)?;
+    Ok(arrays)
+}
+
+// The squares of the numbers.
+fn squares(alloc: Global) -> Result<Report, RunFault> {
+    let arrays = numbers(alloc)?;
+    let spans = spans(alloc, 10, 100)?;
     let square = Map {
         from: 0,
         into: 0,
         last: 0,
         f: |it: i64| it.wrapping_mul(it),
     };
-    let squared = run_bodies(alloc, &square, arrays, spans(alloc, 10, 100)?, 10, 1)?;
+    let ran = run_bodies(alloc, &square, arrays, spans, 10, 1)?;
+    Ok(ran.report)
+}
+
+// The sum of the squares.
+fn added_up(alloc: Global) -> Result<Report, RunFault> {
+    let squares = squares(alloc)?;
+    let spans = spans(alloc, 10, 100)?;
     let add_up = Reduce {
         array: 0,
         into: 1,
         cell: 0,
         f: |it: i64| it,
     };
-    let ran = run_bodies(
-        alloc,
-        &add_up,
-        squared.report.arrays,
-        spans(alloc, 10, 100)?,
-        10,
-        1,
-    )?;
+    let ran = run_bodies(alloc, &add_up, squares.arrays, spans, 10, 1)?;
     Ok(ran.report)
 }
 
@@ -247,7 +252,7 @@ fn are_same(alloc: Global) -> Result<(bool, bool), RunFault> {
 
 // The sum of the squares.
 fn square_numbers(alloc: Global) -> Result<i64, RunFault> {
-    let report = squares(alloc)?;
+    let report = added_up(alloc)?;
     Ok(cell(&report, 1, 0))
 }
 

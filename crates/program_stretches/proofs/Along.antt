@@ -1,11 +1,11 @@
 -- Stretches, one after another.
-use Rattle.std.proofs.Common.{◌≡◌, ◌<◌, ◌≤◌, ◌+◌, ◌==◌, ℕ, zero, suc, Bool, true, false, nat_le, List, [], ◌∷◌, ◌++◌, Option, Some, None, length, map, drop, get_or, slice_set, refl, sym, ap, ◌∙◌, arith, drop-cons, length-append, append_assoc, append-nil}
+use Rattle.std.proofs.Common.{◌≡◌, ◌<◌, ◌≤◌, ◌+◌, ◌==◌, ℕ, zero, suc, Bool, true, false, nat_le, List, [], ◌∷◌, ◌++◌, Option, Some, None, length, map, drop, get_or, slice_set, refl, sym, ap, ◌∙◌, arith, drop-cons, append_assoc, append-nil}
 use Rattle.std.specs.Prelude.{◌&&◌}
 use Rattle.std.proofs.lemmas.List.{drop_all}
 use Rattle.programs.specs.DeedValue.{DeedValue}
 use Rattle.programs.specs.InPlace.{left_in, spawned_in}
 use Rattle.program_stretches.specs.PartValue.{PartValue}
-use Rattle.program_stretches.specs.Parts.{covers, is_done, of_slot, in_turn, deeds_in}
+use Rattle.program_stretches.specs.Parts.{covers, is_done, of_slot, in_turn}
 use Rattle.program_stretches.proofs.Whole.{both}
 
 module _ {S : Type 0} where

@@ -25,8 +25,8 @@ use Rattle.program_stretches.specs.Parts.{Reading, HasDone, AreOwn, AreFresh, fr
 use Rattle.program_stretches.specs.Opening.{OpeningValue, live_of}
 use Rattle.program_stretches.specs.Did.{DidAll, IsStepTo}
 use Rattle.program_stretches.specs.StretchesValue.{StretchesValue, state_with, status_for, status_in, is_at_limit, IsAfter, IsOpen, IsCourse, HaveRun}
-use Rattle.program_stretches.specs.Closing.{EndsAs, EndsBy, IsClosed, IsSameRun, HasLeft, opened_with}
-use Rattle.program_stretches.proofs.Taken.{has_run, faulted, fits, FitsAll, many, over, goes_on, paths_rise}
+use Rattle.program_stretches.specs.Closing.{EndsAs, IsClosed, HasLeft, opened_with}
+use Rattle.program_stretches.proofs.Taken.{has_run, faulted, fits, many, over, goes_on}
 use Rattle.program_stretches.proofs.Course.{status_is, after_next}
 use Rattle.program_stretches.proofs.Whole.{both, at_number, drop_more, drop_end, HaveDid, have_did}
 use Rattle.program_stretches.specs.PartValue.{PartValue}

@@ -1,20 +1,14 @@
 -- A run by stretches, from one call to the next.
-use Rattle.std.proofs.Common.{◌≡◌, ◌⊎◌, ℕ, zero, suc, ◌+◌, ◌≤◌, ◌<◌, Bool, true, false, nat_le, List, [], ◌∷◌, ◌++◌, length, map, Option, Some, None, refl, sym, ap, ◌∙◌, subst, inl, inr, ⊎_elim, slice_get, arith, append-nil, length-append}
-use Rattle.std.specs.Prelude.{ℤ, if◌then◌else◌}
+use Rattle.std.proofs.Common.{◌≡◌, ℕ, zero, suc, ◌+◌, ◌≤◌, List, [], ◌∷◌, ◌++◌, length, map, Option, Some, None, refl, sym, ap, ◌∙◌, subst, inr, ⊎_elim, slice_get, arith, length-append}
 use Rattle.std.proofs.lemmas.List.{length-map}
-use Rattle.atomic_table.specs.Seated.{TableId}
-use Rattle.phase_records.specs.PrintValue.{PrintValue}
-use Rattle.phase_records.specs.declared.record.PhaseRecord.{PhaseRecord}
-use Rattle.phase_records.specs.Status.{Status, Ended, Fault, Limit}
 use Rattle.programs.specs.Meaning.{children}
-use Rattle.programs.specs.Superstep.{State, ended_by}
 use Rattle.programs.specs.Supersteps.{status, status_of}
 use Rattle.program_stretches.specs.PartValue.{PartValue}
-use Rattle.program_stretches.specs.Parts.{Reading, IsPartOf, IsOwn, AreOwn, AreFresh, tasks_in}
+use Rattle.program_stretches.specs.Parts.{Reading, IsPartOf, IsOwn, AreOwn, AreFresh}
 use Rattle.program_stretches.specs.Opening.{OpeningValue, live_of}
 use Rattle.program_stretches.specs.Reached.{IsReached}
 use Rattle.program_stretches.specs.Did.{IsStep}
-use Rattle.program_stretches.specs.StretchesValue.{StretchesValue, StretchValue, state_with, status_for, status_in, with_slot, HasBegun, IsAfter, IsOpen, IsStretch, IsCourse}
+use Rattle.program_stretches.specs.StretchesValue.{StretchesValue, StretchValue, state_with, status_for, status_in, with_slot, IsAfter, IsOpen, IsStretch, IsCourse}
 use Rattle.program_stretches.proofs.Owning.{fresh_own, own_set, some_there}
 use Rattle.program_stretches.proofs.Taken.{reached_next}
 

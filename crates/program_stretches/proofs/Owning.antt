@@ -1,5 +1,5 @@
 -- Stretches are taken, run and taken back.
-use Rattle.std.proofs.Common.{◌≡◌, ◌⊎◌, ◌<◌, ℕ, zero, suc, ◌+◌, Bool, true, false, List, [], ◌∷◌, ◌++◌, length, map, drop, Option, Some, None, Result, Ok, Err, slice_get, slice_set, get_or, refl, sym, ap, ◌∙◌, subst, inl, inr, ⊎_elim, arith}
+use Rattle.std.proofs.Common.{◌≡◌, ◌⊎◌, ◌<◌, ℕ, zero, suc, ◌+◌, Bool, true, false, List, [], ◌∷◌, ◌++◌, length, drop, Option, Some, None, Result, Ok, Err, slice_get, slice_set, get_or, refl, sym, ap, ◌∙◌, subst, inl, inr, ⊎_elim, arith}
 use Rattle.std.specs.Prelude.{ℤ, OnOk, OnErr, not}
 use Rattle.program_stretches.specs.PartValue.{PartValue}
 use Rattle.program_stretches.specs.Parts.{Reading, HasRun, HasDone, IsPartOf, IsOwn, AreOwn, AreFresh, fresh_part, tasks_in}

@@ -1,5 +1,5 @@
 -- One superstep more, by what the live tasks did in stretches.
-use Rattle.std.proofs.Common.{◌≡◌, ℕ, suc, ◌+◌, ◌≤◌, ◌<◌, true, false, List, [], ◌∷◌, ◌++◌, map, length, Option, Some, None, get_or, refl, sym, ap, ◌∙◌, subst, arith, length-append}
+use Rattle.std.proofs.Common.{◌≡◌, ℕ, suc, ◌+◌, ◌≤◌, ◌<◌, true, List, [], ◌∷◌, ◌++◌, map, length, Option, Some, None, get_or, refl, sym, ap, ◌∙◌, subst, arith, length-append}
 use Rattle.std.specs.Prelude.{ℤ}
 use Rattle.std.specs.Option.{option_map}
 use Rattle.std.proofs.lemmas.List.{length-map, map-append}
@@ -12,16 +12,16 @@ use Rattle.phase_records.specs.PrintValue.{PrintValue}
 use Rattle.phase_records.specs.ReportValue.{ReportValue}
 use Rattle.phase_records.specs.Status.{Status}
 use Rattle.phase_records.specs.declared.record.PhaseRecord.{PhaseRecord}
-use Rattle.programs.specs.Meaning.{Segment, Frame, Says, NumbersItsSpawns, StaysTheSameTask, children}
+use Rattle.programs.specs.Meaning.{Segment, Says, NumbersItsSpawns, StaysTheSameTask, children}
 use Rattle.programs.specs.Reads.{reads}
 use Rattle.programs.specs.DeedValue.{DeedValue}
 use Rattle.programs.specs.Superstep.{State, superstep, ended_by, segments, first_fault, next_live, too_many, overflow, live_paths}
-use Rattle.programs.specs.Supersteps.{so_far, status, told, report_of}
-use Rattle.programs.specs.InPlace.{IsAllDone, Told, deeds_of, living_with, left_in, spawned_in, told_in, told_at, maker}
+use Rattle.programs.specs.Supersteps.{so_far, status, told}
+use Rattle.programs.specs.InPlace.{IsAllDone, Told, living_with, left_in, spawned_in, told_in, told_at, maker}
 use Rattle.programs.specs.History.{Entry, AreOf, IsEntered, says_in, says_by, segments_in, living_after, HasRun}
 use Rattle.programs.proofs.History.{numbers_by, stays_by, all_formed, numbers_in, stays_in, entries_rise, agrees}
 use Rattle.programs.proofs.Histories.{superstep_by, so_far_more, formed_by}
-use Rattle.programs.proofs.Course.{deeds_told, by_fault_in, by_many_in, by_over_in, by_landing_in, fits_in, none_faults, many_told, few_told, none_over, Fits, IsOver}
+use Rattle.programs.proofs.Course.{deeds_told, by_fault_in, by_many_in, by_over_in, by_landing_in, fits_in, none_faults, many_told, few_told, none_over}
 use Rattle.programs.proofs.InPlace.{counted}
 use Rattle.programs.proofs.Reached.{entered_more}
 use Rattle.programs.proofs.Runs.{goes, going_on, ended_is_last}

@@ -1,11 +1,11 @@
 -- What stretches have done that cover the live tasks.
-use Rattle.std.proofs.Common.{◌≡◌, ◌==◌, ℕ, zero, suc, ◌+◌, ◌≤◌, Bool, true, false, List, [], ◌∷◌, ◌++◌, map, length, drop, Option, Some, None, refl, sym, ap, ◌∙◌, subst, arith, append_assoc, append-nil, length-append}
+use Rattle.std.proofs.Common.{◌≡◌, ◌==◌, ℕ, zero, suc, ◌+◌, Bool, true, false, List, [], ◌∷◌, ◌++◌, map, length, drop, Option, Some, None, refl, sym, ap, ◌∙◌, subst, arith, append_assoc, append-nil, length-append}
 use Rattle.std.specs.Prelude.{ℤ, ◌&&◌}
 use Rattle.std.proofs.lemmas.List.{map-append}
 use Rattle.superstep_memory.specs.declared.arrays.Put.{Put}
 use Rattle.superstep_memory.specs.Landing.{joined}
 use Rattle.phase_records.specs.PrintValue.{PrintValue}
-use Rattle.programs.specs.Meaning.{After, Synced, Stopped, Faulted, Segment, Says, IsFormed}
+use Rattle.programs.specs.Meaning.{After, Synced, Stopped, Faulted, Segment, Says}
 use Rattle.programs.specs.Reads.{Reads, reads}
 use Rattle.programs.specs.DeedValue.{DeedValue}
 use Rattle.programs.specs.Superstep.{first_fault, or_later, or_next, log_of, print_of, prints_of}
@@ -16,7 +16,7 @@ use Rattle.programs.proofs.InPlace.{none_done, come_all, no_fault}
 use Rattle.programs.proofs.Ranged.{first_none}
 use Rattle.program_stretches.specs.PartValue.{PartValue}
 use Rattle.program_stretches.specs.Did.{DidAll}
-use Rattle.program_stretches.specs.Parts.{Reading, HasRun, HasDone, IsPartOf, IsOwn, AreOwn, of_slot, tasks_in, puts_in, deeds_in, prints_in, fault_of, fault_in, covers}
+use Rattle.program_stretches.specs.Parts.{Reading, HasRun, HasDone, AreOwn, tasks_in, puts_in, deeds_in, prints_in, fault_in, covers}
 
 -- ---- lists one after another
 

@@ -1,15 +1,15 @@
 -- How stretches are taken and taken back, and how a superstep is closed (own).
-use Rattle.std.specs.Prelude.{◌≡◌, ◌↔◌, ℕ, ℤ, ◌+◌, Bool, true, false, List, [], ◌∷◌, ◌++◌, map, Option, Some, None, slice_get}
+use Rattle.std.specs.Prelude.{◌≡◌, ℕ, ℤ, Bool, true, false, List, [], ◌∷◌, ◌++◌, map, Option, Some, None, slice_get}
 use Rattle.atomic_table.specs.Seated.{TableId}
 use Rattle.phase_records.specs.ReportValue.{ReportValue}
 use Rattle.programs.specs.History.{HasRun}
-use Rattle.programs.specs.Superstep.{State, ended_by}
+use Rattle.programs.specs.Superstep.{ended_by}
 use Rattle.program_stretches.specs.declared.fault.Unwanted.{Unwanted}
 use Rattle.program_stretches.specs.declared.fault.Unwanted.TheVariants as unwanted
 use Rattle.program_stretches.specs.declared.fault.Unclosed.{Unclosed}
 use Rattle.program_stretches.specs.declared.fault.Unclosed.TheVariants as unclosed
 use Rattle.program_stretches.specs.declared.fault.Outcome.{Outcome}
-use Rattle.program_stretches.specs.declared.fault.Outcome.TheVariants.{Landed, Faulted, TooMany, Overflowed}
+use Rattle.program_stretches.specs.declared.fault.Outcome.TheVariants.{Landed}
 use Rattle.program_stretches.specs.PartValue.{PartValue}
 use Rattle.program_stretches.specs.Parts.{Reading, AreFresh, covers, tasks_in}
 use Rattle.program_stretches.specs.Opening.{OpeningValue, live_of}

@@ -1,5 +1,5 @@
 -- What a stretch has done of its superstep, and what stretches are together (own).
-use Rattle.std.specs.Prelude.{◌≡◌, ◌==◌, ◌&&◌, ℕ, ℤ, ◌+◌, Bool, true, false, not, List, [], ◌∷◌, ◌++◌, map, length, drop, Option, Some, None}
+use Rattle.std.specs.Prelude.{◌≡◌, ◌==◌, ◌&&◌, ℕ, ℤ, ◌+◌, Bool, true, false, not, List, [], ◌∷◌, ◌++◌, length, drop, Option, Some, None}
 use Rattle.superstep_memory.specs.declared.arrays.Put.{Put}
 use Rattle.phase_records.specs.PrintValue.{PrintValue}
 use Rattle.programs.specs.Meaning.{Segment, Frame}

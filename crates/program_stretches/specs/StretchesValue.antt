@@ -1,5 +1,5 @@
 -- The supersteps of a program by stretches (own).
-use Rattle.std.specs.Prelude.{◌≡◌, ◌≤◌, ◌<◌, ◌⊎◌, ◌^◌, ℕ, zero, suc, ◌+◌, ℤ, nat_le, if◌then◌else◌, Bool, true, false, not, ◌||◌, List, [], ◌∷◌, ◌++◌, map, length, slice_get, slice_set, Option, Some, None, is_some}
+use Rattle.std.specs.Prelude.{◌≡◌, ◌≤◌, ◌⊎◌, ℕ, zero, suc, ◌+◌, ℤ, nat_le, if◌then◌else◌, Bool, true, false, not, ◌||◌, List, [], ◌∷◌, ◌++◌, map, length, slice_set, Option, Some, None}
 use Rattle.superstep_memory.specs.declared.arrays.Put.{Put}
 use Rattle.superstep_memory.specs.Landing.{over_in}
 use Rattle.programs.specs.DeedValue.{DeedValue}
@@ -10,10 +10,10 @@ use Rattle.phase_records.specs.Status.{Status, Ended, Fault, Limit}
 use Rattle.programs.specs.Meaning.{children}
 use Rattle.programs.specs.Superstep.{State}
 use Rattle.program_stretches.specs.PartValue.{PartValue}
-use Rattle.program_stretches.specs.Parts.{Reading, IsPartOf, AreOwn, covers, puts_in, tasks_in, deeds_in, prints_in}
+use Rattle.program_stretches.specs.Parts.{Reading, IsPartOf, AreOwn, covers}
 use Rattle.program_stretches.specs.Opening.{OpeningValue, live_of}
 use Rattle.program_stretches.specs.Reached.{IsReached}
-use Rattle.program_stretches.specs.Did.{DidAll, IsStep}
+use Rattle.program_stretches.specs.Did.{DidAll}
 
 -- A stretch that was taken: its place among those of its superstep, what its superstep began with, and its tasks. The log by this
 -- name had these openings when it was taken, its own the last.

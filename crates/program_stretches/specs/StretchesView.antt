@@ -1,5 +1,5 @@
 -- The supersteps of a program by stretches, as their code keeps them (own).
-use Rattle.std.specs.Prelude.{◌≡◌, ◌≤◌, ◌<◌, ◌^◌, length}
+use Rattle.std.specs.Prelude.{◌≡◌, ◌≤◌, ◌<◌, ◌^◌}
 use Rattle.std.specs.Arc.{arc_value}
 use Rattle.program_stretches.specs.declared.stretches.Stretches.TheInside.{Inside}
 use Rattle.program_stretches.specs.Parts.{Reading}

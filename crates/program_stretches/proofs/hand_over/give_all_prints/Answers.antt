@@ -1,4 +1,4 @@
-use Rattle.std.proofs.Common.{◌≡◌, ◌+◌, ◌++◌, ◌∷◌, ◌∙◌, List, Option, drop, sym, ap, arith, length, length-append}
+use Rattle.std.proofs.Common.{◌+◌, ◌∙◌, List, Option, drop, ap, arith, length, length-append}
 use Rattle.program_stretches.specs.PartValue.{PartValue}
 use Rattle.program_stretches.specs.Parts.{of_slot, prints_in, without_prints}
 use Rattle.program_stretches.proofs.Along.{half_next, half_whole, half_none, in_turn_more, in_turn_all}

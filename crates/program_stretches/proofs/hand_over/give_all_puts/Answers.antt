@@ -1,4 +1,4 @@
-use Rattle.std.proofs.Common.{◌∙◌, sym, ap, arith, length}
+use Rattle.std.proofs.Common.{◌∙◌, ap, arith, length}
 use Rattle.program_stretches.specs.Parts.{without_puts}
 use Rattle.program_stretches.proofs.Along.{half_next, half_whole, half_none, in_turn_more, in_turn_all}
 use Rattle.program_stretches.proofs.hand_over.give_all_puts.Goals as goal

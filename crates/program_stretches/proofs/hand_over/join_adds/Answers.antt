@@ -1,9 +1,8 @@
-use Rattle.std.proofs.Common.{◌≡◌, ◌++◌, ◌∙◌, [], true, List, Result, Ok, Err, map, ap, sym, append-nil}
+use Rattle.std.proofs.Common.{◌++◌, ◌∙◌, List, Result, Ok, Err, map, ap, append-nil}
 use Rattle.std.specs.Prelude.{OnOk}
 use Rattle.std.specs.List.{list_all}
 use Rattle.superstep_memory.specs.declared.arrays.Put.{Put}
 use Rattle.superstep_memory.specs.Landing.{is_set}
-use Rattle.program_stretches.specs.PartValue.{PartValue}
 use Rattle.program_stretches.specs.Parts.{puts_in, without_puts}
 use Rattle.program_stretches.proofs.InTurn.{no_puts, no_puts_twice}
 use Rattle.program_stretches.proofs.hand_over.join_adds.Goals as goal

@@ -1,4 +1,4 @@
-use Rattle.std.proofs.Common.{◌∙◌, sym, ap, arith, length}
+use Rattle.std.proofs.Common.{◌∙◌, ap, arith, length}
 use Rattle.program_stretches.specs.Parts.{renewed}
 use Rattle.program_stretches.proofs.Along.{half_next, half_whole}
 use Rattle.program_stretches.proofs.hand_over.renew_all.Goals as goal

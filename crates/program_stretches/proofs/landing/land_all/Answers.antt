@@ -1,5 +1,5 @@
-use Rattle.std.proofs.Common.{◌≡◌, ◌∙◌, Some, None, [], ap, sym}
-use Rattle.superstep_memory.specs.Landing.{landed, over_in}
+use Rattle.std.proofs.Common.{◌∙◌, ap, sym}
+use Rattle.superstep_memory.specs.Landing.{landed}
 use Rattle.superstep_memory.proofs.Landed.{landed_append}
 use Rattle.program_stretches.specs.Parts.{puts_in}
 use Rattle.program_stretches.proofs.InTurn.{over_front, over_sets}

@@ -1,4 +1,4 @@
-use Rattle.std.proofs.Common.{◌≡◌, arith, ◌+◌, ◌∙◌, ℕ, List, Option, drop, ap}
+use Rattle.std.proofs.Common.{arith, ◌+◌, List, Option, drop, ap}
 use Rattle.programs.specs.InPlace.{spawned_in}
 use Rattle.program_stretches.specs.PartValue.{PartValue}
 use Rattle.program_stretches.specs.Parts.{of_slot, deeds_in}

@@ -1,4 +1,4 @@
-use Rattle.std.proofs.Common.{◌≡◌, ◌++◌, ◌∙◌, List, Result, Ok, Err, map, ap, sym, subst}
+use Rattle.std.proofs.Common.{◌≡◌, ◌++◌, ◌∙◌, List, Result, Ok, Err, map, ap, subst}
 use Rattle.superstep_memory.specs.declared.arrays.Put.{Put}
 use Rattle.std.specs.Prelude.{OnOk}
 use Rattle.programs.specs.DeedValue.{DeedValue}

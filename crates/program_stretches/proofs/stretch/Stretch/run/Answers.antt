@@ -1,4 +1,4 @@
-use Rattle.std.proofs.Common.{◌≡◌, ◌∙◌, ℕ, List, ap, sym, subst}
+use Rattle.std.proofs.Common.{◌∙◌, ℕ, List, ap, subst}
 use Rattle.std.specs.Prelude.{ℤ, OnOk}
 use Rattle.program_stretches.specs.Parts.{HasRun, reading_of}
 use Rattle.program_stretches.specs.StretchesValue.{StretchValue}

@@ -1,8 +1,7 @@
-use Rattle.std.proofs.Common.{◌≡◌, ◌∙◌, ℕ, List, Option, Some, None, ap, sym, refl, subst, slice_set, arith}
+use Rattle.std.proofs.Common.{◌≡◌, ◌∙◌, Option, Some, None, ap, sym, subst, slice_set, arith}
 use Rattle.std.specs.Prelude.{MatchOption}
 use Rattle.std.specs.Vec.{with_item}
 use Rattle.snapshot_log.specs.Agreed.{LogValue}
-use Rattle.program_stretches.specs.PartValue.{PartValue}
 use Rattle.program_stretches.specs.Parts.{reading_of}
 use Rattle.program_stretches.specs.Opening.{OpeningValue}
 use Rattle.program_stretches.specs.StretchesValue.{StretchesValue, StretchValue, with_slot, IsCourse}

@@ -1,10 +1,9 @@
-use Rattle.std.proofs.Common.{◌≡◌, ◌∙◌, true, ℕ, List, [], Option, Some, None, map, ap, sym, subst, refl, inl}
-use Rattle.program_stretches.specs.declared.fault.Outcome.{Outcome}
+use Rattle.std.proofs.Common.{◌≡◌, ◌∙◌, true, List, [], Option, Some, None, map, ap, sym, subst, inl}
 use Rattle.program_stretches.specs.declared.fault.Outcome.TheVariants.{Faulted}
 use Rattle.program_stretches.specs.PartValue.{PartValue}
 use Rattle.program_stretches.specs.Parts.{reading_of, covers, fault_in, tasks_in, puts_in, deeds_in, prints_in}
 use Rattle.program_stretches.specs.Opening.{live_of}
-use Rattle.program_stretches.specs.StretchesValue.{StretchesValue, status_in, IsCourse, HaveRun}
+use Rattle.program_stretches.specs.StretchesValue.{StretchesValue, status_in, HaveRun}
 use Rattle.program_stretches.specs.StretchesView.{stretches_of}
 use Rattle.program_stretches.specs.Closing.{EndsBy, IsClosed}
 use Rattle.program_stretches.proofs.Closed.{after_with, closed_from, closed_end, open_now, begun_now, run_now, fault_now}

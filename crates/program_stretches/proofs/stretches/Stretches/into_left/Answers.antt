@@ -1,10 +1,10 @@
-use Rattle.std.proofs.Common.{◌≡◌, ◌∙◌, true, false, List, [], Some, Bool, ap, sym, refl}
+use Rattle.std.proofs.Common.{◌≡◌, ◌∙◌, true, false, [], Some, Bool, ap, sym}
 use Rattle.std.specs.Prelude.{not, ◌||◌, if◌then◌else◌}
 use Rattle.std.specs.Option.{option_map}
 use Rattle.phase_records.specs.StatusSeen.{status_seen}
 use Rattle.phase_records.specs.ReportValue.{ReportValue}
 use Rattle.program_stretches.specs.Parts.{reading_of, covers, tasks_in}
-use Rattle.program_stretches.specs.StretchesValue.{StretchesValue, status_in, is_at_limit}
+use Rattle.program_stretches.specs.StretchesValue.{StretchesValue, status_in}
 use Rattle.program_stretches.specs.StretchesView.{stretches_of}
 use Rattle.program_stretches.proofs.Closed.{has_left}
 use Rattle.program_stretches.proofs.stretches.Stretches.into_left.Goals as goal

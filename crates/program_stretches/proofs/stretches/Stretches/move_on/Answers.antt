@@ -1,4 +1,4 @@
-use Rattle.std.proofs.Common.{◌≡◌, ◌+◌, ◌≤◌, ◌++◌, ◌∷◌, ◌∙◌, [], None, List, length, map, ap, sym, subst, refl, inl, arith}
+use Rattle.std.proofs.Common.{◌≡◌, ◌+◌, ◌++◌, ◌∷◌, ◌∙◌, [], List, length, map, ap, sym, subst, inl, arith}
 use Rattle.superstep_memory.specs.Landing.{landed, over_in}
 use Rattle.superstep_memory.specs.PathOrder.{in_path_order}
 use Rattle.phase_records.specs.declared.record.PhaseRecord.{PhaseRecord}

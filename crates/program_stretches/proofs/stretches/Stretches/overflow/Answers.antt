@@ -1,4 +1,4 @@
-use Rattle.std.proofs.Common.{◌≡◌, ◌∙◌, refl, ap, sym, subst, Some, None, Option, ℕ, List, map}
+use Rattle.std.proofs.Common.{◌≡◌, ◌∙◌, ap, sym, subst, Some, None, Option, ℕ, List, map}
 use Rattle.program_stretches.specs.declared.fault.Outcome.TheVariants.{Overflowed}
 use Rattle.program_stretches.specs.Parts.{reading_of}
 use Rattle.program_stretches.specs.Opening.{live_of}

@@ -5,7 +5,7 @@ use Rattle.snapshot_log.specs.Agreed.{LogValue}
 use Rattle.program_stretches.specs.PartValue.{PartValue}
 use Rattle.program_stretches.specs.Parts.{reading_of, IsPartOf}
 use Rattle.program_stretches.specs.Opening.{OpeningValue, live_of}
-use Rattle.program_stretches.specs.StretchesValue.{StretchesValue, StretchValue, ready_at, with_slot, IsCourse}
+use Rattle.program_stretches.specs.StretchesValue.{StretchesValue, ready_at, with_slot, IsCourse}
 use Rattle.program_stretches.specs.StretchesView.{stretches_of}
 use Rattle.program_stretches.proofs.Owning.{ready_part, own_get}
 use Rattle.program_stretches.proofs.Course.{is_open, course_slot}
