@@ -3,6 +3,7 @@ use std::rt::Clock;
 use std::sync::{Mutex, Wait};
 use std::time::Instant;
 use step_core::{NoWatch, Watch};
+use superstep_memory::arrays::Arrays;
 use superstep_memory::path::Path;
 use worker_pool::Gate;
 
@@ -126,7 +127,7 @@ pub(crate) struct AloneTeller<'a, T: Clock + Eprint> {
 }
 
 impl<T: Clock + Eprint> Watch for AloneTeller<'_, T> {
-    fn superstep(&mut self, step: u32, tasks: usize) {
+    fn superstep(&mut self, step: u32, _arrays: &Arrays, tasks: usize) {
         let tasks = u32::try_from(tasks).unwrap_or(u32::MAX);
         self.seen = seen_after(self.rt, self.seen, step, tasks);
     }
@@ -157,12 +158,19 @@ impl<'a, T: Clock + Eprint> Teller<'a, T> {
 }
 
 impl<T: Clock + Eprint> Gate for Teller<'_, T> {
+    fn is_open(&self) -> bool {
+        true
+    }
+
+    fn stretch<R: Wait>(&self, rt: &R, step: u32, tasks: usize) {
+        let tasks = u32::try_from(tasks).unwrap_or(u32::MAX);
+        let mut seen = self.seen.lock(rt);
+        *seen = seen_after(self.rt, *seen, step, tasks);
+    }
+
     fn enter<R: Wait>(&self, _rt: &R, _path: &Path, _step: u32) {}
 
-    fn leave<R: Wait>(&self, rt: &R, _path: &Path, step: u32) {
-        let mut seen = self.seen.lock(rt);
-        *seen = seen_after(self.rt, *seen, step, 1);
-    }
+    fn leave<R: Wait>(&self, _rt: &R, _path: &Path, _step: u32) {}
 }
 
 impl<'a, T: Clock + Eprint> Progress for Teller<'a, T> {

@@ -2,35 +2,20 @@
 //! in a graph, its ranks, and the game of life.
 #![tactic(auto)]
 
-mod life;
-mod queue;
-mod rank;
-mod rod;
-mod search;
+mod exact;
 
-use life::{Life, Rows};
+use exact::{ExactRod, pieces};
+use example_tasks::life::next;
+use example_tasks::queue::{CAME, Shop, TIME, WENT};
+use example_tasks::rank::Ranks;
+use example_tasks::rod::{Rod, UntilWarm};
+use example_tasks::search::{DISTANCES, Graph, ROUNDS};
+use example_tasks::start;
 use phase_records::{JobStatus, Report};
-use queue::{CAME, Role, Shop, TIME, WENT};
-use rank::Ranks;
-use rod::{Block, Rod, UntilWarm};
-use search::{DISTANCES, Graph, Nodes, ROUNDS};
 use std::alloc::{AllocError, Global};
 use superstep_memory::arrays::Arrays;
-use task_bodies::kernel::{Span, Stencil};
-use task_bodies::run::{RunFault, run_bodies, run_bodies_watched};
-
-// Adds an array of so many cells that hold this.
-fn add(
-    alloc: Global,
-    arrays: &mut Arrays,
-    name: &str,
-    count: usize,
-    value: i64,
-) -> Result<(), AllocError> {
-    let cells = Vec::from_elem(alloc, value, count)?;
-    arrays.add(String::from_str(alloc, name)?, cells)?;
-    Ok(())
-}
+use task_bodies::kernel::{Cells, Grid, Map, Reduce, Span, Stencil, Window};
+use task_bodies::run::{RunFault, run_bodies, run_bodies_watched, run_exactly};
 
 // How many supersteps were taken.
 fn steps(report: &Report) -> u32 {
@@ -52,39 +37,23 @@ fn cell(report: &Report, array: u16, index: u32) -> i64 {
     report.arrays.cell(array, i64::from(index)).unwrap_or(0)
 }
 
-// A rod of 4096 cells, of which the first is hot.
-fn hot_end(alloc: Global) -> Result<Arrays, AllocError> {
-    let mut arrays = Arrays::new(alloc);
-    let mut cells = Vec::from_elem(alloc, 0, 4096)?;
-    cells[0] = 1_000_000_000_000;
-    arrays.add(String::from_str(alloc, "rod")?, cells)?;
-    Ok(arrays)
-}
-
-// The rod in 46 blocks.
-fn blocks(alloc: Global) -> Result<Vec<Block>, AllocError> {
-    let mut blocks = Vec::new(alloc);
-    for number in 0..46 {
-        blocks.push(Block {
-            before: number * 89,
-            end: number * 89 + 89,
-        })?;
-    }
-    Ok(blocks)
-}
-
 // The rod after 1000 supersteps.
 fn cool(alloc: Global) -> Result<Report, RunFault> {
-    let arrays = hot_end(alloc)?;
-    let blocks = blocks(alloc)?;
-    let ran = run_bodies(alloc, &Rod { last: 999 }, arrays, blocks, 46, 1000)?;
+    let start = start::rod(alloc)?;
+    let ran = run_bodies(
+        alloc,
+        &Rod { last: 999 },
+        start.arrays,
+        start.tasks,
+        46,
+        1000,
+    )?;
     Ok(ran.report)
 }
 
 // The rod as soon as cell 20 is warm.
 fn warm(alloc: Global) -> Result<Report, RunFault> {
-    let arrays = hot_end(alloc)?;
-    let blocks = blocks(alloc)?;
+    let start = start::rod(alloc)?;
     let mut watch = UntilWarm {
         cell: 20,
         least: 1_000_000_000,
@@ -92,8 +61,8 @@ fn warm(alloc: Global) -> Result<Report, RunFault> {
     let ran = run_bodies_watched(
         alloc,
         &Rod { last: 999 },
-        arrays,
-        blocks,
+        start.arrays,
+        start.tasks,
         46,
         1000,
         &mut watch,
@@ -103,12 +72,12 @@ fn warm(alloc: Global) -> Result<Report, RunFault> {
 
 // The same rod, by a closure.
 fn cool_by_closure(alloc: Global) -> Result<Report, RunFault> {
-    let arrays = hot_end(alloc)?;
+    let start = start::rod(alloc)?;
     let mut spans = Vec::new(alloc);
-    for number in 0..46 {
+    for block in start.tasks.iter() {
         spans.push(Span {
-            before: number * 89,
-            end: number * 89 + 89,
+            before: block.before,
+            end: block.end,
         })?;
     }
     let stencil = Stencil {
@@ -120,83 +89,128 @@ fn cool_by_closure(alloc: Global) -> Result<Report, RunFault> {
             .wrapping_add(own)
             / 4,
     };
-    let ran = run_bodies(alloc, &stencil, arrays, spans, 46, 1000)?;
+    let ran = run_bodies(alloc, &stencil, start.arrays, spans, 46, 1000)?;
+    Ok(ran.report)
+}
+
+// The same rod, by a body of which is written what it does.
+fn cool_exactly(alloc: Global) -> Result<Report, RunFault> {
+    let start = start::rod(alloc)?;
+    let pieces = pieces(alloc)?;
+    let ran = run_exactly(
+        alloc,
+        &ExactRod { last: 999 },
+        start.arrays,
+        pieces,
+        46,
+        1000,
+    )?;
     Ok(ran.report)
 }
 
 // A shop that is open for 1000 supersteps.
 fn serve(alloc: Global) -> Result<Report, RunFault> {
-    let mut arrays = Arrays::new(alloc);
-    add(alloc, &mut arrays, "shop", 3, 0)?;
-    let mut door = Vec::new(alloc);
-    door.push(Role::Door(1))?;
-    let ran = run_bodies(alloc, &Shop { open: 999 }, arrays, door, 1000, 10000)?;
+    let start = start::shop(alloc)?;
+    let ran = run_bodies(
+        alloc,
+        &Shop { open: 999 },
+        start.arrays,
+        start.tasks,
+        1000,
+        10000,
+    )?;
     Ok(ran.report)
 }
 
-// A graph of 100,000 nodes, in 20 blocks, searched from node 0.
+// A graph of 100,000 nodes, searched from node 0.
 fn find(alloc: Global) -> Result<Report, RunFault> {
-    let mut arrays = Arrays::new(alloc);
-    let mut distances = Vec::from_elem(alloc, -1, 100_000)?;
-    distances[0] = 0;
-    arrays.add(String::from_str(alloc, "distances")?, distances)?;
-    add(alloc, &mut arrays, "rounds", 1, 0)?;
-    let mut blocks = Vec::new(alloc);
-    for number in 0..20 {
-        blocks.push(Nodes {
-            first: number * 5000,
-            end: number * 5000 + 5000,
-        })?;
-    }
-    let ran = run_bodies(alloc, &Graph { nodes: 100_000 }, arrays, blocks, 20, 10000)?;
+    let start = start::graph(alloc)?;
+    let ran = run_bodies(
+        alloc,
+        &Graph { nodes: 100_000 },
+        start.arrays,
+        start.tasks,
+        20,
+        10000,
+    )?;
     Ok(ran.report)
 }
 
-// The graph of 1000 nodes, in 10 blocks, after 20 rounds.
+// The graph of 1000 nodes after 20 rounds.
 fn ranked(alloc: Global) -> Result<Report, RunFault> {
-    let mut arrays = Arrays::new(alloc);
-    add(alloc, &mut arrays, "ranks", 1000, 1_000_000_000)?;
-    add(alloc, &mut arrays, "sums", 1000, 0)?;
-    let mut blocks = Vec::new(alloc);
-    for number in 0..10 {
-        blocks.push(Nodes {
-            first: number * 100,
-            end: number * 100 + 100,
-        })?;
-    }
+    let start = start::ranks(alloc)?;
     let graph = Graph { nodes: 1000 };
-    let ran = run_bodies(alloc, &Ranks { graph, last: 39 }, arrays, blocks, 10, 40)?;
+    let ran = run_bodies(
+        alloc,
+        &Ranks { graph, last: 39 },
+        start.arrays,
+        start.tasks,
+        10,
+        40,
+    )?;
     Ok(ran.report)
 }
 
-// A field of 512 rows and columns, in the middle of which five cells live.
-fn five(alloc: Global) -> Result<Arrays, AllocError> {
-    let mut arrays = Arrays::new(alloc);
-    let mut cells = Vec::from_elem(alloc, 0, 262_144)?;
-    for place in [130_817, 130_818, 131_328, 131_329, 131_841] {
-        if let Some(cell) = cells.get_mut(place) {
-            *cell = 1;
-        }
-    }
-    arrays.add(String::from_str(alloc, "field")?, cells)?;
-    Ok(arrays)
+// The board after 30 supersteps.
+fn live(alloc: Global) -> Result<Report, RunFault> {
+    let start = start::board(alloc)?;
+    let life = Grid {
+        array: 0,
+        width: 512,
+        beyond: 0,
+        last: 29,
+        f: |cells: Window| next(cells),
+    };
+    let ran = run_bodies(alloc, &life, start.arrays, start.tasks, 16, 30)?;
+    Ok(ran.report)
 }
 
-// The field after 30 supersteps, in 16 blocks of rows.
-fn live(alloc: Global) -> Result<Report, RunFault> {
-    let arrays = five(alloc)?;
-    let mut blocks = Vec::new(alloc);
-    for number in 0..16 {
-        blocks.push(Rows {
-            first: number * 32,
-            end: number * 32 + 32,
+// Spans of so many cells, so many of them.
+fn spans(alloc: Global, count: u32, size: u32) -> Result<Vec<Cells>, AllocError> {
+    let mut spans = Vec::new(alloc);
+    for number in 0..count {
+        let first = number.wrapping_mul(size);
+        spans.push(Cells {
+            first,
+            end: first.wrapping_add(size),
         })?;
     }
-    let life = Life {
-        width: 512,
-        last: 29,
+    Ok(spans)
+}
+
+// The sum of the squares of 0 to 999, by two kernels: the first squares, the second adds up into a cell of its own array.
+fn squares(alloc: Global) -> Result<Report, RunFault> {
+    let mut arrays = Arrays::new(alloc);
+    let mut numbers = Vec::new(alloc);
+    for number in 0..1000 {
+        numbers.push(number)?;
+    }
+    arrays.add(String::from_str(alloc, "numbers")?, numbers)?;
+    arrays.add(
+        String::from_str(alloc, "sum")?,
+        Vec::from_elem(alloc, 0, 1)?,
+    )?;
+    let square = Map {
+        from: 0,
+        into: 0,
+        last: 0,
+        f: |it: i64| it.wrapping_mul(it),
     };
-    let ran = run_bodies(alloc, &life, arrays, blocks, 16, 30)?;
+    let squared = run_bodies(alloc, &square, arrays, spans(alloc, 10, 100)?, 10, 1)?;
+    let add_up = Reduce {
+        array: 0,
+        into: 1,
+        cell: 0,
+        f: |it: i64| it,
+    };
+    let ran = run_bodies(
+        alloc,
+        &add_up,
+        squared.report.arrays,
+        spans(alloc, 10, 100)?,
+        10,
+        1,
+    )?;
     Ok(ran.report)
 }
 
@@ -220,11 +234,21 @@ fn warm_numbers(alloc: Global) -> Result<(u32, i64), RunFault> {
     Ok((steps(&report), cell(&report, 0, 20)))
 }
 
-// Whether the closure leaves what the body leaves.
-fn is_same(alloc: Global) -> Result<bool, RunFault> {
+// Whether the closure leaves what the body leaves, and whether the exact body does.
+fn are_same(alloc: Global) -> Result<(bool, bool), RunFault> {
     let one = cool(alloc)?;
-    let other = cool_by_closure(alloc)?;
-    Ok(one.arrays.same_as(&other.arrays))
+    let closure = cool_by_closure(alloc)?;
+    let exact = cool_exactly(alloc)?;
+    Ok((
+        one.arrays.same_as(&closure.arrays),
+        one.arrays.same_as(&exact.arrays),
+    ))
+}
+
+// The sum of the squares.
+fn square_numbers(alloc: Global) -> Result<i64, RunFault> {
+    let report = squares(alloc)?;
+    Ok(cell(&report, 1, 0))
 }
 
 // Supersteps, who came, who went, and for how long they were there.
@@ -266,8 +290,8 @@ fn main(rt: HostRuntime) -> anyhow::Result<()> {
     println!(rt; "rod: {steps} supersteps, cells {ten} {seventy}")?;
     let (steps, twenty) = warm_numbers(alloc)?;
     println!(rt; "rod: cell 20 is warm after {steps} supersteps: {twenty}")?;
-    let same = is_same(alloc)?;
-    println!(rt; "by a closure the same: {same}")?;
+    let (closure, exact) = are_same(alloc)?;
+    println!(rt; "by a closure the same: {closure}, by an exact body: {exact}")?;
     let (steps, came, went, time) = shop_numbers(alloc)?;
     println!(rt; "shop: {steps} supersteps, {came} came, {went} went, {time} in all")?;
     let (steps, nodes, last) = graph_numbers(alloc)?;
@@ -278,5 +302,7 @@ fn main(rt: HostRuntime) -> anyhow::Result<()> {
     println!(rt; "ranks: {first} {second} {eighth}")?;
     let (steps, living) = life_numbers(alloc)?;
     println!(rt; "life: {living} cells live after {steps} supersteps")?;
+    let sum = square_numbers(alloc)?;
+    println!(rt; "squares: {sum}")?;
     Ok(())
 }

@@ -8,8 +8,8 @@ use itoa::{Buffer, Integer};
 use job_reader::{Code, Refusal};
 use std::alloc::{AllocError, Global};
 
-// Returns the name of a code.
-fn code_name(code: Code) -> &'static str
+/// Returns the name of a code.
+pub fn code_name(code: Code) -> &'static str
     ensures { result.now ≡ code_name code }
 {
     match code {

@@ -1,4 +1,5 @@
 pub mod Behind
+pub mod Boards
 pub mod Joins
 pub mod Strips
 pub mod Working

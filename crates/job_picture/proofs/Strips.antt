@@ -1,5 +1,5 @@
 -- Strips of arrays, one after another.
-use Rattle.std.proofs.Common.{◌≡◌, ℕ, zero, suc, ◌+◌, List, [], ◌∷◌, ◌++◌, drop, Some, None, refl, sym, ap, ◌∙◌, append_assoc, add-one}
+use Rattle.std.proofs.Common.{◌≡◌, ℕ, zero, suc, ◌+◌, ◌*◌, List, [], ◌∷◌, ◌++◌, drop, Some, None, refl, sym, ap, ◌∙◌, append_assoc, add-one}
 use Rattle.std.specs.Prelude.{slice_get, ℤ}
 use Rattle.job_picture.specs.Cells.{strip, strips_from}
 
@@ -16,11 +16,11 @@ drop_past (x ∷ xs) (suc i) h = drop_past xs i h
 
 -- one array more
 pub next_strip : (xs : List (List ℕ × List ℤ)) (i : ℕ) (a : List ℕ × List ℤ) (out new all : List ℕ) → Some a ≡ slice_get xs i
-    → new ≡ out ++ strip i a → out ++ strips_from i (drop i xs) ≡ all → new ++ strips_from (i + 1) (drop (i + 1) xs) ≡ all
+    → new ≡ out ++ strip (310 + 50 * i) a → out ++ strips_from i (drop i xs) ≡ all → new ++ strips_from (i + 1) (drop (i + 1) xs) ≡ all
 next_strip xs i a out new all g e h =
     ap (λ (ys : List ℕ). ys ++ strips_from (i + 1) (drop (i + 1) xs)) e
-    ∙ append_assoc out (strip i a) (strips_from (i + 1) (drop (i + 1) xs))
-    ∙ ap (λ (k : ℕ). out ++ (strip i a ++ strips_from (i + 1) (drop k xs))) (add-one i)
+    ∙ append_assoc out (strip (310 + 50 * i) a) (strips_from (i + 1) (drop (i + 1) xs))
+    ∙ ap (λ (k : ℕ). out ++ (strip (310 + 50 * i) a ++ strips_from (i + 1) (drop k xs))) (add-one i)
     ∙ ap (λ (ys : List (List ℕ × List ℤ)). out ++ strips_from i ys) (sym (drop_at xs i a (sym g)))
     ∙ h
 

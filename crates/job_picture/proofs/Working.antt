@@ -1,9 +1,14 @@
--- One picture, worked out.
+-- One picture and panels, worked out.
 use Rattle.std.proofs.Common.{refl}
 use Rattle.std.specs.Fmt as fmt
-use Rattle.job_picture.specs.Picture.{file}
+use Rattle.job_picture.specs.Picture.{file, plain}
 use Rattle.job_picture.specs.Worked.{PicturesAreWorkedOut}
+use Rattle.job_picture.specs.WorkedPanels.{PanelsAreWorkedOut}
 
 pub pictures_are_worked_out : PicturesAreWorkedOut
-unfolding file fmt.digits
+unfolding file plain fmt.digits
 pictures_are_worked_out = record { faulted = refl; ended = refl; limited = refl; pairs = refl; alone = refl; shared = refl }
+
+pub panels_are_worked_out : PanelsAreWorkedOut
+unfolding fmt.digits
+panels_are_worked_out = record { board = refl; over_time = refl; boards = refl; missing = refl; board_height = refl; over_time_height = refl; boards_height = refl; named = refl }

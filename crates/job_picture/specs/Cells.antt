@@ -1,14 +1,14 @@
 -- An array as a strip of cells (own): a cell is one unit wide.
-use Rattle.std.specs.Prelude.{ℕ, ◌+◌, ◌-◌, ◌*◌, ◌/◌, min, max, ◌==◌, nat_le, if◌then◌else◌, ℤ, pos, ◌-ℤ◌, unsigned_abs, List, [], ◌∷◌, ◌++◌, length, codes, decimal}
+use Rattle.std.specs.Prelude.{ℕ, ◌+◌, ◌-◌, ◌*◌, ◌/◌, min, max, ◌==◌, nat_le, nat_lt, if◌then◌else◌, ℤ, pos, ◌-ℤ◌, unsigned_abs, List, [], ◌∷◌, ◌++◌, length, codes, decimal}
 use Rattle.std.specs.List.{fold, flat_map}
 use Rattle.std.specs.Int.{int_min, int_max}
 use Rattle.std.specs.Fmt.{signed_decimal}
 use Rattle.job_picture.specs.declared.cells.Extent.{Extent}
 
--- a byte of a name as a text of XML may hold it
+-- a byte of a name as a text of XML may hold it; one that none may hold is a space
 abbrev pub escaped : ℕ → List ℕ
 escaped b =
-    if b == 38 then codes "&amp;" else if b == 60 then codes "&lt;" else if b == 62 then codes "&gt;" else b ∷ []
+    if b == 38 then codes "&amp;" else if b == 60 then codes "&lt;" else if b == 62 then codes "&gt;" else if nat_lt b 32 then codes " " else b ∷ []
 
 abbrev pub least : List ℤ → ℤ
 least [] = pos 0
@@ -62,22 +62,21 @@ few_values values =
 abbrev pub shown_values : List ℤ → List ℕ
 shown_values values = if nat_le (length values) 64 then few_values values else []
 
--- what stands over the cells of the array that so many others stand before: its name, how many cells it has, the least and
--- the greatest
+-- what stands over the cells of an array, so far below the top: its name, how many cells it has, the least and the greatest
 abbrev pub caption : ℕ → List ℕ → ℕ → Extent → List ℕ
-caption place name count e =
-    codes "<g transform=\"translate(0," ++ decimal (310 + 50 * place) ++ codes ")\"><text class=\"k\" x=\"80\" y=\"12\">" ++ flat_map escaped name
-    ++ codes ": cells " ++ decimal count ++ codes ", least " ++ signed_decimal e.low ++ codes ", greatest " ++ signed_decimal e.high ++ codes "</text>\n"
+caption top name count e =
+    codes "<g transform=\"translate(0," ++ decimal top ++ codes ")\"><text class=\"k\" x=\"80\" y=\"12\">" ++ flat_map escaped name
+    ++ codes ": cells " ++ decimal count ++ codes ", least " ++ signed_decimal e.low ++ codes ", greatest " ++ signed_decimal e.high
 
 -- and the array
 abbrev pub strip : ℕ → List ℕ × List ℤ → List ℕ
-strip place a =
-    caption place a.0 (length a.1) (extent_of a.1)
-    ++ codes "<svg x=\"80\" y=\"18\" width=\"800\" height=\"25\" viewBox=\"0 0 " ++ decimal (length a.1)
+strip top a =
+    caption top a.0 (length a.1) (extent_of a.1)
+    ++ codes "</text>\n<svg x=\"80\" y=\"18\" width=\"800\" height=\"25\" viewBox=\"0 0 " ++ decimal (length a.1)
     ++ codes " 1\" preserveAspectRatio=\"none\" overflow=\"visible\"><g class=\"c\">\n" ++ cells_from (extent_of a.1) (length a.1) a.1 ++ codes "</g>\n"
     ++ shown_values a.1 ++ codes "</svg><path class=\"o\" d=\"M80 18h800v25h-800z\"/></g>\n"
 
 -- arrays, the first of which so many others stand before
 abbrev pub strips_from : ℕ → List (List ℕ × List ℤ) → List ℕ
 strips_from place [] = []
-strips_from place (a ∷ rest) = strip place a ++ strips_from (place + 1) rest
+strips_from place (a ∷ rest) = strip (310 + 50 * place) a ++ strips_from (place + 1) rest

@@ -1,13 +1,15 @@
 -- The picture of a report, as the text of an SVG file (own): a title, a column a superstep, and the arrays below.
-use Rattle.std.specs.Prelude.{ℕ, ◌+◌, ◌-◌, ◌*◌, max, nat_lt, if◌then◌else◌, ℤ, List, [], ◌++◌, length, codes, decimal}
+use Rattle.std.specs.Prelude.{ℕ, ◌+◌, ◌-◌, ◌*◌, max, nat_lt, if◌then◌else◌, ℤ, List, [], ◌++◌, length, codes, decimal, Option, Some, None}
 use Rattle.std.specs.List.{flat_map}
 use Rattle.std.specs.Int.{div_ceil}
 use Rattle.phase_records.specs.ReportValue.{ReportValue}
 use Rattle.phase_records.specs.Status.{Status, Ended, Fault, Limit}
 use Rattle.job_picture.specs.Axes.{party_tick, step_tick, ticks}
-use Rattle.job_picture.specs.Cells.{strips_from}
+use Rattle.job_picture.specs.Cells.{escaped, strips_from}
 use Rattle.job_picture.specs.Columns.{bars, columns_of, greatest, joined, tick}
+use Rattle.job_picture.specs.Panels.{height_of, panels_from}
 use Rattle.job_picture.specs.declared.columns.Column.{Column}
+use Rattle.job_picture.specs.declared.panels.Panel.{Panel}
 
 -- how many supersteps share a column, so that there are 4000 columns at most
 abbrev pub group_of : ℕ → ℕ
@@ -31,15 +33,20 @@ shared_by group = codes ", each column the greatest of " ++ decimal group ++ cod
 abbrev pub sharing : ℕ → List ℕ
 sharing group = if nat_lt 1 group then shared_by group else []
 
-abbrev pub title : ℕ → ℕ → Status → List ℕ
-title steps most status =
-    codes "<text class=\"t\" x=\"20\" y=\"24\">supersteps " ++ decimal steps ++ codes ", parties at most " ++ decimal most ++ codes ", " ++ ending status
+-- a name of its own
+abbrev pub named : Option (List ℕ) → List ℕ
+named None = []
+named (Some name) = flat_map escaped name ++ codes ": "
+
+abbrev pub title : Option (List ℕ) → ℕ → ℕ → Status → List ℕ
+title name steps most status =
+    codes "<text class=\"t\" x=\"20\" y=\"24\">" ++ named name ++ codes "supersteps " ++ decimal steps ++ codes ", parties at most " ++ decimal most ++ codes ", " ++ ending status
     ++ sharing (group_of steps) ++ codes "</text>\n"
 
--- the size, and the colours of each class
+-- the size, so high, and the colours of each class
 abbrev pub head : ℕ → List ℕ
-head arrays =
-    codes "<svg xmlns=\"http://www.w3.org/2000/svg\" viewBox=\"0 0 920 " ++ decimal (320 + 50 * arrays) ++ codes "\" font-family=\"sans-serif\" font-size=\"12\">\n"
+head high =
+    codes "<svg xmlns=\"http://www.w3.org/2000/svg\" viewBox=\"0 0 920 " ++ decimal high ++ codes "\" font-family=\"sans-serif\" font-size=\"12\">\n"
     ++ codes "<style>.p,.c{fill:#6d9fd6}.l{fill:#d9776c}.s{fill:#6fbf73}.d{fill:#444}.t{font-size:15px;font-weight:bold}.n{text-anchor:end}.m,.v{text-anchor:middle}.a{stroke:#ccc}.o{fill:none;stroke:#999}</style>\n"
     ++ codes "<rect width=\"100%\" height=\"100%\" fill=\"#fff\"/>\n"
 
@@ -84,14 +91,24 @@ abbrev pub most_parties : ReportValue → ℕ
 most_parties r = (greatest (columns_of r.prints r.records)).told.parties
 
 -- so many supersteps, with so many parties at most, as these columns
-abbrev pub supersteps : ℕ → ℕ → Status → List Column → List ℕ
-supersteps steps most status columns =
-    title steps most status ++ legend ++ lines (max most 1) ++ heights (max steps 1) (max most 1) columns ++ below (max steps 1) columns
+abbrev pub supersteps : Option (List ℕ) → ℕ → ℕ → Status → List Column → List ℕ
+supersteps name steps most status columns =
+    title name steps most status ++ legend ++ lines (max most 1) ++ heights (max steps 1) (max most 1) columns ++ below (max steps 1) columns
 
--- the whole of so many supersteps, with so many parties at most, and of these arrays
-unfoldable pub file : ℕ → ℕ → Status → List Column → List (List ℕ × List ℤ) → List ℕ
-file steps most status columns arrays =
-    head (length arrays) ++ supersteps steps most status columns ++ strips_from 0 arrays ++ codes "</svg>\n"
+-- the whole of so many supersteps, with so many parties at most, and of these panels
+unfoldable pub file : Option (List ℕ) → ℕ → ℕ → Status → List Column → List Panel → List ℕ
+file name steps most status columns panels =
+    head (320 + height_of panels) ++ supersteps name steps most status columns ++ panels_from 310 panels ++ codes "</svg>\n"
 
+-- the whole without a name, and of these arrays as strips
+unfoldable pub plain : ℕ → ℕ → Status → List Column → List (List ℕ × List ℤ) → List ℕ
+plain steps most status columns arrays =
+    head (320 + 50 * length arrays) ++ supersteps None steps most status columns ++ strips_from 0 arrays ++ codes "</svg>\n"
+
+-- a report with a name of its own, below which these panels are drawn in place of its arrays
+abbrev pub picture_with : Option (List ℕ) → List Panel → ReportValue → List ℕ
+picture_with name panels r = file name (length r.records) (most_parties r) r.status (shown_columns r) panels
+
+-- a report without a name, and each of its arrays as a strip
 abbrev pub picture : ReportValue → List ℕ
-picture r = file (length r.records) (most_parties r) r.status (shown_columns r) r.arrays
+picture r = plain (length r.records) (most_parties r) r.status (shown_columns r) r.arrays

@@ -25,8 +25,8 @@ use itoa::Buffer;
 use std::alloc::AllocError;
 use superstep_memory::arrays::Arrays;
 
-// Appends a name, escaped for XML.
-fn push_escaped(out: &mut Vec<u8>, name: &[u8]) -> Result<(), AllocError>
+/// Appends a name, escaped for XML.
+pub(crate) fn push_escaped(out: &mut Vec<u8>, name: &[u8]) -> Result<(), AllocError>
     ensures { OnOk result (out.new.items ≡ out.old.items ++ flat_map escaped name.now) }
 {
     let mut rest = name;
@@ -35,6 +35,7 @@ fn push_escaped(out: &mut Vec<u8>, name: &[u8]) -> Result<(), AllocError>
             b'&' => push_text(out, b"&amp;")?,
             b'<' => push_text(out, b"&lt;")?,
             b'>' => push_text(out, b"&gt;")?,
+            0..32 => push_text(out, b" ")?,
             other => push_text(out, &[other])?,
         }
         rest = after;
@@ -79,8 +80,8 @@ pub(crate) struct Extent {
     pub(crate) high: i64,
 }
 
-// The least and the greatest of these values.
-fn range_of(values: &[i64]) -> Extent
+/// The least and the greatest of these values.
+pub(crate) fn range_of(values: &[i64]) -> Extent
     ensures { result ≡ extent_of values.now }
 {
     Extent {
@@ -89,8 +90,8 @@ fn range_of(values: &[i64]) -> Extent
     }
 }
 
-// How far up a value lies between the least and the greatest, in ninths.
-fn shade(extent: Extent, value: &i64) -> u128
+/// How far up a value lies between the least and the greatest, in ninths.
+pub(crate) fn shade(extent: Extent, value: &i64) -> u128
     ensures { result ≡ shade_of extent value.now }
 {
     let span = u128::from(extent.high.abs_diff(extent.low));
@@ -188,40 +189,40 @@ fn push_shown_values(out: &mut Vec<u8>, values: &[i64]) -> Result<(), AllocError
     Ok(())
 }
 
-// Appends what is above the cells of an array.
-fn push_caption(
+/// Appends what is above the cells of an array, but for its end.
+pub(crate) fn push_caption(
     out: &mut Vec<u8>,
-    place: usize,
+    top: u128,
     name: &str,
     count: usize,
     extent: Extent,
 ) -> Result<(), AllocError>
-    ensures { OnOk result (out.new.items ≡ out.old.items ++ caption place name.now count extent) }
+    ensures { OnOk result (out.new.items ≡ out.old.items ++ caption top name.now count extent) }
 {
-    push_field(
-        out,
-        b"<g transform=\"translate(0,",
-        310 + 50 * u128::from(place as u64),
-    )?;
+    push_field(out, b"<g transform=\"translate(0,", top)?;
     push_text(out, b")\"><text class=\"k\" x=\"80\" y=\"12\">")?;
     push_escaped(out, name.as_bytes())?;
     push_field(out, b": cells ", count)?;
     push_text(out, b", least ")?;
     push_signed(out, &extent.low)?;
     push_text(out, b", greatest ")?;
-    push_signed(out, &extent.high)?;
-    push_text(out, b"</text>\n")
+    push_signed(out, &extent.high)
 }
 
-// Appends an array as the strip at this place.
-fn push_strip(out: &mut Vec<u8>, place: usize, name: &str, values: &[i64]) -> Result<(), AllocError>
-    ensures { OnOk result (out.new.items ≡ out.old.items ++ strip place (name.now, values.now)) }
+/// Appends an array as a strip, so far below the top.
+pub(crate) fn push_strip(
+    out: &mut Vec<u8>,
+    top: u128,
+    name: &str,
+    values: &[i64],
+) -> Result<(), AllocError>
+    ensures { OnOk result (out.new.items ≡ out.old.items ++ strip top (name.now, values.now)) }
 {
     let extent = range_of(values);
-    push_caption(out, place, name, values.len(), extent)?;
+    push_caption(out, top, name, values.len(), extent)?;
     push_field(
         out,
-        b"<svg x=\"80\" y=\"18\" width=\"800\" height=\"25\" viewBox=\"0 0 ",
+        b"</text>\n<svg x=\"80\" y=\"18\" width=\"800\" height=\"25\" viewBox=\"0 0 ",
         values.len(),
     )?;
     push_text(
@@ -243,7 +244,7 @@ pub(crate) fn push_strips(out: &mut Vec<u8>, arrays: &Arrays) -> Result<(), Allo
 {
     for place in 0..arrays.len() {
         if let Some((name, cells)) = arrays.get(place) {
-            push_strip(out, place, name, cells)?;
+            push_strip(out, 310 + 50 * u128::from(place as u64), name, cells)?;
         }
     }
     Ok(())

@@ -1,7 +1,13 @@
-//! A law of pictures. It is the contract of a function without parameters that does nothing.
+//! Laws of pictures. Each is the contract of a function without parameters that does nothing.
 ghost use Rattle.job_picture.specs.Worked.{PicturesAreWorkedOut};
+ghost use Rattle.job_picture.specs.WorkedPanels.{PanelsAreWorkedOut};
 
 /// One picture, line by line; what a title says of how a job ended; and how columns are joined.
 pub fn pictures_are_worked_out()
     ensures { PicturesAreWorkedOut }
+{}
+
+/// A board, an array over supersteps and small boards of an array, line by line, with their heights, and a title with a name.
+pub fn panels_are_worked_out()
+    ensures { PanelsAreWorkedOut }
 {}

@@ -3,7 +3,7 @@
 //! # Where things are
 //!
 //! * `columns.rt`: supersteps as columns; `axes.rt`: the numbers at the axes; `cells.rt`: arrays as strips of
-//!   cells; `picture.rt`: the whole.
+//!   cells; `grids.rt`: cells in rows; `panels.rt`: what is drawn of each array; `picture.rt`: the whole.
 //! * `specs/` has a file for each, and `Worked` with one picture worked out.
 //! * `proofs/Behind.antt`: texts one after another.
 #![tactic(auto)]
@@ -11,8 +11,11 @@
 mod axes;
 mod cells;
 mod columns;
+mod grids;
 pub mod laws;
+mod panels;
 mod picture;
 mod pieces;
 
-pub use picture::picture_of;
+pub use panels::{Form, Panel};
+pub use picture::{picture_of, picture_with};

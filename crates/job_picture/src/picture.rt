@@ -1,5 +1,5 @@
 //! The picture of a report.
-ghost use Rattle.std.specs.Prelude.{◌≡◌, ◌++◌, ◌-◌, ◌<◌, OnOk, IfOk, codes};
+ghost use Rattle.std.specs.Prelude.{◌≡◌, ◌++◌, ◌-◌, ◌<◌, OnOk, IfOk, codes, option_map, None};
 ghost use Rattle.std.specs.List.{flat_map};
 ghost use Rattle.phase_records.specs.StatusSeen.{status_seen};
 ghost use Rattle.job_picture.specs.Picture.{
@@ -13,8 +13,11 @@ ghost use Rattle.job_picture.specs.Picture.{
   legend,
   lines,
   most_parties,
+  named,
   part_head,
   picture,
+  picture_with as told_with,
+  plain,
   shared_by,
   sharing,
   shown_columns as told_shown,
@@ -23,8 +26,9 @@ ghost use Rattle.job_picture.specs.Picture.{
 };
 
 use crate::axes::{push_party_ticks, push_step_ticks};
-use crate::cells::push_strips;
+use crate::cells::{push_escaped, push_strips};
 use crate::columns::{Column, columns_of, greatest, join, push_all_bars, push_all_ticks};
+use crate::panels::{Panel, push_panels, whole_height};
 use crate::pieces::{push_field, push_text};
 use phase_records::{JobStatus, Report};
 use std::alloc::{AllocError, Global};
@@ -78,20 +82,30 @@ fn push_sharing(out: &mut Vec<u8>, group: usize) -> Result<(), AllocError>
     Ok(())
 }
 
+// Appends a name of its own.
+fn push_named(out: &mut Vec<u8>, name: Option<&str>) -> Result<(), AllocError>
+    ensures { OnOk result (out.new.items ≡ out.old.items ++ named (option_map (λ s. s.now) name.entry)) }
+{
+    let Some(name) = name else {
+        return Ok(());
+    };
+    push_escaped(out, name.as_bytes())?;
+    push_text(out, b": ")
+}
+
 // Appends the title.
 fn push_title(
     out: &mut Vec<u8>,
+    name: Option<&str>,
     steps: usize,
     most: u32,
     status: &JobStatus,
 ) -> Result<(), AllocError>
-    ensures { OnOk result (out.new.items ≡ out.old.items ++ title steps most (status_seen status.now)) }
+    ensures { OnOk result (out.new.items ≡ out.old.items ++ title (option_map (λ s. s.now) name.entry) steps most (status_seen status.now)) }
 {
-    push_field(
-        out,
-        b"<text class=\"t\" x=\"20\" y=\"24\">supersteps ",
-        steps,
-    )?;
+    push_text(out, b"<text class=\"t\" x=\"20\" y=\"24\">")?;
+    push_named(out, name)?;
+    push_field(out, b"supersteps ", steps)?;
     push_field(out, b", parties at most ", most)?;
     push_text(out, b", ")?;
     push_ending(out, status)?;
@@ -100,13 +114,13 @@ fn push_title(
 }
 
 // Appends the size and the colours.
-fn push_head(out: &mut Vec<u8>, arrays: usize) -> Result<(), AllocError>
-    ensures { OnOk result (out.new.items ≡ out.old.items ++ head arrays) }
+fn push_head(out: &mut Vec<u8>, high: u128) -> Result<(), AllocError>
+    ensures { OnOk result (out.new.items ≡ out.old.items ++ head high) }
 {
     push_field(
         out,
         b"<svg xmlns=\"http://www.w3.org/2000/svg\" viewBox=\"0 0 920 ",
-        320 + 50 * u128::from(arrays as u64),
+        high,
     )?;
     push_text(out, b"\" font-family=\"sans-serif\" font-size=\"12\">\n")?;
     push_text(
@@ -197,14 +211,15 @@ fn push_below(out: &mut Vec<u8>, steps: usize, columns: &[Column]) -> Result<(),
 // Appends the supersteps as these columns.
 fn push_supersteps(
     out: &mut Vec<u8>,
+    name: Option<&str>,
     steps: usize,
     most: u32,
     status: &JobStatus,
     columns: &[Column],
 ) -> Result<(), AllocError>
-    ensures { OnOk result (out.new.items ≡ out.old.items ++ supersteps steps most (status_seen status.now) columns.now) }
+    ensures { OnOk result (out.new.items ≡ out.old.items ++ supersteps (option_map (λ s. s.now) name.entry) steps most (status_seen status.now) columns.now) }
 {
-    push_title(out, steps, most, status)?;
+    push_title(out, name, steps, most, status)?;
     push_legend(out)?;
     push_lines(out, most.max(1))?;
     push_heights(out, steps.max(1), most.max(1), columns)?;
@@ -226,6 +241,26 @@ fn shown_columns(alloc: Global, report: &Report) -> Result<(Vec<Column>, u32), A
 
 // Appends the whole file.
 fn push_file(
+    alloc: Global,
+    out: &mut Vec<u8>,
+    name: Option<&str>,
+    steps: usize,
+    most: u32,
+    status: &JobStatus,
+    columns: &[Column],
+    panels: &[Panel<'_>],
+) -> Result<(), AllocError>
+    ensures { OnOk result (out.new.items ≡ out.old.items
+        ++ file (option_map (λ s. s.now) name.entry) steps most (status_seen status.now) columns.now panels.now) }
+{
+    push_head(out, whole_height(panels)?)?;
+    push_supersteps(out, name, steps, most, status, columns)?;
+    push_panels(alloc, out, 310, panels)?;
+    push_text(out, b"</svg>\n")
+}
+
+// Appends the whole file, with each array as a strip.
+fn push_plain(
     out: &mut Vec<u8>,
     steps: usize,
     most: u32,
@@ -233,10 +268,10 @@ fn push_file(
     columns: &[Column],
     arrays: &Arrays,
 ) -> Result<(), AllocError>
-    ensures { OnOk result (out.new.items ≡ out.old.items ++ file steps most (status_seen status.now) columns.now arrays.now) }
+    ensures { OnOk result (out.new.items ≡ out.old.items ++ plain steps most (status_seen status.now) columns.now arrays.now) }
 {
-    push_head(out, arrays.len())?;
-    push_supersteps(out, steps, most, status, columns)?;
+    push_head(out, 320 + 50 * u128::from(arrays.len() as u64))?;
+    push_supersteps(out, None, steps, most, status, columns)?;
     push_strips(out, arrays)?;
     push_text(out, b"</svg>\n")
 }
@@ -250,13 +285,39 @@ pub fn picture_of(alloc: Global, report: &Report) -> Result<Vec<u8>, AllocError>
     let (columns, most) = shown_columns(alloc, report)?;
     let mut out = Vec::new(alloc);
     let steps = report.records.len();
-    push_file(
+    push_plain(
         &mut out,
         steps,
         most,
         &report.status,
         &columns,
         &report.arrays,
+    )?;
+    Ok(out)
+}
+
+/// The picture of a report as [`picture_of`] draws it, but with this name before its title, and with these panels in place
+/// of its arrays.
+pub fn picture_with(
+    alloc: Global,
+    report: &Report,
+    name: Option<&str>,
+    panels: &[Panel<'_>],
+) -> Result<Vec<u8>, AllocError>
+    ensures { IfOk result (λ text. text.items ≡ told_with (option_map (λ s. s.now) name.entry) panels.now report.now) }
+{
+    let (columns, most) = shown_columns(alloc, report)?;
+    let mut out = Vec::new(alloc);
+    let steps = report.records.len();
+    push_file(
+        alloc,
+        &mut out,
+        name,
+        steps,
+        most,
+        &report.status,
+        &columns,
+        panels,
     )?;
     Ok(out)
 }

@@ -5,3 +5,5 @@ pub mod Cutting
 pub mod Owning
 pub mod Course
 pub mod Closed
+pub mod Refusing
+pub mod InTurn

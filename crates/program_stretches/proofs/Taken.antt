@@ -134,10 +134,10 @@ module _ {S T : Type 0} (r : Reading S T) (law : (t : S) → r.frame.path (r.mea
       Next new out = IsStepTo r.frame r.may most st new out
 
       -- what the live tasks did
-      ss : List (List ℕ × Segment T)
+      abbrev ss : List (List ℕ × Segment T)
       ss = segments (says_in r.frame most d.entries) st.arrays st.step st.live
 
-      many_there : Option (ℕ × List ℕ)
+      abbrev many_there : Option (ℕ × List ℕ)
       many_there = too_many most (next_live (says_in r.frame most d.entries) ss)
 
       next : (new : State T) → superstep (says_in r.frame most d.entries) st ≡ new → (out : Outcome) → out ≡ outcome_of (says_in r.frame most d.entries) st → Next new out

@@ -8,3 +8,4 @@ pub mod StretchesValue
 pub mod StretchView
 pub mod StretchesView
 pub mod Closing
+pub mod Laws

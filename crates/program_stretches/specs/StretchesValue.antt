@@ -1,6 +1,7 @@
 -- The supersteps of a program by stretches (own).
 use Rattle.std.specs.Prelude.{◌≡◌, ◌≤◌, ◌<◌, ◌⊎◌, ◌^◌, ℕ, zero, suc, ◌+◌, ℤ, nat_le, if◌then◌else◌, Bool, true, false, not, ◌||◌, List, [], ◌∷◌, ◌++◌, map, length, slice_get, slice_set, Option, Some, None, is_some}
 use Rattle.superstep_memory.specs.declared.arrays.Put.{Put}
+use Rattle.superstep_memory.specs.Landing.{over_in}
 use Rattle.programs.specs.DeedValue.{DeedValue}
 use Rattle.atomic_table.specs.Seated.{TableId}
 use Rattle.phase_records.specs.PrintValue.{PrintValue}
@@ -99,6 +100,12 @@ module _ {Q S T : Type 0} where
     pub count : length v.log ≡ v.step + 1
     pub begun : IsAfter m v (map (m v.program).meant (live_of opening))
     pub did : DidAll (m v.program) v.arrays v.step None puts (live_of opening) us ds after
+
+  -- and the put at this place of all their puts overflows
+  pub record OverflowsAt (m : Q → Reading S T) (v : StretchesValue Q S) (us : List S) (ds : List (DeedValue S)) (after : List PrintValue) (place : ℕ) : Type 0 where
+    pub puts : List Put
+    pub run : HaveRun m v puts us ds after
+    pub over : Some place ≡ over_in v.arrays [] 0 puts
 
 abbrev pub status_for : ℕ → ℕ → Option (ℕ × List ℕ) → ℕ → Option Status
 status_for limit step (Some f) count = Some (Fault f.0 step f.1)

@@ -1,9 +1,12 @@
 //! What stretches hand over when their superstep is closed.
-ghost use Rattle.std.specs.Prelude.{◌≡◌, ◌≤◌, ◌+◌, ◌++◌, OnOk, length, map};
+ghost use Rattle.std.specs.Prelude.{◌≡◌, ◌≤◌, ◌+◌, ◌++◌, [], true, IsTrue, OnOk, length, map};
 ghost use Rattle.std.specs.Vec.{vec_len, vec_capacity};
+ghost use Rattle.std.specs.List.{list_all};
+ghost use Rattle.superstep_memory.specs.Landing.{is_set};
 ghost use Rattle.program_stretches.specs.Parts.{of_slot, tasks_in, puts_in, deeds_in, prints_in, without_puts, without_tasks, without_prints, renewed};
 
 use crate::part::Part;
+use crate::parts::are_all_sets;
 use phase_records::Print;
 use programs::deeds::Deeds;
 use programs::program::OnPath;
@@ -21,8 +24,8 @@ fn give_puts<T: OnPath>(slot: &mut Option<Part<T>>, puts: &mut Puts) -> Result<(
     }
 }
 
-/// Moves the puts of all stretches to the end of others.
-pub(crate) fn give_all_puts<T: OnPath>(
+// Moves the puts of all stretches to the end of others.
+fn give_all_puts<T: OnPath>(
     parts: &mut Vec<Option<Part<T>>>,
     puts: &mut Puts,
 ) -> Result<(), AllocError>
@@ -35,6 +38,22 @@ pub(crate) fn give_all_puts<T: OnPath>(
         place += 1;
     }
     Ok(())
+}
+
+/// Moves the puts of all stretches to the end of none, unless none of them adds: those can land one stretch after another.
+pub(crate) fn join_adds<T: OnPath>(
+    parts: &mut Vec<Option<Part<T>>>,
+    puts: &mut Puts,
+) -> Result<(), AllocError>
+    requires { puts.old ≡ [] }
+    ensures same { OnOk result (puts.new ++ puts_in parts.new.items ≡ puts_in parts.old.items) }
+    ensures sets { OnOk result (IsTrue (list_all is_set (puts_in parts.new.items))) }
+    ensures rest { OnOk result (map without_puts parts.new.items ≡ map without_puts parts.old.items) }
+{
+    if are_all_sets(parts) {
+        return Ok(());
+    }
+    give_all_puts(parts, puts)
 }
 
 // Moves the tasks of a stretch, and what they did, to the end of others.

@@ -14,6 +14,7 @@ mod cut;
 mod fault;
 mod hand_over;
 mod landing;
+pub mod laws;
 mod opened;
 mod part;
 mod parts;

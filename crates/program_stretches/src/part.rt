@@ -53,6 +53,8 @@ impl<T: OnPath> Part<T> {
     ghost use Rattle.std.specs.Prelude.{◌≡◌, ◌≤◌, ◌<◌, ◌+◌, ◌++◌, ◌↔◌, [], true, false, IsTrue, IfOk, OnOk, OnErr, is_some, length, map, slice_get};
     ghost use Rattle.std.specs.Option.{option_map};
     ghost use Rattle.std.specs.Vec.{vec_len, vec_capacity};
+    ghost use Rattle.std.specs.List.{list_all};
+    ghost use Rattle.superstep_memory.specs.Landing.{landed, is_set};
     ghost use Rattle.programs.specs.InPlace.{told_at, maker, left_in, spawned_in};
     ghost use Rattle.programs.specs.Changes.{change_of, change_in};
     ghost use Rattle.program_stretches.specs.Parts.{fresh_part};
@@ -158,6 +160,21 @@ impl<T: OnPath> Part<T> {
         ensures { IfOk result (λ changes. map change_of changes.items ≡ map (change_in T.path_of) self.now.deeds) }
     {
         self.deeds.changes(alloc)
+    }
+
+    /// Whether none of its puts adds.
+    pub(crate) fn are_sets(&self) -> bool
+        ensures { result ≡ list_all is_set self.now.puts }
+    {
+        self.work.puts.are_sets()
+    }
+
+    /// Lands its puts, none of which adds.
+    pub(crate) fn land_sets(&self, arrays: &mut Arrays)
+        requires { IsTrue (list_all is_set self.now.puts) }
+        ensures { arrays.new ≡ landed self.now.puts arrays.old }
+    {
+        self.work.puts.land_sets(arrays);
     }
 
     /// Moves its puts to the end of others.

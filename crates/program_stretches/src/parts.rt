@@ -1,6 +1,8 @@
 //! What stretches have done together.
 ghost use Rattle.std.specs.Prelude.{◌≡◌, ◌==◌, ◌&&◌, ◌≤◌, ◌<◌, ◌+◌, ◌++◌, ◌^◌, [], None, Some, nat_le, IfOk, IfSome, OnOk, MatchOption, length, map};
 ghost use Rattle.std.specs.Vec.{vec_len, vec_capacity};
+ghost use Rattle.std.specs.List.{list_all};
+ghost use Rattle.superstep_memory.specs.Landing.{is_set};
 ghost use Rattle.programs.specs.InPlace.{left_in, spawned_in};
 ghost use Rattle.program_stretches.specs.Parts.{covers, is_done, fault_in, of_slot, tasks_in, puts_in, deeds_in, prints_in, renewed};
 
@@ -124,4 +126,29 @@ pub(crate) fn count_prints<T: OnPath>(parts: &[Option<Part<T>>]) -> Option<usize
         place += 1;
     }
     Some(count)
+}
+
+// Whether no put of this stretch adds.
+fn sets_of<T: OnPath>(slot: &Option<Part<T>>) -> bool
+    ensures { result ≡ list_all is_set (of_slot (λ part. part.puts) slot.now) }
+{
+    match slot {
+        Some(part) => part.are_sets(),
+        None => true,
+    }
+}
+
+/// Whether no put adds.
+pub(crate) fn are_all_sets<T: OnPath>(parts: &[Option<Part<T>>]) -> bool
+    ensures { result ≡ list_all is_set (puts_in parts.now) }
+{
+    let mut place = 0;
+    while place < parts.len() {
+        let slot = &parts[place];
+        if !sets_of(slot) {
+            return false;
+        }
+        place += 1;
+    }
+    true
 }

@@ -6,12 +6,12 @@ ghost use Rattle.program_stretches.specs.StretchesValue.{is_at_limit};
 ghost use Rattle.std.specs.Vec.{vec_len, vec_capacity};
 ghost use Rattle.superstep_memory.specs.PathOrder.{in_path_order};
 ghost use Rattle.programs.specs.InPlace.{living_with};
-ghost use Rattle.program_stretches.specs.Parts.{AreFresh, tasks_in, deeds_in, prints_in};
+ghost use Rattle.program_stretches.specs.Parts.{AreFresh, tasks_in, puts_in, deeds_in, prints_in};
 ghost use Rattle.std.specs.Arc.{arc_value};
 
 use crate::cut::cut;
 use crate::fault::{Outcome, Unclosed, Unwanted};
-use crate::hand_over::{give_all_prints, give_all_puts, give_all_tasks, renew_all};
+use crate::hand_over::{give_all_prints, give_all_tasks, join_adds, renew_all};
 use crate::landing::land_shared;
 use crate::opened::Opened;
 use crate::part::{Part, blame_again};
@@ -68,15 +68,16 @@ impl<'t, 'p, P: Program> Model for Stretches<'t, 'p, P> {
 }
 
 impl<'t, 'p, P: Program> Stretches<'t, 'p, P> {
-    ghost use Rattle.std.specs.Prelude.{◌≡◌, ◌≤◌, ◌<◌, ◌+◌, ◌^◌, ◌∷◌, [], None, Some, true, false, IsTrue, IfOk, IfSome, OnOk, IfErr, OnErr, MatchOption, is_some, not, ◌||◌, length, map, slice_get};
+    ghost use Rattle.std.specs.Prelude.{◌≡◌, ◌≤◌, ◌<◌, ◌+◌, ◌^◌, ◌++◌, ◌∷◌, [], None, Some, true, false, IsTrue, IfOk, IfSome, OnOk, IfErr, OnErr, MatchOption, is_some, not, ◌||◌, length, map, slice_get};
     ghost use Rattle.std.specs.Option.{option_map};
     ghost use Rattle.phase_records.specs.Status.{IsShort};
     ghost use Rattle.phase_records.specs.StatusSeen.{status_seen};
     ghost use Rattle.programs.specs.Meaning.{children};
     ghost use Rattle.programs.specs.InPlace.{told_in, left_in, spawned_in};
-    ghost use Rattle.superstep_memory.specs.Landing.{over_in};
+    ghost use Rattle.std.specs.List.{list_all};
+    ghost use Rattle.superstep_memory.specs.Landing.{is_set};
     ghost use Rattle.program_stretches.specs.Parts.{reading_of, AreFresh, covers, tasks_in, puts_in, deeds_in, prints_in};
-    ghost use Rattle.program_stretches.specs.StretchesValue.{status_in, can_leave, ready_at, tasks_at, with_slot, IsAfter, HaveRun};
+    ghost use Rattle.program_stretches.specs.StretchesValue.{status_in, can_leave, ready_at, tasks_at, with_slot, IsAfter, HaveRun, OverflowsAt};
     ghost use Rattle.program_stretches.specs.Closing.{IsBegun, IsTaken, Refuses, Accepts, IsSameRun, NotClosed, IsClosed, EndsBy, HasLeft, opened_with};
 
     /// The stretches of a program that begins with these arrays and tasks, before the first superstep, by a new log. At most `most`
@@ -291,10 +292,9 @@ impl<'t, 'p, P: Program> Stretches<'t, 'p, P> {
         self.fault = Some(blame);
     }
 
-    // Ends the run by the put at this place of the log, which overflows.
+    // Ends the run by the put at this place of all puts, which overflows.
     fn overflow(
         &mut self,
-        puts: &Puts,
         tasks: &[P::Task],
         deeds: &Deeds<P::Task>,
         prints: &[Print],
@@ -302,9 +302,8 @@ impl<'t, 'p, P: Program> Stretches<'t, 'p, P> {
     ) -> Outcome
         requires none { self.old.parts ≡ [] }
         requires running { status_in self.old ≡ None }
-        requires run { HaveRun (reading_of P.frame P.may P.meant P.Task.path_of) self.old puts.now tasks.now deeds.now prints.now }
+        requires run { OverflowsAt (reading_of P.frame P.may P.meant P.Task.path_of) self.old tasks.now deeds.now prints.now place }
         requires few { length deeds.now + spawned_in deeds.now ≤ self.old.most + left_in deeds.now }
-        requires over { Some place ≡ over_in self.old.arrays [] 0 puts.now }
         ensures { IsClosed (reading_of P.frame P.may P.meant P.Task.path_of) self.old self.new result }
     {
         match deeds.blame_at(tasks, place) {
@@ -348,7 +347,8 @@ impl<'t, 'p, P: Program> Stretches<'t, 'p, P> {
     ) -> Result<Outcome, AllocError>
         requires none { self.old.parts ≡ [] }
         requires running { status_in self.old ≡ None }
-        requires run { HaveRun (reading_of P.frame P.may P.meant P.Task.path_of) self.old puts.now (tasks_in parts.items) (deeds_in parts.items) (prints_in parts.items) }
+        requires run { HaveRun (reading_of P.frame P.may P.meant P.Task.path_of) self.old (puts.now ++ puts_in parts.items) (tasks_in parts.items) (deeds_in parts.items) (prints_in parts.items) }
+        requires sets { IsTrue (list_all is_set (puts_in parts.items)) }
         requires covered { covers true self.old.count 0 parts.items ≡ true }
         requires few { length (deeds_in parts.items) + spawned_in (deeds_in parts.items) ≤ self.old.most + left_in (deeds_in parts.items) }
         requires told { told ≡ told_in self.old.step (deeds_in parts.items) }
@@ -358,13 +358,13 @@ impl<'t, 'p, P: Program> Stretches<'t, 'p, P> {
         ensures same { IsSameRun self.old self.new }
     {
         make_room(&parts, &mut self.prints, &mut self.records)?;
-        match land_shared(alloc, &mut self.arrays, puts, &mut self.olds)? {
+        match land_shared(alloc, &mut self.arrays, puts, &parts, &mut self.olds)? {
             Some(place) => {
                 let mut tasks = Vec::new(alloc);
                 let mut deeds = Deeds::new(alloc);
                 let mut prints = Vec::new(alloc);
                 gather(&mut parts, &mut tasks, &mut deeds, &mut prints)?;
-                Ok(self.overflow(puts, &tasks, &deeds, &prints, place))
+                Ok(self.overflow(&tasks, &deeds, &prints, place))
             }
             None => {
                 give_all_prints(&mut parts, &mut self.prints);
@@ -387,7 +387,8 @@ impl<'t, 'p, P: Program> Stretches<'t, 'p, P> {
     ) -> Result<Outcome, AllocError>
         requires none { self.old.parts ≡ [] }
         requires running { status_in self.old ≡ None }
-        requires run { HaveRun (reading_of P.frame P.may P.meant P.Task.path_of) self.old puts.now (tasks_in parts.items) (deeds_in parts.items) (prints_in parts.items) }
+        requires run { HaveRun (reading_of P.frame P.may P.meant P.Task.path_of) self.old (puts.now ++ puts_in parts.items) (tasks_in parts.items) (deeds_in parts.items) (prints_in parts.items) }
+        requires sets { IsTrue (list_all is_set (puts_in parts.items)) }
         requires few { length (deeds_in parts.items) + spawned_in (deeds_in parts.items) ≤ self.old.most + left_in (deeds_in parts.items) }
         requires told { told ≡ told_in self.old.step (deeds_in parts.items) }
         ensures closed { IfOk result (λ outcome. IsClosed (reading_of P.frame P.may P.meant P.Task.path_of) self.old self.new outcome) }
@@ -403,8 +404,8 @@ impl<'t, 'p, P: Program> Stretches<'t, 'p, P> {
         gather(&mut parts, &mut tasks, &mut deeds, &mut prints)?;
         self.prints.reserve(prints.len())?;
         self.records.reserve(1)?;
-        match land_shared(alloc, &mut self.arrays, puts, &mut self.olds)? {
-            Some(place) => Ok(self.overflow(puts, &tasks, &deeds, &prints, place)),
+        match land_shared(alloc, &mut self.arrays, puts, &parts, &mut self.olds)? {
+            Some(place) => Ok(self.overflow(&tasks, &deeds, &prints, place)),
             None => {
                 append_reserved(&mut self.prints, &mut prints);
                 regroup(&mut deeds, &mut tasks, &mut room, count);
@@ -447,7 +448,7 @@ impl<'t, 'p, P: Program> Stretches<'t, 'p, P> {
             left: left as u32,
             spawned: spawned as u32,
         };
-        give_all_puts(&mut parts, puts)?;
+        join_adds(&mut parts, puts)?;
         if left == 0 && spawned == 0 {
             self.stay(alloc, parts, puts, told)
         } else {
@@ -473,7 +474,7 @@ impl<'t, 'p, P: Program> Stretches<'t, 'p, P> {
             self.end(blame);
             return Ok(Outcome::Faulted);
         }
-        // The rows' memory came from the stretches, which don't get it back. It is released here.
+        // Filled only if a put adds.
         let mut puts = Puts::new(alloc);
         match self.go_on(alloc, parts, &mut puts) {
             Ok(outcome) => Ok(outcome),
@@ -616,6 +617,7 @@ fn gather<T: OnPath>(
     ensures tasks { OnOk result (tasks.new.items ≡ tasks_in parts.old.items) }
     ensures deeds { OnOk result (deeds.new ≡ deeds_in parts.old.items) }
     ensures prints { OnOk result (prints.new.items ≡ prints_in parts.old.items) }
+    ensures puts { OnOk result (puts_in parts.new.items ≡ puts_in parts.old.items) }
 {
     let Some(count) = count_prints(parts) else {
         return Err(AllocError);

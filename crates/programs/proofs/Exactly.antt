@@ -78,7 +78,8 @@ module _ {T : Type 0} (f : Frame T) (may : T → List (List ℕ × List ℤ) →
     formed : (n : ℕ) → AllFormed f (get_or h.history n [])
     formed = formed_by f most may arrays tasks limit h.history h.entered
 
-    so_far_same : (m : ℕ) → m ≤ length h.history → so_far (says_by f most h.history) arrays tasks limit m ≡ so_far (says_of f most does) arrays tasks limit m
+    -- after so many supersteps of the history both are the same
+    pub so_far_same : (m : ℕ) → m ≤ length h.history → so_far (says_by f most h.history) arrays tasks limit m ≡ so_far (says_of f most does) arrays tasks limit m
     so_far_same zero le = refl
     so_far_same (suc m) le =
         let before = so_far_same m (omega (arith, le)) in

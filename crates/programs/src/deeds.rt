@@ -104,6 +104,14 @@ fn collect<T: OnPath>(
     }
 }
 
+// Whether so many together are at most `most`.
+#[inline(always)]
+fn fit(count: usize, others: usize, most: usize) -> bool
+    ensures { IsTrue result ↔ (count + others ≤ most) }
+{
+    count <= most && others <= most - count
+}
+
 // How many tasks stopped.
 fn count_stopped(each: &[Deed]) -> usize
     ensures { result ≡ stopped_by each.now }
@@ -193,13 +201,14 @@ impl<T: OnPath> Deeds<T> {
     pub fn are_few(&self, most: u32) -> bool
         ensures { IsTrue result ↔ (length self.now + spawned_in self.now ≤ most + left_in self.now) }
     {
-        let left = count_stopped(&self.each);
-        let stay = self.each.len() - left;
         let most = most as usize;
-        if stay > most {
-            return false;
+        let count = self.each.len();
+        let spawned = self.spawns.len();
+        if fit(count, spawned, most) {
+            return true;
         }
-        self.spawns.len() <= most - stay
+        let stay = count - count_stopped(&self.each);
+        fit(stay, spawned, most)
     }
 
     /// The record of the superstep in which tasks did this.

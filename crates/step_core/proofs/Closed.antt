@@ -1,6 +1,6 @@
 -- What closing a round is.
 use Rattle.std.proofs.Common.{◌≡◌, ℕ, suc, ◌+◌, ◌≤◌, ◌<◌, Bool, true, false, nat_lt, List, [], ◌∷◌, ◌++◌, map, length, Option, Some, None, refl, sym, ap, ◌∙◌, subst, arith}
-use Rattle.std.specs.Prelude.{ℤ, if◌then◌else◌}
+use Rattle.std.specs.Prelude.{ℤ, IsSome, if◌then◌else◌}
 use Rattle.std.specs.Option.{option_map}
 use Rattle.superstep_memory.specs.Landing.{landed, joined}
 use Rattle.phase_records.specs.PrintValue.{PrintValue}
@@ -353,3 +353,7 @@ opened_so job limit arrays slots finished ea ef bodies eb starts es h le =
     ∙ (λ i. map fresh (start_tasks (plans (eb i)) 0 (es i))) in
     subst (λ (fs : List FinishedValue). IsRound (whole job limit 0 arrays slots fs None) × Opens (whole job limit 0 arrays slots fs None) job limit (initial (program_of job)))
     (sym ef) (opened job limit arrays slots ea at le)
+
+pub is_there : {A : Type 0} {o : Option A} {x : A} → o ≡ Some x → IsSome o
+is_there {o = None} h = cc
+is_there {o = Some y} h = refl

@@ -3,6 +3,4 @@ pub mod Closed
 pub mod LawProofs
 pub mod Apart
 pub mod Landings
-pub mod ByDeeds
-pub mod Course
 pub mod Watching

@@ -1,70 +1,79 @@
--- Who looks on at a job on one thread.
-use Rattle.std.proofs.Common.{◌≡◌, ℕ, suc, ◌+◌, ◌-◌, ◌<◌, Bool, true, false, nat_lt, List, length, Some, None, refl, sym, ap, ◌∙◌, subst, arith}
+-- A job on one thread, from the run of its program.
+use Rattle.std.proofs.Common.{◌≡◌, ℕ, ◌+◌, ◌-◌, ◌<◌, ◌≤◌, ◌⊎◌, inl, inr, Bool, true, false, nat_lt, List, map, length, Some, None, refl, sym, ap, ◌∙◌, subst, arith}
+use Rattle.std.specs.Prelude.{ℤ}
 use Rattle.std.proofs.lemmas.Bool.{ltb-true, ltb-false}
-use Rattle.std.proofs.lemmas.List.{length-map}
-use Rattle.phase_records.specs.Status.{Status, Fault}
-use Rattle.task_lang.specs.Views.{task_of}
-use Rattle.step_parts.specs.Program.{Program}
-use Rattle.step_parts.specs.Superstep.{State, ended_by}
-use Rattle.step_parts.specs.JobMeaning.{so_far, status}
+use Rattle.phase_records.specs.ReportValue.{ReportValue}
+use Rattle.phase_records.specs.Status.{Status}
+use Rattle.task_code.specs.JobValue.{JobValue}
+use Rattle.task_lang.specs.TaskValue.{TaskValue}
+use Rattle.task_lang.specs.Views.{plans, task_of}
+use Rattle.task_lang.specs.Meaning as job
+use Rattle.step_parts.specs.Program.{Program, program_of}
+use Rattle.step_parts.specs.JobMeaning.{so_far, status, start_tasks, report_of}
 use Rattle.step_parts.proofs.Runs.{going_on, ended_stays}
-use Rattle.step_core.specs.Course.{course_state, HasFaulted}
+use Rattle.programs.specs.Superstep as gn
+use Rattle.programs.specs.Supersteps as gm
+use Rattle.programs.specs.History.{says_by, HasRun, HasRunTo, OfState}
+use Rattle.programs.proofs.Exactly.{so_far_same}
+use Rattle.job_program.specs.JobTasks.{job_frame, job_does, JobMay}
+use Rattle.job_program.proofs.Same.{as_state, status_as, so_far_as, starts, starts_begin, job_report}
 use Rattle.step_core.specs.Watching.{SawAll}
-use Rattle.step_core.specs.declared.alone.Course.{Course}
-use Rattle.step_core.proofs.Course.{Reached, reached_more}
 
-module _ (seen : ℕ → ℕ → Type 0) (p : Program) (limit : ℕ) where
-  -- the first n supersteps were seen, if the job began so many
-  abbrev pub SawBefore : ℕ → Type 0
-  SawBefore n = (m : ℕ) → m < n → status limit (so_far p limit m) ≡ None → seen m (length (so_far p limit m).live)
+module _ (seen : ℕ → List (List ℕ × List ℤ) → ℕ → Type 0) (p : Program) (limit : ℕ) (outcome : ReportValue) (living : List job.Task)
+    (h : HasRun job_frame (JobMay p.plans) 4096 p.arrays (starts p) limit outcome living) where
+  by_history : ℕ → gn.State job.Task
+  by_history n = gm.so_far (says_by job_frame 4096 h.history) p.arrays (starts p) limit n
 
-  pub saw_none : SawBefore 0
-  saw_none m lt run = absurd (omega (arith, lt))
+  -- the history and the job say the same of each state
+  same : (n : ℕ) → n ≤ length h.history → gm.so_far (says_by job_frame 4096 h.history) p.arrays (starts p) limit n ≡ as_state (so_far p limit n)
+  same n le =
+      so_far_same job_frame (JobMay p.plans) 4096 (job_does p.plans) (λ t arrays step g e. e) p.arrays (starts p) limit (starts_begin p) outcome living h n le
+      ∙ sym (so_far_as p limit n)
 
-  -- and the next one
-  pub saw_more : (c : Course) (r : Reached p limit (course_state p c)) → status limit (course_state p c) ≡ None
-      → SawBefore r.0 → seen c.step (length c.tasks.items) → SawBefore (suc r.0)
-  saw_more c r run before now m lt = by (nat_lt m r.0) refl
+  over : status limit (so_far p limit (length h.history)) ≡ Some outcome.status
+  over = status_as limit (so_far p limit (length h.history)) ∙ ap (gm.status limit) (sym (same (length h.history) (omega arith))) ∙ h.ended
+
+  -- a superstep that the job begins is one of the history
+  begun : (n : ℕ) → status limit (so_far p limit n) ≡ None → n < length h.history
+  begun n run = by (nat_lt n (length h.history)) refl
     where
-      here : status limit (so_far p limit r.0) ≡ None
-      here = ap (status limit) (sym r.1) ∙ run
-
-      step : c.step ≡ r.0
-      step = ap (λ (x : State). x.step) r.1 ∙ (going_on p limit r.0 here).step
-
-      live : length c.tasks.items ≡ length (so_far p limit r.0).live
-      live = sym (length-map c.tasks.items (task_of p.plans)) ∙ ap (λ (x : State). length x.live) r.1
-
-      at : seen r.0 (length (so_far p limit r.0).live)
-      at = subst (λ (k : ℕ). seen k (length (so_far p limit r.0).live)) step (subst (seen c.step) live now)
-
-      by : (b : Bool) → nat_lt m r.0 ≡ b → status limit (so_far p limit m) ≡ None → seen m (length (so_far p limit m).live)
-      by true e h = before m (ltb-true _ _ e) h
-      by false e h =
-          let le = ltb-false _ _ e in
-          let same : r.0 ≡ m = omega (arith, le, lt) in
-          subst (λ (k : ℕ). seen k (length (so_far p limit k).live)) same at
-
-  -- a job that goes on has begun fewer supersteps than one that has ended
-  before_end : (n m : ℕ) (s : Status) → status limit (so_far p limit n) ≡ Some s → status limit (so_far p limit m) ≡ None → m < n
-  before_end n m s over run = by (nat_lt m n) refl
-    where
-      by : (b : Bool) → nat_lt m n ≡ b → m < n
+      by : (b : Bool) → nat_lt n (length h.history) ≡ b → n < length h.history
       by true e = ltb-true _ _ e
       by false e =
           let le = ltb-false _ _ e in
-          let back : (m - n) + n ≡ m = omega (arith, le) in
-          let stays : so_far p limit ((m - n) + n) ≡ so_far p limit n = ended_stays p limit n (m - n) s over in
-          let wrong : None ≡ Some s = sym run ∙ ap (λ (k : ℕ). status limit (so_far p limit k)) (sym back) ∙ ap (status limit) stays ∙ over in
+          let back : (n - length h.history) + length h.history ≡ n = omega (arith, le) in
+          let stays = ended_stays p limit (length h.history) (n - length h.history) outcome.status over in
+          let wrong : None ≡ Some outcome.status = sym run ∙ ap (λ (k : ℕ). status limit (so_far p limit k)) (sym back) ∙ ap (status limit) stays ∙ over in
           absurd cc
 
-  -- all were seen where the job has ended
-  pub saw_all : (st : State) (s : Status) (r : Reached p limit st) → SawBefore r.0 → status limit st ≡ Some s → SawAll seen p limit
-  saw_all st s r before over m run = before m (before_end r.0 m s (ap (status limit) (sym r.1) ∙ over) run) run
+  pub saw_all : ((n : ℕ) → n < length h.history → OfState seen (gm.so_far (says_by job_frame 4096 h.history) p.arrays (starts p) limit n)) → SawAll seen p limit
+  saw_all went n run =
+      let lt = begun n run in
+      let st = so_far p limit n in
+      let at : OfState seen (as_state st) = subst (OfState seen) (same n (omega (arith, lt))) (went n lt) in
+      subst (λ (k : ℕ). seen k st.arrays (length st.live)) ((going_on p limit n run).step) at
 
-  -- also where a fault ended it
-  pub saw_fault : (old new : Course) (f : ℕ × List ℕ) (r : Reached p limit (course_state p old)) → status limit (course_state p old) ≡ None
-      → SawBefore r.0 → seen old.step (length old.tasks.items) → HasFaulted p f old new → SawAll seen p limit
-  saw_fault old new f r run before now h =
-      let st = course_state p old in
-      saw_all (ended_by st f) (Fault f.0 st.step f.1) (reached_more p limit st (ended_by st f) r run (sym h.fault)) (saw_more old r run before now) refl
+-- a run of a job's program leaves its report, and shows each of its supersteps to a watcher that never stops it
+pub record Leaves (seen : ℕ → List (List ℕ × List ℤ) → ℕ → Type 0) (p : Program) (limit : ℕ) (outcome : ReportValue) : Type 0 where
+  pub report : report_of p limit ≡ Some outcome
+  pub saw : SawAll seen p limit
+
+module _ (seen : ℕ → List (List ℕ × List ℤ) → ℕ → Type 0) (limit : ℕ) (outcome : ReportValue) (living : List job.Task) where
+  leaves_from : (p : Program) → HasRunTo (λ step arrays tasks. ⊥) seen job_frame (JobMay p.plans) 4096 p.arrays (starts p) limit outcome living → Leaves seen p limit outcome
+  leaves_from p h = by h.stopped
+    where
+      at : Leaves seen p h.taken outcome
+      at = record { report = job_report p h.taken outcome living h.run; saw = saw_all seen p h.taken outcome living h.run h.went }
+
+      by : (h.taken ≡ limit) ⊎ ⊥ → Leaves seen p limit outcome
+      by (inl e) = subst (λ (n : ℕ). Leaves seen p n outcome) e at
+      by (inr x) = absurd x
+
+  pub job_leaves : (j : JobValue) (arrays : List (List ℕ × List ℤ)) (ts : List TaskValue)
+      → arrays ≡ j.arrays → map (task_of (plans j.bodies)) ts ≡ start_tasks (plans j.bodies) 0 j.starts
+      → HasRunTo (λ step arrays tasks. ⊥) seen job_frame (JobMay (plans j.bodies)) 4096 arrays (map (task_of (plans j.bodies)) ts) limit outcome living
+      → Leaves seen (program_of j) limit outcome
+  job_leaves j arrays ts ea et h =
+      leaves_from (program_of j)
+      (subst (λ (xs : List (List ℕ × List ℤ)). HasRunTo (λ step ys tasks. ⊥) seen job_frame (JobMay (plans j.bodies)) 4096 xs (starts (program_of j)) limit outcome living) ea
+      (subst (λ (us : List job.Task). HasRunTo (λ step ys tasks. ⊥) seen job_frame (JobMay (plans j.bodies)) 4096 arrays us limit outcome living) et h))

@@ -9,6 +9,5 @@ pub use Rattle.step_parts.specs.OrderValue
 pub use Rattle.step_parts.specs.RoundValue
 pub use Rattle.step_parts.specs.Taking
 pub mod Laws
-pub mod Course
 pub mod RoundView
 pub mod Watching

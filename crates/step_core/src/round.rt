@@ -5,7 +5,7 @@ ghost use Rattle.task_lang.specs.Meaning.{Plan};
 ghost use Rattle.step_parts.specs.Slots.{first_missing, missing_in, slots_of};
 ghost use Rattle.step_parts.specs.SlotParts.{path_of};
 
-use crate::alone::start_all;
+use job_program::start_all;
 use phase_records::{JobStatus, Report};
 use std::alloc::{AllocError, Global};
 use std::marker::Model;

@@ -1,14 +1,17 @@
 //! Watchers of the supersteps of a job on one thread.
-ghost use Rattle.std.specs.Prelude.{ℕ};
+ghost use Rattle.std.specs.Prelude.{ℕ, ℤ, List};
+
+use programs::watch;
+use superstep_memory::arrays::Arrays;
 
 /// Is called before each superstep of a job on one thread (own).
 pub trait Watch {
-    /// What a call says of its superstep and of how many tasks live: nothing, unless it says more.
-    ghost seen: { ℕ → ℕ → Type 0 } = { λ step tasks. Unit {0} };
+    /// What a call says of its superstep, of the arrays as it begins, and of how many tasks live: nothing, unless it says more.
+    ghost seen: { ℕ → List (List ℕ × List ℤ) → ℕ → Type 0 } = { λ step arrays tasks. Unit {0} };
 
-    /// Superstep `step`, from 0, begins with so many live tasks.
-    fn superstep(&mut self, step: u32, tasks: usize)
-        ensures seen { seen step tasks };
+    /// Superstep `step`, from 0, begins with these arrays and so many live tasks.
+    fn superstep(&mut self, step: u32, arrays: &Arrays, tasks: usize)
+        ensures seen { seen step arrays.now tasks };
 }
 
 /// Does nothing (own).
@@ -17,5 +20,23 @@ pub struct NoWatch;
 
 impl Watch for NoWatch {
     #[inline(always)]
-    fn superstep(&mut self, _step: u32, _tasks: usize) {}
+    fn superstep(&mut self, _step: u32, _arrays: &Arrays, _tasks: usize) {}
+}
+
+// A watcher of a job, as a watcher of its program that never stops it.
+#[derive(Drop)]
+pub(crate) struct Looking<'w, W> {
+    pub(crate) watch: &'w mut W,
+}
+
+impl<'w, W: Watch> watch::Watch for Looking<'w, W> {
+    ghost stops = { λ step arrays tasks. ⊥ };
+
+    ghost goes = { λ step arrays tasks. W.seen step arrays tasks };
+
+    #[inline(always)]
+    fn goes_on(&mut self, step: u32, arrays: &Arrays, tasks: usize) -> bool {
+        self.watch.superstep(step, arrays, tasks);
+        true
+    }
 }

@@ -13,8 +13,8 @@ use crate::closing::overflowed;
 use crate::slot::{Blame, Slots};
 use std::alloc::{AllocError, Global};
 use std::sync::Arc;
-use superstep_memory::arrays::{Arrays, PutLog};
-use superstep_memory::log::{are_sets, land_log, write_sets};
+use superstep_memory::arrays::Arrays;
+use superstep_memory::puts::Puts;
 
 // Whether each put that was delivered sets its cell.
 fn are_all_sets(slots: &Slots<'_>) -> bool
@@ -22,7 +22,7 @@ fn are_all_sets(slots: &Slots<'_>) -> bool
 {
     let mut rest = slots.again();
     while let Some((slot, after)) = rest.split_first() {
-        if !are_sets(slot.puts()) {
+        if !slot.are_sets() {
             return false;
         }
         rest = after;
@@ -37,19 +37,19 @@ fn write_all(arrays: &mut Arrays, slots: &Slots<'_>)
 {
     let mut rest = slots.again();
     while let Some((slot, after)) = rest.split_first() {
-        write_sets(arrays, slot.puts());
+        slot.land_sets(arrays);
         rest = after;
     }
 }
 
 // All puts that were delivered, one after another.
-fn join(alloc: Global, slots: &Slots<'_>) -> Result<PutLog, AllocError>
-    ensures { IfOk result (λ puts. puts.items ≡ log_in slots.now) }
+fn join(alloc: Global, slots: &Slots<'_>) -> Result<Puts, AllocError>
+    ensures { IfOk result (λ puts. puts ≡ log_in slots.now) }
 {
-    let mut puts = Vec::new(alloc);
+    let mut puts = Puts::new(alloc);
     let mut rest = slots.again();
     while let Some((slot, after)) = rest.split_first() {
-        puts.extend_from_slice(slot.puts())?;
+        slot.copy_puts(alloc, &mut puts)?;
         rest = after;
     }
     Ok(puts)
@@ -62,7 +62,7 @@ fn blame_at(slots: &Slots<'_>, place: usize) -> Option<Blame>
     let mut left = place;
     let mut rest = slots.again();
     while let Some((slot, after)) = rest.split_first() {
-        let count = slot.puts().len();
+        let count = slot.count_puts();
         if left < count {
             return Some(overflowed(slot.task()));
         }
@@ -90,7 +90,7 @@ fn land_slots(
     }
     let puts = join(alloc, slots)?;
     let mut olds = Vec::new(alloc);
-    match land_log(arrays, &puts, &mut olds)? {
+    match puts.land(arrays, &mut olds)? {
         None => Ok(None),
         Some(place) => Ok(blame_at(slots, place)),
     }

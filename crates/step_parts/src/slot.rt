@@ -3,9 +3,11 @@ ghost use Rattle.std.specs.Prelude.{◌≡◌, ◌≤◌, length};
 
 use phase_records::{JobStatus, PhaseRecord, Print};
 use smallvec::SmallVec;
+use std::alloc::{AllocError, Global};
 use std::marker::Model;
-use superstep_memory::arrays::Put;
+use superstep_memory::arrays::Arrays;
 use superstep_memory::path::Path;
+use superstep_memory::puts::Puts;
 use task_lang::task::{After, Segment, Task};
 
 /// A live task, and its segment once it was delivered.
@@ -94,9 +96,11 @@ impl<'a> Slots<'a> {
 }
 
 impl<'a> Slot<'a> {
-    ghost use Rattle.std.specs.Prelude.{◌≡◌, is_some, Some, None, length};
+    ghost use Rattle.std.specs.Prelude.{◌≡◌, ◌++◌, is_some, Some, None, IsTrue, OnOk, length};
+    ghost use Rattle.std.specs.List.{list_all};
     ghost use Rattle.std.specs.Option.{option_copied};
     ghost use Rattle.std.specs.Str.{bytes_eq};
+    ghost use Rattle.superstep_memory.specs.Landing.{landed, is_set};
     ghost use Rattle.step_parts.specs.SlotParts.{puts_in, living_of, IsSmall};
 
     pub(crate) fn task(&self) -> &'a Task
@@ -139,13 +143,44 @@ impl<'a> Slot<'a> {
         }
     }
 
-    /// The puts that were delivered.
-    pub(crate) fn puts(&self) -> &'a [Put]
-        ensures { result.now ≡ puts_in self.now }
+    /// Whether none of the puts that were delivered adds.
+    pub(crate) fn are_sets(&self) -> bool
+        ensures { result ≡ list_all is_set (puts_in self.now) }
     {
         match self.done {
-            Some(segment) => &segment.puts,
-            None => &[],
+            Some(segment) => segment.puts.are_sets(),
+            None => true,
+        }
+    }
+
+    /// Lands the puts that were delivered, none of which adds.
+    pub(crate) fn land_sets(&self, arrays: &mut Arrays)
+        requires { IsTrue (list_all is_set (puts_in self.now)) }
+        ensures { arrays.new ≡ landed (puts_in self.now) arrays.old }
+    {
+        match self.done {
+            Some(segment) => segment.puts.land_sets(arrays),
+            None => {}
+        }
+    }
+
+    /// Appends copies of the puts that were delivered.
+    pub(crate) fn copy_puts(&self, alloc: Global, puts: &mut Puts) -> Result<(), AllocError>
+        ensures { OnOk result (puts.new ≡ puts.old ++ puts_in self.now) }
+    {
+        match self.done {
+            Some(segment) => puts.append_copy(alloc, &segment.puts),
+            None => Ok(()),
+        }
+    }
+
+    /// How many puts were delivered.
+    pub(crate) fn count_puts(&self) -> usize
+        ensures { result ≡ length (puts_in self.now) }
+    {
+        match self.done {
+            Some(segment) => segment.puts.len(),
+            None => 0,
         }
     }
 }

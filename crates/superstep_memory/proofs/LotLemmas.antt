@@ -11,7 +11,7 @@ use Rattle.superstep_memory.specs.declared.lots.Row.{Row}
 use Rattle.superstep_memory.specs.Landing.{landed, is_set, sets}
 use Rattle.superstep_memory.specs.Cells.{is_cell, place_of, with_place}
 use Rattle.superstep_memory.specs.Rows.{row_puts, with_row}
-use Rattle.superstep_memory.specs.Lots.{put_of, kind_of, puts_by, rows_by, puts_of, rows_after, puts_in, one_if, rows_among}
+use Rattle.superstep_memory.specs.Lots.{put_of, puts_by, rows_by, puts_of, rows_after, puts_in, one_if, rows_among}
 use Rattle.superstep_memory.proofs.Landed.{landed_none, landed_append}
 use Rattle.superstep_memory.proofs.Rows.{sets_row, landed_row}
 use Rattle.superstep_memory.proofs.Taken.{one_set}
@@ -47,6 +47,18 @@ lot_written xs ys rest left later l ls cut to after h =
 pub lots_left : {all ys : Arrays} (rest : List Lot) (left : List Row) → length rest ≡ 0 → all ≡ landed (puts_in rest left) ys → ys ≡ all
 lots_left {ys = ys} [] left e h = sym (h ∙ landed_none ys)
 lots_left (l ∷ ls) left e h = absurd (omega arith)
+
+-- a lot in front is appended
+pub lot_copied : (ps qs : List Put) (rest : List Lot) (left later : List Row) (l : Lot) (ls : List Lot) → rest ≡ l ∷ ls → qs ≡ ps ++ puts_of l left → later ≡ rows_after l left
+    → qs ++ puts_in ls later ≡ ps ++ puts_in rest left
+lot_copied ps qs rest left later l ls cut to after =
+    (λ i. to i ++ puts_in ls (after i))
+    ∙ append_assoc ps (puts_of l left) (puts_in ls (rows_after l left))
+    ∙ ap (λ (x : List Lot). ps ++ puts_in x left) (sym cut)
+
+pub none_copied : (ps : List Put) (rest : List Lot) (left : List Row) → length rest ≡ 0 → ps ≡ ps ++ puts_in rest left
+none_copied ps [] left e = sym (append-nil ps)
+none_copied ps (l ∷ ls) left e = absurd (omega arith)
 
 -- ---- one lot
 
@@ -95,23 +107,28 @@ row_nowhere_in xs array first (v ∷ vs) e lt = λ i. is_some (place_of (sym e i
 
 -- ---- whether all set
 
-abbrev pub AllSet : List Lot → Type 0
-AllSet ls = (rows : List Row) → list_all is_set (puts_in ls rows) ≡ true
-
-lot_sets : (l : Lot) (rows : List Row) → l.adds ≡ false → list_all is_set (puts_of l rows) ≡ true
-lot_sets l rows e = by l.is_row rows
+-- one put more
+pub sets_more : (ps qs : List Put) (p : Put) (a b : Bool) → qs ≡ ps ++ p ∷ [] → a ≡ list_all is_set ps → b ≡ is_set p → (a && b) ≡ list_all is_set qs
+sets_more ps qs p a b cut e f =
+    (λ i. e i && f i) ∙ ap (λ (t : Bool). list_all is_set ps && t) (and_true (is_set p)) ∙ sym (list_all-append is_set ps (p ∷ [])) ∙ ap (list_all is_set) (sym cut)
   where
-    by : (b : Bool) (rs : List Row) → list_all is_set (puts_by b l rs) ≡ true
-    by false rs = ap (λ (a : Bool). sets (kind_of a) && true) e
-    by true [] = refl
-    by true (r ∷ rs) = sets_row l.array l.index r.values.items
+    and_true : (t : Bool) → t ≡ (t && true)
+    and_true true = refl
+    and_true false = refl
 
-pub all_set_more : (rest : List Lot) (l : Lot) (ls : List Lot) → rest ≡ l ∷ ls → l.adds ≡ false → AllSet ls → AllSet rest
-all_set_more rest l ls cut e h = λ rows. each_cut is_set rest rows l ls cut ∙ (λ i. lot_sets l rows e i && h (rows_after l rows) i)
+-- one row more
+pub sets_row_more : (ps qs : List Put) (array first : ℕ) (vs : List ℤ) (a : Bool) → qs ≡ ps ++ row_puts array first vs → a ≡ list_all is_set ps → a ≡ list_all is_set qs
+sets_row_more ps qs array first vs a cut e =
+    e ∙ and_true (list_all is_set ps) ∙ ap (λ (t : Bool). list_all is_set ps && t) (sym (sets_row array first vs))
+    ∙ sym (list_all-append is_set ps (row_puts array first vs)) ∙ ap (list_all is_set) (sym cut)
+  where
+    and_true : (t : Bool) → t ≡ (t && true)
+    and_true true = refl
+    and_true false = refl
 
-pub none_set : (rest : List Lot) → length rest ≡ 0 → AllSet rest
-none_set [] e = λ rows. refl
-none_set (l ∷ ls) e = absurd (omega arith)
+-- those of both
+pub sets_joined : (ps qs rs : List Put) (a b : Bool) → rs ≡ ps ++ qs → a ≡ list_all is_set ps → b ≡ list_all is_set qs → (a && b) ≡ list_all is_set rs
+sets_joined ps qs rs a b cut e f = (λ i. e i && f i) ∙ sym (list_all-append is_set ps qs) ∙ ap (list_all is_set) (sym cut)
 
 -- ---- joined
 

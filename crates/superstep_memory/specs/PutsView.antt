@@ -2,12 +2,15 @@
 use Rattle.std.specs.Prelude.{◌≡◌, List, length}
 use Rattle.superstep_memory.specs.declared.arrays.Put.{Put}
 use Rattle.superstep_memory.specs.declared.puts.Puts.TheInside.{Inside}
+use Rattle.std.specs.List.{list_all}
+use Rattle.superstep_memory.specs.Landing.{is_set}
 use Rattle.superstep_memory.specs.Lots.{puts_in, rows_among}
 
 abbrev pub puts_seen : Inside → List Put
 puts_seen p = puts_in p.lots.items p.rows.items
 
--- the puts are counted, and each lot that is a row has a row
+-- the puts are counted, each lot that is a row has a row, and it is known whether all set
 pub record IsInside (p : Inside) : Type 0 where
   pub count : p.count ≡ length (puts_seen p)
   pub rows : length p.rows.items ≡ rows_among p.lots.items
+  pub sets : p.sets ≡ list_all is_set (puts_seen p)

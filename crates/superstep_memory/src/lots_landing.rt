@@ -14,20 +14,6 @@ use crate::log::after_put;
 use crate::lots::{Lot, Row};
 use std::alloc::AllocError;
 
-/// Whether each of these sets its cells, whatever the values of rows are.
-pub(crate) fn are_all_sets(lots: &[Lot]) -> bool
-    ensures { IsTrue result → (rows : List RowValue) → IsTrue (list_all is_set (puts_in lots.now rows)) }
-{
-    let mut rest = lots;
-    while let Some((lot, after)) = rest.split_first() {
-        if lot.adds {
-            return false;
-        }
-        rest = after;
-    }
-    true
-}
-
 // Writes a lot that sets its cells, and returns the rows that are left.
 #[inline(always)]
 fn write_lot<'a>(arrays: &mut Arrays, lot: Lot, rows: &'a [Row]) -> &'a [Row]

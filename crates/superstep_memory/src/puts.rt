@@ -1,15 +1,17 @@
 //! Puts in order, some of them in rows.
-ghost use Rattle.std.specs.Prelude.{◌≡◌, ◌≤◌, ◌++◌, ◌∷◌, ◌↔◌, [], None, true, IsTrue, IsSome, IfOk, OnOk, OnErr, length};
+ghost use Rattle.std.specs.Prelude.{◌≡◌, ◌≤◌, ◌++◌, ◌∷◌, ◌↔◌, [], None, true, IsTrue, IsSome, IfOk, OnOk, OnErr, length, ◌&&◌};
 ghost use Rattle.std.specs.List.{list_all};
 ghost use Rattle.superstep_memory.specs.Cells.{is_cell};
 ghost use Rattle.superstep_memory.specs.Landing.{landed, over_in, is_set};
 ghost use Rattle.superstep_memory.specs.Rows.{row_puts};
+ghost use Rattle.superstep_memory.specs.Lots.{puts_of, rows_after};
 
-use crate::arrays::{Arrays, Put};
+use crate::arrays::{Arrays, Put, PutKind};
 use crate::lots::{Lot, Row};
-use crate::lots_landing::{are_all_in, are_all_sets, land_adds, write_lots};
+use crate::lots_landing::{are_all_in, land_adds, write_lots};
 use std::alloc::{AllocError, Global};
 use std::marker::Model;
+use std::mem;
 
 /// Puts in order. A row of puts to cells side by side is kept as its values, so it takes 8 bytes a cell; a single put takes 16.
 #[derive(Drop)]
@@ -17,7 +19,9 @@ pub struct Puts {
     lots: Vec<Lot>,
     rows: Vec<Row>,
     count: usize,
-    // Rows that were cleared away, whose memory later rows may use.
+    // Whether none of them adds.
+    sets: bool,
+    // Rows of the puts that were there before, whose memory later rows may use.
     spare: Vec<Row>,
 }
 
@@ -34,13 +38,20 @@ impl Model for Puts {
     ghost invariant = { IsInside };
 }
 
-// Keeps rows that are cleared away for later ones, as far as there is memory.
-fn keep_all(rows: &mut Vec<Row>, spare: &mut Vec<Row>)
-    ensures { rows.new.items ≡ [] }
+// Whether a put sets its cell.
+#[inline(always)]
+fn is_one_set(put: Put) -> bool
+    ensures { result ≡ is_set put }
 {
-    while let Some(row) = rows.pop() {
-        let _ = spare.push(row);
-    }
+    matches!(put.kind, PutKind::Set)
+}
+
+// Whether both hold.
+#[inline(always)]
+fn both(one: bool, other: bool) -> bool
+    ensures { result ≡ (one && other) }
+{
+    one && other
 }
 
 impl Puts {
@@ -52,19 +63,32 @@ impl Puts {
             lots: Vec::new(alloc),
             rows: Vec::new(alloc),
             count: 0,
+            sets: true,
             spare: Vec::new(alloc),
         }
     }
 
-    /// Removes all puts. The memory of rows is kept for [`Puts::room`].
+    /// Removes all puts. The memory of their rows is kept for [`Puts::room`], in place of what was kept before.
     pub fn clear(&mut self)
         ensures { self.new ≡ [] }
     {
         self.lots.clear();
         if !self.rows.is_empty() {
-            keep_all(&mut self.rows, &mut self.spare);
+            mem::swap(&mut self.rows, &mut self.spare);
+            self.rows.clear();
         }
         self.count = 0;
+        self.sets = true;
+    }
+
+    /// Removes all puts, and releases the memory of their rows.
+    pub fn release(&mut self)
+        ensures { self.new ≡ [] }
+    {
+        self.lots.clear();
+        self.rows.clear();
+        self.count = 0;
+        self.sets = true;
     }
 
     /// How many puts there are. A row counts as many as it has values.
@@ -73,6 +97,14 @@ impl Puts {
         ensures { result ≡ length self.now }
     {
         self.count
+    }
+
+    /// Whether none of them adds, so that no sum can overflow. It takes no time.
+    #[inline(always)]
+    pub fn are_sets(&self) -> bool
+        ensures { result ≡ list_all is_set self.now }
+    {
+        self.sets
     }
 
     /// Appends one put.
@@ -86,6 +118,7 @@ impl Puts {
         };
         self.lots.push(Lot::one(put))?;
         self.count = count;
+        self.sets = both(self.sets, is_one_set(put));
         Ok(())
     }
 
@@ -123,7 +156,7 @@ impl Puts {
     pub fn swap_room(&mut self, other: &mut Puts)
         ensures { (self.new ≡ self.old) × (other.new ≡ other.old) }
     {
-        std::mem::swap(&mut self.spare, &mut other.spare);
+        mem::swap(&mut self.spare, &mut other.spare);
     }
 
     /// Moves all puts of `others` to the end of these. Out of memory, both are as they were.
@@ -142,7 +175,46 @@ impl Puts {
             Err(_) => unreachable!(),
         }
         self.count = count;
+        self.sets = both(self.sets, others.sets);
         others.count = 0;
+        others.sets = true;
+        Ok(())
+    }
+
+    // Appends a copy of the puts of a lot, the first of these rows if it is one. Returns the rows that are left.
+    fn append_lot<'a>(
+        &mut self,
+        alloc: Global,
+        lot: Lot,
+        rows: &'a [Row],
+    ) -> Result<&'a [Row], AllocError>
+        ensures puts { OnOk result (self.new ≡ self.old ++ puts_of lot rows.now) }
+        ensures rows { IfOk result (λ left. left.now ≡ rows_after lot rows.now) }
+    {
+        if !lot.is_row {
+            self.put(lot.put())?;
+            return Ok(rows);
+        }
+        match rows.split_first() {
+            Some((row, after)) => {
+                let values = Vec::from_slice(alloc, &row.values)?;
+                self.put_row(lot.array, lot.index, values)?;
+                Ok(after)
+            }
+            None => Ok(rows),
+        }
+    }
+
+    /// Appends copies of all puts of `others`. If memory runs out, some are missing.
+    pub fn append_copy(&mut self, alloc: Global, others: &Puts) -> Result<(), AllocError>
+        ensures { OnOk result (self.new ≡ self.old ++ others.now) }
+    {
+        let mut rest = others.lots.as_slice();
+        let mut left = others.rows.as_slice();
+        while let Some((lot, after)) = rest.split_first() {
+            left = self.append_lot(alloc, *lot, left)?;
+            rest = after;
+        }
         Ok(())
     }
 
@@ -168,10 +240,18 @@ impl Puts {
         ensures unlanded { IfOk result (λ place. IsSome place → arrays.new ≡ arrays.old) }
         ensures memory { OnErr result (arrays.new ≡ arrays.old) }
     {
-        if are_all_sets(&self.lots) {
+        if self.sets {
             write_lots(arrays, &self.lots, &self.rows);
             return Ok(None);
         }
         land_adds(arrays, &self.lots, &self.rows, self.count, olds)
+    }
+
+    /// Lands puts none of which adds, one after another. A put to no cell is left out. It takes no memory.
+    pub fn land_sets(&self, arrays: &mut Arrays)
+        requires { IsTrue (list_all is_set self.now) }
+        ensures { arrays.new ≡ landed self.now arrays.old }
+    {
+        write_lots(arrays, &self.lots, &self.rows);
     }
 }

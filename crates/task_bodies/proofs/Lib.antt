@@ -2,3 +2,4 @@ pub mod Framed
 pub mod Laws
 pub mod Mapped
 pub mod Many
+pub mod Each

@@ -1,3 +1,5 @@
 pub mod Bodies
 pub mod Settled
 pub mod Kernels
+pub mod Cells
+pub mod Board

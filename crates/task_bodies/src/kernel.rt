@@ -3,6 +3,8 @@ ghost use Rattle.std.specs.Prelude.{◌≡◌, ◌≤◌, ◌<◌, ◌+◌, ◌+
 ghost use Rattle.task_bodies.specs.Kernels.{StencilMay};
 
 use crate::body::{Ending, Out, TaskBody, View};
+pub use crate::cells::{Cells, Map, Reduce};
+pub use crate::grid::{BoardRows, Grid, Window};
 use std::alloc::{AllocError, Global};
 
 /// Cells side by side: the cell before the first of them, and the cell before the last.

@@ -2,13 +2,16 @@
 //!
 //! # Where things are
 //!
-//! * `body.rt`: what you write; `run.rt`: runs; `kernel.rt`: bodies that are a closure; `member.rt`: tasks; `native.rt`:
-//!   the program of a body; `framing.rt`: how what a body wrote joins what others wrote.
-//! * `specs/Bodies.antt`: what bodies leave; `Kernels.antt`: what kernels leave; `Settled.antt`: how both join.
+//! * `body.rt`: what you write; `run.rt`: runs; `kernel.rt`: bodies that are a closure, with `cells.rt` and `grid.rt`;
+//!   `member.rt`: tasks; `native.rt`: the program of a body; `framing.rt`: how what a body wrote joins what others wrote.
+//! * `specs/Bodies.antt`: what bodies leave; `Kernels.antt`, `Cells.antt`, `Board.antt`: what kernels leave;
+//!   `Settled.antt`: how both join.
 #![tactic(auto)]
 
 pub mod body;
+mod cells;
 mod framing;
+mod grid;
 pub mod kernel;
 pub mod member;
 mod native;

@@ -4,11 +4,12 @@ ghost use Rattle.task_lang.specs.Meaning.{started, plan_at};
 ghost use Rattle.task_lang.specs.Views.{plans, task_of};
 
 use crate::fault::Fault;
+use programs::program::OnPath;
 use smallvec::SmallVec;
 use std::alloc::{AllocError, Global};
 use std::marker::Model;
-use superstep_memory::arrays::Put;
 use superstep_memory::path::Path;
+use superstep_memory::puts::Puts;
 use task_code::body::Body;
 
 /// A task between two segments.
@@ -45,6 +46,15 @@ impl Model for Task {
     ghost invariant = { λ t. IsTask t.path.items t.spawned };
 }
 
+impl OnPath for Task {
+    ghost path_of = { λ t. t.path };
+
+    #[inline(always)]
+    fn path(&self) -> &Path {
+        &self.path
+    }
+}
+
 /// How a segment ends.
 #[derive(Drop)]
 pub enum After {
@@ -60,7 +70,7 @@ pub enum After {
 #[derive(Drop)]
 pub struct Segment {
     /// What is to be put into the arrays.
-    pub puts: Vec<Put>,
+    pub puts: Puts,
     /// What was printed.
     pub prints: Vec<i64>,
     /// The tasks that begin in the next superstep.
@@ -74,7 +84,7 @@ impl Model for Segment {
 
     ghost Value = { SegmentValue };
 
-    ghost view = { λ s. record { puts = s.puts.items; prints = s.prints.items; spawns = s.spawns.items; after = s.after } };
+    ghost view = { λ s. record { puts = s.puts; prints = s.prints.items; spawns = s.spawns.items; after = s.after } };
 }
 
 impl Task {

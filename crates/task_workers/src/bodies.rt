@@ -4,7 +4,6 @@ ghost use Rattle.programs.specs.History.{HasRun};
 ghost use Rattle.task_bodies.specs.Bodies.{member_frame, BodyMay, numbered};
 ghost use Rattle.task_workers.specs.Leaving.{are_too_many_parties, RefusesFor};
 
-use crate::run::run_program;
 use advance_rule::{EndPlan, StoredAdvance};
 use programs::alone::Ran;
 use std::alloc::Global;
@@ -16,7 +15,7 @@ use task_bodies::body::TaskBody;
 use task_bodies::member::{Member, starts};
 use thiserror::Error;
 use tier_shape::Shape;
-use worker_pool::{Gate, Refused, Starter};
+use worker_pool::{Gate, Refused, Starter, run_program};
 
 /// Why a run on workers isn't begun or isn't ended.
 #[derive(Debug, Drop, Error)]

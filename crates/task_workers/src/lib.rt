@@ -4,15 +4,10 @@
 //!
 //! # Where things are
 //!
-//! * `engine.rt`: stretches of a program as an engine; `run.rt`: a program on workers; `bodies.rt`: bodies on
-//!   workers.
+//! * `bodies.rt`: bodies on workers. A program on workers is in `worker_pool`.
 #![tactic(auto)]
 
 mod bodies;
-mod engine;
-mod run;
 
 pub use bodies::{WorkersFault, run_bodies_on_workers};
-pub use engine::{Run, Taken};
-pub use run::run_program;
-pub use worker_pool::{AllStart, Gate, OpenGate, Refused, Starter};
+pub use worker_pool::{AllStart, Gate, OpenGate, Refused, Starter, run_program};

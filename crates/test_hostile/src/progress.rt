@@ -9,6 +9,7 @@ use std::sync::atomic::{AtomicU64, Ordering};
 use std::thread;
 use std::thread::Threads;
 use step_core::Watch;
+use superstep_memory::arrays::Arrays;
 use superstep_memory::path::Path;
 use worker_pool::Gate;
 
@@ -45,7 +46,7 @@ fn is_start(path: &Path, number: u16) -> bool {
 }
 
 impl Watch for Counter<'_> {
-    fn superstep(&mut self, _step: u32, tasks: usize) {
+    fn superstep(&mut self, _step: u32, _arrays: &Arrays, tasks: usize) {
         add(&self.counts.supersteps, 1);
         add(&self.counts.tasks, tasks as u64);
     }

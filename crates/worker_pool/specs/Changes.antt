@@ -1,6 +1,6 @@
 -- What the tasks of a stretch did to the list of tasks (own).
 use Rattle.std.specs.Prelude.{◌≡◌, Bool, false, ℕ, List, map}
-use Rattle.step_deeds.specs.Changes.{change_of}
+use Rattle.programs.specs.Changes.{change_of}
 use Rattle.worker_pool.specs.declared.hand.Changes.{Changes}
 use Rattle.worker_pool.specs.declared.hand.Changes.TheVariants.{Same, Each}
 

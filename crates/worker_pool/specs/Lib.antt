@@ -1,7 +1,6 @@
-pub mod Mark
-pub mod JobEngine
 pub mod QueueValue
 pub mod Entries
 pub mod JobPlan
 pub mod Refusals
 pub mod Changes
+pub mod Leaving

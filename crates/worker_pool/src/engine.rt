@@ -1,19 +1,18 @@
 //! What workers run: an engine of supersteps, and the stretches of tasks that it hands out.
 use crate::fault::Reason;
+use programs::deeds::Change;
 use std::alloc::{AllocError, Global};
-use step_stretches::Change;
 use superstep_memory::path::Path;
 
 /// Consecutive live tasks of a superstep, in path order, which one worker holds while it runs their segments (own).
 pub trait Stretch: Drop {
     ghost use Rattle.std.specs.Prelude.{◌≡◌, ◌<◌, ◌+◌, ◌↔◌, ℕ, Bool, IsTrue, List, Option, IfOk, OnOk, map, nat_le};
     ghost use Rattle.std.specs.Option.{option_map};
-    ghost use Rattle.step_parts.specs.SlotParts.{path_of};
-    ghost use Rattle.step_deeds.specs.Changes.{change_of};
-    ghost use Rattle.worker_pool.specs.Mark.{Mark};
+    ghost use Rattle.programs.specs.Changes.{change_of};
+    ghost use Rattle.atomic_table.specs.Seated.{TableId};
 
-    /// What it is of: the mark of its engine, without a limit.
-    ghost mark: { Self → Mark };
+    /// What it is of: the mark of its engine.
+    ghost mark: { Self → TableId };
 
     /// Its number among the stretches of its superstep.
     ghost number: { Self → ℕ };
@@ -60,7 +59,7 @@ pub trait Stretch: Drop {
 
     /// The path of the task whose segment is next; `None` if all are done. It takes no memory.
     fn next_path(&self) -> Option<Path>
-        ensures { option_map path_of result ≡ next self.now };
+        ensures { option_map (λ p. p.items) result ≡ next self.now };
 
     /// Runs the segment of the next task. If memory runs out, the tasks are lost.
     fn do_next(&mut self, alloc: Global) -> Result<(), AllocError>
@@ -115,7 +114,7 @@ pub enum Closed {
 /// * A run ends by a fault in [`Engine::close`], with no task left, or at its limit.
 pub trait Engine: Drop {
     ghost use Rattle.std.specs.Prelude.{◌≡◌, ◌<◌, ◌+◌, ℕ, Bool, true, false, is_some, IfOk, IfSome, OnOk, OnErr, MatchOption};
-    ghost use Rattle.worker_pool.specs.Mark.{Mark, unlimited};
+    ghost use Rattle.atomic_table.specs.Seated.{TableId};
     ghost use Rattle.worker_pool.specs.declared.engine.Closed.{Closed};
 
     /// A stretch while it is out.
@@ -124,11 +123,11 @@ pub trait Engine: Drop {
     /// What a run leaves.
     type Outcome;
 
-    /// What the run is of. No method changes it.
-    ghost mark: { Self → Mark };
+    /// What the run is of: an atomic table that nobody else has. No method changes it.
+    ghost mark: { Self → TableId };
 
     /// What a run of this mark may leave.
-    ghost gives: { Mark → Self.Outcome → Type 0 };
+    ghost gives: { TableId → Self.Outcome → Type 0 };
 
     /// How many tasks live.
     ghost count: { Self → ℕ };
@@ -198,13 +197,13 @@ pub trait Engine: Drop {
         ensures lent { IfOk result (λ taken. MatchOption taken
             ((ready self.old number ≡ false) × (self.new ≡ self.old))
             (λ stretch. lends self.old self.new number stretch)) }
-        ensures stretch { IfOk result (λ taken. IfSome taken (λ stretch. Self.Stretch.mark stretch ≡ unlimited (mark self.old))) }
+        ensures stretch { IfOk result (λ taken. IfSome taken (λ stretch. Self.Stretch.mark stretch ≡ mark self.old)) }
         ensures mark { mark self.new ≡ mark self.old }
         ensures unchanged { OnErr result (self.new ≡ self.old) };
 
     /// Takes a stretch back whose segments have run, or fails with `Internal` and changes nothing.
     fn accept(&mut self, stretch: Self::Stretch) -> Result<(), Reason>
-        requires stretch { Self.Stretch.mark stretch ≡ unlimited (mark self.old) }
+        requires stretch { Self.Stretch.mark stretch ≡ mark self.old }
         ensures taken { OnOk result (accepts self.old stretch) }
         ensures added { OnOk result (self.new ≡ with_stretch self.old stretch) }
         ensures mark { mark self.new ≡ mark self.old }

@@ -2,8 +2,8 @@
 ghost use Rattle.std.specs.Prelude.{◌≡◌, ℕ};
 ghost use Rattle.worker_pool.specs.Refusals.{IsOfWorkers, refusal_number, refusal_of};
 
+use program_stretches::{Unclosed, Unwanted};
 use std::alloc::AllocError;
-use step_stretches::{Unclosed, Unwanted};
 use thiserror::Error;
 
 /// Why a run gives no report (own). All workers that were started have been joined.

@@ -6,55 +6,63 @@ use crate::queue::Running;
 use std::alloc::AllocError;
 use std::cmp::Ordering;
 use std::collections::VecDeque;
-
-/// Sorts participants by path.
-pub(crate) fn in_path_order<J: Running>(participants: &mut Vec<Participant<J>>) {
-    participants.sort_unstable_by(|one: &Participant<J>, other: &Participant<J>| by_path(
-        one, other,
-    ));
-}
+use superstep_memory::path::is_before;
 
 // Compares two participants by path.
 fn by_path<J: Running>(one: &Participant<J>, other: &Participant<J>) -> Ordering {
     one.path.as_slice().cmp(&other.path.as_slice())
 }
 
-// Appends a participant.
-fn push_participant<J: Running>(
-    participants: &mut Vec<Participant<J>>,
-    participant: Participant<J>,
+// Compares two groups by number.
+fn by_number<J: Running>(one: &Group<J>, other: &Group<J>) -> Ordering {
+    one.number.cmp(&other.number)
+}
+
+// Whether participants are in path order.
+fn are_in_order<J: Running>(participants: &[Participant<J>]) -> bool {
+    for (one, next) in participants.iter().zip(participants.iter().skip(1)) {
+        if is_before(next.path.as_slice(), one.path.as_slice()) {
+            return false;
+        }
+    }
+    true
+}
+
+// Puts participants in path order. They mostly are: only a spawned task whose spawner has earlier ones that still live isn't in its
+// place.
+fn in_path_order<J: Running>(participants: &mut Vec<Participant<J>>) {
+    if are_in_order(participants) {
+        return;
+    }
+    participants.sort_unstable_by(|one: &Participant<J>, other: &Participant<J>| by_path(
+        one, other,
+    ));
+}
+
+/// The participants of all groups, in path order. Takes all groups.
+pub(crate) fn participants_of<J: Running>(
+    groups: &mut Vec<Group<J>>,
+    count: usize,
+) -> Result<Vec<Participant<J>>, AllocError> {
+    let mut participants = Vec::with_capacity(*groups.allocator(), count)?;
+    groups.sort_unstable_by(|one: &Group<J>, other: &Group<J>| by_number(one, other));
+    for group in groups.iter_mut() {
+        participants.append(&mut group.participants)?;
+    }
+    groups.clear();
+    in_path_order(&mut participants);
+    Ok(participants)
+}
+
+/// Appends a group to a list.
+pub(crate) fn list_group<J: Running>(
+    groups: &mut Vec<Group<J>>,
+    group: Group<J>,
 ) -> Result<(), AllocError> {
-    match participants.push(participant) {
+    match groups.push(group) {
         Ok(()) => Ok(()),
         Err(_) => Err(AllocError),
     }
-}
-
-/// Moves the participants of a group to the end of `participants`.
-pub(crate) fn move_participants<J: Running>(
-    mut group: Group<J>,
-    participants: &mut Vec<Participant<J>>,
-) -> Result<(), AllocError> {
-    participants.reserve(group.participants.len())?;
-    for _ in 0..group.participants.len() {
-        if let Some(participant) = group.participants.pop_front() {
-            push_participant(participants, participant)?;
-        }
-    }
-    Ok(())
-}
-
-/// Moves the participants of all groups to the end of `participants`.
-pub(crate) fn move_groups<J: Running>(
-    groups: &mut VecDeque<Group<J>>,
-    participants: &mut Vec<Participant<J>>,
-) -> Result<(), AllocError> {
-    for _ in 0..groups.len() {
-        if let Some(group) = groups.pop_front() {
-            move_participants(group, participants)?;
-        }
-    }
-    Ok(())
 }
 
 /// Appends a group.
@@ -93,12 +101,11 @@ pub(crate) fn groups_of<E: Engine, J: Running>(
             return Err(Reason::Internal);
         };
         let group = participants.split_off(at)?;
-        let participants = VecDeque::from_vec(group);
         push_first(
             &mut groups,
             Group {
                 number,
-                participants,
+                participants: group,
             },
         )?;
     }

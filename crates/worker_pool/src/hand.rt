@@ -6,10 +6,10 @@ use crate::engine::Stretch;
 use crate::fault::Reason;
 use crate::hooks::Gate;
 use crate::queue::Running;
+use programs::deeds::Change;
 use std::alloc::{AllocError, Global};
 use std::marker::{Model, PhantomData};
 use std::sync::Wait;
-use step_stretches::Change;
 
 /// A stretch that a worker holds. Its type keeps that it is of the engine that runs.
 #[derive(Drop)]
@@ -20,13 +20,12 @@ pub(crate) struct HeldStretch<S: Stretch, J: Running> {
 
 impl<S: Stretch, J: Running> Model for HeldStretch<S, J> {
     ghost use Rattle.std.specs.Prelude.{◌≡◌};
-    ghost use Rattle.worker_pool.specs.Mark.{unlimited};
 
     ghost Value = { S };
 
     ghost view = { λ l. l.stretch };
 
-    ghost invariant = { λ l. S.mark l.stretch ≡ unlimited J.mark };
+    ghost invariant = { λ l. S.mark l.stretch ≡ J.mark };
 }
 
 /// How the tasks of a stretch changed the list of live tasks.
@@ -108,11 +107,10 @@ fn do_all<S: Stretch, R: Wait, G: Gate>(
 impl<S: Stretch, J: Running> HeldStretch<S, J> {
     ghost use Rattle.std.specs.Prelude.{◌≡◌, ◌≤◌, IfOk, OnOk};
     ghost use Rattle.worker_pool.specs.Changes.{Tells};
-    ghost use Rattle.worker_pool.specs.Mark.{unlimited};
 
     /// Holds a stretch of the engine that runs.
     pub(crate) fn new(stretch: S) -> Self
-        requires { S.mark stretch ≡ unlimited J.mark }
+        requires { S.mark stretch ≡ J.mark }
         ensures { result ≡ stretch }
     {
         HeldStretch {
@@ -128,7 +126,7 @@ impl<S: Stretch, J: Running> HeldStretch<S, J> {
         self.stretch.step()
     }
 
-    /// Runs its segments, with no lock held; if the gate isn't open, between the two calls of the gate. Returns how its
+    /// Runs its segments, with no lock held, after a call of the gate; if the gate isn't open, between two more calls of it. Returns how its
     /// tasks changed the list of live tasks.
     pub(crate) fn run<R: Wait, G: Gate>(
         &mut self,
@@ -139,6 +137,7 @@ impl<S: Stretch, J: Running> HeldStretch<S, J> {
         ensures done { OnOk result (S.len self.new ≤ S.done self.new) }
         ensures told { IfOk result (Tells (S.stays self.new) (S.faulted self.new) (S.told self.new)) }
     {
+        gate.stretch(rt, self.stretch.step(), self.stretch.len());
         match do_all(rt, alloc, gate, &mut self.stretch) {
             Ok(()) => changes_of(alloc, &self.stretch),
             Err(_) => Err(Reason::Memory),
@@ -148,7 +147,7 @@ impl<S: Stretch, J: Running> HeldStretch<S, J> {
     /// Gives up the stretch.
     pub(crate) fn into_stretch(self) -> S
         ensures stretch { result ≡ self }
-        ensures mark { S.mark result ≡ unlimited J.mark }
+        ensures mark { S.mark result ≡ J.mark }
     {
         self.stretch
     }

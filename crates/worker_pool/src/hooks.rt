@@ -2,16 +2,20 @@
 use std::sync::Wait;
 use superstep_memory::path::Path;
 
-/// A hook round the segment of each task (own). It isn't a barrier; for that see `CyclicGate` of the crate `cyclic_gate`.
+/// A hook round the segment of each task, and before each stretch (own). It isn't a barrier; for that see `CyclicGate` of the crate `cyclic_gate`.
 ///
 /// The worker that runs the segment calls `enter` before it and `leave` after it, with no lock held. It calls `leave` for
 /// one task before it calls `enter` for another, and holds no other task meanwhile. So two tasks on two workers may wait
 /// for each other in these calls.
 pub trait Gate {
-    /// Returns true if the gate needn't see segments. Then neither call is made, and a worker holds many tasks at a time.
+    /// Returns true if the gate needn't see segments. Then `enter` and `leave` aren't called, and a worker holds many tasks at a time.
     fn is_open(&self) -> bool {
         false
     }
+
+    /// Called before the first segment of each stretch, also if the gate is open, with the superstep, counted from 0, and how many
+    /// tasks the stretch has. Does nothing, unless the gate says more.
+    fn stretch<R: Wait>(&self, _rt: &R, _step: u32, _tasks: usize) {}
 
     /// Called before the segment of the task with this path, in this superstep, counted from 0.
     fn enter<R: Wait>(&self, rt: &R, path: &Path, step: u32);

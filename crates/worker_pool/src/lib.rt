@@ -1,15 +1,15 @@
 //! Runs jobs, and other engines of supersteps, on worker threads, which synchronize at a tree of phasers.
 //!
-//! * `engine`: what workers run. `job_engine`: the stretches of a job as an engine.
-//! * `run`, `start`: one run, from its first registration to what it leaves.
+//! * `engine`: what workers run. `program_engine`: the stretches of a program as an engine.
+//! * `job`, `within`: a job on workers; `program`: any program. `run`, `start`: one run, from its first registration to
+//!   what it leaves.
 //! * `work`: the loop of one worker.
 //! * `shared`: what all workers share: the queue under a lock, and the tree without one.
 //! * `queue`, `groups`: which stretches are ready, and which participants are back from the tree.
 //! * `hand`: a stretch while a worker holds it. `participant`: a task's token on the tree.
 //! * `tree`, `leaves`: the calls of the tree, and the leaves of its tasks.
 //! * `hooks`: what a caller hooks into a run. `fault`: why a run leaves nothing.
-//! * `specs/Mark.antt`: what a run is of; `JobEngine.antt`: a job as an engine; `JobPlan.antt`: when the tree of a
-//!   job ends.
+//! * `specs/Leaving.antt`: what a run of a program leaves; `JobPlan.antt`: when the tree of a run ends.
 #![tactic(auto)]
 
 pub mod engine;
@@ -17,9 +17,11 @@ mod fault;
 mod groups;
 mod hand;
 mod hooks;
-mod job_engine;
+mod job;
 mod leaves;
 mod participant;
+mod program;
+mod program_engine;
 mod queue;
 mod run;
 mod shared;
@@ -30,5 +32,8 @@ mod work;
 
 pub use fault::{Reason, Refused};
 pub use hooks::{AllStart, Gate, OpenGate, Starter};
-pub use run::{limit_in, run_engine, run_job, stretches_wanted};
+pub use job::run_job;
+pub use program::run_program;
+pub use program_engine::{Run, Taken};
+pub use run::{limit_in, run_engine, stretches_wanted};
 pub use within::run_within;

@@ -2,7 +2,6 @@
 ghost use Rattle.std.specs.Prelude.{◌≡◌};
 
 use crate::queue::Running;
-use std::collections::VecDeque;
 use std::marker::PhantomData;
 use superstep_memory::path::Path;
 use tier_table::tokens::{Crew, Door};
@@ -35,7 +34,7 @@ impl<J: Running> Participant<J> {
 #[derive(Drop)]
 pub(crate) struct Group<J: Running> {
     pub(crate) number: usize,
-    pub(crate) participants: VecDeque<Participant<J>>,
+    pub(crate) participants: Vec<Participant<J>>,
 }
 
 /// A worker's own token without members, by which it can end the tree. Its type keeps that it is of the tree of the run.

@@ -4,10 +4,10 @@ ghost use Rattle.worker_pool.specs.Refusals.{IsOfWorkers};
 
 use crate::engine::{Closed, Engine};
 use crate::fault::{Reason, Refused};
-use crate::groups::{groups_of, in_path_order, move_groups, move_participants, push_group};
+use crate::groups::{groups_of, list_group, participants_of, push_group};
 use crate::hand::HeldStretch;
-use crate::participant::{Group, Participant};
-use std::alloc::Global;
+use crate::participant::Group;
+use std::alloc::{AllocError, Global};
 use std::collections::VecDeque;
 use std::marker::{Brand, Model, PhantomData};
 
@@ -15,9 +15,9 @@ use std::marker::{Brand, Model, PhantomData};
 pub trait Running {
     ghost use Rattle.std.specs.Prelude.{ℕ};
     ghost use Rattle.tier_table.specs.Holding.{Named};
-    ghost use Rattle.worker_pool.specs.Mark.{Mark};
+    ghost use Rattle.atomic_table.specs.Seated.{TableId};
 
-    ghost mark: { Mark };
+    ghost mark: { TableId };
 
     ghost workers: { ℕ };
 
@@ -26,9 +26,8 @@ pub trait Running {
 
 impl Running for Brand {
     ghost use Rattle.std.specs.Prelude.{[], false, None};
-    ghost use Rattle.worker_pool.specs.Mark.{OfJob};
 
-    ghost mark = { OfJob (record { format = 1; arrays = []; bodies = []; starts = [] }) 1 };
+    ghost mark = { record { words = 0; slots = 0; views_name = 0; atom = 0; block = 0; offset = 0; slot_names = [] } };
 
     ghost workers = { 1 };
 
@@ -47,8 +46,9 @@ pub(crate) struct Queue<E: Engine, J: Running> {
     ready: VecDeque<Group<J>>,
     // The groups of this superstep that are back from the tree. If all tasks stay, they are ready once it is closed.
     back: VecDeque<Group<J>>,
-    // If tasks came or left: the participants of the next superstep's tasks that are back from the tree.
-    coming: Vec<Participant<J>>,
+    // If tasks came or left: the groups with the next superstep's tasks that are back from the tree, and how many these are.
+    coming: Vec<Group<J>>,
+    coming_count: usize,
     // Whether a task came or left in the part of this superstep that was delivered.
     moves: bool,
     // Whether the live tasks were cut anew when the last superstep was closed.
@@ -105,6 +105,7 @@ impl<E: Engine, J: Running> Queue<E, J> {
             ready,
             back: VecDeque::new(alloc),
             coming: Vec::new(alloc),
+            coming_count: 0,
             moves: false,
             is_cut: false,
             first: None,
@@ -181,12 +182,23 @@ impl<E: Engine, J: Running> Queue<E, J> {
     fn pair_up(&mut self) -> Result<bool, Reason>
         ensures { self.new ≡ self.old }
     {
-        if self.coming.len() < self.engine.count() {
+        if self.coming_count < self.engine.count() {
             return Ok(false);
         }
-        in_path_order(&mut self.coming);
-        self.ready = groups_of(&self.engine, &mut self.coming)?;
+        let mut participants = participants_of(&mut self.coming, self.coming_count)?;
+        self.coming_count = 0;
+        self.ready = groups_of(&self.engine, &mut participants)?;
         Ok(true)
+    }
+
+    // Takes back a group after the tasks were cut anew.
+    fn take_coming(&mut self, group: Group<J>) -> Result<(), AllocError>
+        ensures { self.new ≡ self.old }
+    {
+        let count = group.participants.len();
+        list_group(&mut self.coming, group)?;
+        self.coming_count = self.coming_count.saturating_add(count);
+        Ok(())
     }
 
     // Takes back a group whose superstep was closed meanwhile. A group whose tasks have all left may come even later; nothing
@@ -201,7 +213,7 @@ impl<E: Engine, J: Running> Queue<E, J> {
             push_group(&mut self.ready, group)?;
             return Ok(true);
         }
-        move_participants(group, &mut self.coming)?;
+        self.take_coming(group)?;
         self.pair_up()
     }
 
@@ -225,7 +237,11 @@ impl<E: Engine, J: Running> Queue<E, J> {
             self.ready.append(&mut self.back)?;
             return Ok(true);
         }
-        move_groups(&mut self.back, &mut self.coming)?;
+        for _ in 0..self.back.len() {
+            if let Some(group) = self.back.pop_front() {
+                self.take_coming(group)?;
+            }
+        }
         self.pair_up()
     }
 

@@ -5,12 +5,13 @@ use crate::hand::{Changes, HeldStretch};
 use crate::participant::{Group, OwnToken, Participant};
 use crate::queue::{HandedBack, Next, Queue, Running};
 use crate::tree::WorkerTree;
+use programs::deeds::Change;
 use std::alloc::Global;
 use std::collections::VecDeque;
 use std::hint::spin_loop;
+use std::mem;
 use std::sync::atomic::{AtomicBool, AtomicU64, Ordering};
 use std::sync::{Condvar, Mutex, MutexGuard, Wait};
-use step_stretches::Change;
 use superstep_memory::path::Path;
 
 /// The queue under a lock, and the tree without one. No call of the tree is made while the lock is held. A worker that
@@ -26,6 +27,17 @@ pub(crate) struct Shared<E: Engine, J: Running, F: Fn(u32, u32) -> bool> {
     // How often a worker looks at either before it goes on.
     pub(crate) spins: u32,
     pub(crate) tree: WorkerTree<J, F>,
+}
+
+// Appends a participant.
+fn list_participant<J: Running>(
+    participants: &mut Vec<Participant<J>>,
+    participant: Participant<J>,
+) -> Result<(), Reason> {
+    match participants.push(participant) {
+        Ok(()) => Ok(()),
+        Err(_) => Err(Reason::Memory),
+    }
 }
 
 impl<E: Engine, J: Running, F: Fn(u32, u32) -> bool> Shared<E, J, F> {
@@ -92,37 +104,21 @@ impl<E: Engine, J: Running, F: Fn(u32, u32) -> bool> Shared<E, J, F> {
         self.queue.lock(rt).deliver(held, stay)
     }
 
-    // Arrives for a task that stays alive. Returns true if this arrival advanced the tree.
-    fn arrive<R: Wait>(
-        &self,
-        rt: &R,
-        mut participant: Participant<J>,
-        passed: &mut VecDeque<Participant<J>>,
-    ) -> Result<bool, Reason>
-        requires rule { Answers (F.pre self.now.tree.phaser.rule.closure) (F.post self.now.tree.phaser.rule.closure) (end_ends_at self.now.tree.phaser.rule.plan) }
-    {
-        let led = self.tree.arrive(rt, &mut participant.crew)?;
-        match passed.push_back(participant) {
-            Ok(()) => Ok(led),
-            Err(_) => Err(Reason::Memory),
-        }
-    }
-
-    // Registers a spawned task, and arrives for it.
+    // Registers a spawned task, and arrives for it. There is room for it in `spawned`.
     fn bring_spawned<R: Wait>(
         &self,
         rt: &R,
         participant: &mut Participant<J>,
         path: Path,
-        passed: &mut VecDeque<Participant<J>>,
+        spawned: &mut Vec<Participant<J>>,
     ) -> Result<(), Reason>
         requires rule { Answers (F.pre self.now.tree.phaser.rule.closure) (F.post self.now.tree.phaser.rule.closure) (end_ends_at self.now.tree.phaser.rule.plan) }
         requires unarrived { participant.old.crew.view.arrived < participant.old.crew.view.size }
         ensures same { participant.new.crew.view.arrived < participant.new.crew.view.size }
     {
-        let child = self.tree.register_spawned(rt, &mut participant.crew, path)?;
-        self.arrive(rt, child, passed)?;
-        Ok(())
+        let mut child = self.tree.register_spawned(rt, &mut participant.crew, path)?;
+        let _led = self.tree.arrive(rt, &mut child.crew)?;
+        list_participant(spawned, child)
     }
 
     // Registers the tasks that a task has spawned, and arrives for each. The spawner itself hasn't arrived.
@@ -130,18 +126,18 @@ impl<E: Engine, J: Running, F: Fn(u32, u32) -> bool> Shared<E, J, F> {
         &self,
         rt: &R,
         participant: &mut Participant<J>,
-        spawned: Vec<Path>,
-        passed: &mut VecDeque<Participant<J>>,
+        paths: Vec<Path>,
+        spawned: &mut Vec<Participant<J>>,
     ) -> Result<(), Reason>
         requires rule { Answers (F.pre self.now.tree.phaser.rule.closure) (F.post self.now.tree.phaser.rule.closure) (end_ends_at self.now.tree.phaser.rule.plan) }
     {
-        if spawned.is_empty() {
+        if paths.is_empty() {
             return Ok(());
         }
         self.tree.come_in(&mut participant.crew)?;
-        passed.reserve(spawned.len())?;
-        for path in spawned {
-            self.bring_spawned(rt, participant, path, passed)?;
+        spawned.reserve(paths.len())?;
+        for path in paths {
+            self.bring_spawned(rt, participant, path, spawned)?;
         }
         Ok(())
     }
@@ -158,30 +154,52 @@ impl<E: Engine, J: Running, F: Fn(u32, u32) -> bool> Shared<E, J, F> {
         self.tree.leave(rt, crew)
     }
 
-    // Brings a task's spawned tasks in, then arrives or leaves for it. Returns true if that advanced the tree.
+    // Arrives for a task that stays alive, or leaves for one that has stopped. Returns true if that advanced the tree.
+    fn go_on<R: Wait>(
+        &self,
+        rt: &R,
+        mut participant: Participant<J>,
+        stays: bool,
+        passed: &mut Vec<Participant<J>>,
+    ) -> Result<bool, Reason>
+        requires rule { Answers (F.pre self.now.tree.phaser.rule.closure) (F.post self.now.tree.phaser.rule.closure) (end_ends_at self.now.tree.phaser.rule.plan) }
+    {
+        if !stays {
+            return self.leave(rt, participant);
+        }
+        let led = self.tree.arrive(rt, &mut participant.crew)?;
+        list_participant(passed, participant)?;
+        Ok(led)
+    }
+
+    // Brings a task's spawned tasks in, then arrives or leaves for it. What stays alive is appended in this order: the task, its
+    // spawned tasks. Returns true if that advanced the tree. `spawned` is working space, which is empty.
     fn pass<R: Wait>(
         &self,
         rt: &R,
         mut participant: Participant<J>,
         change: Change,
-        passed: &mut VecDeque<Participant<J>>,
+        spawned: &mut Vec<Participant<J>>,
+        passed: &mut Vec<Participant<J>>,
     ) -> Result<bool, Reason>
         requires rule { Answers (F.pre self.now.tree.phaser.rule.closure) (F.post self.now.tree.phaser.rule.closure) (end_ends_at self.now.tree.phaser.rule.plan) }
     {
-        let Change { synced, spawned } = change;
-        self.bring_in(rt, &mut participant, spawned, passed)?;
-        if !synced {
-            return self.leave(rt, participant);
-        }
-        passed.reserve(1)?;
-        self.arrive(rt, participant, passed)
+        let Change {
+            synced,
+            spawned: paths,
+        } = change;
+        self.bring_in(rt, &mut participant, paths, spawned)?;
+        passed.reserve(spawned.len().saturating_add(1))?;
+        let led = self.go_on(rt, participant, synced, passed)?;
+        passed.append(spawned)?;
+        Ok(led)
     }
 
     // Arrives for each task of a group, all of which stay alive. Returns true if one of them advanced the tree.
     fn arrive_each<R: Wait>(
         &self,
         rt: &R,
-        participants: &mut VecDeque<Participant<J>>,
+        participants: &mut Vec<Participant<J>>,
     ) -> Result<bool, Reason>
         requires rule { Answers (F.pre self.now.tree.phaser.rule.closure) (F.post self.now.tree.phaser.rule.closure) (end_ends_at self.now.tree.phaser.rule.plan) }
     {
@@ -197,23 +215,28 @@ impl<E: Engine, J: Running, F: Fn(u32, u32) -> bool> Shared<E, J, F> {
     fn pass_each<R: Wait>(
         &self,
         rt: &R,
-        participants: &mut VecDeque<Participant<J>>,
+        alloc: Global,
+        participants: &mut Vec<Participant<J>>,
         changes: Vec<Change>,
     ) -> Result<bool, Reason>
         requires rule { Answers (F.pre self.now.tree.phaser.rule.closure) (F.post self.now.tree.phaser.rule.closure) (end_ends_at self.now.tree.phaser.rule.plan) }
     {
         let mut led = false;
         let mut changes = VecDeque::from_vec(changes);
-        for _ in 0..participants.len() {
-            let Some(participant) = participants.pop_front() else {
+        let mut spawned = Vec::new(alloc);
+        let mut passed = Vec::with_capacity(alloc, participants.len())?;
+        let mut rest = VecDeque::from_vec(mem::replace(participants, Vec::new(alloc)));
+        for _ in 0..rest.len() {
+            let Some(participant) = rest.pop_front() else {
                 return Err(Reason::Internal);
             };
             let one_led = match changes.pop_front() {
-                Some(change) => self.pass(rt, participant, change, participants)?,
+                Some(change) => self.pass(rt, participant, change, &mut spawned, &mut passed)?,
                 None => self.leave(rt, participant)?,
             };
             led = one_led || led;
         }
+        *participants = passed;
         Ok(led)
     }
 
@@ -221,14 +244,15 @@ impl<E: Engine, J: Running, F: Fn(u32, u32) -> bool> Shared<E, J, F> {
     fn pass_group<R: Wait>(
         &self,
         rt: &R,
-        participants: &mut VecDeque<Participant<J>>,
+        alloc: Global,
+        participants: &mut Vec<Participant<J>>,
         changes: Changes,
     ) -> Result<bool, Reason>
         requires rule { Answers (F.pre self.now.tree.phaser.rule.closure) (F.post self.now.tree.phaser.rule.closure) (end_ends_at self.now.tree.phaser.rule.plan) }
     {
         match changes {
             Changes::Same => self.arrive_each(rt, participants),
-            Changes::Each(changes) => self.pass_each(rt, participants, changes),
+            Changes::Each(changes) => self.pass_each(rt, alloc, participants, changes),
         }
     }
 
@@ -247,7 +271,7 @@ impl<E: Engine, J: Running, F: Fn(u32, u32) -> bool> Shared<E, J, F> {
         requires rule { Answers (F.pre self.now.tree.phaser.rule.closure) (F.post self.now.tree.phaser.rule.closure) (end_ends_at self.now.tree.phaser.rule.plan) }
     {
         let alone = self.back_off();
-        let passed = self.pass_group(rt, &mut group.participants, changes);
+        let passed = self.pass_group(rt, alloc, &mut group.participants, changes);
         if alone {
             self.passing.store(false, Ordering::SeqCst);
         }

@@ -127,8 +127,8 @@ impl<J: Running, F: Fn(u32, u32) -> bool> WorkerTree<J, F> {
         }
     }
 
-    /// Registers a task that the task of `crew` has spawned: at its preferred leaf, or if that is refused, at its spawner's
-    /// tier.
+    /// Registers a task that the task of `crew` has spawned: at its preferred leaf, or if that is refused or is its spawner's tier,
+    /// beside its spawner.
     pub(crate) fn register_spawned<R: Wait>(
         &self,
         rt: &R,
@@ -142,6 +142,10 @@ impl<J: Running, F: Fn(u32, u32) -> bool> WorkerTree<J, F> {
     {
         let fresh = self.phaser.split_crew(crew);
         let tier = self.leaves.preferred(crew.tier(), path.as_slice());
+        if tier == crew.tier() {
+            let child = self.join_here(rt, crew, fresh)?;
+            return Ok(Participant::new(path, child));
+        }
         match self.register(rt, fresh, tier) {
             Entry::In(child) => Ok(Participant::new(path, child)),
             Entry::Off(door) => {

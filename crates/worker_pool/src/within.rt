@@ -1,12 +1,12 @@
 //! A job on worker threads, within a limit of supersteps.
 ghost use Rattle.std.specs.Prelude.{◌≡◌, ◌≤◌, Some, IfOk, IfErr};
-ghost use Rattle.step_core.specs.Program.{program_of};
-ghost use Rattle.step_core.specs.JobMeaning.{report_of};
+ghost use Rattle.step_parts.specs.Program.{program_of};
+ghost use Rattle.step_parts.specs.JobMeaning.{report_of};
 ghost use Rattle.worker_pool.specs.Refusals.{IsOfWorkers};
 
 use crate::fault::Refused;
 use crate::hooks::{Gate, Starter};
-use crate::run::run_job;
+use crate::job::run_job;
 use advance_rule::{EndPlan, StoredAdvance};
 use phase_records::Report;
 use std::alloc::Global;

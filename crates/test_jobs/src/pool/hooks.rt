@@ -2,7 +2,7 @@
 use crate::left::job_of;
 use crate::pool::fixtures::left_by;
 use std::alloc::Global;
-use std::sync::atomic::AtomicU64;
+use std::sync::atomic::{AtomicU64, Ordering};
 use std::sync::{Mutex, Wait};
 use std::thread::Threads;
 use superstep_memory::path::Path;
@@ -98,6 +98,56 @@ fn is_told<R: Threads + Wait + Sync>(rt: &R, alloc: Global) -> bool {
         Ok(job) => tell_all(rt, alloc, &job, 1) && tell_all(rt, alloc, &job, 3),
         Err(_) => false,
     }
+}
+
+// An open gate that counts the tasks of stretches, and adds up their supersteps.
+#[derive(Drop)]
+struct Stretches {
+    tasks: AtomicU64,
+    steps: AtomicU64,
+}
+
+impl Gate for Stretches {
+    fn is_open(&self) -> bool {
+        true
+    }
+
+    fn stretch<R: Wait>(&self, _rt: &R, step: u32, tasks: usize) {
+        let tasks = tasks as u64;
+        self.tasks.fetch_add(tasks, Ordering::SeqCst);
+        self.steps
+            .fetch_add(tasks.wrapping_mul(u64::from(step)), Ordering::SeqCst);
+    }
+
+    fn enter<R: Wait>(&self, _rt: &R, _path: &Path, _step: u32) {}
+
+    fn leave<R: Wait>(&self, _rt: &R, _path: &Path, _step: u32) {}
+}
+
+// Whether so many workers call an open gate for stretches with nine tasks in all, whose supersteps add up to 16.
+fn counts_all<R: Threads + Wait + Sync>(rt: &R, alloc: Global, job: &Job, workers: u32) -> bool {
+    let gate = Stretches {
+        tasks: AtomicU64::new(0),
+        steps: AtomicU64::new(0),
+    };
+    let sum = AtomicU64::new(0);
+    let ran = left_by(
+        rt, alloc, job, "2", workers, 1000000, &gate, &AllStart, &sum,
+    );
+    ran.is_ok() && gate.tasks.load(Ordering::SeqCst) == 9 && gate.steps.load(Ordering::SeqCst) == 16
+}
+
+// Whether one worker does, and three.
+fn are_counted<R: Threads + Wait + Sync>(rt: &R, alloc: Global) -> bool {
+    match job_of(alloc, SPAWNS_LATER) {
+        Ok(job) => counts_all(rt, alloc, &job, 1) && counts_all(rt, alloc, &job, 3),
+        Err(_) => false,
+    }
+}
+
+#[test]
+fn an_open_gate_is_told_of_each_stretch(rt: HostRuntime) {
+    assert!(rt; are_counted(&rt, rt.alloc()));
 }
 
 #[test]

@@ -2,6 +2,7 @@
 use crate::left::job_of;
 use std::alloc::Global;
 use step_core::{Watch, run_watched};
+use superstep_memory::arrays::Arrays;
 use task_code::job::Job;
 
 // A task that spawns two.
@@ -44,7 +45,7 @@ struct Notes {
 }
 
 impl Watch for Notes {
-    fn superstep(&mut self, step: u32, tasks: usize) {
+    fn superstep(&mut self, step: u32, _arrays: &Arrays, tasks: usize) {
         if let Some(call) = self.calls.get_mut(self.count) {
             *call = (step, tasks);
         }

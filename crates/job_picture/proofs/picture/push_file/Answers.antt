@@ -1,12 +1,14 @@
 use Rattle.job_picture.proofs.Behind.{last, onto}
-use Rattle.job_picture.specs.Picture.{file}
 use Rattle.job_picture.proofs.picture.push_file.Goals as goal
+use Rattle.job_picture.specs.Picture.{file}
 
 pub returns : goal.returns
 unfolding file
 returns c =
     last c.args.out.now.items _ _ _ _ c.push_text.result
     (onto c.args.out.now.items _ _ _ _
-    (onto c.args.out.now.items _ _ _ _ (rw c.len.ensures.count at c.in_ok-push_head.ensures) c.in_ok-push_supersteps.ensures)
-    c.in_ok-push_strips.ensures)
+    (onto c.args.out.now.items _ _ _ _
+    (rw c.in_ok-whole_height.ensures at c.in_ok-push_head.ensures)
+    c.in_ok-push_supersteps.ensures)
+    c.in_ok-push_panels.ensures)
     c.push_text.ensures

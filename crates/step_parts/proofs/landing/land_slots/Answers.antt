@@ -12,21 +12,21 @@ returns-then-are_all_sets-clause-lands c = λ e ps. c.write_all.ensures ∙ ap (
 pub returns-in-None-clause-fault : goal.returns-in-None-clause-fault
 returns-in-None-clause-fault c = λ ps.
     none_over ps c.args.slots.now c.args.arrays.now
-    (sym c.in-None.is ∙ c.in_ok-land_log.ensures.place ∙ ap (over_in c.args.arrays.now [] 0) (c.deref.ensures.value ∙ c.in_ok-puts.ensures))
+    (sym c.in-None.is ∙ c.in_ok-land.ensures.place ∙ ap (over_in c.args.arrays.now [] 0) c.in_ok-puts.ensures)
 
 pub returns-in-None-clause-lands : goal.returns-in-None-clause-lands
 returns-in-None-clause-lands c = λ e ps.
-    c.in_ok-land_log.ensures.lands c.in-None.is
-    ∙ ap (λ qs. landed qs c.args.arrays.now) (c.deref.ensures.value ∙ c.in_ok-puts.ensures ∙ sym (log_told ps c.args.slots.now))
+    c.in_ok-land.ensures.lands c.in-None.is
+    ∙ ap (λ qs. landed qs c.args.arrays.now) (c.in_ok-puts.ensures ∙ sym (log_told ps c.args.slots.now))
 
 pub returns-clause-fault : goal.returns-clause-fault
 returns-clause-fault c = λ ps.
     c.blame_at.ensures
     ∙ one_over ps c.args.slots.now c.args.arrays.now c.in-Some.place
-    (sym c.in-Some.is ∙ c.in_ok-land_log.ensures.place ∙ ap (over_in c.args.arrays.now [] 0) (c.deref.ensures.value ∙ c.in_ok-puts.ensures))
+    (sym c.in-Some.is ∙ c.in_ok-land.ensures.place ∙ ap (over_in c.args.arrays.now [] 0) c.in_ok-puts.ensures)
 
 pub returns-clause-lands : goal.returns-clause-lands
 returns-clause-lands c = λ e.
     absurd (over_path c.args.slots.now c.args.arrays.now c.in-Some.place
-    (sym c.in-Some.is ∙ c.in_ok-land_log.ensures.place ∙ ap (over_in c.args.arrays.now [] 0) (c.deref.ensures.value ∙ c.in_ok-puts.ensures))
+    (sym c.in-Some.is ∙ c.in_ok-land.ensures.place ∙ ap (over_in c.args.arrays.now [] 0) c.in_ok-puts.ensures)
     (sym c.blame_at.ensures ∙ e))

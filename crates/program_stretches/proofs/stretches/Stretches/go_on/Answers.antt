@@ -131,11 +131,12 @@ pub stay-requires-clause-run : goal.stay-requires-clause-run
 stay-requires-clause-run g c =
     let m = reading_of g.P.Program.frame g.P.Program.may g.P.Program.meant g.P.Task.OnPath.path_of in
     let h = c.requires.run in
-    let rest = c.in_ok-give_all_puts.ensures.rest in
-    let tasks = ap tasks_in rest ∙ tasks_on c.args.parts.items in
-    let deeds = ap deeds_in rest ∙ deeds_on c.args.parts.items in
-    let prints = ap prints_in rest ∙ prints_on c.args.parts.items in
-    let puts = c.in_ok-give_all_puts.ensures.given ∙ ap (λ (ps : List Put). ps ++ puts_in c.args.parts.items) c.requires.no_puts in
+    let rest = c.in_ok-join_adds.ensures.rest in
+    let kept = c.join_adds.new.parts.items in
+    let tasks = sym (tasks_on kept) ∙ ap tasks_in rest ∙ tasks_on c.args.parts.items in
+    let deeds = sym (deeds_on kept) ∙ ap deeds_in rest ∙ deeds_on c.args.parts.items in
+    let prints = sym (prints_on kept) ∙ ap prints_in rest ∙ prints_on c.args.parts.items in
+    let puts = c.in_ok-join_adds.ensures.same in
     have_same m c.args.self.now h (sym puts) (sym tasks) (sym deeds) (sym prints)
 
 pub stay-requires-clause-few : goal.stay-requires-clause-few
@@ -153,11 +154,12 @@ stay-requires-clause-few g c =
     let x : a.count ≤ a.most = omega (arith, b, n) in x in
     let most = ap (λ (x : StretchesValue g.row.P.Denot g.row.P-Task.Denot). x.most) c.self.view_is in
     let bound = c.self.invariant.most in
-    let rest = c.in_ok-give_all_puts.ensures.rest in
-    let tasks = ap tasks_in rest ∙ tasks_on c.args.parts.items in
-    let deeds = ap deeds_in rest ∙ deeds_on c.args.parts.items in
-    let prints = ap prints_in rest ∙ prints_on c.args.parts.items in
-    let puts = c.in_ok-give_all_puts.ensures.given ∙ ap (λ (ps : List Put). ps ++ puts_in c.args.parts.items) c.requires.no_puts in
+    let rest = c.in_ok-join_adds.ensures.rest in
+    let kept = c.join_adds.new.parts.items in
+    let tasks = sym (tasks_on kept) ∙ ap tasks_in rest ∙ tasks_on c.args.parts.items in
+    let deeds = sym (deeds_on kept) ∙ ap deeds_in rest ∙ deeds_on c.args.parts.items in
+    let prints = sym (prints_on kept) ∙ ap prints_in rest ∙ prints_on c.args.parts.items in
+    let puts = c.in_ok-join_adds.ensures.same in
     let told = c.count_left-left.ensures ∙ ap left_in (ap deeds_in c.deref.ensures.value) in
     let made = counted_there c.count_spawned.result _ _ c.count_spawned.ensures c.in-Some.is in
     let spawned = made.0 ∙ ap spawned_in (ap deeds_in c.deref-2.ensures.value) in
@@ -181,11 +183,12 @@ stay-requires-clause-told g c =
     let x : a.count ≤ a.most = omega (arith, b, n) in x in
     let most = ap (λ (x : StretchesValue g.row.P.Denot g.row.P-Task.Denot). x.most) c.self.view_is in
     let bound = c.self.invariant.most in
-    let rest = c.in_ok-give_all_puts.ensures.rest in
-    let tasks = ap tasks_in rest ∙ tasks_on c.args.parts.items in
-    let deeds = ap deeds_in rest ∙ deeds_on c.args.parts.items in
-    let prints = ap prints_in rest ∙ prints_on c.args.parts.items in
-    let puts = c.in_ok-give_all_puts.ensures.given ∙ ap (λ (ps : List Put). ps ++ puts_in c.args.parts.items) c.requires.no_puts in
+    let rest = c.in_ok-join_adds.ensures.rest in
+    let kept = c.join_adds.new.parts.items in
+    let tasks = sym (tasks_on kept) ∙ ap tasks_in rest ∙ tasks_on c.args.parts.items in
+    let deeds = sym (deeds_on kept) ∙ ap deeds_in rest ∙ deeds_on c.args.parts.items in
+    let prints = sym (prints_on kept) ∙ ap prints_in rest ∙ prints_on c.args.parts.items in
+    let puts = c.in_ok-join_adds.ensures.same in
     let told = c.count_left-left.ensures ∙ ap left_in (ap deeds_in c.deref.ensures.value) in
     let made = counted_there c.count_spawned.result _ _ c.count_spawned.ensures c.in-Some.is in
     let spawned = made.0 ∙ ap spawned_in (ap deeds_in c.deref-2.ensures.value) in
@@ -194,17 +197,19 @@ stay-requires-clause-told g c =
     ∙ ap (told_in c.args.self.now.step) (sym deeds)
 
 pub stay-requires-clause-covered : goal.stay-requires-clause-covered
-stay-requires-clause-covered g c = ap (covers true c.args.self.now.count 0) c.in_ok-give_all_puts.ensures.rest ∙ covers_on true c.args.self.now.count 0 c.args.parts.items ∙ c.requires.covered
+stay-requires-clause-covered g c =
+    sym (covers_on true c.args.self.now.count 0 c.join_adds.new.parts.items) ∙ ap (covers true c.args.self.now.count 0) c.in_ok-join_adds.ensures.rest ∙ covers_on true c.args.self.now.count 0 c.args.parts.items ∙ c.requires.covered
 
 pub move_on-requires-clause-run : goal.move_on-requires-clause-run
 move_on-requires-clause-run g c =
     let m = reading_of g.P.Program.frame g.P.Program.may g.P.Program.meant g.P.Task.OnPath.path_of in
     let h = c.requires.run in
-    let rest = c.in_ok-give_all_puts.ensures.rest in
-    let tasks = ap tasks_in rest ∙ tasks_on c.args.parts.items in
-    let deeds = ap deeds_in rest ∙ deeds_on c.args.parts.items in
-    let prints = ap prints_in rest ∙ prints_on c.args.parts.items in
-    let puts = c.in_ok-give_all_puts.ensures.given ∙ ap (λ (ps : List Put). ps ++ puts_in c.args.parts.items) c.requires.no_puts in
+    let rest = c.in_ok-join_adds.ensures.rest in
+    let kept = c.join_adds.new.parts.items in
+    let tasks = sym (tasks_on kept) ∙ ap tasks_in rest ∙ tasks_on c.args.parts.items in
+    let deeds = sym (deeds_on kept) ∙ ap deeds_in rest ∙ deeds_on c.args.parts.items in
+    let prints = sym (prints_on kept) ∙ ap prints_in rest ∙ prints_on c.args.parts.items in
+    let puts = c.in_ok-join_adds.ensures.same in
     have_same m c.args.self.now h (sym puts) (sym tasks) (sym deeds) (sym prints)
 
 pub move_on-requires-clause-few : goal.move_on-requires-clause-few
@@ -222,11 +227,12 @@ move_on-requires-clause-few g c =
     let x : a.count ≤ a.most = omega (arith, b, n) in x in
     let most = ap (λ (x : StretchesValue g.row.P.Denot g.row.P-Task.Denot). x.most) c.self.view_is in
     let bound = c.self.invariant.most in
-    let rest = c.in_ok-give_all_puts.ensures.rest in
-    let tasks = ap tasks_in rest ∙ tasks_on c.args.parts.items in
-    let deeds = ap deeds_in rest ∙ deeds_on c.args.parts.items in
-    let prints = ap prints_in rest ∙ prints_on c.args.parts.items in
-    let puts = c.in_ok-give_all_puts.ensures.given ∙ ap (λ (ps : List Put). ps ++ puts_in c.args.parts.items) c.requires.no_puts in
+    let rest = c.in_ok-join_adds.ensures.rest in
+    let kept = c.join_adds.new.parts.items in
+    let tasks = sym (tasks_on kept) ∙ ap tasks_in rest ∙ tasks_on c.args.parts.items in
+    let deeds = sym (deeds_on kept) ∙ ap deeds_in rest ∙ deeds_on c.args.parts.items in
+    let prints = sym (prints_on kept) ∙ ap prints_in rest ∙ prints_on c.args.parts.items in
+    let puts = c.in_ok-join_adds.ensures.same in
     let told = c.count_left-left.ensures ∙ ap left_in (ap deeds_in c.deref.ensures.value) in
     let made = counted_there c.count_spawned.result _ _ c.count_spawned.ensures c.in-Some.is in
     let spawned = made.0 ∙ ap spawned_in (ap deeds_in c.deref-2.ensures.value) in
@@ -250,11 +256,12 @@ move_on-requires-clause-told g c =
     let x : a.count ≤ a.most = omega (arith, b, n) in x in
     let most = ap (λ (x : StretchesValue g.row.P.Denot g.row.P-Task.Denot). x.most) c.self.view_is in
     let bound = c.self.invariant.most in
-    let rest = c.in_ok-give_all_puts.ensures.rest in
-    let tasks = ap tasks_in rest ∙ tasks_on c.args.parts.items in
-    let deeds = ap deeds_in rest ∙ deeds_on c.args.parts.items in
-    let prints = ap prints_in rest ∙ prints_on c.args.parts.items in
-    let puts = c.in_ok-give_all_puts.ensures.given ∙ ap (λ (ps : List Put). ps ++ puts_in c.args.parts.items) c.requires.no_puts in
+    let rest = c.in_ok-join_adds.ensures.rest in
+    let kept = c.join_adds.new.parts.items in
+    let tasks = sym (tasks_on kept) ∙ ap tasks_in rest ∙ tasks_on c.args.parts.items in
+    let deeds = sym (deeds_on kept) ∙ ap deeds_in rest ∙ deeds_on c.args.parts.items in
+    let prints = sym (prints_on kept) ∙ ap prints_in rest ∙ prints_on c.args.parts.items in
+    let puts = c.in_ok-join_adds.ensures.same in
     let told = c.count_left-left.ensures ∙ ap left_in (ap deeds_in c.deref.ensures.value) in
     let made = counted_there c.count_spawned.result _ _ c.count_spawned.ensures c.in-Some.is in
     let spawned = made.0 ∙ ap spawned_in (ap deeds_in c.deref-2.ensures.value) in

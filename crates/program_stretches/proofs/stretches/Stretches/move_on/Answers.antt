@@ -1,10 +1,10 @@
 use Rattle.std.proofs.Common.{◌≡◌, ◌+◌, ◌≤◌, ◌++◌, ◌∷◌, ◌∙◌, [], None, List, length, map, ap, sym, subst, refl, inl, arith}
-use Rattle.superstep_memory.specs.Landing.{over_in}
+use Rattle.superstep_memory.specs.Landing.{landed, over_in}
 use Rattle.superstep_memory.specs.PathOrder.{in_path_order}
 use Rattle.phase_records.specs.declared.record.PhaseRecord.{PhaseRecord}
 use Rattle.programs.specs.InPlace.{living_with}
 use Rattle.programs.proofs.InPlace.{few_left}
-use Rattle.program_stretches.specs.Parts.{reading_of, tasks_in, deeds_in, prints_in}
+use Rattle.program_stretches.specs.Parts.{reading_of, tasks_in, puts_in, deeds_in, prints_in}
 use Rattle.program_stretches.specs.StretchesValue.{StretchesValue, IsAfter, IsCourse, status_in}
 use Rattle.program_stretches.specs.StretchesView.{stretches_of}
 use Rattle.program_stretches.specs.Closing.{opened_with}
@@ -53,15 +53,15 @@ invariant_of-self-in-None g c =
     let after = prints_in c.args.parts.items in
     let next = c.regroup.new.tasks.items in
     let is_next = c.regroup.ensures ∙ (λ i. in_path_order g.P.Task.OnPath.path_of (living_with (c.in_ok-gather.ensures.tasks i) (c.in_ok-gather.ensures.deeds i))) in
-    let none = sym c.in-None.is ∙ c.in_ok-place.ensures.place ∙ ap (λ (x : StretchesValue g.row.P.Denot g.row.P-Task.Denot). over_in x.arrays [] 0 c.args.puts.now) c.self.view_is in
-    let begun = after_landed m a law c.requires.running c.args.puts.now (tasks_in c.args.parts.items) ds after c.requires.run c.requires.few c.args.told c.requires.told none next is_next in
+    let none = sym c.in-None.is ∙ c.in_ok-place.ensures.place ∙ (λ i. over_in ((c.self.view_is i).arrays) [] 0 (c.args.puts.now ++ ((ap puts_in c.deref.ensures.value ∙ c.in_ok-gather.ensures.puts) i))) in
+    let begun = after_landed m a law c.requires.running (c.args.puts.now ++ puts_in c.args.parts.items) (tasks_in c.args.parts.items) ds after c.requires.run c.requires.few c.args.told c.requires.told none next is_next in
     let prints = c.append_reserved.ensures ∙ (λ i. c.in_ok-reserve.ensures.items i ++ c.in_ok-gather.ensures.prints i) in
     let records = c.push_reserved.ensures.items ∙ ap (λ (rs : List PhaseRecord). rs ++ c.args.told ∷ []) c.in_ok-reserve-2.ensures.items in
-    let arrays = c.in_ok-place.ensures.lands c.in-None.is in
+    let arrays = c.in_ok-place.ensures.lands c.in-None.is ∙ (λ i. landed (c.args.puts.now ++ ((ap puts_in c.deref.ensures.value ∙ c.in_ok-gather.ensures.puts) i)) v.arrays) in
     let count : c.len-self-inside.result ≡ length next = omega (arith, c.len-self-inside.ensures, c.regroup.new.tasks.ok.0) in
-    let same : stretches_of (record c.self.inside { step = c.self.inside.step + 1; arrays = c.land_shared.new.arrays; count = c.len-self-inside.result; prints = c.append_reserved.new.prints; records = c.push_reserved.new.self }) ≡ landed_with a c.args.puts.now c.args.told after (length next) =
+    let same : stretches_of (record c.self.inside { step = c.self.inside.step + 1; arrays = c.land_shared.new.arrays; count = c.len-self-inside.result; prints = c.append_reserved.new.prints; records = c.push_reserved.new.self }) ≡ landed_with a (c.args.puts.now ++ puts_in c.args.parts.items) c.args.told after (length next) =
     (λ i. record v { step = v.step + 1; arrays = arrays i; count = count i; prints = prints i; records = records i })
-    ∙ (λ i. landed_with (c.self.view_is i) c.args.puts.now c.args.told after (length next)) in
+    ∙ (λ i. landed_with (c.self.view_is i) (c.args.puts.now ++ puts_in c.args.parts.items) c.args.told after (length next)) in
     record {
       course = subst (IsCourse m) (sym same) (record { live = map (m a.program).meant next; after = begun; opened = inl c.requires.none });
       same = c.self.invariant.same;
@@ -81,15 +81,15 @@ reopen-requires-clause-after g c =
     let after = prints_in c.args.parts.items in
     let next = c.regroup.new.tasks.items in
     let is_next = c.regroup.ensures ∙ (λ i. in_path_order g.P.Task.OnPath.path_of (living_with (c.in_ok-gather.ensures.tasks i) (c.in_ok-gather.ensures.deeds i))) in
-    let none = sym c.in-None.is ∙ c.in_ok-place.ensures.place ∙ ap (λ (x : StretchesValue g.row.P.Denot g.row.P-Task.Denot). over_in x.arrays [] 0 c.args.puts.now) c.self.view_is in
-    let begun = after_landed m a law c.requires.running c.args.puts.now (tasks_in c.args.parts.items) ds after c.requires.run c.requires.few c.args.told c.requires.told none next is_next in
+    let none = sym c.in-None.is ∙ c.in_ok-place.ensures.place ∙ (λ i. over_in ((c.self.view_is i).arrays) [] 0 (c.args.puts.now ++ ((ap puts_in c.deref.ensures.value ∙ c.in_ok-gather.ensures.puts) i))) in
+    let begun = after_landed m a law c.requires.running (c.args.puts.now ++ puts_in c.args.parts.items) (tasks_in c.args.parts.items) ds after c.requires.run c.requires.few c.args.told c.requires.told none next is_next in
     let prints = c.append_reserved.ensures ∙ (λ i. c.in_ok-reserve.ensures.items i ++ c.in_ok-gather.ensures.prints i) in
     let records = c.push_reserved.ensures.items ∙ ap (λ (rs : List PhaseRecord). rs ++ c.args.told ∷ []) c.in_ok-reserve-2.ensures.items in
-    let arrays = c.in_ok-place.ensures.lands c.in-None.is in
+    let arrays = c.in_ok-place.ensures.lands c.in-None.is ∙ (λ i. landed (c.args.puts.now ++ ((ap puts_in c.deref.ensures.value ∙ c.in_ok-gather.ensures.puts) i)) v.arrays) in
     let count : c.len-self-inside.result ≡ length next = omega (arith, c.len-self-inside.ensures, c.regroup.new.tasks.ok.0) in
-    let same : stretches_of (record c.self.inside { step = c.self.inside.step + 1; arrays = c.land_shared.new.arrays; count = c.len-self-inside.result; prints = c.append_reserved.new.prints; records = c.push_reserved.new.self }) ≡ landed_with a c.args.puts.now c.args.told after (length next) =
+    let same : stretches_of (record c.self.inside { step = c.self.inside.step + 1; arrays = c.land_shared.new.arrays; count = c.len-self-inside.result; prints = c.append_reserved.new.prints; records = c.push_reserved.new.self }) ≡ landed_with a (c.args.puts.now ++ puts_in c.args.parts.items) c.args.told after (length next) =
     (λ i. record v { step = v.step + 1; arrays = arrays i; count = count i; prints = prints i; records = records i })
-    ∙ (λ i. landed_with (c.self.view_is i) c.args.puts.now c.args.told after (length next)) in
+    ∙ (λ i. landed_with (c.self.view_is i) (c.args.puts.now ++ puts_in c.args.parts.items) c.args.told after (length next)) in
     subst (λ (ts : List g.row.P-Task.Denot). IsAfter m (stretches_of (record c.self.inside { step = c.self.inside.step + 1; arrays = c.land_shared.new.arrays; count = c.len-self-inside.result; prints = c.append_reserved.new.prints; records = c.push_reserved.new.self })) (map (m v.program).meant ts)) (sym c.cut.ensures.tasks)
     (subst (λ (x : StretchesValue g.row.P.Denot g.row.P-Task.Denot). IsAfter m x (map (m x.program).meant next)) (sym same) begun)
 
@@ -103,15 +103,15 @@ returns-clause-closed g c =
     let after = prints_in c.args.parts.items in
     let next = c.regroup.new.tasks.items in
     let is_next = c.regroup.ensures ∙ (λ i. in_path_order g.P.Task.OnPath.path_of (living_with (c.in_ok-gather.ensures.tasks i) (c.in_ok-gather.ensures.deeds i))) in
-    let none = sym c.in-None.is ∙ c.in_ok-place.ensures.place ∙ ap (λ (x : StretchesValue g.row.P.Denot g.row.P-Task.Denot). over_in x.arrays [] 0 c.args.puts.now) c.self.view_is in
-    let begun = after_landed m a law c.requires.running c.args.puts.now (tasks_in c.args.parts.items) ds after c.requires.run c.requires.few c.args.told c.requires.told none next is_next in
+    let none = sym c.in-None.is ∙ c.in_ok-place.ensures.place ∙ (λ i. over_in ((c.self.view_is i).arrays) [] 0 (c.args.puts.now ++ ((ap puts_in c.deref.ensures.value ∙ c.in_ok-gather.ensures.puts) i))) in
+    let begun = after_landed m a law c.requires.running (c.args.puts.now ++ puts_in c.args.parts.items) (tasks_in c.args.parts.items) ds after c.requires.run c.requires.few c.args.told c.requires.told none next is_next in
     let prints = c.append_reserved.ensures ∙ (λ i. c.in_ok-reserve.ensures.items i ++ c.in_ok-gather.ensures.prints i) in
     let records = c.push_reserved.ensures.items ∙ ap (λ (rs : List PhaseRecord). rs ++ c.args.told ∷ []) c.in_ok-reserve-2.ensures.items in
-    let arrays = c.in_ok-place.ensures.lands c.in-None.is in
+    let arrays = c.in_ok-place.ensures.lands c.in-None.is ∙ (λ i. landed (c.args.puts.now ++ ((ap puts_in c.deref.ensures.value ∙ c.in_ok-gather.ensures.puts) i)) v.arrays) in
     let count : c.len-self-inside.result ≡ length next = omega (arith, c.len-self-inside.ensures, c.regroup.new.tasks.ok.0) in
-    let same : stretches_of (record c.self.inside { step = c.self.inside.step + 1; arrays = c.land_shared.new.arrays; count = c.len-self-inside.result; prints = c.append_reserved.new.prints; records = c.push_reserved.new.self }) ≡ landed_with a c.args.puts.now c.args.told after (length next) =
+    let same : stretches_of (record c.self.inside { step = c.self.inside.step + 1; arrays = c.land_shared.new.arrays; count = c.len-self-inside.result; prints = c.append_reserved.new.prints; records = c.push_reserved.new.self }) ≡ landed_with a (c.args.puts.now ++ puts_in c.args.parts.items) c.args.told after (length next) =
     (λ i. record v { step = v.step + 1; arrays = arrays i; count = count i; prints = prints i; records = records i })
-    ∙ (λ i. landed_with (c.self.view_is i) c.args.puts.now c.args.told after (length next)) in
-    closed_landed m a law c.requires.running c.args.puts.now (tasks_in c.args.parts.items) ds after c.requires.run c.requires.few c.args.told c.requires.told none next is_next
+    ∙ (λ i. landed_with (c.self.view_is i) (c.args.puts.now ++ puts_in c.args.parts.items) c.args.told after (length next)) in
+    closed_landed m a law c.requires.running (c.args.puts.now ++ puts_in c.args.parts.items) (tasks_in c.args.parts.items) ds after c.requires.run c.requires.few c.args.told c.requires.told none next is_next
     c.cut.new.parts.items c.cut.ensures.fresh c.cut.ensures.tasks c.reopen.new.self
     (c.in_ok-reopen-in-None.ensures.opened ∙ ap (λ (x : StretchesValue g.row.P.Denot g.row.P-Task.Denot). opened_with x c.cut.new.parts.items) same)

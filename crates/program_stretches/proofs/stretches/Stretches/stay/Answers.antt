@@ -1,12 +1,12 @@
 use Rattle.std.proofs.Common.{◌≡◌, true, ◌+◌, ◌++◌, ◌∷◌, ◌∙◌, [], List, length, map, ap, sym, subst, inl}
-use Rattle.superstep_memory.specs.Landing.{over_in}
+use Rattle.superstep_memory.specs.Landing.{landed, over_in}
 use Rattle.superstep_memory.specs.PathOrder.{in_path_order}
 use Rattle.superstep_memory.proofs.Merged.{rising_stays}
 use Rattle.phase_records.specs.PrintValue.{PrintValue}
 use Rattle.phase_records.specs.declared.record.PhaseRecord.{PhaseRecord}
 use Rattle.programs.specs.InPlace.{living_with}
 use Rattle.programs.proofs.InPlace.{all_stay}
-use Rattle.program_stretches.specs.Parts.{reading_of, AreFresh, tasks_in, deeds_in, prints_in, renewed}
+use Rattle.program_stretches.specs.Parts.{reading_of, AreFresh, tasks_in, puts_in, deeds_in, prints_in, renewed}
 use Rattle.program_stretches.specs.StretchesValue.{StretchesValue, IsAfter, IsCourse}
 use Rattle.program_stretches.specs.StretchesView.{stretches_of}
 use Rattle.program_stretches.specs.Closing.{opened_with}
@@ -23,19 +23,19 @@ invariant_of-self-in-None g c =
     let us = tasks_in c.args.parts.items in
     let ds = deeds_in c.args.parts.items in
     let after = prints_in c.args.parts.items in
-    let f = fit m a law c.requires.running h.opening h.begun c.args.puts.now us ds after h.did in
+    let f = fit m a law c.requires.running h.opening h.begun (c.args.puts.now ++ puts_in c.args.parts.items) us ds after h.did in
     let stays = all_stay us ds f.same (sym (ap (λ (r : PhaseRecord). r.left) c.requires.told) ∙ c.requires.stays.0) (sym (ap (λ (r : PhaseRecord). r.spawned) c.requires.told) ∙ c.requires.stays.1) in
     let is_next : us ≡ in_path_order g.P.Task.OnPath.path_of (living_with us ds) = sym (ap (in_path_order g.P.Task.OnPath.path_of) stays ∙ rising_stays g.P.Task.OnPath.path_of us f.rising) in
-    let none = sym c.in-None.is ∙ c.in_ok-place.ensures.place ∙ ap (λ (x : StretchesValue g.row.P.Denot g.row.P-Task.Denot). over_in x.arrays [] 0 c.args.puts.now) c.self.view_is in
-    let begun = after_landed m a law c.requires.running c.args.puts.now us ds after h c.requires.few c.args.told c.requires.told none us is_next in
+    let none = sym c.in-None.is ∙ c.in_ok-place.ensures.place ∙ (λ i. over_in ((c.self.view_is i).arrays) [] 0 (c.args.puts.now ++ puts_in (c.deref-2.ensures.value i))) in
+    let begun = after_landed m a law c.requires.running (c.args.puts.now ++ puts_in c.args.parts.items) us ds after h c.requires.few c.args.told c.requires.told none us is_next in
     let prints = c.give_all_prints.ensures.given ∙ ap (λ (ps : List PrintValue). ps ++ after) c.in_ok-make_room.ensures.prints in
     let records = c.push_reserved.ensures.items ∙ ap (λ (rs : List PhaseRecord). rs ++ c.args.told ∷ []) c.in_ok-make_room.ensures.records in
-    let arrays = c.in_ok-place.ensures.lands c.in-None.is in
+    let arrays = c.in_ok-place.ensures.lands c.in-None.is ∙ (λ i. landed (c.args.puts.now ++ puts_in (c.deref-2.ensures.value i)) v.arrays) in
     let count : v.count ≡ length us = ap (λ (x : StretchesValue g.row.P.Denot g.row.P-Task.Denot). x.count) c.self.view_is ∙ sym f.all ∙ sym f.same in
     let parts = c.renew_all.ensures ∙ ap (map renewed) c.give_all_prints.ensures.rest in
-    let same : stretches_of (record c.self.inside { step = c.self.inside.step + 1; arrays = c.land_shared.new.arrays; prints = c.give_all_prints.new.prints; records = c.push_reserved.new.self }) ≡ landed_with a c.args.puts.now c.args.told after (length us) =
+    let same : stretches_of (record c.self.inside { step = c.self.inside.step + 1; arrays = c.land_shared.new.arrays; prints = c.give_all_prints.new.prints; records = c.push_reserved.new.self }) ≡ landed_with a (c.args.puts.now ++ puts_in c.args.parts.items) c.args.told after (length us) =
     (λ i. record v { step = v.step + 1; arrays = arrays i; count = count i; prints = prints i; records = records i })
-    ∙ (λ i. landed_with (c.self.view_is i) c.args.puts.now c.args.told after (length us)) in
+    ∙ (λ i. landed_with (c.self.view_is i) (c.args.puts.now ++ puts_in c.args.parts.items) c.args.told after (length us)) in
     record {
       course = subst (IsCourse m) (sym same) (record { live = map (m a.program).meant us; after = begun; opened = inl c.requires.none });
       same = c.self.invariant.same;
@@ -59,19 +59,19 @@ reopen-requires-clause-after g c =
     let us = tasks_in c.args.parts.items in
     let ds = deeds_in c.args.parts.items in
     let after = prints_in c.args.parts.items in
-    let f = fit m a law c.requires.running h.opening h.begun c.args.puts.now us ds after h.did in
+    let f = fit m a law c.requires.running h.opening h.begun (c.args.puts.now ++ puts_in c.args.parts.items) us ds after h.did in
     let stays = all_stay us ds f.same (sym (ap (λ (r : PhaseRecord). r.left) c.requires.told) ∙ c.requires.stays.0) (sym (ap (λ (r : PhaseRecord). r.spawned) c.requires.told) ∙ c.requires.stays.1) in
     let is_next : us ≡ in_path_order g.P.Task.OnPath.path_of (living_with us ds) = sym (ap (in_path_order g.P.Task.OnPath.path_of) stays ∙ rising_stays g.P.Task.OnPath.path_of us f.rising) in
-    let none = sym c.in-None.is ∙ c.in_ok-place.ensures.place ∙ ap (λ (x : StretchesValue g.row.P.Denot g.row.P-Task.Denot). over_in x.arrays [] 0 c.args.puts.now) c.self.view_is in
-    let begun = after_landed m a law c.requires.running c.args.puts.now us ds after h c.requires.few c.args.told c.requires.told none us is_next in
+    let none = sym c.in-None.is ∙ c.in_ok-place.ensures.place ∙ (λ i. over_in ((c.self.view_is i).arrays) [] 0 (c.args.puts.now ++ puts_in (c.deref-2.ensures.value i))) in
+    let begun = after_landed m a law c.requires.running (c.args.puts.now ++ puts_in c.args.parts.items) us ds after h c.requires.few c.args.told c.requires.told none us is_next in
     let prints = c.give_all_prints.ensures.given ∙ ap (λ (ps : List PrintValue). ps ++ after) c.in_ok-make_room.ensures.prints in
     let records = c.push_reserved.ensures.items ∙ ap (λ (rs : List PhaseRecord). rs ++ c.args.told ∷ []) c.in_ok-make_room.ensures.records in
-    let arrays = c.in_ok-place.ensures.lands c.in-None.is in
+    let arrays = c.in_ok-place.ensures.lands c.in-None.is ∙ (λ i. landed (c.args.puts.now ++ puts_in (c.deref-2.ensures.value i)) v.arrays) in
     let count : v.count ≡ length us = ap (λ (x : StretchesValue g.row.P.Denot g.row.P-Task.Denot). x.count) c.self.view_is ∙ sym f.all ∙ sym f.same in
     let parts = c.renew_all.ensures ∙ ap (map renewed) c.give_all_prints.ensures.rest in
-    let same : stretches_of (record c.self.inside { step = c.self.inside.step + 1; arrays = c.land_shared.new.arrays; prints = c.give_all_prints.new.prints; records = c.push_reserved.new.self }) ≡ landed_with a c.args.puts.now c.args.told after (length us) =
+    let same : stretches_of (record c.self.inside { step = c.self.inside.step + 1; arrays = c.land_shared.new.arrays; prints = c.give_all_prints.new.prints; records = c.push_reserved.new.self }) ≡ landed_with a (c.args.puts.now ++ puts_in c.args.parts.items) c.args.told after (length us) =
     (λ i. record v { step = v.step + 1; arrays = arrays i; count = count i; prints = prints i; records = records i })
-    ∙ (λ i. landed_with (c.self.view_is i) c.args.puts.now c.args.told after (length us)) in
+    ∙ (λ i. landed_with (c.self.view_is i) (c.args.puts.now ++ puts_in c.args.parts.items) c.args.told after (length us)) in
     subst (λ (ts : List g.row.P-Task.Denot). IsAfter m (stretches_of (record c.self.inside { step = c.self.inside.step + 1; arrays = c.land_shared.new.arrays; prints = c.give_all_prints.new.prints; records = c.push_reserved.new.self })) (map (m v.program).meant ts)) (sym (ap tasks_in parts ∙ tasks_renewed c.args.parts.items))
     (subst (λ (x : StretchesValue g.row.P.Denot g.row.P-Task.Denot). IsAfter m x (map (m x.program).meant us)) (sym same) begun)
 
@@ -85,19 +85,19 @@ returns-in_ok-reopen-in-None-clause-closed g c =
     let us = tasks_in c.args.parts.items in
     let ds = deeds_in c.args.parts.items in
     let after = prints_in c.args.parts.items in
-    let f = fit m a law c.requires.running h.opening h.begun c.args.puts.now us ds after h.did in
+    let f = fit m a law c.requires.running h.opening h.begun (c.args.puts.now ++ puts_in c.args.parts.items) us ds after h.did in
     let stays = all_stay us ds f.same (sym (ap (λ (r : PhaseRecord). r.left) c.requires.told) ∙ c.requires.stays.0) (sym (ap (λ (r : PhaseRecord). r.spawned) c.requires.told) ∙ c.requires.stays.1) in
     let is_next : us ≡ in_path_order g.P.Task.OnPath.path_of (living_with us ds) = sym (ap (in_path_order g.P.Task.OnPath.path_of) stays ∙ rising_stays g.P.Task.OnPath.path_of us f.rising) in
-    let none = sym c.in-None.is ∙ c.in_ok-place.ensures.place ∙ ap (λ (x : StretchesValue g.row.P.Denot g.row.P-Task.Denot). over_in x.arrays [] 0 c.args.puts.now) c.self.view_is in
-    let begun = after_landed m a law c.requires.running c.args.puts.now us ds after h c.requires.few c.args.told c.requires.told none us is_next in
+    let none = sym c.in-None.is ∙ c.in_ok-place.ensures.place ∙ (λ i. over_in ((c.self.view_is i).arrays) [] 0 (c.args.puts.now ++ puts_in (c.deref-2.ensures.value i))) in
+    let begun = after_landed m a law c.requires.running (c.args.puts.now ++ puts_in c.args.parts.items) us ds after h c.requires.few c.args.told c.requires.told none us is_next in
     let prints = c.give_all_prints.ensures.given ∙ ap (λ (ps : List PrintValue). ps ++ after) c.in_ok-make_room.ensures.prints in
     let records = c.push_reserved.ensures.items ∙ ap (λ (rs : List PhaseRecord). rs ++ c.args.told ∷ []) c.in_ok-make_room.ensures.records in
-    let arrays = c.in_ok-place.ensures.lands c.in-None.is in
+    let arrays = c.in_ok-place.ensures.lands c.in-None.is ∙ (λ i. landed (c.args.puts.now ++ puts_in (c.deref-2.ensures.value i)) v.arrays) in
     let count : v.count ≡ length us = ap (λ (x : StretchesValue g.row.P.Denot g.row.P-Task.Denot). x.count) c.self.view_is ∙ sym f.all ∙ sym f.same in
     let parts = c.renew_all.ensures ∙ ap (map renewed) c.give_all_prints.ensures.rest in
-    let same : stretches_of (record c.self.inside { step = c.self.inside.step + 1; arrays = c.land_shared.new.arrays; prints = c.give_all_prints.new.prints; records = c.push_reserved.new.self }) ≡ landed_with a c.args.puts.now c.args.told after (length us) =
+    let same : stretches_of (record c.self.inside { step = c.self.inside.step + 1; arrays = c.land_shared.new.arrays; prints = c.give_all_prints.new.prints; records = c.push_reserved.new.self }) ≡ landed_with a (c.args.puts.now ++ puts_in c.args.parts.items) c.args.told after (length us) =
     (λ i. record v { step = v.step + 1; arrays = arrays i; count = count i; prints = prints i; records = records i })
-    ∙ (λ i. landed_with (c.self.view_is i) c.args.puts.now c.args.told after (length us)) in
-    closed_landed m a law c.requires.running c.args.puts.now us ds after h c.requires.few c.args.told c.requires.told none us is_next
+    ∙ (λ i. landed_with (c.self.view_is i) (c.args.puts.now ++ puts_in c.args.parts.items) c.args.told after (length us)) in
+    closed_landed m a law c.requires.running (c.args.puts.now ++ puts_in c.args.parts.items) us ds after h c.requires.few c.args.told c.requires.told none us is_next
     c.renew_all.new.parts.items (subst (AreFresh 0) (sym parts) (fresh_renewed true c.args.self.now.count 0 c.args.parts.items c.requires.covered)) (ap tasks_in parts ∙ tasks_renewed c.args.parts.items) c.reopen.new.self
     (c.in_ok-reopen-in-None.ensures.opened ∙ ap (λ (x : StretchesValue g.row.P.Denot g.row.P-Task.Denot). opened_with x c.renew_all.new.parts.items) same)

@@ -7,7 +7,7 @@ use Rattle.step_parts.specs.Slots.{missing_in}
 use Rattle.step_parts.specs.SlotParts.{path_in, living_in, fresh_slot}
 use Rattle.step_core.specs.RoundView.{round_of}
 use Rattle.step_core.proofs.Closed.{lands, went_on, all_small, closed_now, few_outcome, ends_by_over, over_now, over_opens}
-use Rattle.step_core.proofs.Course.{is_there}
+use Rattle.step_core.proofs.Closed.{is_there}
 use Rattle.step_core.proofs.Rounds.{all_missing}
 use Rattle.step_core.proofs.round.Round.land.Goals as goal
 

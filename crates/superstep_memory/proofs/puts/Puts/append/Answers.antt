@@ -1,6 +1,7 @@
 use Rattle.std.proofs.Common.{◌∙◌, ◌≡◌, ◌+◌, ◌++◌, List, length, sym, ap, rules}
 use Rattle.superstep_memory.specs.declared.lots.Row.{Row}
-use Rattle.superstep_memory.proofs.LotLemmas.{lots_joined, count_append}
+use Rattle.superstep_memory.specs.Lots.{puts_in}
+use Rattle.superstep_memory.proofs.LotLemmas.{lots_joined, count_append, sets_joined}
 use Rattle.superstep_memory.proofs.puts.Puts.append.Goals as goal
 
 pub invariant_of-self-2 : goal.invariant_of-self-2
@@ -11,6 +12,7 @@ invariant_of-self-2 c =
     record {
       count = e ∙ count_append _ _ c.self.inside.count c.others.inside.count c.self.invariant.count c.others.invariant.count ∙ ap length (sym h.0);
       rows = h.1;
+      sets = c.both-self-inside.ensures ∙ sets_joined (puts_in c.self.inside.lots.items c.self.inside.rows.items) (puts_in c.others.inside.lots.items c.others.inside.rows.items) _ c.self.inside.sets c.others.inside.sets h.0 c.self.invariant.sets c.others.invariant.sets;
     }
 
 pub returns-clause-joined : goal.returns-clause-joined

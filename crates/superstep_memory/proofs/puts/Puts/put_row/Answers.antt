@@ -3,7 +3,7 @@ use Rattle.superstep_memory.specs.declared.arrays.Put.{Put}
 use Rattle.superstep_memory.specs.declared.lots.Row.{Row}
 use Rattle.superstep_memory.specs.Rows.{row_puts}
 use Rattle.superstep_memory.proofs.Rows.{row_count}
-use Rattle.superstep_memory.proofs.LotLemmas.{row_inside, count_append}
+use Rattle.superstep_memory.proofs.LotLemmas.{row_inside, count_append, sets_row_more}
 use Rattle.superstep_memory.proofs.puts.Puts.put_row.Goals as goal
 
 pub invariant_of-self-2 : goal.invariant_of-self-2
@@ -15,6 +15,7 @@ invariant_of-self-2 c =
       count = e ∙ count_append _ (row_puts c.args.array c.args.first c.args.values.items) c.self.inside.count c.len.result c.self.invariant.count
           (omega (arith, c.len.ensures, c.args.values.ok.0, row_count c.args.array c.args.first c.args.values.items)) ∙ ap length (sym h.0);
       rows = h.1;
+      sets = sets_row_more _ _ c.args.array c.args.first c.args.values.items c.self.inside.sets h.0 c.self.invariant.sets;
     }
 
 pub returns-clause-added : goal.returns-clause-added

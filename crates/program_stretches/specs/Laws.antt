@@ -1,0 +1,21 @@
+-- Which refusal of a stretch comes first (own).
+use Rattle.std.specs.Prelude.{◌≡◌, ◌≢◌, true, false, Some, None, slice_get}
+use Rattle.program_stretches.specs.declared.fault.Unwanted.{Unwanted}
+use Rattle.program_stretches.specs.declared.fault.Unwanted.TheVariants.{WrongStep, Unfinished, Stranger, Double}
+use Rattle.program_stretches.specs.PartValue.{PartValue}
+use Rattle.program_stretches.specs.StretchesValue.{StretchesValue, StretchValue}
+use Rattle.program_stretches.specs.Closing.{Refuses}
+
+-- A stretch of another step is refused as such, whatever else is wrong; then one that hasn't run; then one whose number no stretch has;
+-- then one whose stretch isn't out.
+pub record StretchesAreRefusedInOrder (Q S : Type 0) : Type 0 where
+  pub step : (fault : Unwanted) (v : StretchesValue Q S) (s : StretchValue Q S) → Refuses fault v s → s.step ≢ v.step → fault ≡ WrongStep
+  pub unfinished : (fault : Unwanted) (v : StretchesValue Q S) (s : StretchValue Q S) → Refuses fault v s → s.step ≡ v.step → s.part.done ≡ false
+      → fault ≡ Unfinished
+  pub number : (fault : Unwanted) (v : StretchesValue Q S) (s : StretchValue Q S) → Refuses fault v s → s.step ≡ v.step → s.part.done ≡ true
+      → slice_get v.parts s.number ≡ None → fault ≡ Stranger
+  pub there : (fault : Unwanted) (v : StretchesValue Q S) (s : StretchValue Q S) (part : PartValue S) → Refuses fault v s → s.step ≡ v.step → s.part.done ≡ true
+      → slice_get v.parts s.number ≡ Some (Some part) → fault ≡ Double
+  -- one that is of this step, has run and is out is taken back
+  pub out : (fault : Unwanted) (v : StretchesValue Q S) (s : StretchValue Q S) → s.step ≡ v.step → s.part.done ≡ true
+      → slice_get v.parts s.number ≡ Some None → Refuses fault v s → ⊥

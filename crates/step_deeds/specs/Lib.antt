@@ -1,4 +1,0 @@
-pub mod DeedValue
-pub mod InPlace
-pub mod DeedsView
-pub mod Changes

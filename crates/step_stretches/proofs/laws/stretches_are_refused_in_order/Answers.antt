@@ -1,5 +1,0 @@
-use Rattle.step_stretches.proofs.Refusing.{refused}
-use Rattle.step_stretches.proofs.laws.stretches_are_refused_in_order.Goals as goal
-
-pub returns : goal.returns
-returns c = refused

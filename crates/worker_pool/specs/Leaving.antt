@@ -1,0 +1,43 @@
+-- The stretches of a program, as workers see any engine (own).
+use Rattle.std.specs.Prelude.{◌≡◌, ℕ, if◌then◌else◌, List, length, map, Option, None, slice_get}
+use Rattle.atomic_table.specs.Seated.{TableId}
+use Rattle.phase_records.specs.ReportValue.{ReportValue}
+use Rattle.program_stretches.specs.declared.fault.Outcome as outcomes
+use Rattle.program_stretches.specs.declared.fault.Outcome.TheVariants as outcome
+use Rattle.program_stretches.specs.Parts.{Reading}
+use Rattle.program_stretches.specs.StretchesValue.{StretchesValue, StretchValue}
+use Rattle.program_stretches.specs.Closing.{IsClosed, HasLeft}
+use Rattle.snapshot_log.specs.Agreed.{LogValue}
+use Rattle.program_stretches.specs.Opening.{OpeningValue}
+use Rattle.worker_pool.specs.declared.engine.Closed as closings
+use Rattle.worker_pool.specs.declared.engine.Closed.TheVariants as closed
+
+module _ {Q S T : Type 0} where
+  -- what the run gives: a run that began with the first opening of the log by this name
+  abbrev pub Gives : (Q → Reading S T) → TableId → LogValue (OpeningValue Q S) → ReportValue → List S → Type 0
+  Gives m id w outcome living = (w.name ≡ id) × HasLeft m w.log outcome living
+
+abbrev pub closed_by : outcomes.Outcome → closings.Closed
+closed_by outcome.Landed = closed.Landed
+closed_by o = closed.Ended
+
+module _ {Q S T : Type 0} where
+  -- how closing a superstep leaves the run
+  abbrev pub IsClosedBy : (Q → Reading S T) → StretchesValue Q S → StretchesValue Q S → closings.Closed → Type 0
+  IsClosedBy m old new closed = (outcome : outcomes.Outcome) × (IsClosed m old new outcome × (closed ≡ closed_by outcome))
+
+module _ {Q S : Type 0} where
+  -- how many of its tasks have run
+  abbrev pub done_of : StretchValue Q S → ℕ
+  done_of s = if s.part.done then length s.part.tasks else 0
+
+  -- the path of the task that runs next
+  abbrev pub next_of : (S → List ℕ) → StretchValue Q S → Option (List ℕ)
+  next_of path s = if s.part.done then None else slice_get (map path s.part.tasks) 0
+
+  -- its tasks have run up to this one, which is the last
+  pub record HasRunTo (end : ℕ) (old new : StretchValue Q S) : Type 0 where
+    pub same : new ≡ record old { part = new.part }
+    pub done : done_of new ≡ end
+    pub count : length new.part.tasks ≡ length old.part.tasks
+    pub first : new.part.first ≡ old.part.first

@@ -1,0 +1,135 @@
+//! Runs of programs on worker threads.
+ghost use Rattle.std.specs.Prelude.{◌≡◌, ◌≤◌, ◌<◌, ◌^◌, ◌∷◌, [], IfOk, IfErr, length, map};
+ghost use Rattle.advance_rule.specs.Stored.{Answers};
+ghost use Rattle.advance_rule.specs.Plan.{end_ends_at};
+ghost use Rattle.program_stretches.specs.Opening.{OpeningValue, live_of};
+ghost use Rattle.programs.specs.Meaning.{children};
+ghost use Rattle.programs.specs.History.{HasRun};
+ghost use Rattle.worker_pool.specs.JobPlan.{limit_of, IsJobPlan};
+ghost use Rattle.worker_pool.specs.Refusals.{IsOfWorkers};
+
+use crate::fault::Refused;
+use crate::hooks::{Gate, Starter};
+use crate::program_engine::Run;
+use crate::run::{limit_in, run_engine, stretches_wanted};
+use advance_rule::StoredAdvance;
+use program_stretches::{Left, Opened, Stretches};
+use programs::alone::Ran;
+use programs::program::Program;
+use snapshot_log::log::Log;
+use std::alloc::Global;
+use std::sync::Wait;
+use std::thread::Threads;
+use superstep_memory::arrays::Arrays;
+use tier_shape::Shape;
+
+/// Runs a program that begins with these arrays and tasks on `workers` threads, which synchronize at a tree of phasers of this
+/// shape. What it leaves is what one thread may leave: each superstep's tasks by path, each on the arrays as the superstep began. At
+/// most `most` tasks may live at once.
+///
+/// The limit of supersteps is that of `advance`'s plan: its last phase, plus one. The closure of `advance` is called once a
+/// superstep, after the last arrival, with the phase and the number of parties at the root. `gate` is called round each segment, and
+/// `starter` before each worker is started. A task is a party of a tier, so over 65535 live tasks may find no room: the run then
+/// fails with `Internal`.
+///
+/// Returns after joining all workers that were started. Termination is not part of the contract.
+pub fn run_program<
+    P: Program + Sync,
+    R: Threads + Wait + Sync,
+    F: Fn(u32, u32) -> bool + Sync + Drop,
+    G: Gate + Sync,
+    S: Starter,
+>(
+    rt: &R,
+    alloc: Global,
+    program: &P,
+    arrays: Arrays,
+    tasks: Vec<P::Task>,
+    most: u32,
+    shape: Shape,
+    workers: u32,
+    advance: StoredAdvance<F>,
+    gate: &G,
+    starter: &S,
+) -> Result<Ran<P::Task>, Refused>
+where
+    P::Task: Send,
+    requires ready { P.ready program.now }
+    requires most { most < 2 ^ 31 }
+    requires few { length tasks.items ≤ most }
+    requires paths { map P.Task.path_of tasks.items ≡ children [] 0 (length tasks.items) }
+    requires workers { (1 ≤ workers) × (workers ≤ 64) }
+    requires plan { IsJobPlan advance.plan }
+    requires rule { Answers (F.pre advance.closure) (F.post advance.closure) (end_ends_at advance.plan) }
+    ensures ran { IfOk result (λ ran. let p = program.now in
+        HasRun (P.frame p) (P.may p) most arrays (map (P.meant p) tasks.items) (limit_of advance.plan) ran.report (map (P.meant p) ran.tasks.items)) }
+    ensures started { IfErr result (IsOfWorkers workers) }
+{
+    let Ok((log, start)) = Log::new(alloc) else {
+        return Err(Refused::Memory);
+    };
+    let limit = limit_in(advance.plan());
+    let pieces = stretches_wanted(gate, workers);
+    match Stretches::new(
+        alloc, &log, start, program, arrays, tasks, most, limit, pieces,
+    ) {
+        Ok(stretches) => run_stretches(
+            rt, alloc, &log, stretches, shape, workers, advance, gate, starter,
+        ),
+        Err(_) => Err(Refused::Memory),
+    }
+}
+
+// Runs these stretches, whose log has the one opening of the first superstep.
+fn run_stretches<
+    't,
+    'p,
+    P: Program + Sync,
+    R: Threads + Wait + Sync,
+    F: Fn(u32, u32) -> bool + Sync + Drop,
+    G: Gate + Sync,
+    S: Starter,
+>(
+    rt: &R,
+    alloc: Global,
+    log: &'t Log<Opened<'p, P, P::Task>>,
+    mut stretches: Stretches<'t, 'p, P>,
+    shape: Shape,
+    workers: u32,
+    advance: StoredAdvance<F>,
+    gate: &G,
+    starter: &S,
+) -> Result<Ran<P::Task>, Refused>
+where
+    P::Task: Send,
+    requires log { stretches.name ≡ log.now }
+    requires workers { (1 ≤ workers) × (workers ≤ 64) }
+    requires plan { IsJobPlan advance.plan }
+    requires rule { Answers (F.pre advance.closure) (F.post advance.closure) (end_ends_at advance.plan) }
+    ensures ran { IfOk result (λ ran. (o : OpeningValue P P.Task) → stretches.entry.log ≡ o ∷ []
+        → HasRun (P.frame o.program) (P.may o.program) o.most o.arrays (map (P.meant o.program) (live_of o)) o.limit ran.report (map (P.meant o.program) ran.tasks.items)) }
+    ensures started { IfErr result (IsOfWorkers workers) }
+{
+    let first = stretches.snapshot();
+    match run_engine(
+        rt,
+        alloc,
+        Run::new(stretches),
+        shape,
+        workers,
+        advance,
+        gate,
+        starter,
+    ) {
+        Ok(left) => {
+            let Left { ran, mut writer } = left;
+            writer.compare(log, first);
+            writer.give_up();
+            Ok(ran)
+        }
+        Err(refused) => {
+            first.give_up();
+            Err(refused)
+        }
+    }
+}
