@@ -8,6 +8,7 @@ use Rattle.text_lines.specs.Refusals.{code_number}
 use Rattle.text_lines.specs.declared.refusal.Refusal.{Refusal}
 use Rattle.job_reader.specs.Trees.{BodyTree, JobTree}
 use Rattle.job_reader.specs.Reading.{job_in}
+use Rattle.job_reader.specs.Begins.{BeginsWell}
 use Rattle.job_reader.specs.Grammar.{canonical_text}
 use Rattle.job_reader.specs.Upgrade.{upgraded_tree}
 use Rattle.step_parts.specs.Program.{Program}
@@ -71,6 +72,14 @@ pub record GivesReport (job : JobTree) (limit : ℕ) (out : List ℕ) (status : 
 abbrev pub TellsRun : ℕ → Result JobTree Refusal → List ℕ → ℤ → Told → Type 0
 TellsRun limit (Ok job) out status told = GivesReport job limit out status told
 TellsRun limit (Err refusal) out status told = IsRefusedAs refusal status told
+
+-- the text is a job's
+abbrev pub IsJob : List ℕ → Type 0
+IsJob text = (job : JobTree) × (job_in text ≡ Ok job)
+
+-- Status 6 is for a text that could not be refused before memory ran out: it begins well, or is a job's.
+abbrev pub RunsOut : List ℕ → ℤ → Type 0
+RunsOut text status = status ≡ pos 6 → BeginsWell text ⊎ IsJob text
 
 -- Unless there was no memory, which is status 6, a check, an upgrade and a run tell that of the text.
 abbrev pub Checks : List ℕ → List ℕ → ℤ → Told → Type 0

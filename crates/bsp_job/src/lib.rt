@@ -11,7 +11,7 @@ ghost use Rattle.phase_records.specs.StatusSeen.{status_seen};
 ghost use Rattle.job_reader.specs.Trees.{job_tree};
 ghost use Rattle.bsp_job.specs.Given.{IsGiven};
 ghost use Rattle.job_reader.specs.Grammar.{canonical_text};
-ghost use Rattle.bsp_job.specs.Jobs.{Checks, Upgrades, Runs, IsNothing, IsQuiet, IsRefusedAs, GivesReport, StatusesAreNumbered, status_number};
+ghost use Rattle.bsp_job.specs.Jobs.{Checks, Upgrades, Runs, RunsOut, IsNothing, IsQuiet, IsRefusedAs, GivesReport, StatusesAreNumbered, status_number};
 
 use job_reader::{ReadJobFault, Refusal, canonical, read_job, upgrade};
 use phase_records::{JobStatus, text_of};
@@ -94,11 +94,13 @@ fn write_and_give(alloc: Global, job: &Job, out: &mut [u8], told: &mut Told) -> 
     }
 }
 
-/// Reads a job and puts its canonical text into `out`. Returns 0; 4 if the text is refused; 6 if an allocation failed; 10
-/// if `out` is too short, and then its bytes are unspecified.
+/// Reads a job and puts its canonical text into `out`. Returns 0; 4 if the text is refused; 6 if an allocation failed, which
+/// no text gets that is too long, has a byte that isn't allowed or lacks the header; 10 if `out` is too short, and then its
+/// bytes are unspecified.
 #[unsafe(no_mangle)]
 pub extern "C" fn bsp_check(alloc: Global, text: &[u8], out: &mut [u8], told: &mut Told) -> i32
     ensures check { Checks text.now out.new result told.new }
+    ensures memory { RunsOut text.now result }
     ensures quiet { IsQuiet result told.new }
 {
     *told = NOTHING;
@@ -114,6 +116,7 @@ pub extern "C" fn bsp_check(alloc: Global, text: &[u8], out: &mut [u8], told: &m
 #[unsafe(no_mangle)]
 pub extern "C" fn bsp_upgrade(alloc: Global, text: &[u8], out: &mut [u8], told: &mut Told) -> i32
     ensures upgrade { Upgrades text.now out.new result told.new }
+    ensures memory { RunsOut text.now result }
     ensures quiet { IsQuiet result told.new }
 {
     *told = NOTHING;
@@ -154,6 +157,7 @@ pub extern "C" fn bsp_run(
 ) -> i32
     ensures none { limit ≡ 0 → result ≡ pos 5 }
     ensures run { 1 ≤ limit → Runs limit text.now out.new result told.new }
+    ensures memory { RunsOut text.now result }
     ensures quiet { IsQuiet result told.new }
 {
     *told = NOTHING;

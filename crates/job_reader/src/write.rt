@@ -178,8 +178,8 @@ pub fn canonical(alloc: Global, job: &Job) -> Result<Vec<u8>, AllocError>
 
 /// Writes the canonical text of a job: `bsp` and its format, the arrays with all their values, the bodies, the start lines, each
 /// in declared order, with single spaces, no comments and an LF after each line. Allocates before it writes the first
-/// byte. `Write` where the writer failed: a beginning of the text went out. Each job is one of the grammar, so that its
-/// text, where it isn't too long, is read as that job.
+/// byte. Fails with `Write` if the writer failed, after a beginning of the text. Each job is one of the grammar, so its
+/// text, if it isn't too long, is read as that job.
 #[tactic(auto, using(crate::proofs::JobLemmas::jobs))]
 pub fn write_job<W: CountedWrite>(
     alloc: Global,

@@ -4,7 +4,7 @@
 //! its line of `crates.txt`.
 //!
 //! * [`read_job`] reads a [`Job`] from its text, and [`write_job`] writes it.
-//! * [`run_alone`] runs a job on the caller's thread, and [`run_watched`] does so under the eyes of a [`Watch`].
+//! * [`run_alone`] runs a job on the caller's thread. [`run_watched`] also calls a [`Watch`] as each superstep begins.
 //! * [`run_within`] runs it on 1 to 64 worker threads, which meet at a tree of phasers after each superstep. The [`Report`] is
 //!   the same whatever the number of workers and the shape of the tree. [`run_job`] is the call below it, for an advance rule
 //!   of your own.

@@ -25,7 +25,7 @@ use crate::code::{Action, Expr, Line};
 use crate::same::same_code;
 use std::alloc::{AllocError, Global};
 
-/// Flat code of which only the front is there.
+/// The beginning of flat code.
 #[derive(Drop)]
 pub struct Builder {
     pub code: Vec<Line>,
@@ -33,7 +33,7 @@ pub struct Builder {
 }
 
 impl Builder {
-    /// The next line, whatever its jump, or `false` where it belongs to no open line.
+    /// Adds the next line, whatever its jump. Returns `false` if it belongs to no open line.
     pub fn line(&mut self, line: Line) -> Result<bool, AllocError>
         ensures { IfOk result (λ fits. (fs : List Frame) (b : Block) → IsOpen fs b self.old
             → spec.IsStep fits (spec.step_of line fs b) self.new) }
@@ -56,7 +56,7 @@ impl Builder {
         }
     }
 
-    /// An action in the innermost block.
+    /// Adds an action to the innermost block.
     pub fn action(&mut self, action: Action) -> Result<(), AllocError>
         ensures { OnOk result ((fs : List Frame) (b : Block) → IsOpen fs b self.old → IsOpen fs (b ⨾ tree.Do action tree.Done) self.new) }
     {
@@ -64,7 +64,7 @@ impl Builder {
         Ok(())
     }
 
-    /// An `if`.
+    /// Opens an `if`.
     pub fn open_if(&mut self, test: Expr) -> Result<(), AllocError>
         ensures { OnOk result ((fs : List Frame) (b : Block) → IsOpen fs b self.old → IsOpen (spec.InIf test b ∷ fs) tree.Done self.new) }
     {
@@ -73,7 +73,7 @@ impl Builder {
         Ok(())
     }
 
-    /// A `while`.
+    /// Opens a `while`.
     pub fn open_while(&mut self, test: Expr) -> Result<(), AllocError>
         ensures { OnOk result ((fs : List Frame) (b : Block) → IsOpen fs b self.old → IsOpen (spec.InWhile test b ∷ fs) tree.Done self.new) }
     {
@@ -82,7 +82,7 @@ impl Builder {
         Ok(())
     }
 
-    /// The end of the innermost open line, or `false` where none is open.
+    /// Closes the innermost open line. Returns `false` if none is open.
     pub fn end(&mut self) -> Result<bool, AllocError>
         ensures { IfOk result (λ fits. (fs : List Frame) (b : Block) → IsOpen fs b self.old
             → spec.IsStep fits (spec.step_of Line.EndIf fs b) self.new) }
@@ -94,7 +94,7 @@ impl Builder {
         Ok(true)
     }
 
-    /// An `else`, or `false` where the innermost open line is no `if` without one.
+    /// Adds an `else`. Returns `false` if the innermost open line isn't an `if` without one.
     pub fn otherwise(&mut self) -> Result<bool, AllocError>
         ensures { IfOk result (λ fits. (fs : List Frame) (b : Block) (n : ℕ) → IsOpen fs b self.old
             → spec.IsStep fits (spec.step_of (Line.Else n) fs b) self.new) }
@@ -151,7 +151,7 @@ fn close(code: &mut Vec<Line>, place: usize) -> Result<(), AllocError>
     }
 }
 
-/// Whether each jump of these lines goes where it is to, and each open line has its end.
+/// Whether each jump of these lines goes where it should, and each open line has its end.
 pub fn is_matched(alloc: Global, code: &[Line]) -> Result<bool, AllocError>
     ensures { IfOk result (λ fits. IsTrue fits ↔ IsMatched code.now) }
 {

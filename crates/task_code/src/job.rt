@@ -86,7 +86,7 @@ fn is_array(name: &[u8], cells: &[i64]) -> bool
     is_free(name) && !cells.is_empty() && cells.len() <= MOST_CELLS
 }
 
-// Whether a job may have each of these arrays, which have names of their own.
+// Whether a job may have each of these arrays, whose names differ.
 fn are_arrays(arrays: &Arrays) -> bool
     ensures arrays { result ≡ list_all is_array arrays.now }
     ensures named { IsTrue result → IsTrue (names.are_names (map (λ a. a.0) arrays.now)) }
@@ -115,7 +115,7 @@ fn is_among(bodies: &[Body], name: &[u8]) -> bool
     false
 }
 
-// Whether each of these bodies has a name of its own.
+// Whether the names of these bodies differ.
 fn are_named_apart(bodies: &[Body]) -> bool
     ensures { result ≡ names.are_names (map (λ b. b.name) bodies.now) }
 {
@@ -130,7 +130,7 @@ fn are_named_apart(bodies: &[Body]) -> bool
     true
 }
 
-// Whether the lines of each body name only the first so many arrays and bodies.
+// Whether the lines of each body name only arrays and bodies below these numbers.
 fn are_within(bodies: &[Body], arrays: usize, count: usize) -> bool
     ensures within { result ≡ list_all (λ b. list_all (limits.is_line arrays count) b.code) bodies.now }
     ensures each { IsTrue result → AllByRecursion IsBody bodies.now }
@@ -180,7 +180,7 @@ fn has_format(format: u32, bodies: &[Body]) -> bool
     }
 }
 
-// Whether each start line names one of so many bodies.
+// Whether each start line names a body below this number.
 fn are_starts(starts: &[Start], bodies: usize) -> bool
     ensures { result ≡ list_all (λ s. nat_lt s.body bodies) starts.now }
 {
@@ -215,10 +215,10 @@ fn is_job(format: u32, arrays: &Arrays, bodies: &Vec<Body>, starts: &Vec<Start>)
 }
 
 impl Job {
-    /// A job of this format, 1 or 2, with these arrays, bodies and start lines. `None` where there is no such format, where
-    /// in format 1 a line is an add or the locals of a body aren't in the order of first mention, where a name isn't one or a body
-    /// has the name of another, where an array has no cell or over 4096, where a line names an array or a body that isn't
-    /// there, where a start line names no body, and above [`MOST_ARRAYS`] arrays, [`MOST_BODIES`] bodies and [`MOST_TASKS`]
+    /// Makes a job of this format, 1 or 2, with these arrays, bodies and start lines. Returns `None` if there is no such
+    /// format; if in format 1 a line is an add, or the locals of a body aren't in the order of first mention; if a name
+    /// isn't one, or two bodies share a name; if an array has no cell or over 4096; if a line names an array or a body that
+    /// isn't there, or a start line no body; and above [`MOST_ARRAYS`] arrays, [`MOST_BODIES`] bodies and [`MOST_TASKS`]
     /// start lines (all own).
     pub fn new(format: u32, arrays: Arrays, bodies: Vec<Body>, starts: Vec<Start>) -> Option<Job>
         ensures refused { IsSome result ↔ IsJob (job_value format arrays bodies starts) }

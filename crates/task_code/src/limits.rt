@@ -44,7 +44,7 @@ pub(crate) fn statements(code: &[Line]) -> usize
     count
 }
 
-// How many lines are open after this one, if so many were open before it.
+// How many lines are open after this one, given how many were before it.
 fn opened(before: usize, line: &Line) -> usize
     requires { before ≤ 16 }
     ensures { result ≡ spec.opened before line.now }
@@ -89,7 +89,7 @@ fn are_operands(operands: &Operands, arrays: usize) -> bool
         && is_operand(operands.right, arrays)
 }
 
-// Whether the body that a line spawns a task of is among so many.
+// Whether the body that a line spawns a task of is below this number.
 fn has_body(line: &Line, bodies: usize) -> bool
     ensures { result ≡ spec.has_body_in bodies line.now }
 {
@@ -122,7 +122,7 @@ pub(crate) fn are_of_first(code: &[Line]) -> bool
     code.iter().all(|line| is_of_first(line))
 }
 
-/// Whether lines name only the first so many arrays and bodies.
+/// Whether lines name only arrays and bodies below these numbers.
 pub(crate) fn are_lines(code: &[Line], arrays: usize, bodies: usize) -> bool
     ensures { result ≡ list_all (spec.is_line arrays bodies) code.now }
 {

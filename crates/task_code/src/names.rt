@@ -53,7 +53,7 @@ fn is_one_of(word: &[u8], a: &[u8], b: &[u8], c: &[u8], d: &[u8], or_else: bool)
     are_same(word, a) || are_same(word, b) || are_same(word, c) || are_same(word, d) || or_else
 }
 
-/// Whether a word is one of the language's own, which no array, body or local may be called by.
+/// Whether a word is reserved: no array, body or local may have it as its name.
 #[tactic(auto, unfolding(crate::specs::Names::is_reserved))]
 pub fn is_reserved(word: &[u8]) -> bool
     ensures { result ≡ spec.is_reserved word.now }
@@ -65,7 +65,7 @@ pub fn is_reserved(word: &[u8]) -> bool
     is_one_of(word, b"arg", b"step", b"let", b"put", actions)
 }
 
-/// Whether an array, a body or a local may be called so.
+/// Whether an array, a body or a local may have this name.
 pub fn is_free(word: &[u8]) -> bool
     ensures { result ≡ spec.is_free word.now }
 {
