@@ -89,7 +89,7 @@ fn keep(ends: &mut Vec<KeptEnd>, generation: u64, outcome: Outcome, unread: u32)
     }
 }
 
-// Returns the place of this generation's end, or the number of ends if it isn't kept.
+// Returns where the end of this generation is, or how many ends there are if it isn't kept.
 fn place_of(ends: &[KeptEnd], generation: u64) -> usize
     ensures { IsPlace generation ends.now result }
 {
@@ -191,7 +191,7 @@ impl Ledger {
     }
 
     /// Arrives as `caller`. The last to arrive runs the action. Fails with `AlreadyWaiting` if the caller waits already,
-    /// and with `Memory` if memory runs out. It also fails with `Memory` if the caller is the first of its generation
+    /// and with `Memory` if memory runs out. It also fails with `Memory` where the caller is the first of its generation
     /// and the end of a generation of the same number is kept: one that is 2^64 generations old.
     pub fn await_step<F: Fn(u64) -> bool>(
         &mut self,

@@ -217,7 +217,7 @@ impl BarrierState {
     }
 
     /// Arrives as `caller`, as `await_step` does, but returns no lists. So the last to arrive needs no memory, and an
-    /// earlier one needs some only if more callers wait than ever since the barrier last broke or was reset.
+    /// earlier one needs some only where more callers wait than ever since the barrier last broke or was reset.
     pub fn arrive<F: Fn(u64) -> bool>(
         &mut self,
         action: &StoredAction<F>,

@@ -2,7 +2,7 @@
 //! lets other threads run in between. That such a call returns is not part of its contract: others may hold a tier for
 //! ever.
 //!
-//! The functions take the tiers, and the rule if an advance may be due. [`Tree`] passes its own.
+//! The functions take the tiers, and the rule where an advance may be due. [`Tree`] passes its own.
 
 ghost use Rattle.std.specs.Prelude.{◌≡◌, ◌<◌, ◌≤◌, ℕ, Some, length, List, MatchResult};
 ghost use Rattle.advance_rule.specs.Stored.{Answers};
@@ -306,7 +306,7 @@ impl<F: Fn(u32, u32) -> bool> Tree<F> {
     /// Lets a member of `crew`, a token of this tree, arrive. Never returns `Left`.
     ///
     /// It takes the crew and returns it, so that the crew can't be used while its call is under way. Use it if the
-    /// crew is moved anyway, as between threads, or if the answer holds it. Otherwise use `arrive_in_place`, which has
+    /// crew is moved anyway, as between threads, or where the answer holds it. Else use `arrive_in_place`, which has
     /// the same effect and moves nothing.
     pub fn arrive_wait<R: Wait>(&self, rt: &R, crew: Crew) -> ArrivedAtLast
         requires own { crew.tree ≡ self.now.tree }
