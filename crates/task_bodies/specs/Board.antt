@@ -1,5 +1,5 @@
 -- What the kernel over a board leaves (own).
-use Rattle.std.specs.Prelude.{◌≡◌, ◌≤◌, ◌<◌, ℕ, zero, suc, ◌+◌, ◌-◌, ◌*◌, nat_le, nat_lt, ℤ, pos, Bool, true, false, ◌&&◌, List, [], ◌++◌, length, get_or, take, drop, slice_get}
+use Rattle.std.specs.Prelude.{◌≡◌, ◌<◌, ℕ, zero, suc, ◌+◌, ◌-◌, ◌*◌, nat_le, nat_lt, ℤ, pos, Bool, true, false, ◌&&◌, List, [], ◌++◌, length, get_or, take, drop, slice_get}
 use Rattle.superstep_memory.specs.Rows.{row_puts}
 use Rattle.task_bodies.specs.declared.grid.BoardRows.{BoardRows}
 use Rattle.task_bodies.specs.declared.grid.Window.{Window}

@@ -1,5 +1,5 @@
 -- What kernels over cells side by side leave (own).
-use Rattle.std.specs.Prelude.{◌≡◌, ◌≤◌, ◌<◌, ◌⊎◌, ℕ, ◌+◌, ◌-◌, nat_le, ℤ, pos, ◌+ℤ◌, Bool, true, false, ◌&&◌, List, [], ◌∷◌, ◌++◌, length, get_or, slice_get}
+use Rattle.std.specs.Prelude.{◌≡◌, ◌<◌, ◌⊎◌, ℕ, ◌+◌, ◌-◌, nat_le, ℤ, pos, ◌+ℤ◌, Bool, true, false, ◌&&◌, List, [], ◌∷◌, length, get_or, slice_get}
 use Rattle.superstep_memory.specs.declared.arrays.PutKind.TheVariants.{Add}
 use Rattle.superstep_memory.specs.Landing.{is_over}
 use Rattle.superstep_memory.specs.Rows.{row_puts}

@@ -1,5 +1,5 @@
 -- What kernels leave, which are bodies over a closure (own).
-use Rattle.std.specs.Prelude.{◌≡◌, ◌≤◌, ◌<◌, ℕ, ◌+◌, ◌-◌, nat_le, nat_lt, ℤ, pos, Bool, true, false, ◌&&◌, if◌then◌else◌, List, [], length, get_or, slice_get}
+use Rattle.std.specs.Prelude.{◌≡◌, ◌<◌, ℕ, ◌+◌, ◌-◌, nat_le, nat_lt, ℤ, pos, Bool, true, false, ◌&&◌, if◌then◌else◌, List, [], length, get_or, slice_get}
 use Rattle.superstep_memory.specs.Rows.{row_puts}
 use Rattle.task_bodies.specs.declared.kernel.Span.{Span}
 use Rattle.task_bodies.specs.declared.body.Ending.{Ending}
