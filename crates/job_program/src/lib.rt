@@ -3,9 +3,9 @@
 //! # Where things are
 //!
 //! * `job.rt`: the program, and what begins a run of it.
-//! * `specs/JobTasks.antt`: what its tasks mean. `proofs/Formed.antt`: what a task leaves is well
-//!   formed; `Same.antt`: a job and its program leave the same report.
-//!#![tactic(auto)]
+//! * `specs/JobTasks.antt`: what its tasks mean. `proofs/Formed.antt`: what a task leaves is well formed; `Same.antt`: a
+//!   job and its program leave the same report.
+#![tactic(auto)]
 
 mod job;
 
