@@ -1,125 +1,164 @@
-//! Tasks of one's own on worker threads: heat in a rod, by a closure, and seeds that spawn. Each run leaves on workers what it leaves
-//! on one thread.
+//! Tasks of one's own on worker threads: heat in a rod, the game of life, a shop whose customers come and go, a search in a graph, and
+//! its ranks. Each run leaves on workers what it leaves on one thread.
 #![tactic(auto)]
 
 ghost use Rattle.std.specs.Prelude.{◌≤◌};
 
-mod seeds;
-
-use seeds::Seeds;
-use std::alloc::{AllocError, Global};
+use example_tasks::life::next;
+use example_tasks::queue::Shop;
+use example_tasks::rank::Ranks;
+use example_tasks::rod::Rod;
+use example_tasks::search::Graph;
+use example_tasks::start::{self, Start};
+use std::alloc::Global;
 use std::sync::Wait;
 use std::thread::Threads;
 use superstep_memory::arrays::Arrays;
-use task_bodies::kernel::{Span, Stencil};
+use task_bodies::body::TaskBody;
+use task_bodies::kernel::{Grid, Window};
 use task_bodies::run::run_bodies;
 use task_workers::{AllStart, OpenGate, run_bodies_on_workers};
 use tier_shape::Shape;
 
-// An array of so many cells, of which the first holds this and the others 0.
-fn one_array(alloc: Global, count: usize, first: i64) -> Result<Arrays, AllocError> {
-    let mut arrays = Arrays::new(alloc);
-    let mut cells = Vec::from_elem(alloc, 0, count)?;
-    if let Some(cell) = cells.first_mut() {
-        *cell = first;
+// How many runs are compared.
+const RUNS: usize = 5;
+
+// A number by all cells of one array.
+fn array_number(before: i64, cells: &[i64]) -> i64 {
+    let mut number = before;
+    for cell in cells {
+        number = number.wrapping_mul(31).wrapping_add(*cell);
     }
-    arrays.add(String::from_str(alloc, "cells")?, cells)?;
-    Ok(arrays)
+    number
 }
 
-// The cells of the one array.
-fn cells_of(alloc: Global, arrays: &Arrays) -> Result<Vec<i64>, AllocError> {
-    match arrays.get(0) {
-        Some((_, cells)) => Vec::from_slice(alloc, cells),
-        None => Ok(Vec::new(alloc)),
+// A number by all cells of all arrays: other cells give another one, but for a rare chance.
+fn number_of(arrays: &Arrays) -> i64 {
+    let mut number = 0;
+    for place in 0..arrays.len() {
+        if let Some((_, cells)) = arrays.get(place) {
+            number = array_number(number, cells);
+        }
     }
+    number
 }
 
-// A rod of 402 cells in four blocks.
-fn blocks(alloc: Global) -> Result<Vec<Span>, AllocError> {
-    let mut spans = Vec::new(alloc);
-    for number in 0..4 {
-        spans.push(Span {
-            before: number * 100,
-            end: number * 100 + 100,
-        })?;
-    }
-    Ok(spans)
+// What a body leaves on one thread.
+fn alone<B: TaskBody>(alloc: Global, body: &B, start: Start<B::Kept>) -> anyhow::Result<i64>
+    requires { B.ready body.now }
+{
+    let ran = run_bodies(alloc, body, start.arrays, start.tasks, 1000, 1000)?;
+    Ok(number_of(&ran.report.arrays))
 }
 
-// The rod after 200 supersteps, on so many workers at a tree of these widths.
-fn rod_on<R: Threads + Wait + Sync>(
+// What it leaves on so many workers at a tree of these widths.
+fn on_workers<B: TaskBody + Sync, R: Threads + Wait + Sync>(
+    rt: &R,
+    alloc: Global,
+    body: &B,
+    start: Start<B::Kept>,
+    workers: u32,
+    widths: &str,
+) -> anyhow::Result<i64>
+where
+    B::Kept: Send,
+    requires ready { B.ready body.now }
+    requires workers { (1 ≤ workers) × (workers ≤ 64) }
+{
+    let shape = Shape::from_widths(alloc, widths)?;
+    let ran = run_bodies_on_workers(
+        rt,
+        alloc,
+        body,
+        start.arrays,
+        start.tasks,
+        1000,
+        1000,
+        shape,
+        workers,
+        &OpenGate,
+        &AllStart,
+    )?;
+    Ok(number_of(&ran.report.arrays))
+}
+
+fn life_alone(alloc: Global) -> anyhow::Result<i64> {
+    let life = Grid {
+        array: 0,
+        width: 512,
+        beyond: 0,
+        last: 9,
+        f: |cells: Window| next(cells),
+    };
+    alone(alloc, &life, start::board(alloc)?)
+}
+
+fn life_on_workers<R: Threads + Wait + Sync>(
     rt: &R,
     alloc: Global,
     workers: u32,
     widths: &str,
-) -> anyhow::Result<Vec<i64>>
+) -> anyhow::Result<i64>
     requires { (1 ≤ workers) × (workers ≤ 64) }
 {
-    let arrays = one_array(alloc, 402, 1_000_000)?;
-    let spans = blocks(alloc)?;
-    let shape = Shape::from_widths(alloc, widths)?;
-    let rod = Stencil {
+    let life = Grid {
         array: 0,
-        last: 199,
-        f: |left: i64, own: i64, right: i64| left.wrapping_add(own).wrapping_add(right) / 3,
+        width: 512,
+        beyond: 0,
+        last: 9,
+        f: |cells: Window| next(cells),
     };
-    let ran = run_bodies_on_workers(
-        rt, alloc, &rod, arrays, spans, 4, 1000, shape, workers, &OpenGate, &AllStart,
-    )?;
-    let cells = cells_of(alloc, &ran.report.arrays)?;
-    Ok(cells)
+    on_workers(rt, alloc, &life, start::board(alloc)?, workers, widths)
 }
 
-// The same rod on one thread.
-fn rod_alone(alloc: Global) -> anyhow::Result<Vec<i64>> {
-    let arrays = one_array(alloc, 402, 1_000_000)?;
-    let spans = blocks(alloc)?;
-    let rod = Stencil {
-        array: 0,
-        last: 199,
-        f: |left: i64, own: i64, right: i64| left.wrapping_add(own).wrapping_add(right) / 3,
-    };
-    let ran = run_bodies(alloc, &rod, arrays, spans, 4, 1000)?;
-    let cells = cells_of(alloc, &ran.report.arrays)?;
-    Ok(cells)
-}
-
-// Eight seeds that live for five supersteps.
-fn eight(alloc: Global) -> Result<Vec<u32>, AllocError> {
-    let mut seeds = Vec::new(alloc);
-    for _ in 0..8 {
-        seeds.push(5)?;
+// The ranks after 10 rounds.
+fn ranks() -> Ranks {
+    Ranks {
+        graph: Graph { nodes: 1000 },
+        last: 19,
     }
-    Ok(seeds)
 }
 
-// How many tasks lived in each superstep, on so many workers at a tree of these widths.
-fn seeds_on<R: Threads + Wait + Sync>(
+// What all runs leave on one thread.
+fn all_alone(alloc: Global) -> anyhow::Result<[i64; RUNS]> {
+    let rod = alone(alloc, &Rod { last: 199 }, start::rod(alloc)?)?;
+    let life = life_alone(alloc)?;
+    let shop = alone(alloc, &Shop { open: 199 }, start::shop(alloc)?)?;
+    let search = alone(alloc, &Graph { nodes: 100_000 }, start::graph(alloc)?)?;
+    let ranks = alone(alloc, &ranks(), start::ranks(alloc)?)?;
+    Ok([rod, life, shop, search, ranks])
+}
+
+// What they leave on so many workers at a tree of these widths.
+fn all_on_workers<R: Threads + Wait + Sync>(
     rt: &R,
     alloc: Global,
     workers: u32,
     widths: &str,
-) -> anyhow::Result<Vec<i64>>
+) -> anyhow::Result<[i64; RUNS]>
     requires { (1 ≤ workers) × (workers ≤ 64) }
 {
-    let arrays = one_array(alloc, 8, 0)?;
-    let tasks = eight(alloc)?;
-    let shape = Shape::from_widths(alloc, widths)?;
-    let ran = run_bodies_on_workers(
-        rt, alloc, &Seeds, arrays, tasks, 1000, 1000, shape, workers, &OpenGate, &AllStart,
+    let rod = on_workers(
+        rt,
+        alloc,
+        &Rod { last: 199 },
+        start::rod(alloc)?,
+        workers,
+        widths,
     )?;
-    let cells = cells_of(alloc, &ran.report.arrays)?;
-    Ok(cells)
-}
-
-// The same seeds on one thread.
-fn seeds_alone(alloc: Global) -> anyhow::Result<Vec<i64>> {
-    let arrays = one_array(alloc, 8, 0)?;
-    let tasks = eight(alloc)?;
-    let ran = run_bodies(alloc, &Seeds, arrays, tasks, 1000, 1000)?;
-    let cells = cells_of(alloc, &ran.report.arrays)?;
-    Ok(cells)
+    let life = life_on_workers(rt, alloc, workers, widths)?;
+    let shop = on_workers(
+        rt,
+        alloc,
+        &Shop { open: 199 },
+        start::shop(alloc)?,
+        workers,
+        widths,
+    )?;
+    let graph = Graph { nodes: 100_000 };
+    let search = on_workers(rt, alloc, &graph, start::graph(alloc)?, workers, widths)?;
+    let ranks = on_workers(rt, alloc, &ranks(), start::ranks(alloc)?, workers, widths)?;
+    Ok([rod, life, shop, search, ranks])
 }
 
 // Whether so many workers at a tree of these widths leave what one thread left.
@@ -128,25 +167,22 @@ fn is_same<R: Threads + Wait + Sync>(
     alloc: Global,
     workers: u32,
     widths: &str,
-    rod: &[i64],
-    seeds: &[i64],
+    left: &[i64; RUNS],
 ) -> anyhow::Result<bool>
     requires { (1 ≤ workers) × (workers ≤ 64) }
 {
-    let cells = rod_on(rt, alloc, workers, widths)?;
-    let found = seeds_on(rt, alloc, workers, widths)?;
-    Ok(cells.as_slice() == rod && found.as_slice() == seeds)
+    let found = all_on_workers(rt, alloc, workers, widths)?;
+    Ok(found.as_slice() == left.as_slice())
 }
 
 fn main(rt: HostRuntime) -> anyhow::Result<()> {
     let alloc = rt.alloc();
-    let rod = rod_alone(alloc)?;
-    let seeds = seeds_alone(alloc)?;
-    println!(rt; "rod: cell 1 holds {}", rod.get(1).copied().unwrap_or(0))?;
-    println!(rt; "seeds: {seeds:?}")?;
+    let left = all_alone(alloc)?;
     for widths in ["flat", "2x3"] {
-        let two = is_same(&rt, alloc, 2, widths, &rod, &seeds)?;
-        let eight = is_same(&rt, alloc, 8, widths, &rod, &seeds)?;
+        let one = is_same(&rt, alloc, 1, widths, &left)?;
+        let two = is_same(&rt, alloc, 2, widths, &left)?;
+        let eight = is_same(&rt, alloc, 8, widths, &left)?;
+        println!(rt; "1 worker on {widths}: the same is {one}")?;
         println!(rt; "2 workers on {widths}: the same is {two}")?;
         println!(rt; "8 workers on {widths}: the same is {eight}")?;
     }
