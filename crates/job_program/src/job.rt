@@ -38,7 +38,8 @@ impl<'j> Program for JobProgram<'j> {
 
     ghost ready = { λ p. Unit {0} };
 
-    #[inline(always)]
+    // One function of a program, so that the loop over operations is inlined in it, however many copies the loop over tasks has.
+    #[inline(never)]
     fn segment(
         &self,
         alloc: Global,
