@@ -31,7 +31,7 @@ fn records(steps: usize) -> String {
     out
 }
 
-/// A task of the ring: where it puts.
+/// A task of the ring: the cell to which it puts.
 struct Shift {
     to: usize,
     turn: usize,
@@ -132,7 +132,7 @@ fn spawns(steps: usize) -> String {
     finish(out, &[0], step)
 }
 
-/// Tasks that count so many turns and put, in equal parts on threads that meet at a barrier after each superstep.
+/// Tasks that count a number of turns and put, in equal parts on threads that meet at a barrier after each superstep.
 fn turns(steps: usize, turns: i64, threads: usize) -> String {
     let barrier = Barrier::new(threads);
     let mut cells = vec![0; TASKS];
@@ -152,7 +152,7 @@ fn turns(steps: usize, turns: i64, threads: usize) -> String {
     finish(records(steps), &cells, steps + 1)
 }
 
-/// A rod of 4096 cells that cools, in two buffers; or in blocks of which each logs a row, all of which land at the end.
+/// A rod of 4096 cells that cools, in two buffers; or in blocks, each of which logs a row; all rows land at the end.
 fn rod(supersteps: usize, logged: bool) -> String {
     let mut cells = vec![0i64; 4096];
     cells[0] = 1_000_000_000_000;
@@ -236,7 +236,7 @@ fn life(supersteps: usize, threads: usize) -> String {
     three_numbers(&cells)
 }
 
-/// A search in a graph of so many nodes, each with two edges, in equal parts on threads that meet at a barrier after each superstep.
+/// A search in a graph of `nodes` nodes, each with two edges, in equal parts on threads that meet at a barrier after each superstep.
 fn search(nodes: usize, threads: usize) -> String {
     let distances: Vec<AtomicI64> = (0..nodes).map(|node| AtomicI64::new(if node == 0 { 0 } else { -1 })).collect();
     let rounds = AtomicI64::new(0);
@@ -273,7 +273,7 @@ fn search(nodes: usize, threads: usize) -> String {
     three_numbers(&cells)
 }
 
-/// Threads that meet at a barrier so many times.
+/// Threads that meet at a barrier `phases` times.
 fn meet(threads: usize, phases: usize) -> String {
     let barrier = Barrier::new(threads);
     let start = Instant::now();

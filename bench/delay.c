@@ -1,5 +1,5 @@
-// Stands before the functions of the C library, and delays at random: one in DELAY_ONE_IN (64) allocations and calls of futex sleeps
-// for up to 300 microseconds, and a timer of each thread stops it between two instructions, every 0.2 to 2 ms of its own time, for as
+// Replaces functions of the C library, and delays at random: one in DELAY_ONE_IN (64) allocations and calls of futex sleeps
+// for up to 300 microseconds, and a timer of each thread stops it between two instructions, every 0.2 to 2 ms of the thread's time, for as
 // long. The timers' signal is caught without SA_RESTART, so it interrupts reads, writes and waits. DELAY_SEED chooses the delays.
 #define _GNU_SOURCE
 #include <dlfcn.h>

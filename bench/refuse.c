@@ -1,5 +1,5 @@
-// Stands before the functions of the C library: the allocation of the number REFUSED_ALLOCATION, or the start of a thread of the
-// number REFUSED_START, from 1, is refused, and so are the next REFUSED_BURST - 1 (none where it isn't given); each leaves the file
+// Replaces functions of the C library: the allocation of the number REFUSED_ALLOCATION, or the start of a thread of the
+// number REFUSED_START, from 1, is refused, and so are the next REFUSED_BURST - 1 (none if it isn't given); each leaves the file
 // REFUSED_MARK.
 #define _GNU_SOURCE
 #include <dlfcn.h>

@@ -4,7 +4,7 @@ use std::sync::Barrier;
 use std::sync::atomic::{AtomicU32, Ordering::SeqCst};
 use std::time::{Duration, Instant};
 
-// Each of so many threads does this.
+// Each of `threads` threads does this.
 fn timed(threads: usize, body: impl Fn() + Sync) -> Duration {
     let start = Instant::now();
     std::thread::scope(|scope| (0..threads).for_each(|_| drop(scope.spawn(&body))));

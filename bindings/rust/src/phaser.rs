@@ -11,7 +11,7 @@ pub enum Refused {
     NoWord,
     /// Fewer than 0 parties, or more than 65535, of a new phaser.
     TooMany,
-    /// No room for so many more parties.
+    /// No room for this many more parties.
     Full,
     /// An arrival or a departure, but nobody is unarrived.
     NobodyUnarrived,
@@ -58,13 +58,13 @@ pub struct Arrival {
 }
 
 impl Arrival {
-    /// Whether this party was the last to arrive, of which a phase has one.
+    /// Whether this party was the last to arrive. A phase has one such party.
     pub fn is_leader(&self) -> bool {
         self.index == 0
     }
 }
 
-/// A phaser that threads share by reference (Java SE 21, `Phaser`). It ends where an advance leaves nobody.
+/// A phaser that threads share by reference (Java SE 21, `Phaser`). It ends when an advance leaves nobody.
 ///
 /// ```
 /// let phaser = bsp::Phaser::new(4)?;
@@ -81,7 +81,7 @@ pub struct Phaser {
 }
 
 impl Phaser {
-    /// A phaser in phase 0 with so many parties, none of which has arrived; from 0 to 65535.
+    /// A phaser in phase 0 with `parties` parties, from 0 to 65535. None of them has arrived.
     pub fn new(parties: i64) -> Result<Phaser, Refused> {
         let mut word = 0;
         told(sys::bsp_phaser_new(parties, 0, &mut word), 0)?;

@@ -12,7 +12,7 @@ is_at (Some at) phase = phase == at
 abbrev pub count_ends : CountPlan → ℕ → ℕ → Bool
 count_ends plan phase count = nat_lt count plan.least || is_at plan.at phase
 
--- it ends where nobody is registered, if the plan says so, or in the phase that the plan names
+-- it ends when nobody is registered, if the plan says so, or in the phase that the plan names
 abbrev pub end_ends : EndPlan → ℕ → Bool → Bool
 end_ends plan phase empty = (empty && plan.when_empty) || is_at plan.at phase
 

@@ -1,4 +1,4 @@
--- What a caller is told of a job's text (own; the numbers of the statuses are those of the program).
+-- What a caller gets for a job's text (own; the numbers of the statuses are those of the program).
 use Rattle.std.specs.Prelude.{◌≡◌, ◌≢◌, ◌⊎◌, ℕ, ℤ, pos, List, [], ◌∷◌, map, length, Some, Result, Ok, Err}
 use Rattle.phase_records.specs.Status.{Status, Ended, Fault, Limit}
 use Rattle.phase_records.specs.ReportValue.{ReportValue}
@@ -22,7 +22,7 @@ status_number (Ended steps) = pos 0
 status_number (Fault code step path) = pos 2
 status_number (Limit steps) = pos 3
 
--- 0 where it ended, 2 where a task faulted, 3 where the limit was reached, written down
+-- 0 if it ended, 2 if a task faulted, 3 if the limit was reached, written down
 pub record StatusesAreNumbered : Type 0 where
   pub ended : status_number (Ended 7) ≡ pos 0
   pub faulted : status_number (Fault 1 7 (0 ∷ [])) ≡ pos 2
@@ -40,35 +40,35 @@ pub record IsQuiet (status : ℤ) (told : Told) : Type 0 where
   pub length : (status ≡ pos 4) ⊎ ((status ≡ pos 5) ⊎ (status ≡ pos 6)) → told.bytes ≡ 0
   pub refusal : status ≢ pos 4 → (told.line ≡ 0) × (told.code ≡ 0)
 
--- nothing was told yet
+-- nothing was given yet
 pub record IsNothing (told : Told) : Type 0 where
   pub bytes : told.bytes ≡ 0
   pub line : told.line ≡ 0
   pub code : told.code ≡ 0
 
--- status 4, and where the text is refused and why
+-- status 4, the fault for which the text is refused, and its place
 pub record IsRefusedAs (refusal : Refusal) (status : ℤ) (told : Told) : Type 0 where
   pub four : status ≡ pos 4
   pub line : told.line ≡ refusal.line
   pub code : told.code ≡ code_number refusal.code
 
--- what a check tells of a text that is read so: its canonical text, or its first refusal
+-- what a check gives for a text that is read so: its canonical text, or its first refusal
 abbrev pub TellsCheck : Result JobTree Refusal → List ℕ → ℤ → Told → Type 0
 TellsCheck (Ok job) out status told = IsGiven (canonical_text job) out (pos 0) status told.bytes
 TellsCheck (Err refusal) out status told = IsRefusedAs refusal status told
 
--- what an upgrade tells of it: the canonical text of that job in format 2, or its first refusal
+-- what an upgrade gives for it: the canonical text of that job in format 2, or its first refusal
 abbrev pub TellsUpgrade : Result JobTree Refusal → List ℕ → ℤ → Told → Type 0
 TellsUpgrade (Ok job) out status told = IsGiven (canonical_text (upgraded_tree job)) out (pos 0) status told.bytes
 TellsUpgrade (Err refusal) out status told = IsRefusedAs refusal status told
 
--- what a job leaves within a limit was given as text, and the status tells how it ended
+-- what a job leaves within a limit was given as text, and the status says how it ended
 pub record GivesReport (job : JobTree) (limit : ℕ) (out : List ℕ) (status : ℤ) (told : Told) : Type 0 where
   pub report : ReportValue
   pub leaves : report_of (program_of_tree job) limit ≡ Some report
   pub given : IsGiven (report_text report) out (status_number report.status) status told.bytes
 
--- what a run tells of it: the text of what the job leaves within the limit, or its first refusal
+-- what a run gives for it: the text of what the job leaves within the limit, or its first refusal
 abbrev pub TellsRun : ℕ → Result JobTree Refusal → List ℕ → ℤ → Told → Type 0
 TellsRun limit (Ok job) out status told = GivesReport job limit out status told
 TellsRun limit (Err refusal) out status told = IsRefusedAs refusal status told
@@ -81,7 +81,7 @@ IsJob text = (job : JobTree) × (job_in text ≡ Ok job)
 abbrev pub RunsOut : List ℕ → ℤ → Type 0
 RunsOut text status = status ≡ pos 6 → BeginsWell text ⊎ IsJob text
 
--- Unless there was no memory, which is status 6, a check, an upgrade and a run tell that of the text.
+-- Unless there was no memory, which is status 6, a check, an upgrade and a run give that for the text.
 abbrev pub Checks : List ℕ → List ℕ → ℤ → Told → Type 0
 Checks text out status told = (status ≡ pos 6) ⊎ TellsCheck (job_in text) out status told
 

@@ -58,7 +58,7 @@ fn give(text: &[u8], done: i32, out: &mut [u8]) -> i32
     done
 }
 
-// Reports where a text is refused, and why.
+// Reports the fault for which a text is refused, and its place.
 fn refuse(refusal: Refusal, told: &mut Told) -> i32
     ensures told { IsRefusedAs refusal result told.new }
     ensures kept { told.new.bytes ≡ told.old.bytes }

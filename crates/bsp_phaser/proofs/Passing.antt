@@ -1,4 +1,4 @@
--- A phase passes where all have arrived.
+-- A phase passes if all have arrived.
 use Rattle.std.proofs.Common.{◌≡◌, ◌≤◌, ◌<◌, ℕ, Bool, true, false, cond, ⊎_elim, ◌⊎◌, inl, inr, nat_lt, Option, None, Some, refl, sym, ◌∙◌, ap, arith}
 use Rattle.std.proofs.lemmas.Grind.{common_steps}
 use Rattle.advance_rule.specs.declared.CountPlan.{CountPlan}

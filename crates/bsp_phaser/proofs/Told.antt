@@ -1,4 +1,4 @@
--- What a word tells of a phaser for which it stands.
+-- What a word says of a phaser that it represents.
 use Rattle.std.proofs.Common.{◌≡◌, ◌≤◌, ◌-◌, ℕ, pos, Bool, if◌then◌else◌, sym, ◌∙◌, ap}
 use Rattle.phaser_word.specs.Fields.{Fields}
 use Rattle.phaser_word.specs.Phase.{shown_of}

@@ -1,4 +1,4 @@
--- What is told of the number of a single phaser, as numbers (Java SE 21, `Phaser`: its getters).
+-- What the number of a single phaser says, as numbers (Java SE 21, `Phaser`: its getters).
 use Rattle.std.specs.Prelude.{◌≡◌, ◌≢◌, ◌↔◌, ◌-◌, ℕ, ℤ, pos, if◌then◌else◌}
 use Rattle.phaser_word.specs.Fields.{Fields}
 use Rattle.flat_phaser.specs.Flat.{Flat, registered, unarrived, shown}
@@ -21,7 +21,7 @@ unarrived_in f = pos (unarrived f)
 abbrev pub ended_in : Flat → ℤ
 ended_in f = if f.ended then pos 1 else pos 0
 
--- what a question tells of a phaser
+-- the answer to a question about a phaser
 abbrev pub told_by : Reading → Flat → ℤ
 told_by Phase f = shown f
 told_by Parties f = parties_in f
@@ -29,7 +29,8 @@ told_by Arrived f = arrived_in f
 told_by Unarrived f = unarrived_in f
 told_by Ended f = ended_in f
 
--- Status 1 tells exactly that the number is the word of no phaser. Else the status is 0, and the answer tells of every phaser of which it is the word.
+-- Status 1 means exactly that the number is the word of no phaser. Otherwise the status is 0, and the answer holds of
+-- every phaser that has this word.
 pub record IsReading (of : Flat → ℤ) (number : ℕ) (status answer : ℤ) : Type 0 where
   pub done : (w : Fields) → IsWordOf w number → (f : Flat) → IsAlike f (flat_of w) → (status ≡ pos 0) × (answer ≡ of f)
   pub none : (status ≡ pos 1) ↔ IsNoWord number

@@ -1,4 +1,4 @@
--- A word that threads exchange for the next one: what stood in it one after another is a run of one phaser (own).
+-- A word that threads exchange for the next one: its values, one after another, are a run of one phaser (own).
 use Rattle.std.specs.Prelude.{◌≡◌, ◌≢◌, ◌≤◌, ℕ, ℤ, List, [], ◌∷◌, map}
 use Rattle.phaser_word.specs.Fields.{Fields}
 use Rattle.phaser_word.specs.Phase.{next_phase_of}
@@ -9,24 +9,25 @@ use Rattle.phaser_one.specs.Runs.{FollowsAll}
 use Rattle.bsp_phaser.specs.Numbers.{IsWordOf}
 use Rattle.bsp_phaser.specs.Steps.{IsStep, status_of, answer_of}
 
--- an exchange: the call that was made of the number that stood there, the number that was put in its place, and what was told
+-- an exchange: the call that was made on the number found, the number that replaced it, and what the call gave
 pub record Exchange : Type 0 where
   pub call : Call
   pub next : ℕ
   pub status : ℤ
   pub answer : ℤ
 
--- each exchange is a call on the number that stood there, and so on
+-- each exchange is a call on the number found, and so on
 abbrev pub AreExchanged : CountPlan → ℕ → List Exchange → Type 0
 AreExchanged plan number [] = Unit {0}
 AreExchanged plan number (x ∷ xs) = IsStep plan x.call number x.next x.status x.answer × AreExchanged plan x.next xs
 
--- the number that stands there at the end
+-- the number at the end
 abbrev pub last_of : ℕ → List Exchange → ℕ
 last_of number [] = number
 last_of number (x ∷ xs) = last_of x.next xs
 
--- the calls one after another lead one phaser from this state to one that the last number packs, and what was told are its replies
+-- the calls one after another lead one phaser from this state to one that the last number packs, and what they gave are
+-- its replies
 pub record IsOneRun (plan : CountPlan) (first : Fields) (number : ℕ) (xs : List Exchange) : Type 0 where
   pub last : Fields
   pub replies : List Reply
@@ -35,7 +36,8 @@ pub record IsOneRun (plan : CountPlan) (first : Fields) (number : ℕ) (xs : Lis
   pub told : map (λ x. x.status) xs ≡ map status_of replies
   pub shown : map (λ x. x.answer) xs ≡ map answer_of replies
 
--- However many threads exchange the word, if each exchange puts there what a call gives of the number that stood there, the calls in the order of the exchanges are a run of one phaser.
+-- However many threads exchange the word, if each exchange puts what a call gives for the number found, the calls in
+-- the order of the exchanges are a run of one phaser.
 abbrev pub ExchangesAreOneRun : Type 0
 ExchangesAreOneRun =
     (plan : CountPlan) (first : Fields) (number : ℕ) (xs : List Exchange) → IsWordOf first number → AreExchanged plan number xs → IsOneRun plan first number xs

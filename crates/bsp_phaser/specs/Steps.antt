@@ -1,4 +1,5 @@
--- What a call on the number of a single phaser leaves and tells, as numbers (Java SE 21, `Phaser`; the numbers of the statuses are own).
+-- What a call on the number of a single phaser leaves and gives, as numbers (Java SE 21, `Phaser`; the numbers of the
+-- statuses are own).
 use Rattle.std.specs.Prelude.{◌≡◌, ◌≢◌, ◌↔◌, ℕ, ℤ, pos, negsuc, Some, nat_lt, if◌then◌else◌}
 use Rattle.phaser_word.specs.Fields.{Fields}
 use Rattle.advance_rule.specs.declared.CountPlan.{CountPlan}
@@ -11,7 +12,7 @@ use Rattle.phaser_one.specs.Calls.{opened}
 use Rattle.phaser_one.specs.Seen.{Follows, flat_of}
 use Rattle.bsp_phaser.specs.Numbers.{IsWordOf, IsNoWord}
 
--- the status that tells a reply; 1 tells none
+-- the status of a reply; 1 is the status of none
 abbrev pub status_of : Reply → ℤ
 status_of (Number phase) = pos 0
 status_of Waiting = pos 2
@@ -29,7 +30,7 @@ pub record StatusesAreNumbered : Type 0 where
   pub nobody_unarrived : status_of (Refused NobodyUnarrived) ≡ pos 5
   pub negative : status_of (Refused Negative) ≡ pos 6
 
--- the phase of a reply, as it is shown, and 0 where it has none
+-- the phase of a reply, as it is shown, and 0 if it has none
 abbrev pub answer_of : Reply → ℤ
 answer_of (Number phase) = phase
 answer_of Waiting = pos 0
@@ -48,7 +49,8 @@ pub record Stepped (plan : CountPlan) (call : Call) (old : Fields) (next : ℕ) 
   pub told : status ≡ status_of reply
   pub shown : answer ≡ answer_of reply
 
--- A call on a number is the call on the phaser of which it is the word. Status 1 tells exactly that it is the word of none. Whatever isn't done leaves the number as it was, and answers 0.
+-- A call on a number is the call on the phaser that has this word. Status 1 means exactly that no phaser has it. If a
+-- call isn't done, the number stays as it was, and the answer is 0.
 pub record IsStep (plan : CountPlan) (call : Call) (number next : ℕ) (status answer : ℤ) : Type 0 where
   pub done : (w : Fields) → IsWordOf w number → Stepped plan call w next status answer
   pub none : (status ≡ pos 1) ↔ IsNoWord number
@@ -62,7 +64,7 @@ status_of_count (pos parties) = if nat_lt 65535 parties then pos 3 else pos 0
 abbrev pub status_of_new : ℤ → ℕ → ℤ
 status_of_new parties phase = if nat_lt 2147483647 phase then pos 1 else status_of_count parties
 
--- the number of a new phaser with so many parties in this phase, none of which has arrived
+-- the number of a new phaser with this many parties in this phase; none of them has arrived
 pub record IsNew (parties : ℤ) (phase number : ℕ) : Type 0 where
   pub new : Fields
   pub packs : IsWordOf new number

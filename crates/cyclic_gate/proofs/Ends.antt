@@ -65,7 +65,7 @@ room_for : (o : Outcome) (m : Machine) (len room len' room' : ℕ) → len < roo
 room_for GoesOn m len room len' room' less ended same = let e = same refl in has_room m len' room' (rw (e.0, e.1) less)
 room_for _ m len room len' room' less ended same = nobody_room m len' room' (ended refl)
 
--- an arrival that found room leaves it where callers wait
+-- an arrival that found room leaves it if callers wait
 pub arrived_room : (fails : Option ℕ) (c : ℕ) (m m' : Machine) (a : Arrived) (len room len' room' : ℕ)
     → IsArrived a (answer fails (Await c) m) → m' ≡ after fails (Await c) m → len < room → (outcome_for a ≡ GoesOn → (len' ≡ len) × (room' ≡ room)) → HasRoom m' len' room'
 arrived_room fails c m m' a len room len' room' is state less same =

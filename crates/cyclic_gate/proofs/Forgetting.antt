@@ -278,7 +278,7 @@ right-append : (fails : Option ℕ) (ns : List LedgerEntry) (n : LedgerEntry) (m
 right-append fails [] n m right here = (here, tt)
 right-append fails (x ∷ xs) n m right here = (right.0, right-append fails xs n (after fails x.call m) right.1 here)
 
--- where a generation has no end, an arrival may be the first of it
+-- if a generation has no end, an arrival may be the first of it
 no_end_kept : (b : Book) → AreGood b.ends → is_free b ≡ true → (0 < length b.barrier.waiting → unread_of b.barrier.generation b.ends ≡ 0) → end_of b.barrier.generation b.ends ≡ GoesOn
 no_end_kept b good free alone =
     elim (length b.barrier.waiting == 0) as (λ x. (length b.barrier.waiting == 0) ≡ x → (not x || not (is_end_of_generation (end_of b.barrier.generation b.ends))) ≡ true → end_of b.barrier.generation b.ends ≡ GoesOn) [

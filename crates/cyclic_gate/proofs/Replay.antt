@@ -41,7 +41,7 @@ has_room m len room less =
     let lt : nat_lt len room ≡ true = grind (arith, nat_tests) in
     rw lt (elim (length m.waiting == 0) as (λ b. (b || true) ≡ true) [ true ↦ refl | false ↦ refl ])
 
--- where nobody waits no room is needed
+-- if nobody waits no room is needed
 pub nobody_room : (m : Machine) (len room : ℕ) → m.waiting ≡ [] → HasRoom m len room
 nobody_room m len room nobody = rw nobody refl
 

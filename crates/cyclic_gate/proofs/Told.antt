@@ -9,7 +9,7 @@ use Rattle.cyclic_gate.proofs.Trips.{callers_of-indexed}
 use Rattle.cyclic_gate.specs.declared.call.Call.{Call}
 use Rattle.cyclic_gate.specs.declared.call.Call.TheVariants.{Await, Abandon, BreakOff, Reset}
 
--- those who were told are those who wait
+-- those who have to wait are those who wait
 pub record Told (told : List (ℕ × ℕ)) (call : Call) (a : Answer) (m : Machine) : Type 0 where
   pub ends : EndsTold told call a
   pub next : told_after told call a ≡ indexed m.parties 0 m.waiting

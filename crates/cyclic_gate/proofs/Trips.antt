@@ -12,7 +12,7 @@ pub times-append : (n : ℕ) (xs ys : List ℕ) → times n (xs ++ ys) ≡ times
 times-append n [] ys = omega arith
 times-append n (x ∷ xs) ys = omega (arith, times-append n xs ys)
 
--- who isn't in a list stands there never
+-- who isn't in a list is in it never
 pub not_in : (c : ℕ) (ws : List ℕ) → is_in c ws ≡ false → times c ws ≡ 0
 not_in c [] e = refl
 not_in c (w ∷ ws) e = grind (arith, nat_tests, not_in c ws)

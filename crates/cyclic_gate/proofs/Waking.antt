@@ -15,7 +15,7 @@ use Rattle.cyclic_gate.specs.declared.call.Call.{Call}
 use Rattle.cyclic_gate.specs.declared.call.Call.TheVariants.{Await, Abandon, BreakOff, Reset}
 use Rattle.cyclic_gate.specs.declared.ledger.Outcome.{Outcome}
 
--- who stands in a list stands in it with one more behind
+-- who is in a list is in it with one more at the end
 is_in-append : (c : ℕ) (ws : List ℕ) (d : ℕ) → is_in c ws ≡ true → is_in c (ws ++ d ∷ []) ≡ true
 is_in-append c [] d e = absurd cc
 is_in-append c (w ∷ ws) d e = elim (eqb w c) as (λ b. (b || is_in c ws) ≡ true → (b || is_in c (ws ++ d ∷ [])) ≡ true) [ true ↦ λ h. refl | false ↦ is_in-append c ws d ] e
@@ -52,7 +52,7 @@ AfterCall caller index generation call new (Breaks callers) = (is_in caller call
 AfterCall caller index generation call new Already = Waits caller index generation new
 AfterCall caller index generation call new Absent = Waits caller index generation new
 
--- one more caller behind those with indices
+-- one more caller after those with indices
 told-append : (p : ℕ) (ws : List ℕ) (d c i : ℕ) → Contains (indexed p 0 ws) (c, i) → Contains (indexed p 0 (ws ++ d ∷ [])) (c, i)
 told-append p ws d c i told = rw (indexed-append p 0 (length ws) ws d (omega arith)) (Contains-append_left (indexed p 0 ws) ((d, index_of p (length ws)) ∷ []) (c, i) told)
 
@@ -78,7 +78,7 @@ one_call fails (Abandon d) m c i q waits =
 one_call fails BreakOff m c i q waits = inl waits.here
 one_call fails Reset m c i q waits = inl waits.here
 
--- what is read, where the first note is that of this call
+-- what is read, if the first note is that of this call
 read_on : (fails : Option ℕ) (c i q : ℕ) (call : Call) (m : Machine) (a : Answer) (o : Outcome) (end : Option End)
     → answer fails call m ≡ a → m.generation ≡ q → AfterCall c i q call (after fails call m) a → (Waits c i q (after fails call m) → IsTold fails c i q o end)
     → IsTold fails c i q (end_or (outcome_of a) o) (if is_end a then Some (record { call = call; found = m }) else end)
@@ -104,7 +104,7 @@ abbrev is_waiting : Answer → Bool
 is_waiting (Waiting i) = true
 is_waiting _ = false
 
--- a caller that is told an index waits with it
+-- a caller that gets an index waits with it
 arrival : (fails : Option ℕ) (c i p g : ℕ) (ws : List ℕ) (b b2 b3 b4 : Bool) → is_in c ws ≡ b2 → (length ws + 1 == p) ≡ b3 → fails_at fails g ≡ b4
     → answer fails (Await c) (machine p g ws b) ≡ Waiting i → Waits c i g (after fails (Await c) (machine p g ws b))
 arrival fails c i p g ws true b2 b3 b4 e2 e3 e4 e = let no : false ≡ true = ap is_waiting e in absurd cc
@@ -117,7 +117,7 @@ arrival fails c i p g ws false false false b4 e2 e3 e4 e =
     rw (indexed-append p 0 (length ws) ws c (omega arith)) (Contains-push (indexed p 0 ws) (c, index_of p (length ws))) in
     rw (e2, e3) (record { told = rw (sym index) last; here = is_in-push c ws; same = refl })
 
--- entries are right behind those that are
+-- entries are right after those that are
 right-behind : (fails : Option ℕ) (ns later : List LedgerEntry) (m : Machine) → AreRight fails (ns ++ later) m → AreRight fails later (after_all fails (calls_of ns) m)
 right-behind fails [] later m right = right
 right-behind fails (n ∷ ns) later m right = right-behind fails ns later (after fails n.call m) right.1

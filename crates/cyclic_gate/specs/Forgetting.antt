@@ -8,7 +8,8 @@ use Rattle.cyclic_gate.specs.Ledger.{Book, book, booked, end_of, read_by, is_end
 use Rattle.cyclic_gate.specs.declared.call.Call.{Call}
 use Rattle.cyclic_gate.specs.declared.call.Call.TheVariants.{Await, Abandon, BreakOff, Reset}
 
--- a caller that was told to wait and hasn't read how its generation ended: the generation, and how long the whole history was with its arrival
+-- a caller that has to wait and hasn't read how its generation ended: the generation, and how long the whole history
+-- was with its arrival
 pub record Waiter : Type 0 where
   pub generation : ℕ
   pub place : ℕ
@@ -103,7 +104,8 @@ arrivals (c ∷ cs) = Await c ∷ arrivals cs
 abbrev pub calls_since : Machine → List Call
 calls_since m = if m.broken then BreakOff ∷ [] else arrivals m.waiting
 
--- Whatever the calls before, the barrier is what the calls since the generation began leave of an unbroken one of that generation, where nobody waits. So nothing of what came before has to be kept.
+-- Whatever the calls before, the barrier is what the calls of this generation leave of an unbroken barrier of the
+-- generation, at which nobody waits. So nothing of the earlier calls has to be kept.
 abbrev pub BarriersAreTheirArrivals : Type 0
 BarriersAreTheirArrivals =
     (parties : ℕ) (fails : Option ℕ) (calls : List Call)

@@ -19,13 +19,13 @@ pub record GatePlan : Type 0 where
   pub parties : ℕ
   pub fails : Option ℕ
 
--- the turn that a caller was given: its index, or 0 where it was the last
+-- the turn that a caller was given: its index, or 0 if it was the last
 abbrev pub GivesTurn : ℕ → Answer → Type 0
 GivesTurn index (Waiting i) = index ≡ i
 GivesTurn index (Trips all) = index ≡ 0
 GivesTurn index _ = ⊥
 
--- Why a caller got no turn. Broken may come to one that waited too, and memory may run out.
+-- Why a caller got no turn. A caller that waited may get Broken too, and memory may run out.
 abbrev pub GivesNoTurn : GateFault → Answer → Type 0
 GivesNoTurn gate.Broken a = Unit {0}
 GivesNoTurn gate.ActionFailed (Fails others) = Unit {0}
@@ -46,7 +46,8 @@ RefusesArrival gate.ActionFailed _ = ⊥
 RefusesArrival gate.AlreadyWaiting a = a ≡ Already
 RefusesArrival gate.Memory a = is_change a ≡ true
 
--- The ledger that an arrival leaves: after the call where the caller waits or was the last, also where the action failed then; else as it was.
+-- The ledger that an arrival leaves. If the caller waits or was the last, also if the action failed then, it is the
+-- ledger after the call; else it is as it was.
 abbrev pub left_by : Result Arrival GateFault → ℕ → Book → Book
 left_by (Ok arrival) caller b = booked (Await caller) b
 left_by (Err gate.ActionFailed) caller b = booked (Await caller) b

@@ -29,7 +29,7 @@ abbrev pub calls_of : List LedgerEntry → List Call
 calls_of [] = []
 calls_of (n ∷ ns) = n.call ∷ calls_of ns
 
--- each note tells what its call did to the barrier that the calls before it leave
+-- each note says what its call did to the barrier that the calls before it leave
 abbrev pub AreRight : Option ℕ → List LedgerEntry → Machine → Type 0
 AreRight fails [] m = Unit {0}
 AreRight fails (n ∷ ns) m = (n.outcome ≡ outcome_of (answer fails n.call m)) × AreRight fails ns (after fails n.call m)

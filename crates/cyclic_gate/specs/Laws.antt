@@ -7,7 +7,7 @@ use Rattle.cyclic_gate.specs.Runs.{answers}
 use Rattle.cyclic_gate.specs.declared.call.Call.{Call}
 use Rattle.cyclic_gate.specs.declared.call.Call.TheVariants.{Await, Abandon, BreakOff, Reset}
 
--- how often a number stands in a list
+-- how often a number is in a list
 abbrev pub times : ℕ → List ℕ → ℕ
 times n [] = 0
 times n (x ∷ xs) = (if x == n then 1 else 0) + times n xs
@@ -37,7 +37,7 @@ AllRight parties (a ∷ rest) = IsRightTrip parties a × AllRight parties rest
 abbrev pub TripsGiveEachOnce : Type 0
 TripsGiveEachOnce = (parties : ℕ) (fails : Option ℕ) (calls : List Call) → 0 < parties → AllRight parties (answers fails calls (fresh parties))
 
--- who has been told to wait in the generation, with the index told, after one more call
+-- who has to wait in the generation, with the index given, after one more call
 abbrev pub told_after : List (ℕ × ℕ) → Call → Answer → List (ℕ × ℕ)
 told_after told (Await c) (Waiting index) = told ++ (c, index) ∷ []
 told_after told call (Trips all) = []
@@ -45,7 +45,8 @@ told_after told call (Fails others) = []
 told_after told call (Breaks callers) = []
 told_after told call _ = told
 
--- A call that ends a generation names just those who were told to wait in it: a trip with the indices told, and the last caller with 0; an abandon all but its caller.
+-- A call that ends a generation names just those who have to wait in it: a trip with the indices given, and the last
+-- caller with 0; an abandon all but its caller.
 abbrev pub EndsTold : List (ℕ × ℕ) → Call → Answer → Type 0
 EndsTold told (Await c) (Trips all) = all ≡ told ++ (c, 0) ∷ []
 EndsTold told call (Fails callers) = callers ≡ callers_of told
@@ -57,7 +58,7 @@ abbrev pub RunEndsTold : Option ℕ → List Call → List (ℕ × ℕ) → Mach
 RunEndsTold fails [] told m = Unit {0}
 RunEndsTold fails (c ∷ cs) told m = EndsTold told c (answer fails c m) × RunEndsTold fails cs (told_after told c (answer fails c m)) (after fails c m)
 
--- In every run the one list that ends a generation names exactly those who were told to wait in it.
+-- In every run the one list that ends a generation names exactly those who have to wait in it.
 abbrev pub EndsNameTheTold : Type 0
 EndsNameTheTold = (parties : ℕ) (fails : Option ℕ) (calls : List Call) → 0 < parties → RunEndsTold fails calls [] (fresh parties)
 
@@ -68,7 +69,8 @@ pub record GenerationsFollow : Type 0 where
   pub last : next_generation 18446744073709551614 ≡ 18446744073709551615
   pub wraps : next_generation 18446744073709551615 ≡ 0
 
--- A trip and a reset take the next generation. A break keeps its own, and nobody waits then: in general, and for a barrier of two parties in generation 7 where caller 5 waits, worked out by hand.
+-- A trip and a reset take the next generation. A break stays in its generation, and nobody waits then: in general, and
+-- for a barrier of two parties in generation 7, at which caller 5 waits, worked out by hand.
 pub record EndsMoveOrKeep : Type 0 where
   pub resets : (fails : Option ℕ) (m : Machine) → after fails Reset m ≡ machine m.parties (next_generation m.generation) [] false
   pub breaks : (fails : Option ℕ) (m : Machine) → after fails BreakOff m ≡ machine m.parties m.generation [] true

@@ -47,7 +47,8 @@ abbrev pub end_of : ℕ → List KeptEnd → Outcome
 end_of generation [] = GoesOn
 end_of generation (e ∷ es) = if e.generation == generation then e.outcome else end_of generation es
 
--- The ends after a call that did this to a generation in which so many callers wait: if it ended, and some wait, they have its end to read.
+-- The ends after a call that did this to a generation in which this many callers wait: if it ended, and some wait, they
+-- have its end to read.
 abbrev pub kept_after : ℕ → Outcome → ℕ → List KeptEnd → List KeptEnd
 kept_after generation outcome waiting ends =
     if is_end_of_generation outcome && not (waiting == 0) then ends ++ kept_end generation outcome waiting ∷ [] else ends

@@ -13,6 +13,6 @@ abbrev pub after_all : Option ℕ → List Call → Machine → Machine
 after_all fails [] m = m
 after_all fails (c ∷ cs) m = after_all fails cs (after fails c m)
 
--- Some list of calls leaves a barrier of so many parties where this is true.
+-- Some list of calls leaves a barrier of this many parties of which this is true.
 abbrev pub AfterSome : ℕ → Option ℕ → (Machine → Type 0) → Type 0
 AfterSome parties fails holds = (calls : List Call) × holds (after_all fails calls (fresh parties))

@@ -45,7 +45,7 @@ RefusesAbandon AlreadyWaiting a = ⊥
 RefusesAbandon NoParty a = ⊥
 RefusesAbandon TooMany a = ⊥
 
--- a trip comes of an action that ran and went well, a failure of one that ran and failed
+-- a trip is caused by an action that ran and went well, a failure by one that ran and failed
 abbrev pub Ran : (Bool → Type 0) → AwaitedStep → Type 0
 Ran post (Waits index) = Unit {0}
 Ran post (Tripped all) = post false

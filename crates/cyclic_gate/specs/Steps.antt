@@ -1,4 +1,5 @@
--- What each call of a barrier answers and leaves (Java SE 21, `CyclicBarrier`; `Abandon` stands for a waiting thread that is interrupted or times out, `BreakOff` is own).
+-- What each call of a barrier answers and leaves (Java SE 21, `CyclicBarrier`; `Abandon` means that a waiting thread is
+-- interrupted or times out, `BreakOff` is own).
 use Rattle.std.specs.Prelude.{ℕ, ◌+◌, ◌-◌, ◌==◌, Bool, true, false, not, if◌then◌else◌, List, [], ◌∷◌, ◌++◌, length, filter, Option, eqb}
 use Rattle.std.specs.List.{list_any}
 use Rattle.advance_rule.specs.Action.{fails_at}
@@ -40,7 +41,7 @@ next_generation g = if g == 18446744073709551615 then 0 else g + 1
 abbrev pub index_of : ℕ → ℕ → ℕ
 index_of parties k = parties - 1 - k
 
--- callers with their arrival indices, behind k others
+-- callers with their arrival indices, after k others
 abbrev pub indexed : ℕ → ℕ → List ℕ → List (ℕ × ℕ)
 indexed parties k [] = []
 indexed parties k (c ∷ cs) = (c, index_of parties k) ∷ indexed parties (k + 1) cs
@@ -58,7 +59,7 @@ broken_off m = machine m.parties m.generation [] true
 abbrev pub renewed : Machine → Machine
 renewed m = machine m.parties (next_generation m.generation) [] false
 
--- what a call answers, where the action fails in one generation or in none
+-- what a call answers, if the action fails in one generation or in none
 abbrev pub answer : Option ℕ → Call → Machine → Answer
 answer fails (Await c) m =
     if m.broken then IsBroken

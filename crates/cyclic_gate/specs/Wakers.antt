@@ -1,4 +1,4 @@
--- What a caller reads that wakes late: the first end noted behind its own arrival (own).
+-- What a caller reads that wakes late: the first end noted after its arrival (own).
 use Rattle.std.specs.Prelude.{◌≡◌, ◌⊎◌, ℕ, ◌+◌, Bool, true, false, if◌then◌else◌, List, [], ◌∷◌, ◌++◌, length, drop, Option, None, Some, Contains}
 use Rattle.cyclic_gate.specs.Machine.{Machine, fresh}
 use Rattle.cyclic_gate.specs.Steps.{Answer, Waiting, Trips, Fails, IsBroken, Breaks, Already, Absent, answer, after, is_in}
@@ -40,7 +40,8 @@ GivesBroken caller call (Fails others) = is_in caller others ≡ true
 GivesBroken caller call (Breaks callers) = (is_in caller callers ≡ true) ⊎ (call ≡ Abandon caller)
 GivesBroken caller call _ = ⊥
 
--- What is read tells of a caller that was told an index in a generation: that this one goes on; that it tripped, and the caller has its index; or that the caller gets Broken.
+-- What is read means for a caller that got an index in a generation: that this one goes on; that it tripped, and the
+-- caller has its index; or that the caller gets Broken.
 abbrev pub IsTold : Option ℕ → ℕ → ℕ → ℕ → Outcome → Option End → Type 0
 IsTold fails caller index generation GoesOn end = end ≡ None
 IsTold fails caller index generation Tripped end =
@@ -52,7 +53,8 @@ IsTold fails caller index generation Broken end =
 abbrev pub left_of : ℕ → Option ℕ → List LedgerEntry → Machine
 left_of parties fails entries = after_all fails (calls_of entries) (fresh parties)
 
--- Whatever was noted before and later: the first end noted behind the arrival of a caller that was told to wait is the end of its own generation, and gives it the index that it was told.
+-- Whatever was noted before and later: the first end noted after the arrival of a caller that has to wait is the end of
+-- its generation, and gives it the index that it got.
 abbrev pub LateWakersAreTold : Type 0
 LateWakersAreTold =
     (parties : ℕ) (fails : Option ℕ) (before later : List LedgerEntry) (caller index : ℕ)

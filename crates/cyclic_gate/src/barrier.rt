@@ -40,8 +40,8 @@ impl<F: Fn(u64) -> bool> Model for BarrierCore<F> {
 }
 
 impl<F: Fn(u64) -> bool> BarrierCore<F> {
-    /// Creates a barrier where `parties` callers meet, in generation 0, where nobody waits. Fails with `NoParty` if
-    /// `parties` is below 1, and with `TooMany` if it is above 65535.
+    /// Creates a barrier at which `parties` callers meet. It is in generation 0, and nobody waits. Fails with `NoParty`
+    /// if `parties` is below 1, and with `TooMany` if it is above 65535.
     pub fn new(alloc: Global, parties: i64, action: StoredAction<F>) -> Result<Self, BarrierFault>
     where
         F: Drop,

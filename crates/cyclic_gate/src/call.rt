@@ -52,7 +52,7 @@ pub enum BarrierFault {
     /// A barrier was to have fewer than 1 party.
     #[error("fewer than 1 party")]
     NoParty,
-    /// The caller that arrives waits already. Give each thread a number of its own.
+    /// The caller that arrives already waits. Give each thread a different number.
     #[error("the caller waits already")]
     AlreadyWaiting,
     /// The caller that leaves early does not wait: it never arrived, or its wait is over.

@@ -24,7 +24,7 @@ pub enum GateFault {
     /// The caller was the last, and the action failed. The barrier is broken now.
     #[error("the action failed")]
     ActionFailed,
-    /// The caller waits already, in another thread. Nothing changed. Give each thread a number of its own.
+    /// The caller already waits, in another thread. Nothing changed. Give each thread a different number.
     #[error("the caller waits already")]
     AlreadyWaiting,
     /// There was no memory, and nothing changed. The caller may try again.
@@ -34,13 +34,14 @@ pub enum GateFault {
 
 /// A cyclic barrier at which threads wait, with its action (Java SE 21, `CyclicBarrier`).
 ///
-/// The barrier is under one lock, beside the ends of generations that some callers have still to read. There is at most one
-/// for each call of `await_turn` that hasn't returned, however many generations there were: 24 bytes each. The last caller
-/// of a generation runs the action while it holds the lock, so the action must not call the gate. No contract can say what the barrier
-/// was when a call took the lock. So the clauses say that some list of calls leaves a barrier that answers so.
+/// One lock guards the barrier and the ends of generations that some callers have still to read. At most one end is
+/// kept for each call of `await_turn` that hasn't returned, however many generations there were. An end takes 24 bytes.
+/// The last caller of a generation runs the action while it holds the lock, so the action must not call the gate. No
+/// contract can say what the barrier was when a call took the lock. So the clauses say that some list of calls leaves a
+/// barrier that answers so.
 ///
 /// ```
-/// // Each thread calls `await_turn` with a number of its own; the last to come is given 0.
+/// // Each thread calls `await_turn` with a different number; the last to come gets 0.
 /// let action = StoredAction::new(|_generation| false, None);
 /// let gate = CyclicGate::new(rt.alloc(), 1, action).expect(&rt, "one party");
 /// assert!(rt; gate.await_turn(&rt, 7) == Ok(0));
@@ -63,7 +64,7 @@ impl<F: Fn(u64) -> bool> Model for CyclicGate<F> {
 }
 
 impl<F: Fn(u64) -> bool> CyclicGate<F> {
-    /// Creates a gate where `parties` threads meet. The gate is in generation 0, and nobody waits. Fails with
+    /// Creates a gate at which `parties` threads meet. The gate is in generation 0, and nobody waits. Fails with
     /// `NoParty` if `parties` is below 1, and with `TooMany` if it is above 65535.
     pub fn new(alloc: Global, parties: i64, action: StoredAction<F>) -> Result<Self, BarrierFault>
     where

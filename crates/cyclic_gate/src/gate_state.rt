@@ -1,4 +1,4 @@
-//! The barrier under a lock, where threads wait, without its action.
+//! The barrier under a lock, at which threads wait, without its action.
 ghost use Rattle.std.specs.Prelude.{◌≡◌, ◌⊎◌, ◌↔◌, ◌<◌, ◌≤◌, ◌<ℤ◌, pos, IfOk, IfErr, MatchResult};
 ghost use Rattle.advance_rule.specs.Action.{AnswersAction};
 ghost use Rattle.cyclic_gate.specs.Steps.{answer, Breaks};
@@ -70,9 +70,9 @@ impl Model for GateState {
 }
 
 impl GateState {
-    /// Creates a gate where `parties` threads meet, and whose action fails in generation `fails`. The gate is
-    /// in generation 0, and nobody waits. Fails with `NoParty` if `parties` is below 1, and with `TooMany`
-    /// if it is above 65535.
+    /// Creates a gate at which `parties` threads meet. Its action fails in generation `fails`. The gate is in
+    /// generation 0, and nobody waits. Fails with `NoParty` if `parties` is below 1, and with `TooMany` if it is above
+    /// 65535.
     pub fn new(alloc: Global, parties: i64, fails: Option<u64>) -> Result<Self, BarrierFault>
         ensures parties { IfOk result (λ gate. pos gate.parties ≡ parties) }
         ensures fails { IfOk result (λ gate. gate.fails ≡ fails) }

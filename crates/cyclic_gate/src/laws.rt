@@ -24,8 +24,8 @@ pub fn late_wakers_are_told()
     ensures { LateWakersAreTold }
 {}
 
-/// Whatever calls there were, the barrier is what the calls since its generation began leave of an unbroken barrier of that
-/// generation, where nobody waits: the arrivals of those who wait, or a break.
+/// Whatever calls there were, the state of the barrier follows from the calls of the current generation alone: the
+/// arrivals of those who wait, or a break.
 pub fn barriers_are_their_arrivals()
     ensures { BarriersAreTheirArrivals }
 {}
@@ -43,9 +43,9 @@ pub fn generations_follow()
     ensures { GenerationsFollow }
 {}
 
-/// A trip and a reset take the next generation, and a break keeps its own: in general, and worked out for a barrier of two
-/// parties in generation 7 where one caller waits (Java SE 21, `CyclicBarrier.reset`; a broken barrier stays broken until
-/// then).
+/// A trip and a reset take the next generation, and a break stays in its generation: in general, and worked out for a
+/// barrier of two parties in generation 7, at which one caller waits (Java SE 21, `CyclicBarrier.reset`; a broken
+/// barrier stays broken until then).
 #[tactic(auto, using(crate::proofs::Trips::ends_move_or_keep))]
 pub fn ends_move_or_keep()
     ensures { EndsMoveOrKeep }

@@ -74,7 +74,7 @@ impl Arrived {
     }
 }
 
-// Keeps the end of a generation in which so many callers wait, if it ended and any of them wait.
+// Keeps the end of a generation if it ended while callers wait; `waiting` is how many.
 fn keep(ends: &mut Vec<KeptEnd>, generation: u64, outcome: Outcome, unread: u32)
     requires { 0 < unread → vec_len ends.old < vec_capacity ends.old }
     ensures items { ends.new.items ≡ kept_after generation outcome unread ends.old.items }
@@ -89,7 +89,7 @@ fn keep(ends: &mut Vec<KeptEnd>, generation: u64, outcome: Outcome, unread: u32)
     }
 }
 
-// Returns where the end of this generation is, or how many ends there are if it isn't kept.
+// Returns the place of the end of this generation, or the number of ends if it isn't kept.
 fn place_of(ends: &[KeptEnd], generation: u64) -> usize
     ensures { IsPlace generation ends.now result }
 {
@@ -104,8 +104,8 @@ fn place_of(ends: &[KeptEnd], generation: u64) -> usize
 }
 
 impl Ledger {
-    /// Creates a barrier where `parties` callers meet, and whose action fails in generation `fails`. No end is kept.
-    /// Fails with `NoParty` if `parties` is below 1, and with `TooMany` if it is above 65535. It needs no memory.
+    /// Creates a barrier at which `parties` callers meet. Its action fails in generation `fails`. No end is kept. Fails
+    /// with `NoParty` if `parties` is below 1, and with `TooMany` if it is above 65535. It needs no memory.
     pub fn new(alloc: Global, parties: i64, fails: Option<u64>) -> Result<Self, BarrierFault>
         ensures fresh { IfOk result (λ l. (pos l.barrier.parties ≡ parties) × (l ≡ book fails (fresh l.barrier.parties) [])) }
         ensures no_party { (result ≡ Err BarrierFault.NoParty) ↔ (parties <ℤ pos 1) }
@@ -190,9 +190,9 @@ impl Ledger {
         end.outcome
     }
 
-    /// Arrives as `caller`. The last to arrive runs the action. Fails with `AlreadyWaiting` if the caller waits already,
-    /// and with `Memory` if memory runs out. It also fails with `Memory` where the caller is the first of its generation
-    /// and the end of a generation of the same number is kept: one that is 2^64 generations old.
+    /// Arrives as `caller`. The last to arrive runs the action. Fails with `AlreadyWaiting` if the caller already
+    /// waits, and with `Memory` if memory runs out. It also fails with `Memory` if the caller is the first of its
+    /// generation and the end of the generation that had the same number, 2^64 generations ago, is still kept.
     pub fn await_step<F: Fn(u64) -> bool>(
         &mut self,
         action: &StoredAction<F>,

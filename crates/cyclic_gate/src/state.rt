@@ -68,8 +68,8 @@ fn with_indices(
 }
 
 impl BarrierState {
-    /// Creates a barrier where `parties` callers meet, in generation 0, where nobody waits. Fails with `NoParty` if
-    /// `parties` is below 1, and with `TooMany` if it is above 65535.
+    /// Creates a barrier at which `parties` callers meet. It is in generation 0, and nobody waits. Fails with `NoParty`
+    /// if `parties` is below 1, and with `TooMany` if it is above 65535.
     pub fn new(alloc: Global, parties: i64) -> Result<Self, BarrierFault>
         ensures fresh { IfOk result (λ s. (pos s.parties ≡ parties) × (s ≡ fresh s.parties)) }
         ensures no_party { (result ≡ Err BarrierFault.NoParty) ↔ (parties <ℤ pos 1) }
@@ -144,7 +144,7 @@ impl BarrierState {
         Ok(())
     }
 
-    // Starts the next generation, where nobody waits.
+    // Starts the next generation. Nobody waits in it.
     fn renew(&mut self)
         requires whole { self.old.broken ≡ false }
         ensures { self.new ≡ renewed self.old }
@@ -216,8 +216,8 @@ impl BarrierState {
         self.trip(action, caller)
     }
 
-    /// Arrives as `caller`, as `await_step` does, but returns no lists. So the last to arrive needs no memory, and an
-    /// earlier one needs some only where more callers wait than ever since the barrier last broke or was reset.
+    /// Arrives as `caller`, as `await_step` does, but returns no lists. So the last to arrive needs no memory. An
+    /// earlier one needs some only if more callers wait than ever since the barrier last broke or was reset.
     pub fn arrive<F: Fn(u64) -> bool>(
         &mut self,
         action: &StoredAction<F>,

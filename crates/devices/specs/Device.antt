@@ -16,7 +16,7 @@ TakesSome old new result bytes = MatchResult result (λ n. (0 < n) × (n ≤ len
 abbrev pub AppendsBeginning : Option (List ℕ) → Option (List ℕ) → List ℕ → Type 0
 AppendsBeginning old new bytes = (front : List ℕ) × (back : List ℕ) × (bytes ≡ front ++ back) × Appends old new front
 
--- the count rises where the device is blamed, and else stays
+-- the count rises if the device is blamed, and otherwise stays
 abbrev pub ReadCause : {T : Type 0} → ℕ → ℕ → Result T ReadFault → Type 0
 ReadCause old new (Ok x) = new ≡ old
 ReadCause old new (Err Read) = new ≡ old + 1
@@ -27,7 +27,7 @@ ReadCause old new (Err Memory) = new ≡ old
 abbrev pub BlamesReader : ℕ → ℕ → ReadFault → Type 0
 BlamesReader old new fault = ReadCause {T = ℕ} old new (Err fault)
 
--- the bytes that are left are so many fewer
+-- the number of bytes left is smaller by this many
 abbrev pub LeavesFewer : ℕ → Option (List ℕ) → Option (List ℕ) → Type 0
 LeavesFewer n None new = ⊤
 LeavesFewer n (Some xs) None = ⊥

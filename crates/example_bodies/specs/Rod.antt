@@ -13,7 +13,7 @@ at cells place = get_or cells place (pos 0)
 abbrev pub mixed : List ℤ → ℕ → ℤ
 mixed cells place = int_div (int_wrapping_add w64 (int_wrapping_add w64 (int_wrapping_add w64 (at cells (place - 1)) (at cells (place + 1))) (at cells place)) (at cells place)) (pos 4)
 
--- what so many cells become, the first of them at this place
+-- what this many cells become; the first of them is at this place
 abbrev pub mixed_from : List ℤ → ℕ → ℕ → List ℤ
 mixed_from cells place zero = []
 mixed_from cells place (suc count) = mixed cells place ∷ mixed_from cells (suc place) count

@@ -1,4 +1,4 @@
-//! The rod again, by a body of which is written what it does.
+//! The rod again, by a body whose meaning is written down.
 ghost use Rattle.std.specs.Prelude.{◌≡◌, get_or, pos, int_div};
 ghost use Rattle.std.specs.Int.{w64, int_wrapping_add};
 ghost use Rattle.task_bodies.specs.Kernels.{ends_in};

@@ -1,5 +1,5 @@
-//! Tasks that run bodies of one's own: heat in a rod, a shop whose customers come and go, a search
-//! in a graph, its ranks, and the game of life.
+//! Tasks that run bodies written in Rattle: heat in a rod, a shop whose customers come and go, a search in a graph, its
+//! ranks, and the game of life.
 #![tactic(auto)]
 
 mod exact;
@@ -93,7 +93,7 @@ fn cool_by_closure(alloc: Global) -> Result<Report, RunFault> {
     Ok(ran.report)
 }
 
-// The same rod, by a body of which is written what it does.
+// The same rod, by a body whose meaning is written down.
 fn cool_exactly(alloc: Global) -> Result<Report, RunFault> {
     let start = start::rod(alloc)?;
     let pieces = pieces(alloc)?;
@@ -165,7 +165,7 @@ fn live(alloc: Global) -> Result<Report, RunFault> {
     Ok(ran.report)
 }
 
-// Spans of so many cells, so many of them.
+// Makes `count` spans of `size` cells each.
 fn spans(alloc: Global, count: u32, size: u32) -> Result<Vec<Cells>, AllocError> {
     let mut spans = Vec::new(alloc);
     for number in 0..count {

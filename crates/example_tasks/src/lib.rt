@@ -1,4 +1,4 @@
-//! Tasks of one's own that the example programs run, on one thread and on workers.
+//! Tasks, written in Rattle, that the example programs run, on one thread and on workers.
 //!
 //! # Where things are
 //!

@@ -2,7 +2,7 @@
 use std::alloc::{AllocError, Global};
 use task_bodies::body::{Ending, Out, TaskBody, View};
 
-/// A shop that opens its door in so many supersteps.
+/// A shop that opens its door for a number of supersteps.
 #[derive(Clone, Copy)]
 pub struct Shop {
     pub open: u32,
@@ -13,7 +13,7 @@ pub struct Shop {
 pub enum Role {
     /// Lets customers in. The number is the state of a random sequence.
     Door(u32),
-    /// Is served for so many supersteps.
+    /// Is served for this number of supersteps.
     Customer(u32),
 }
 

@@ -2,7 +2,7 @@
 use std::alloc::{AllocError, Global};
 use task_bodies::body::{Ending, Out, TaskBody, View};
 
-/// A graph of so many nodes, in which each node has edges to two others.
+/// A graph of a number of nodes. Each node has edges to two others.
 #[derive(Clone, Copy)]
 pub struct Graph {
     pub nodes: u32,
@@ -15,7 +15,7 @@ pub struct Nodes {
     pub end: u32,
 }
 
-/// The distances, -1 where no way is known yet.
+/// The distances, -1 for a node that no way is known to yet.
 pub const DISTANCES: u16 = 0;
 /// One cell: in how many supersteps new nodes were found.
 pub const ROUNDS: u16 = 1;

@@ -15,7 +15,7 @@ pub struct Start<K> {
     pub tasks: Vec<K>,
 }
 
-// Adds an array of so many cells that hold this.
+// Adds an array of `count` cells that hold `value`.
 fn add(
     alloc: Global,
     arrays: &mut Arrays,
@@ -28,7 +28,7 @@ fn add(
     Ok(())
 }
 
-// Adds an array of so many cells, of which the first holds one value and the others another.
+// Adds an array of `count` cells. The first holds `first`, the others `others`.
 fn add_with_first(
     alloc: Global,
     arrays: &mut Arrays,
@@ -45,7 +45,7 @@ fn add_with_first(
     Ok(())
 }
 
-/// A rod of 4096 cells, of which the first is hot, in 46 blocks.
+/// A rod of 4096 cells in 46 blocks. Its first cell is hot.
 pub fn rod(alloc: Global) -> Result<Start<Block>, AllocError> {
     let mut arrays = Arrays::new(alloc);
     add_with_first(alloc, &mut arrays, "rod", 4096, 1_000_000_000_000, 0)?;
@@ -68,7 +68,7 @@ pub fn shop(alloc: Global) -> Result<Start<Role>, AllocError> {
     Ok(Start { arrays, tasks })
 }
 
-// So many blocks of so many nodes.
+// Makes `count` blocks of `size` nodes each.
 fn blocks(alloc: Global, count: u32, size: u32) -> Result<Vec<Nodes>, AllocError> {
     let mut blocks = Vec::new(alloc);
     for number in 0..count {
@@ -81,7 +81,7 @@ fn blocks(alloc: Global, count: u32, size: u32) -> Result<Vec<Nodes>, AllocError
     Ok(blocks)
 }
 
-/// A graph of 100,000 nodes in 20 blocks, of which only node 0 is reached.
+/// A graph of 100,000 nodes in 20 blocks. Only node 0 is reached.
 pub fn graph(alloc: Global) -> Result<Start<Nodes>, AllocError> {
     let mut arrays = Arrays::new(alloc);
     add_with_first(alloc, &mut arrays, "distances", 100_000, 0, -1)?;
@@ -99,7 +99,7 @@ pub fn ranks(alloc: Global) -> Result<Start<Nodes>, AllocError> {
     Ok(Start { arrays, tasks })
 }
 
-/// A board of 512 rows and columns, in the middle of which five cells live, in 16 blocks of rows.
+/// A board of 512 rows and columns, in 16 blocks of rows. Five cells live, in its middle.
 pub fn board(alloc: Global) -> Result<Start<BoardRows>, AllocError> {
     let mut arrays = Arrays::new(alloc);
     let mut cells = Vec::from_elem(alloc, 0, 262_144)?;

@@ -1,5 +1,5 @@
-//! Tasks of one's own on worker threads: heat in a rod, the game of life, a shop whose customers come and go, a search in a graph, and
-//! its ranks. Each run leaves on workers what it leaves on one thread.
+//! Tasks written in Rattle, on worker threads: heat in a rod, the game of life, a shop whose customers come and go, a
+//! search in a graph, and its ranks. Each run leaves on workers what it leaves on one thread.
 #![tactic(auto)]
 
 ghost use Rattle.std.specs.Prelude.{◌≤◌};
@@ -51,7 +51,7 @@ fn alone<B: TaskBody>(alloc: Global, body: &B, start: Start<B::Kept>) -> anyhow:
     Ok(number_of(&ran.report.arrays))
 }
 
-// What it leaves on so many workers at a tree of these widths.
+// What it leaves on this number of workers at a tree of these widths.
 fn on_workers<B: TaskBody + Sync, R: Threads + Wait + Sync>(
     rt: &R,
     alloc: Global,
@@ -129,7 +129,7 @@ fn all_alone(alloc: Global) -> anyhow::Result<[i64; RUNS]> {
     Ok([rod, life, shop, search, ranks])
 }
 
-// What they leave on so many workers at a tree of these widths.
+// What they leave on this number of workers at a tree of these widths.
 fn all_on_workers<R: Threads + Wait + Sync>(
     rt: &R,
     alloc: Global,
@@ -161,7 +161,7 @@ fn all_on_workers<R: Threads + Wait + Sync>(
     Ok([rod, life, shop, search, ranks])
 }
 
-// Whether so many workers at a tree of these widths leave what one thread left.
+// Whether this number of workers at a tree of these widths leave what one thread left.
 fn is_same<R: Threads + Wait + Sync>(
     rt: &R,
     alloc: Global,

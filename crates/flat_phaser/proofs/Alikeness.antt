@@ -67,7 +67,7 @@ dropped_counts owner phase front m back front' m' back' s h h' = record {
       omega arith;
 }
 
--- the same counts, of the lists as their places tell them
+-- the same counts, of the lists as their places give them
 at_places : (owner : ℕ) (f g : Flat) (front : List Member) (m : Member) (back front' : List Member) (m' : Member) (back' : List Member)
     → IsAlike f g → IsPlace owner f front m back → IsPlace owner g front' m' back'
     → SameCounts f.phase (front ++ m ∷ back) (front' ++ m' ∷ back')

@@ -20,7 +20,7 @@ bit_not_true b e = ap (λ (x : Bool). bit (not x)) e
 bit_not_false : (b : Bool) → b ≡ false → bit (not b) ≡ 1
 bit_not_false b e = ap (λ (x : Bool). bit (not x)) e
 
--- where nobody is absent everyone has arrived
+-- if nobody is absent everyone has arrived
 all_if_none : (phase : ℕ) (members : List Member) → absent phase members ≡ 0 → everyone_arrived phase members ≡ true
 all_if_none phase [] h = refl
 all_if_none phase (m ∷ ms) h =

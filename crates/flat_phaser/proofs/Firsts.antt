@@ -89,11 +89,11 @@ none_pass p (x ∷ xs) h (suc k) d l = ⊎_elim
     (λ (e : p x ≡ false). let here : position_or_len p (x ∷ xs) ≡ 1 + position_or_len p xs = rw e refl in none_pass p xs (omega (arith, here)) k d (omega arith))
     (either (p x))
 
--- stands for a member where a list has none at a place
+-- is used for a member if a list has none at a place
 nobody : Member
 nobody = record { owner = 0; mark = None }
 
--- where a place was found, the owner is waited for
+-- if a place was found, the owner is waited for
 pub found_waited : (owner phase : ℕ) (ms : List Member) (i : ℕ) → position (is_awaited owner phase) ms ≡ Some i → IsWaitedFor owner phase ms
 found_waited owner phase ms i e = waited_at owner phase ms i nobody (first_from owner phase ms i nobody e)
 
@@ -113,7 +113,7 @@ none_from owner phase ms e =
     let test = not_found (nat_lt (position_or_len (is_awaited owner phase) ms) (length ms)) (position_or_len (is_awaited owner phase) ms) e in
     none_waited owner phase ms nobody (λ k l. none_pass (is_awaited owner phase) ms (grind (arith, common_steps)) k nobody l)
 
--- where no place was found, the owner isn't waited for
+-- if no place was found, the owner isn't waited for
 pub none_is_waited : (owner phase : ℕ) (ms : List Member) → position (is_awaited owner phase) ms ≡ None → ¬ IsWaitedFor owner phase ms
 none_is_waited owner phase ms e = let all : members_of owner ms ≤ arrived_of phase owner ms = (none_from owner phase ms e).2 in λ h. omega arith
 

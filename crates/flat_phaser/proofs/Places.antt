@@ -23,7 +23,7 @@ not_awaited true true e = refl
 not_awaited true false e = absurd (let wrong : true ≡ false = e in cc)
 not_awaited false b e = refl
 
--- where the first who is awaited stands, and what it leaves to arrive or to go
+-- the place of the first who is awaited, and what it leaves to arrive or to go
 pub record FirstPlace (owner phase : ℕ) (members : List Member) : Type 0 where
   pub front : List Member
   pub here : Member

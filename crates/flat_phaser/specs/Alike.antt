@@ -1,4 +1,4 @@
--- Flat phasers that nobody can tell apart, and steps that take any member of the owner that hasn't arrived (own).
+-- Flat phasers that nobody can distinguish, and steps that take any member of the owner that hasn't arrived (own).
 use Rattle.std.specs.Prelude.{◌≡◌, ℕ, true, Some, List, ◌∷◌, ◌++◌}
 use Rattle.flat_phaser.specs.Flat.{Flat, Member, members_of, arrived_of, everyone_arrived}
 use Rattle.flat_phaser.specs.Step.{FlatStep, Join, Arrive, Leave, Advance, Force, is_awaited, with_members, taken}
@@ -11,7 +11,7 @@ pub record IsAlike (f g : Flat) : Type 0 where
   pub members : (owner : ℕ) → members_of owner f.members ≡ members_of owner g.members
   pub arrived : (owner : ℕ) → arrived_of f.phase owner f.members ≡ arrived_of g.phase owner g.members
 
--- an advance is due only where everyone has arrived, as it is wherever a run leads
+-- an advance is due only if everyone has arrived, as it is wherever a run leads
 abbrev pub IsSound : Flat → Type 0
 IsSound f = f.due ≡ true → everyone_arrived f.phase f.members ≡ true
 

@@ -5,11 +5,11 @@ use Rattle.flat_phaser.specs.Flat.{Flat, Member, members_of, arrived_of, everyon
 use Rattle.flat_phaser.specs.Step.{FlatStep, Join, Arrive, Leave, Advance, flat_step, taken, MayTake, IsFlatRun, flat_run}
 use Rattle.flat_phaser.specs.Alike.{IsAlike, IsSound, MayLeave}
 
--- In every run, from a phaser without members, an advance may come only where everyone who is registered has arrived.
+-- In every run, from a phaser without members, an advance may come only when everyone who is registered has arrived.
 abbrev pub AdvancesWhenAllArrived : Type 0
 AdvancesWhenAllArrived = (phase : ℕ) (steps : List FlatStep) → IsFlatRun steps (empty_in phase) → IsSound (flat_run steps (empty_in phase))
 
--- everyone has arrived exactly where each owner's members have
+-- everyone has arrived exactly if each owner's members have
 abbrev pub EveryoneIsEachOwner : Type 0
 EveryoneIsEachOwner =
     (phase : ℕ) (members : List Member)
@@ -47,7 +47,7 @@ StepsAreTaken = (step : FlatStep) (f : Flat) → MayTake step f → MayLeave ste
 abbrev pub AlikeStaysAlike : Type 0
 AlikeStaysAlike = (step : FlatStep) (f f' g g' : Flat) → IsSound f → IsAlike f g → MayLeave step f f' → MayLeave step g g' → IsAlike f' g' × IsSound f'
 
--- An advance is due exactly where all members of every owner have arrived.
+-- An advance is due exactly if all members of every owner have arrived.
 pub record TellsDue (f : Flat) : Type 0 where
   pub due : f.due ≡ true → (owner : ℕ) → arrived_of f.phase owner f.members ≡ members_of owner f.members
   pub everyone : ((owner : ℕ) → arrived_of f.phase owner f.members ≡ members_of owner f.members) → f.due ≡ true

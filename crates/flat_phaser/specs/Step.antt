@@ -1,4 +1,5 @@
--- The steps of a flat phaser (Java SE 21, `Phaser`: registering, arriving, deregistering, the advance; the advance as a step of its own is own).
+-- The steps of a flat phaser (Java SE 21, `Phaser`: registering, arriving, deregistering, the advance; that the advance
+-- is a separate step is own).
 pub use Rattle.flat_phaser.specs.declared.FlatStep.{FlatStep}
 pub use Rattle.flat_phaser.specs.declared.FlatStep.TheVariants.{Join, Arrive, Leave, Advance, Force}
 use Rattle.std.specs.Prelude.{◌≡◌, ℕ, ◌<◌, Bool, true, false, not, ◌&&◌, if◌then◌else◌, Some, None, List, [], ◌∷◌, ◌++◌, replicate}
@@ -18,11 +19,11 @@ abbrev pub drop_one : ℕ → ℕ → List Member → List Member
 drop_one owner phase [] = []
 drop_one owner phase (m ∷ ms) = if is_awaited owner phase m then ms else m ∷ drop_one owner phase ms
 
--- so many members of an owner, none of which has arrived
+-- this many members of an owner; none of them has arrived
 abbrev pub newcomers : ℕ → ℕ → List Member
 newcomers owner count = replicate count (record { owner = owner; mark = None })
 
--- after an arrival or a departure an advance is due where everyone has arrived
+-- after an arrival or a departure an advance is due if everyone has arrived
 abbrev pub with_members : List Member → Flat → Flat
 with_members members f = record f { members = members; due = everyone_arrived f.phase members }
 
@@ -54,7 +55,7 @@ MayTake Force f = Unit {0}
 abbrev pub IsAllowed : FlatStep → Flat → Type 0
 IsAllowed step f = f.ended ≡ false → MayTake step f
 
--- a list of steps, each allowed where it comes, and what they leave
+-- a list of steps, each allowed at its turn, and what they leave
 abbrev pub IsFlatRun : List FlatStep → Flat → Type 0
 IsFlatRun [] f = Unit {0}
 IsFlatRun (step ∷ steps) f = IsAllowed step f × IsFlatRun steps (flat_step step f)

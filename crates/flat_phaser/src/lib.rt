@@ -1,8 +1,8 @@
 //! The flat phaser: one list of members, without counts and without tiers.
 //!
-//! It defines what every other phaser here is proved to do. Its rules are those of Java SE 21's `Phaser`. That members
-//! have owners, and that the advance is a step of its own, is not part of Java's API. [`FlatPhaser`] is a plain, slow
-//! program that follows the definitions.
+//! It defines what every other phaser here is proved to do. Its rules are those of Java SE 21's `Phaser`. Java's API
+//! has no owners of members, and no separate step for the advance. [`FlatPhaser`] is a plain, slow program that follows
+//! the definitions.
 #![tactic(auto)]
 
 ghost use Rattle.std.specs.Prelude.{◌≡◌, ◌↔◌, ◌≤◌, IsSome, IfOk, IfSome, IfNone, OnErr, position};

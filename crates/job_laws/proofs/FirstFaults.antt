@@ -19,7 +19,7 @@ none_here p st t ts more h Stopped e =
 none_here p st t ts more h (Faulted f) e =
     let bad : Some (code_of f, t.path) ≡ None = sym (ap (or_later (first_fault (segments p st.arrays st.step ts)) t.path) e) ∙ h in absurd cc
 
--- none of the tasks faults where no fault is found
+-- none of the tasks faults if no fault is found
 pub none_faults : (p : Program) (st : State) (ts : List Task) → first_fault (segments p st.arrays st.step ts) ≡ None → NoneFaults p st ts
 none_faults p st [] h = tt
 none_faults p st (t ∷ ts) h = none_here p st t ts (none_faults p st ts) h (segment_of p.plans t st.arrays st.step).after refl

@@ -17,7 +17,7 @@ off_right : (b : Bool) → (b && false) ≡ false
 off_right true = refl
 off_right false = refl
 
--- paths of which one doesn't come before the next don't rise
+-- paths don't rise if one of them doesn't come before the next
 falls : (front back : List (List ℕ × List Put)) (e f : List ℕ × List Put) → path_lt e.0 f.0 ≡ false → is_rising (paths (front ++ e ∷ f ∷ back)) ≡ false
 falls [] back e f h = rw h refl
 falls (d ∷ []) back e f h = ap (λ (b : Bool). path_lt d.0 e.0 && b) (falls [] back e f h) ∙ off_right (path_lt d.0 e.0)
@@ -29,7 +29,7 @@ falling arrays front back e f h =
     let es = front ++ e ∷ f ∷ back in
     ap (λ (b : Bool). if b then first_bad (first_outside arrays es) (first_over arrays es) else Some NotInOrder) (falls front back e f h)
 
--- of one log, the first put of which has this place
+-- of one log; its first put has this place
 record IsOutside (arrays : List (List ℕ × List ℤ)) (from place : ℕ) (puts : List Put) : Type 0 where
   before : List Put
   bad : Put

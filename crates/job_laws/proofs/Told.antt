@@ -1,4 +1,4 @@
--- What the outcome of a superstep tells, and in which order a delivery names its spawns.
+-- What the outcome of a superstep says, and in which order a delivery names its spawns.
 use Rattle.std.proofs.Common.{◌≡◌, ℕ, ◌<◌, ◌≤◌, nat_lt, true, false, List, length, Some, refl, sym, ap, ◌∙◌, subst, arith}
 use Rattle.std.proofs.lemmas.Grind.{common_steps}
 use Rattle.task_lang.specs.Meaning as meaning

@@ -19,8 +19,8 @@ use Rattle.step_parts.specs.declared.fault.Outcome.TheVariants.{Landed, Faulted,
 use Rattle.job_laws.specs.Worked.{cell, arg, number, body, start, array, program, faulting, overflowing, in_time, faulting_first}
 use Rattle.job_laws.specs.WorkedFaults.{spawning}
 
--- `Faulted` where a task faults; else `TooMany` where over 4096 tasks would live on; else `Overflowed` where a sum isn't one of 64
--- signed bits; else `Landed`.
+-- `Faulted` if a task faults; else `TooMany` if over 4096 tasks would live on; else `Overflowed` if a sum isn't one of
+-- 64 signed bits; else `Landed`.
 pub record OutcomesTellWhy : Type 0 where
   pub faulted : (arrays : List (List ℕ × List ℤ)) (ss : List (List ℕ × Segment)) (f : ℕ × List ℕ) → first_fault ss ≡ Some f → outcome_of arrays ss ≡ Faulted
   pub too_many : (arrays : List (List ℕ × List ℤ)) (ss : List (List ℕ × Segment)) → first_fault ss ≡ None → 4096 < length (next_live ss)
@@ -34,7 +34,7 @@ pub record OutcomesTellWhy : Type 0 where
 abbrev pub outcome_at_first : Program → Outcome
 outcome_at_first p = outcome_of p.arrays (segments p p.arrays 0 (initial p).live)
 
--- So many tasks, each of which adds to a cell that holds the greatest number, spawns a task, and goes on.
+-- This many tasks. Each adds to a cell that holds the greatest number, spawns a task, and goes on.
 abbrev pub crowd : ℕ → Program
 crowd n = program (array (most ∷ [])) (body 0 (Do (Put Plus (cell (Number (pos 0))) (One (number (pos 1)))) (Do (Spawn 1 arg) (Do Sync Done))) ∷ body 0 Done ∷ [])
     (replicate n (start 0 (pos 0)))

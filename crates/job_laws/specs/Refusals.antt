@@ -28,7 +28,8 @@ pub record IsFirstOutside (arrays : List (List ℕ × List ℤ)) (es : List (Lis
   pub inside : list_all (is_cell arrays) (joined front ++ before) ≡ true
   pub outside : is_cell arrays bad ≡ false
 
--- Paths of which one doesn't come before the next aren't in order, whatever the puts; then the first put to no cell counts.
+-- Paths aren't in order if one doesn't come before the next, whatever the puts. If they are, the first put to no cell
+-- counts.
 pub record LandingsAreRefusedInOrder : Type 0 where
   pub falling : (arrays : List (List ℕ × List ℤ)) (front back : List (List ℕ × List Put)) (e f : List ℕ × List Put) → path_lt e.0 f.0 ≡ false
       → refusal arrays (front ++ e ∷ f ∷ back) ≡ Some NotInOrder
@@ -57,15 +58,15 @@ two_runs = (of 1 (set 0 (pos 1) ∷ []) ∷ of 3 (add 0 (pos 3) ∷ []) ∷ []) 
 abbrev pub falling_run : List (List (List ℕ × List Put))
 falling_run = (of 0 (set 9 (pos 0) ∷ []) ∷ []) ∷ (of 2 [] ∷ of 1 [] ∷ []) ∷ []
 
--- a path in two runs, each of which rises
+-- a path in two runs; each run rises
 abbrev pub shared_path : List (List (List ℕ × List Put))
 shared_path = (of 0 [] ∷ of 1 (set 9 (pos 0) ∷ []) ∷ []) ∷ (of 1 [] ∷ of 2 [] ∷ []) ∷ []
 
--- puts to no cell of two paths, the first of which is in the second run, and a sum before them that overflows
+-- puts to no cell of two paths, the first one in the second run, and a sum before them that overflows
 abbrev pub outside_runs : List (List (List ℕ × List Put))
 outside_runs = (of 0 (add 0 (pos 1) ∷ []) ∷ of 2 (set 9 (pos 0) ∷ []) ∷ []) ∷ (of 1 (set 0 (pos 0) ∷ set 1 (pos 0) ∷ []) ∷ []) ∷ []
 
--- sums that overflow of two paths, the first of which is in the second run
+-- sums that overflow of two paths, the first one in the second run
 abbrev pub over_runs : List (List (List ℕ × List Put))
 over_runs = (of 3 (add 0 (pos 1) ∷ []) ∷ []) ∷ (of 2 (add 0 (pos 1) ∷ []) ∷ []) ∷ []
 

@@ -32,7 +32,7 @@ arg = One (Plain Arg)
 abbrev pub number : ℤ → Operand
 number z = Plain (Number z)
 
--- what a body says, with so many locals
+-- what a body says, with this many locals
 abbrev pub body : ℕ → Block → Plan
 body locals ahead = record { ahead = ahead; locals = locals }
 
@@ -54,7 +54,7 @@ print step path value = record { step = step; path = path; value = value }
 abbrev pub report : List PrintValue → List PhaseRecord → List (List ℕ × List ℤ) → Status → Option ReportValue
 report prints records arrays status = Some record { prints = prints; records = records; arrays = arrays; status = status }
 
--- Each of two tasks writes the other's cell into its own, and prints its own in the next superstep.
+-- Two tasks have a cell each. Each writes the other's cell into its cell, and prints its cell in the next superstep.
 abbrev pub swap : Program
 swap = program (array (pos 10 ∷ pos 20 ∷ [])) (body 1 (
     Do (Let 0 (Two (number (pos 1)) Subtract (Plain Arg))) (

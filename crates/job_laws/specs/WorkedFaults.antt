@@ -1,4 +1,4 @@
--- Where tasks fault, and where they just don't, worked out (own).
+-- In which cases tasks fault, and in which they just don't, worked out (own).
 use Rattle.std.specs.Prelude.{◌≡◌, ℕ, ◌+◌, ◌<◌, ◌≤◌, ℤ, pos, negsuc, [], ◌∷◌, ◌++◌, length}
 use Rattle.phase_records.specs.Status.{Ended, Fault, Limit}
 use Rattle.superstep_memory.specs.declared.arrays.PutKind.TheVariants.{Set}
@@ -15,9 +15,9 @@ use Rattle.step_core.specs.Program.{Program}
 use Rattle.step_core.specs.JobMeaning.{report_of}
 use Rattle.job_laws.specs.Worked.{cell, arg, number, body, start, array, program, superstep, print, report}
 
--- Where a task may spawn: with a path of fewer than 8 numbers, fewer than 8 spawns in the superstep, and fewer than 65535 in all.
--- The new task's path is its own, followed by how many it has spawned before; it begins with its argument, at its body's first
--- statement. Else it faults.
+-- A task may spawn with a path of fewer than 8 numbers, fewer than 8 spawns in the superstep, and fewer than 65535 in
+-- all. The new task's path is the spawner's, followed by how many it has spawned before. The new task begins with its
+-- argument, at its body's first statement. Otherwise the spawner faults.
 pub record SpawnsAreNumbered : Type 0 where
   pub goes_on : (s : Setting) (d : Doing) (b : ℕ) (v : ℤ) → length s.path < 8 → length d.spawns < 8 → s.begun + length d.spawns < 65535
       → spawn s d b v ≡ Goes (record d { spawns = d.spawns ++ started s.plans (s.path ++ (s.begun + length d.spawns) ∷ []) b v ∷ [] })
@@ -47,7 +47,7 @@ counts_on n = alone 1 (Do (Let 0 (One (number (pos 0)))) (counted n))
 abbrev pub chain : ℤ → Program
 chain n = program [] (body 0 (If (Two (Plain Step) Below (number n)) (Do (Spawn 0 arg) Done) Done) ∷ []) (start 0 (pos 0) ∷ [])
 
--- a task spawns so many others, which do nothing
+-- a task spawns this many others, which do nothing
 abbrev pub spawning : ℤ → Program
 spawning n = program [] (body 1 (While (Two (local 0) Below (number n)) (Do (Spawn 1 (One (local 0))) (Do (Let 0 (Two (local 0) Add (number (pos 1)))) Done)) Done)
     ∷ body 0 Done ∷ []) (start 0 (pos 0) ∷ [])

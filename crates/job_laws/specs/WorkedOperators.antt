@@ -15,15 +15,15 @@ use Rattle.task_code.specs.declared.code.Operator.TheVariants.{
 use Rattle.task_lang.specs.declared.fault.Fault.TheVariants.{Overflow, DivideByZero}
 use Rattle.task_lang.specs.Meaning.{applied}
 
--- x is q times y and r, where r is less than y, and has the sign of x or is 0
+-- x is q times y plus r; r is less than y, and has the sign of x or is 0
 pub record IsDivided (x y q r : ℤ) : Type 0 where
   pub whole : q *ℤ y +ℤ r ≡ x
   pub less : unsigned_abs r < unsigned_abs y
   pub above : pos 0 ≤ℤ x → pos 0 ≤ℤ r
   pub below : x <ℤ pos 0 → r ≤ℤ pos 0
 
--- Of numbers of 64 signed bits a sum, a difference, a product and a quotient is what it is where it has 64 signed bits. A
--- comparison is 1 where it holds.
+-- Of numbers of 64 signed bits a sum, a difference, a product and a quotient is what it is if it has 64 signed bits. A
+-- comparison is 1 if it holds.
 pub record OperatorsAreArithmetic : Type 0 where
   pub sums : (x y : ℤ) → FitsSigned w64 (x +ℤ y) → applied Add x y ≡ Ok (x +ℤ y)
   pub differences : (x y z : ℤ) → z +ℤ y ≡ x → FitsSigned w64 z → applied Subtract x y ≡ Ok z

@@ -22,11 +22,11 @@ test z = One (number z)
 abbrev pub prints : ℤ → Block
 prints z = Do (Print (One (number z))) Done
 
--- prints 1 where this number is a yes, else 2
+-- prints 1 if this number is a yes, else 2
 abbrev pub asks : ℤ → Program
 asks z = alone 0 (IfElse (test z) (prints (pos 1)) (prints (pos 2)) Done)
 
--- prints 1 where this number is a yes
+-- prints 1 if this number is a yes
 abbrev pub asks_once : ℤ → Program
 asks_once z = alone 0 (If (test z) (prints (pos 1)) Done)
 

@@ -52,8 +52,8 @@ pub fn jobs_are_worked_out()
     ensures { JobsAreWorkedOut }
 {}
 
-/// Each operator is what its sign says: a sum, a difference and a product where that has 64 signed bits; a quotient rounded to 0 and
-/// a remainder with the sign of the left number; a comparison, which is 1 exactly where it holds.
+/// Each operator is what its sign says: a sum, a difference and a product if it has 64 signed bits; a quotient rounded
+/// to 0; a remainder with the sign of the left number; a comparison, which is 1 exactly if it holds.
 pub fn operators_are_arithmetic()
     ensures { OperatorsAreArithmetic }
 {}
@@ -86,7 +86,8 @@ pub fn outcomes_tell_why()
     ensures { OutcomesTellWhy }
 {}
 
-/// How some supersteps end is written down and not said by a rule: one for each outcome, and those where two would fit.
+/// How some supersteps end, written down without a rule: one for each outcome, and those to which two outcomes would
+/// apply.
 pub fn outcomes_are_worked_out()
     ensures { OutcomesAreWorkedOut }
 {}
@@ -96,12 +97,13 @@ pub fn deliveries_name_their_spawns()
     ensures { DeliveriesNameTheirSpawns }
 {}
 
-/// Paths that don't rise are refused first; then the first put to no cell, by its path and its place from 0.
+/// Paths that don't rise are refused first. After them, the first put to no cell is, by its path and its place from 0.
 pub fn landings_are_refused_in_order()
     ensures { LandingsAreRefusedInOrder }
 {}
 
-/// A delivery of another step is refused as such, even if it is of another job; then one of another job; then a second one.
+/// A delivery of another step is refused as such, even if it is of another job. A delivery of another job is refused
+/// before a second one of the same path.
 pub fn deliveries_are_refused_in_order()
     ensures { DeliveriesAreRefusedInOrder }
 {}

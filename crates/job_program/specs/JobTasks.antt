@@ -25,6 +25,6 @@ job_does plans t arrays step = as_segment (job.segment_of plans t arrays step)
 abbrev pub JobMay : List job.Plan → job.Task → List (List ℕ × List ℤ) → ℕ → Segment job.Task → Type 0
 JobMay plans t arrays step g = g ≡ job_does plans t arrays step
 
--- what the tasks of a job mean, of which at most 4096 live at once
+-- what the tasks of a job mean; at most 4096 of them live at once
 abbrev pub job_says : List job.Plan → Says job.Task
 job_says plans = says_of job_frame 4096 (job_does plans)

@@ -1,4 +1,4 @@
--- Words, each of which is looked up among those above it in a set: no word stands there twice.
+-- Each word is looked up in a set of those above it: no word is there twice.
 use Rattle.std.proofs.Common.{◌≡◌, ◌<◌, ◌+◌, ℕ, Bool, true, false, List, [], ◌∷◌, ◌++◌, cond, length, take, drop, get_or, refl, sym, ap, ◌∙◌, drop-cons, add-one}
 use Rattle.std.proofs.lemmas.List.{take_more}
 use Rattle.std.proofs.lemmas.Bool.{false≢true}
@@ -26,7 +26,7 @@ WordSet = HashSet (Bor Word) (BuildHasherDefault FoldHasher)
 abbrev pub AreFound : WordSet → List Word → Type 0
 AreFound set names = (w : Bor Word) → contains word_eq set w ≡ is_among names w.now
 
--- no word is among the names, and none stands there twice
+-- no word is among the names, and none is there twice
 abbrev pub apart_from : List Word → List Word → Bool
 apart_from names [] = true
 apart_from names (w ∷ ws) = not (is_among names w) && apart_from (names ++ w ∷ []) ws

@@ -64,7 +64,7 @@ all-free ws e = by (list_any is_reserved ws) (list_all is_name ws) refl refl e
     by false true h g e = none-reserved ws h g
     by false false h g e = absurd cc
 
--- and each once they are names of their own
+-- and each once they are distinct names
 pub apart-names : (ws : Words) → list_all is_free ws ≡ true → are_apart ws ≡ true → are_names ws ≡ true
 apart-names [] e f = refl
 apart-names (w ∷ ws) e f =

@@ -88,7 +88,7 @@ within-few : (r : Result Line Code) (o : Inside) (l : Line) → (r >>= within_li
 within-few (Err c) o l e = absurd cc
 within-few (Ok k) o l e = within-case o k l (is_over (statements_behind o.statements k) (length o.locals) (opened (length o.frames) k)) refl e
 
--- a line that no open line takes stands where none is open
+-- a line that no open line takes is outside of all open lines
 none-open : (l : Line) (fs : List Frame) (b : Block) → step_of l fs b ≡ None → sits (can_else fs) l ≡ true → fs ≡ []
 none-open (line.Do a) fs b e t = absurd cc
 none-open (line.If x n) fs b e t = absurd cc
@@ -223,7 +223,7 @@ by-step j o ls l (Some s) g h x e = (
   },
 )
 
--- in format 1 the locals behind a line are noted
+-- in format 1 the locals after a line are noted
 first-noted : (format : ℕ) (ls ws : List Word) → format ≡ 1 → locals_behind format ls ws ≡ noted ls ws
 first-noted format ls ws e = ap (λ (f : ℕ). locals_behind f ls ws) e
 

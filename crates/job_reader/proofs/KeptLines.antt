@@ -270,7 +270,7 @@ lines-kept bodies (l ∷ ls) n a j g e =
           (subst (λ (k : JobTree). KeptAt k m.0.inside) (sym x.1.2) (subst (λ (i : Option Inside). KeptAt x.1.0.0 i) (sym x.1.3) p)) m.1
     ]
 
--- behind the header
+-- after the header
 from-kept : (bodies : List Word) (n : ℕ) (l : List ℕ) (ls : List (List ℕ)) (j : JobTree) (a : Bool) (o : Option ℕ) → format_of (words_of l) ≡ o
     → (read_from bodies (n + 1) ls ≡ Ok j → KeptJob j)
     → (if a then read_from bodies (n + 1) ls else read_behind bodies n o ls) ≡ Ok j → KeptJob j

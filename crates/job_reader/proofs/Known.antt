@@ -61,7 +61,7 @@ alone-first : (k l : Line) (ws : Words) → lines.is_of_first k ≡ true → alo
 alone-first k l [] h e = let same : k ≡ l = cc in ap lines.is_of_first (sym same) ∙ h
 alone-first k l (w ∷ ws) h e = absurd cc
 
--- a line is of the first format where its first word is
+-- a line is of the first format if its first word is
 pub said-first : (s : Names) (fits : Bool) (k : Keyword) (ws : Words) (l : Line) → line_behind s fits (Some k) ws ≡ Ok l → lines.is_of_first l ≡ is_of_first k
 unfolding line_behind
 said-first s fits Let [] l e = absurd cc

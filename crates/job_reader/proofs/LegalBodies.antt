@@ -1,4 +1,4 @@
--- Bodies of sound items name what is there, and their locals stand by first mention.
+-- What bodies of sound items name exists, and their locals are in the order of first mention.
 use Rattle.std.proofs.Common.{◌≡◌, ℕ, ◌+◌, ◌<◌, ◌≤◌, Bool, true, List, [], ◌∷◌, ◌++◌, length, refl, sym, ◌∙◌, arith, length-append}
 use Rattle.std.specs.Prelude.{nat_lt}
 use Rattle.std.specs.List.{list_all}
@@ -84,7 +84,7 @@ lines-named s [] e = refl
 lines-named s (l ∷ ls) e =
     and-true _ _ (and-left _ (list_all (λ i. nat_lt i (length s.locals)) (in_line l)) (and-left _ (list_all (line_fits s) ls) e)) (lines-named s ls (and-right (line_fits s l) _ e))
 
--- a body among so many arrays and bodies
+-- a body among this many arrays and bodies
 abbrev WholeBody : ℕ → ℕ → BodyTree → Type 0
 WholeBody n m b = list_all (is_line n m) (flat b.block) ≡ true
 

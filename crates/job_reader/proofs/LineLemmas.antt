@@ -37,7 +37,7 @@ within-sits (Err c) o l e = absurd cc
 within-sits (Ok k) o l e =
     within-one (is_over (statements_behind o.statements k) (length o.locals) (opened (length o.frames) k)) k l TooMany e
 
--- the line that was said may stand there
+-- the line that was said may be there
 pub said-stands : (arrays bodies : List Word) (o : Inside) (k : Option Keyword) (ws : Words) (l : Line) → Ok l ≡ said arrays bodies o k ws
     → sits (can_else o.frames) l ≡ true
 said-stands arrays bodies o k ws l e =

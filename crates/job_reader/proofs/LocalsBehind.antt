@@ -1,4 +1,4 @@
--- The locals of an open body behind a line, in either format.
+-- The locals of an open body after a line, in either format.
 use Rattle.std.proofs.Common.{◌≡◌, ℕ, Bool, true, false, List, [], ◌∷◌, ◌++◌, refl, sym, ap, ◌∙◌, append-nil}
 use Rattle.std.specs.Prelude.{◌==◌, if◌then◌else◌}
 use Rattle.std.specs.List.{list_all, flat_map}
@@ -48,7 +48,7 @@ by-one format listed xs w =
     ∙ behind-append format listed (flat_map mentions_of xs) (mentions_of w ++ [])
     ∙ ap (locals_behind format (locals_by format listed xs)) (append-nil (mentions_of w))
 
--- they stay names of their own
+-- they stay distinct names
 pub names-behind : (format : ℕ) (ls ws : List Word) → are_names ls ≡ true → list_all is_free ws ≡ true → are_names (locals_behind format ls ws) ≡ true
 names-behind format ls ws e f = by (format == 1)
   where

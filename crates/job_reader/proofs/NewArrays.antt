@@ -1,4 +1,4 @@
--- An array line's name and cells, where the job so far has no such array.
+-- An array line's name and cells, if the job so far has no such array.
 use Rattle.std.proofs.Common.{◌≡◌, ℕ, ◌≤◌, true, false, ◌&&◌, List, [], ◌∷◌, length, map, Ok, ℤ, refl, sym, ap, ◌∙◌, arith, ◌^◌}
 use Rattle.std.specs.Prelude.{nat_le}
 use Rattle.std.specs.Str.{bytes_eq}

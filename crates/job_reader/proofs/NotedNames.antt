@@ -1,4 +1,4 @@
--- Names of their own, and locals that are noted in their order.
+-- Distinct names, and locals that are noted in their order.
 use Rattle.std.proofs.Common.{
   ◌≡◌,
   ℕ,
@@ -93,7 +93,7 @@ among-put : (ns : List Word) (w n : Word) → is_among ns n ≡ false → bytes_
 among-put [] w n e f = or-false (bytes_eq w n) false f refl
 among-put (m ∷ ns) w n e f = or-false (bytes_eq m n) _ (or-left (bytes_eq m n) (is_among ns n) e) (among-put ns w n (or-right (bytes_eq m n) (is_among ns n) e) f)
 
--- a new name behind names of their own
+-- a new name after distinct names
 pub names-put : (ns : List Word) (w : Word) → are_names ns ≡ true → is_free w ≡ true → is_among ns w ≡ false → are_names (ns ++ w ∷ []) ≡ true
 names-put [] w e f g = and-true _ true (and-true _ true f refl) refl
 names-put (n ∷ ns) w e f g =
@@ -103,7 +103,7 @@ names-put (n ∷ ns) w e f g =
     (and-true _ _ (and-left _ (not (is_among ns n)) head) (false-not (is_among (ns ++ w ∷ []) n) (among-put ns w n (not-true (is_among ns n) (and-right (is_free n) _ head)) other)))
     (names-put ns w (and-right (is_free n && not (is_among ns n)) _ e) f (or-right (bytes_eq n w) (is_among ns w) g))
 
--- the first ones of names of their own
+-- the first ones of distinct names
 among-front : (ns ms : List Word) (n : Word) → is_among (ns ++ ms) n ≡ false → is_among ns n ≡ false
 among-front [] ms n e = refl
 among-front (m ∷ ns) ms n e = or-false (bytes_eq m n) _ (or-left (bytes_eq m n) (is_among (ns ++ ms) n) e) (among-front ns ms n (or-right (bytes_eq m n) (is_among (ns ++ ms) n) e))
@@ -120,7 +120,7 @@ note-one : (b : Bool) (ns : List Word) (w : Word) → is_among ns w ≡ b → ar
 note-one true ns w h e f = e
 note-one false ns w h e f = names-put ns w e f h
 
--- names stay names of their own where more are noted
+-- names stay distinct if more are noted
 pub names-noted : (ns ws : List Word) → are_names ns ≡ true → list_all is_free ws ≡ true → are_names (noted ns ws) ≡ true
 names-noted ns [] e f = e
 names-noted ns (w ∷ ws) e f =
@@ -132,7 +132,7 @@ name-seam [] (suc k) w more h = absurd (omega arith)
 name-seam (n ∷ ns) zero w more h = refl
 name-seam (n ∷ ns) (suc k) w more h = name-seam ns k w more (omega arith)
 
--- a name further on isn't the one behind the first ones
+-- a name further on isn't the one after the first ones
 apart : (ns : List Word) (k i : ℕ) → are_names ns ≡ true → k < i → i < length ns → name_at ns k ≡ name_at ns i → ⊥
 apart ns k i g h l e =
     let yes : is_among (take i ns) (name_at ns k) ≡ true = among-below ns i k h (omega arith) in

@@ -69,7 +69,7 @@ alone-sits : (fits : Bool) (k l : Line) (ws : Words) → sits fits k ≡ true �
 alone-sits fits k l [] h e = let same : k ≡ l = cc in ap (sits fits) (sym same) ∙ h
 alone-sits fits k l (w ∷ ws) h e = absurd cc
 
--- what the words of a line say may stand there
+-- what the words of a line say may be there
 pub said-sits : (s : Names) (fits : Bool) (k : Option Keyword) (ws : Words) (l : Line) → line_behind s fits k ws ≡ Ok l → sits fits l ≡ true
 unfolding line_behind
 said-sits s fits None ws l e = absurd cc

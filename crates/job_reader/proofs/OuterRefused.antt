@@ -1,4 +1,4 @@
--- Two parts of a line outside bodies, of which the second takes memory.
+-- Two parts of a line outside bodies. The second takes memory.
 use Rattle.std.specs.Prelude.{Vec}
 use Rattle.std.specs.declared.alloc.Global.{Global}
 use Rattle.std.proofs.Common.{◌≡◌, ◌∷◌, ℤ, List, Result, Ok, Err, IfOk, FitsSigned, w64, to_z, of_z, ap, sym, subst, ◌∙◌, arith}

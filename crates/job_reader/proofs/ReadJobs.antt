@@ -104,7 +104,7 @@ job-back j r v s e =
 pub short-enough : (n : ℕ) → n ≤ 1048576 → nat_lt 1048576 n ≡ false
 short-enough n h = grind (arith, common_steps)
 
--- a text's lines behind the header say a job, if anything
+-- a text's lines after the header say a job, if anything
 pub text-says : (text : List ℕ) (format n : ℕ) (rest : List (List ℕ)) (bodies : List Word) → length text ≤ 1048576 → bad_byte_line 1 text ≡ None
     → ((bodies : List Word) → read_from bodies 1 (lines_of text) ≡ read_lines bodies n (nothing format) rest) → bodies ≡ declared (lines_of text)
     → SaysJobs (read_lines bodies n (nothing format) rest)

@@ -1,4 +1,4 @@
--- A line that is put behind open code is written behind it.
+-- A line that is put after open code is written after it.
 use Rattle.std.proofs.Common.{◌≡◌, ℕ, ◌+◌, List, [], ◌∷◌, ◌++◌, length, map, Some, sym, ap, subst, ◌∙◌, append_assoc}
 use Rattle.std.proofs.lemmas.List.{map-append}
 use Rattle.task_code.specs.declared.code.Expr.{Expr}

@@ -36,7 +36,7 @@ bodies-next format arrays bodies b bs out next e =
     ∙ append_assoc out (text_of (body_lines format arrays bodies b)) (text_of (bodies_lines format arrays bodies bs))
     ∙ ap (λ (x : List ℕ). out ++ x) (sym (text-append (body_lines format arrays bodies b) (bodies_lines format arrays bodies bs)))
 
--- six pieces, one behind the other
+-- six pieces, one after the other
 pieces : (out a b s n t : List ℕ) → ((((out ++ a) ++ b) ++ s) ++ n) ++ t ≡ out ++ (a ++ (((b ++ s) ++ n) ++ t))
 pieces out a b s n t = simp append_assoc
 

@@ -33,7 +33,7 @@ use Rattle.job_reader.proofs.ItemLemmas.{put, Told, told-put}
 abbrev pub names : List Word → JobTree → List Word → Names
 names bodies j locals = record { arrays = array_names j; bodies = bodies; locals = locals }
 
--- the lines of items, and of an open body behind them
+-- the lines of items, and of an open body after them
 pub record ToldInside (bodies : List Word) (lines : List Words) (j : JobTree) (o : Inside) : Type 0 where
   pub base : List Words
   pub told : Told bodies base j

@@ -20,7 +20,7 @@ header-none : (format : ℕ) → declared_by (header_words format) ≡ None
 unfolding outer_of
 header-none format = refl
 
--- the lines behind the first one, which is the header
+-- the lines after the first one, which is the header
 record Begun (bodies : List Word) (ls : List (List ℕ)) (j : JobTree) : Type 0 where
   format : ℕ
   rest : List (List ℕ)

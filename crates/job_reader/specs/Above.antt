@@ -8,8 +8,8 @@ use Rattle.task_code.specs.declared.code.Line.{Line}
 use Rattle.task_code.specs.declared.code.Line.TheVariants as line
 use Rattle.job_reader.specs.Trees.{BodyTree, JobTree}
 
--- a body that is open: its locals so far, its open lines, the innermost first, the statements behind that, and how
--- many statements it has
+-- a body that is open: its locals so far, its open lines, the innermost first, the statements after that, and how many
+-- statements it has
 pub record Inside : Type 0 where
   pub name : Word
   pub locals : List Word

@@ -26,7 +26,7 @@ abbrev pub LineSays : {X Y : Type 0} → (X → Y) → Result X LineFault → Re
 LineSays view (Ok x) read = read ≡ Ok (view x)
 LineSays view (Err fault) read = LineFails fault read
 
--- two parts of a line, of which the second takes memory
+-- two parts of a line; the second takes memory
 abbrev pub joined : {A B : Type 0} → Result A Code → Result B LineFault → Result (A × B) LineFault
 joined a (Err line_fault.Memory) = Err line_fault.Memory
 joined (Ok a) (Ok b) = Ok (a, b)

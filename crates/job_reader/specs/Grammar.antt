@@ -24,7 +24,7 @@ block_lines s (While e a r) = (codes "while" ∷ expr_words s e) ∷ (block_line
 abbrev pub header_words : ℕ → Words
 header_words format = codes "bsp" ∷ decimal format ∷ []
 
--- an array of so many cells, with values for the first ones
+-- an array of this many cells, with values for the first ones
 abbrev pub array_words : Word → ℕ → List ℤ → Words
 array_words name len values = codes "array" ∷ name ∷ decimal len ∷ map signed_decimal values
 
@@ -39,21 +39,21 @@ body_words format name locals = codes "body" ∷ name ∷ listed_in format local
 abbrev pub start_words : List Word → Start → Words
 start_words bodies s = codes "start" ∷ name_at bodies s.body ∷ signed_decimal s.arg ∷ []
 
--- a body, where these arrays stand above it, and these are the bodies of the text
+-- a body, if these arrays are above it, and these are the bodies of the text
 abbrev pub names_above : List Word → List Word → BodyTree → Names
 names_above arrays bodies b = record { arrays = arrays; bodies = bodies; locals = b.locals }
 
 abbrev pub body_lines : ℕ → List Word → List Word → BodyTree → List Words
 body_lines format arrays bodies b = body_words format b.name b.locals ∷ (block_lines (names_above arrays bodies b) b.block ++ end_words ∷ [])
 
--- What stands outside bodies, in the order of the text: an array with the values that its line gives and its cells, a
--- body, a start line.
+-- What is outside bodies, in the order of the text: an array with the values that its line gives and its cells, a body,
+-- a start line.
 pub data Item : Type 0 where
   AnArray : Word → List ℤ → List ℤ → Item
   ABody : BodyTree → Item
   AStart : Start → Item
 
--- the lines of items, where these arrays stand above them
+-- the lines of items, if these arrays are above them
 module _ (format : ℕ) where
   abbrev pub items_lines : List Word → List Word → List Item → List Words
   items_lines arrays bodies [] = []
@@ -61,11 +61,11 @@ module _ (format : ℕ) where
   items_lines arrays bodies (ABody b ∷ is) = body_lines format arrays bodies b ++ items_lines arrays bodies is
   items_lines arrays bodies (AStart s ∷ is) = start_words bodies s ∷ items_lines arrays bodies is
 
--- the locals of a body behind words that mention locals: in format 1 each new one is noted, in format 2 all are listed
+-- the locals of a body after words that mention locals: in format 1 each new one is noted, in format 2 all are listed
 abbrev pub locals_behind : ℕ → List Word → List Word → List Word
 locals_behind format locals words = if format == 1 then noted locals words else locals
 
--- the locals of a body whose first line lists these, behind its lines
+-- the locals of a body whose first line lists these, after its lines
 abbrev pub locals_by : ℕ → List Word → List Words → List Word
 locals_by format listed lines = locals_behind format listed (flat_map mentions_of lines)
 
@@ -73,8 +73,8 @@ locals_by format listed lines = locals_behind format listed (flat_map mentions_o
 abbrev pub is_in_format : ℕ → Line → Bool
 is_in_format format l = is_of_first l || not (format == 1)
 
--- A body names only arrays that stand above it, bodies of the text, and its locals, which are those that its first line
--- lists, and in format 1 those that it mentions, in the order of their first mentions. It has no add in format 1.
+-- A body names only arrays above it, bodies of the text, and its locals: those that its first line lists, and in format
+-- 1 those that it mentions, in the order of their first mentions. It has no add in format 1.
 pub record IsSoundBody (format : ℕ) (arrays bodies : List Word) (b : BodyTree) : Type 0 where
   pub names : list_all (line_fits (names_above arrays bodies b)) (flat b.block) ≡ true
   pub locals : locals_by format (listed_in format b.locals) (block_lines (names_above arrays bodies b) b.block) ≡ b.locals
@@ -109,7 +109,7 @@ abbrev pub kept : List (List ℕ) → List Words
 kept [] = []
 kept (l ∷ ls) = if is_skipped (words_of l) then kept ls else words_of l ∷ kept ls
 
--- The grammar: these lines are a job's where they are its items as they are written. A text is free in the lines that are
+-- The grammar: these lines are a job's if they are its items as they are written. A text is free in the lines that are
 -- skipped, in the order of items of different kinds, and in values left out; all else is written in one way. The first
 -- line has the format.
 pub record IsTextOf (j : JobTree) (lines : List Words) : Type 0 where
@@ -134,7 +134,7 @@ abbrev pub canonical : JobTree → List Words
 canonical j =
     header_words j.format ∷ (array_lines j.arrays ++ (bodies_lines j.format (array_names j) (body_names j) j.bodies ++ start_lines (body_names j) j.starts))
 
--- single spaces between words, and an LF behind each line
+-- single spaces between words, and an LF after each line
 abbrev pub spaced : Words → List ℕ
 spaced [] = []
 spaced (w ∷ ws) = 32 ∷ w ++ spaced ws

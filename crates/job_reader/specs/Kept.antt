@@ -1,4 +1,4 @@
--- What the job so far and its open body keep while lines are read: all limits, names of their own, numbers that fit.
+-- What the job so far and its open body keep while lines are read: all limits, distinct names, numbers that fit.
 use Rattle.std.specs.Prelude.{◌≡◌, ◌≤◌, ◌<◌, ℕ, true, false, List, [], ◌∷◌, length, Option, Some, None, Result, Ok}
 use Rattle.std.specs.List.{list_all}
 use Rattle.text_lines.specs.Number.{fits_i64}

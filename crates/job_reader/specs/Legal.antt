@@ -13,8 +13,9 @@ flat_body b = record { name = b.name; locals = b.locals; code = flat b.block }
 abbrev pub flat_job : JobTree → JobValue
 flat_job j = record { format = j.format; arrays = j.arrays; bodies = map flat_body j.bodies; starts = j.starts }
 
--- A job is of format 1 or 2; in one of format 1 no line is an add, and the locals of a body stand by first mention. It has at most 16 arrays of names of their own, of 1 to 4096 cells, 64 bodies of names of their own, each with at most
--- 32 locals, 1024 statements and 16 lines open at once, and 4096 start lines; what its lines name is there, and its numbers
--- are of 64 signed bits.
+-- A job is of format 1 or 2; in one of format 1 no line is an add, and the locals of a body are in the order of first
+-- mention. It has at most 16 arrays of 1 to 4096 cells, 64 bodies, each with at most 32 locals, 1024 statements and 16
+-- lines open at once, and 4096 start lines. The names of its arrays are distinct, and so are those of its bodies. What
+-- its lines name exists, and its numbers are of 64 signed bits.
 abbrev pub IsJobTree : JobTree → Type 0
 IsJobTree j = IsJob (flat_job j)

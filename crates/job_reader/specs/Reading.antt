@@ -51,7 +51,7 @@ abbrev pub declared_by : Words → Option Word
 declared_by [] = None
 declared_by (k ∷ ws) = name_if_body (outer_of k) ws
 
--- the bodies of a text in declared order: a body may be named before its own line
+-- the bodies of a text in declared order: a body may be named before its line
 abbrev pub declared : List (List ℕ) → List Word
 declared lines = take 64 (filter_map (λ l. declared_by (words_of l)) lines)
 
@@ -78,7 +78,7 @@ abbrev pub array_of : Words → Result (Word × List ℤ) Code
 array_of (name ∷ len ∷ values) = made (λ p. (name, p.1)) (both (named name) (cells_of len values))
 array_of _ = Err BadLine
 
--- names, none of which is reserved
+-- names; none of them is reserved
 abbrev pub all_named : Words → Result (Unit {0}) Code
 all_named ws = if list_any is_reserved ws then Err Reserved else if list_all is_name ws then Ok tt else Err BadName
 
@@ -105,14 +105,14 @@ abbrev pub start_of : List Word → Words → Result Start Code
 start_of bodies (body ∷ n ∷ []) = made start_from (both (body_at bodies body) (numbered n))
 start_of bodies _ = Err BadLine
 
--- an array of a name of its own, of at most 16
+-- an array with a name that no array has yet, of at most 16
 abbrev pub with_array : JobTree → Word × List ℤ → Result JobTree Code
 with_array j x =
     if is_among (array_names j) x.0 then Err Twice
     else if nat_le 16 (length (array_names j)) then Err TooMany
     else Ok (record j { arrays = j.arrays ++ x ∷ [] })
 
--- a body of a name of its own, of at most 64, that lists at most 32 locals, each once
+-- a body with a name that no body has yet, of at most 64; it lists at most 32 locals, each once
 abbrev pub new_body : JobTree → Word × List Word → Result Inside Code
 new_body j head =
     if is_among (body_names j) head.0 || not (are_apart head.1) then Err Twice

@@ -32,12 +32,12 @@ pub record IsSoFar (j : JobTree) (r : SoFar) : Type 0 where
   pub body_names : lent r.body_names.items ≡ body_names j
   pub starts : r.starts.items ≡ j.starts
 
--- the open body behind a line, by what the line made of it
+-- the open body after a line, by what the line made of it
 abbrev pub IsGrown : Inside → ℕ → Option (List Frame × Block) → OpenBody → Type 0
 IsGrown o statements None w = Unit {0}
 IsGrown o statements (Some s) w = IsInside (grown o statements s) w
 
--- the job and the open body behind a line
+-- the job and the open body after a line
 abbrev pub IsBehind : JobTree × Option Inside → SoFar → Option OpenBody → Type 0
 IsBehind p r w = IsSoFar p.0 r × IsOpened p.1 w
 

@@ -93,7 +93,7 @@ pub(crate) fn declared_by(line: &[u8]) -> Option<&[u8]>
     }
 }
 
-// Joins two parts of a line, of which the second takes memory. If both are refused, the fault to report is chosen.
+// Joins two parts of a line. The second takes memory. If both are refused, this chooses the fault to report.
 fn joined<A: Drop, B: Drop>(
     a: Result<A, Code>,
     b: Result<B, LineFault>,

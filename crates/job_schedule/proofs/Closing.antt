@@ -117,7 +117,7 @@ from_mode w worker token h = by (nat_lt worker 64) h
     by true e = in_mode w worker token w.mode e
     by false e = cc
 
--- the job goes on only where it hadn't ended, by one superstep
+-- the job goes on only if it hadn't ended, by one superstep
 pub one_superstep : (w : World) → report_in w.limit (next_job w) ≡ None → (next_job w ≡ superstep w.program w.job) × (is_some (status w.limit w.job) ≡ false)
 one_superstep w h = by (status w.limit w.job) refl h
   where
@@ -207,7 +207,7 @@ closing_token w worker (Ends token) h =
     not_both (closes_round (done_by w worker (Ends token)).0) h
     (force_closes_none w (after (after w.tree (Begin token call.Force)) (Go token)) (answer_to (after w.tree (Begin token call.Force)) (Go token)))
 
--- a step that closes, and what it comes to
+-- a step that closes, and its result
 pub record ClosesBy (w : World) (x : JobStep) (made : AnswerValue × World) : Type 0 where
   pub token : ℕ
   pub by : x ≡ Close (worker_of x)

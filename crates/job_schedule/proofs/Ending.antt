@@ -90,7 +90,7 @@ behind_over w closer end (y ∷ ys) e =
     ap (λ (r : AnswerValue × World). r.0 ∷ answers r.1 ys) (over_step w y e)
     ∙ ap (λ (told : List AnswerValue). NotNow ∷ told) (behind_over w closer end ys e)
 
--- one step, where the worker that has closed may end the tree
+-- one step, if the worker that has closed may end the tree
 abbrev when_due : World → ℕ → Bool → AnswerValue × World
 when_due w token b = if b then (Stepped (end_of w.tree), forced w token) else (NotNow, w)
 
@@ -147,7 +147,7 @@ unfaulted limit step (t ∷ ts) s e = by _ e
     by true k = let is : IsAtLimit step ≡ s = cc in ap has_faulted (sym is)
     by false k = cc
 
--- what a job that is over leaves tells its status
+-- what a job that is over leaves says its status
 over_told : (w : World) (report : ReportValue) → w.job.fault ≡ None → is_some (status w.limit w.job) ≡ true
     → report_in w.limit (next_job w) ≡ Some report → has_faulted report.status ≡ false
 over_told w report none over h = by (status w.limit w.job) refl over h

@@ -190,7 +190,7 @@ pub finished_tells_the_job : FinishedTellsTheJob
 finished_tells_the_job p parents limit xs x report h =
     finishes p limit (reached (initial_world p parents limit) xs) x report (run_is_of p limit (initial_world p parents limit) xs (initial_is_of p parents limit)) h
 
--- wherever it stands among the answers
+-- wherever it is among the answers
 listed : (p : Program) (limit : ℕ) (w : World) (xs : List JobStep) (k : ℕ) (report : ReportValue) → IsOf p limit w → k < length (answers w xs)
     → slice_index_or (answers w xs) k (Finished report) ≡ Finished report → report_of p limit ≡ Some report
 listed p limit w [] k report is h e = absurd (omega arith)

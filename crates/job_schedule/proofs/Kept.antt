@@ -41,7 +41,7 @@ use Rattle.job_schedule.proofs.Jobs.{run_is_of, initial_is_of}
 use Rattle.job_schedule.proofs.Participants.{all_delivered, next_wait}
 use Rattle.job_schedule.proofs.Standing.{participants_are_the_live_tasks, starts_stand}
 
--- one participant has changed, whose task was taken, and where it was handed in before it is now, and only there
+-- one participant has changed, and its task was taken; if it was handed in before it is now, and only then
 pub one_kept : (r : RoundValue) (w v : World) (place : ℕ) (g : ParticipantValue) → place < length w.participants → v.participants ≡ set w.participants place g
     → w.taken ≤ v.taken → place < v.taken → is_delivered g.stage ≡ is_delivered (participant_at w.participants place).stage
     → (v.mode ≡ mode.Runs → w.mode ≡ mode.Runs) → IsKept r w → IsKept r v
@@ -125,7 +125,7 @@ answer_delivered g a = by (is_over_by a) (is_refused a)
     by false true = ap is_delivered (home_delivered g g.stage)
     by false false = refl
 
--- where the participants are the same, and the job doesn't begin to run
+-- if the participants are the same, and the job doesn't begin to run
 same_kept : (r : RoundValue) (w v : World) → v.participants ≡ w.participants → v.taken ≡ w.taken → (v.mode ≡ mode.Runs → w.mode ≡ mode.Runs) → IsKept r w → IsKept r v
 same_kept r w v participants taken runs k =
     let len : length v.participants ≡ length w.participants = ap (λ (gs : List ParticipantValue). length gs) participants in
@@ -399,7 +399,7 @@ initial_kept job limit parents r w some is at = subst (IsKept r) (sym at) (recor
     by (suc n) [] low here = absurd (omega arith)
     by (suc n) (t ∷ ts) low here = let no : nat_le (suc n) 0 ≡ false = grind arith in ap (λ (b : Bool). if b then Some (Limit 0) else None) no
 
--- Worlds that are reached stand while their job runs, and a step leads on.
+-- Worlds that are reached satisfy `IsStanding` while their job runs, and a step leads on.
 pub reached_stands : (r : RoundValue) (w : World) → IsReached w → w.job ≡ state_of r → w.limit ≡ r.limit → status_in r ≡ None → IsStanding w
 reached_stands r w (p, limit, parents, xs, at) job limited on =
     let is = run_is_of p limit (initial_world p parents limit) xs (initial_is_of p parents limit) in

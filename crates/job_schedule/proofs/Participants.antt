@@ -66,7 +66,7 @@ own_paths g = by g.synced
     by true = refl
     by false = refl
 
--- what all tasks leave, where each participant notes its segment
+-- what all tasks leave, if each participant notes its segment
 pub living_paths : (p : Program) (arrays : List (List ℕ × List ℤ)) (n : ℕ) (gs : List ParticipantValue) (ts : List Task)
     → map participant_path gs ≡ map (λ (t : Task). t.path) ts → is_rising (map (λ (t : Task). t.path) ts) ≡ true
     → ((place : ℕ) → place < length gs → Notes (segments p arrays n ts) (participant_at gs place))
@@ -103,7 +103,7 @@ living_paths p arrays n (g ∷ gs) (t ∷ ts) e r notes =
         ap (λ (b : Bool). if b then segment_of p.plans t arrays n else deed_in (segments p arrays n ts) (participant_at gs place).path) no_match in
         record { synced = h.synced ∙ ap has_synced same; children = h.children ∙ ap spawned_paths same }
 
--- so stand the next participants
+-- so are the next participants
 pub next_paths : (gs : List ParticipantValue) (qs : List (List ℕ)) → map participant_path (living_participants gs) ≡ qs → map participant_path (next_participants gs) ≡ in_path_order (λ (q : List ℕ). q) qs
 next_paths gs qs e =
     put_all_mapped participant_path (λ (q : List ℕ). q) participant_path (λ g. refl) (living_participants gs) []

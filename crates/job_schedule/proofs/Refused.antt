@@ -40,7 +40,7 @@ core_after s x core is = (step_moves s x (image s.words s.views) core is record 
   going = λ _. record { phase = refl; ended = refl; due = refl; members = λ _. refl; arrived = λ _. refl };
 }).2
 
--- the tree's own part
+-- the part of the tree itself
 
 abbrev is_played : TreeAnswer → Bool
 is_played answer.Begun = false

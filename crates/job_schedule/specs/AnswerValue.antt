@@ -1,4 +1,4 @@
--- What a step of a worker answers, without where a path lies in memory (own).
+-- What a step of a worker answers, apart from the place of a path in memory (own).
 use Rattle.std.specs.Prelude.{ℕ, List}
 use Rattle.phase_records.specs.ReportValue.{ReportValue}
 use Rattle.tier_core.specs.declared.call.Played.{Played}

@@ -24,8 +24,8 @@ FinishedTellsTheJob =
     (p : Program) (parents : List ℕ) (limit : ℕ) (xs : List JobStep) (x : JobStep) (report : ReportValue)
     → answer_of (reached (initial_world p parents limit) xs) x ≡ Finished report → report_of p limit ≡ Some report
 
--- Where a round is closed and the job goes on, the worker that advanced the root last closes it, all tasks have come to their
--- end, and it is one superstep of the job.
+-- If a round is closed and the job goes on, the worker that advanced the root last closes it, all tasks have reached
+-- their end, and it is one superstep of the job.
 pub record IsClosing (w : World) (x : JobStep) : Type 0 where
   pub by : x ≡ Close (worker_of x)
   pub advanced : (token : ℕ) × (w.mode ≡ mode.Advanced (worker_of x) token)

@@ -5,7 +5,7 @@ use Rattle.job_schedule.specs.declared.stage.Move.{Move}
 use Rattle.job_schedule.specs.declared.stage.Move.TheVariants.{Takes, Delivers, Calls, Advances, Closes, Ends}
 use Rattle.job_schedule.specs.ParticipantValue.{Stage, Waits, Taken, Polling, Joining, Arriving, Leaving, Over, ParticipantValue, child_at}
 
--- Its task is delivered; then come the calls of the task's tree, and the advance where that is due.
+-- Its task is delivered. Then follow the calls of the task's tree, and the advance if that is due.
 abbrev pub passing : Bool → ℕ → ℕ → Bool → Option Move
 passing true place token synced = Some (Advances place)
 passing false place token synced = Some (Calls place token (if synced then call.Arrive else call.Leave))
@@ -31,7 +31,7 @@ kind_for (Ends token) = 2
 kind_for (Advances place) = 3
 kind_for (Closes token) = 4
 
--- What a step of this kind does: its worker's next move, where it is taken by such a step, and else nothing.
+-- What a step of this kind does: its worker's next move, if it is taken by such a step, and else nothing.
 abbrev pub asked : ℕ → Option Move → Option Move
 asked kind None = None
 asked kind (Some move) = if kind == kind_for move then Some move else None

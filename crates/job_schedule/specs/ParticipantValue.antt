@@ -69,7 +69,7 @@ is_refused (Held phase why) = true
 is_refused (Full parties) = true
 is_refused _ = false
 
--- so many of the spawned tasks have joined, or arrived; when all have, the next calls follow
+-- this many of the spawned tasks have joined, or arrived; when all have, the next calls follow
 abbrev pub arriving : ℕ → ℕ → Stage
 arriving arrived spawned = if nat_lt arrived spawned then Arriving arrived else Leaving
 

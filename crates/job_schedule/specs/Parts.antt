@@ -54,15 +54,16 @@ pub record IsTaken (old : RoundValue) (path : List ℕ) (new : RoundValue) : Typ
   pub takes : IsTakenBy old delivery
   pub added : new ≡ with_delivery old delivery
 
--- one superstep more, of which nothing is delivered, unless the job had ended
+-- one superstep more, without deliveries yet, unless the job had ended
 pub record IsNext (old new : RoundValue) : Type 0 where
   pub job : new.job ≡ old.job
   pub limit : new.limit ≡ old.limit
   pub state : state_of new ≡ unless_ended (status_in old) (state_of old) (superstep (program_of old.job) (state_of old))
   pub fresh : status_in new ≡ None → AllFresh new.slots
 
--- What a schedule keeps beside its world: while the job runs, a segment was handed in exactly where the participant's stage says so; from
--- the next task to be taken on each participant waits; and a job with live tasks whose tasks are worked at has not ended.
+-- What a schedule keeps beside its world. While the job runs, a segment was handed in exactly if the participant's
+-- stage says so. From the next task to be taken on each participant waits. A job with live tasks whose tasks are worked
+-- at has not ended.
 pub record IsKept (r : RoundValue) (w : World) : Type 0 where
   pub handed : status_in r ≡ None → (place : ℕ) → place < length w.participants
       → is_done (slice_get r.slots place) ≡ is_delivered (participant_at w.participants place).stage
@@ -75,8 +76,8 @@ pub record IsWanted (r : RoundValue) (path : List ℕ) : Type 0 where
   pub live : is_live r.slots path ≡ true
   pub first : (place : ℕ) → IsFor path (slice_get r.slots place) → is_done (slice_get r.slots place) ≡ false
 
--- a move of a participant that is there, at a stage that it belongs to, and of a call that may be begun; a job that goes on is closed
--- only where all tasks have come to their end
+-- a move of an existing participant, at a stage that it belongs to, and of a call that may be begun; a job that goes on
+-- is closed only when all tasks have reached their end
 abbrev pub IsAllowed : World → Move → Type 0
 IsAllowed w (Takes place) = (place < length w.participants) × (place ≡ w.taken)
 IsAllowed w (Delivers place) = (place < length w.participants) × ((participant_at w.participants place).stage ≡ Taken) × (w.mode ≡ Runs)

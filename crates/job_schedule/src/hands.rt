@@ -3,7 +3,7 @@ ghost use Rattle.std.specs.Prelude.{◌≡◌, ℕ, Option, None, OnOk, IfOk, re
 
 use std::alloc::{AllocError, Global};
 
-/// Makes the hands of this number of workers, none of which has a task.
+/// Makes the hands of this number of workers. No worker has a task yet.
 pub fn empty_hands(alloc: Global, workers: usize) -> Result<Vec<Option<usize>>, AllocError>
     ensures { IfOk result (λ hands. hands.items ≡ replicate workers None) }
 {

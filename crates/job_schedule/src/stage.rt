@@ -17,7 +17,7 @@ pub enum Stage {
     Joining(usize),
     /// The tasks that it has spawned arrive. The number says how many have arrived.
     Arriving(usize),
-    /// Its own token arrives or leaves.
+    /// The participant's token arrives or leaves.
     Leaving,
     /// All its calls have their answers.
     Over,

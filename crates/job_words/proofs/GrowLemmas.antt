@@ -1,4 +1,4 @@
--- Lines keep their words where locals come behind those that they name.
+-- Lines keep their words if locals are added after those that they name.
 use Rattle.std.proofs.Common.{◌≡◌, ℕ, zero, suc, ◌<◌, Bool, true, false, ◌&&◌, List, [], ◌∷◌, ◌++◌, length, refl, sym, ap, ◌∙◌, arith, codes, append_assoc, append-nil, length-append}
 use Rattle.std.specs.Prelude.{if◌then◌else◌, nat_lt}
 use Rattle.std.specs.List.{list_all}
@@ -41,7 +41,7 @@ name-grows [] more i h = absurd (omega arith)
 name-grows (l ∷ ls) more zero h = refl
 name-grows (l ∷ ls) more (suc i) h = name-grows ls more i (omega arith)
 
--- with more locals behind
+-- with more locals at the end
 abbrev pub wider : Names → List Word → Names
 wider s more = record s { locals = s.locals ++ more }
 

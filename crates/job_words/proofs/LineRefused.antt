@@ -1,4 +1,4 @@
--- What is refused of the words behind `let` and `put`.
+-- What is refused of the words after `let` and `put`.
 use Rattle.std.proofs.Common.{◌≡◌, ℕ, ◌∷◌, Result, Err, ap, sym, ◌∙◌}
 use Rattle.text_lines.specs.declared.refusal.Code.{Code}
 use Rattle.superstep_memory.specs.declared.arrays.PutKind.{PutKind}

@@ -78,7 +78,7 @@ below-true i n h = grind (arith, common_steps)
 pub same-word : (a b : Word) → bytes_eq a b ≡ true → a ≡ b
 same-word a b e = (bytes_eq-Decides a b).0 e
 
--- a name stands at a place behind the first ones
+-- a name is at a place after the first ones
 abbrev pub StandsAt : ℕ → List Word → Word → ℕ → Type 0
 StandsAt k names w i = (p : ℕ) × (i ≡ k + p) × (p < length names) × (name_at names p ≡ w)
 

@@ -89,7 +89,7 @@ among-not (m ∷ ns) n zero e h = turned (bytes_eq n m) refl
     turned false g = refl
 among-not (m ∷ ns) n (suc i) e h = among-not ns n i (or-right (bytes_eq m n) (is_among ns n) e) (omega arith)
 
--- a name of its own is found where it stands
+-- a name that differs from the others is found at its place
 pub place-name : (k : ℕ) (ns : List Word) (i : ℕ) → are_names ns ≡ true → i < length ns → place_from k ns (name_at ns i) ≡ Some (k + i)
 place-name k [] i e h = absurd (omega arith)
 place-name k (n ∷ ns) zero e h =

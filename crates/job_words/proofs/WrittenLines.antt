@@ -36,7 +36,7 @@ ActionIs s (action.Spawn b e) = (b < length s.bodies) × ExprIs s e
 ActionIs s action.Sync = Unit {0}
 ActionIs s action.Stop = Unit {0}
 
--- what a line names is there, its numbers are of 64 bits, and an `else` may stand where it stands
+-- what a line names exists, its numbers are of 64 bits, and an `else` is allowed at its place
 abbrev pub LineIs : Names → Bool → Line → Type 0
 LineIs s fits (line.Do a) = ActionIs s a
 LineIs s fits (line.If e n) = ExprIs s e
@@ -45,7 +45,7 @@ LineIs s fits line.EndIf = Unit {0}
 LineIs s fits (line.While e n) = ExprIs s e
 LineIs s fits (line.EndWhile e n) = Unit {0}
 
--- a line as it is read, where jumps aren't known and ends look alike
+-- a line as it is read, while jumps aren't known and ends look alike
 abbrev pub as_read : Line → Line
 as_read (line.Do a) = line.Do a
 as_read (line.If e n) = line.If e 0

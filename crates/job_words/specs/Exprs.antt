@@ -31,12 +31,12 @@ pub record Names : Type 0 where
   pub bodies : List Word
   pub locals : List Word
 
--- nothing, where a word ends
+-- nothing, if a word ends
 abbrev pub at_end : Word → Option Word
 at_end [] = Some []
 at_end (c ∷ cs) = None
 
--- what stands in front of a bracket that closes a word, where there is no other bracket
+-- what is in front of a bracket that closes a word, if there is no other bracket
 abbrev pub index_part : Word → Option Word
 index_part [] = None
 index_part (c ∷ cs) =
@@ -44,7 +44,7 @@ index_part (c ∷ cs) =
     else if c == 93 then at_end cs
     else option_map (λ i. c ∷ i) (index_part cs)
 
--- the name and the index of a cell, where a word has one opening bracket, one closing one, and ends in the latter
+-- the name and the index of a cell, if a word has one opening bracket, one closing one, and ends in the latter
 abbrev pub cell_parts : Word → Option (Word × Word)
 cell_parts [] = None
 cell_parts (c ∷ cs) =

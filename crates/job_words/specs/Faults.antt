@@ -39,7 +39,7 @@ rank Unclosed = 13
 abbrev pub earlier : Code → Code → Code
 earlier a b = if nat_le (rank a) (rank b) then a else b
 
--- two parts of a line, wherever they stand: both, or of their faults the one that counts
+-- two parts of a line, wherever they are: both, or of their faults the one that counts
 abbrev pub both : {A B : Type 0} → Result A Code → Result B Code → Result (A × B) Code
 both (Ok a) (Ok b) = Ok (a, b)
 both (Ok a) (Err d) = Err d

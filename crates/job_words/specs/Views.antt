@@ -1,4 +1,4 @@
--- Words as they are lent.
+-- Words as they are borrowed.
 use Rattle.std.specs.Prelude.{ℕ, List, map}
 use Rattle.std.specs.Borrow.{Bor}
 use Rattle.job_words.specs.declared.exprs.Scope.{Scope}

@@ -29,7 +29,7 @@ or_bad_number (Some n) = Ok n
 abbrev pub numbered : Word → Result ℤ Code
 numbered w = or_bad_number (number_of w)
 
--- the place where a name stands first, where the first one has this place
+-- the place at which a name is first, if the first one has this place
 abbrev pub place_from : ℕ → List Word → Word → Option ℕ
 place_from k [] w = None
 place_from k (n ∷ ns) w = if bytes_eq n w then Some k else place_from (k + 1) ns w
@@ -65,7 +65,7 @@ index_of locals w =
 unfoldable pub in_index : Word → List Word
 in_index w = if begins_number w || bytes_eq w (codes "arg") || bytes_eq w (codes "step") then [] else w ∷ []
 
--- locals behind mentions, each new one at the end
+-- locals after mentions, each new one at the end
 abbrev pub noted : List Word → List Word → List Word
 noted locals [] = locals
 noted locals (w ∷ ws) = noted (if is_among locals w then locals else locals ++ w ∷ []) ws

@@ -5,9 +5,9 @@
 //!
 //! * [`read_job`] reads a [`Job`] from its text, and [`write_job`] writes it.
 //! * [`run_alone`] runs a job on the caller's thread. [`run_watched`] also calls a [`Watch`] as each superstep begins.
-//! * [`run_within`] runs it on 1 to 64 worker threads, which meet at a tree of phasers after each superstep. The [`Report`] is
-//!   the same whatever the number of workers and the shape of the tree. [`run_job`] is the call below it, for an advance rule
-//!   of your own.
+//! * [`run_within`] runs it on 1 to 64 worker threads, which meet at a tree of phasers after each superstep. The
+//!   [`Report`] is the same whatever the number of workers and the shape of the tree. [`run_job`] is the call below it,
+//!   and takes your advance rule.
 //! * [`Round`] runs a job superstep by superstep, by deliveries in any order.
 //!
 //! Four workers run four tasks, which shift the cells of an array three times round:

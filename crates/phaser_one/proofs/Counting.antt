@@ -18,7 +18,7 @@ use Rattle.phaser_one.specs.Seen.{members_in, flat_of}
 abbrev pub of_one : ℕ → ℕ → ℕ
 of_one u n = cond {A = ℕ} (eqb 0 u) n 0
 
--- so many members, of whom so many have arrived, all of owner 0
+-- a number of members, some of whom have arrived, all of owner 0
 pub record Counts (phase members arrived : ℕ) (ms : List Member) : Type 0 where
   pub own : (u : ℕ) → members_of u ms ≡ of_one u members
   pub come : (u : ℕ) → arrived_of phase u ms ≡ of_one u arrived
@@ -128,7 +128,7 @@ everyone_is phase m a left ms c h = ⊎_elim
     (λ (e : nat_eq left 0 ≡ false). let some : left ≢ 0 = λ z. (let yes' : nat_eq left 0 ≡ true = eq-eqb left 0 z in cc) in not_all phase m a ms c (omega arith) ∙ sym e)
     (either (nat_eq left 0))
 
--- the members that a word stands for
+-- the members that a word represents
 pub counts_in : (phase a n : ℕ) → Counts phase (a + n) a (members_in phase a n)
 counts_in phase a n = record {
   own = λ u.

@@ -202,7 +202,7 @@ advances_here plan call f q e = ⊎_elim
     (λ (open' : f.ended ≡ false). advanced plan call f (called call f) refl e (called_ended call f q e ∙ open') (called_phase call f) (called_sound call f q e))
     (either f.ended)
 
--- the advance, told from the words before and after a call
+-- the advance, as the words before and after a call show it
 pub advance_told : (plan : CountPlan) (call : Call) (f : Flat) (w v : Fields) → v.unarrived ≤ v.parties → IsAlike f (flat_of w) → IsAlike (after plan call f) (flat_of v)
     → cond {A = Option Advance} (nat_eq w.phase v.phase) None (Some (record { phase = w.phase; parties = v.parties })) ≡ advance_of call f
 advance_told plan call f w v h a b = ⊎_elim

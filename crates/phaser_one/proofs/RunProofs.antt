@@ -8,7 +8,7 @@ use Rattle.phaser_one.specs.Calls.{Call, Reply, after}
 use Rattle.phaser_one.specs.Seen.{flat_of, Follows}
 use Rattle.phaser_one.specs.Runs.{answers, after_all}
 
--- the flat phaser as it is now, and what is still to come of the run from f
+-- the flat phaser as it is now, and the rest of the run from f
 pub record RunsOn (plan : CountPlan) (calls rest : List Call) (replies : List Reply) (f : Flat) (w : Fields) : Type 0 where
   pub current : Flat
   pub seen : IsAlike current (flat_of w)

@@ -1,4 +1,4 @@
--- What a word tells of the phaser that it stands for, and what calls leave alone.
+-- What a word says of the phaser that it represents, and what calls leave alone.
 use Rattle.std.proofs.Common.{◌≡◌, ◌+◌, ℕ, ℤ, Bool, true, false, cond, nat_eq, nat_lt, refl, sym, ◌∙◌, ap, pos, negsuc}
 use Rattle.phaser_word.specs.Fields.{Fields}
 use Rattle.advance_rule.specs.declared.CountPlan.{CountPlan}
@@ -29,7 +29,7 @@ alike_words u v h k a =
     let absent : u.unarrived ≡ v.unarrived = sym (unarrived_is (flat_of u) u h own) ∙ unarrived_is (flat_of u) v k a in
     one_word u v a.phase parties absent a.ended
 
--- where no advance is due after a call, the plan isn't asked
+-- if no advance is due after a call, the plan isn't asked
 undue : (p q : CountPlan) (g : Flat) → g.due ≡ false → settled p g ≡ settled q g
 undue p q g e = rw e refl
 

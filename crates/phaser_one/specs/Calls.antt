@@ -1,4 +1,5 @@
--- The calls of a single phaser, on a flat phaser in which every member has one owner and an advance follows at once where it is due (Java SE 21, `Phaser`; the end before the limit, and the answers of `await`, are own).
+-- The calls of a single phaser, on a flat phaser in which every member has one owner and an advance follows as soon as
+-- it is due (Java SE 21, `Phaser`; the end before the limit, and the answers of `await`, are own).
 pub use Rattle.phaser_one.specs.declared.call.Call.{Call}
 pub use Rattle.phaser_one.specs.declared.call.Call.TheVariants.{Register, Bulk, Arrive, Leave, Await, Force}
 pub use Rattle.phaser_one.specs.declared.call.Reply.{Reply}
@@ -14,7 +15,8 @@ use Rattle.flat_phaser.specs.Step.{flat_step}
 use Rattle.flat_phaser.specs.declared.FlatStep.TheVariants as flat
 use Rattle.phaser_word.specs.Phase.{shown_of}
 
--- what a call that may register answers: the phase shown once it has ended, a refusal where there is no room, else the phase
+-- what a call that may register answers: the phase shown once it has ended, a refusal if there is no room, else the
+-- phase
 abbrev pub room_for : ℕ → Flat → Reply
 room_for count f =
     if f.ended then Number (shown f)
@@ -45,7 +47,7 @@ answer Leave f = someone_in f
 answer (Await phase) f = passed phase f
 answer Force f = Number (shown_of f.phase true)
 
--- the flat step that a call takes where it isn't refused; every member is of owner 0
+-- the flat step that a call takes if it isn't refused; every member is of owner 0
 abbrev pub step_of : Call → Option FlatStep
 step_of Register = Some (flat.Join 0 1)
 step_of (Bulk (pos count)) = Some (flat.Join 0 count)
@@ -75,6 +77,6 @@ settled plan f = if f.due then flat_step (flat.Advance (count_ends plan f.phase 
 abbrev pub after : CountPlan → Call → Flat → Flat
 after plan call f = settled plan (called call f)
 
--- so many members in this phase
+-- this many members in this phase
 abbrev pub opened : ℕ → ℕ → Flat
 opened parties phase = flat_step (flat.Join 0 parties) (empty_in phase)

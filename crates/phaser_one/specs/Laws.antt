@@ -35,13 +35,13 @@ EndedStays = (plan : CountPlan) (call : Call) (f : Flat) → f.ended ≡ true �
 abbrev pub NotAllArrived : Type 0
 NotAllArrived = (plan : CountPlan) (call : Call) (f : Flat) → f.due ≡ false → 2 ≤ unarrived f → Stays plan call f
 
--- the counts of the flat phaser that a word stands for are the word's
+-- the counts of the flat phaser that a word represents are the word's
 pub record IsCounted (w : Fields) : Type 0 where
   pub parties : registered (flat_of w) ≡ w.parties
   pub absent : unarrived (flat_of w) ≡ w.unarrived
   pub alike : IsAlike (flat_of w) (flat_of w)
 
--- Every word with no more unarrived than parties stands for a flat phaser.
+-- Every word with no more unarrived than parties represents a flat phaser.
 abbrev pub WordsAreSeen : Type 0
 WordsAreSeen = (w : Fields) → w.unarrived ≤ w.parties → IsCounted w
 
@@ -66,7 +66,8 @@ pub record BulkTells (plan : CountPlan) (f : Flat) : Type 0 where
 abbrev pub RegistrationsAreTold : Type 0
 RegistrationsAreTold = (plan : CountPlan) (f : Flat) → BulkTells plan f
 
--- Arriving and leaving answer the phase where somebody hasn't arrived, and are refused where nobody is left; after the end they answer it.
+-- Arriving and leaving answer the phase if somebody hasn't arrived, and are refused if nobody is left; after the end
+-- they answer it.
 pub record ArriveTells (call : Call) (f : Flat) : Type 0 where
   pub ended : f.ended ≡ true → answer call f ≡ Number (shown_of f.phase true)
   pub nobody : f.ended ≡ false → unarrived f ≡ 0 → answer call f ≡ Refused NobodyUnarrived
@@ -75,7 +76,7 @@ pub record ArriveTells (call : Call) (f : Flat) : Type 0 where
 abbrev pub ArrivalsAreTold : Type 0
 ArrivalsAreTold = (f : Flat) → ArriveTells Arrive f × ArriveTells Leave f
 
--- Two words that stand for alike phasers are one.
+-- Two words that represent alike phasers are one.
 abbrev pub AlikeWordsAreOne : Type 0
 AlikeWordsAreOne = (u v : Fields) → u.unarrived ≤ u.parties → v.unarrived ≤ v.parties → IsAlike (flat_of u) (flat_of v) → u ≡ v
 
@@ -95,6 +96,6 @@ is_number (Number phase) = true
 is_number Waiting = false
 is_number (Refused fault) = false
 
--- A call that is refused or told to wait leaves the phaser as it is.
+-- A call that is refused or has to wait leaves the phaser as it is.
 abbrev pub RefusalsLeaveAll : Type 0
 RefusalsLeaveAll = (plan : CountPlan) (call : Call) (f : Flat) → f.due ≡ false → is_number (answer call f) ≡ false → after plan call f ≡ f

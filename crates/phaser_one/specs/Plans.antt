@@ -18,7 +18,8 @@ pub record CountPlansAreTold : Type 0 where
   pub at : (count_ends (count_plan 0 (Some 5)) 4 3 ≡ false) × (count_ends (count_plan 0 (Some 5)) 5 3 ≡ true) × (count_ends (count_plan 0 (Some 5)) 6 3 ≡ false)
   pub goes_on : count_ends (count_plan 0 None) 2147483647 0 ≡ false
 
--- A tree ends exactly where nobody is registered and the plan says that it ends then, or in the one phase that the plan names.
+-- A tree ends exactly if nobody is registered and the plan says that it ends then, or in the one phase that the plan
+-- names.
 pub record EndPlansAreTold : Type 0 where
   pub ends : (plan : EndPlan) (phase : ℕ) (empty : Bool) → (end_ends plan phase empty ≡ true) ↔ (((empty ≡ true) × (plan.when_empty ≡ true)) ⊎ (plan.at ≡ Some phase))
   pub counted : (plan : EndPlan) (phase count : ℕ) → (end_ends_at plan phase count ≡ true) ↔ (((count ≡ 0) × (plan.when_empty ≡ true)) ⊎ (plan.at ≡ Some phase))

@@ -1,4 +1,4 @@
--- The flat phaser that a word stands for.
+-- The flat phaser that a word represents.
 use Rattle.std.specs.Prelude.{◌≡◌, ℕ, ◌-◌, ◌==◌, if◌then◌else◌, false, None, Some, List, ◌++◌, replicate, ℤ, Result, Ok, Err}
 use Rattle.phaser_word.specs.Fields.{Fields}
 use Rattle.phaser_word.specs.Phase.{next_phase_of}
@@ -39,7 +39,7 @@ abbrev pub reply_of_awaited : Awaited → Reply
 reply_of_awaited (Now phase) = Number phase
 reply_of_awaited Waiting = calls.Waiting
 
--- a word with these numbers, or the next phase of it where nobody is unarrived
+-- a word with these numbers, or the next phase of it if nobody is unarrived
 pub record IsSettled (plan : CountPlan) (before members left : ℕ) (w : Fields) : Type 0 where
   pub parties : w.parties ≡ members
   pub phase : w.phase ≡ (if left == 0 then next_phase_of before else before)

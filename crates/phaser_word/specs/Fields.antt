@@ -7,7 +7,7 @@ pub record Fields : Type 0 where
   pub unarrived : ℕ
   pub ended : Bool
 
--- How many may be unarrived: the parties, or 2 where there are none (1 marks an empty tier, 2 one that is being opened).
+-- How many may be unarrived: the parties, or 2 if there are none (1 marks an empty tier, 2 one that is being opened).
 abbrev pub most_unarrived : ℕ → ℕ
 most_unarrived parties = if parties == 0 then 2 else parties
 

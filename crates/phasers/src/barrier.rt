@@ -32,9 +32,9 @@ impl Action for NoAction {
 
 /// A cyclic barrier at which threads wait, with an action or none (Java SE 21, `CyclicBarrier`).
 ///
-/// Callers are known by numbers, and each thread has one of its own. However many generations there are, the barrier keeps
-/// at most one entry for each call of `await_turn` that hasn't returned. No contract can say what the barrier was when a call
-/// took its lock. So the clauses say that some list of calls leaves a barrier that answers so.
+/// Callers are known by numbers. Give each thread a different one. However many generations there are, the barrier
+/// keeps at most one entry for each call of `await_turn` that hasn't returned. No contract can say what the barrier was
+/// when a call took its lock. So the clauses say that some list of calls leaves a barrier that answers so.
 ///
 /// ```
 /// let barrier = Barrier::new(rt.alloc(), 1, NoAction).expect(&rt, "one party");
@@ -57,7 +57,7 @@ impl<A: Action> Model for Barrier<A> {
 }
 
 impl<A: Action> Barrier<A> {
-    /// Creates a barrier where `parties` threads meet, which runs `action` at the end of each generation. Fails with
+    /// Creates a barrier at which `parties` threads meet. It runs `action` at the end of each generation. Fails with
     /// `NoParty` if `parties` is below 1, and with `TooMany` if it is above 65535.
     pub fn new(alloc: Global, parties: i64, action: A) -> Result<Self, BarrierFault>
     where

@@ -67,8 +67,8 @@
 //!
 //! # A barrier
 //!
-//! * [`Barrier`](barrier::Barrier): `await_turn` waits until all parties have arrived. Each thread calls it with a number of
-//!   its own. `break_off`, `abandon` and `reset` break the barrier or start it again.
+//! * [`Barrier`](barrier::Barrier): `await_turn` waits until all parties have arrived. Each thread calls it with a
+//!   different number. `break_off`, `abandon` and `reset` break the barrier or start it again.
 //! * [`Action`](barrier::Action): what the last caller of a generation runs, before any caller passes.
 //!   [`NoAction`](barrier::NoAction) does nothing.
 //!
@@ -135,8 +135,9 @@
 //!
 //! # What deadlocks
 //!
-//! * A member that a thread brings while its own member has not arrived belongs at its own tier: use `bring`. A `join` or
-//!   `register` at another tier waits for the next phase if all parties there have arrived, and they wait for the caller.
+//! * If a thread brings another member while its member has not arrived, both must be at one tier: use `bring`. A
+//!   `join` or `register` at another tier waits for the next phase if all parties there have arrived, and they wait for
+//!   the caller.
 //! * A thread that gives up without a word. A party that is dropped stays registered, and the others wait for it: call
 //!   `leave` first, or `force` the tree to end. At a barrier, call `break_off`.
 //! * A hook that calls its tree, or an action that calls its barrier.

@@ -138,7 +138,7 @@ impl<A: OnAdvance> SharedTree<A> {
         self.tiers.pass_on(errand, &rule, tries)
     }
 
-    /// Lets a member of `crew` arrive. The crew stays where it is.
+    /// Lets a member of `crew` arrive. The crew isn't moved.
     pub(crate) fn arrive_in_place<R: Wait>(&self, rt: &R, crew: &mut Crew) -> ArrivedInPlace
         requires own { crew.old.tree ≡ self.now }
         ensures answer { ArrivesInPlace crew.old crew.new result }

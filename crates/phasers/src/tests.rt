@@ -33,7 +33,7 @@ fn threads_meet_in_a_scope(rt: HostRuntime) {
     assert!(rt; matches!(guest.join(&rt, 0), Joined::Ended(_, _)));
 }
 
-// A token's calls on a tree of its own.
+// A token's calls on a separate tree.
 fn calls<R: Wait + Abort>(rt: &R, tree: &mut PhaserTree) {
     assert!(rt; tree.shape().count() == 3);
     let mut guest = tree.guest();

@@ -41,8 +41,8 @@ use tier_table::waiting::{
 
 /// A tree of phasers that ends as its plan says (Java SE 21, tiered `Phaser`s).
 ///
-/// Any threads share it, each by tokens of its own: a [`Guest`] has no members, a [`Party`] has some, all at one tier.
-/// A token refers to its tree, so the tree outlives its tokens.
+/// Any threads share it, and each has its tokens: a [`Guest`] has no members, a [`Party`] has some, all at one tier. A
+/// token refers to its tree, so the tree outlives its tokens.
 ///
 /// ```
 /// let plan = EndPlan::at_phase(2);
@@ -408,9 +408,9 @@ impl<'a, A: OnAdvance> Party<'a, A> {
         self.await_advance(rt)
     }
 
-    /// Registers `members` new members at this party's tier, as a party of their own, with at most `tries` tries. A
-    /// member of this party has not arrived, so the phase can't end meanwhile, and the call doesn't wait for an advance.
-    /// If all members have arrived, does nothing and returns `AllArrived`.
+    /// Registers `members` new members at this party's tier, as a separate party, with at most `tries` tries. A member
+    /// of this party has not arrived, so the phase can't end meanwhile, and the call doesn't wait for an advance. If
+    /// all members have arrived, does nothing and returns `AllArrived`.
     pub fn bring<R: Wait>(&mut self, rt: &R, members: u32, tries: u32) -> Brought<'a, A>
         requires members { (0 < members) × (members ≤ 65535) }
         ensures answer { Brings self.old self.new members tries result }

@@ -1,4 +1,4 @@
--- Live tasks have paths of their own, and what they will spawn has too.
+-- Live tasks have distinct paths, and what they will spawn has too.
 use Rattle.std.proofs.Common.{◌≡◌, ℕ, zero, suc, ◌+◌, ◌≤◌, ◌<◌, Bool, true, false, nat_lt, List, [], ◌∷◌, ◌++◌, map, length, Option, Some, None, refl, sym, ap, ◌∙◌, arith, append_assoc}
 use Rattle.std.specs.Prelude.{ℤ, if◌then◌else◌, ◌&&◌, cond, ◌==◌}
 use Rattle.std.specs.Ordering.{ordering_then}
@@ -44,7 +44,7 @@ ending (x ∷ xs) = by (ending xs)
     by (Nothing e) = Last [] x (ap (λ ys. x ∷ ys) e)
     by (Last s n e) = Last (x ∷ s) n (ap (λ ys. x ∷ ys) e)
 
--- where a list with one more begins another
+-- if a list with one more begins another
 data Beginning (u t : List ℕ) (j k : ℕ) (r : List ℕ) : Type 0 where
   Whole : r ≡ [] → u ≡ t → j ≡ k → Beginning u t j k r
   Part : (s : List ℕ) → u ≡ t ++ k ∷ s → Beginning u t j k r

@@ -55,7 +55,7 @@ module _ {S T : Type 0} (p : Reads S T) (law : (t : S) → p.says.path (p.meant 
   pub none_faults : (us : List S) (ds : List (DeedValue S)) (ss : List (List ℕ × Segment T)) → AllDone p us ds ss → first_fault ss ≡ None
   none_faults us ds ss h = ap first_fault (sym (append-nil ss)) ∙ no_fault p us ds ss [] h
 
-  -- the next live tasks as they stand in memory
+  -- the next live tasks as they are in memory
   pub next_told : (us : List S) (ds : List (DeedValue S)) (ss : List (List ℕ × Segment T)) → AllDone p us ds ss
       → map p.meant (in_path_order p.path (living_with us ds)) ≡ next_live p.says ss
   next_told us ds ss h =
@@ -102,7 +102,7 @@ module _ {S T : Type 0} (p : Reads S T) (law : (t : S) → p.says.path (p.meant 
       λ i. closed p.says st (deeds_at st)
       (or_next (none_faults us ds (deeds_at st) h i) (or_next (many_told st us ds h lt i) (overflow st.arrays (deeds_at st))))
 
-  -- what the log tells is what the segments tell
+  -- what the log says is what the segments say
   pub over_told : (st : State T) (puts : List Put) → puts ≡ joined (map log_of (deeds_at st)) → (o : Option ℕ) → o ≡ over_in st.arrays [] 0 puts
       → overflow st.arrays (deeds_at st) ≡ option_map fault_eight (at_log (map log_of (deeds_at st)) o)
   over_told st puts log o e =
@@ -278,7 +278,7 @@ module _ {S T : Type 0} (p : Reads S T) (law : (t : S) → p.says.path (p.meant 
         few = let c = ap length ek ∙ count_in_order p.path (living_with us ds) in omega (arith, c, le);
       }
 
-  -- where no fault was told all tasks did their segments
+  -- if no fault was reported all tasks did their segments
   pub did : (old : Course S) (o : Option (ℕ × List ℕ)) (puts : List Put) (us : List S) (ds : List (DeedValue S)) (after : List PrintValue)
       → Told p (deeds_of p old.arrays old.step old.tasks.items) old.step o puts us ds old.prints.items after → o ≡ None
       → IsAllDone p (deeds_in old) old.step puts us ds old.prints.items after
@@ -286,7 +286,7 @@ module _ {S T : Type 0} (p : Reads S T) (law : (t : S) → p.says.path (p.meant 
       subst (λ x. Told p (deeds_in old) old.step x puts us ds old.prints.items after) e
       (subst (λ ss. Told p ss old.step o puts us ds old.prints.items after) (deeds_told old.arrays old.step old.tasks.items) h)
 
-  -- where one was told it is the first, and what was printed before stays in front
+  -- if one was reported it is the first, and what was printed before stays in front
   pub faulted : (old : Course S) (o : Option (ℕ × List ℕ)) (f : ℕ × List ℕ) (puts : List Put) (us : List S) (ds : List (DeedValue S)) (after : List PrintValue)
       → Told p (deeds_of p old.arrays old.step old.tasks.items) old.step o puts us ds old.prints.items after → o ≡ Some f
       → (first_fault (deeds_in old) ≡ Some f) × ((more : List PrintValue) × (after ≡ old.prints.items ++ more))
@@ -307,7 +307,7 @@ module _ {S T : Type 0} (p : Reads S T) (law : (t : S) → p.says.path (p.meant 
 
   -- ---- supersteps one after another
 
-  -- the job ends in the state in which this is told
+  -- the job ends in the state in which this is reported
   ended_at : (arrays : List (List ℕ × List ℤ)) (tasks : List T) (limit n : ℕ) (st : State T) (s : Status) → st ≡ so_far p.says arrays tasks limit n → status limit st ≡ Some s → report_of p.says arrays tasks limit ≡ told st (Some s)
   ended_at arrays tasks limit n st s e h =
       let last : so_far p.says arrays tasks limit n ≡ so_far p.says arrays tasks limit limit = ended_is_last p.says arrays tasks limit n s (ap (status limit) (sym e) ∙ h) in

@@ -25,7 +25,7 @@ module _ {T : Type 0} (f : Frame T) (may : T → List (List ℕ × List ℤ) →
       by Stopped h go = go h
       by (Faulted c) h go = h
 
-  -- segments of tasks, where what these mean leaves what the entries say
+  -- segments of tasks, if what these mean leaves what the entries say
   entered : (s : Says T) (same : (t : T) → s.path t ≡ f.path t) (arrays : List (List ℕ × List ℤ)) (step : ℕ) (es : List (Entry T)) (back : List T) → Agrees s arrays step es
       → segments s arrays step (map (λ e. e.task) es ++ back) ≡ segments_in f es ++ segments s arrays step back
   entered s same arrays step [] back h = refl
@@ -78,7 +78,7 @@ module _ {T : Type 0} (f : Frame T) (may : T → List (List ℕ × List ℤ) →
     formed : (n : ℕ) → AllFormed f (get_or h.history n [])
     formed = formed_by f most may arrays tasks limit h.history h.entered
 
-    -- after so many supersteps of the history both are the same
+    -- after this many supersteps of the history both are the same
     pub so_far_same : (m : ℕ) → m ≤ length h.history → so_far (says_by f most h.history) arrays tasks limit m ≡ so_far (says_of f most does) arrays tasks limit m
     so_far_same zero le = refl
     so_far_same (suc m) le =

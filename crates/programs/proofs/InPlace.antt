@@ -60,7 +60,7 @@ module _ {S : Type 0} where
   get_at [] rest t d = refl
   get_at (x ∷ us) rest t d = get_at us rest t d
 
-  -- where a task stands that is still to be done
+  -- the place of a task that is still to be done
   pub record IsNext (rest : List S) (t : S) : Type 0 where
     pub behind : List S
     pub is : rest ≡ t ∷ behind
@@ -146,7 +146,7 @@ module _ {S T : Type 0} where
           longer [] ys y = omega arith
           longer (x ∷ xs) ys y = let l = longer xs ys y in omega (arith, l)
 
-  -- the task whose put stands at a place of the log is the one that made it
+  -- the task whose put is at a place of the log is the one that made it
   pub maker_told : (ps : Reads S T) (us : List S) (ds : List (DeedValue S)) (ss : List (List ℕ × Segment T)) → AllDone ps us ds ss → (k : ℕ)
       → option_map fault_eight (located (map log_of ss) k) ≡ option_map told_at (maker ps.path us ds k)
   maker_told ps [] [] [] h k = refl
@@ -318,7 +318,7 @@ module _ {S T : Type 0} where
   paths_kept p arrays step (t ∷ olds) (u ∷ us) (d ∷ ds) h = λ i. h.0 i ∷ paths_kept p arrays step olds us ds h.2 i
 
 module _ {S : Type 0} where
-  -- where nobody stopped and nobody was spawned the same tasks live on
+  -- if nobody stopped and nobody was spawned the same tasks live on
   pub all_stay : (us : List S) (ds : List (DeedValue S)) → length us ≡ length ds → left_in ds ≡ 0 → spawned_in ds ≡ 0 → living_with us ds ≡ us
   all_stay [] [] l a b = refl
   all_stay [] (d ∷ ds) l a b = absurd (omega arith)

@@ -1,4 +1,4 @@
--- Deeds whose tasks stand in one list.
+-- Deeds whose tasks are in one list.
 use Rattle.std.proofs.Common.{◌≡◌, ℕ, zero, suc, ◌+◌, ◌-◌, ◌≤◌, List, [], ◌∷◌, ◌++◌, length, Option, Some, None, refl, sym, ap, ◌∙◌, arith}
 use Rattle.std.specs.Prelude.{Bool, true, false, nat_lt, if◌then◌else◌, take}
 use Rattle.programs.specs.DeedValue.{DeedValue}
@@ -56,7 +56,7 @@ few_stopped (d ∷ ds) = let l = few_stopped ds in let k = one d.synced in omega
     one false = omega arith
 
 module _ {S : Type 0} where
-  -- one deed more, with its tasks behind the others'
+  -- one deed more, with its tasks after the others'
   pub deeds_more : (ds : List Deed) (d : Deed) (front back : List S) → spawned_by ds ≡ length front → d.spawned ≡ length back
       → deeds_with (ds ++ d ∷ []) (front ++ back) ≡ deeds_with ds front ++ record { synced = d.synced; puts = d.puts; spawns = back } ∷ []
   deeds_more [] d [] back e f = ap (λ (ts : List S). record { synced = d.synced; puts = d.puts; spawns = ts } ∷ []) (take_whole d.spawned back f)
@@ -74,7 +74,7 @@ spawned_more [] d = omega arith
 spawned_more (x ∷ ds) d = let l = spawned_more ds d in omega (arith, l)
 
 module _ {S : Type 0} where
-  -- other deeds behind these, with their tasks
+  -- other deeds after these, with their tasks
   pub deeds_append : (ds es : List Deed) (ts us : List S) → spawned_by ds ≡ length ts → deeds_with (ds ++ es) (ts ++ us) ≡ deeds_with ds ts ++ deeds_with es us
   deeds_append [] es [] us h = refl
   deeds_append [] es (t ∷ ts) us h = absurd (omega arith)

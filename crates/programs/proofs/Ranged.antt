@@ -33,7 +33,7 @@ module _ {T : Type 0} where
       map_more g (y ∷ xs) x = ap (λ zs. g y ∷ zs) (map_more g xs x)
 
 module _ {T : Type 0} where
-  -- where the first of some didn't fault
+  -- if the first of some didn't fault
   pub first_none : (ss more : List (List ℕ × Segment T)) → first_fault ss ≡ None → first_fault (ss ++ more) ≡ first_fault more
   first_none [] more h = refl
   first_none (s ∷ ss) more h = by s.1.after h (first_none ss more)

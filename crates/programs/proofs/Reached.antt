@@ -149,7 +149,7 @@ module _ {S T : Type 0} (f : Frame T) (may : T → List (List ℕ × List ℤ) �
     at_end = all (so_far (says_by f most h.history) arrays tasks limit (length h.history)).live ∙ ap (λ (x : State T). x.live) (sym h.state);
   }
 
-  -- it is stopped where tasks live
+  -- it is stopped while tasks live
   abbrev pub reached_stop : (c : Course S) (h : IsReached c) → 0 < length c.tasks.items → c.step ≤ limit
       → HasRun f may most arrays tasks c.step (left_by c (Limit c.step)) (map meant c.tasks.items)
   reached_stop c h some le =
@@ -167,7 +167,7 @@ module _ {S T : Type 0} (f : Frame T) (may : T → List (List ℕ × List ℤ) �
         at_end = ap (λ (x : State T). x.live) (sym state);
       }
 
-  -- it was stopped where tasks live, by who looks on
+  -- it was stopped while tasks live, by the watcher
   pub stopped_by : (stops goes : ℕ → List (List ℕ × List ℤ) → ℕ → Type 0) (c : Course S) (h : IsReached c) → 0 < length c.tasks.items → c.step ≤ limit
       → AllBegan (OfState goes) h.history → stops c.step c.arrays (length c.tasks.items)
       → HasRunTo stops goes f may most arrays tasks limit (left_by c (Limit c.step)) (map meant c.tasks.items)

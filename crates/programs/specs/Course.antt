@@ -19,7 +19,7 @@ module _ {S T : Type 0} where
     fault = None;
   }
 
-  -- where a fault ended the run its tasks mean nothing
+  -- if a fault ended the run its tasks mean nothing
   pub record HasFaulted (p : Reads S T) (f : ℕ × List ℕ) (old new : Course S) : Type 0 where
     pub fault : superstep p.says (course_state p old) ≡ ended_by (course_state p old) f
     pub step : new.step ≡ old.step

@@ -5,7 +5,7 @@ use Rattle.programs.specs.InPlace.{one_left}
 use Rattle.programs.specs.declared.deeds.Deed.{Deed}
 use Rattle.programs.specs.declared.deeds.Deeds.TheInside.{Inside}
 
--- all but the first so many
+-- all after the first n
 abbrev pub behind : {A : Type 0} → ℕ → List A → List A
 behind zero xs = xs
 behind (suc n) [] = []

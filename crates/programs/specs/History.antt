@@ -13,7 +13,7 @@ pub record Entry (T : Type 0) : Type 0 where
   pub left : Segment T
 
 module _ {T : Type 0} where
-  -- where nothing is known: a fault of a number that no fault has
+  -- if nothing is known: a fault of a number that no fault has
   abbrev pub nothing_known : Segment T
   nothing_known = record { puts = []; prints = []; spawns = []; after = Faulted 256 }
 

@@ -28,7 +28,7 @@ pub record Says (T : Type 0) : Type 0 where
   pub most : ℕ
   pub segment : T → List (List ℕ × List ℤ) → ℕ → Segment T
 
--- the paths of so many tasks, if so many had been spawned before
+-- the paths of a number of spawned tasks, if `begun` had been spawned before
 abbrev pub children : List ℕ → ℕ → ℕ → List (List ℕ)
 children path begun zero = []
 children path begun (suc n) = (path ++ begun ∷ []) ∷ children path (suc begun) n

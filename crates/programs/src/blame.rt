@@ -43,7 +43,7 @@ impl Blame {
     }
 }
 
-/// A path of its own, like this one. It takes no memory.
+/// Copies this path. It takes no memory.
 pub fn copy_path(path: &Path) -> Path
     requires { length path.now.items ≤ 8 }
     ensures { result.items ≡ path.now.items }
@@ -54,7 +54,7 @@ pub fn copy_path(path: &Path) -> Path
     }
 }
 
-/// The path of a task, of its own. It takes no memory.
+/// Copies the path of a task. It takes no memory.
 pub fn task_path<T: OnPath>(task: &T) -> Path
     ensures path { result.items ≡ T.path_of task.now }
     ensures short { length result.items ≤ 8 }

@@ -45,7 +45,7 @@ impl<T> Model for Deeds<T> {
     ghost invariant = { IsInside };
 }
 
-// Puts the last tasks of a list in their places among those that live on, so many of them.
+// Puts the last tasks of `spawns` in their places among those that live on. There are `count` spawned tasks to place.
 fn put_last<T: OnPath>(living: &mut Vec<T>, spawns: &mut Vec<T>, count: usize)
     requires enough { count ≤ length spawns.old.items }
     requires room { vec_len living.old + count ≤ vec_capacity living.old }
@@ -104,7 +104,7 @@ fn collect<T: OnPath>(
     }
 }
 
-// Whether so many together are at most `most`.
+// Whether the sum of `count` and `others` is at most `most`.
 #[inline(always)]
 fn fit(count: usize, others: usize, most: usize) -> bool
     ensures { IsTrue result ↔ (count + others ≤ most) }
@@ -197,7 +197,7 @@ impl<T: OnPath> Deeds<T> {
         None
     }
 
-    /// Whether at most so many tasks live on: those that go on, and those that were spawned.
+    /// Whether at most `most` tasks live on: those that go on, and those that were spawned.
     pub fn are_few(&self, most: u32) -> bool
         ensures { IsTrue result ↔ (length self.now + spawned_in self.now ≤ most + left_in self.now) }
     {
@@ -227,8 +227,8 @@ impl<T: OnPath> Deeds<T> {
         }
     }
 
-    /// The tasks that go on and those that they spawned, in path order, in place of the tasks. There are so many of them.
-    /// `room` is working space. Out of memory, the tasks are as they were.
+    /// Replaces the tasks by those that go on and those that they spawned, in path order: `count` tasks. `room` is
+    /// working space. If memory runs out, the tasks are as they were.
     pub fn regroup(
         &mut self,
         tasks: &mut Vec<T>,

@@ -19,16 +19,16 @@ pub trait OnPath: Drop {
         ensures short { length result.now.items ≤ 8 };
 }
 
-/// A program whose tasks run in supersteps (own). Implement [`task_bodies::TaskBody`] instead, unless tasks number their own
-/// spawned tasks: it needs no ghost item.
+/// A program whose tasks run in supersteps (own). Implement [`task_bodies::TaskBody`] instead, unless tasks number the
+/// tasks that they spawn: it needs no ghost item.
 pub trait Program {
     /// A task between two supersteps.
     type Task: OnPath;
 
-    /// What a task stands for.
+    /// The value of a task in the definitions.
     ghost Meant: { Type 0 };
 
-    /// What a task stands for.
+    /// The value of a task in the definitions.
     ghost meant: { Self → Self.Task → Meant };
 
     /// Where a task is, and how many tasks it has spawned.
@@ -54,6 +54,6 @@ pub trait Program {
         requires none_spawned { work.old.spawns.items ≡ [] }
         ensures { IfOk result (λ e. HasLeft (frame self.now) (may self.now) (meant self.now) Self.Task.path_of arrays.now step e task.old task.new work.old work.new) };
 
-    /// The path of a task is that of what it stands for.
+    /// The path of a task is that of its value.
     ghost keeps_paths: { (p : Self) (t : Self.Task) → (frame p).path (meant p t) ≡ Self.Task.path_of t };
 }

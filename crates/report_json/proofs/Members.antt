@@ -30,7 +30,7 @@ next_member xs i a out new all g e h =
     ∙ ap (λ (ys : List (List ℕ × List ℤ)). out ++ rest_tokens ys) (sym (drop_at xs i a (sym g)))
     ∙ h
 
--- and where there is none
+-- and if there is none
 pub no_member : (xs : List (List ℕ × List ℤ)) (i : ℕ) (out new all : List Token) → None ≡ slice_get xs i
     → new ≡ out → out ++ rest_tokens (drop i xs) ≡ all → new ++ rest_tokens (drop (i + 1) xs) ≡ all
 no_member xs i out new all g e h =

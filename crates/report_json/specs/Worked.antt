@@ -5,7 +5,7 @@ use Rattle.phase_records.specs.Status.{Status, Ended, Fault, Limit}
 use Rattle.report_json.specs.Laws.{HasShortNumbers}
 use Rattle.report_json.specs.ReportJson.{json_text}
 
--- Two supersteps, in the second of which two tasks print, and two arrays, one without cells.
+-- Two supersteps, and two arrays, one without cells. Two tasks print in the second superstep.
 abbrev pub two_supersteps : Status → ReportValue
 two_supersteps status = record {
   prints =

@@ -11,7 +11,7 @@ use json::Writer;
 use phase_records::{JobStatus, Report};
 use std::alloc::{AllocError, Global};
 
-// Writes which end a job came to, as the first member of its status.
+// Writes how a job ended, as the first member of its status.
 fn write_end(out: &mut Writer, name: &str) -> Result<(), AllocError>
     ensures tokens { OnOk result (out.new.tokens ≡ out.old.tokens ++ key (codes "end") ∷ string name.now ∷ []) }
     ensures before { out.new.before ≡ out.old.before }

@@ -40,7 +40,7 @@ use Rattle.schedule_laws.proofs.Calling.{one_step}
 use Rattle.schedule_laws.proofs.Turning.{IsNext, next_sits, next_shared, next_free, sum_set_same}
 use Rattle.schedule_laws.proofs.Moving.{children_stay, now_plays, sits_at}
 
--- what all roles count, their tasks' do, where free tokens count nothing
+-- what all roles count, their tasks' do, if free tokens count nothing
 
 of_all_front : (n : ℕ) (m : ℕ → ℕ) → of_all (suc n) m ≡ m 0 + of_all n (λ t. m (suc t))
 of_all_front zero m = let z : 0 + m 0 ≡ m 0 + 0 = omega arith in z

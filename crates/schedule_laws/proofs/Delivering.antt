@@ -208,7 +208,7 @@ module _ (parents : List ℕ) (w : World) (roles : List Role) (place : ℕ) (is 
         },
       )
 
-  -- the participant stays where it is, at its stage
+  -- the participant stays at its stage
   child_stays : (path free : List ℕ) → (place < length (child_from w place path free).participants) × ((participant_at (child_from w place path free).participants place).stage ≡ Polling)
   child_stays path [] = set_stays path (length w.tree.views)
     where

@@ -1,4 +1,4 @@
--- A job has at most 4096 live tasks, each of which spawns at most 8 in a superstep.
+-- A job has at most 4096 live tasks. Each of them spawns at most 8 in a superstep.
 use Rattle.std.proofs.Common.{◌≡◌, ℕ, zero, suc, ◌≤◌, Bool, true, false, List, [], ◌∷◌, length, map, refl, ap, arith, Some, None, Option}
 use Rattle.std.specs.Prelude.{ℤ, if◌then◌else◌, nat_lt}
 use Rattle.std.specs.Str.{bytes_eq}

@@ -41,7 +41,7 @@ use Rattle.schedule_laws.proofs.Keeping.{IsSame}
 use Rattle.schedule_laws.proofs.Calling.{one_step}
 use Rattle.schedule_laws.proofs.Delivering.{leaf_within}
 
--- sixteen steps where fourteen are enough
+-- sixteen steps, while fourteen are enough
 
 gone_run : (n token : ℕ) (t : Tree) → gone n token t ≡ run_of (replicate n (Takes (Go token))) t
 gone_run zero token t = refl

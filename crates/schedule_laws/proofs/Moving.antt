@@ -295,7 +295,7 @@ module _ (parents : List ℕ) (w : World) (roles : List Role) (worker place : �
           ∙ nobody_leads tree (set roles (child_at (participant_at w.participants place).children n).token next) (participant_at w.participants place).token i cast (omega arith) (omega arith)
           (ap is_awaited (own_stays next n turn ∙ own))
 
-  -- its own arrival or departure, until it has to advance the root
+  -- its arrival or departure, until it has to advance the root
   must : (i : ℕ) → i < length w.tree.views → is_leading (role_at roles i) ≡ true → may_finish w.tree i ≡ true
   must i m e =
       ap (λ (b : Bool). b && is_due (call_at w.tree.calls i)) (lt-ltb i (length w.tree.views) m)

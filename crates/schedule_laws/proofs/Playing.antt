@@ -40,7 +40,7 @@ awaited_of s i (Owes home passage) p e = not_both false e refl
 awaited_of s i (Leads home passage) p e = not_both false e refl
 awaited_of s i (Past home passage) p e = not_both false e refl
 
--- a token leads exactly where its call is due
+-- a token leads exactly if its call is due
 pub leads_is_due : (s : State) (i : ℕ) (r : Role) → Plays s i r → is_due (call_at s.calls i) ≡ is_leading r
 leads_is_due s i Out p = ap is_due p.1
 leads_is_due s i (Joins home) p = ap is_due p.1

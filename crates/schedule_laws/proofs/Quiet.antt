@@ -141,7 +141,7 @@ core_after s x core is = (step_moves s x (flat_of s) core is record {
 pub tokens_stay : (s : State) (x : Step) → length (after s x).views ≡ length s.views
 tokens_stay s x = (others_stay s x (suc (actor x)) (λ e. absurd (omega arith))).tokens
 
--- A step that leaves the root keeps the cast, where its token plays the role that it goes on to.
+-- A step that leaves the root keeps the cast, if its token plays the role that it goes on to.
 pub keeps_the_cast : (s : State) (roles : List Role) (x : Step) (next : Role) → IsCast s roles → IsStepOfCalls x → RootStays s (after s x)
     → actor x < length s.views → Plays (after s x) (actor x) next → IsCast (after s x) (set roles (actor x) next)
 keeps_the_cast s roles x next cast is root h p =

@@ -187,7 +187,7 @@ nothing : {X : Type 0} (xs : List X) → length xs ≡ 0 → xs ≡ []
 nothing [] e = refl
 nothing (x ∷ xs) e = absurd (omega arith)
 
--- the world that closing leaves, where the job goes on
+-- the world that closing leaves, if the job goes on
 pub closing_works : (parents : List ℕ) (w : World) (roles : List Role) → IsTurning parents w roles → report_in w.limit (next_job w) ≡ None
     → map participant_path (next_participants w.participants) ≡ live_paths (next_job w)
     → (is_some (status w.limit (next_job w)) ≡ false) × IsWorking parents (renewed (record w { job = next_job w })) (map turned roles)

@@ -7,7 +7,7 @@ use Rattle.std.proofs.lemmas.List.Sums.{sum_by-cons}
 use Rattle.job_schedule.specs.ParticipantValue.{ChildValue, ParticipantValue, no_participant, no_child, participant_at, child_at}
 use Rattle.schedule_laws.specs.Working.{of_participant, of_all, AreShared}
 
--- no task stands behind the last
+-- no task is after the last
 pub no_participant_beyond : (gs : List ParticipantValue) (place : ℕ) → length gs ≤ place → participant_at gs place ≡ no_participant
 no_participant_beyond [] place h = refl
 no_participant_beyond (g ∷ gs) zero h = absurd (omega arith)
@@ -33,7 +33,7 @@ other_one i t n = by (eqb t i) refl
     by true e = absurd (n (eqb-true t i e))
     by false e = refl
 
--- of so many tokens it is at most one, and none behind the last
+-- of this many tokens it is at most one, and none after the last
 behind_all : (n i : ℕ) → n ≤ i → of_all n (one i) ≡ 0
 behind_all zero i h = refl
 behind_all (suc n) i h = let a = behind_all n i (omega arith) in let b = other_one i n (λ e. absurd (omega arith)) in omega arith
@@ -99,7 +99,7 @@ module _ (participants : List ParticipantValue) (free : List ℕ) (n : ℕ) (sha
       let b = part (λ (c : ChildValue). one i c.token) (participant_at participants q).children j no_child l in
       none_of i (child_at (participant_at participants q).children j).token (omega arith)
 
-  -- its own token is none of its spawned tasks', and these differ
+  -- its token is none of its spawned tasks', and these differ
   pub child_not_own : (p j : ℕ) → p < length participants → j < length (participant_at participants p).children → (child_at (participant_at participants p).children j).token ≢ (participant_at participants p).token
   child_not_own p j h l =
       let i : ℕ = (participant_at participants p).token in

@@ -1,4 +1,4 @@
--- A task after an answer of a call of its own token, or of a spawned one's.
+-- A task after an answer of a call of its token, or of a spawned task's token.
 use Rattle.std.proofs.Common.{◌≡◌, ◌≢◌, ℕ, suc, ◌+◌, ◌<◌, ◌≤◌, ◌⊎◌, inl, inr, ⊎_elim, Bool, true, false, List, length, set, refl, sym, ◌∙◌, ap, subst, arith}
 use Rattle.std.specs.Prelude.{if◌then◌else◌, nat_lt}
 use Rattle.std.proofs.lemmas.Bool.{ltb-true, ltb-false, cases_eq}
@@ -46,7 +46,7 @@ kept_sits g a roles tiers s at e is =
     subst (λ (x : ParticipantValue). Sits roles tiers x) (sym (kept_answer g a e))
     (subst (λ (t : Stage). SitsAt t roles tiers g.token g.home g.children g.synced) (sym at) is)
 
--- the roles of its spawned tasks' tokens: so many are there, and the rest not yet
+-- the roles of its spawned tasks' tokens: of these some have joined, and the rest not yet
 abbrev pub AreChildren : (ℕ → Role) → (ℕ → Role) → List Role → List ChildValue → ℕ → Type 0
 AreChildren front back roles children n =
     (k : ℕ) → k < length children → (k < n → role_at roles (child_at children k).token ≡ front (child_at children k).home)
@@ -88,7 +88,7 @@ module _ (roles : List Role) (tiers token home : ℕ) (children : List ChildValu
           let m : length children ≤ n = ltb-false n (length children) e in
           arriving_sits 0 (omega arith) (λ k h. (λ q. absurd (omega arith), λ q. (each k h).0 (omega arith)))
 
--- its own token's step
+-- the step of its token
 module _ (g : ParticipantValue) (roles roles' : List Role) (tiers : ℕ) (next : Role) (a : Played)
     (own : role_at roles' g.token ≡ next)
     (same : (k : ℕ) → k < length g.children → role_at roles' (child_at g.children k).token ≡ role_at roles (child_at g.children k).token) where

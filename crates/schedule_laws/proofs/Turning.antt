@@ -1,4 +1,4 @@
--- What a step of one token leaves of its own task, and of the others.
+-- What a step of one token leaves of its task, and of the others.
 use Rattle.std.proofs.Common.{◌≡◌, ◌≢◌, ℕ, zero, suc, ◌<◌, ◌≤◌, ⊎_elim, Bool, List, [], ◌∷◌, length, set, get_or, refl, sym, ◌∙◌, ap, subst, arith, Option}
 use Rattle.std.specs.Prelude.{sum_by}
 use Rattle.std.specs.List.{AllByRecursion}
@@ -34,7 +34,7 @@ sum_set_same f (x ∷ xs) zero y d e = let a = sum_by-cons f x xs in let b = sum
 sum_set_same f (x ∷ xs) (suc p) y d e =
     let a = sum_by-cons f x xs in let b = sum_by-cons f x (set xs p y) in let c = sum_set_same f xs p y d e in omega arith
 
--- The participant at this place is another, with the same tokens, of which this one alone plays another role.
+-- The participant at this place is another with the same tokens, and only this token plays another role.
 pub record IsNext (w : World) (roles roles' : List Role) (tiers place i : ℕ) (g : ParticipantValue) : Type 0 where
   pub mine : 1 ≤ of_participant (one i) (participant_at w.participants place)
   pub same : (j : ℕ) → j ≢ i → role_at roles' j ≡ role_at roles j

@@ -84,7 +84,7 @@ is_on_its_way (Leads home passage) = false
 is_on_its_way (Past home passage) = false
 is_on_its_way _ = true
 
--- The next step of a token leaves a cast tree, in which only its own role has gone on; the root is in its phase.
+-- The next step of a token leaves a cast tree, in which only the token's role has gone on; the root is in its phase.
 pub record GoesTo (s : State) (roles : List Role) (token : ℕ) (next : Role) : Type 0 where
   pub follows : Follows (flat_of s).phase (role_at roles token) (answer_then s token) next
   pub cast : IsCast (after s (Go token)) (slice_set roles token next)
@@ -95,7 +95,7 @@ StepsKeepTheCast =
     (s : State) (roles : List Role) (token : ℕ) → IsCast s roles → token < length s.views → is_on_its_way (role_at roles token) ≡ true
     → (next : Role) × GoesTo s roles token next
 
--- A poll, an arrival, a departure or a join may begin where the role says so.
+-- A poll, an arrival, a departure or a join may begin if the role says so.
 abbrev pub Begins : ℕ → Role → Call → Role → Type 0
 Begins tiers role c next = ((home : ℕ) × (role ≡ Late home) × (c ≡ call.Poll) × (next ≡ Polls home))
     ⊎ ((home : ℕ) × (passage : Passage) × ((role ≡ Here home) ⊎ (role ≡ Ready home)) × (c ≡ call_by passage) × (next ≡ Looks home passage))

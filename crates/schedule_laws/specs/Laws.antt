@@ -49,7 +49,8 @@ ClosesFollowAdvances =
     → answer_of (reached (initial_world p parents limit) xs) x ≡ Advanced played
     → answer_of (world_after (reached (initial_world p parents limit) xs) x) (Close (worker_of x)) ≢ NotNow
 
--- In every schedule a worker's next step is answered, whatever the others have done: a step answers NotNow only where it isn't its worker's next.
+-- In every schedule a worker's next step is answered, whatever the others have done: a step answers NotNow only if it
+-- isn't its worker's next.
 abbrev pub NextStepsAreAnswered : Type 0
 NextStepsAreAnswered =
     (p : Program) (parents : List ℕ) (limit : ℕ) (xs : List JobStep) (x : JobStep) (move : Move) → IsDriven p parents limit
@@ -60,8 +61,8 @@ NextStepsAreAnswered =
 abbrev pub deeds : World → List (List ℕ × Segment)
 deeds w = segments w.program w.job.arrays w.job.step w.job.live
 
--- The root is in the phase of the superstep; where no task of it faults, its members are the parties of the superstep's record but those
--- that left.
+-- The root is in the phase of the superstep. If no task of it faults, its members are the parties of the superstep's
+-- record except those that left.
 pub record IsCounted (w : World) : Type 0 where
   pub phase : (flat_of w.tree).phase ≡ w.job.step
   pub members : first_fault (deeds w) ≡ None

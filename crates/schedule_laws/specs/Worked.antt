@@ -61,9 +61,10 @@ uneven = record {
   starts = record { body = 0; arg = pos 0 } ∷ record { body = 1; arg = pos 0 } ∷ record { body = 2; arg = pos 0 } ∷ [];
 }
 
--- Three workers on a root with two children, of which the first has a child: leaves 2 and 3. The start tasks are at 2, at 3, and at 2 again. The
--- second arrives at 3, and climbs over 1 to the root. So the spawned task of the first is held at 3, its preferred leaf, and joins at 2. The third
--- task faults, leaves as the last and advances the root; its worker closes the round, and ends the tree by force, which goes on.
+-- Three workers on a root with two children; the first has a child. So the leaves are 2 and 3. The start tasks are at
+-- 2, at 3, and at 2 again. The second arrives at 3, and climbs over 1 to the root. So the spawned task of the first is
+-- held at 3, its preferred leaf, and joins at 2. The third task faults, leaves as the last and advances the root; its
+-- worker closes the round, and ends the tree by force, which goes on.
 abbrev pub three_workers : List JobStep
 three_workers =
     Take 0 ∷ Take 1 ∷ Take 2 ∷ Deliver 0 ∷ Deliver 1 ∷ Deliver 2 ∷ Tree 1 ∷ Tree 1 ∷ Tree 1 ∷ Tree 1 ∷ Tree 1 ∷ Tree 1

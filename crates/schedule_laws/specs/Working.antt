@@ -23,7 +23,7 @@ passage_if false = Departure
 abbrev pub IsOwnPassing : ℕ → Passage → Role → Type 0
 IsOwnPassing home passage own = (own ≡ Here home) ⊎ (own ≡ Looks home passage) ⊎ (own ≡ Passes home passage) ⊎ (own ≡ Owes home passage) ⊎ (own ≡ Leads home passage)
 
--- the role of a task's own token, by how far the task has come
+-- the role of a task's token, by how far the task has come
 abbrev pub OwnFits : Stage → ℕ → Bool → Role → Type 0
 OwnFits Waits home synced own = own ≡ Late home
 OwnFits Taken home synced own = own ≡ Late home
@@ -33,8 +33,8 @@ OwnFits (Arriving arrived) home synced own = own ≡ Here home
 OwnFits Leaving home synced own = IsOwnPassing home (passage_if synced) own
 OwnFits Over home synced own = own ≡ Past home (passage_if synced)
 
--- A token that is to join at this tier, or is on its way. At the tier of its own spawner it joins at once: only elsewhere it may have claimed
--- tiers on its way, settle them, or give them back.
+-- A token that is to join at this tier, or is on its way. At the tier of its spawner it joins at once: only elsewhere
+-- it may have claimed tiers on its way, settle them, or give them back.
 abbrev pub ComesTo : ℕ → ℕ → Role → Type 0
 ComesTo own home child =
     (child ≡ Out) ⊎ (child ≡ Joins home) ⊎ (child ≡ Seeks home 0)
@@ -62,7 +62,8 @@ HasTurn (Joining joined) children = joined < children
 HasTurn (Arriving arrived) children = arrived < children
 HasTurn _ _ = Unit {0}
 
--- a task at this stage, whose token has its member at this tier, and those of the spawned tasks each at theirs, of so many tiers
+-- a task at this stage, whose token has its member at this tier, and those of the spawned tasks each at theirs, out of
+-- a number of tiers
 pub record SitsAt (stage : Stage) (roles : List Role) (tiers token home : ℕ) (children : List ChildValue) (synced : Bool) : Type 0 where
   pub own : OwnFits stage home synced (role_at roles token)
   pub each : (number : ℕ) → number < length children → ChildFits stage home number (child_at children number).home (role_at roles (child_at children number).token)
@@ -72,7 +73,7 @@ pub record SitsAt (stage : Stage) (roles : List Role) (tiers token home : ℕ) (
 abbrev pub Sits : List Role → ℕ → ParticipantValue → Type 0
 Sits roles tiers g = SitsAt g.stage roles tiers g.token g.home g.children g.synced
 
--- a measure of tokens over those of a task, and over all of so many
+-- a measure of tokens over those of a task, and over all tokens up to a number
 abbrev pub of_participant : (ℕ → ℕ) → ParticipantValue → ℕ
 of_participant measure g = measure g.token + sum_by (λ (k : ChildValue). measure k.token) g.children
 
@@ -80,7 +81,8 @@ abbrev pub of_all : ℕ → (ℕ → ℕ) → ℕ
 of_all zero measure = 0
 of_all (suc n) measure = of_all n measure + measure n
 
--- Each of so many tokens is a live task's, or a spawned one's, or free, and it is so once: by any measure they count the same.
+-- Each token up to a number is a live task's, or a spawned one's, or free, and it is so once: by any measure they count
+-- the same.
 abbrev pub AreShared : List ParticipantValue → List ℕ → ℕ → Type 0
 AreShared participants free tokens = (measure : ℕ → ℕ) → sum_by (of_participant measure) participants + sum_by measure free ≡ of_all tokens measure
 
@@ -100,8 +102,8 @@ pub record IsWorking (parents : List ℕ) (w : World) (roles : List Role) : Type
   pub free : AllByRecursion (λ token. role_at roles token ≡ Out) w.free
   pub waits : (place : ℕ) → w.taken ≤ place → place < length w.participants → (participant_at w.participants place).stage ≡ Waits
 
--- After the advance: all live tasks are over; if the tree goes on, it does so in the next phase, where those that stay are awaited.
--- It has ended where nobody stays, or in the last phase of the limit.
+-- After the advance: all live tasks are over; if the tree goes on, it does so in the next phase, and those that stay
+-- are awaited there. It has ended if nobody stays, or in the last phase of the limit.
 pub record IsTurning (parents : List ℕ) (w : World) (roles : List Role) : Type 0 where
   pub built : IsBuilt parents w
   pub over : all_over w.participants ≡ true

@@ -20,14 +20,14 @@ pub fn closes_follow_advances()
     ensures { ClosesFollowAdvances }
 {}
 
-/// A worker's next step is answered whatever the others have done: a step answers NotNow only where it isn't its worker's
-/// next.
+/// A worker's next step is answered whatever the others have done: the answer is `NotNow` only if the step isn't its
+/// worker's next.
 pub fn next_steps_are_answered()
     ensures { NextStepsAreAnswered }
 {}
 
-/// The root advances in the phase of the superstep, which is its number; where none of its tasks faults, the members of
-/// the tree are then the parties of the superstep's record but those that left.
+/// The root advances in the phase of the superstep, which is its number. If none of its tasks faults, the members of
+/// the tree are then the parties of the superstep's record except those that left.
 pub fn advances_are_counted()
     ensures { AdvancesAreCounted }
 {}

@@ -22,7 +22,7 @@ beside_tasks [] (d ∷ ds) e = refl
 beside_tasks (t ∷ ts) [] e = absurd (omega (arith, e))
 beside_tasks (t ∷ ts) (d ∷ ds) e = ap (λ (us : List TaskValue). t ∷ us) (beside_tasks ts ds (omega (arith, e)))
 
--- those that live on are behind what was delivered
+-- those that live on are after what was delivered
 pub beside_living : (ts : List TaskValue) (ds : List (Option SegmentValue)) → length ts ≡ length ds → living_in (beside ts ds) ≡ living_by ds
 beside_living [] [] e = refl
 beside_living [] (d ∷ ds) e = absurd (omega (arith, e))
@@ -46,7 +46,7 @@ beside_done (t ∷ ts) [] p d e lt g = absurd (omega (arith, e))
 beside_done (t ∷ ts) (x ∷ ds) zero d e lt g = ap (λ (y : Option SegmentValue). is_some y) g
 beside_done (t ∷ ts) (x ∷ ds) (suc p) d e lt g = beside_done ts ds p d (omega (arith, e)) (omega (arith, lt)) g
 
--- what stands at a place
+-- what is at a place
 pub beside_at : (ts : List TaskValue) (ds : List (Option SegmentValue)) (p : ℕ) (t : TaskValue) (d : Option SegmentValue)
     → p < length ts → t ≡ get_or ts p t → p < length ds → d ≡ get_or ds p d → slice_get (beside ts ds) p ≡ Some record { task = t; done = d }
 beside_at [] ds p t d lt e ld f = absurd (omega (arith, lt))
@@ -54,7 +54,7 @@ beside_at (x ∷ ts) [] p t d lt e ld f = absurd (omega (arith, ld))
 beside_at (x ∷ ts) (y ∷ ds) zero t d lt e ld f = λ i. Some record { task = sym e i; done = sym f i }
 beside_at (x ∷ ts) (y ∷ ds) (suc p) t d lt e ld f = beside_at ts ds p t d (omega (arith, lt)) e (omega (arith, ld)) f
 
--- nothing stands behind the tasks, and nothing behind what was delivered
+-- nothing is after the tasks, and nothing after what was delivered
 pub beside_past_tasks : (ts : List TaskValue) (ds : List (Option SegmentValue)) (p : ℕ) → length ts ≤ p → slice_get (beside ts ds) p ≡ None
 beside_past_tasks [] ds p le = refl
 beside_past_tasks (t ∷ ts) [] p le = refl

@@ -38,7 +38,7 @@ all_append (p ∷ ps) qs = by (is_set p) (all_append ps qs)
     by true h = h
     by false h = refl
 
--- all puts set where those of the first slot do, and those of the others
+-- all puts set if those of the first slot do, and those of the others
 pub sets_in : (rest : List SlotValue) (s : SlotValue) (ss : List SlotValue) → rest ≡ s ∷ ss
     → list_all is_set (log_in rest) ≡ (list_all is_set (puts_in s) && list_all is_set (log_in ss))
 sets_in rest s ss e = ap (λ (xs : List SlotValue). list_all is_set (log_in xs)) e ∙ all_append (puts_in s) (log_in ss)
@@ -90,7 +90,7 @@ path_located ps (s ∷ ss) k = by s.done (λ n. path_located ps ss n)
         ∙ sym (ap (λ (x : Bool). option_map told_at (if x then Some s.task.path else path_at ss (k - 0))) b)
     by (Some g) h = told (nat_lt k (length g.puts)) (k - length g.puts) (h (k - length g.puts))
 
--- what the log of all puts tells is what the round tells
+-- what the log of all puts says is what the round says
 pub over_told : (ps : List Plan) (ss : List SlotValue) (xs : List (List ℕ × List ℤ)) (o : Option ℕ) → o ≡ over_in xs [] 0 (log_in ss)
     → overflow xs (delivered (slots_of ps ss)) ≡ option_map fault_eight (at_log (map log_of (delivered (slots_of ps ss))) o)
 over_told ps ss xs o e =

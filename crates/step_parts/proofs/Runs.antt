@@ -7,7 +7,7 @@ use Rattle.step_parts.specs.Program.{Program}
 use Rattle.step_parts.specs.Superstep.{State, superstep, closed, segments, fault_in}
 use Rattle.step_parts.specs.JobMeaning.{state_at, so_far, status, status_of, unless_ended, told, report_of}
 
--- one superstep goes on to the next step, or faults where it is
+-- one superstep goes on to the next step, or faults in this one
 pub step_moves : (st : State) (ss : List (List ℕ × Segment)) (f : Option (ℕ × List ℕ)) → ((closed st ss f).fault ≡ None) → (closed st ss f).step ≡ st.step + 1
 step_moves st ss (Some f) h = cc
 step_moves st ss None h = refl
@@ -41,7 +41,7 @@ pub stays : (o : Option Status) (s : Status) (st next : State) → o ≡ Some s 
 stays None s st next h = cc
 stays (Some t) s st next h = refl
 
--- a state that goes on is that of as many supersteps as its step says, none of which ended the job
+-- a state that goes on is that of as many supersteps as its step says; none of them ended the job
 pub record GoesOn (p : Program) (limit n : ℕ) : Type 0 where
   pub step : (so_far p limit n).step ≡ n
   pub same : so_far p limit n ≡ state_at p n

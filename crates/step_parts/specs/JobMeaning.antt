@@ -7,7 +7,7 @@ use Rattle.task_lang.specs.Meaning.{Plan, Task, started}
 use Rattle.step_parts.specs.Program.{Program}
 use Rattle.step_parts.specs.Superstep.{State, superstep}
 
--- the tasks of these start lines, the first of which has this number
+-- the tasks of these start lines; the first line has this number
 abbrev pub start_tasks : List Plan → ℕ → List Start → List Task
 start_tasks plans number [] = []
 start_tasks plans number (s ∷ ss) = started plans (number ∷ []) s.body s.arg ∷ start_tasks plans (suc number) ss
@@ -36,12 +36,12 @@ abbrev pub unless_ended : Option Status → State → State → State
 unless_ended (Some s) st next = st
 unless_ended None st next = next
 
--- the job after so many supersteps, or as it ended before
+-- the job after this many supersteps, or as it ended before
 abbrev pub so_far : Program → ℕ → ℕ → State
 so_far p limit zero = initial p
 so_far p limit (suc n) = unless_ended (status limit (so_far p limit n)) (so_far p limit n) (superstep p (so_far p limit n))
 
--- the job after so many supersteps, whatever the limit
+-- the job after this many supersteps, whatever the limit
 abbrev pub state_at : Program → ℕ → State
 state_at p zero = initial p
 state_at p (suc n) = superstep p (state_at p n)

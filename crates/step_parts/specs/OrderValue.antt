@@ -21,7 +21,7 @@ pub record OrderValue : Type 0 where
 abbrev pub order_value : JobValue → ℕ → ℕ → TaskValue → List (List ℕ × List ℤ) → OrderValue
 order_value job step place task arrays = record { job = job; step = step; place = place; task = task; arrays = arrays }
 
--- the task that was found; where none was, one without a place in any job
+-- the task that was found; if none was, one without a place in any job
 abbrev pub found_task : Option TaskValue → TaskValue
 found_task (Some t) = t
 found_task None = record { path = []; body = 0; place = 0; locals = []; arg = pos 0; spawned = 0 }

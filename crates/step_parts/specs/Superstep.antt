@@ -116,7 +116,7 @@ gone_on st ss next = record {
   fault = None;
 }
 
--- fault 7, where over 4096 tasks would live on
+-- fault 7, if over 4096 tasks would live on
 abbrev pub too_many : List Task → Option (ℕ × List ℕ)
 too_many next = if nat_lt 4096 (length next) then Some (7, []) else None
 

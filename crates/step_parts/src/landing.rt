@@ -30,7 +30,7 @@ fn are_all_sets(slots: &Slots<'_>) -> bool
     true
 }
 
-// Lands puts each of which sets its cell, in their places.
+// Lands puts that all set their cells.
 fn write_all(arrays: &mut Arrays, slots: &Slots<'_>)
     requires { IsTrue (list_all is_set (log_in slots.now)) }
     ensures { arrays.new ≡ landed (log_in slots.now) arrays.old }
@@ -96,8 +96,8 @@ fn land_slots(
     }
 }
 
-/// Lands what was delivered in the arrays as the superstep began: in place where nobody else has them, else in a copy. Or
-/// reports the first put that overflows, and changes nothing.
+/// Lands what was delivered in the arrays as the superstep began. Lands it in place if nobody else has them, and in a
+/// copy otherwise. If a put overflows, reports the first that does, and changes nothing.
 pub(crate) fn land_start_arrays(
     alloc: Global,
     start_arrays: &mut Arc<Arrays>,

@@ -41,8 +41,8 @@ impl Model for Live {
     ghost invariant = { λ l. length (arc_value l.tasks).items ≡ length l.done.items };
 }
 
-// Lands what was delivered, and keeps what the superstep printed and its record. Or reports the first put that overflows; then, and
-// without memory, nothing changes.
+// Lands what was delivered, and keeps what the superstep printed and its record. If a put overflows, reports the first
+// that does. Then, and if memory runs out, nothing changes.
 fn finish(
     alloc: Global,
     step: u32,
@@ -75,8 +75,8 @@ fn finish(
     }
 }
 
-// A list for the next tasks, to be filled where nobody else has it, and room for so many beside it. Without memory nothing
-// changes that means something.
+// A list for the next tasks, which can be filled because nobody else has it, and room for `count` tasks beside it. If
+// memory runs out, nothing that has a meaning changes.
 fn list_for(
     alloc: Global,
     room: &mut Vec<Task>,
@@ -94,8 +94,8 @@ fn list_for(
     }
 }
 
-// Lands what was delivered for these tasks, and puts the next into a list that nobody else has. Or reports the first put that
-// overflows; then, and without memory, nothing changes.
+// Lands what was delivered for these tasks, and puts the next into a list that nobody else has. If a put overflows,
+// reports the first that does. Then, and if memory runs out, nothing changes.
 fn close_into(
     alloc: Global,
     step: u32,
@@ -207,8 +207,8 @@ impl Live {
         self.done[place] = Some(segment);
     }
 
-    /// Lands what was delivered, keeps what the superstep printed and its record, and goes on to the next live tasks, of
-    /// whom there are so many. Or reports the first put that overflows; then, and without memory, nothing changes.
+    /// Lands what was delivered, keeps what the superstep printed and its record, and goes on to the next live tasks,
+    /// `count` of them. If a put overflows, reports the first that does. Then, and if memory runs out, nothing changes.
     pub fn take_superstep(
         &mut self,
         alloc: Global,

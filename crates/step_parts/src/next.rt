@@ -112,7 +112,7 @@ fn collect_living(done: &mut Vec<Option<Segment>>, living: &mut Vec<Task>)
     }
 }
 
-/// Empties the first, and makes room for so many in both.
+/// Empties `living`, and makes room for `count` items in both.
 pub(crate) fn make_room(
     living: &mut Vec<Task>,
     done: &mut Vec<Option<Segment>>,

@@ -131,7 +131,7 @@ pub(crate) fn join_prints(alloc: Global, finished: Vec<Finished>) -> Result<Vec<
     Ok(prints)
 }
 
-// The arrays: themselves where nobody else has them, else a copy.
+// The arrays: themselves if nobody else has them, else a copy.
 fn own_arrays(alloc: Global, shared: Arc<Arrays>) -> Result<Arrays, AllocError>
     ensures { IfOk result (λ arrays. arrays ≡ arc_value shared) }
 {

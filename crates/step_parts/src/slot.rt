@@ -153,7 +153,7 @@ impl<'a> Slot<'a> {
         }
     }
 
-    /// Lands the puts that were delivered, none of which adds.
+    /// Lands the puts that were delivered. None of them adds.
     pub(crate) fn land_sets(&self, arrays: &mut Arrays)
         requires { IsTrue (list_all is_set (puts_in self.now)) }
         ensures { arrays.new ≡ landed (puts_in self.now) arrays.old }
@@ -185,7 +185,7 @@ impl<'a> Slot<'a> {
     }
 }
 
-/// A path of its own, like this one. It takes no memory.
+/// Copies this path. It takes no memory.
 pub(crate) fn copy_path(path: &Path) -> Path
     requires { length path.now.items ≤ 8 }
     ensures { result.items ≡ path.now.items }
@@ -196,7 +196,7 @@ pub(crate) fn copy_path(path: &Path) -> Path
     }
 }
 
-/// The path of a task, of its own. It takes no memory.
+/// Copies the path of a task. It takes no memory.
 pub fn task_path(task: &Task) -> Path
     ensures path { result.items ≡ task.now.path }
     ensures short { length result.items ≤ 8 }

@@ -81,7 +81,7 @@ pub no_row_written : (xs : Arrays) (l : Lot) (rows : List Row) → l.is_row ≡ 
 no_row_written xs l [] row none = sym (landed_none xs) ∙ (λ i. landed (puts_by (sym row i) l []) xs)
 no_row_written xs l (r ∷ rs) row none = absurd (omega arith)
 
--- a row is to cells that are there where it ends within its array
+-- a row is to existing cells if it ends within its array
 pub row_within : (xs : Arrays) (array first : ℕ) (a : List ℕ × List ℤ) (vs : List ℤ) → slice_get xs array ≡ Some a → 0 < length vs
     → nat_le (first + length vs) (length a.1) ≡ list_all (is_cell xs) (row_puts array first vs)
 row_within xs array first a [] e lt = absurd (omega (arith, lt))

@@ -115,7 +115,7 @@ begun_row {puts = puts} {rest = rest} {xs = xs} ps back h e t = record {
   };
 }
 
--- so many are left
+-- this many are left
 pub taking_count : {puts rest : List Put} {place : ℕ} {olds : List ℤ} {xs ys : Arrays} → IsTaking puts place rest olds xs ys → length puts ≡ place + length rest
 taking_count {rest = rest} h = let c = ap length h.cut in let l = length-append h.front rest in omega (arith, c, l, h.count)
 

@@ -1,4 +1,4 @@
--- Puts that come in rows: values for cells side by side, each of which sets its cell.
+-- Puts that come in rows: values for adjacent cells. Each put sets its cell.
 use Rattle.std.specs.Prelude.{◌≡◌, ℕ, suc, ℤ, List, [], ◌∷◌, slice_set}
 use Rattle.superstep_memory.specs.declared.arrays.PutKind.TheVariants.{Set}
 use Rattle.superstep_memory.specs.declared.arrays.Put.{Put}

@@ -165,7 +165,7 @@ impl Arrays {
         self.place(put.array, i64::from(put.index)).is_some()
     }
 
-    /// What the cell of a put holds, 0 where there is none.
+    /// What the cell of a put holds, 0 if there is no such cell.
     #[inline(always)]
     pub(crate) fn value_at(&self, put: Put) -> i64
         ensures { result ≡ value_at self.now put.array put.index }
@@ -173,7 +173,7 @@ impl Arrays {
         self.value_in(usize::from(put.array), put.index as usize)
     }
 
-    /// What the cell of this number in the array at this place holds, 0 where there is none.
+    /// What the cell of this number in the array at this place holds, 0 if there is no such cell.
     #[inline(always)]
     pub(crate) fn value_in(&self, array: usize, index: usize) -> i64
         ensures { result ≡ value_at self.now array index }
@@ -250,7 +250,7 @@ impl Arrays {
     }
 }
 
-// Writes values into cells side by side, all of which are there.
+// Writes values into adjacent cells. All of the cells exist.
 fn write_within(cells: &mut [i64], first: usize, values: &[i64])
     requires { first + length values.now ≤ length cells.old }
     ensures { cells.new ≡ row_set cells.old first values.now }

@@ -34,7 +34,7 @@ fn write_lot<'a>(arrays: &mut Arrays, lot: Lot, rows: &'a [Row]) -> &'a [Row]
     }
 }
 
-/// Lands lots each of which sets its cells. It takes no memory.
+/// Lands lots that all set their cells. It takes no memory.
 pub(crate) fn write_lots(arrays: &mut Arrays, lots: &[Lot], rows: &[Row])
     requires { IsTrue (list_all is_set (puts_in lots.now rows.now)) }
     ensures { arrays.new ≡ landed (puts_in lots.now rows.now) arrays.old }
@@ -47,14 +47,14 @@ pub(crate) fn write_lots(arrays: &mut Arrays, lots: &[Lot], rows: &[Row])
     }
 }
 
-// Whether a row of so many values, the first of which has this place, ends within so many cells.
+// Whether a row of `count` values, beginning at the place `first`, ends within `cells` cells.
 fn is_within(cells: usize, first: usize, count: usize) -> bool
     ensures { result ≡ nat_le (first + count) cells }
 {
     count <= cells && first <= cells - count
 }
 
-// Whether so many cells side by side are there, beginning with the cell `first`.
+// Whether `count` adjacent cells exist, beginning with the cell `first`.
 fn is_row_in(arrays: &Arrays, array: u16, first: u32, count: usize) -> bool
     ensures { (vs : List ℤ) → length vs ≡ count → result ≡ list_all (is_cell arrays.now) (row_puts array first vs) }
 {
@@ -133,8 +133,8 @@ fn take_row(
     Ok(())
 }
 
-// Takes lots one after another, and keeps what their cells held before. It ends before the first put that overflows, and
-// returns its place. There are so many puts.
+// Takes lots one after another, and keeps what their cells held before. Stops before the first put that overflows, and
+// returns its place. There are `count` puts.
 fn take_lots(
     arrays: &mut Arrays,
     lots: &[Lot],
@@ -173,8 +173,8 @@ fn take_lots(
     Ok(None)
 }
 
-// Gives cells side by side, the first of which has this number, what they held before, the last one first: as long as more
-// than so many old values are left.
+// Gives adjacent cells, beginning with the cell `first`, what they held before, the last one first, as long as more
+// than `before` old values are left.
 fn give_back_row(arrays: &mut Arrays, array: u16, first: u32, before: usize, olds: &mut Vec<i64>)
     ensures { (front ps : List PutValue) (xs : List (List ℕ × List ℤ)) → length front ≡ before → AreSideBySide array first ps
         → HasBegun (front ++ ps) olds.old.items xs arrays.old → HasBegun front olds.new.items xs arrays.new }
@@ -187,7 +187,7 @@ fn give_back_row(arrays: &mut Arrays, array: u16, first: u32, before: usize, old
     }
 }
 
-// Gives the cells of the puts that were taken what they held before, the last one first. There are so many puts.
+// Gives the cells of the puts that were taken what they held before, the last one first. There are `count` puts.
 fn give_back_lots(
     arrays: &mut Arrays,
     lots: &[Lot],
@@ -219,8 +219,8 @@ fn give_back_lots(
     }
 }
 
-/// Lands lots, some of which add: each put in turn sets its cell, or adds to what it holds. Or returns the place, from 0, of the
-/// first put whose sum is outside of 64 signed bits, and changes nothing. There are so many puts.
+/// Lands lots, some of which add: each put in turn sets its cell, or adds to what it holds. If a sum is outside of 64
+/// signed bits, returns the place, from 0, of the first such put, and changes nothing. There are `count` puts.
 pub(crate) fn land_adds(
     arrays: &mut Arrays,
     lots: &[Lot],

@@ -247,7 +247,7 @@ impl Puts {
         land_adds(arrays, &self.lots, &self.rows, self.count, olds)
     }
 
-    /// Lands puts none of which adds, one after another. A put to no cell is left out. It takes no memory.
+    /// Lands puts that don't add, one after another. A put to no cell is left out. It takes no memory.
     pub fn land_sets(&self, arrays: &mut Arrays)
         requires { IsTrue (list_all is_set self.now) }
         ensures { arrays.new ≡ landed self.now arrays.old }

@@ -103,7 +103,7 @@ module _ (gives : ℤ → ℤ → Type 0) (cells : List ℤ) (place : ℕ) (star
       by true e = refl
       by false e = cc
 
--- where all cells are there, no span lacks one
+-- if all cells exist, no span lacks one
 pub all_there : {A : Type 0} (n m : ℕ) (k : Cells) → n ≡ m → are_there n k ≡ true → are_there m k ≡ false → A
 all_there n m k e t f = let x : true ≡ false = sym t ∙ ap (λ (i : ℕ). are_there i k) e ∙ f in absurd (differ x)
   where
@@ -187,7 +187,7 @@ rows_more gives beyond cells width first row up own down values new le h eu eo e
         let R : ℕ → Type 0 = λ n. gives (window_at beyond cells width n column) (get_or r.row column (pos 0)) in
         subst P (sym got) (subst R at (here column in_row))
 
--- where the next row begins
+-- the place at which the next row begins
 pub next_row : (row at width : ℕ) → at ≡ row * width → at + width ≡ (row + 1) * width
 next_row row at width e =
     let one : suc row ≡ row + 1 = omega arith in

@@ -46,13 +46,13 @@ pub record HasRow (gives : Window → ℤ → Type 0) (beyond : ℤ) (up own dow
   pub more : new ≡ old ++ row
   pub given : AreEach (λ column v. gives (window_in beyond up own down column) v) width row
 
--- these are what the relation gives for the cells of so many rows, the first of them this one
+-- these are what the relation gives for the cells of this many rows; the first of them is this one
 pub record AreRowsGiven (gives : Window → ℤ → Type 0) (beyond : ℤ) (cells : List ℤ) (width first count : ℕ) (values : List ℤ) : Type 0 where
   pub long : length values ≡ count * width
   pub each : (row column : ℕ) → row < count → column < width
       → gives (window_at beyond cells width (first + row) column) (get_or values (row * width + column) (pos 0))
 
--- these rows, of which there is one at least, are among so many cells
+-- these rows are among this many cells; there is at least one row
 abbrev pub are_rows : ℕ → ℕ → BoardRows → Bool
 are_rows count width k = nat_lt 0 width && nat_lt k.first k.end && nat_le (k.end * width) count
 

@@ -7,7 +7,7 @@ use Rattle.programs.specs.Meaning.{After, Synced, Stopped, Faulted, Segment, Fra
 use Rattle.task_bodies.specs.declared.body.Ending.{Ending}
 use Rattle.task_bodies.specs.declared.body.Ending.TheVariants as ending
 
--- so many start tasks are too many: more than may live, or than a path's first number counts
+-- this many start tasks are too many: more than may live, or than a path's first number counts
 abbrev pub are_too_many : ℕ → ℕ → Bool
 are_too_many most count = nat_lt 65535 count || nat_lt most count
 
@@ -31,7 +31,7 @@ pub record MemberValue (K : Type 0) : Type 0 where
   pub begun : ℕ
   pub kept : K
 
--- the cells of an array, none where it isn't there
+-- the cells of an array, none if there is no such array
 abbrev pub cells_in : Option (List ℕ × List ℤ) → List ℤ
 cells_in None = []
 cells_in (Some a) = a.1
@@ -39,7 +39,7 @@ cells_in (Some a) = a.1
 abbrev pub when : Bool → ℕ → Option ℕ → Option ℕ
 when b code other = if b then Some code else other
 
--- why so many tasks may not be spawned: they would be too deep (5), or are too many in all (6)
+-- why this many tasks may not be spawned: they would be too deep (5), or are too many in all (6)
 abbrev pub refused_spawns : List ℕ → ℕ → ℕ → Option ℕ
 refused_spawns path begun zero = None
 refused_spawns path begun (suc n) = when (nat_le 8 (length path)) 5 (when (nat_lt 65535 (begun + suc n)) 6 None)

@@ -8,16 +8,16 @@ use Rattle.task_bodies.specs.declared.body.Ending.TheVariants.{Stops, Fails}
 use Rattle.task_bodies.specs.Bodies.{Left, cells_in}
 use Rattle.task_bodies.specs.Kernels.{ends_in}
 
--- so many values, each as said of its place
+-- this many values, each as said of its place
 pub record AreEach (each_is : ℕ → ℤ → Type 0) (count : ℕ) (values : List ℤ) : Type 0 where
   pub long : length values ≡ count
   pub each : (i : ℕ) → i < count → each_is i (get_or values i (pos 0))
 
--- these are what a relation gives for so many cells, the first of them this one
+-- these are what a relation gives for this many cells; the first of them is this one
 abbrev pub AreGiven : (ℤ → ℤ → Type 0) → List ℤ → ℕ → ℕ → List ℤ → Type 0
 AreGiven gives cells first count values = AreEach (λ i v. gives (get_or cells (first + i) (pos 0)) v) count values
 
--- all cells of a span are among so many
+-- all cells of a span are among this many
 abbrev pub are_there : ℕ → Cells → Bool
 are_there count k = nat_le k.first k.end && nat_le k.end count
 

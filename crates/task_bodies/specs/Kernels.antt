@@ -6,7 +6,7 @@ use Rattle.task_bodies.specs.declared.body.Ending.{Ending}
 use Rattle.task_bodies.specs.declared.body.Ending.TheVariants.{Syncs, Stops, Fails}
 use Rattle.task_bodies.specs.Bodies.{Left, cells_in}
 
--- these are what a relation gives for so many cells and their neighbours, the first of them after this place
+-- these are what a relation gives for this many cells and their neighbours; the first of them is after this place
 pub record IsMapped (gives : ℤ → ℤ → ℤ → ℤ → Type 0) (cells : List ℤ) (first count : ℕ) (values : List ℤ) : Type 0 where
   pub long : length values ≡ count
   pub each : (i : ℕ) → i < count
@@ -30,7 +30,7 @@ pub record IsStencilled (gives : ℤ → ℤ → ℤ → ℤ → Type 0) (array 
 abbrev pub is_there : List ℤ → Span → Bool
 is_there cells k = nat_le k.before k.end && nat_le (k.end + 2) (length cells)
 
--- such a row where all these cells are there, else the fault 16
+-- such a row if all these cells exist, else the fault 16
 pub record StencilMay (gives : ℤ → ℤ → ℤ → ℤ → Type 0) (array last : ℕ) (arrays : List (List ℕ × List ℤ)) (step : ℕ) (k : Span) (o : Left Span) : Type 0 where
   pub there : is_there (cells_in (slice_get arrays array)) k ≡ true → IsStencilled gives array last (cells_in (slice_get arrays array)) step k o
   pub not_there : is_there (cells_in (slice_get arrays array)) k ≡ false → o.ending ≡ Fails 16

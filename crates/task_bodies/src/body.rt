@@ -1,4 +1,4 @@
-//! What a task of your own reads, writes and does.
+//! What the body of a task reads, writes and does.
 ghost use Rattle.std.specs.Prelude.{◌≡◌, ◌≤◌, ◌^◌, ◌++◌, ◌∷◌, ℕ, ℤ, pos, List, [], length, slice_get, IfOk, OnOk, OnErr};
 ghost use Rattle.superstep_memory.specs.declared.arrays.PutKind.TheVariants as PutKinds;
 ghost use Rattle.superstep_memory.specs.Cells.{cell_at};
@@ -169,7 +169,7 @@ pub trait TaskBody {
         ensures { IfOk result (λ e. may self.now view.now.path.now.items view.now.arrays.now view.now.step kept.old (left_so e kept.new out.new)) };
 }
 
-/// A body of which somebody has written what it does (own): `may` allows that alone.
+/// A body whose meaning somebody has written down (own): `may` allows that alone.
 pub trait Exact: TaskBody {
     /// What a task leaves that is at this path and keeps this, by the arrays as the superstep began and its number.
     ghost does: { Self → List ℕ → List (List ℕ × List ℤ) → ℕ → Self.Kept → Left Self.Kept };

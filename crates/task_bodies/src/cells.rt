@@ -66,7 +66,7 @@ fn sum_of(so_far: i64, value: i64) -> Option<i64>
     so_far.checked_add(value)
 }
 
-// Whether all cells of a span are among so many.
+// Whether all cells of a span are among `count` cells.
 fn have_all(count: usize, span: Cells) -> bool
     ensures { result ≡ are_there count span }
 {

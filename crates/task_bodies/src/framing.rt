@@ -30,7 +30,7 @@ pub(crate) fn open<K: Drop>(alloc: Global, work: &mut Work<Member<K>>) -> Out<K>
     }
 }
 
-// Why so many tasks may not be spawned.
+// Why `count` tasks may not be spawned.
 fn refuse_spawns(path: usize, begun: u16, count: usize) -> Option<u8>
     ensures { (p : List ℕ) → length p ≡ path → result ≡ refused_spawns p begun count }
 {

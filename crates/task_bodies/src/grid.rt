@@ -161,7 +161,7 @@ fn rows_round(cells: &[i64], row: usize, at: usize, width: usize) -> Three<'_>
     }
 }
 
-// Whether these rows, of which there is one at least, are among so many cells.
+// Whether these rows are among `count` cells. There is at least one row.
 fn have_all(count: usize, width: usize, rows: BoardRows) -> bool
     ensures { result ≡ are_rows count width rows }
 {

@@ -16,8 +16,8 @@ pub struct Span {
     pub end: u32,
 }
 
-/// In each superstep up to `last`, sets each cell of a span to what the closure returns for the cell before it, the cell, and the
-/// cell after it. A span of which a cell or neighbour isn't there fails with number 16.
+/// In each superstep up to `last`, sets each cell of a span to what the closure returns for the cell before it, the
+/// cell, and the cell after it. A span fails with number 16 if a cell or neighbour of it doesn't exist.
 #[derive(Drop)]
 pub struct Stencil<F> {
     /// The place of the array, in declared order.

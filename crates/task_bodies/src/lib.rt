@@ -1,4 +1,4 @@
-//! Tasks that run a body of your own.
+//! Tasks that run a body written in Rattle.
 //!
 //! # Where things are
 //!

@@ -1,4 +1,4 @@
-//! Tasks of your own.
+//! Tasks that run a body.
 ghost use Rattle.std.specs.Prelude.{◌≡◌, ◌≤◌, ◌<◌, ◌+◌, ◌++◌, ◌∷◌, [], IfOk, length};
 ghost use Rattle.task_bodies.specs.Bodies.{numbered};
 

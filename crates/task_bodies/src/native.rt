@@ -1,4 +1,4 @@
-//! The program of a body of your own.
+//! The program of a body.
 ghost use Rattle.std.specs.Prelude.{refl};
 ghost use Rattle.task_bodies.specs.Bodies.{MemberValue, member_frame, BodyMay};
 

@@ -1,4 +1,4 @@
-//! Runs of tasks of your own.
+//! Runs of tasks with a body written in Rattle.
 ghost use Rattle.std.specs.Prelude.{◌≡◌, ◌<◌, ◌↔◌, [], Some, true, false, IfOk, IfErr, length};
 ghost use Rattle.task_bodies.specs.declared.run.RunFault.TheVariants.{TooMany as TooManyStart};
 ghost use Rattle.programs.specs.History.{HasRun, HasRunTo, says_of};

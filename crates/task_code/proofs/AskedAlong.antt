@@ -20,7 +20,7 @@ abbrev asked : {X : Type 0} → (X → X → X) → X → (Operand → X) → Li
 asked join none ask [] = none
 asked join none ask (a ∷ os) = join (ask a) (asked join none ask os)
 
--- where an absent operand tells nothing, before others and behind them
+-- if an absent operand says nothing, before others and after them
 module _ {X : Type 0} (join : X → X → X) (none : X) (before : (x : X) → join none x ≡ x) (behind : (x : X) → join x none ≡ x) (ask : Operand → X) where
   of_two : (b c : Option Operand) → join (if_any none ask b) (if_any none ask c) ≡ asked join none ask (if_any [] alone b ++ if_any [] alone c)
   of_two None None = before none
@@ -65,7 +65,8 @@ module _ (arrays bodies : ℕ) where
   line_asked (line.While e n) = expr_is e
   line_asked (line.EndWhile e n) = expr_is e
 
-  -- a line whose body is among the bodies stands where its operands are among the arrays, with those of the end of a loop
+  -- a line whose body is among the bodies is allowed if its operands are among the arrays, with those of the end of a
+  -- loop
   pub line_is : (l : Line) (o : Operands) → listed o ≡ line_operands true l → has_body_in bodies l ≡ true
       → over_operands ◌&&◌ true (is_operand arrays) o ≡ is_line arrays bodies l
   line_is l o e h = of_listed ◌&&◌ true (λ _. refl) all_behind (is_operand arrays) o (line_operands true l) e

@@ -1,4 +1,4 @@
--- Mentions, one list behind another.
+-- Mentions, one list after another.
 use Rattle.std.proofs.Common.{◌≡◌, ℕ, ◌+◌, Bool, true, false, List, [], ◌∷◌, ◌++◌, Option, Some, None, refl, sym, ◌∙◌, ap, nat_lt, if◌then◌else◌}
 use Rattle.std.specs.Prelude.{◌==◌, ◌&&◌}
 use Rattle.std.proofs.lemmas.List.Folds.{list_all-append}
@@ -11,7 +11,7 @@ use Rattle.task_code.proofs.AskedAlong.{line_noted}
 pub none_some : (m : ℕ) → None ≡ Some m → ⊥
 none_some m e = cc
 
--- where these stop, what is behind them doesn't count
+-- if these stop, what is after them doesn't count
 by_stopped : (b c : Bool) (x y z w : Option ℕ) → (x ≡ None → z ≡ None) → (y ≡ None → w ≡ None)
     → (if b then x else if c then y else None) ≡ None → (if b then z else if c then w else None) ≡ None
 by_stopped true c x y z w f g e = f e
@@ -23,7 +23,7 @@ stopped k [] ys e = absurd (none_some k (sym e))
 stopped k (x ∷ xs) ys e = by_stopped (x == k) (nat_lt x k) (mentioned (k + 1) xs) (mentioned k xs) (mentioned (k + 1) (xs ++ ys)) (mentioned k (xs ++ ys))
     (stopped (k + 1) xs ys) (stopped k xs ys) e
 
--- where these lead to a count, what is behind them goes on from it
+-- if these lead to a count, what is after them goes on from it
 by_went : (m : ℕ) (b c : Bool) (x y z w v : Option ℕ) → (x ≡ Some m → z ≡ v) → (y ≡ Some m → w ≡ v)
     → (if b then x else if c then y else None) ≡ Some m → (if b then z else if c then w else None) ≡ v
 by_went m true c x y z w v f g e = f e
@@ -43,7 +43,7 @@ of_line l o e = line_noted l o [] e
 pub below_both : (count : ℕ) (xs ys : List ℕ) → are_below count (xs ++ ys) ≡ (are_below count xs && are_below count ys)
 below_both count xs ys = list_all-append (λ i. nat_lt i count) xs ys
 
--- whether those of a line are of so many
+-- whether those of a line are among this many
 pub line_below : (count : ℕ) (l : Line) (o : Operands) (set operands : Bool) → listed o ≡ line_operands false l
     → set ≡ are_below count (set_in l) → operands ≡ are_below count (over_operands {X = List ℕ} ◌++◌ [] in_operand o)
     → (set && operands) ≡ are_below count (in_line l)

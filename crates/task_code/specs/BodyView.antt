@@ -1,4 +1,4 @@
--- A body without where it lies in memory.
+-- A body apart from its place in memory.
 use Rattle.task_code.specs.declared.body.Body.TheInside.{Inside}
 use Rattle.task_code.specs.BodyValue.{BodyValue, body_value}
 use Rattle.task_code.specs.Rules.{IsBody}

@@ -1,4 +1,4 @@
--- A job without where it lies in memory.
+-- A job apart from its place in memory.
 use Rattle.std.specs.Prelude.{ℕ, ℤ, List, Vec}
 use Rattle.std.specs.declared.alloc.Global.{Global}
 use Rattle.task_code.specs.BodyValue.{BodyValue}

@@ -1,4 +1,4 @@
--- A job without where it lies in memory.
+-- A job apart from its place in memory.
 use Rattle.task_code.specs.declared.job.Job.TheInside.{Inside}
 use Rattle.task_code.specs.JobValue.{JobValue, job_value}
 use Rattle.task_code.specs.Rules.{IsJob}

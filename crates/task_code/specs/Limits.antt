@@ -24,7 +24,7 @@ is_statement _ = true
 abbrev pub statements : List Line → ℕ
 statements code = count_by is_statement code
 
--- how many `if` and `while` lines are open after a line, if so many were open before it
+-- how many `if` and `while` lines are open after a line, if this many were open before it
 abbrev pub opened : ℕ → Line → ℕ
 opened k (line.Do a) = k
 opened k (line.If e n) = k + 1
@@ -33,12 +33,12 @@ opened k line.EndIf = k - 1
 opened k (line.While e n) = k + 1
 opened k (line.EndWhile e n) = k - 1
 
--- how many are open at once at most, where so many are in front
+-- how many are open at once at most, if this many are open before these lines
 abbrev pub deepest : ℕ → List Line → ℕ
 deepest k [] = k
 deepest k (l ∷ ls) = max k (deepest (opened k l) ls)
 
--- the arrays that these name are among so many
+-- the number of arrays; those that these name are among them
 module _ (arrays : ℕ) where
   abbrev pub is_operand : Operand → Bool
   is_operand (operand.Plain i) = true
@@ -47,7 +47,7 @@ module _ (arrays : ℕ) where
   abbrev pub is_expr : Expr → Bool
   is_expr e = over_expr ◌&&◌ true is_operand e
 
--- the body that these name is among so many
+-- the number of bodies; the one that these name is among them
 module _ (bodies : ℕ) where
   abbrev pub has_body : Action → Bool
   has_body (action.Spawn b e) = nat_lt b bodies
@@ -57,7 +57,7 @@ module _ (bodies : ℕ) where
   has_body_in (line.Do a) = has_body a
   has_body_in _ = true
 
--- the arrays and bodies that these name are among so many
+-- the numbers of arrays and of bodies; those that these name are among them
 module _ (arrays bodies : ℕ) where
   abbrev pub is_action : Action → Bool
   is_action a = has_body bodies a && over_action ◌&&◌ true (is_operand arrays) a

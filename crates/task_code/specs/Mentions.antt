@@ -43,13 +43,13 @@ abbrev pub mentions : List Line → List ℕ
 mentions [] = []
 mentions (l ∷ ls) = in_line l ++ mentions ls
 
--- How many locals have been mentioned after these, where so many were before: each mention is of one of those, or
--- of the next in the list of locals.
+-- How many locals have been mentioned after these, if this many were before: each mention is of one of those, or of the
+-- next in the list of locals.
 abbrev pub mentioned : ℕ → List ℕ → Option ℕ
 mentioned k [] = Some k
 mentioned k (i ∷ is) = if i == k then mentioned (k + 1) is else if nat_lt i k then mentioned k is else None
 
--- each mention is of one of so many locals
+-- each mention is of one of this many locals
 abbrev pub are_below : ℕ → List ℕ → Bool
 are_below count is = list_all (λ i. nat_lt i count) is
 
@@ -58,7 +58,7 @@ abbrev pub firsts : List ℕ → List ℕ
 firsts [] = []
 firsts (i ∷ is) = i ∷ filter (λ j. not (j == i)) (firsts is)
 
--- so many numbers in a row
+-- this many numbers in a row
 abbrev pub places : ℕ → ℕ → List ℕ
 places k zero = []
 places k (suc n) = k ∷ places (k + 1) n

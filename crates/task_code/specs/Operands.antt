@@ -10,7 +10,7 @@ use Rattle.task_code.specs.declared.code.Line.{Line}
 use Rattle.task_code.specs.declared.code.Line.TheVariants as line
 use Rattle.task_code.specs.declared.operands.Operands.{Operands}
 
--- What an operand is asked, how two answers are joined, and the answer where there is no operand.
+-- What an operand is asked, how two answers are joined, and the answer if there is no operand.
 module _ {X : Type 0} (join : X → X → X) (none : X) (ask : Operand → X) where
   abbrev pub over_expr : Expr → X
   over_expr (expr.One a) = ask a

@@ -14,8 +14,8 @@ use Rattle.task_code.specs.Limits.{statements, deepest, is_line, is_of_first, fi
 abbrev pub IsByMention : BodyValue → Type 0
 IsByMention b = mentioned 0 (mentions b.code) ≡ Some (length b.locals)
 
--- A body has a name, matched jumps, at most 1024 statements, at most 16 lines open at once, and at most 32 locals of names
--- of their own. Its lines mention no other locals, and their numbers are of 64 signed bits.
+-- A body has a name, matched jumps, at most 1024 statements, at most 16 lines open at once, and at most 32 locals with
+-- distinct names. Its lines mention no other locals, and their numbers are of 64 signed bits.
 pub record IsBody (b : BodyValue) : Type 0 where
   pub name : IsTrue (is_free b.name)
   pub few : length b.locals ≤ most_locals
@@ -39,8 +39,9 @@ pub record IsOfFirst (b : BodyValue) : Type 0 where
 abbrev pub is_format : ℕ → Bool
 is_format n = (n == 1) || (n == 2)
 
--- A job is of format 1 or 2, and of format 1 only with bodies as that has them. It has at most 16 arrays of names of their own, 64 bodies of names of their own and 4096 start lines, and its lines and
--- start lines name what is there. Its numbers are of 64 signed bits.
+-- A job is of format 1 or 2, and of format 1 only with bodies as that has them. It has at most 16 arrays, 64 bodies and
+-- 4096 start lines. The names of its arrays are distinct, and so are those of its bodies. What its lines and start
+-- lines name exists. Its numbers are of 64 signed bits.
 pub record IsJob (j : JobValue) : Type 0 where
   pub format : IsTrue (is_format j.format)
   pub first : j.format ≡ 1 → AllByRecursion IsOfFirst j.bodies

@@ -151,7 +151,7 @@ fn close(code: &mut Vec<Line>, place: usize) -> Result<(), AllocError>
     }
 }
 
-/// Whether each jump of these lines goes where it should, and each open line has its end.
+/// Whether each jump of these lines leads to its line, and each open line has its end.
 pub fn is_matched(alloc: Global, code: &[Line]) -> Result<bool, AllocError>
     ensures { IfOk result (λ fits. IsTrue fits ↔ IsMatched code.now) }
 {

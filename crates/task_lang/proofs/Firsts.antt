@@ -1,4 +1,4 @@
--- Locals that stand by first mention are the places of the first occurrences.
+-- Locals in the order of first mention are the places of the first occurrences.
 use Rattle.std.proofs.Common.{◌≡◌, ℕ, zero, suc, ◌+◌, ◌≤◌, ◌<◌, Bool, true, false, not, List, [], ◌∷◌, Option, Some, None, refl, sym, ap, ◌∙◌, arith, nat_lt, nat_le, length, ⊎_elim, if◌then◌else◌}
 use Rattle.std.proofs.lemmas.Grind.{common_steps}
 use Rattle.std.proofs.lemmas.Bool.{eqb-true, cases_order}
@@ -22,7 +22,7 @@ all-kept [] = refl
 all-kept (x ∷ xs) = let here : nat_le 0 x ≡ true = grind (arith, common_steps) in
     ap (λ (b : Bool). if b then x ∷ filter (nat_le 0) xs else filter (nat_le 0) xs) here ∙ ap (λ (ws : List ℕ). x ∷ ws) (all-kept xs)
 
--- as many places as stand there from k on, if they stand in order
+-- as many places as there are from k on, if they are in order
 abbrev counted : ℕ → List ℕ → Option ℕ
 counted k [] = Some k
 counted k (x ∷ xs) = if x == k then counted (k + 1) xs else None
@@ -78,7 +78,7 @@ counted-firsts k (i ∷ is) = ⊎_elim (λ (e : i ≡ k). known-same k i is (fir
     (λ (e : k < i). known-above k i is (firsts is) e) r)
     (cases_order i k)
 
--- what stands in order is a row of places
+-- what is in order is a row of places
 row-of : (k n : ℕ) → counted k (places k n) ≡ Some (k + n)
 row-of k zero = let e : k ≡ k + 0 = omega arith in ap (λ (m : ℕ). Some m) e
 row-of k (suc n) =

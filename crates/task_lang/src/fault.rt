@@ -6,7 +6,7 @@ use thiserror::Error;
 
 /// Why a task faults (own). [`Fault::code`] is the number that a report has for it.
 ///
-/// A fault ends the job: its report names the task and the superstep, of which no put lands.
+/// A fault ends the job. The report names the task and the superstep, and no put of that superstep lands.
 #[derive(Clone, Copy, Debug, PartialEq, Eq, Error)]
 pub enum Fault {
     /// 1: a sum, difference, product or quotient outside of 64 signed bits.

@@ -47,14 +47,14 @@ pub fn stays_the_same_task()
     ensures { StaysTheSameTask }
 {}
 
-/// A task that synced goes on exactly where it was cut: over the same arrays its two segments do what its
-/// statements do without that sync, up to the next one, where these don't fault.
+/// A task that synced goes on exactly where it was cut. Over the same arrays, and if its two segments don't fault, they
+/// do what its statements do without that sync, up to the next one.
 pub fn goes_on_where_it_was_cut()
     ensures { GoesOnWhereItWasCut }
 {}
 
-/// The locals of a body are in the order of first mention where the lines mention each for the first time in the order of
-/// the locals, and all of them.
+/// If the lines mention each local for the first time in the order of the locals, and mention all of them, the locals
+/// of the body are in the order of first mention.
 pub fn stand_by_first_mention()
     ensures { ByFirstMention }
 {}

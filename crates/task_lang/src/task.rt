@@ -88,7 +88,7 @@ impl Model for Segment {
 }
 
 impl Task {
-    /// A task at the beginning of the body at this place; where there is none it has nothing to do.
+    /// A task at the beginning of the body at this place. If there is no such body, it has nothing to do.
     pub fn start(
         alloc: Global,
         bodies: &[Body],
@@ -111,7 +111,7 @@ impl Task {
         })
     }
 
-    /// A copy of its own.
+    /// Copies the task.
     pub fn copy(&self, alloc: Global) -> Result<Task, AllocError>
         ensures { IfOk result (λ copy. copy ≡ self.now) }
     {

@@ -4,11 +4,11 @@ use Rattle.worker_pool.specs.Refusals.{IsOfWorkers}
 use Rattle.task_workers.specs.declared.bodies.WorkersFault as faults
 use Rattle.task_workers.specs.declared.bodies.WorkersFault.TheVariants as fault
 
--- so many tasks are too many for workers: each is a party of a tier
+-- this many tasks are too many for workers: each is a party of a tier
 abbrev pub are_too_many_parties : ℕ → ℕ → Bool
 are_too_many_parties most count = nat_lt 65535 most || nat_lt most count
 
--- why a run on so many workers is refused, that begins with so many tasks
+-- why a run is refused that has this many workers and begins with this many tasks
 abbrev pub RefusesFor : ℕ → ℕ → ℕ → faults.WorkersFault → Type 0
 RefusesFor workers most count fault.TooMany = are_too_many_parties most count ≡ true
 RefusesFor workers most count (fault.Refused refused) = (are_too_many_parties most count ≡ false) × IsOfWorkers workers refused

@@ -1,4 +1,4 @@
-//! Runs of tasks of your own on worker threads.
+//! Runs of tasks with a body written in Rattle, on worker threads.
 ghost use Rattle.std.specs.Prelude.{◌≡◌, ◌≤◌, [], false, IfOk, IfErr, length};
 ghost use Rattle.programs.specs.History.{HasRun};
 ghost use Rattle.task_bodies.specs.Bodies.{member_frame, BodyMay, numbered};

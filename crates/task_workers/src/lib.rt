@@ -1,4 +1,4 @@
-//! Runs of tasks of your own on worker threads, which synchronize at a tree of phasers.
+//! Runs of tasks with a body written in Rattle, on worker threads that synchronize at a tree of phasers.
 //!
 //! [`run_bodies_on_workers`] runs a `TaskBody`, as `run_bodies` of `task_bodies` does on one thread. [`run_program`] runs a `Program`.
 //!

@@ -71,7 +71,7 @@ const ENDS: [(&[&str], &str, u8); 2] = [
     ),
 ];
 
-// A job of 8001 supersteps, and what its picture has where three share a column.
+// A job of 8001 supersteps, and what its picture has if three share a column.
 const LONG: &str = "bsp 1\nbody b\nwhile step < 8000\nsync\nend\nend\nstart b 0\n";
 
 const LONG_TITLE: &str =
@@ -88,7 +88,7 @@ struct Ran {
 }
 
 impl Ran {
-    // Whether this was printed, on the output and behind that on the errors.
+    // Whether this was printed, on the output and after it on the errors.
     fn printed(&self, want: &str) -> bool {
         let (output, errors) = (self.output.as_slice(), self.errors.as_slice());
         match want.as_bytes().split_at_checked(output.len()) {
@@ -139,7 +139,7 @@ fn is_taken<R: Threads + Wait + Sync>(rt: &R, alloc: Global, text: &str) -> bool
     }
 }
 
-// A job's text in format 2, which is that again where it is upgraded again; none where the text is refused.
+// A job's text in format 2, if upgrading it again leaves it unchanged. `None` if the text is refused.
 fn upgraded<R: Threads + Wait + Sync>(
     rt: &R,
     alloc: Global,
@@ -171,7 +171,7 @@ fn stays<R: Threads + Wait + Sync>(
     )
 }
 
-// Whether the text of a row that runs a job leaves the same in format 2, where it isn't refused.
+// Whether the text of a row that runs a job leaves the same in format 2, unless it is refused.
 fn row_stays<R: Threads + Wait + Sync>(
     rt: &R,
     alloc: Global,

@@ -73,7 +73,7 @@ fn written_out(alloc: Global, short: &str) -> Result<String, AllocError> {
     Ok(whole)
 }
 
-// Writes a part that begins behind a `{`.
+// Writes a part that begins after a `{`.
 fn write_part(alloc: Global, whole: &mut String, part: &str) -> Result<(), AllocError> {
     let (repeated, rest) = part.split_once('}').unwrap_or(("", part));
     let (count_word, piece) = repeated.split_once(':').unwrap_or(("", ""));
@@ -87,7 +87,7 @@ fn write_part(alloc: Global, whole: &mut String, part: &str) -> Result<(), Alloc
     write_lines(alloc, whole, rest, None)
 }
 
-// Writes a line's end for each `;` and a space behind it, and a piece's number for each `#`.
+// Writes a line's end for each `;`, a space after it, and a piece's number for each `#`.
 fn write_lines(
     alloc: Global,
     whole: &mut String,

@@ -1,4 +1,4 @@
-//! The example of use that stands above a call: the text there is that of the test here.
+//! The example of use in the docs of a call: the text there is that of the test here.
 use bsp_cli::{NoProgress, run_bytes};
 use devices::{Reader, Writer};
 use phase_records::JobStatus;
@@ -9,7 +9,7 @@ fn a_job_from_bytes_to_bytes(rt: HostRuntime) {
     let text = b"bsp 1\narray a 1\nbody b\nput a[0] = 7\nend\nstart b 0\n";
     let mut printed = Vec::new(rt.alloc());
     let shape = Shape::from_widths(rt.alloc(), "2").expect(&rt, "a shape");
-    // Four workers, at most 1000 supersteps, and no progress is told.
+    // Four workers, at most 1000 supersteps, and no progress is reported.
     let (mut reader, mut writer) = (Reader::new(text.as_slice()), Writer::new(&mut printed));
     let status = run_bytes(
         &rt,

@@ -7,10 +7,10 @@ use std::process::Abort;
 use std::sync::Wait;
 use std::thread::Threads;
 
-// What is printed where a device fails.
+// What is printed if a device fails.
 const FAILED: &[u8] = b"read or write failed\n";
 
-// Runs the program on a reader that has room for so many reads, and works on behind the one that fails, or does not.
+// Runs the program on a reader that fails after `room` reads. With `once`, the reads after that succeed again.
 fn run_dripping<R: Abort + Threads + Wait + Sync>(
     rt: &R,
     alloc: Global,
@@ -66,7 +66,7 @@ fn a_reader_that_fails_once_has_failed(rt: HostRuntime) {
     }
 }
 
-// Runs the program on a writer that has room for these first bytes of the whole output, and takes so many a write.
+// Runs the program on a writer that has room for the bytes `front` of the whole output, and takes `most` bytes a write.
 fn is_cut<R: Abort + Threads + Wait + Sync>(
     rt: &R,
     alloc: Global,

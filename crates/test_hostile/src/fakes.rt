@@ -5,7 +5,7 @@ ghost use Rattle.std.specs.Prelude.{◌≡◌, ◌≤◌, IfOk, length};
 use std::io;
 use std::io::{Read, Write};
 
-// Gives so many bytes at most, as far as there are some and room for them.
+// Gives at most `most` bytes, as far as there are some and room for them.
 fn give(rest: &mut &[u8], buffer: &mut [u8], most: usize) -> usize
     ensures { result ≤ length buffer.old }
 {
@@ -25,7 +25,7 @@ pub(crate) struct Source<'a> {
     pub(crate) most: usize,
     /// How many reads go well before one fails.
     pub(crate) room: usize,
-    /// Whether they go well again behind that one.
+    /// Whether the reads after that one succeed again.
     pub(crate) once: bool,
     /// How many reads there were.
     pub(crate) reads: &'a mut u64,
@@ -43,7 +43,7 @@ impl<'a> Source<'a> {
         }
     }
 
-    /// Gives a byte a read, and fails behind so many reads, for good or once.
+    /// Gives a byte a read, and fails after `room` reads, for good or once.
     pub(crate) fn dripping(rest: &'a [u8], room: usize, once: bool, reads: &'a mut u64) -> Self {
         Source {
             rest,
@@ -76,7 +76,7 @@ pub(crate) enum Then {
     Fails,
     /// It takes nothing.
     TakesNone,
-    /// It fails once, and takes all that comes behind.
+    /// It fails once, and takes all that comes later.
     FailsOnce,
 }
 

@@ -5,7 +5,7 @@ use std::process::Abort;
 use std::sync::Wait;
 use std::thread::Threads;
 
-// Checks so many bytes of a text: they are a job, or refused.
+// Checks the beginning `front` of a text: it is a job, or refused.
 fn is_job_or_refused<R: Abort + Threads + Wait + Sync>(
     rt: &R,
     alloc: Global,
@@ -21,8 +21,8 @@ fn is_job_or_refused<R: Abort + Threads + Wait + Sync>(
     );
 }
 
-// A front of the text is a job where it ends behind its header, behind or in the numbers of its array, behind its body
-// or behind a start line.
+// A beginning of the text is a job if it ends after its header, after or in the numbers of its array, after its body or
+// after a start line.
 #[test]
 fn a_front_of_a_text_is_a_job_or_refused(rt: HostRuntime) {
     let jobs = [5, 6, 15, 16, 17, 18, 19, 20, 21, 22, 95, 96, 108, 109, 121];

@@ -1,5 +1,5 @@
-//! Hostile use of the program: devices that give or take little or fail, at each byte, once or always, and texts that are
-//! cut at each byte; its help; and calls that find no memory. What a row of `examples/rows.txt` can say stands there.
+//! Hostile use of the program: devices that give or take little or fail, at each byte, once or always; texts that are
+//! cut at each byte; its help; and calls that run out of memory. What a row can say is in `examples/rows.txt`.
 #![tactic(auto)]
 
 #[cfg(test)]

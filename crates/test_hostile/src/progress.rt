@@ -1,4 +1,4 @@
-//! What `run` tells of its progress, and that workers share a job's segments: to a progress of the test's own.
+//! What `run` reports of its progress, to a `Progress` of the test, and that workers share a job's segments.
 use crate::fakes::{Sink, Source};
 use crate::runs::SWAP;
 use bsp_cli::{Progress, WatchEnd, run_telling};
@@ -129,7 +129,7 @@ fn are(counts: &Counts, supersteps: u64, tasks: u64, left: u64, ends: u64) -> bo
         && of(&counts.gave_up) == 0
 }
 
-// Whether a run by these words tells so much.
+// Whether a run by these words reports this much.
 fn tells<R: Threads + Wait + Sync>(
     rt: &R,
     alloc: Global,
@@ -145,7 +145,7 @@ fn tells<R: Threads + Wait + Sync>(
     swapped(rt, alloc, words, &counter) == 0 && are(&counts, want.0, want.1, want.2, want.3)
 }
 
-// One worker tells of two supersteps of two tasks each, and of the end; nothing is told where no progress is asked for.
+// One worker reports two supersteps of two tasks each, and the end. Nothing is reported if no progress is asked for.
 #[test]
 fn progress_on_one_thread_is_told_of_each_superstep(rt: HostRuntime) {
     assert!(rt;
@@ -169,7 +169,7 @@ fn progress_on_one_thread_is_told_of_each_superstep(rt: HostRuntime) {
     );
 }
 
-// Four workers tell of four segments and of the end. One task waits until the other has left, so two threads work.
+// Four workers report four segments and the end. One task waits until the other has left, so two threads work.
 #[test]
 fn workers_that_are_asked_for_share_the_tasks(rt: HostRuntime) {
     let words = ["bsp", "run", "--progress", "--workers", "4"];

@@ -85,7 +85,7 @@ start sum 0
 start sum 1
 ";
 
-/// Texts that each subcommand takes, behind its name.
+/// Texts that each subcommand takes, after its name.
 pub(crate) fn texts() -> [(&'static str, &'static str); 10] {
     [
         ("trace", PHASER),
@@ -200,7 +200,7 @@ fn are_bytes(bytes: &[u8], want: &[u8]) -> bool {
     bytes == want
 }
 
-/// Whether a run ended with this status, and told these errors.
+/// Whether a run ended with this status, and printed these errors.
 pub(crate) fn ended_with(left: &Ran, status: u8, errors: &[u8]) -> bool {
     left.status == status && are_bytes(left.errors.as_slice(), errors)
 }

@@ -1,4 +1,4 @@
-//! The examples of use that stand above calls and types: each text there is that of a test here.
+//! The examples of use in the docs of calls and types: each text there is that of a test here.
 use advance_rule::{EndPlan, StoredAdvance};
 use job_reader::read_job;
 use phase_records::JobStatus;

@@ -42,7 +42,7 @@ fn are_same(alloc: Global, one: &Report, other: &Report) -> bool {
     }
 }
 
-// Whether a report is the one that a job leaves on one thread within this limit, which is taken for 1 where it is none.
+// Whether a report is the one that a job leaves on one thread within this limit. A limit that is none counts as 1.
 pub(crate) fn is_left_alone(alloc: Global, job: &Job, limit: u32, report: &Report) -> bool {
     match run_alone(alloc, job, limit.max(1)) {
         Ok(alone) => are_same(alloc, &alone, report),

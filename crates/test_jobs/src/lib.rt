@@ -1,4 +1,4 @@
-//! Tests of jobs that need Rust: what a row can say stands in `examples/rows.txt`.
+//! Tests of jobs that need Rust: what a row can say is in `examples/rows.txt`.
 #![tactic(auto)]
 
 #[cfg(test)]

@@ -1,4 +1,4 @@
-//! A token in all its states, what it may be asked, and what it is told.
+//! A token in all its states, what it may be asked, and what it answers.
 #[cfg(test)]
 pub(crate) mod ask;
 #[cfg(test)]

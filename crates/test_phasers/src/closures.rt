@@ -92,7 +92,7 @@ fn joins<F: Fn(u32, u32) -> bool>(rt: &impl Abort, tree: &Tree<F>, door: Door) -
     }
 }
 
-// A member arrives or leaves, where it isn't the last, and the closure has been called so often then.
+// A member arrives or leaves, and isn't the last. Afterwards the closure has been called this often.
 fn goes<F: Fn(u32, u32) -> bool>(
     rt: &impl Abort,
     tree: &Tree<F>,

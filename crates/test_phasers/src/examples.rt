@@ -34,7 +34,7 @@ fn a_barrier_as_a_value(rt: HostRuntime) {
 
 #[test]
 fn a_gate(rt: HostRuntime) {
-    // Each thread calls `await_turn` with a number of its own; the last to come is given 0.
+    // Each thread calls `await_turn` with a different number; the last to come gets 0.
     let action = StoredAction::new(|_generation| false, None);
     let gate = CyclicGate::new(rt.alloc(), 1, action).expect(&rt, "one party");
     assert!(rt; gate.await_turn(&rt, 7) == Ok(0));
@@ -62,7 +62,7 @@ fn a_tree_as_a_machine(rt: HostRuntime) {
 
 #[test]
 fn a_tree_without_a_lock(rt: HostRuntime) {
-    // Any threads may share the tree; each has tokens of its own.
+    // Any threads may share the tree; each has its tokens.
     let shape = Shape::from_widths(rt.alloc(), "2").expect(&rt, "a shape");
     let plan = EndPlan {
         when_empty: true,

@@ -7,7 +7,7 @@ use tier_core::tree::Core;
 use tier_shape::Shape;
 use tier_steps::view::View;
 
-/// A machine of these widths with so many tokens.
+/// A machine of these widths with `tokens` tokens.
 pub(crate) fn machine(rt: &impl Abort, alloc: Global, widths: &str, tokens: u32) -> Core {
     let shape = Shape::from_widths(alloc, widths).expect(rt, "a shape");
     let mut core = Core::new(alloc, shape, 0, WHEN_EMPTY).expect(rt, "memory");
@@ -25,7 +25,7 @@ pub(crate) fn view_of(core: &Core, token: usize) -> View {
     View::new(0)
 }
 
-/// Takes the next step of a token's call, and tells its answer.
+/// Takes the next step of a token's call, and returns its answer.
 pub(crate) fn stepped(rt: &impl Abort, core: &mut Core, token: usize) -> Played {
     let step = if core.must_advance(token) {
         Step::Finish(token)

@@ -4,8 +4,8 @@ use std::alloc::Global;
 use std::process::Abort;
 use tier_shape::Shape;
 
-// Packed numbers, and what they are unpacked into: the phase, the parties, how many of them are unarrived, and
-// whether it has ended; or nothing, where no legal word has the number.
+// Packed numbers, and what they are unpacked into: the phase, the parties, how many of them are unarrived, and whether
+// it has ended. `None` if no legal word has the number.
 const WORDS: [(u64, Option<(u32, u32, u32, bool)>); 8] = [
     (0x0000000000000000, Some((0, 0, 0, false))),
     (0x0000000000000001, Some((0, 0, 1, false))),
@@ -35,7 +35,7 @@ fn packs_the_known_words(rt: HostRuntime) {
     }
 }
 
-// Lists of parents, and what is told of them: the name of a refusal, or that they are taken.
+// Lists of parents, and the answer to them: the name of a refusal, or that they are taken.
 const PARENTS: [(&[u16], &str); 5] = [
     (&[], "NoTier"),
     (&[1], "ParentNotEarlier"),
@@ -44,14 +44,14 @@ const PARENTS: [(&[u16], &str); 5] = [
     (&[0, 0, 1, 2, 3, 4, 5], "taken"),
 ];
 
-// A parent, how many tiers have it, and what is told of them.
+// A parent, how many tiers have it, and the answer to them.
 const ALIKE: [(u16, usize, &str); 3] = [
     (0, 65, "TooManyTiers"),
     (1, 65, "TooManyTiers"),
     (0, 64, "taken"),
 ];
 
-// What is told of a list of parents.
+// The answer to a list of parents.
 fn told(alloc: Global, parents: &[u16]) -> &'static str {
     match Shape::from_parents(alloc, parents) {
         Ok(shape) if shape.count() == parents.len() => "taken",
@@ -60,7 +60,7 @@ fn told(alloc: Global, parents: &[u16]) -> &'static str {
     }
 }
 
-// What is told of so many tiers with this parent.
+// The answer to `count` tiers with this parent.
 fn told_alike(rt: &impl Abort, alloc: Global, parent: u16, count: usize) -> &'static str {
     let parents = Vec::from_elem(alloc, parent, count).expect(rt, "memory");
     told(alloc, &parents)

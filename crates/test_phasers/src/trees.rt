@@ -14,7 +14,7 @@ use tier_table::tree::Tree;
 /// A rule of a tree.
 pub type Rule = fn(u32, u32) -> bool;
 
-/// A tree ends where nobody is registered.
+/// A tree ends when nobody is registered.
 pub const WHEN_EMPTY: EndPlan = EndPlan {
     when_empty: true,
     at: None,

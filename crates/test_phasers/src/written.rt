@@ -61,7 +61,7 @@ fn joins<F: Fn(u32, u32) -> bool>(
     }
 }
 
-// A member arrives or leaves, where it isn't the last.
+// A member arrives or leaves, and isn't the last.
 fn goes<F: Fn(u32, u32) -> bool>(rt: &impl Abort, tree: &Tree<F>, crew: Crew, leaves: bool) -> Crew
     requires own { crew.tree ≡ tree.now.tree }
     requires rule { Answers (F.pre tree.now.rule.closure) (F.post tree.now.rule.closure) (end_ends_at tree.now.rule.plan) }
@@ -151,7 +151,7 @@ fn passes<R: Wait + Abort, F: Fn(u32, u32) -> bool>(rt: &R, tree: &Tree<F>, crew
     matches!(tree.leave_wait(rt, crew), ArrivedAtLast::Left(_, _, _))
 }
 
-// Threads pass, each with a member at a leaf of its own.
+// Threads pass, each with a member at a different leaf.
 fn threads_pass<R: Threads + Wait + Abort + Sync, F: Fn(u32, u32) -> bool + Sync>(
     rt: &R,
     alloc: Global,

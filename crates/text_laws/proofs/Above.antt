@@ -69,7 +69,7 @@ all-declare ls n ns e =
     ∙ ap (λ (x : List Word). x ++ declared_in (empty_bodies ns)) (ends-declare ls n)
     ∙ ap (λ (x : List Word). declared_in ls ++ x) (empty-declare ns e)
 
--- where no body is open
+-- if no body is open
 closed-as : (w : Seen) (names : List Word) → w.inside ≡ None → so_far w ≡ names
     → w ≡ record { format = w.format; arrays = w.arrays; bodies = names; starts = w.starts; inside = None }
 closed-as w names e f =

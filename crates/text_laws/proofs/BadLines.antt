@@ -57,7 +57,7 @@ found-in-front (l ∷ ls) (suc k) n m e h =
     if-same (list_all is_allowed l) (bad_line (n + 1) ls) (bad_line (n + 1) (take k ls)) n m e
     (λ f. found-in-front ls k (n + 1) m f (omega (arith, h)))
 
--- and in all lines behind those
+-- and in all lines after those
 pub found-behind : (ls back : List (List ℕ)) (n m : ℕ) → bad_line n ls ≡ Some m → bad_line n (ls ++ back) ≡ Some m
 found-behind [] back n m e = absurd cc
 found-behind (l ∷ ls) back n m e =

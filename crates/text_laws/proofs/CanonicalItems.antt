@@ -43,7 +43,7 @@ arrays-said format (a ∷ xs) bs ss = ap (with_item (AnArray a.0 a.1 a.1)) (arra
 pub items-said : (j : JobTree) → job_of j.format (canonical_items j) ≡ j
 items-said j = arrays-said j.format j.arrays j.bodies j.starts
 
--- the arrays that stand above what follows them
+-- the arrays that are above what follows them
 arrays-above : (format : ℕ) (xs : List (Word × List ℤ)) → array_names (job_of format (array_items xs)) ≡ map (λ a. a.0) xs
 arrays-above format [] = refl
 arrays-above format (a ∷ xs) = ap (λ (x : List Word). a.0 ∷ x) (arrays-above format xs)

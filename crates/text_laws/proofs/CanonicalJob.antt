@@ -38,8 +38,8 @@ use Rattle.text_laws.proofs.Heads.{listed-names}
 use Rattle.text_laws.proofs.CanonicalItems.{canonical_items, items-said, items-written, AllSound, items-sound}
 use Rattle.text_laws.proofs.Fitting.{below}
 
--- What the lines of a body need: names of their own, all that they name is there, their numbers fit, and in format 1 the
--- locals stand by first mention and no line is an add.
+-- What the lines of a body need: its locals have distinct names, all that they name exists, their numbers fit, and in
+-- format 1 the locals are in the order of first mention and no line is an add.
 pub record GoodBody (format : ℕ) (arrays bodies : List Word) (b : BodyTree) : Type 0 where
   pub name : is_free b.name ≡ true
   pub good : AreGood (names_above arrays bodies b)
@@ -72,7 +72,7 @@ body-plain format arrays bodies b g =
     ap (list_all is_plain_line) (sym (block-code s b.block)) ∙ code-plain s (flat b.block) g.good (all-lines s (flat b.block) g.fits g.numbers) in
     and-true _ _ (and-true _ _ (name-printed b.name g.name) (listed-printed (listed_in format b.locals) (listed-names format b.locals g.good.locals))) (list_all-append is_plain_line (block_lines s b.block) (end_words ∷ []) ∙ and-true _ true lines refl)
 
--- the locals behind words that mention them all in their order
+-- the locals after words that mention them all in their order
 behind-all : (format : ℕ) (ls ms : List Word) → (format ≡ 1 → noted [] ms ≡ ls) → locals_behind format (listed_in format ls) ms ≡ ls
 behind-all format ls ms h = by (format == 1) refl
   where

@@ -1,4 +1,4 @@
--- Lines that aren't skipped, one behind the other.
+-- Lines that aren't skipped, one after the other.
 use Rattle.std.proofs.Common.{◌≡◌, ℕ, ◌+◌, Bool, true, false, List, [], ◌∷◌, ◌++◌, Option, None, Result, Ok, refl, sym, ap, subst, ◌∙◌}
 use Rattle.std.specs.Prelude.{if◌then◌else◌}
 use Rattle.text_lines.specs.declared.refusal.Code.{Code}
@@ -33,7 +33,7 @@ reads-append bodies (x ∷ xs) ys p q r h k = (h.0, h.1, reads-append bodies xs 
 pub reads-one : (bodies : List Word) (ws : Words) (p q : Spot) → Passes bodies ws p q → Reads bodies (ws ∷ []) p q
 reads-one bodies ws p q h = (q, h, refl)
 
--- what is above a line where all bodies that were named are there
+-- what is above a line if all bodies that were named exist
 abbrev pub above : Spot → Above
 above p = record { job = p.0; inside = p.1; missing = None }
 
@@ -45,7 +45,7 @@ step-passes bodies n ws p q h =
 end-passes : (n : ℕ) (p q : Spot) (j : JobTree) → p ≡ q → q ≡ (j, None) → finished n (above p) p.1 None ≡ Ok j
 end-passes n p q j e f = ap (λ (r : Spot). finished n (above r) r.1 None) (e ∙ f)
 
--- the first line, and those behind it
+-- the first line, and those after it
 abbrev head_of : List Words → Words
 head_of [] = []
 head_of (w ∷ ws) = w
@@ -81,13 +81,13 @@ module _ (bodies : List Word) (l : List ℕ) (ls : List (List ℕ)) (n : ℕ) (j
       ∙ ap (λ (o : Option ℕ). read_behind bodies n o ls) (ap format_of first ∙ format-written format is)
       ∙ h (n + 1) ls others
 
--- lines that are read one behind the other are the lines of a text, where others are skipped
+-- lines that are read one after the other are the lines of a text, if others are skipped
 pub lines-read : (bodies : List Word) (ls : List (List ℕ)) (n : ℕ) (p q : Spot) (j : JobTree) → Reads bodies (kept ls) p q → q ≡ (j, None)
     → read_lines bodies n (above p) ls ≡ Ok j
 lines-read bodies [] n p q j h e = end-passes n p q j h e
 lines-read bodies (l ∷ ls) n p q j h e = line-read bodies l ls n j p q (is_skipped (words_of l)) refl h (λ r k. lines-read bodies ls (n + 1) r q j k e)
 
--- behind the first line that isn't skipped, which is the header
+-- after the first line that isn't skipped, which is the header
 pub header-read : (bodies : List Word) (format : ℕ) (ls : List (List ℕ)) (n : ℕ) (rest : List Words) (j : JobTree) → is_format format ≡ true
     → kept ls ≡ header_words format ∷ rest
     → ((m : ℕ) (behind : List (List ℕ)) → kept behind ≡ rest → read_lines bodies m (nothing format) behind ≡ Ok j)

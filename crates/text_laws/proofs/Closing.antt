@@ -1,4 +1,4 @@
--- Lines that are read, and the ends of what is open behind them, are a job's.
+-- Lines that are read, followed by the ends of what is open, are a job's.
 use Rattle.std.proofs.Common.{◌≡◌, inl, inr, ℕ, suc, ◌+◌, ◌-◌, ◌≤◌, Bool, true, false, List, [], ◌∷◌, ◌++◌, length, replicate, codes, Option, Some, None, Result, Ok, Err, refl, sym, ap, subst, ◌∙◌, arith}
 use Rattle.std.specs.Prelude.{if◌then◌else◌, nat_le, nat_lt, ◌||◌, not, ℤ}
 use Rattle.std.proofs.lemmas.Grind.{common_steps}
@@ -75,7 +75,7 @@ said-within v o l w e =
     subst (λ (x : Seen). IsWithin x.inside) f.1
     (behind-within v o n k (see_step l o.open_lines) f.0 (λ js h. step-length l o.open_lines js h))
 
--- what lines outside bodies leave behind
+-- what lines outside bodies leave
 abbrev pub after_array : Seen → Word × List ℤ → Seen
 after_array v x = record { format = v.format; arrays = v.arrays ++ x.0 ∷ []; bodies = v.bodies; starts = v.starts; inside = None }
 

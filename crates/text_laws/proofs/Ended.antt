@@ -1,4 +1,4 @@
--- Lines that are read to their end are a job's text, where they name no body that isn't there.
+-- Lines that are read to their end are a job's text, if each body that they name exists.
 use Rattle.std.proofs.Common.{◌≡◌, inl, inr, ℕ, ◌+◌, ◌≤◌, Bool, true, false, ◌&&◌, List, [], ◌∷◌, length, Option, Some, None, option_map, Result, Ok, refl, sym, ap, ◌∙◌}
 use Rattle.std.specs.Prelude.{if◌then◌else◌, not}
 use Rattle.std.specs.List.{list_all}

@@ -79,7 +79,7 @@ action-is s (action.Spawn b x) f n e =
 action-is s action.Sync f n e = tt
 action-is s action.Stop f n e = tt
 
--- an `else` may stand where it is taken
+-- an `else` is allowed if it is taken
 else-fits : (n : ℕ) (fs : List Frame) (b : Block) (s : List Frame × Block) → step_of (line.Else n) fs b ≡ Some s → can_else fs ≡ true
 else-fits n [] b s e = absurd cc
 else-fits n (InIf x y ∷ fs) b s e = refl

@@ -1,4 +1,4 @@
--- Lines behind one another, up to the first that is refused.
+-- Lines after one another, up to the first that is refused.
 use Rattle.std.proofs.Common.{◌≡◌, ◌⊎◌, inl, inr, ℕ, ◌+◌, ◌-◌, Bool, true, false, List, [], ◌∷◌, ◌++◌, length, slice_get, Option, Some, None, option_map, Result, Ok, Err, refl, sym, ap, subst, ◌∙◌, arith, append_assoc, length-append}
 use Rattle.std.specs.Prelude.{if◌then◌else◌, unwrap_or}
 use Rattle.text_lines.specs.declared.refusal.Code.{Code}
@@ -39,7 +39,7 @@ abbrev pub see_first : Option ℕ → Result (Option Seen) Code
 see_first None = Err BadHeader
 see_first (Some format) = Ok (Some (seen (nothing format)))
 
--- a line where the header may still be to come
+-- a line at which the header may still be to come
 abbrev pub step : List Word → ℕ → Option Above → Words → Result (Option Above) Code
 step bodies n None ws = if is_skipped ws then Ok None else first_step (format_of ws)
 step bodies n (Some a) ws = made (λ b. Some b) (kept_step bodies n a ws)
@@ -94,7 +94,7 @@ made-err : {A B : Type 0} (f : A → B) (r : Result A Code) (c : Code) → made 
 made-err f (Ok x) c e = absurd cc
 made-err f (Err d) c e = let same : d ≡ c = cc in ap (λ x. Err x) same
 
--- where a line is refused, and what is read in front of it
+-- the line that is refused, and what is read in front of it
 pub record IsFault (v : Option Seen) (n : ℕ) (ls : List (List ℕ)) (r : Refusal) : Type 0 where
   pub front : List (List ℕ)
   pub line : List ℕ

@@ -16,7 +16,7 @@ use Rattle.text_laws.proofs.Folds.{IsFault, IsLate, told, stays}
 use Rattle.text_laws.proofs.BadLines.{bad_line, by-lines, found-in-front, found-behind}
 use Rattle.job_reader.proofs.ReadJobs.{short-enough as short-text}
 
--- a short text is read behind its bytes
+-- a short text is read after its bytes
 pub short-read : (text : List ℕ) → length text ≤ 1048576
     → job_in text ≡ unless_bad (bad_byte_line 1 text) (read_from (declared (lines_of text)) 1 (lines_of text))
 unfolding job_in
@@ -40,7 +40,7 @@ byte-stays text other m alike e =
     ∙ subst (λ (x : List (List ℕ)). bad_line 1 x ≡ Some m) (take-append-drop m (lines_of other))
     (found-behind (take m (lines_of other)) (drop m (lines_of other)) 1 m theirs)
 
--- the first lines, and others behind them
+-- the first lines, and others after them
 alike-parts : (front : List (List ℕ)) (l : List ℕ) (back ls : List (List ℕ)) (n : ℕ) → n ≡ 1 + length front
     → take n (front ++ l ∷ back) ≡ take n ls → ls ≡ front ++ l ∷ drop n ls
 alike-parts front l back ls n e h =

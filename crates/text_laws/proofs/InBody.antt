@@ -36,7 +36,7 @@ use Rattle.text_laws.proofs.Known.{are_below, all-known, names-front, noted-all}
 use Rattle.text_laws.proofs.Fitting.{locals-below, line-is, line-found}
 use Rattle.job_reader.proofs.BodyCounts.{length-step as step-opens}
 
--- an open body with its locals behind a line
+-- an open body with its locals after a line
 abbrev pub noting : ℕ → Inside → Words → Inside
 noting format o ws = record o { locals = locals_behind format o.locals (mentions_of ws) }
 
@@ -59,7 +59,7 @@ said-passes bodies j o (k ∷ ws) l e f g =
 not-over : (a b c : ℕ) → a ≤ 1024 → b ≤ 32 → c ≤ 16 → is_over a b c ≡ false
 not-over a b c h k l = grind (arith, common_steps)
 
--- a line does as it does once it is read, where jumps aren't known and ends look alike
+-- a line does as it does once it is read, while jumps aren't known and ends look alike
 step-read : (l : Line) (fs : List Frame) (b : Block) → step_of (as_read l) fs b ≡ step_of l fs b
 step-read (line.Do a) fs b = refl
 step-read (line.If e n) fs b = refl
@@ -123,7 +123,7 @@ pub record IsAhead (format : ℕ) (s : Names) (o : Inside) (ls : List Line) (end
   pub count : o.statements + statements ls ≤ 1024
   pub depth : deepest (length o.frames) ls ≤ 16
 
--- in a body with these locals, behind the arrays and among the bodies of these names
+-- in a body with these locals, after the arrays and among the bodies of these names
 module _ (bodies : List Word) (j : JobTree) (locals : List Word)
     (good_arrays : are_names (array_names j) ≡ true)
     (good_bodies : are_names bodies ≡ true)
@@ -136,7 +136,7 @@ module _ (bodies : List Word) (j : JobTree) (locals : List Word)
   good front more e =
       record { arrays = good_arrays; bodies = good_bodies; locals = names-front front more (subst (λ (x : List Word). are_names x ≡ true) (sym e) good_locals) }
 
-  -- the locals that a line mentions are those noted behind it
+  -- the locals that a line mentions are those noted after it
   known : (before more : List Word) (l : Line) (fs : List Frame) (b : Block) (st : List Frame × Block) → fits_line l ≡ true → line_fits all l ≡ true
       → step_of l fs b ≡ Some st
       → noted before (mentions_of (line_words all l)) ++ more ≡ locals
@@ -210,7 +210,7 @@ module _ (bodies : List Word) (j : JobTree) (locals : List Word)
       ap (λ (x : List Frame × Block). record { name = o.name; locals = o.locals; frames = x.0; block = x.1; statements = o.statements }) e
       ∙ ap (λ (x : List Word). record { name = o.name; locals = x; frames = end.0; block = end.1; statements = o.statements }) f
 
-  -- the lines of code are read one behind the other
+  -- the lines of code are read one after the other
   pub code-reads : (ls : List Line) (o : Inside) (end : List Frame × Block) → IsAhead j.format all o ls end
       → (n : ℕ) × (n ≤ 1024) × Reads bodies (code_lines all ls) (j, Some o) (j, Some (at_end o end n))
   code-reads [] o end h =
@@ -243,7 +243,7 @@ module _ (bodies : List Word) (j : JobTree) (locals : List Word)
       }) in
       (rest.0, rest.1, ((j, Some o'), passes, rest.2))
 
--- an end where no line is open ends the body
+-- an end when no line is open ends the body
 pub end-passes : (bodies : List Word) (j : JobTree) (name : Word) (locals : List Word) (b : Block) (n : ℕ) → n ≤ 1024 → length locals ≤ 32
     → Passes bodies end_words (j, Some (record { name = name; locals = locals; frames = []; block = b; statements = n }))
     (record j { bodies = j.bodies ++ (record { name = name; locals = locals; block = b }) ∷ [] }, None)

@@ -85,7 +85,7 @@ items-fit format (AStart s ∷ is) h =
       }),
     )
 
--- a job, and items behind it
+-- a job, and items after it
 abbrev pub joined : JobTree → JobTree → JobTree
 joined k j = record { format = k.format; arrays = k.arrays ++ j.arrays; bodies = k.bodies ++ j.bodies; starts = k.starts ++ j.starts }
 
@@ -106,7 +106,7 @@ joined-next format k (AStart s) is =
     let j : JobTree = job_of format is in
     ap (λ (x : List Start). record { format = k.format; arrays = k.arrays ++ j.arrays; bodies = k.bodies ++ j.bodies; starts = x }) (append_assoc k.starts (s ∷ []) j.starts)
 
--- names of their own, and few of each kind
+-- distinct names, and few of each kind
 pub record IsRoomy (t : JobTree) : Type 0 where
   pub arrays : are_names (array_names t) ≡ true
   pub few_arrays : length t.arrays ≤ 16
@@ -191,7 +191,7 @@ job-format format (AnArray name given cells ∷ is) = job-format format is
 job-format format (ABody b ∷ is) = job-format format is
 job-format format (AStart s ∷ is) = job-format format is
 
--- a job behind nothing of its format
+-- a job after nothing of its format
 pub joined-none : (format : ℕ) (is : List Item) → joined (no_job format) (job_of format is) ≡ job_of format is
 joined-none format is =
     let j : JobTree = job_of format is in

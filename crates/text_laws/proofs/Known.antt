@@ -79,7 +79,7 @@ other-bytes true p n names h there apart =
     absurd cc
 other-bytes false p n names h there apart = refl
 
--- a name behind others of its own isn't among them
+-- a name after others that differ from it isn't among them
 pub behind-new : (front : List Word) (n : Word) (more : List Word) → are_names (front ++ n ∷ more) ≡ true → is_among front n ≡ false
 behind-new [] n more e = refl
 behind-new (p ∷ ps) n more e =

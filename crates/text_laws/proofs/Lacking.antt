@@ -77,7 +77,7 @@ module _ (w : Word) (free : is_free w ≡ true) where
       ap (λ (b : Bool). if b || false then Err Twice else if nat_le 64 (length v.bodies) || false then Err TooMany else Ok (after_body v head)) e
       ∙ ap (λ (b : Bool). if b || false then Err TooMany else Ok (after_body v head)) f
 
-  -- a body of this name, and lines behind it
+  -- a body of this name, and lines after it
   body-read : (format : ℕ) (arrays there : List Word) (starts : ℕ) (ls : List (List ℕ)) → is_among there w ≡ false → nat_le 64 (length there) ≡ false
       → see_lines (Some (record { format = format; arrays = arrays; bodies = there; starts = starts; inside = None })) ((codes "body " ++ w) ∷ codes "end" ∷ ls)
       ≡ see_lines (Some (record { format = format; arrays = arrays; bodies = there ++ w ∷ []; starts = starts; inside = None })) ls

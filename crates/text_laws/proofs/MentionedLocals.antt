@@ -133,7 +133,7 @@ code-mentions s (l ∷ ls) g h =
     ∙ ap (λ (x : List Word). map (name_at s.locals) (mentions.in_line l) ++ x) (code-mentions s ls g h.1)
     ∙ sym (map-append (name_at s.locals) (mentions.in_line l) (mentions.mentions ls))
 
--- locals behind those that the first mention of the rest is of
+-- locals after those that the first mention of the rest is of
 abbrev pub NotesFirsts : List Word → ℕ → List ℕ → Type 0
 NotesFirsts ns m is = (k : ℕ) → mentions.mentioned k is ≡ Some m → noted (take k ns) (map (name_at ns) is) ≡ take m ns
 

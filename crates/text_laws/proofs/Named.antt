@@ -1,4 +1,4 @@
--- The bodies that lines declare and name, where they are read.
+-- The bodies that lines declare and name, if they are read.
 use Rattle.std.proofs.Common.{◌≡◌, ℕ, Bool, true, false, ◌&&◌, List, [], ◌∷◌, ◌++◌, codes, Option, Some, None, Result, Ok, Err, refl, sym, ap, subst, ◌∙◌, append-nil}
 use Rattle.std.specs.Prelude.{if◌then◌else◌, not, length}
 use Rattle.std.specs.List.{cons_option, list_all}

@@ -88,7 +88,7 @@ see_outer v (Some outer.Array) ws = array_of ws >>= see_array v
 see_outer v (Some outer.Body) ws = body_of v.format ws >>= see_body v
 see_outer v (Some outer.Start) ws = start_of [] ws >>= see_start v
 
--- what a line makes of the open lines: nothing where it ends the body
+-- what a line makes of the open lines: nothing if it ends the body
 abbrev pub see_step : Line → List Kind → Option (List Kind)
 see_step (line.Do a) ks = Some ks
 see_step (line.If e n) ks = Some (AnIf ∷ ks)

@@ -268,7 +268,7 @@ skip-seen : (a : Above) (b : Bool) (r : Result Above Code) (s : Result Seen Code
 skip-seen a true r s e = refl
 skip-seen a false r s e = e
 
--- a line of the text is read alike where what is above it is seen alike, whatever bodies the text has
+-- a line of the text is read alike if what is above it is seen alike, whatever bodies the text has
 pub line-seen : (bodies : List Word) (n : ℕ) (a : Above) (ws : Words) → made seen (kept_step bodies n a ws) ≡ see (seen a) ws
 line-seen bodies n a ws =
     skip-seen a (is_skipped ws) (line_step bodies n a ws) (see_any (seen a) (option_map seen_body a.inside) ws)

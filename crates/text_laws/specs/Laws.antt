@@ -23,7 +23,7 @@ TextsOfJobsAreRead = (text : List ℕ) (j : JobTree) → IsTextOfJob j text → 
 abbrev pub OneJobAText : Type 0
 OneJobAText = (text : List ℕ) (j k : JobTree) → IsTextOfJob j text → IsTextOfJob k text → j ≡ k
 
--- A text is read as a job exactly where it is a text of that job.
+-- A text is read as a job exactly if it is a text of that job.
 abbrev pub TextsAreReadAsTheirJobs : Type 0
 TextsAreReadAsTheirJobs = (text : List ℕ) (j : JobTree) → (job_in text ≡ Ok j) ↔ IsTextOfJob j text
 
@@ -35,7 +35,7 @@ IsAJobs text = (j : JobTree) × IsTextOfJob j text
 abbrev pub EachTextIsOneJobsOrRefused : Type 0
 EachTextIsOneJobsOrRefused = (text : List ℕ) → (IsAJobs text ⊎ IsRefused text) × (IsAJobs text → IsRefused text → ⊥)
 
--- The canonical text of a job, where it is short, is read as that job.
+-- The canonical text of a job is read as that job, if it is short.
 abbrev pub CanonicalTextsAreRead : Type 0
 CanonicalTextsAreRead = (j : JobTree) → IsJobTree j → length (canonical_text j) ≤ most_bytes → job_in (canonical_text j) ≡ Ok j
 

@@ -39,7 +39,7 @@ PlainTextsAreRefusedAlike =
     (text other : List ℕ) (r : Refusal) → IsRefusedOfALine text r → BeginAlike r.line text other → length other ≤ most_bytes → bad_byte_line 1 other ≡ None
     → job_in other ≡ Err r
 
--- Of the lines above that line, where the bytes of the text are allowed, no text is refused that has them.
+-- If the bytes of the text are allowed, no text that has the lines above that line is refused at one of them.
 abbrev pub LinesAboveAreRead : Type 0
 LinesAboveAreRead =
     (text other : List ℕ) (r s : Refusal) → IsRefusedOfALine text r → bad_byte_line 1 text ≡ None → BeginAlike (r.line - 1) text other
@@ -71,7 +71,7 @@ abbrev pub empty_bodies : List Word → List (List ℕ)
 empty_bodies [] = []
 empty_bodies (n ∷ ns) = (codes "body " ++ n) ∷ codes "end" ∷ empty_bodies ns
 
--- the text of these lines, of so many ends, and of a body of each name that is missing
+-- the text of these lines, of this many ends, and of a body for each missing name
 abbrev pub completed : List (List ℕ) → ℕ → List ℕ
 completed lines n = joined (lines ++ (replicate n (codes "end") ++ empty_bodies (missing_in lines)))
 
@@ -79,8 +79,8 @@ completed lines n = joined (lines ++ (replicate n (codes "end") ++ empty_bodies 
 abbrev pub above : List ℕ → ℕ → List (List ℕ)
 above text n = take (n - 1) (lines_of text)
 
--- Lines may go on to a job: with the ends of what is open, at most 17, and empty bodies of the names that are missing they
--- are a job's, where a text has room for all.
+-- Lines may be the beginning of a job: with the ends of what is open, at most 17, and empty bodies for the missing
+-- names they are a job's, if a text has room for all.
 abbrev pub IsABeginning : List (List ℕ) → Type 0
 IsABeginning lines =
     (n : ℕ) × (n ≤ 17)
@@ -97,8 +97,8 @@ pub record IsOfItsLine (text : List ℕ) (r : Refusal) : Type 0 where
   pub holds : (other : List ℕ) (j : JobTree) → BeginAlike r.line text other → IsTextOfJob j other → ⊥
   pub above : IsABeginning (above text r.line)
 
--- Each refusal of a short text of allowed bytes, unless for want of the header, is of its line, or the whole text may go on to
--- a job.
+-- Each refusal of a short text of allowed bytes, unless it is for a missing header, is of its line, or the whole text
+-- may be the beginning of a job.
 abbrev pub RefusalsAreOfALineOrTextsGoOn : Type 0
 RefusalsAreOfALineOrTextsGoOn =
     (text : List ℕ) (r : Refusal) → job_in text ≡ Err r → length text ≤ most_bytes → bad_byte_line 1 text ≡ None → r.code ≢ BadHeader

@@ -6,7 +6,7 @@ use Rattle.job_reader.specs.Grammar.{canonical_text}
 use Rattle.job_reader.specs.Reading.{job_in}
 use Rattle.job_reader.specs.Upgrade.{upgraded_tree}
 
--- What a read job is written as in format 2, where it is short, is read as that job in format 2.
+-- What a read job is written as in format 2 is read as that job in format 2, if it is short.
 abbrev pub UpgradedTextsAreRead : Type 0
 UpgradedTextsAreRead =
     (text : List ℕ) (j : JobTree) → job_in text ≡ Ok j → length (canonical_text (upgraded_tree j)) ≤ most_bytes

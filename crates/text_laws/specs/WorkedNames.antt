@@ -1,4 +1,4 @@
--- Which bytes a text may have, which may stand in a name, and which words are no names, in numbers and written down (own).
+-- Which bytes a text may have, which a name may have, and which words are no names, in numbers and written down (own).
 use Rattle.std.specs.Prelude.{◌≡◌, ◌⊎◌, ◌↔◌, ◌≤◌, ℕ, true, false, List, [], ◌∷◌, ◌++◌, filter, length, replicate, codes, None, Some}
 use Rattle.std.specs.List.{list_all, list_any}
 use Rattle.std.specs.Str.{bytes_eq}
@@ -45,7 +45,8 @@ words =
     codes "arg" ∷ codes "step" ∷ codes "let" ∷ codes "put" ∷ codes "add" ∷ codes "print" ∷ codes "spawn" ∷ codes "sync" ∷ codes "stop" ∷ codes "if"
     ∷ codes "else" ∷ codes "while" ∷ codes "end" ∷ codes "array" ∷ codes "body" ∷ codes "start" ∷ codes "bsp" ∷ []
 
--- A name has 1 to 16 of 37 bytes: 26 letters, of which one comes first, ten digits and the underscore. 17 words are none.
+-- A name has 1 to 16 bytes out of 37: 26 letters, one of them first, ten digits and the underscore. 17 words are no
+-- names.
 pub record NamesAreTold : Type 0 where
   pub first : (c : ℕ) (cs : Word) → (begins_lower (c ∷ cs) ≡ true) ↔ IsFrom 97 122 c
   pub all : (c : ℕ) → (is_in_name c ≡ true) ↔ (IsFrom 97 122 c ⊎ (IsFrom 48 57 c ⊎ (c ≡ 95)))

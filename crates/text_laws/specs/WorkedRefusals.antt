@@ -15,7 +15,7 @@ counting =
     TooLong ∷ BadByte ∷ BadHeader ∷ UnknownLine ∷ BadNesting ∷ BadLine ∷ Reserved ∷ BadName ∷ BadNumber ∷ BadLength ∷ UnknownName ∷ Twice ∷ TooMany
     ∷ Unclosed ∷ []
 
--- it counts before each of these, whichever of the two stands first in the line
+-- it counts before each of these, whichever of the two is first in the line
 abbrev pub counts_before : Code → List Code → Bool
 counts_before c ds = list_all (λ d. (code_number (earlier c d) == code_number c) && (code_number (earlier d c) == code_number c)) ds
 
@@ -23,7 +23,7 @@ abbrev pub are_in_order : List Code → Bool
 are_in_order [] = true
 are_in_order (c ∷ cs) = counts_before c cs && are_in_order cs
 
--- Of two faults of a line that counts whose code stands further in front in the list.
+-- Of two faults of a line the one counts whose code is further to the front of the list.
 abbrev pub FaultsCountInOrder : Type 0
 FaultsCountInOrder = are_in_order counting ≡ true
 

@@ -47,7 +47,7 @@ first_job = record {
   starts = record { body = 0; arg = pos 0 } ∷ [];
 }
 
--- a body that has a local of its own name
+-- a body that has a local with the body's name
 abbrev pub named_job : JobTree
 named_job = record {
   format = 2;

@@ -20,7 +20,7 @@ pub fn one_job_a_text()
     ensures { OneJobAText }
 {}
 
-/// A text is read as a job exactly where it is a text of that job.
+/// A text is read as a job exactly if it is a text of that job.
 pub fn texts_are_read_as_their_jobs()
     ensures { TextsAreReadAsTheirJobs }
 {}
@@ -30,7 +30,7 @@ pub fn each_text_is_one_jobs_or_refused()
     ensures { EachTextIsOneJobsOrRefused }
 {}
 
-/// The canonical text of a job, where it has no more bytes than a text may have, is read as that job.
+/// The canonical text of a job is read as that job, if it has no more bytes than a text may have.
 pub fn canonical_texts_are_read()
     ensures { CanonicalTextsAreRead }
 {}

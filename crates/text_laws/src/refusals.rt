@@ -18,14 +18,15 @@ pub fn lines_above_are_read()
     ensures { LinesAboveAreRead }
 {}
 
-/// Where a text of allowed bytes is refused of one of its lines, the lines above it may go on to a job: with an `end` for
-/// all that is open and an empty body of each name that is missing they are a job's, where a text has room for these.
+/// If a text of allowed bytes is refused at one of its lines, the lines above may be the beginning of a job: with an
+/// `end` for all that is open and an empty body for each missing name they are a job's, if a text has room for these.
 pub fn lines_above_go_on()
     ensures { LinesAboveGoOn }
 {}
 
-/// A refusal, but for length, for a byte and for want of the header, is of a line that no job's text has below these lines
-/// above, which themselves may go on to a job, or else the whole text may go on to a job.
+/// A refusal is of a line that no job's text has after the lines above it, while those lines may be the beginning of a
+/// job. Or the whole text may be the beginning of a job. This leaves out refusals for the length, for a byte and for a
+/// missing header.
 pub fn refusals_are_of_a_line_or_texts_go_on()
     ensures { RefusalsAreOfALineOrTextsGoOn }
 {}

@@ -2,8 +2,8 @@
 ghost use Rattle.text_laws.specs.Upgrades.{UpgradedTextsAreRead, UpgradingTwiceIsUpgradingOnce};
 ghost use Rattle.text_laws.specs.WorkedSecond.{SecondFormatIsWorkedOut};
 
-/// What a read job is written as in format 2, where it has no more bytes than a text may have, is read as that job in
-/// format 2.
+/// What a read job is written as in format 2 is read as that job in format 2, if it has no more bytes than a text may
+/// have.
 pub fn upgraded_texts_are_read()
     ensures { UpgradedTextsAreRead }
 {}
@@ -13,8 +13,8 @@ pub fn upgrading_twice_is_upgrading_once()
     ensures { UpgradingTwiceIsUpgradingOnce }
 {}
 
-/// What texts of format 2 are read as and written as again, what a job of format 1 is upgraded to, and refusals that tell
-/// the formats apart, are written down and not said by a rule.
+/// What texts of format 2 are read as and written as again, what a job of format 1 is upgraded to, and refusals that
+/// distinguish the formats, all written down without a rule.
 pub fn second_format_is_worked_out()
     ensures { SecondFormatIsWorkedOut }
 {}

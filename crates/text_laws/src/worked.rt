@@ -13,7 +13,7 @@ pub fn first_bytes_are_told()
     ensures { FirstBytesAreTold }
 {}
 
-/// A name has 1 to 16 of 37 bytes, of which 26 may come first, and is none of 17 words.
+/// A name has 1 to 16 bytes out of 37, of which 26 may come first, and is none of 17 words.
 pub fn names_are_told()
     ensures { NamesAreTold }
 {}

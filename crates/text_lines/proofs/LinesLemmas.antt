@@ -1,4 +1,4 @@
--- The first line of a text, and the first word of a line, by the place where they end.
+-- The first line of a text, and the first word of a line, by the place at which they end.
 use Rattle.std.proofs.Common.{◌≡◌, ◌≢◌, ℕ, ◌+◌, ◌<◌, ◌≤◌, zero, suc, true, false, nat_eq, List, [], ◌∷◌, length, take, drop, get_or, ap, ◌∙◌, refl, arith}
 use Rattle.std.proofs.lemmas.Grind.{common_steps}
 use Rattle.text_lines.specs.Text.{lines_of, words_of, onto_first, begins_word}

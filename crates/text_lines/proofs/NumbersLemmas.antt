@@ -46,7 +46,7 @@ none_other word text m t h ne n f same =
 pub none_not_text : (word : List ℕ) → (IsUtf8 word → ⊥) → (n : ℤ) → FitsSigned w64 n → word ≢ signed_decimal n
 none_not_text word h n f same = h (rw same (IsUtf8-from_ascii (signed_decimal n) (IsAscii-signed n (mag_of n f))))
 
--- a word that a test tells from a number's text is another
+-- a word that a test distinguishes from a number's text is another
 pub not_written : (same : Bool) (m : ℤ) (word : List ℕ) → FitsSigned w64 m → (same ≡ true) ↔ (word ≡ signed_decimal (to_z w64 (of_z w64 m)))
     → same ≡ false → signed_decimal m ≢ word
 not_written same m word f tells fails w =

@@ -14,12 +14,12 @@ abbrev pub is_word : List ℕ → Bool
 is_word [] = false
 is_word (c ∷ cs) = list_all (λ d. not (d == 32)) (c ∷ cs)
 
--- lines with an LF behind each
+-- lines, each followed by an LF
 abbrev pub joined : List (List ℕ) → List ℕ
 joined [] = []
 joined (l ∷ ls) = l ++ 10 ∷ joined ls
 
--- words with a space behind each
+-- words, each followed by a space
 abbrev pub spaced : List (List ℕ) → List ℕ
 spaced [] = []
 spaced (w ∷ ws) = w ++ 32 ∷ spaced ws

@@ -4,7 +4,7 @@ use Rattle.text_lines.specs.declared.refusal.Code.{Code}
 use Rattle.text_lines.specs.declared.refusal.Code.TheVariants.{BadByte}
 use Rattle.text_lines.specs.declared.refusal.Refusal.{Refusal}
 
--- what is read next, where nothing was refused before
+-- what is read next, if nothing was refused before
 infixl 10 ◌>>=◌
 abbrev pub ◌>>=◌ : {A B E : Type 0} → Result A E → (A → Result B E) → Result B E
 (Ok x) >>= f = f x

@@ -82,7 +82,7 @@ home_of ps least home tier size v a (Owing passage) sh fits more none = absurd s
 home_of ps least home tier size v a (Due passage) sh fits more none = absurd sh
 home_of ps least home tier size v a (Refreshing passed_on) sh fits more none = absurd sh
 
--- a call that joins, from where it began
+-- a call that joins, from the point at which it began
 module _ (n : Named) (least home tier size tries : ℕ) (o g : Going) (start : JoinAt n.key.shape least home tier size o.token.view o.answer o.progress) (ran : Ran n tries o g) where
   shown : JoinAt n.key.shape least home tier size g.token.view g.answer g.progress
   shown = joins_do_as_asked n.key least home tier size (position o) (position g) start (ran.went.goes (position o) starts)

@@ -78,7 +78,7 @@ among (m ∷ vs) (suc id) l at = let r = among vs id l at in record {
   is = ap (λ (z : List View). those m ++ z) r.is ∙ sym (append_assoc (those m) r.front (those l ++ r.back));
 }
 
--- some views are told first
+-- some views are given first
 moved_first : (f : View → ℕ) (a m b : List View) → sum_by f (m ++ (a ++ b)) ≡ sum_by f (a ++ (m ++ b))
 moved_first f a m b =
     let p = sum_by-append f m (a ++ b) in let q = sum_by-append f a b in let r = sum_by-append f a (m ++ b) in let s = sum_by-append f m b in omega arith

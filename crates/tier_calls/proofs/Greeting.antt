@@ -1,4 +1,4 @@
--- A door that joins at a tier where a crew has an unarrived member.
+-- A door that joins at a tier at which a crew has an unarrived member.
 use Rattle.std.proofs.Common.{◌≡◌, ◌≢◌, ℕ, zero, suc, ◌+◌, ◌-◌, ◌≤◌, ◌<◌, inr, ⊎_elim, Bool, true, false, cond, eqb, not, ◌&&◌, ◌||◌, ltb, List, ◌∷◌, length, refl, sym, ◌∙◌, ap, subst, arith, Some, None}
 use Rattle.std.proofs.lemmas.Bool.{eq-eqb, ne_eqb, lt-ltb, ltb-false}
 use Rattle.flat_phaser.proofs.Everyone.{either}
@@ -133,7 +133,7 @@ peeks_end {h} {h'} {t} size tries took e =
     let k : looking (Join t 0 size) t h'.word ≡ Look = ended_at t t 0 size h'.word e z in
     ap (λ (v : View). v.end_seen) (took.view ∙ ap (λ (k : Kind). view_after (parent_of h.tree.key.shape t) k t h'.word h.view) k) ∙ look_end h'.word h.view e
 
--- where the tier waits, only want of room refuses
+-- if the tier waits, only a lack of room refuses
 room_alone : (size : ℕ) (w : Fields) → (0 < w.parties) × (0 < w.unarrived) → is_refusing size w ≡ has_no_room size w
 room_alone size w some = go (has_no_room size w) (eqb w.unarrived 0) (is_being_opened w) (ne_eqb w.unarrived 0 (λ e. let a = some.1 in absurd (omega arith)))
     (ap (λ (b : Bool). cond b (eqb w.unarrived 2) false) (ne_eqb w.parties 0 (λ e. let a = some.0 in absurd (omega arith))))
@@ -366,7 +366,7 @@ ended_word {u} {w} {w'} is same e = ap (λ (z : Fields). z.ended) (sym (is ∙ s
 pub still_fresh : {h h' : Holding} → Looked Look 0 h h' → h'.word.ended ≡ false → IsFresh h'.view
 still_fresh {h} {h'} took e = first_fresh took e
 
--- a crew with an unarrived member stays as it is where it looks at the root
+-- a crew with an unarrived member stays as it is if it looks at the root
 pub stays_same : {c c' : Holding} → c.view.arrived < c.view.size → Looked Look 0 c c' → IsSame c.view c'.view
 stays_same {c} {c'} some took = subst (IsSame c.view) (sym took.view) (still_glance 0 0 c'.word c.view (λ z. inr some))
 

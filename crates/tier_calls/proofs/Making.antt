@@ -149,7 +149,7 @@ module _ (k : Key) (own : Passage) (P C : View → Type 0) (Q R : List Kind → 
   made_along at m (looks at' w go fits g beside) =
       look_made k.shape own P C Q R waits climbs counts at' w (shown at' go) fits g beside (made_along at' m go)
 
--- what is made on the way to the own step, and behind it
+-- what is made on the way to the step at the token's tier, and after it
 pub stepped_more : (own : Passage) (old : List Kind) (k : Kind) (ks : List Kind) → is_upward k ≡ true → HasStepped own old ks → HasStepped own old (k ∷ ks)
 stepped_more own old k ks such m = (m.0, m.1, made_more is_upward k (own_kind own ∷ m.0) ks such m.2)
 

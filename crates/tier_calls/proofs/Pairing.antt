@@ -38,7 +38,7 @@ pub both_look : {k : Key} {x y : Sight} {joined : Seat} (slots seat : ℕ) → j
 both_look {k} {x} {y} {joined} slots seat is own own' some =
     subst (λ (m : Seat). Allows (Kept k) slots seat m 0 (λ n. n) (SawBoth (step slots 0 0 0 none) m)) (sym is) (both_allow k slots seat x y own own' some)
 
--- what both are told
+-- what both learn
 pub record Pair (n : ℕ) (me mo me' mo' : Seat) (v u : View) (o : Option Fields) : Type 0 where
   pub word : Fields
   pub some : o ≡ Some word

@@ -87,12 +87,12 @@ open_pass t kind w r (over e k at) quiet = not_both (is_look r.kind) (ap is_look
 open_pass t kind w r (behind e k at) quiet = e
 open_pass t kind w r (passes e k at) quiet = e
 
--- the own step leads nothing
+-- the step at the token's tier leads nothing
 pub own_led : (own : Passage) (above t : ℕ) (w : Fields) (u : View) → u.led ≡ false → (view_after above (own_kind own) t w u).led ≡ false
 own_led Arrival above t w u l = l
 own_led Departure above t w u l = l
 
--- the own step counts a member
+-- the step at the token's tier counts a member
 own_counts : (own : Passage) (above t : ℕ) (w : Fields) (v u : View) → u.arrived < u.size → IsSame v u → HasCounted own v (view_after above (own_kind own) t w u)
 own_counts Arrival above t w v u lt s = record {
   tier = s.tier;
@@ -151,7 +151,7 @@ module _ (ps : List ℕ) (own : Passage) (P C : View → Type 0) (stays : (u u' 
       (goes_as_owed u.phase (passed t passage w).parties (parent_of ps t) t w passage passage' (record u { errand = owed (parent_of ps t) t passage w })
       (keeps u (record u { errand = owed (parent_of ps t) t passage w }) c (record { tier = refl; size = refl; phase = refl; arrived = refl })) l refl)))
 
-  -- the own step
+  -- the step at the token's tier
   own_shown : (t : ℕ) (w : Fields) (u : View) → u.arrived < u.size → P u → IsFresh u
       → let r = pass_turn ps own t own (own_kind own) (Passing own) (end_shown w) w u in PassAt own P C (view_after (parent_of ps t) r.kind t w u) r.answer r.next
   own_shown t w u lt s fresh =

@@ -30,7 +30,7 @@ runnable ps kind t w v b needs =
 pub legal_word : (ps : List ℕ) (t : ℕ) (w : Fields) (v : View) → Beside ps t w v → IsLegal w
 legal_word ps t w v b = subst IsLegal b.word (b.tally.legal t b.within)
 
--- what a seat stands for
+-- the value of a seat
 abbrev pub holding : TableId → Me Kind (List Sight) → View → ℕ → Fields → Holding
 holding id me v t w = record { tree = record { id = id; key = (sight_of me).key }; view = v; tier = t; word = w; tried = (sight_of me).tried; steps = (sight_of me).steps; opened = (sight_of me).opened }
 
@@ -86,7 +86,7 @@ moved_by kind t w tries me me' v t0 w0 seat y is s =
       before = subst (Beside k.shape t w) seat.view s.before;
     }
 
--- what a look tells
+-- what a look reports
 pub record Saws (kind : Kind) (t n : ℕ) (me me' : Me Kind (List Sight)) (v : View) (tries : ℕ) : Type 0 where
   pub word : Fields
   pub legal : IsLegal word
@@ -102,7 +102,7 @@ looked_at kind t slots n me me' v t0 w0 seat told = let r = told (sight_of me) s
   moved = moved_by (looking kind t r.2) t r.2 0 me me' v t0 w0 seat r.0 r.1 r.5;
 }
 
--- what a try tells
+-- what a try reports
 pub won_at : (kind : Kind) (t slots n old new : ℕ) (me me' : Me Kind (List Sight)) (v : View) (t0 : ℕ) (w0 : Fields) → IsSeated me v t0 w0
     → Tried (step slots t old new (some kind)) me n me' → n ≡ old → Moved kind t w0 1 me me' v
 won_at kind t slots n old new me me' v t0 w0 seat told hit = let r = told (sight_of me) seat.one in
@@ -124,7 +124,7 @@ pub seated : (kind : Kind) (t : ℕ) (w : Fields) (tries : ℕ) (me me' : Me Kin
 seated kind t w tries me me' v u w' m a b = subst (λ (z : View). IsSeated me' z t w') (sym a)
     (subst (λ (z : Fields). IsSeated me' (view_after (parent_of (sight_of me).key.shape t) kind t w v) t z) (sym b) m.seat)
 
--- the key that a seat was told is that of the table
+-- the key that a seat got is that of the table
 pub key_of : (id id' : TableId) (k : Key) (me : Me Kind (List Sight)) (v : View) (t : ℕ) (w : Fields) (h : Holding) (n : Named)
     → holding id me v t w ≡ h → record { id = id'; key = k } ≡ n → h.tree ≡ n → (sight_of me).key ≡ k
 key_of id id' k me v t w h n a b own = ap (λ (z : Holding). z.tree.key) a ∙ (ap (λ (z : Named). z.key) own ∙ sym (ap (λ (z : Named). z.key) b))
@@ -215,7 +215,7 @@ load_facts {id} {id'} {k} {k'} {me} {v} {t0} {w0} {h} {n} {kind} {J} {tier} {t} 
     means = subst (λ (z : View). MayLook k.shape kind tier z) (sym (ap (λ (z : Holding). z.view) hv))
         (subst (λ (z : Key). MayLook z.shape kind tier h.view) (sym (ap (λ (z : Named). z.key) nv)) may.1)
 
--- what it is told, where the word's number says its own
+-- what it learns, if the word's number says the word
 pub record Read (kind : Kind) (t n : ℕ) (me me' : Me Kind (List Sight)) (v : View) (tries : ℕ) (o : Option Fields) : Type 0 where
   pub saw : Saws kind t n me me' v tries
   pub some : o ≡ Some saw.word
@@ -303,7 +303,7 @@ won_took {id} {id'} {one} {k} {me} {me'} {v} {u} {t} {above} {w} {next} {kind} m
       after = subst (λ (z : Key). Beside z.shape t next u) m.key seat.beside;
     }
 
--- a step is told of the token before it
+-- a step knows the token before it
 pub won_by : {kind : Kind} {h h' new : Holding} → h ≡ h' → Took kind h.tier h.word 1 h new → Won kind h' new
 won_by {kind} {h} {h'} {new} e r = subst (λ (z : Holding). Took kind z.tier z.word 1 z new) e r
 
@@ -312,11 +312,11 @@ pub lost_by : {kind : Kind} {h h' new : Holding} {n old : ℕ} {w : Fields} → 
 lost_by {kind} {h} {h'} {new} {n} {old} {w} e miss is here was r = subst (λ (z : Holding). Lost kind z new) e
     (record { other = λ d. miss (is ∙ (ap packed (sym here ∙ d) ∙ sym was)); took = r })
 
--- the word that the code has unpacked stands for the number that it keeps
+-- the word that the code has unpacked is the word of the number that it keeps
 pub seated_as : {me : Me Kind (List Sight)} {v : View} {t : ℕ} {w w' : Fields} → w ≡ w' → IsSeated me v t w → IsSeated me v t w'
 seated_as {me} {v} {t} e seat = subst (λ (z : Fields). IsSeated me v t z) e seat
 
--- what the token stands for, by the word that the code has unpacked
+-- the token's value, by the word that the code has unpacked
 pub held_as : (id : TableId) (me : Me Kind (List Sight)) (v : View) (t : ℕ) {w w' : Fields} {h : Holding} → w ≡ w' → holding id me v t w' ≡ h → holding id me v t w ≡ h
 held_as id me v t e is = ap (holding id me v t) e ∙ is
 

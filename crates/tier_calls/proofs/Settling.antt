@@ -73,7 +73,7 @@ first h h' crew took = record {
 abbrev pub began_at : Passage → Holding → Going
 began_at own h = record { token = h; progress = Passing own; answer = GoesOn }
 
--- where a call goes on from its first look
+-- what a call goes on to from its first look
 pub began : {n : Named} {h h' : Holding} {own : Passage} → h.tree ≡ n → IsCrew h → Looked Look 0 h h' → h'.view.arrived ≢ h'.view.size → IsAt n (record { token = h'; progress = Passing own; answer = GoesOn })
 began {n} {h} {h'} {own} is crew took some =
     let f = first h h' crew took in
@@ -127,7 +127,7 @@ seen_nothing {h} {h'} took e = none_of h.view.end_seen (λ p is. unseen took e p
 pub first_fresh : {h h' : Holding} → Looked Look 0 h h' → h'.word.ended ≡ false → IsFresh h'.view
 first_fresh {h} {h'} took e = subst IsFresh (sym took.view) (looked_fresh h'.word h.view e (seen_nothing took e))
 
--- where the root goes on nobody has seen an end
+-- if the root goes on nobody has seen an end
 pub seen_none : {ps : List ℕ} {t : ℕ} {w : Fields} {v : View} → Beside ps t w v → t ≡ 0 → w.ended ≡ false → v.end_seen ≡ None
 seen_none {ps} {t} {w} {v} b z e = none_of v.end_seen (λ p is. unseen_at b refl z e p is)
 
@@ -156,7 +156,7 @@ pub first_arrived : {h h' : Holding} {phase : ℕ} (own : Passage) (tries : ℕ)
     → Arrives own h tries (arrived.AlreadyArrived h' phase)
 first_arrived {h} {h'} {phase} own tries crew took going all is = (soon_looked took, (first h h' crew took).looked, first_fresh took going, all, is, first_made took)
 
--- a call that may answer as it stands
+-- a call that may answer as it is
 settles_at : (P C : View → Type 0) (own : Passage) (g : Going) → IsAt g.token.tree g → PassAt own P C g.token.view g.answer g.progress → ((u : View) → P u → 0 < u.size) → MaySettle g
 settles_at P C own g at sh some = record { at = at; passage = own; shown = go g.progress g.answer sh }
   where

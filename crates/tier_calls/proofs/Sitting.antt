@@ -63,7 +63,7 @@ pub first_seated : (k : Key) (me : Me Kind (List Sight)) (v : View) → IsTiers 
     → IsSeated me v 0 (empty_word k.phase)
 first_seated k me v shape small at is = subst (λ (u : View). IsSeated me u 0 (empty_word k.phase)) (sym is) (first_seat k me shape small at)
 
--- what a seat that knows nothing is told
+-- what a seat that knows nothing learns
 pub record Seats (k : Key) (n : ℕ) (me : Me Kind (List Sight)) (o : Option Fields) : Type 0 where
   pub word : Fields
   pub some : o ≡ Some word

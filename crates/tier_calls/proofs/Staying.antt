@@ -1,4 +1,4 @@
--- Arrivals whose crew stays where it is.
+-- Arrivals whose crew isn't moved.
 use Rattle.std.specs.Prelude.{ℤ}
 use Rattle.std.proofs.Common.{◌≡◌, ◌≢◌, ℕ, true, false, refl, sym, subst, arith}
 use Rattle.phaser_word.specs.Phase.{shown_of}

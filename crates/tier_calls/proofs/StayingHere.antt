@@ -1,4 +1,4 @@
--- A crew at its own tier, and a door beside it.
+-- A crew at its tier, and a door beside it.
 use Rattle.std.proofs.Common.{◌≡◌, ℕ, zero, suc, ◌+◌, ◌<◌, inl, inr, Bool, true, false, eqb, not, ◌&&◌, nat_lt, List, ◌∷◌, refl, sym, ◌∙◌, ap, subst, arith}
 use Rattle.std.proofs.lemmas.Bool.{eq-eqb, eqb-true}
 use Rattle.phaser_word.specs.Fields.{Fields}
@@ -21,7 +21,7 @@ use Rattle.std.specs.Prelude.{MatchBool}
 use Rattle.tier_calls.proofs.Passing.{still_glance}
 use Rattle.tier_calls.proofs.Settling.{crew_by}
 
--- a look at its own tier leaves a crew as it was
+-- a look at its tier leaves a crew as it was
 glance_rests : (above t : ℕ) (w : Fields) (v : View) → v.errand ≡ Rest → (view_after above (glance t) t w v).errand ≡ Rest
 glance_rests above zero w v e = looked_rests w v e
 glance_rests above (suc t) w v e = e
@@ -47,7 +47,7 @@ crew_kept h h' t tries above w crew some tree at is tried opened view beside mad
 pub crew_looked : {h h' : Holding} {t : ℕ} → IsCrew h → h.view.arrived < h.view.size → t ≡ h.view.tier → Looked Look t h h' → KeepsCrew 0 h h'
 crew_looked {h} {h'} {t} crew some is took = crew_kept h h' t 0 (parent_of h.tree.key.shape t) h'.word crew some took.tree took.tier is took.tried took.opened took.view took.after took.steps
 
--- a try of a crew at its own tier
+-- a try of a crew at its tier
 pub refresh_needs : (ps : List ℕ) {h : Holding} → IsCrew h → h.view.arrived < h.view.size → h.tier ≡ h.view.tier → lags h.word h.view ≡ true → Needs ps Refresh h.tier h.word h.view
 refresh_needs ps {h} crew some is lagging =
     let w : Fields = h.word in

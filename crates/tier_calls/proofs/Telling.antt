@@ -1,4 +1,4 @@
--- A legal word's number stands for that word.
+-- A legal word's number represents that word.
 use Rattle.std.proofs.Common.{◌≡◌, ℕ, ◌+◌, ◌*◌, ◌/◌, ◌%◌, ◌^◌, ◌≤◌, nat_eq, not, Bool, true, false, if◌then◌else◌, ap, sym, ◌∙◌, subst, arith}
 use Rattle.std.proofs.lemmas.Grind.{common_steps}
 use Rattle.phaser_word.specs.Fields.{Fields, IsLegal, most_unarrived}
@@ -40,7 +40,7 @@ told_packed w legal = λ i. record {
   ended = end_told w.phase w.parties w.unarrived w.ended legal.phase legal.parties (few w legal) i;
 }
 
--- a number of which it is known that some legal word has it
+-- a number that is known to be some legal word's
 pub told_at : (n : ℕ) (w : Fields) → IsLegal w → packed w ≡ n → told n ≡ w
 told_at n w legal is = subst (λ (m : ℕ). told m ≡ w) is (told_packed w legal)
 

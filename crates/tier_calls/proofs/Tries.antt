@@ -27,7 +27,7 @@ use Rattle.tier_calls.specs.Goes.{Position, position, Goes, starts, steps, looks
 use Rattle.tier_calls.proofs.Turning.{by_cond, pass_tries}
 use Rattle.tier_calls.proofs.Running.{quiet_own, looks_on, lost_on, went_then}
 
--- a look in the place of such a step is the last one where the root has ended, and else nothing
+-- a look in the place of such a step is the last one if the root has ended, and else nothing
 module _ (p : Progress) (w : Fields) (v : View) (p' : Progress) (a : Played) (over : Played)
     (is : p' ≡ cond w.ended Idle p) (says : a ≡ cond w.ended over GoesOn) where
   abbrev Is : Turn → Type 0
@@ -82,7 +82,7 @@ missed_after ps (Due own) v phase g q fits h is says =
     missed_due (Due own) g.token.word v g.progress g.answer (Done v.phase) is says' own false refl
 missed_after ps (Refreshing passed_on) v phase g q fits h is says = not_both false q refl
 
--- a token stands where its step is due, if its word has not ended
+-- a token is at the tier at which its step is due, if its word has not ended
 pub passing_stands : (k : Key) (g : Going) → is_passing g.progress ≡ true → CallFits k.shape g.progress g.token.view
     → g.token.tier ≡ place k.shape g.progress g.token.view → g.token.word.ended ≡ false → Stands k g
 passing_stands k g q fits here e = record { going = going g.progress q; tier = here; tries = tries g.progress q fits }
@@ -112,7 +112,7 @@ passing_stands k g q fits here e = record { going = going g.progress q; tier = h
     tries (Due own) q fits = ap (λ (b : Bool). is_look (cond b Look (Advance false))) e
     tries (Refreshing passed_on) q fits = not_both false q refl
 
--- the turn of an own step, and of a climb, where the token stands
+-- the turn of a step at the token's tier, and of a climb, at the point that the token has reached
 pub own_turn : (k : Key) (g : Going) (own : Passage) → g.progress ≡ Passing own → Stands k g
     → turn_by k.shape false g.token.word g.progress g.token.view
     ≡ pass_turn k.shape own g.token.tier own (own_kind own) g.progress (end_shown g.token.word) g.token.word g.token.view
@@ -243,7 +243,7 @@ next_passes ps b w _ v fits q = not_both false q refl
 pub passing_on : {n : Named} {used : ℕ} {from at : Going} → WentOn n used from at → is_passing from.progress ≡ true → is_going at.progress ≡ true → is_passing at.progress ≡ true
 passing_on {n} {used} {from} {at} went q g = call_kept is_passing next_passes n.key (position from) (position at) q (went.goes (position from) starts) g
 
--- after it has passed its own tier, a call never comes back to it
+-- after it has passed its token's tier, a call never comes back to it
 next_owes : (ps : List ℕ) (b : Bool) (w : Fields) (p : Progress) (v : View) → CallFits ps p v → is_owing p ≡ true → Only is_owing (turn_by ps b w p v).next
 next_owes ps b w (Owing own) v fits q = climb_kept is_owing ps own w v fits refl refl
 next_owes ps b w (Due own) v fits q = λ g. not_both false g refl

@@ -111,7 +111,8 @@ pub glanced : (above t : ℕ) (w : Fields) (v : View) → Glanced w v (view_afte
 glanced above zero w v = root_glanced w v
 glanced above (suc t) w v = record { size = refl; tier = refl; open_errand = λ g. refl; kept_errand = λ d. refl; arrived = λ g l. refl; phase = λ g l. refl }
 
--- What a look in place of the next step is: that step itself where it is a look, and else one that changes nothing of the call.
+-- What a look in place of the next step is: that step itself if it is a look, and else one that changes nothing of the
+-- call.
 pub record LookIs (ps : List ℕ) (w : Fields) (p : Progress) (v u : View) (k : Kind) (r : Turn) : Type 0 where
   pub turn : is_look r.kind ≡ true → k ≡ r.kind
   pub fits : is_look r.kind ≡ false → CallFits ps p u
@@ -139,7 +140,7 @@ pub ended_at : (t tier claimed size : ℕ) (w : Fields) → w.ended ≡ true →
 ended_at t tier claimed size w e z =
     ap (λ (b : Bool). cond (not b && is_refusing (added claimed size) w) (Refuse tier claimed size) (glance t)) e ∙ ap glance z
 
--- a look that is none of the call's steps, where the turn of its view is no look
+-- a look that is none of the call's steps, if the turn of its view is no look
 plain : (ps : List ℕ) (w : Fields) (p : Progress) (v u : View) (k : Kind) (r : Turn) → (is_look r.kind ≡ true → k ≡ r.kind) → CallFits ps p u → place ps p u ≡ place ps p v
     → is_look (turn_by ps false w p u).kind ≡ false → LookIs ps w p v u k r
 plain ps w p v u k r a b c d = record { turn = a; fits = λ e. b; there = λ e. c; tries = λ e. d }

@@ -86,7 +86,7 @@ lags_parts w v e =
     let b = both_true (eqb w.unarrived 0) (not (eqb w.phase v.phase)) a.1 in
     (ltb-true 0 w.parties a.0, eqb-true w.unarrived 0 b.0, λ same. not_both (not (eqb w.phase v.phase)) b.1 (ap not (eq-eqb w.phase v.phase same)))
 
--- where the members' own tier lags, it may be refreshed
+-- if the members' tier lags, it may be refreshed
 pub may_refresh : (ps : List ℕ) (h h' : Holding) {u : View} {x : Fields} → h'.tier ≡ u.tier → h'.view ≡ h.view → u ≡ h.view → x ≡ h'.word → h.view.errand ≡ Rest → h.view.arrived < h.view.size
     → lags x u ≡ true → Needs ps Refresh h'.tier h'.word h'.view
 may_refresh ps h h' {u} {x} at same is read rests some behind =
@@ -109,7 +109,7 @@ left_some {h} {h'} took some =
 pub polls_waiting : (h h' : Holding) → IsCrew h → Looked Look 0 h h' → h'.word.ended ≡ false → h'.view.arrived ≡ h'.view.size → Polls h h' Waiting
 polls_waiting h h' crew took going all = (record { tree = took.tree; tried = (let a = took.tried in omega arith); opened = took.opened }, (first h h' crew took).looked, first_fresh took going, all, first_made took)
 
--- what is made of a look, or a refresh, at the members' own tier
+-- what is made of a look, or a refresh, at the members' tier
 glance_made : (t : ℕ) (old new : List Kind) → new ≡ glance t ∷ old → MadeOnly is_quiet old new
 glance_made t old new is = subst (MadeOnly is_quiet old) (sym is) (made_more is_quiet (glance t) old old (glance_quiet t) (made_none is_quiet old))
 
@@ -125,7 +125,7 @@ refresh_made true {h} {h'} h'' {t} took won =
     made_then is_quiet (look_made_one took) (subst (MadeOnly is_quiet h'.steps) (sym won.steps) (made_more is_quiet Refresh h'.steps h'.steps refl (made_none is_quiet h'.steps)))
 refresh_made false {h} {h'} h'' {t} took lost = made_then is_quiet (look_made_one took) (glance_made h'.tier h'.steps h''.steps lost.took.steps)
 
--- a tier where a member is to arrive, and that doesn't lag, is in that member's phase
+-- a tier at which a member is to arrive, and that doesn't lag, is in that member's phase
 pub in_phase : {ps : List ℕ} {t : ℕ} {w : Fields} {v : View} → Beside ps t w v → v.errand ≡ Rest → v.tier ≡ t → v.arrived < v.size → w.ended ≡ false → lags w v ≡ false → w.phase ≡ v.phase
 in_phase {ps} {t} {w} {v} b rests here some going still =
     let k = known_by ps t w v b in
@@ -143,7 +143,7 @@ root_in_phase {ps} {w} {v} b some =
 pub caught_up_at_root : {h : Holding} → Beside h.tree.key.shape h.tier h.word h.view → h.view.arrived < h.view.size → h.tier ≡ 0 → h.view.tier ≡ 0 → HasCaughtUp h
 caught_up_at_root {h} b some root own = (root ∙ sym own, inl (root_in_phase (subst (λ (t : ℕ). Beside h.tree.key.shape t h.word h.view) root b) some))
 
--- after a look at its own tier, below the root, which didn't lag
+-- after a look at the members' tier, below the root, which didn't lag
 pub caught_up_by_look : {h h' : Holding} {t : ℕ} → h.view.tier ≡ t → t ≢ 0 → h.view.errand ≡ Rest → h.view.arrived < h.view.size → Looked Look t h h' → lags h'.word h'.view ≡ false → HasCaughtUp h'
 caught_up_by_look {h} {h'} {t} here below rests some took still =
     let same = glanced_view below took in

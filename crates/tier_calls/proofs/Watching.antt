@@ -72,7 +72,7 @@ settling_seeks_not : (claimed : ℕ) → is_seeking (settling claimed) ≡ false
 settling_seeks_not zero = refl
 settling_seeks_not (suc claimed) = refl
 
--- no step of a call leads to where it seeks its tier and has claimed nothing
+-- no step of a call leads to the state in which it seeks its tier and has claimed nothing
 seeks_no_more : (ps : List ℕ) (b : Bool) (w : Fields) (p : Progress) (v : View) → CallFits ps p v → is_joining p ≡ true → is_seeking (turn_by ps b w p v).next ≡ true
     → claimed_by (view_after (parent_of ps (place ps p v)) (turn_by ps b w p v).kind (place ps p v) w v).errand ≡ 0 → ⊥
 seeks_no_more ps b w Idle v fits j s none = not_both false s refl

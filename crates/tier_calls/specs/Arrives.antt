@@ -58,7 +58,8 @@ Arrives own h tries (Busy crew) = IsSpent tries h crew × IsLooked h.view crew.v
 Arrives own h tries (Owing errand) = IsSpent tries h errand.token × HasPassed own h.view errand.token.view × (is_owing errand.progress ≡ true) × (errand.token.view.led ≡ false)
     × HasStepped own h.steps errand.token.steps
 
--- All members had arrived just where the look that begins the call found so: AlreadyArrived follows that look alone, and a call that goes on has an unarrived member.
+-- All members had arrived just if the look that begins the call found so: AlreadyArrived follows that look alone, and a
+-- call that goes on has an unarrived member.
 abbrev pub FindsArrived : Holding → Arrived → Type 0
 FindsArrived h (Done crew phase led) = Unit {0}
 FindsArrived h (Left door phase led) = Unit {0}

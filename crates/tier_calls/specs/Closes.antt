@@ -36,12 +36,13 @@ TallyWithOthers parents words views = (others : List View) × Tallies parents wo
 abbrev pub sights_in : List Token → List Sight
 sights_in tokens = map (λ t. sight_held (held t)) tokens
 
--- one seat knows just this, where it is anything
+-- one seat knows just this, if it is anything
 abbrev pub IsAmong : List Sight → List (List Sight) → Type 0
 IsAmong [] seats = Unit {0}
 IsAmong (x ∷ xs) seats = (id : ℕ) × (get_elem? seats id ≡ some (x ∷ xs))
 
--- Words to which steps on the tree have led, where one seat knows just this: so those who knew it have made no further step, and none was split off them.
+-- Words to which steps on the tree have led, with one seat that knows just this: so those who knew it have made no
+-- further step, and none was split off them.
 pub record IsLeftBy (k : Key) (words : List Fields) (sights : List Sight) : Type 0 where
   pub seats : List (List Sight)
   pub reached : Reached k words seats

@@ -97,7 +97,7 @@ pub record Ran (n : Named) (tries : ℕ) (old new : Going) : Type 0 where
   pub few : used ≤ tries
   pub all : is_going new.progress ≡ true → used ≡ tries
 
--- how far a call has come after a look that found its token's word, where `v` is the view before it
+-- how far a call has come after a look that found its token's word; `v` is the view before it
 abbrev pub After : List ℕ → Progress → View → Going → Type 0
 After parents p v g =
     let r : Turn = turn_by parents false g.token.word p v in

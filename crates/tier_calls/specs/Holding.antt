@@ -17,7 +17,7 @@ use Rattle.tier_rule.specs.declared.sight.Sight.{Sight}
 use Rattle.tier_rule.specs.Look.{looking}
 use Rattle.tier_rule.specs.Tell.{Beside}
 
--- a tree: its name, and what it was told when it was made
+-- a tree: its name, and what it was given when it was made
 pub record Named : Type 0 where
   pub id : TableId
   pub key : Key
@@ -72,7 +72,7 @@ pub record IsSeated (me : Me Kind (List Sight)) (v : View) (t : ℕ) (w : Fields
   pub word : (sight_of me).word ≡ w
   pub beside : Beside (sight_of me).key.shape t w v
 
--- A token took a step of this kind at the tier t, which found the word w, by so many tries.
+-- A token took a step of this kind at the tier t, which found the word w, by this many tries.
 pub record Took (kind : Kind) (t : ℕ) (w : Fields) (tries : ℕ) (old new : Holding) : Type 0 where
   pub tree : new.tree ≡ old.tree
   pub tried : new.tried ≡ old.tried + tries
@@ -96,7 +96,7 @@ pub record Lost (kind : Kind) (old new : Holding) : Type 0 where
 abbrev pub Won : Kind → Holding → Holding → Type 0
 Won kind old new = Took kind old.tier old.word 1 old new
 
--- a table has a word for each tier of the shape, and no slot, and its tree keeps what it was told
+-- a table has a word for each tier of the shape, and no slot, and its tree keeps what it was given
 pub record IsTable (words slots : ℕ) (kept told : Key) : Type 0 where
   pub words_are : words ≡ length told.shape
   pub no_slots : slots ≡ 0

@@ -1,4 +1,4 @@
--- What a registration at a crew's own tier answers (own).
+-- What a registration at a crew's tier answers (own).
 use Rattle.std.specs.Prelude.{◌≡◌, ℕ, ◌+◌, ◌<◌, ◌≤◌, false, List}
 use Rattle.phaser_word.specs.Fields.{Fields}
 use Rattle.tier_steps.specs.declared.view.View.{View}
@@ -17,8 +17,8 @@ use Rattle.tier_calls.specs.declared.beside.Met.TheVariants.{Answer, Late}
 use Rattle.tier_calls.specs.declared.joining.Registered.{Registered}
 use Rattle.tier_calls.specs.declared.joining.Registered.TheVariants.{Joined, Held, Full, Ended, Busy, Owing}
 
--- The same two tokens, off which no other was split, with at most so many tries more between them; the crew's members are as they were. The crew has looked and refreshed, the door has
--- made steps of a registration.
+-- The same two tokens, off which no other was split, with at most this many tries more between them; the crew's members
+-- are as they were. The crew has looked and refreshed, the door has made steps of a registration.
 pub record AreSoon (tries : ℕ) (old new door after : Holding) : Type 0 where
   pub crew_tree : new.tree ≡ old.tree
   pub door_tree : after.tree ≡ door.tree
@@ -29,7 +29,7 @@ pub record AreSoon (tries : ℕ) (old new door after : Holding) : Type 0 where
   pub crew_made : MadeOnly is_quiet old.steps new.steps
   pub door_made : MadeOnly is_entering door.steps after.steps
 
--- with just so many tries more; the door has only looked and noted refusals
+-- with just this many tries more; the door has only looked and noted refusals
 pub record AreSpent (tries : ℕ) (old new door after : Holding) : Type 0 where
   pub crew_tree : new.tree ≡ old.tree
   pub door_tree : after.tree ≡ door.tree
@@ -63,7 +63,7 @@ JoinsOnce old new door size (Busy after) = AreSpent 1 old new door after × IsLo
 JoinsOnce old new door size (Held after phase cause) = ⊥
 JoinsOnce old new door size (Owing opening) = ⊥
 
--- a look or a try of a crew with an unarrived member at its own tier
+-- a look or a try of a crew with an unarrived member at its tier
 pub record KeepsCrew (tries : ℕ) (old new : Holding) : Type 0 where
   pub tree : new.tree ≡ old.tree
   pub crew : IsSame old.view new.view
@@ -77,7 +77,7 @@ pub record KeepsCrew (tries : ℕ) (old new : Holding) : Type 0 where
 abbrev pub Waits : Fields → Type 0
 Waits w = w.ended ≡ false → (0 < w.parties) × (0 < w.unarrived)
 
--- a door that has made so many tries, has only looked and noted refusals, and hasn't seen the end
+-- a door that has made this many tries, has only looked and noted refusals, and hasn't seen the end
 pub record IsStill (tries : ℕ) (door after : Holding) : Type 0 where
   pub spent : IsSpent tries door after
   pub looked : IsLookedAround door.view after.view

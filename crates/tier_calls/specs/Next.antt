@@ -7,7 +7,8 @@ use Rattle.tier_core.specs.declared.call.Progress.{Progress}
 use Rattle.tier_core.specs.declared.call.Progress.TheVariants.{Seeking as ToSeek, Passing, Owing, Due}
 use Rattle.tier_core.specs.Turn.{claimed_by}
 
--- the step that a call means to take when it looks: only a join looks for a step of its own, and notes what refuses it
+-- the step that a call means to take when it looks: only a join looks for a step that it chose, and notes what refuses
+-- it
 abbrev pub meant : Progress → View → Kind
 meant (ToSeek tier size) v = Join tier (claimed_by v.errand) size
 meant _ v = Look

@@ -22,11 +22,12 @@ Polls old new Waiting = IsSoon 1 old new × IsLooked old.view new.view × IsFres
 Polls old new (Here phase) = IsSoon 1 old new × IsLooked old.view new.view × IsFresh new.view × (new.view.arrived < new.view.size) × (phase ≡ new.view.phase) × HasLooked old.steps new.steps
 Polls old new (Ended shown) = IsSoon 1 old new × IsLooked old.view new.view × EndSeen new.view shown × HasLooked old.steps new.steps
 
--- The token's last step was at its own tier, which is now in its phase. Or that step was a try to bring the tier into it, and the try was lost.
+-- The token's last step was at its tier, which is now in its phase. Or that step was a try to bring the tier into it,
+-- and the try was lost.
 abbrev pub HasCaughtUp : Holding → Type 0
 HasCaughtUp new = (new.tier ≡ new.view.tier) × ((new.word.phase ≡ new.view.phase) ⊎ ((before : Holding) × Lost Refresh before new))
 
--- where a member is to arrive, its tier was brought into its phase
+-- if a member is to arrive, its tier was brought into its phase
 abbrev pub CaughtUpBy : Polled → Holding → Type 0
 CaughtUpBy (Passed phase) new = HasCaughtUp new
 CaughtUpBy Waiting new = Unit {0}

@@ -1,4 +1,4 @@
--- The word that a number stands for, field by field (own).
+-- The word that a number represents, field by field (own).
 use Rattle.std.specs.Prelude.{ℕ, ◌/◌, ◌%◌, not, nat_eq}
 use Rattle.phaser_word.specs.Fields.{Fields}
 

@@ -121,8 +121,8 @@ impl Tiers {
     /// Arrives with one member, as Java's `arrive`, or deregisters it, as Java's `arriveAndDeregister`: `own` says which.
     /// Doesn't wait for the phase to pass. The last party to arrive advances the tree within this call.
     ///
-    /// Makes at most `tries` tries, of which 16 are enough if no other token takes a step meanwhile. See [`Arrived`] for
-    /// what to do after each answer.
+    /// Makes at most `tries` tries; 16 are enough if no other token takes a step meanwhile. See [`Arrived`] for what to
+    /// do after each answer.
     pub fn pass<F: Fn(u32, u32) -> bool>(
         &self,
         crew: Crew,
@@ -155,9 +155,8 @@ impl Tiers {
         answer_settled(going(token, course))
     }
 
-    /// Resumes an arrival or a departure that ran out of tries after its member was counted. Makes at most `tries` more,
-    /// of which 16 are enough if no other token takes a step meanwhile. See [`Resumed`] for what to do after each
-    /// answer.
+    /// Resumes an arrival or a departure that ran out of tries after its member was counted. Makes at most `tries`
+    /// more; 16 are enough if no other token takes a step meanwhile. See [`Resumed`] for what to do after each answer.
     pub fn pass_on<F: Fn(u32, u32) -> bool>(
         &self,
         errand: Errand,

@@ -1,4 +1,4 @@
-//! Registrations at a crew's own tier.
+//! Registrations at a crew's tier.
 
 ghost use Rattle.std.specs.Prelude.{◌≡◌, ◌<◌, ◌≤◌, ℕ, Some, true, length};
 ghost use Rattle.tier_rule.specs.Tell.{Beside};
@@ -34,7 +34,7 @@ fn is_same(one: Word, other: Word) -> bool
 }
 
 impl Tiers {
-    /// Looks at the crew's own tier. Returns true if that tier lags.
+    /// Looks at the crew's tier. Returns true if that tier lags.
     fn look_here(&self, token: &mut Seated) -> bool
         requires own { token.old.tree ≡ self.now }
         requires crew { IsCrew token.old }
@@ -51,7 +51,7 @@ impl Tiers {
         is_behind(token.word(), &view)
     }
 
-    /// Makes one try to bring the crew's own tier into its phase.
+    /// Makes one try to bring the crew's tier into its phase.
     fn refresh_here(&self, token: &mut Seated)
         requires own { token.old.tree ≡ self.now }
         requires crew { IsCrew token.old }
@@ -63,7 +63,7 @@ impl Tiers {
         self.attempt(token, Kind::Refresh);
     }
 
-    /// Makes one try at the crew's own tier that changes nothing, so that the round counts as a try.
+    /// Makes one try at the crew's tier that changes nothing, so that the round counts as a try.
     fn stay_here(&self, token: &mut Seated)
         requires own { token.old.tree ≡ self.now }
         requires crew { IsCrew token.old }
@@ -75,7 +75,8 @@ impl Tiers {
         self.attempt(token, kind);
     }
 
-    /// Makes the door's part of a try, at a tier where a crew with an unarrived member has just seen the word `seen`.
+    /// Makes the door's part of a try. A crew with an unarrived member is at the tier, and has just seen the word
+    /// `seen`.
     fn meet(&self, door: Door, tier: u16, size: u32, seen: Word) -> Met
         requires own { door.tree ≡ self.now }
         requires tier { tier < length self.now.key.shape }
@@ -111,7 +112,7 @@ impl Tiers {
         Met::Answer(Registered::Busy(Door { token }))
     }
 
-    /// Makes one try of a registration at the crew's own tier.
+    /// Makes one try of a registration at the crew's tier.
     fn join_once(&self, crew: &mut Crew, door: Door, size: u32) -> Registered
         requires own { (crew.old.tree ≡ self.now) × (door.tree ≡ self.now) }
         requires some { crew.old.view.arrived < crew.old.view.size }
@@ -135,7 +136,7 @@ impl Tiers {
         }
     }
 
-    /// Makes at most `tries` tries of a registration at the crew's own tier.
+    /// Makes at most `tries` tries of a registration at the crew's tier.
     fn keep_joining(&self, crew: &mut Crew, mut door: Door, size: u32, tries: u32) -> Registered
         requires own { (crew.old.tree ≡ self.now) × (door.tree ≡ self.now) }
         requires some { crew.old.view.arrived < crew.old.view.size }
@@ -152,7 +153,7 @@ impl Tiers {
         Registered::Busy(door)
     }
 
-    /// Registers `size` new members at the crew's own tier. The crew must have an unarrived member, so its tier is not
+    /// Registers `size` new members at the crew's tier. The crew must have an unarrived member, so its tier is not
     /// empty and can't pass to the next phase meanwhile.
     ///
     /// Makes at most `tries` tries, of both tokens together. The answers are those of [`Registered`], but never `Held`

@@ -178,8 +178,8 @@ impl Tiers {
         }
     }
 
-    /// Takes the steps of an arrival or a departure that was counted at its own tier, until it is over, or `tries` tries
-    /// were made.
+    /// Takes the steps of an arrival or a departure that was counted at its crew's tier, until it is over, or `tries`
+    /// tries were made.
     pub(crate) fn go_owing<F: Fn(u32, u32) -> bool>(
         &self,
         token: &mut Seated,
@@ -205,7 +205,7 @@ impl Tiers {
         }
     }
 
-    /// Takes the step of an arrival or a departure at its own tier, and the advance if that is due then. Returns the
+    /// Takes the step of an arrival or a departure at its crew's tier, and the advance if that is due then. Returns the
     /// number of tries used, at most `tries`.
     #[inline(always)]
     fn start<F: Fn(u32, u32) -> bool>(
@@ -234,8 +234,8 @@ impl Tiers {
         2
     }
 
-    /// Takes the steps of an arrival or a departure, from the one at its own tier on. If that step, or the advance after
-    /// it, is the last, this takes no loop.
+    /// Takes the steps of an arrival or a departure, beginning with the one at its crew's tier. If that step, or the
+    /// advance after it, is the last, this takes no loop.
     #[inline(always)]
     pub(crate) fn go_straight<F: Fn(u32, u32) -> bool>(
         &self,

@@ -85,7 +85,7 @@ impl Tiers {
         unreachable!()
     }
 
-    /// Takes the step of an arrival at its own tier, and the advance if that is due then.
+    /// Takes the step of an arrival at its crew's tier, and the advance if that is due then.
     #[inline(always)]
     fn begin_arrival<F: Fn(u32, u32) -> bool>(
         &self,
@@ -106,8 +106,8 @@ impl Tiers {
         self.advance(token, course, rule);
     }
 
-    /// Takes the steps of an arrival, from the one at its own tier on, until it is over. If that step, or the advance
-    /// after it, is the last, this takes no loop.
+    /// Takes the steps of an arrival, beginning with the one at its crew's tier, until it is over. If that step, or the
+    /// advance after it, is the last, this takes no loop.
     #[inline(always)]
     fn go_to_end<R: Wait, F: Fn(u32, u32) -> bool>(
         &self,

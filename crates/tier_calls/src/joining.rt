@@ -102,8 +102,8 @@ impl Tiers {
     /// Registers `size` new members at a tier, as Java's `bulkRegister`. If the tier is empty, first opens the path from
     /// it to the nearest ancestor that has parties.
     ///
-    /// Makes at most `tries` tries, of which 16 are enough if no other token takes a step meanwhile. See
-    /// [`Registered`] for what to do after each answer.
+    /// Makes at most `tries` tries; 16 are enough if no other token takes a step meanwhile. See [`Registered`] for what
+    /// to do after each answer.
     pub fn join(&self, door: Door, tier: u16, size: u32, tries: u32) -> Registered
         requires own { door.tree ≡ self.now }
         requires tier { tier < length self.now.key.shape }
@@ -126,8 +126,8 @@ impl Tiers {
         answer_join(self.go_joining(at, tries))
     }
 
-    /// Resumes a registration that ran out of tries. Makes at most `tries` more, of which 16 are enough if no other
-    /// token takes a step meanwhile.
+    /// Resumes a registration that ran out of tries. Makes at most `tries` more; 16 are enough if no other token takes
+    /// a step meanwhile.
     ///
     /// If the token has seen that the tree ended before the members joined, releases the claimed tiers and returns
     /// `Ended`. See [`Opened`] for what to do after each answer.

@@ -25,16 +25,15 @@
 //!
 //! # Who advances the tree
 //!
-//! The last party to arrive takes the advance within its own call. The answers `Done` and `Left` say so by a flag,
-//! `led`: it is true if this call, or the one that resumed it, took the advance.
+//! The last party to arrive takes the advance within its call. The answers `Done` and `Left` say so by a flag, `led`:
+//! it is true if this call, or the one that resumed it, took the advance.
 //!
 //! # Where things are
 //!
 //! * `tokens.rt`: the tokens; `seen.rt`: words as the numbers in the table, which a step unpacks only in part;
 //!   `tiers.rt`: single loads and exchanges; `going.rt`: calls that go on; `stepping.rt`: the steps of arrivals and
-//!   departures, by kind; `writing.rt`: what a step writes into a view; `arriving.rt`, `in_place.rt` (an arrival
-//!   whose crew stays where it is), `joining.rt`, `beside.rt` (`join_here`), `polling.rt`, `forcing.rt`,
-//!   `closing.rt`: the calls.
+//!   departures, by kind; `writing.rt`: what a step writes into a view; `arriving.rt`, `in_place.rt` (an arrival whose
+//!   crew isn't moved), `joining.rt`, `beside.rt` (`join_here`), `polling.rt`, `forcing.rt`, `closing.rt`: the calls.
 //! * `proofs/Seating.antt`: a token's seat; `Turning.antt` and `Running.antt`: the loop; `Tries.antt`: those steps;
 //!   `Settling.antt`, `Staying.antt`, `Coming.antt`, `Waits.antt`: the answers; `Sitting.antt` and `Pairing.antt`:
 //!   new seats, and two that look at once; `StayingHere.antt` and `Greeting.antt`: a door beside a crew;

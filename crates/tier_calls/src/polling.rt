@@ -27,7 +27,7 @@ pub enum Polled {
 }
 
 impl Tiers {
-    /// Brings the token's own tier into its phase if it lags, after a look at the root. Makes at most one try.
+    /// Brings the token's tier into its phase if it lags, after a look at the root. Makes at most one try.
     fn catch_up(&self, token: &mut Seated)
         requires own { token.old.tree ≡ self.now }
         requires crew { IsCrew token.old }
@@ -53,7 +53,7 @@ impl Tiers {
 
     /// Asks whether the crew's phase has passed. Doesn't wait.
     ///
-    /// If the crew's own tier lags, this also brings it into the root's phase, by at most one try. The answer doesn't
+    /// If the crew's tier lags, this also brings it into the root's phase, by at most one try. The answer doesn't
     /// depend on that try.
     pub fn poll(&self, crew: &mut Crew) -> Polled
         requires own { crew.old.tree ≡ self.now }

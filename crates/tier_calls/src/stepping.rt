@@ -160,7 +160,7 @@ impl Tiers {
         );
     }
 
-    /// Takes the step of an arrival or a departure at its own tier. Makes at most one try.
+    /// Takes the step of an arrival or a departure at its crew's tier. Makes at most one try.
     #[inline(always)]
     pub(crate) fn pass_own(&self, token: &mut Seated, course: &mut Course, own: Passage)
         requires at { IsAt self.now (under token.old course.old) }
@@ -194,8 +194,8 @@ impl Tiers {
         }
     }
 
-    /// Takes the step of an arrival at its own tier. Makes at most one try, and decides at once if others are still to
-    /// arrive there.
+    /// Takes the step of an arrival at its crew's tier. Makes at most one try, and decides at once if others are still
+    /// to arrive there.
     #[inline(always)]
     pub(crate) fn arrive_own(&self, token: &mut Seated, course: &mut Course)
         requires at { IsAt self.now (under token.old course.old) }

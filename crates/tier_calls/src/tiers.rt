@@ -28,7 +28,7 @@ use tier_steps::kind::Kind;
 use tier_steps::step::step_word;
 use tier_steps::view::View;
 
-/// The tiers of a tree, one atomic word each. Any number of threads may call it by shared reference, each by its own
+/// The tiers of a tree, one atomic word each. Any number of threads may call it by shared reference, each by its
 /// tokens.
 #[derive(Drop)]
 pub struct Tiers {
@@ -123,7 +123,7 @@ impl Tiers {
         token.word = seen;
     }
 
-    /// Loads the word of a tier where the token means to take a step of this kind.
+    /// Loads the word of a tier at which the token means to take a step of this kind.
     #[inline(always)]
     pub(crate) fn look(&self, token: &mut Seated, tier: u16, kind: Kind)
         requires own { token.old.tree ≡ self.now }

@@ -24,7 +24,7 @@ append_none : {X : Type 0} (xs : List X) → xs ++ [] ≡ xs
 append_none [] = refl
 append_none (x ∷ xs) = ap (λ ys. x ∷ ys) (append_none xs)
 
--- an entry of a list that has one more behind it
+-- an entry of a list that has one more at the end
 pub entry_before : {X : Type 0} (xs : List X) (y d : X) (i : ℕ) → i < length xs → get_or (xs ++ y ∷ []) i d ≡ get_or xs i d
 entry_before [] y d i h = absurd (omega arith)
 entry_before (x ∷ xs) y d zero h = refl
@@ -60,7 +60,7 @@ token_core s core =
           (cases_lt token (length s.views));
     }
 
--- the same tokens, and those with one more, wherever they lie in memory
+-- the same tokens, and those with one more, whatever their places in memory
 pub same_core : (s : State) → IsCore s → (views : List View) (calls : List Progress) → views ≡ s.views → calls ≡ s.calls
     → IsCore record { parents = s.parents; words = s.words; views = views; calls = calls; plan = s.plan }
 same_core s core views calls same kept =

@@ -221,7 +221,7 @@ begun ps ws front back v call.Poll shape tally rest fits =
     poll_first ps ws front back v (not (eqb (looked (word_at ws 0) v).phase v.phase)) tally rest
 begun ps ws front back v call.Force shape tally rest fits = record { within = tally.some; needs = refl; keeps = rest }
 
--- how a join with so many claimed tiers goes on
+-- how a join with this many claimed tiers goes on
 settles : (ps : List ℕ) (tier claimed size : ℕ) (v : View) → v.errand ≡ opening tier claimed Joined size → CallFits ps (settling claimed) v
 settles ps tier zero size v e = e
 settles ps tier (suc claimed) size v e = (tier, claimed, size, e)
@@ -278,7 +278,7 @@ free t w e =
     let b = both_true (eqb w.parties 0) (eqb w.unarrived 1) a.1 in
     record { below = ltb-true 0 t a.0; none = eqb-true w.parties 0 b.0; unclaimed = eqb-true w.unarrived 1 b.1 }
 
--- a join with so many claimed tiers, at the next tier of its path
+-- a join with this many claimed tiers, at the next tier of its path
 seek : (ps : List ℕ) (ws : List Fields) (front back : List View) (v : View) (tier claimed size t : ℕ) → Tallies ps ws (front ++ v ∷ back)
     → t < length ws → IsDue ps tier claimed size t v → Goes ps ws v (seek_turn tier claimed size t (word_at ws t) v)
 seek ps ws front back v tier claimed size t tally h due =
@@ -407,7 +407,7 @@ own_next ps ws v Departure h can = record {
       (view_after (parent_of ps v.tier) Leave v.tier (word_at ws v.tier) v) refl;
 }
 
--- the own step of an arrival or a departure
+-- the step of an arrival or a departure at the token's tier
 pass : (ps : List ℕ) (ws : List Fields) (front back : List View) (v : View) (passage : Passage) → Tallies ps ws (front ++ v ∷ back)
     → v.errand ≡ Rest → v.arrived < v.size → Goes ps ws v (turn ps ws (Passing passage) v)
 pass ps ws front back v passage tally rest some =
@@ -515,7 +515,7 @@ turns_are_steps ps ws front v back (Owing own) shape tally active fits =
 turns_are_steps ps ws front v back (Refreshing has_moved) shape tally active fits =
     refresh ps ws v (own_place ps ws front back v tally fits.1) fits.0 fits.1 fits.2
 
--- a turn is at the tier of its call, where the word that it sees is the root's if it has ended
+-- a turn is at the tier of its call, if the word that it sees is the root's if it has ended
 abbrev AtPlace : Turn → ℕ → Fields → Type 0
 AtPlace r t w = (w.ended ≡ true → t ≡ 0) → r.tier ≡ t
 
@@ -567,7 +567,7 @@ turn_place ps ends w (Owing own) v going fits =
 turn_place ps ends w (Due own) v going fits = λ _. refl
 turn_place ps ends w (Refreshing has_moved) v going fits = λ _. refl
 
--- the advance, or the look that stands for it
+-- the advance, or the look in its place
 pub finish_next : (ps : List ℕ) (ws : List Fields) (v : View) (ends : Bool) → 0 < length ws → v.errand ≡ Advancing
     → Goes ps ws v (finish_turn ends (word_at ws 0) v)
 finish_next ps ws v ends some owes =

@@ -1,4 +1,4 @@
--- A tree as its machine's state, without where it lies in memory.
+-- A tree as its machine's state, apart from its place in memory.
 use Rattle.tier_core.specs.declared.tree.Core.TheInside.{Inside}
 use Rattle.tier_core.specs.Machine.{State, IsCore}
 

@@ -120,7 +120,7 @@ give_back_turn parents answer Rest = last_look GoesOn
 give_back_turn parents answer Advancing = last_look GoesOn
 give_back_turn parents answer (Climbing t passage) = last_look GoesOn
 
--- the step of an arrival or a departure at its own tier
+-- the step of an arrival or a departure at its token's tier
 abbrev pub own_kind : Passage → Kind
 own_kind Arrival = Arrive
 own_kind Departure = Leave
@@ -150,7 +150,7 @@ pass_turn parents own t passage kind here over w v =
       answer = told v.phase (passed t passage w).parties (owed (parent_of parents t) t passage w);
     })
 
--- the step of such a call's climb, after it was counted at its own tier
+-- the step of such a call's climb, after it was counted at its token's tier
 abbrev pub climb_turn : List ℕ → Passage → Fields → View → Errand → Turn
 climb_turn parents own w v (Climbing t passage) = pass_turn parents own t passage (Climb passage) (Owing own) (Done v.phase) w v
 climb_turn parents own w v _ = last_look GoesOn
@@ -164,7 +164,7 @@ abbrev pub IsInRange : Played → Type 0
 IsInRange (MustAdvance phase parties) = (phase ≤ 2147483647) × (parties ≤ 65535)
 IsInRange _ = Unit {0}
 
--- the first step of each call, where `root` is the root's word and `own` that of the token's tier
+-- the first step of each call; `root` is the root's word and `own` that of the token's tier
 abbrev pub first_turn : Call → Fields → Fields → View → Turn
 first_turn (call.Join tier size) root own v = record {
   kind = (if root.ended then Look else (if (tier == 0) && is_refusing size root then Refuse 0 0 size else Look));
@@ -216,7 +216,8 @@ place parents (Owing own) v = errand_place parents v.errand
 place parents (Due own) v = 0
 place parents (Refreshing moved) v = v.tier
 
--- The next step of a call that has looked at the root, by the word of the tier where it is taken. An advance ends the tree if `ends` is true.
+-- The next step of a call that has looked at the root, by the word of the tier at which it is taken. An advance ends
+-- the tree if `ends` is true.
 abbrev pub turn_by : List ℕ → Bool → Fields → Progress → View → Turn
 turn_by parents ends w Idle v = last_look GoesOn
 turn_by parents ends w (Begun c) v = last_look GoesOn

@@ -12,7 +12,7 @@ use tier_steps::view::Passage;
 pub enum Call {
     /// Registers new members at a tier, for a token that has none.
     Join {
-        /// The tier where they register.
+        /// The tier at which they register.
         tier: u16,
         /// The number of members, from 1 to 65535.
         n: u32,
@@ -94,13 +94,13 @@ pub enum Progress {
     Settling,
     /// A join has been refused, and releases its claimed tiers. Afterwards it gives this answer.
     GivingBack(Played),
-    /// An arrival or a departure has looked at the root. Its step at its own tier, which counts it, is next.
+    /// An arrival or a departure has looked at the root. Its step at its crew's tier, which counts it, is next.
     Passing(Passage),
-    /// An arrival or a departure has been counted at its own tier, and climbs.
+    /// An arrival or a departure has been counted at its crew's tier, and climbs.
     Owing(Passage),
     /// An arrival or a departure must advance the root.
     Due(Passage),
-    /// A poll has looked at the root and found its own tier lagging. The flag says whether its phase has passed.
+    /// A poll has looked at the root and found that its crew's tier lags. The flag says whether its phase has passed.
     Refreshing(bool),
 }
 

@@ -49,7 +49,7 @@ use tier_steps::kind::Kind;
 use tier_steps::step::{errand_after, look, parties_added, refuse, word_passed};
 use tier_steps::view::{Errand, Passage, View};
 
-/// Returns the parent of a tier. The root is its own parent.
+/// Returns the parent of a tier. The root's parent is the root.
 pub fn above(shape: &Shape, tier: u16) -> u16
     requires { IsShape shape.now }
     ensures { result ≡ parent_of shape.now tier }
@@ -529,7 +529,7 @@ fn climb(shape: &Shape, own: Passage, word: Word, view: View) -> Turn
     pass(shape, own, tier, passage, step, word, view)
 }
 
-/// Returns the step of an arrival or a departure at its own tier.
+/// Returns the step of an arrival or a departure at its crew's tier.
 fn pass_own(shape: &Shape, passage: Passage, word: Word, view: View) -> Turn
     requires { IsShape shape.now }
     ensures { result ≡ pass_turn shape.now passage view.tier passage (own_kind passage) (spec.Passing passage) (end_shown word) word view }

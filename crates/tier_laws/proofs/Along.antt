@@ -26,7 +26,7 @@ use Rattle.tier_laws.proofs.Framing.{after_either, turned}
 use Rattle.tier_laws.proofs.Planning.{known_active, known_due}
 use Rattle.tier_laws.proofs.Ending.{alike_itself, at, own_imaged, imaged}
 
--- what is kept by the call's own steps, by others' steps and calls, and by a token that comes in
+-- what is kept by the call's steps, by others' steps and calls, and by a token that is added
 pub record Carries (i : ℕ) (P : State → List Moment → Type 0) : Type 0 where
   pub goes : (s : State) (past : List Moment) → IsCore s → i < length s.views → is_active (call_at s.calls i) ≡ true → MayPlay s i (turn_at s i)
       → P s past → P (played s i (turn_at s i)) (at i s (turn_at s i) ∷ past)
@@ -68,7 +68,7 @@ call_stays s i core h = one_behind s.calls Idle Idle i (let l = core.long in ome
 pub one_more : (s : State) → length (with_token s).views ≡ length s.views + 1
 one_more s = length-append s.views (new_view (word_at s.words 0).phase ∷ [])
 
--- a turn of some token, where it may be taken
+-- a turn of some token, if it may be taken
 turn_step : (i : ℕ) (P : State → List Moment → Type 0) (s : State) (past : List Moment) (j : ℕ) (r : Turn) (may : Bool) → P s past
     → (may ≡ true → j ≡ i → P (played s j r) (at j s r ∷ past)) → (may ≡ true → j ≢ i → P (played s j r) past)
     → P (cond may (played s j r) s) (cond (eqb j i) (cond may (at j s r ∷ []) []) [] ++ past)
@@ -115,7 +115,7 @@ along i P carries (Enters ∷ events) s past core h here are own =
     along i P carries events (with_token s) past (token_core s core) (let a = one_more s in omega arith)
     (carries.enters s past core h here) are own
 
--- what is told of the token's call and view, and of the moments so far
+-- what is said of the token's call and view, and of the moments so far
 abbrev pub OfToken : ℕ → (List Moment → Progress → View → Type 0) → State → List Moment → Type 0
 OfToken i Q s past = Q past (call_at s.calls i) (view_at s.views i)
 
@@ -154,7 +154,7 @@ pub begun_known : (s : State) (i : ℕ) (c : Call) → may_begin s i c ≡ true 
 begun_known s i c may =
     ltb-true i (length s.views) (both_true (ltb i (length s.views)) (is_idle (call_at s.calls i) && may_call (length s.parents) c (view_at s.views i)) may).0
 
--- where a call begins
+-- the state in which a call begins
 pub begun_own : (i : ℕ) (Q : List Moment → Progress → View → Type 0) (s : State) (c : Call) → IsCore s → may_begin s i c ≡ true
     → Q [] (Begun c) (view_at s.views i) → OfToken i Q (begun s i c) []
 begun_own i Q s c core may here =

@@ -18,7 +18,7 @@ use Rattle.tier_core.specs.Machine.{State, IsCore, view_at}
 use Rattle.tier_core.proofs.Turns.{by_test, not_both}
 use Rattle.tier_laws.specs.Frame.{flat_of}
 
--- a test of members that counts so many of each token's own
+-- a test of members that counts this many of each token's members
 abbrev CountsOwn : (Member → Bool) → (View → ℕ) → ℕ → Type 0
 CountsOwn test f u = (i : ℕ) (v : View) → v.arrived ≤ v.size → count_by test (token_members i v) ≡ cond {A = ℕ} (eqb i u) (f v) 0
 
@@ -59,7 +59,7 @@ arrived_owned s i p core h =
     counts_at (λ m. is_owned i m && has_arrived p m) (λ v. cond {A = ℕ} (eqb v.phase p) v.arrived 0) i 0 s.views i
     (λ o v k. token_arrived p i o v) (counted_views s core) h (omega arith)
 
--- those that have arrived in the token's own phase
+-- those that have arrived in the token's phase
 pub arrived_own : (s : State) (i : ℕ) → IsCore s → i < length s.views
     → arrived_of (view_at s.views i).phase i (flat_of s).members ≡ (view_at s.views i).arrived
 arrived_own s i core h =

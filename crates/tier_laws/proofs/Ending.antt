@@ -25,7 +25,7 @@ use Rattle.tier_core.specs.Run.{may_go, may_finish, finish_at, plan_ends, after}
 use Rattle.tier_laws.specs.Moments.{Moment, Event, Takes, Enters, flat_after}
 use Rattle.tier_laws.specs.Told.{HasEnded}
 
--- a moment beside the flat phasers that the tree stands for
+-- a moment beside the flat phasers that the tree represents
 abbrev pub at : ℕ → State → Turn → Moment
 at i s r = record { state = s; turn = r; before = flat_of s; afterwards = flat_of (played s i r) }
 
@@ -84,7 +84,7 @@ owing_is_ready s i core h owes going =
       needs = (refl, record { errand = owes; going = going });
     })
 
--- the moments of a run beside the flat phasers that the tree stands for
+-- the moments of a run beside the flat phasers that the tree represents
 abbrev pub own_imaged : ℕ → State → Step → List Moment
 own_imaged i s (Begin j c) = []
 own_imaged i s (Go j) = cond (eqb j i) (cond (may_go s j) (at j s (turn_at s j) ∷ []) []) []

@@ -1,4 +1,4 @@
--- What the steps of an arrival and a departure tell.
+-- What the steps of an arrival and a departure say.
 use Rattle.std.proofs.Common.{◌≡◌, ℕ, ◌<◌, true, false, List, ◌∷◌, length, length-set, refl, sym, ◌∙◌, ap, subst}
 use Rattle.std.specs.Prelude.{◌↔◌}
 use Rattle.std.proofs.lemmas.List.{get_or-set_same}
@@ -32,7 +32,7 @@ use Rattle.tier_laws.proofs.Ending.{at, owing_is_ready}
 use Rattle.tier_laws.proofs.Memory.{any_here, call_of, Remembers, Goal, no_last, done_later}
 use Rattle.tier_laws.proofs.Passing.{by_passing, passed_turn, refresh_turn}
 
--- The step that passes a tier: what it makes of word and view, and what it tells of the call.
+-- The step that passes a tier: what it makes of word and view, and what it says of the call.
 pub record Passer (s : State) (i : ℕ) (c : Call) (past : List Moment) (t : ℕ) (passage : Passage) (kind : Kind) : Type 0 where
   pub known : i < length s.views
   pub within : t < length s.words
@@ -101,7 +101,7 @@ pass_tells s i c past own t passage kind here over core is past_end stays active
           (is.done (goes (Climbing (parent_of s.parents t) j)) refl);
     })
 
--- the own step of an arrival and of a departure is the flat step
+-- the step at the token's tier, of an arrival and of a departure, is the flat step
 own_done : (s : State) (i : ℕ) (past : List Moment) (passage : Passage) (r : Turn) → (view_at s.views i).phase ≡ root_phase s.words
     → r.kind ≡ own_kind passage → IsDoneIn i (call_of passage) (view_at s.views i).phase (at i s r ∷ past)
 own_done s i past Arrival r current e =

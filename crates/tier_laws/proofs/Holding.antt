@@ -63,7 +63,7 @@ awaited_late s i core is =
     let c = only_here (view_at s.views i).tier (absent (root_phase s.words) (view_at s.views i)) in
     (fit.placed (absent_some (root_phase s.words) (view_at s.views i) is.some), omega arith)
 
--- a token with a member that hasn't arrived in its own phase
+-- a token with a member that hasn't arrived in the token's phase
 pub is_awaited : (s : State) (i : ℕ) → IsCore s → i < length s.views → (view_at s.views i).errand ≡ Rest
     → (view_at s.views i).arrived < (view_at s.views i).size → IsAwaited s i
 is_awaited s i core h rests some =

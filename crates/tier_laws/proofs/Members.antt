@@ -112,7 +112,7 @@ pub passes_begin_with_a_look : PassesBeginWithALook
 passes_begin_with_a_look s i Arrival core going is now e = look_by s i Arrival core going is now (gone s i (Begun call.Arrive) core is.known e refl)
 passes_begin_with_a_look s i Departure core going is now e = look_by s i Departure core going is now (gone s i (Begun call.Leave) core is.known e refl)
 
--- the own step
+-- the step at the token's tier
 pub counted : (s : State) (i : ℕ) (passage : Passage) → (view_at s.views i).arrived < (view_at s.views i).size
     → view_then s i ≡ stepped_view s.parents s.words (own_kind passage) (view_at s.views i).tier (view_at s.views i)
     → Counts passage (view_at s.views i) (view_then s i)
@@ -205,7 +205,7 @@ climbs_keep_members s i own core h e =
     }) g)
     (either (word_at s.words fits.0).ended)
 
--- the advance, or the look that stands for it
+-- the advance, or the look in its place
 finished : (s : State) (i : ℕ) (kind : Kind) → (view_at s.views i).errand ≡ Advancing
     → ((kind ≡ Look) × ((word_at s.words 0).ended ≡ true)) ⊎ ((ends : Bool) × (kind ≡ Advance ends))
     → IsSame (view_at s.views i) (stepped_view s.parents s.words kind 0 (view_at s.views i))

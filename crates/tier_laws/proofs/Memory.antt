@@ -31,7 +31,7 @@ abbrev pub PollTells : ℕ → Bool → ℕ → List Moment → Type 0
 PollTells token true now ms = Any (HasPassed token now) ms
 PollTells token false now ms = Any (IsAwaiting token now) ms
 
--- a refusal that is told once the claimed tiers are given back
+-- a refusal that is answered once the claimed tiers are given back
 abbrev pub RefusalTells : ℕ → Call → List Moment → Played → Type 0
 RefusalTells token c ms GoesOn = ⊥
 RefusalTells token c ms (Done phase) = ⊥
@@ -58,7 +58,7 @@ Remembers token c ms (Owing own) v = IsDoneIn token c v.phase ms
 Remembers token c ms (Due own) v = IsDoneIn token c v.phase ms
 Remembers token c ms (Refreshing has_moved) v = (c ≡ call.Poll) × PollTells token has_moved v.phase ms
 
--- a turn that tells what it answers, and after which the call remembers what it has to
+-- a turn that says what it answers, and after which the call remembers what it has to
 pub record Good (s : State) (i : ℕ) (c : Call) (past : List Moment) (r : Turn) : Type 0 where
   pub told : IsTold i c (at i s r) past
   pub keeps : Remembers i c (at i s r ∷ past) r.next (stepped_view s.parents s.words r.kind r.tier (view_at s.views i))

@@ -1,4 +1,5 @@
--- A call counts once, a join places its members where it was asked to, and a refused one notes what refused it.
+-- A call counts once, a join places its members at the tier that it was asked for, and a refused one notes what refused
+-- it.
 use Rattle.std.proofs.Common.{◌≡◌, ℕ, zero, suc, ◌<◌, ◌≤◌, Bool, true, false, cond, eqb, List, [], ◌∷◌, length, refl, sym, ◌∙◌, ap, subst, arith, Some}
 use Rattle.std.specs.Prelude.{◌&&◌, not}
 use Rattle.std.specs.List.{Any}
@@ -328,7 +329,7 @@ first_fits s i past call.Leave before fits = pass_first_fits s i past Departure 
 first_fits s i past call.Poll before fits = poll_first_fits s i past before
 first_fits s i past call.Force before fits = over_fits s i call.Force past Force 0 (end_shown (word_at s.words 0)) refl before (λ _ e. e) tt tt
 
--- a party passes a tier: the own step counts, and a step of a climb has counted
+-- a party passes a tier: the step at the token's tier counts, and a step of a climb has counted
 pass_fits : (s : State) (i : ℕ) (c : Call) (past : List Moment) (own : Passage) (t : ℕ) (passage : Passage) (kind : Kind) (here : Progress) (over : Played)
     → (known : (j : Passage) × (c ≡ call_of j))
     → Fits s i c past (last_look over)

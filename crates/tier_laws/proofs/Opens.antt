@@ -237,7 +237,7 @@ empty_admits w more none one room =
     let c : is_being_opened w ≡ false = ap (λ x. cond x (eqb w.unarrived 2) false) (eq-eqb w.parties 0 none) ∙ ne_eqb w.unarrived 2 (omega arith) in
     ap (λ x. x || ((eqb w.unarrived 0) || is_being_opened w)) a ∙ (ap (λ x. x || is_being_opened w) b ∙ c)
 
--- it refuses nothing where it is fresh and has room
+-- it refuses nothing if it is fresh and has room
 welcomes : (now more : ℕ) (w : Fields) → IsFreshWord now w → w.parties + more ≤ 65535 → is_refusing more w ≡ false
 welcomes now more w fresh room = ⊎_elim
     (λ e. empty_admits w more e.0 e.1 room)
@@ -338,7 +338,7 @@ step_goes old s i tier size ms (Owing own) is e going stands = absurd stands
 step_goes old s i tier size ms (Due own) is e going stands = absurd stands
 step_goes old s i tier size ms (Refreshing has_moved) is e going stands = absurd stands
 
--- where the join is over the tree is fresh
+-- when the join is over the tree is fresh
 over : (old s : State) (i tier size : ℕ) (ms : List Moment) → Joining old s i tier size ms → call_at s.calls i ≡ Idle → IsJoined old s i tier size ms
 over old s i tier size ms is e =
     let stands : Stands tier size (root_phase old.words) ms Idle (view_at s.views i) =

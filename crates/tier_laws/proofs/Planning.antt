@@ -1,4 +1,4 @@
--- The root advances only where that is due, and as the plan says.
+-- The root advances only if that is due, and as the plan says.
 use Rattle.std.proofs.Common.{◌≡◌, ◌≢◌, ℕ, zero, suc, ◌<◌, ◌↔◌, ⊎_elim, Bool, true, false, cond, eqb, ltb, List, length, take, drop, refl, sym, ◌∙◌, ap, subst, Some, None}
 use Rattle.std.specs.Prelude.{Option}
 use Rattle.std.proofs.lemmas.Bool.{cases_eq, eq-eqb, ne_eqb, ltb-true}
@@ -49,7 +49,7 @@ advancing s i r ends may e =
     let n : Needs s.parents (Advance ends) r.tier (word_at s.words r.tier) (view_at s.views i) =
     subst (λ (k : Kind). Needs s.parents k r.tier (word_at s.words r.tier) (view_at s.views i)) e may.needs in n.1.errand
 
--- a call that goes on by a step of its own doesn't owe the advance
+-- a call that goes on by a step that isn't the advance doesn't owe the advance
 opens : (tier claimed size : ℕ) (stage : OpeningStage) → opening tier claimed stage size ≢ Advancing
 opens tier zero size stage e = absurd (let a : Rest ≡ Advancing = e in cc)
 opens tier (suc claimed) size stage e = absurd (let a : Opening tier (suc claimed) stage size ≡ Advancing = e in cc)

@@ -1,4 +1,4 @@
--- How many steps are left of a call: its own steps take one of them, and others' steps add none.
+-- How many steps are left of a call: each step of the call takes one of them, and others' steps add none.
 use Rattle.std.proofs.Common.{◌≡◌, ◌≢◌, ℕ, zero, suc, ◌+◌, ◌-◌, ◌<◌, ◌≤◌, ⊎_elim, Bool, true, false, cond, eqb, List, length, length-set, set, take, drop, refl, sym, ◌∙◌, ap, subst, arith}
 use Rattle.std.specs.Prelude.{◌&&◌, not}
 use Rattle.std.proofs.lemmas.Bool.{cases_eq, cases_lt, eq-eqb, ne_eqb}
@@ -49,7 +49,7 @@ use Rattle.tier_laws.proofs.Passing.{by_passing}
 abbrev pub behind : ℕ → Fields → ℕ
 behind phase w = cond {A = ℕ} (eqb w.phase phase) 0 1
 
--- the steps of a climb from a tier that is so many levels below the root, and the advance
+-- the steps of a climb from a tier that is this many levels below the root, and the advance
 abbrev pub climb_left : ℕ → List ℕ → List Fields → ℕ → ℕ → ℕ
 climb_left zero ps ws phase t = 2
 climb_left (suc levels) ps ws phase t = 1 + behind phase (word_at ws t) + climb_left levels ps ws phase (parent_of ps t)
@@ -65,14 +65,14 @@ pub record SeeksWithin (ps : List ℕ) (tier claimed n : ℕ) : Type 0 where
   pub reached : claimed ≤ levels
   pub left : levels + levels + 1 ≤ n + claimed
 
--- where a climb is
+-- the tier that a climb has reached
 abbrev pub climbs_to : Errand → ℕ
 climbs_to Rest = 0
 climbs_to Advancing = 0
 climbs_to (Climbing t passage) = t
 climbs_to (Opening tier claimed stage size) = 0
 
--- a call takes at most so many further steps
+-- a call takes at most this many further steps
 abbrev pub Within : List ℕ → List Fields → Progress → View → ℕ → Type 0
 Within ps ws Idle v n = Unit {0}
 Within ps ws (Begun c) v n = most_steps c ≤ n
@@ -96,7 +96,7 @@ climb_most zero ps ws phase t = omega arith
 climb_most (suc levels) ps ws phase t =
     let a = climb_most levels ps ws phase (parent_of ps t) in let b = behind_one phase (word_at ws t) in omega arith
 
--- fewer tiers behind, fewer steps
+-- fewer tiers to come, fewer steps
 abbrev pub NoneFallsBehind : ℕ → List Fields → List Fields → Type 0
 NoneFallsBehind phase ws ws' = (u : ℕ) → (word_at ws u).phase ≡ phase → (word_at ws' u).phase ≡ phase
 
@@ -165,7 +165,7 @@ some_left ps ws (Owing own) v n going fits left =
 some_left ps ws (Due own) v n going fits left = omega arith
 some_left ps ws (Refreshing has_moved) v n going fits left = omega arith
 
--- what is left after a turn of the token's own
+-- what is left after a turn of the token
 abbrev pub Lowers : State → ℕ → ℕ → Turn → Type 0
 Lowers s i n r = MayPlay s i r
     → Within s.parents (words_after s.words r.kind r.tier (view_at s.views i)) r.next (stepped_view s.parents s.words r.kind r.tier (view_at s.views i)) (n - 1)

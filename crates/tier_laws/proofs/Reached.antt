@@ -1,4 +1,4 @@
--- From the flat phasers that a tree stands for to any that takes the labels of its steps.
+-- From the flat phasers that a tree represents to any that takes the labels of its steps.
 use Rattle.std.proofs.Common.{◌≡◌, ℕ, zero, suc, ◌<◌, ◌⊎◌, inl, inr, ⊎_elim, Bool, true, false, cond, eqb, List, [], ◌∷◌, ◌++◌, length, get_or, refl, sym, ◌∙◌, ap, subst, arith}
 use Rattle.std.specs.List.{Any, AllByRecursion}
 use Rattle.std.proofs.lemmas.Bool.{eq-eqb, eqb-true}
@@ -99,7 +99,7 @@ any_cases : {X : Type 0} (P : X → Type 0) (x : X) (xs : List X) (k : ℕ) (y :
 any_cases P x xs zero y h e p = inl (subst P (sym e) p)
 any_cases P x xs (suc k) y h e p = inr (k, y, (omega arith), e, p)
 
--- what each moment tells beside one flat phaser it tells beside the other
+-- what each moment says beside one flat phaser it says beside the other
 abbrev pub Tells_ : (Moment → Type 0) → (Moment → Type 0) → Type 0
 Tells_ P Q = (n : Moment) (f g : Flat) → LooksAlike f n.before → LooksAlike g n.afterwards → P n → Q (beside n f g)
 
@@ -158,7 +158,7 @@ has_ended token number n f g before afterwards is = record {
   shows = ap (λ p. shown_of p g.ended) afterwards.phase ∙ (ap (λ b. shown_of n.afterwards.phase b) afterwards.ended ∙ is.shows);
 }
 
--- there is no member in the one where there is none in the other
+-- there is no member in the one if there is none in the other
 none_too : (ms ns : List Member) → ((owner : ℕ) → members_of owner ms ≡ members_of owner ns) → length ns ≡ 0 → length ms ≡ 0
 none_too [] ns same e = refl
 none_too (m ∷ ms) [] same e = absurd (

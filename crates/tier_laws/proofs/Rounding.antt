@@ -92,7 +92,7 @@ advances_begin_the_phase s i core going may =
           (cases_eq j i));
     }
 
--- where a token is awaited not everyone has arrived
+-- if a token is awaited not everyone has arrived
 not_everyone : (s : State) (i : ℕ) → IsCore s → (word_at s.words 0).ended ≡ false → IsAwaited s i → (flat_of s).due ≡ true → ⊥
 not_everyone s i core going is due =
     let v : View = view_at s.views i in

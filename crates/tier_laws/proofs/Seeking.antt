@@ -1,4 +1,4 @@
--- What the steps of a join tell.
+-- What the steps of a join say.
 use Rattle.std.proofs.Common.{◌≡◌, ◌≢◌, ℕ, zero, suc, ◌+◌, ◌<◌, ◌≤◌, ⊎_elim, true, false, cond, eqb, List, [], ◌∷◌, length, get_or, refl, sym, ◌∙◌, ap, subst, arith}
 use Rattle.std.specs.Prelude.{sum_by}
 use Rattle.std.proofs.lemmas.List.Sums.{sum_by-cons}
@@ -123,7 +123,7 @@ seen_now s i tier k size (suc t) past r kind here all going seen =
     ∙ (ap (λ x. cond (eqb x 0) (flat_of s).phase (last_seen past)) here
     ∙ ap (λ b. cond b (flat_of s).phase (last_seen past)) (ne_eqb (suc t) 0 (omega arith))))
 
--- what a refusal tells
+-- what a refusal says
 pub refuses : (s : State) (i : ℕ) (past : List Moment) (tier k size t : ℕ) (r : Turn) (a : Played) → IsCore s → i < length s.views
     → IsDue s.parents tier k size t (view_at s.views i) → Refuses (added k size) (word_at s.words t) → t < length s.words
     → (view_at s.views i).phase ≡ last_seen past → r.kind ≡ Refuse tier k size → r.tier ≡ t → r.next ≡ giving_back k a

@@ -26,7 +26,7 @@ use Rattle.tier_laws.proofs.Reached.{as_many, reached}
 use Rattle.tier_laws.proofs.Along.{Carries, along, view_stays, call_stays, begun_known}
 use Rattle.tier_laws.proofs.Ranks.{Within, some_left, Lowers, turn_lowers, left_stays}
 
--- a call with so many steps behind it, and at most so many to come
+-- a call that has made some steps, and has at most this many to come
 pub record Course (i : ℕ) (c : Call) (s : State) (past : List Moment) : Type 0 where
   pub tiers : IsTiers s.parents
   pub rest : ℕ

@@ -1,4 +1,4 @@
--- Wherever a call stands, 16 steps of its token alone are enough.
+-- However far a call has come, 16 steps of its token alone are enough.
 use Rattle.std.proofs.Common.{◌≡◌, ◌≢◌, ℕ, zero, suc, ◌-◌, ◌<◌, ◌≤◌, ◌⊎◌, inl, inr, ⊎_elim, Bool, true, false, cond, eqb, ltb, List, length, length-set, refl, sym, ◌∙◌, ap, subst, arith}
 use Rattle.std.specs.Prelude.{◌&&◌, not}
 use Rattle.std.proofs.lemmas.Bool.{cases_eq, cases_lt, and_from, lt-ltb}
@@ -162,7 +162,7 @@ few_sought : (s : State) (i tier k size levels : ℕ) → IsCore s → i < lengt
 few_sought s i tier zero size levels core h owes root = omega arith
 few_sought s i tier (suc k) size levels core h owes root = few_claims s i tier (suc k) size levels Seeking core h owes root
 
--- so wherever a call stands it has few steps to go
+-- however far a call has come it has few steps to go
 within_sixteen : (s : State) (i : ℕ) (p : Progress) → IsTiers s.parents → IsCore s → i < length s.views → CallFits s.parents p (view_at s.views i)
     → Within s.parents s.words p (view_at s.views i) 16
 within_sixteen s i Idle tiers core h fits = tt

@@ -1,4 +1,4 @@
--- Each answer of a call tells what it is to tell.
+-- Each answer of a call says what it has to.
 use Rattle.std.proofs.Common.{◌≡◌, ◌≢◌, ℕ, ◌<◌, ⊎_elim, Bool, true, false, cond, eqb, List, [], ◌∷◌, length, refl, sym, ◌∙◌, ap, subst, arith}
 use Rattle.std.specs.Prelude.{◌&&◌, not}
 use Rattle.std.proofs.lemmas.Bool.{eq-eqb, ne_eqb, eqb-true, eqb-false}
@@ -275,7 +275,7 @@ last_tells s i c past ends (Due own) due knows = record {
 }
 last_tells s i c past ends (Refreshing has_moved) due knows = not_both false due refl
 
--- what is true of a call and its moments so far: it remembers what it has to, and the latest moment tells
+-- what is true of a call and its moments so far: it remembers what it has to, and the latest moment says it
 abbrev pub Story : ℕ → Call → List Moment → Progress → View → Type 0
 Story i c past p v = Remembers i c past p v × LatestTells i c past
 

@@ -22,7 +22,7 @@ most_steps call.Leave = 15
 most_steps call.Poll = 2
 most_steps call.Force = 1
 
--- a call after these moments of its own
+-- a call after these moments of the call
 pub record IsShort (s : State) (token : ℕ) (c : Call) (ms : List Moment) : Type 0 where
   pub few : length ms ≤ most_steps c
   pub sixteen : length ms ≤ 16

@@ -18,10 +18,10 @@ use Rattle.tier_laws.specs.Told.{LatestTells}
 pub record IsDriven (s : State) (steps : List Step) (f : Flat) : Type 0 where
   -- the labels are a run of the flat phaser, and what it leaves looks like the tree
   pub flat : IsFlat s steps f
-  -- each step is answered where the run has come to
+  -- each step is answered at the point that the run has reached
   pub answered : (front : List Step) (x : Step) (back : List Step) → steps ≡ front ++ x ∷ back
       → answers steps s ≡ answers front s ++ answer_to (run front s) x ∷ answers back (after (run front s) x)
-  -- and each answer of each call tells what the table says of the flat phasers that the labels have reached
+  -- and each answer of each call says what the table says of the flat phasers that the labels have reached
   pub told : (front : List Step) (token : ℕ) (c : Call) (during back : List Step) → steps ≡ front ++ Begin token c ∷ (during ++ back)
       → may_begin (run front s) token c ≡ true → AreOfCall token (map (λ x. Takes x) during)
       → LatestTells token c (moments token (map (λ x. Takes x) during) (begun (run front s) token c) (flat_run (labels front s) f) [])
@@ -32,13 +32,13 @@ abbrev pub RunsAnswerAsTheFlatPhaser : Type 0
 RunsAnswerAsTheFlatPhaser =
     (s : State) (steps : List Step) (f : Flat) → IsCore s → AreSteps steps → LooksAlike f (flat_of s) → IsDriven s steps f
 
--- so many tokens come in
+-- this many tokens are added
 abbrev pub with_tokens : ℕ → State → State
 with_tokens zero s = s
 with_tokens (suc many) s = with_tokens many (with_token s)
 
--- A run on a new tree is a run of the flat phaser from no members on: there an advance is due only where everyone who is registered has
--- arrived.
+-- A run on a new tree is a run of the flat phaser that begins without members: there an advance is due only if everyone
+-- who is registered has arrived.
 abbrev pub NewTreesAdvanceWhenAllArrived : Type 0
 NewTreesAdvanceWhenAllArrived =
     (parents : List ℕ) (phase : ℕ) (plan : EndPlan) (many : ℕ) (steps : List Step) → IsShape parents → length parents ≤ 65535 → phase ≤ 2147483647

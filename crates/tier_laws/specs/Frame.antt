@@ -9,7 +9,7 @@ use Rattle.tier_core.specs.declared.call.Step.{Step}
 use Rattle.tier_core.specs.declared.call.Step.TheVariants.{Begin, Go, Finish}
 use Rattle.tier_core.specs.Run.{after}
 
--- the flat phaser that a state stands for
+-- the flat phaser that a state represents
 abbrev pub flat_of : State → Flat
 flat_of s = image s.words s.views
 

@@ -29,7 +29,7 @@ flat_after m = m.afterwards
 abbrev pub moment_of : ℕ → State → Flat → Turn → Moment
 moment_of token s f turn = record { state = s; turn = turn; before = f; afterwards = labelled (label token turn.kind) f }
 
--- the moment that a step of a run is, where it is a turn of this token
+-- the moment that a step of a run is, if it is a turn of this token
 abbrev pub own_turn : ℕ → State → Flat → Step → List Moment
 own_turn token s f (Begin other c) = []
 own_turn token s f (Go other) =

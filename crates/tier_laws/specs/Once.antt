@@ -1,4 +1,5 @@
--- How often a call counts, where a join places its members, and what a refused join notes (not part of Java's API).
+-- How often a call counts, at which tier a join places its members, and what a refused join notes (not part of Java's
+-- API).
 use Rattle.std.specs.Prelude.{◌≡◌, ℕ, ◌≤◌, Bool, true, false, Some, List, [], ◌∷◌, count_by}
 use Rattle.std.specs.List.{Any}
 use Rattle.tier_steps.specs.declared.kind.Kind.{Kind}

@@ -20,7 +20,7 @@ pub record IsPlanned (s : State) (end : Bool) : Type 0 where
   pub due : (flat_of s).due ≡ true
   pub ends : end ≡ flat_ends s
 
--- A step of a run is the flat advance only where that is due, and as the plan says.
+-- A step of a run is the flat advance only if that is due, and as the plan says.
 abbrev pub AdvancesArePlanned : Type 0
 AdvancesArePlanned =
     (s : State) (step : Step) (ends : Bool) → IsCore s → (flat_of s).ended ≡ false → step_label s step ≡ Some (flat.Advance ends)
@@ -39,7 +39,7 @@ TheLastOneAdvances = (s : State) (token : ℕ) → IsCore s → (flat_of s).ende
 abbrev pub QuietTreesWait : Type 0
 QuietTreesWait = (s : State) → AllByRecursion (λ v. v.errand ≡ Rest) s.views → (flat_of s).due ≡ false
 
--- It isn't due since it waits for somebody: where the tree goes on and there is a member, one hasn't arrived.
+-- It isn't due since it waits for somebody: if the tree goes on and there is a member, one hasn't arrived.
 abbrev pub QuietTreesAwaitSomebody : Type 0
 QuietTreesAwaitSomebody =
     (s : State) → IsCore s → (flat_of s).ended ≡ false → AllByRecursion (λ v. v.errand ≡ Rest) s.views → 0 < registered (flat_of s)

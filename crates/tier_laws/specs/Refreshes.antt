@@ -8,7 +8,7 @@ use Rattle.tier_steps.specs.declared.kind.Kind.TheVariants.{Refresh}
 use Rattle.tier_steps.specs.Step.{Needs}
 use Rattle.tier_core.specs.Turn.{lags}
 
--- the token's own tier, if it has a member that is to arrive there, or the tier that it climbs to
+-- the token's tier, if it has a member that is to arrive there, or the tier that it climbs to
 abbrev pub IsNext : ℕ → View → Type 0
 IsNext t v = ((v.tier ≡ t) × (v.arrived < v.size)) ⊎ ((passage : Passage) × (v.errand ≡ Climbing t passage))
 

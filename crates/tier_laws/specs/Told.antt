@@ -141,7 +141,8 @@ IsDoneIn token call.Leave now ms = Any (IsCounted token call.Leave now) ms
 IsDoneIn token call.Poll now ms = Any (IsAwaiting token now) ms
 IsDoneIn token call.Force now ms = ⊥
 
--- what an answer says, where `m` is the moment of the step that gives it, and `past` are the earlier moments, the latest first
+-- what an answer says; `m` is the moment of the step that gives it, and `past` are the earlier moments, the latest
+-- first
 abbrev pub Tells : ℕ → Call → Moment → List Moment → Played → Type 0
 Tells token c m past GoesOn = is_active m.turn.next ≡ true
 Tells token c m past (Done phase) = IsDoneIn token c phase (m ∷ past)

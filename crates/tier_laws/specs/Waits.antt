@@ -20,7 +20,7 @@ TheRootWaits =
     (s : State) (step : Step) (token phase parties : ℕ) → IsCore s → IsStepOfCalls step → may_finish s token ≡ true → token ≢ actor step
     → HasRoot s phase parties → HasRoot (after s step) phase parties
 
--- the token that was told last to advance the root still has to, and the root is as it was told
+-- the token that was last to be asked to advance the root still has to, and the root is as the token's answer said
 pub record IsAsTold (s : State) (token phase parties : ℕ) : Type 0 where
   pub due : is_due (call_at s.calls token) ≡ true
   pub root : HasRoot s phase parties
@@ -29,7 +29,8 @@ abbrev pub LatestIsKept : ℕ → State → List Moment → Type 0
 LatestIsKept token s [] = Unit {0}
 LatestIsKept token s (m ∷ past) = (phase parties : ℕ) → m.turn.answer ≡ MustAdvance phase parties → IsAsTold s token phase parties
 
--- Until a token takes the advance that it was told to take, the root is in the phase and has the parties that it was told.
+-- Until a token takes the advance that its answer asks for, the root is in the phase and has the parties that the
+-- answer says.
 abbrev pub AdvancesAreAwaited : Type 0
 AdvancesAreAwaited =
     (s : State) (token : ℕ) (c : Call) (events : List Event) → IsCore s → IsCall c → may_begin s token c ≡ true → AreEvents events

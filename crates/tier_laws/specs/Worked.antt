@@ -48,7 +48,7 @@ worked_answers =
     ∷ begun ∷ goes_on ∷ answer.Played (Passed 1) ∷ begun ∷ answer.Played (Done 1) ∷ begun ∷ goes_on ∷ goes_on ∷ answer.Played (Done 1)
     ∷ begun ∷ answer.Played (Ended shown_ended) ∷ begun ∷ answer.Played (Ended shown_ended) ∷ []
 
--- The laws' premises hold where this run begins, and, by the law that the tree is flat, wherever it has come to.
+-- The laws' premises hold where this run begins, and, by the law that the tree is flat, at each point that it reaches.
 pub record EachAnswerIsGiven : Type 0 where
   pub tiers : IsTiers two_leaves.parents
   pub core : IsCore two_leaves

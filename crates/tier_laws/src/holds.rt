@@ -8,7 +8,7 @@ ghost use Rattle.tier_laws.specs.Rounds.{AdvancesBeginThePhase, AwaitedTokensSta
 ghost use Rattle.tier_laws.specs.Waits.{TheRootWaits, AdvancesAreAwaited};
 ghost use Rattle.tier_laws.specs.Hold.{AwaitedTokensHold, NobodyMustAdvance, AdvancesAreAlone, MembersAreTheTokens, PartiesAreFew};
 
-/// A turn of a token changes only its own view, how far its call has come, and the word of one tier.
+/// A turn of a token changes only its view, how far its call has come, and the word of one tier.
 pub fn turns_change_their_own()
     ensures { TurnsChangeTheirOwn }
 {}
@@ -18,8 +18,8 @@ pub fn others_stay()
     ensures { OthersStay }
 {}
 
-/// A new token has no members. Adding it changes no word, no other token's view or call, not who is awaited, and not the
-/// flat phaser that the tree stands for.
+/// A new token has no members. Adding it changes no word, no other token's view or call, not who is awaited, and not
+/// the flat phaser that the tree represents.
 pub fn tokens_enter_unseen()
     ensures { TokensEnterUnseen }
 {}

@@ -1,4 +1,4 @@
-//! Laws of a tree of phasers: what the answers of calls say of the one flat phaser that the tree stands for, how many
+//! Laws of a tree of phasers: what the answers of calls say of the one flat phaser that the tree represents, how many
 //! steps a call takes, and what its steps do to its token.
 //!
 //! * [`answers`]: what each answer means, and how many steps a call takes.

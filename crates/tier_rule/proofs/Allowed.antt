@@ -308,7 +308,7 @@ abbrev second_of : Sight → List Sight → Sight
 second_of d [] = d
 second_of d (x ∷ xs) = first_of d xs
 
--- what two tokens learn whose seats are joined, of which both find this word
+-- what two tokens learn when their seats are joined and both find this word
 record Looks (k : Key) (s : St) (id : ℕ) (w : Fields) (x y : Sight) : Type 0 where
   kept : Kept k (stepped s 0 (get_or s.words 0 0) id [] (after Look 0 w 0 x ∷ after Look 0 w 0 y ∷ []) keeps)
   first : Stepped Look 0 w 0 x (after Look 0 w 0 x)

@@ -9,7 +9,7 @@ use Rattle.tier_steps.specs.declared.view.View.{View}
 use Rattle.tier_rule.specs.declared.sight.Sight.{Sight}
 use Rattle.tier_rule.specs.Reach.{those, views_of}
 
--- the views before and behind those of a seat, which stay while these change
+-- the views before and after those of a seat, which stay while these change
 pub record Beside (vs : List (List Sight)) (id : ℕ) (l : List Sight) : Type 0 where
   pub front : List View
   pub back : List View
@@ -54,7 +54,7 @@ pub those-append : (l m : List Sight) → those (l ++ m) ≡ those l ++ those m
 those-append [] m = refl
 those-append (x ∷ l) m = ap (λ (vs : List View). x.view ∷ vs) (those-append l m)
 
--- the sum where the list of one seat is another
+-- the sum if the list of one seat is another
 pub reseated : (f : View → ℕ) (vs : List (List Sight)) (id : ℕ) (l l' : List Sight) → get_elem? vs id ≡ some l
     → sum_by f (views_of (set vs id l')) + sum_by f (those l) ≡ sum_by f (views_of vs) + sum_by f (those l')
 reseated f [] id l l' at = absurd (some-ne-none l (sym at))
@@ -92,7 +92,8 @@ module _ (P : View → Type 0) where
   all_append [] ys a b = b
   all_append (x ∷ xs) ys a b = (a.0, all_append xs ys a.1 b)
 
-  -- what is true of all views is true of those of one seat, and stays so where the list of that seat is another of which it is true
+  -- what is true of all views is true of those of one seat, and stays so if it is true of another list in place of that
+  -- seat's
   all_of : (vs : List (List Sight)) (id : ℕ) (l : List Sight) → get_elem? vs id ≡ some l → AllByRecursion P (views_of vs) → AllByRecursion P (those l)
   all_of [] id l at all = absurd (some-ne-none l (sym at))
   all_of (k ∷ ks) zero l at all = subst (λ (m : List Sight). AllByRecursion P (those m)) (some-injective k l at) (all_front (those k) (views_of ks) all)

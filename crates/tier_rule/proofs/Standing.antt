@@ -1,4 +1,4 @@
--- The flat phaser that the table stands for, and where its end comes from.
+-- The flat phaser that the table represents, and the cause of its end.
 use Rattle.std.proofs.Common.{◌≡◌, ℕ, zero, suc, ◌<◌, ◌==◌, ◌⊎◌, inl, inr, ⊎_elim, Bool, true, false, List, [], ◌∷◌, ◌++◌, length, set, refl, sym, ◌∙◌, ap, subst, arith, ne_eqb, get_or-set_same}
 use Rattle.advance_rule.specs.Plan.{end_ends}
 use Rattle.flat_phaser.specs.Flat.{registered}
@@ -66,7 +66,7 @@ root_end : (ws : List Fields) (kind : Kind) (t : ℕ) (v : View) → t < length 
     → (word_at (words_after ws kind t v) 0).ended ≡ (word_at ws 0).ended
 root_end ws kind t v h a f = ended_same ws t (word_after kind t (word_at ws t) v) h (word_end kind t (word_at ws t) v a f)
 
--- whether two numbers are 0 is one question where each is 0 with the other
+-- whether two numbers are 0 is one question if each is 0 with the other
 same_zero : (m n : ℕ) → (m ≡ 0 → n ≡ 0) → (n ≡ 0 → m ≡ 0) → (m == 0) ≡ (n == 0)
 same_zero zero zero a b = refl
 same_zero zero (suc n) a b = absurd (let z = a refl in omega arith)
@@ -167,7 +167,7 @@ only_one x (suc id) l at = absurd (some-ne-none l (sym at))
 at_first : {k : Key} {ws : List Fields} {vs : List (List Sight)} → (f : IsFirst k ws vs) → (id : ℕ) (l : List Sight) → get_elem? vs id ≡ some l → (id ≡ 0) × (l ≡ f.sight ∷ [])
 at_first {k} {ws} {vs} f id l at = only_one f.sight id l (sym (ap (λ (us : List (List Sight)). get_elem? us id) f.alone) ∙ at)
 
--- where a seat of a new tree becomes used, all are
+-- if a seat of a new tree becomes used, all are
 used_first : {k : Key} {ws : List Fields} {vs : List (List Sight)} → (f : IsFirst k ws vs) → (id : ℕ) (l m : List Sight) → get_elem? vs id ≡ some l → AreUsed m → AllByRecursion AreUsed (set vs id m)
 used_first {k} {ws} {vs} f id l m at used =
     subst (λ (us : List (List Sight)). AllByRecursion AreUsed (set us id m)) (sym f.alone)

@@ -77,11 +77,12 @@ pub record IsEnd (k : Key) : Type 0 where
   pub going : (word_at words 0).ended ≡ false
   pub ends : ended_by k words seats kind ≡ true
 
--- If a tree has ended, a step ended it: a force, or an advance of which the plan said so.
+-- If a tree has ended, a step ended it: a force, or an advance that the plan says is the last.
 abbrev pub EndsHaveAStep : Type 0
 EndsHaveAStep = (k : Key) (words : List Fields) (seats : List (List Sight)) → Reached k words seats → (word_at words 0).ended ≡ true → IsEnd k
 
--- A new tree is empty: as long as its first token has taken no step and no seat was split off its own, all words are as at first, and there is no other seat.
+-- A new tree is empty: as long as its first token has taken no step and no seat was split off the token's seat, all
+-- words are as at first, and there is no other seat.
 abbrev pub NewTreesAreEmpty : Type 0
 NewTreesAreEmpty =
     (k : Key) (words : List Fields) (seats : List (List Sight)) (id : ℕ) (x : Sight)

@@ -1,4 +1,4 @@
--- What a step on the table tells its token (own).
+-- What a step on the table lets its token know (own).
 use Rattle.std.specs.Prelude.{◌≡◌, ◌≢◌, ℕ, ◌+◌, ◌<◌, List, [], ◌∷◌, ◌++◌, length}
 use mathlib.Core.Option.{Option, none, some}
 use Rattle.atomic_table.specs.Table.{Step, Me}
@@ -28,7 +28,7 @@ pub record Beside (parents : List ℕ) (t : ℕ) (w : Fields) (v : View) : Type 
   pub word : word_at words t ≡ w
   pub tally : Tallies parents words (front ++ v ∷ back)
 
--- A step of this kind at the tier t found the word w, by so many tries.
+-- A step of this kind at the tier t found the word w, by this many tries.
 pub record Stepped (kind : Kind) (t : ℕ) (w : Fields) (tries : ℕ) (x y : Sight) : Type 0 where
   pub key : y.key ≡ x.key
   pub view : y.view ≡ view_after (parent_of x.key.shape t) kind t w x.view
@@ -58,7 +58,7 @@ Saw kind s me n me' =
     (x : Sight) → me ≡ (x ∷ [], [])
     → (y : Sight) × (me' ≡ (y ∷ [], [])) × (w : Fields) × IsLegal w × (n ≡ packed w) × Stepped (looking kind s.word w) s.word w 0 x y
 
--- A seat that knows nothing of this tree is told the root's word.
+-- A seat that knows nothing of this tree gets the root's word.
 abbrev pub Sat : Key → Step Kind → Me Kind (List Sight) → ℕ → Me Kind (List Sight) → Type 0
 Sat k s me n me' = me ≡ ([], []) → (w : Fields) × IsLegal w × (n ≡ packed w) × (me' ≡ (sat_sight k w ∷ [], [])) × Beside k.shape 0 w (new_view w.phase)
 

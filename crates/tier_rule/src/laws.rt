@@ -15,15 +15,15 @@ pub fn advances_wait_for_all()
     ensures { AdvancesWaitForAll }
 {}
 
-/// The words stand for one flat phaser. After any steps of any number of threads, each step that a seat may take is the
-/// flat phaser's step of its label, or no step of it, and changes the flat phaser that the words and views stand for
+/// The words represent one flat phaser. After any steps of any number of threads, each step that a seat may take is the
+/// flat phaser's step of its label, or no step of it, and changes the flat phaser that the words and views represent
 /// accordingly.
 pub fn steps_are_flat()
     ensures { StepsAreFlat }
 {}
 
-/// A step ends the tree exactly if it is a force, or an advance of which the plan says so, by the phase and by whether
-/// there are no members.
+/// A step ends the tree exactly if it is a force, or an advance that the plan says is the last, by the phase and by
+/// whether there are no members.
 #[tactic(auto, using(crate::proofs::Standing::ends_are_forced_or_planned))]
 pub fn ends_are_forced_or_planned()
     ensures { EndsAreForcedOrPlanned }

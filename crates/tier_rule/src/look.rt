@@ -15,7 +15,7 @@ pub fn plain_look(tier: u16) -> Kind
     if tier == 0 { Kind::Look } else { Kind::Glance }
 }
 
-/// Returns a look at the tier where a join is due: a refusal or a plain look, by the word that it finds.
+/// Returns a look at a tier at which a join is due: a refusal or a plain look, by the word that it finds.
 fn look_to_join(tier: u16, joined: u16, claimed: u16, size: u32, word: Word) -> Kind
     ensures { result ≡ refusing tier joined claimed size word }
 {

@@ -1,4 +1,4 @@
-//! The rule of the table of words, and what each access to it tells its token.
+//! The rule of the table of words, and what each access to it lets its token know.
 
 ghost use Rattle.std.specs.Prelude.{[], ◌++◌, None, false};
 ghost use Rattle.tier_rule.specs.Reach.{Kept, first_sights, cut_off, front_of, rest_of};
@@ -47,7 +47,7 @@ impl<J: Meant> Play<Kind, Sights> for Looks<J> {
     ghost then = { Saw J.kind };
 }
 
-/// The tree of which a new seat learns. Each call picks it.
+/// The tree that a new seat learns of. Each call picks it.
 pub trait Keyed {
     /// What is fixed when the tree is made.
     ghost key: { Key };

@@ -96,7 +96,8 @@ one_reading text (w ∷ ws) [] a b = absurd (not_flat w ws a.each (sym b.says �
 one_reading text (w ∷ ws) (v ∷ vs) a b =
     same_numbers (w ∷ ws) (v ∷ vs) a.each b.each (sym (pieces_joined w ws a.each) ∙ ap pieces (sym a.says ∙ b.says) ∙ pieces_joined v vs b.each)
 
--- what has been read of a text: these widths of its pieces, of which the first six are kept, and whether there were more
+-- what has been read of a text: these widths of its pieces, the first six of which are kept, and whether there were
+-- more
 pub record IsReadTo (text : List ℕ) (left : List (List ℕ)) (kept : List ℕ) (deep : Bool) : Type 0 where
   pub widths : List ℕ
   pub each : All IsWidth widths

@@ -73,7 +73,7 @@ next_kept : (p : ℕ → Bool) (n : ℕ) → filter p (range_with_len 0 (n + 1))
 next_kept p n =
     ap (λ k. filter p (range_with_len 0 k)) (add-one n) ∙ ap (filter p) (range_more n 0 n (omega arith)) ∙ filter-append p (range_with_len 0 n) (n ∷ [])
 
--- one more number, where it passes and where it doesn't
+-- one more number, if it passes and if it doesn't
 pub keeps_next : (p : ℕ → Bool) (xs : List ℕ) (n : ℕ) → p n ≡ true → xs ≡ filter p (range_with_len 0 n) → xs ++ (n ∷ []) ≡ filter p (range_with_len 0 (n + 1))
 keeps_next p xs n passes so_far =
     ap (λ l. l ++ (n ∷ [])) so_far ∙ ap (λ b. filter p (range_with_len 0 n) ++ cond b (n ∷ []) []) (sym passes) ∙ sym (next_kept p n)

@@ -31,7 +31,7 @@ all_kept p (suc n) a each =
     cond-true (p a) (a ∷ filter p (range_with_len (a + 1) n)) (filter p (range_with_len (a + 1) n)) (each a (omega arith) (omega arith))
     ∙ ap (λ xs. a ∷ xs) (all_kept p n (a + 1) (λ x from below. each x (omega arith) (omega arith)))
 
--- the parent of a tier below the root stands above the last level
+-- the parent of a tier below the root is above the last level
 parent_high : (ws : List ℕ) (level place : ℕ) → All IsWidth ws → level ≤ length ws → place < level_size ws level → 0 < level_start ws level + place
     → parent_of (tree_of ws) (level_start ws level + place) < level_start ws (length ws)
 parent_high ws zero place all h p some = absurd (omega arith)

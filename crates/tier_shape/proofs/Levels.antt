@@ -1,4 +1,4 @@
--- The levels of a tree of widths: how large they are, where they begin, and who is whose parent.
+-- The levels of a tree of widths: how large they are, the tier at which each begins, and who is whose parent.
 use Rattle.std.proofs.Common.{◌≡◌, ℕ, zero, suc, ◌+◌, ◌*◌, ◌/◌, ◌<◌, ◌≤◌, List, [], ◌∷◌, ◌++◌, length, get_or, map, All, sym, ap, ◌∙◌, arith, inl, inr, length-append, mul_assoc, append_assoc, suc-mul}
 use Rattle.std.specs.List.{range_with_len}
 use Rattle.std.proofs.lemmas.Bool.{cases_lt}
@@ -56,7 +56,7 @@ room_for ws level first width size within few w-is first-is size-is =
     let next = count_next ws level width size (first + size) within w-is size-is (omega arith) in
     let grows = level_start_grows ws (suc (suc level)) (suc (length ws)) (omega arith) in omega (arith, next.1, grows)
 
--- one more level put behind the others
+-- one more level put after the others
 pub level_pushed : (ws : List ℕ) (level first width children : ℕ) (before after : List ℕ) → before ≡ levels_of ws level → first ≡ level_start ws level → width ≡ get_or ws level 0
     → children ≡ level_size ws (suc level) → after ≡ before ++ map (λ place. first + place / width) (range_with_len 0 children) → after ≡ levels_of ws (suc level)
 level_pushed ws level first width children before after before-is first-is w-is children-is pushed =
@@ -65,7 +65,7 @@ level_pushed ws level first width children before after before-is first-is w-is 
     ∙ ap (λ w. levels_of ws level ++ map (λ place. level_start ws level + place / w) (range_with_len 0 children)) w-is
     ∙ ap (λ n. levels_of ws level ++ map (λ place. level_start ws level + place / get_or ws level 0) (range_with_len 0 n)) children-is
 
--- one more child put behind the others
+-- one more child put after the others
 pub child_pushed : (f : ℕ → ℕ) (n : ℕ) (begin before after : List ℕ) → before ≡ begin ++ map f (range_with_len 0 n) → after ≡ before ++ (f n ∷ []) → after ≡ begin ++ map f (range_with_len 0 (n + 1))
 child_pushed f n begin before after before-is pushed =
     pushed ∙ ap (λ l. l ++ (f n ∷ [])) before-is ∙ append_assoc begin (map f (range_with_len 0 n)) (f n ∷ [])

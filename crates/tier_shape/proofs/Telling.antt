@@ -1,4 +1,4 @@
--- What a text of widths stands for, as a function and as a statement.
+-- What a text of widths means, as a function and as a statement.
 use Rattle.std.proofs.Common.{◌≡◌, ◌≢◌, ℕ, zero, suc, ◌+◌, ◌<◌, ◌≤◌, ◌==◌, Bool, true, false, nat_lt, cond, List, [], ◌∷◌, length, map, All, find, codes, Option, Some, None, Result, Ok, Err, MatchResult, IfOk, IfErr, ◌↔◌, append-nil, refl, sym, ap, ◌∙◌, subst, arith, inl, inr}
 use Rattle.std.proofs.lemmas.Bool.{cases_Bool, and_from, and_parts, cond-true, cond-false, eq-eqb, eqb-true, both_ways, false_from_ne_true, lt-ltb, le-ltb}
 use Rattle.std.proofs.lemmas.Fmt.{decimal_injective}
@@ -97,7 +97,7 @@ all_said (piece ∷ ps) ws e =
     let P : List ℕ → Type 0 = λ vs. All IsWidth vs × (piece ∷ ps ≡ map decimal vs) in
     subst P put.4 (all_cons IsWidth put.0 put.1 first.0 rest.0, ap (λ d. d ∷ ps) (sym first.1) ∙ ap (λ qs. decimal put.0 ∷ qs) rest.1)
 
--- what is said is told
+-- from the statement to the function
 pub said_is_told : (text ws : List ℕ) → IsWidthsText text ws → widths_told text ≡ Some ws
 said_is_told text [] says = cond-true (same_text text (codes "flat")) (Some []) (pieces_told (pieces text)) (same_true text (codes "flat") says.says)
 said_is_told text (w ∷ ws) says =
@@ -106,7 +106,7 @@ said_is_told text (w ∷ ws) says =
     cond-false (same_text text (codes "flat")) (Some []) (pieces_told (pieces text)) apart
     ∙ ap pieces_told (ap pieces says.says ∙ pieces_joined w ws says.each) ∙ told_pieces (w ∷ ws) says.each
 
--- what is told is said
+-- from the function to the statement
 pub told_is_said : (text ws : List ℕ) → widths_told text ≡ Some ws → IsWidthsText text ws
 told_is_said text ws e = elim (cases_Bool (same_text text (codes "flat"))) [
   | inl flat ↦

@@ -81,7 +81,7 @@ tree_shape ws all = record {
       earlier_at ws on.level on.place tier all (omega (arith, on.below)) on.within on.is some;
 }
 
--- a tier of a level has so many above it
+-- a tier of a level has this many above it
 pub level_path : (ws : List ℕ) (level place : ℕ) → All IsWidth ws → level ≤ length ws → place < level_size ws level → length (path_of (tree_of ws) (level_start ws level + place)) ≡ suc level
 level_path ws zero place all h p = let e : 0 + place ≡ 0 = omega arith in ap (λ t. length (path_of (tree_of ws) t)) e
 level_path ws (suc level) place all h p =

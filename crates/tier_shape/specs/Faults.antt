@@ -4,7 +4,7 @@ use Rattle.tier_shape.specs.Widths.{IsBadText, IsDeepText, IsWideText, IsGoodTex
 use Rattle.tier_shape.specs.declared.ShapeFault.{ShapeFault}
 use Rattle.tier_shape.specs.declared.ShapeFault.TheVariants.{NoTier, TooManyTiers, ParentNotEarlier, TooDeep, BadText, Memory}
 
--- the number of a refusal; want of memory has none
+-- the number of a refusal; running out of memory has none
 abbrev pub fault_number : ShapeFault → Option ℕ
 fault_number NoTier = Some 1
 fault_number TooManyTiers = Some 2

@@ -2,7 +2,7 @@
 use Rattle.std.specs.Prelude.{◌≡◌, ℕ, zero, suc, ◌+◌, ◌-◌, ◌<◌, ◌≤◌, ◌==◌, if◌then◌else◌, List, [], ◌∷◌, length, slice_index}
 use Rattle.tier_shape.specs.Parents.{parent_of, IsShape}
 
--- the tier and those above it, each followed by its parent, up to the root, in at most so many steps
+-- the tier and those above it, each followed by its parent, up to the root, in at most this many steps
 abbrev pub path_within : ℕ → List ℕ → ℕ → List ℕ
 path_within zero parents tier = tier ∷ []
 path_within (suc steps) parents tier = if tier == 0 then tier ∷ [] else tier ∷ path_within steps parents (parent_of parents tier)

@@ -1,8 +1,8 @@
 -- Leaves by number, and which one a new party is to join (own).
 use Rattle.std.specs.Prelude.{ℕ, suc, ◌+◌, ◌-◌, ◌%◌, ◌==◌, if◌then◌else◌, List, [], ◌∷◌, length, slice_index_or}
 
--- Leaves are numbered from 0. The preferred leaf of a spawned task has the number of its spawner's leaf, and 1, and the last number of
--- its own path, from 0 again behind the last leaf.
+-- Leaves are numbered from 0. The preferred leaf of a spawned task is the number of its spawner's leaf, plus 1, plus
+-- the last number of the task's path, modulo the number of leaves.
 abbrev pub leaf_at : List ℕ → ℕ → ℕ
 leaf_at leaves number = slice_index_or leaves (number % length leaves) 0
 

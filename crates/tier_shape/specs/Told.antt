@@ -1,4 +1,4 @@
--- What a text of widths stands for, as a function (own).
+-- What a text of widths means, as a function (own).
 use Rattle.std.specs.Prelude.{◌≡◌, ◌↔◌, ℕ, Bool, true, false, ◌&&◌, ◌==◌, nat_lt, if◌then◌else◌, List, [], ◌∷◌, length, find, codes, Option, Some, None, Result, Ok, Err}
 use Rattle.std.specs.List.{range_with_len, slice_split}
 use Rattle.std.specs.Fmt.{decimal}
@@ -41,6 +41,6 @@ tree_told (Some widths) = if nat_lt 6 (length widths) then Err TooDeep else (if 
 abbrev pub shape_told : List ℕ → Result (List ℕ) ShapeFault
 shape_told text = tree_told (widths_told text)
 
--- the function tells just what the text says
+-- the function gives just what the text says
 abbrev pub TextsAreTold : Type 0
 TextsAreTold = (text widths : List ℕ) → (widths_told text ≡ Some widths) ↔ IsWidthsText text widths

@@ -1,4 +1,4 @@
--- Trees that are told by one width for each level, and the texts of widths (own).
+-- Trees that are given by one width for each level, and the texts of widths (own).
 use Rattle.std.specs.Prelude.{◌≡◌, ℕ, zero, suc, ◌+◌, ◌*◌, ◌/◌, ◌<◌, ◌≤◌, List, [], ◌∷◌, ◌++◌, length, take, map, slice_index, codes, All}
 use Rattle.std.specs.List.{range_with_len, join_with_byte}
 use Rattle.std.specs.Fmt.{decimal}
@@ -76,8 +76,8 @@ pub record IsTreeText (text parents : List ℕ) : Type 0 where
 abbrev pub IsGoodText : List ℕ → Type 0
 IsGoodText text = (parents : List ℕ) × IsTreeText text parents
 
--- a tree told by its levels: each level has as many tiers as the product of the widths above it, and its
--- tiers are, in order, the children of the first tier of the level above, of the second, and so on
+-- a tree given by its levels: each level has as many tiers as the product of the widths above it, and its tiers are, in
+-- order, the children of the first tier of the level above, of the second, and so on
 pub record IsTreeOf (widths parents : List ℕ) : Type 0 where
   pub count : length parents ≡ tiers_of widths
   pub root : parent_of parents 0 ≡ 0

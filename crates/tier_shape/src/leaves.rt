@@ -36,7 +36,7 @@ fn last_number(path: &[u16]) -> u16
     path.last().copied().unwrap_or(0)
 }
 
-/// Returns the leaf that a spawned task prefers: `home` is its spawner's leaf and `path` the task's own path.
+/// Returns the leaf that a spawned task prefers: `home` is its spawner's leaf and `path` the task's path.
 pub fn preferred(leaves: &[u16], home: u16, path: &[u16]) -> u16
     ensures { result ≡ preferred leaves.now home path.now }
 {

@@ -173,7 +173,7 @@ late_next root after w n z up = ⊎_elim
 late_advanced : (w : Fields) (e : Bool) → late (next_phase_of w.phase) (advanced w e) ≡ w.parties
 late_advanced w e = grind arith
 
--- a word that counted nobody late is one behind
+-- a word that counted nobody late is in the phase before
 behind_up : (root after : ℕ) (w : Fields) → next_phase_of root ≡ after → late root w ≡ 0 → KeepsUp root w → KeepsUp after w
 behind_up root after w e z up h = ⊎_elim
     (λ (p : w.phase ≡ root). inr (

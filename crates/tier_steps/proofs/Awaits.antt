@@ -1,4 +1,4 @@
--- A tree in which nobody has an errand waits for somebody, where it has a member.
+-- A tree in which nobody has an errand waits for somebody, if it has a member.
 use Rattle.std.proofs.Common.{◌≡◌, ◌≢◌, ℕ, ◌+◌, ◌<◌, ⊎_elim, Bool, true, cond, eqb, List, length, refl, sym, ◌∙◌, ap, subst, arith}
 use Rattle.std.specs.Prelude.{sum_by}
 use Rattle.std.specs.List.{AllByRecursion}

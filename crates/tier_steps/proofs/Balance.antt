@@ -38,7 +38,7 @@ children_change f u (p ∷ ps) [] t w h k = absurd (omega arith)
 children_change f u (p ∷ ps) (x ∷ ws) zero w h k = refl
 children_change f u (p ∷ ps) (x ∷ ws) (suc t) w h k = among_changes f u ps ws t w (omega arith) (omega arith)
 
--- a tier is no child of its own
+-- a tier isn't its parent
 pub unlinked : (ps : List ℕ) (t n : ℕ) → IsShape ps → t < length ps → linked ps t t n ≡ 0
 unlinked ps zero n s h = refl
 unlinked ps (suc t) n s h = let below : parent_of ps (suc t) < suc t = s.earlier (suc t) (omega arith) h in

@@ -109,7 +109,7 @@ ready ps ws front back v shape tally can =
           (zero_each advance_share (front ++ advanced_view v ∷ back) others)));
     }
 
--- the image is due where a token advances
+-- the image is due if a token advances
 pub image_due : (ws : List Fields) (front back : List View) (v : View) → (word_at ws 0).ended ≡ false → Ready (root_phase ws) front back v
     → (image ws (front ++ v ∷ back)).due ≡ true
 image_due ws front back v going r = due_is ws (front ++ v ∷ back) going ∙ (ap (λ b. b && some_climbing (front ++ v ∷ back)) r.everyone ∙ r.someone)
@@ -155,7 +155,7 @@ over ws ws' vs vs' f alike e phase ended = record {
   arrived = λ z. absurd (let a : true ≡ false = sym e ∙ z in cc);
 }
 
--- the label counts only where the flat phaser hasn't ended
+-- the label counts only if the flat phaser hasn't ended
 pub by_end : (f : Flat) (s : FlatStep) (g : Flat) → (f.ended ≡ true → AlikeParts f g) → (f.ended ≡ false → AlikeParts (taken s f) g)
     → AlikeParts (flat_step s f) g
 by_end f s g past going = ⊎_elim
@@ -181,7 +181,7 @@ calm : (front back : List View) (v : View) → some_climbing (front ++ v ∷ bac
 calm [] back v e = (or_none (is_climbing v.errand) (some_climbing back) e).0
 calm (x ∷ front) back v e = calm front back v (or_none (is_climbing x.errand) (some_climbing (front ++ v ∷ back)) e).1
 
--- a party that passes a tier leaves someone climbing where everyone has arrived
+-- if everyone has arrived, a party that passes a tier leaves someone climbing
 pub someone_after : (ps : List ℕ) (ws : List Fields) (front back : List View) (v' : View) (t : ℕ) (k : Passage) → IsShape ps → t < length ws
     → Tallies ps (set ws t (passed t k (word_at ws t))) (front ++ v' ∷ back)
     → (word_at ws 0).ended ≡ false → IsLegal (word_at ws t) → (word_at ws t).phase ≡ root_phase ws

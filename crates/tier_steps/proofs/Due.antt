@@ -35,7 +35,7 @@ children_none f u [] ws h = refl
 children_none f u (p ∷ ps) [] h = refl
 children_none f u (p ∷ ps) (w ∷ ws) h = among_none f u ps ws (λ i k l e. h (suc i) (omega arith) (omega arith) (omega arith) e)
 
--- where no token counts anywhere, no tier does: from the last tier to the first
+-- if no token counts anywhere, no tier does: from the last tier to the first
 pub nothing_above : (f : Fields → ℕ) (share : ℕ → View → ℕ) (ps : List ℕ) (ws : List Fields) (vs : List View) → IsShape ps
     → length ws ≡ length ps → (word_at ws 0).ended ≡ false
     → Balances f share ps ws vs → ((t : ℕ) → t < length ws → sum_by (share t) vs ≡ 0) → (n t : ℕ) → length ws ≤ t + n → t < length ws
@@ -127,7 +127,7 @@ last_climbs ps (suc t) Departure w z h =
     (cond b (Climbing (parent_of ps (suc t)) Departure) (Climbing (parent_of ps (suc t)) Arrival)) ≡ true) [ true ↦ refl | false ↦ refl ]) in
     let b : true ≡ false = sym a ∙ h in cc
 
--- a party that passes and owes nothing leaves an unarrived party behind
+-- a party that passes and owes nothing leaves another party unarrived
 pub passed_rests : (ps : List ℕ) (root t : ℕ) (k : Passage) (w : Fields) → IsLegal w → w.phase ≡ root → 0 < w.parties → 0 < w.unarrived
     → is_climbing (owed (parent_of ps t) t k w) ≡ false → 0 < late root (passed t k w)
 passed_rests ps root t k w legal e p u h =

@@ -55,11 +55,11 @@ zero_both false = refl
 nothing_here : (p : ℕ) (v : View) → v.phase ≢ p → here p (record v { phase = p; arrived = 0 }) ≡ here p v
 nothing_here p v n = zero_both (eqb p p) ∙ sym (ap (λ b. cond {A = ℕ} b v.arrived 0) (ne_eqb v.phase p n))
 
--- two views that the image doesn't tell apart
+-- two views that the image doesn't distinguish
 abbrev pub SameImage : ℕ → View → View → Type 0
 SameImage root v v' = (v'.size ≡ v.size) × (here root v' ≡ here root v) × (is_climbing v'.errand ≡ is_climbing v.errand)
 
--- what a look leaves of a token, where the root goes on
+-- what a look leaves of a token, if the root goes on
 looked_same : (w : Fields) (v : View) → w.ended ≡ false → SameImage w.phase v (looked w v)
 looked_same w v e =
     let u : View = record v { led = false; note = cond (is_going_back v.errand) v.note None } in
@@ -93,7 +93,7 @@ kept : (ps : List ℕ) (ws : List Fields) (front back : List View) (v : View) (t
     → Tallies ps (set ws t (word_after kind t (word_at ws t) v)) (front ++ view_after (parent_of ps t) kind t (word_at ws t) v ∷ back)
 kept ps ws front back v t kind step = kinds_keep_tally ps ws front v back t kind step
 
--- a member passes its own tier
+-- a member passes its token's tier
 own_pass : (ps : List ℕ) (ws : List Fields) (front back : List View) (v : View) (t : ℕ) → t < length ws → Tallies ps ws (front ++ v ∷ back)
     → CanPass t (word_at ws t) v → (v.phase ≡ root_phase ws) × (0 < (word_at ws t).parties) × (0 < (word_at ws t).unarrived)
 own_pass ps ws front back v t h tally can =

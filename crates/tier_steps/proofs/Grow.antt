@@ -1,4 +1,4 @@
--- A join fits: so many unarrived parties are added at one tier.
+-- A join fits: a number of unarrived parties are added at one tier.
 use Rattle.std.proofs.Common.{◌≡◌, ◌≢◌, ℕ, zero, suc, ◌+◌, ◌<◌, ◌≤◌, inl, ⊎_elim, Bool, false, cond, eqb, List, length, refl, sym, ◌∙◌, ap, arith}
 use Rattle.std.proofs.lemmas.Bool.{cases_eq, eq-eqb, ne_eqb}
 use Rattle.tier_steps.specs.Word.{Fields, IsLegal, is_being_opened, late, joined}

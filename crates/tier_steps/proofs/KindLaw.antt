@@ -31,7 +31,7 @@ pub mine_after : (ps : List ℕ) (ws : List Fields) (front back : List View) (v 
 mine_after ps ws front back v t w' h e tally =
     subst (λ (b : Bool). ViewFits ps (root_phase ws) b v) (sym (ended_same ws t w' h e)) (mine ps ws front back v tally)
 
--- a step that leaves the root's end as it was keeps the tally where it fits whatever the root's end is
+-- a step that leaves the root's end as it was keeps the tally if it fits whatever the root's end is
 kept : (ps : List ℕ) (ws : List Fields) (front back : List View) (v v' : View) (t : ℕ) (w' : Fields)
     → IsShape ps → t < length ws → Tallies ps ws (front ++ v ∷ back) → w'.ended ≡ (word_at ws t).ended
     → (ViewFits ps (root_phase ws) (word_at (set ws t w') 0).ended v

@@ -1,4 +1,4 @@
--- What a token may know of the tally by its own view and one word, and that its steps can be run.
+-- What a token may know of the tally by its view and one word, and that its steps can be run.
 use Rattle.std.proofs.Common.{◌≡◌, ◌≢◌, ℕ, zero, suc, ◌+◌, ◌<◌, ◌≤◌, ⊎_elim, Bool, List, length, sym, ◌∙◌, ap, subst, arith}
 use Rattle.std.proofs.lemmas.Bool.{cases_eq}
 use Rattle.tier_steps.specs.Word.{Fields, IsLegal}

@@ -60,7 +60,7 @@ has_members p o (x ∷ front) back v u e h k =
     let c = has_members p (suc o) front back v u (omega arith) h k in
     let i = arrived_le p u (token_members o x) in omega arith
 
--- the due mark of an image, where the root hasn't ended
+-- the due mark of an image, if the root hasn't ended
 pub due_is : (ws : List Fields) (vs : List View) → (word_at ws 0).ended ≡ false
     → (image ws vs).due ≡ everyone_arrived (root_phase ws) (all_members 0 vs) && some_climbing vs
 due_is ws vs e = ap (λ b. cond b false (everyone_arrived (root_phase ws) (all_members 0 vs) && some_climbing vs)) e

@@ -1,4 +1,4 @@
--- Legal words: at most two unarrived where there are no parties, and otherwise no more than there are parties.
+-- Legal words: at most two unarrived if there are no parties, and otherwise no more than there are parties.
 use Rattle.std.proofs.Common.{◌+◌, zero, suc, Bool, ◌≡◌, ◌≢◌, ℕ, ◌<◌, ◌≤◌, ⊎_elim, cond, sym, ap, subst, arith}
 use Rattle.std.proofs.lemmas.Bool.{cases_eq, eq-eqb, ne_eqb}
 use Rattle.phaser_word.specs.Fields.{most_unarrived}

@@ -101,7 +101,7 @@ note_fits ps ws vs t ended v within tally ok =
 some_is : (p q : ℕ) → Some q ≡ Some p → p ≡ q
 some_is p q e = cc
 
--- what stands of an errand doesn't depend on what a token has seen
+-- what is left of an errand doesn't depend on what a token has seen
 forced_ok : (ps : List ℕ) (root : ℕ) (v : View) (w : Fields) (e : Errand) → ErrandFits ps root v e → ErrandFits ps root (forced_view w v) e
 forced_ok ps root v w Rest ok = tt
 forced_ok ps root v w Advancing ok = ok
@@ -141,7 +141,7 @@ force_fits ps ws vs v tally ok =
       };
     }
 
--- a token moves only where all its members have arrived and its phase isn't the root's
+-- a token moves only if all its members have arrived and its phase isn't the root's
 pub move_keeps : (P : View → Type 0) (w : Fields) (v : View) → P v
     → (v.arrived ≡ v.size → v.phase ≢ w.phase → P (record v { phase = w.phase; arrived = 0 })) → P (moved w v)
 move_keeps P w v stays moves = ⊎_elim

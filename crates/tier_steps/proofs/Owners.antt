@@ -33,7 +33,7 @@ marks_sum test owner (v ∷ views) =
     let f = sum_by-cons (marked_share test) v views in
     omega arith
 
--- everyone has arrived where nobody is counted who hasn't
+-- everyone has arrived if nobody is counted who hasn't
 pub all_by_count : (phase : ℕ) (members : List Member) → everyone_arrived phase members ≡ eqb (count_by (λ m. not (has_arrived phase m)) members) 0
 all_by_count phase [] = refl
 all_by_count phase (m ∷ members) =

@@ -3,7 +3,7 @@ use Rattle.std.proofs.Common.{◌≡◌, ℕ, false, ap, sym, ◌∙◌}
 use Rattle.flat_phaser.specs.Flat.{Flat, members_of, arrived_of}
 use Rattle.tier_steps.specs.Image.{LooksAlike}
 
--- two flat phasers that nobody can tell apart while they haven't ended
+-- two flat phasers that nobody can distinguish while they haven't ended
 pub record AlikeParts (f g : Flat) : Type 0 where
   pub phase : f.phase ≡ g.phase
   pub ended : f.ended ≡ g.ended

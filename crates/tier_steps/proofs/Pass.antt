@@ -60,7 +60,7 @@ climbs_elsewhere_parties ps t above Departure h = only_elsewhere (parent_of ps t
 pub open_not_opened : (w : Fields) → 0 < w.parties → is_being_opened w ≡ false
 open_not_opened w h = ap (λ b. cond b (eqb w.unarrived 2) false) (ne_eqb w.parties 0 (omega arith))
 
--- what a step at the tier t owes, where the token's own shares fall by those of one party at t
+-- what a step at the tier t owes, if the token's shares fall by those of one party at t
 pub record Passes (ps : List ℕ) (root : ℕ) (t : ℕ) (k : Passage) (w : Fields) (v v' : View) : Type 0 where
   pub legal : IsLegal w
   pub phase : w.phase ≡ root
@@ -218,7 +218,7 @@ passed_ok ps root ended t k w v shape within current h ok = let a = after_passag
   errand = owed_ok ps root t k w (passed_view (parent_of ps t) t k w v) shape within current;
 }
 
--- what a token at rest counts at its own tier falls by so many
+-- what a token at rest counts at its tier falls by this many
 rest_share : (s t u n m c e : ℕ) → s ≡ t → n ≡ m + c → e ≡ 0 → only_at s n u + e ≡ only_at s m u + only_at t c u
 rest_share s t u n m c e own less rest = grind arith
 

@@ -1,4 +1,5 @@
--- One party of a kind of passage passes a tier: what the tier counts falls by one, and what is owed makes up for what the tier tells its parent.
+-- One party of a kind of passage passes a tier: what the tier counts falls by one, and what is owed makes up for what
+-- the tier passes to its parent.
 use Rattle.std.proofs.Common.{◌≡◌, ℕ, zero, suc, ◌+◌, ◌<◌, Bool, true, false, cond, eqb, List, refl, sym, ◌∙◌, ap, arith}
 use Rattle.tier_steps.specs.Word.{Fields, IsLegal, late, left_one}
 use Rattle.tier_steps.specs.View.{Rest, Climbing, Passage, Arrival, Departure, parent_of, errand_parties, errand_late}

@@ -1,4 +1,4 @@
--- What an advance finds, what holds the root where it is, and that a quiet tree is never due.
+-- What an advance finds, what holds the root in its phase, and that a quiet tree is never due.
 use Rattle.std.proofs.Common.{◌≡◌, ◌≢◌, ℕ, suc, ◌+◌, ◌-◌, ◌<◌, ◌≤◌, ⊎_elim, Bool, true, false, cond, List, [], ◌∷◌, ◌++◌, length, length-set, refl, sym, ◌∙◌, ap, subst, arith, Some, None}
 use Rattle.std.specs.Prelude.{sum_by, replicate, ◌&&◌}
 use Rattle.std.specs.List.{AllByRecursion}
@@ -24,7 +24,7 @@ use Rattle.flat_phaser.specs.Flat.{everyone_arrived}
 use Rattle.flat_phaser.specs.Step.{newcomers}
 use Rattle.tier_steps.specs.Image.{token_members, all_members, is_climbing, some_climbing}
 
--- where the root that hasn't ended has no parties, no token counts a party anywhere
+-- if the root that hasn't ended has no parties, no token counts a party anywhere
 pub no_parties : (ps : List ℕ) (ws : List Fields) (vs : List View) → IsShape ps → Tallies ps ws vs → (word_at ws 0).ended ≡ false
     → (word_at ws 0).parties ≡ 0
     → (t : ℕ) → t < length ws → sum_by (party_share ps t) vs ≡ 0
@@ -50,7 +50,7 @@ memberless ps t v d z =
     let b = hidden_zero (is_hidden v.errand) v.tier t in
     let c = d.shares ps t in omega arith
 
--- what is known of each token where all have arrived
+-- what is known of each token if all have arrived
 each_done : (ps : List ℕ) (ws : List Fields) (vs : List View) → IsShape ps → Tallies ps ws vs → (word_at ws 0).ended ≡ false
     → (word_at ws 0).unarrived ≡ 0
     → AllByRecursion (λ x. ViewFits ps (root_phase ws) (word_at ws 0).ended x × IsDone (root_phase ws) x) vs
@@ -62,7 +62,7 @@ each_done ps ws vs shape tally going due =
     (both (ViewFits ps (root_phase ws) (word_at ws 0).ended)
     (λ x. (t : ℕ) → t < length ps → late_share (root_phase ws) ps t x ≡ 0) vs tally.fits arrived.tokens)
 
--- where a token is to advance the root and no token has a member, the root has no parties
+-- if a token is to advance the root and no token has a member, the root has no parties
 pub no_members : (ps : List ℕ) (ws : List Fields) (vs : List View) → IsShape ps → Tallies ps ws vs → (word_at ws 0).ended ≡ false
     → (word_at ws 0).unarrived ≡ 0
     → AllByRecursion (λ v. v.size ≡ 0) vs → (word_at ws 0).parties ≡ 0

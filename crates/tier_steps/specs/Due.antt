@@ -1,4 +1,5 @@
--- When the flat phaser that a tree stands for is due to advance, and what keeps the root from advancing (not part of Java's API).
+-- When the flat phaser that a tree represents is due to advance, and what keeps the root from advancing (not part of
+-- Java's API).
 use Rattle.std.specs.Prelude.{◌≡◌, ◌≢◌, ◌↔◌, ℕ, ◌<◌, Bool, true, false, List, ◌∷◌, ◌++◌, length, sum_by}
 use Rattle.std.specs.List.{AllByRecursion}
 use Rattle.flat_phaser.specs.Flat.{everyone_arrived, registered, unarrived}

@@ -1,4 +1,4 @@
--- The flat phaser that a tree stands for, and the flat step of each step of the tree (not part of Java's API).
+-- The flat phaser that a tree represents, and the flat step of each step of the tree (not part of Java's API).
 use Rattle.std.specs.Prelude.{◌≡◌, ℕ, suc, ◌-◌, Bool, true, false, if◌then◌else◌, ◌&&◌, Option, Some, None, List, [], ◌∷◌, ◌++◌, replicate}
 pub use Rattle.flat_phaser.specs.declared.Member.{Member}
 pub use Rattle.flat_phaser.specs.declared.FlatStep.{FlatStep}
@@ -61,7 +61,7 @@ abbrev pub IsAllowedLabel : Option FlatStep → Flat → Type 0
 IsAllowedLabel None f = Unit {0}
 IsAllowedLabel (Some step) f = IsAllowed step f
 
--- two flat phasers that nobody can tell apart; after the end only the phase and the end are compared
+-- two flat phasers that nobody can distinguish; after the end only the phase and the end are compared
 pub record LooksAlike (f g : Flat) : Type 0 where
   pub phase : f.phase ≡ g.phase
   pub ended : f.ended ≡ g.ended

@@ -48,7 +48,7 @@ SeatsKeepTally =
     → Needs parents kind t (word_at words t) v
     → Tallies parents (words_after words kind t v) (seated_views (front ++ (stepped_view parents words kind t v ∷ []) ∷ back))
 
--- two lists of views that no sum tells apart
+-- two lists of views that no sum distinguishes
 pub record SameShares (parents : List ℕ) (root : ℕ) (old new : List View) : Type 0 where
   pub parties : (t : ℕ) → sum_by (party_share parents t) new ≡ sum_by (party_share parents t) old
   pub unarrived : (t : ℕ) → sum_by (late_share root parents t) new ≡ sum_by (late_share root parents t) old

@@ -1,4 +1,4 @@
--- The laws of the steps, over any shape, any words, and any views of which one is the stepping token's.
+-- The laws of the steps, over any shape, any words, and any views. One of the views is the stepping token's.
 use Rattle.std.specs.Prelude.{ℕ, ◌<◌, List, ◌∷◌, ◌++◌, length, slice_set}
 use Rattle.flat_phaser.specs.Flat.{Flat}
 use Rattle.tier_steps.specs.Word.{Fields}

@@ -3,7 +3,7 @@ use Rattle.std.specs.Prelude.{◌≡◌, ℕ, ◌+◌, ◌≤◌, ◌<◌, ◌==
 use Rattle.tier_steps.specs.View.{parent_of, ancestor, claimed_tiers, claims_on}
 use Rattle.tier_steps.specs.Tally.{IsShape}
 
--- The ancestors of a tier stand one after the other on a path that begins at it and goes from parent to parent.
+-- The ancestors of a tier are, one after the other, on a path that begins at it and goes from parent to parent.
 abbrev pub AncestorsAreOnThePath : Type 0
 AncestorsAreOnThePath =
     (parents : List ℕ) (tier : ℕ) (path : List ℕ)

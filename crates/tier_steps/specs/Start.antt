@@ -13,14 +13,14 @@ empty_word phase = record { phase = phase; parties = 0; unarrived = 1; ended = f
 abbrev pub empty_words : List ℕ → ℕ → List Fields
 empty_words parents phase = replicate (length parents) (empty_word phase)
 
--- An empty tree and one token without members tally, and stand for the flat phaser without members.
+-- An empty tree and one token without members tally, and represent the flat phaser without members.
 abbrev pub StartTallies : Type 0
 StartTallies =
     (parents : List ℕ) (phase : ℕ) → IsShape parents → phase ≤ 2147483647
     → Tallies parents (empty_words parents phase) (new_view phase ∷ [])
     × LooksAlike (empty_in phase) (image (empty_words parents phase) (new_view phase ∷ []))
 
--- Before any token comes in it stands for the flat phaser without members itself.
+-- Before it has any token it represents the flat phaser without members itself.
 abbrev pub EmptyTreesHaveNoMembers : Type 0
 EmptyTreesHaveNoMembers = (parents : List ℕ) (phase : ℕ) → IsShape parents → image (empty_words parents phase) [] ≡ empty_in phase
 
@@ -30,6 +30,6 @@ NewTokensTally =
     (parents : List ℕ) (words : List Fields) (front back : List View) (phase : ℕ)
     → Tallies parents words (front ++ back) → Tallies parents words (front ++ new_view phase ∷ back)
 
--- It changes nothing of the image where it comes behind all others.
+-- It changes nothing of the image if it comes after all others.
 abbrev pub NewTokensAreUnseen : Type 0
 NewTokensAreUnseen = (words : List Fields) (views : List View) (phase : ℕ) → image words (views ++ new_view phase ∷ []) ≡ image words views

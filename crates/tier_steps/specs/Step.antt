@@ -19,7 +19,7 @@ owed above zero passage w = if w.unarrived == 1 then Advancing else Rest
 owed above (suc t) Arrival w = if w.unarrived == 1 then Climbing above Arrival else Rest
 owed above (suc t) Departure w = if w.parties == 1 then Climbing above Departure else (if w.unarrived == 1 then Climbing above Arrival else Rest)
 
--- a token may let one of its members arrive at its own tier, or leave it
+-- a token may let one of its members arrive at the token's tier, or leave it
 pub record CanPass (t : ℕ) (w : Fields) (v : View) : Type 0 where
   pub rest : v.errand ≡ Rest
   pub own : v.tier ≡ t
@@ -87,7 +87,8 @@ claimed_view tier claimed size v = record v { errand = Opening tier (suc claimed
 abbrev pub settled_view : ℕ → ℕ → OpeningStage → ℕ → View → View
 settled_view tier claimed stage size v = record v { errand = opening tier claimed stage size }
 
--- a token may bring a lagging tier into its phase: its own tier if it has an unarrived member, or the tier that it climbs to
+-- a token may bring a lagging tier into its phase: the token's tier if it has an unarrived member, or the tier that it
+-- climbs to
 pub record CanRefresh (t : ℕ) (w : Fields) (v : View) : Type 0 where
   pub some : 0 < w.parties
   pub arrived : w.unarrived ≡ 0

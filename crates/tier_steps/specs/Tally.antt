@@ -39,7 +39,7 @@ abbrev pub Balances : (Fields → ℕ) → (ℕ → View → ℕ) → List ℕ �
 Balances measure share parents words views =
     (t : ℕ) → t < length words → Compared words t → measure (word_at words t) ≡ sum_by (share t) views + children measure t parents words
 
--- an open word is in the root's phase, or one behind with nobody unarrived
+-- an open word is in the root's phase, or in the one before with nobody unarrived
 abbrev pub KeepsUp : ℕ → Fields → Type 0
 KeepsUp root w = 0 < w.parties → (w.phase ≡ root) ⊎ ((next_phase_of w.phase ≡ root) × (w.unarrived ≡ 0))
 
@@ -81,8 +81,8 @@ bit b = if b then 1 else 0
 abbrev pub is_zero : ℕ → ℕ
 is_zero n = if n == 0 then 1 else 0
 
--- The tally: parties and unarrived parties balance at each tier, a tier is being opened exactly where a token claims it, and the root's
--- field is 0 exactly while a token advances.
+-- The tally: parties and unarrived parties balance at each tier, a tier is being opened exactly if a token claims it,
+-- and the root's field is 0 exactly while a token advances.
 pub record Tallies (parents : List ℕ) (words : List Fields) (views : List View) : Type 0 where
   pub long : length words ≡ length parents
   pub some : 0 < length words

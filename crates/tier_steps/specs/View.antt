@@ -31,8 +31,8 @@ absent root v = if v.phase == root then v.size - v.arrived else v.size
 abbrev pub only_at : ℕ → ℕ → ℕ → ℕ
 only_at t n u = if t == u then n else 0
 
--- What an errand adds to the parties of a tier. A departure is a party of the tier that it climbs to. After a join, the claimed tiers are one
--- party of the tier above them until they have their own parties.
+-- What an errand adds to the parties of a tier. A departure is a party of the tier that it climbs to. After a join, the
+-- claimed tiers are one party of the tier above them until they have parties.
 abbrev pub errand_parties : List ℕ → Errand → ℕ → ℕ
 errand_parties parents (Climbing t Departure) u = only_at t 1 u
 errand_parties parents (Opening tier claimed Joined size) u = only_at (ancestor parents tier claimed) 1 u

@@ -10,12 +10,12 @@ is_empty w = if w.parties == 0 then w.unarrived == 1 else false
 abbrev pub is_being_opened : Fields → Bool
 is_being_opened w = if w.parties == 0 then w.unarrived == 2 else false
 
--- The parties of a tier that haven't arrived in the root's phase: all of them where the word is in an earlier phase, and none where there
--- is no party.
+-- The parties of a tier that haven't arrived in the root's phase: all of them if the word is in an earlier phase, and
+-- none if there is no party.
 abbrev pub late : ℕ → Fields → ℕ
 late root w = if w.parties == 0 then 0 else (if w.phase == root then w.unarrived else w.parties)
 
--- so many parties join
+-- this many parties join
 abbrev pub joined : Fields → ℕ → Fields
 joined w n = record w { parties = w.parties + n; unarrived = (if w.parties == 0 then n else w.unarrived + n) }
 

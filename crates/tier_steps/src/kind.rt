@@ -4,16 +4,16 @@ use crate::view::Passage;
 
 /// A kind of step, taken at some tier.
 ///
-/// In the steps of a join, `tier` is the tier where the members register, `size` their number, and `claimed` the number
-/// of tiers on the path to the root that the token has claimed: before the step, or in `Settle` and `SettleBack` after
-/// it.
+/// In the steps of a join, `tier` is the tier at which the members register, `size` their number, and `claimed` the
+/// number of tiers on the path to the root that the token has claimed: before the step, or in `Settle` and `SettleBack`
+/// after it.
 #[derive(Clone, Copy)]
 pub enum Kind {
     /// Looks at the root.
     Look,
     /// Looks at a tier below the root. Changes nothing.
     Glance,
-    /// Looks at the tier where a join is due, which refuses it.
+    /// Looks at a tier at which a join is due and which refuses it.
     Refuse {
         /// The tier to join.
         tier: u16,
@@ -31,9 +31,9 @@ pub enum Kind {
         /// The number of members that join.
         size: u32,
     },
-    /// Arrives with a member at its own tier.
+    /// Arrives with a member at the token's tier.
     Arrive,
-    /// Removes a member from its own tier.
+    /// Removes a member from the token's tier.
     Leave,
     /// Advances the root. If true, this ends the tree.
     Advance(bool),

@@ -1,4 +1,4 @@
-//! Laws of the steps, over any shape, any words and any views, one of which is the stepping token's. Each law is the
+//! Laws of the steps, over any shape, any words and any views. One view is the stepping token's. Each law is the
 //! contract of a function without parameters that does nothing.
 
 ghost use Rattle.tier_steps.specs.Laws.{KindsKeepTally, KindsAreFlat};
@@ -22,8 +22,8 @@ pub fn marks_are_told()
     ensures { MarksAreTold }
 {}
 
-/// Each kind of step is a step of the flat phaser that the tree stands for, the step of its label. An advance is taken
-/// only when it is due. Afterwards the tree stands for the stepped flat phaser.
+/// Each kind of step is a step of the flat phaser that the tree represents, the step of its label. An advance is taken
+/// only when it is due. Afterwards the tree represents the stepped flat phaser.
 pub fn kinds_are_flat()
     ensures { KindsAreFlat }
 {}
@@ -63,12 +63,12 @@ pub fn new_seats_tally()
     ensures { NewSeatsTally }
 {}
 
-/// Joining two seats changes only the owners of members in the flat phaser that the tree stands for.
+/// Joining two seats changes only the owners of members in the flat phaser that the tree represents.
 pub fn joined_seats_look_the_same()
     ensures { JoinedSeatsLookTheSame }
 {}
 
-/// A new seat changes only the owners of members in the flat phaser that the tree stands for.
+/// A new seat changes only the owners of members in the flat phaser that the tree represents.
 pub fn new_seats_look_the_same()
     ensures { NewSeatsLookTheSame }
 {}
@@ -78,12 +78,12 @@ pub fn regrouping_keeps_tally()
     ensures { RegroupingKeepsTally }
 {}
 
-/// The tally holds for a tree of empty tiers with one token, and the tree stands for the flat phaser without members.
+/// The tally holds for a tree of empty tiers with one token, and the tree represents the flat phaser without members.
 pub fn start_tallies()
     ensures { StartTallies }
 {}
 
-/// A tree of empty tiers without tokens stands for the flat phaser without members.
+/// A tree of empty tiers without tokens represents the flat phaser without members.
 pub fn empty_trees_have_no_members()
     ensures { EmptyTreesHaveNoMembers }
 {}
@@ -93,7 +93,7 @@ pub fn new_tokens_tally()
     ensures { NewTokensTally }
 {}
 
-/// A token without members changes nothing in the flat phaser that the tree stands for.
+/// A token without members changes nothing in the flat phaser that the tree represents.
 pub fn new_tokens_are_unseen()
     ensures { NewTokensAreUnseen }
 {}
@@ -114,7 +114,7 @@ pub fn quiet_trees_await_somebody()
     ensures { QuietTreesAwaitSomebody }
 {}
 
-/// The flat phaser that a tree stands for has as many members as the tokens together.
+/// The flat phaser that a tree represents has as many members as the tokens together.
 pub fn members_are_sizes()
     ensures { MembersAreSizes }
 {}

@@ -19,7 +19,7 @@ use Rattle.tier_table.specs.declared.waiting.ArrivedAtLast.TheVariants as counte
 use Rattle.tier_table.specs.declared.waiting.AwaitedAdvance.{AwaitedAdvance}
 use Rattle.tier_table.specs.declared.waiting.AwaitedAdvance.TheVariants as awaited
 
--- a registration of so many members at this tier of a tree
+-- a registration of this many members at this tier of a tree
 abbrev pub RegistersAtLast : Named → ℕ → ℕ → RegisteredAtLast → Type 0
 RegistersAtLast n tier size (admitted.Joined crew phase) = (crew.tree ≡ n) × IsJoined tier size crew.view × (crew.view.errand ≡ Rest) × (phase ≡ crew.view.phase)
 RegistersAtLast n tier size (admitted.Full door count) = (door.tree ≡ n) × Refusal n.key.shape tier size door.view (played.Full count)
@@ -87,18 +87,18 @@ pub record HasWaited (old new : Holding) : Type 0 where
   pub looked : HasLooked old.steps new.steps
   pub some : new.view.arrived < new.view.size
 
--- where a member is to arrive, its tier was brought into its phase
+-- if a member is to arrive, its tier was brought into its phase
 abbrev pub CaughtUpBy : AwaitedAdvance → Holding → Type 0
 CaughtUpBy (awaited.Passed phase) new = HasCaughtUp new
 CaughtUpBy (awaited.Here phase) new = HasCaughtUp new
 CaughtUpBy (awaited.Ended shown) new = Unit {0}
 
--- so many tokens were split off it
+-- this many tokens were split off it
 abbrev pub HasSplit : ℕ → Result RegisteredAtLast Holding → Type 0
 HasSplit n (Ok answer) = (token_admitted answer).opened ≡ n
 HasSplit n (Err door) = door.opened ≡ n
 
--- they tell that the tree has ended
+-- they say that the tree has ended
 abbrev pub HasEndedJoin : RegisteredAtLast → Type 0
 HasEndedJoin (admitted.Ended door shown) = Unit {0}
 HasEndedJoin (admitted.Joined crew phase) = ⊥

@@ -11,8 +11,8 @@ pub record Ruled (F : Type 0) : Type 0 where
   pub tree : Named
   pub rule : Stored F EndPlan
 
--- A new tree keeps what it was told. Its first token has no members, is in its phase, and knows the root to be empty; it has made no step, and no other was
--- split off it, which says that all tiers are empty (`NewTreesAreEmpty`).
+-- A new tree keeps what it was given. Its first token has no members, is in its phase, and knows the root to be empty.
+-- It has made no step, and no other was split off it, which says that all tiers are empty (`NewTreesAreEmpty`).
 pub record IsNew {F : Type 0} (shape : List ℕ) (phase : ℕ) (rule : Stored F EndPlan) (tree : Ruled F) (door : Holding) : Type 0 where
   pub same_shape : tree.tree.key.shape ≡ shape
   pub same_phase : tree.tree.key.phase ≡ phase

@@ -1,10 +1,9 @@
 //! The tree of phasers, shared by reference and called from any threads without a lock.
 //!
-//! A thread calls the tree by tokens of its own: a door has no members, a crew has some, all at one tier. `tries` limits
-//! how many exchanges a call makes, since an exchange fails if another thread got there first. 16 is always enough for a
-//! call that no other thread disturbs ([`TRIES`](crate::TRIES)); a call that ran out of tries says so, and
-//! hands its token back. The calls in [`waiting`](crate::waiting) need no number of tries: they try until they have an
-//! answer.
+//! A thread calls the tree by its tokens: a door has no members, a crew has some, all at one tier. `tries` limits how
+//! many exchanges a call makes, since an exchange fails if another thread got there first. 16 is always enough for a
+//! call that no other thread disturbs ([`TRIES`](crate::TRIES)); a call that ran out of tries says so, and hands its
+//! token back. The calls in [`waiting`](crate::waiting) need no number of tries: they try until they have an answer.
 
 ghost use Rattle.std.specs.Prelude.{◌≡◌, ◌<◌, ◌≤◌, ℕ, Some, IfOk, IfErr, All, length};
 ghost use Rattle.tier_calls.specs.Closes.{held, plain_tokens, views_in, sights_in, TallyWithOthers, IsLeftBy};
@@ -42,7 +41,7 @@ use tier_steps::view::Passage;
 /// by shared reference, take no lock, and never wait.
 ///
 /// ```
-/// // Any threads may share the tree; each has tokens of its own.
+/// // Any threads may share the tree; each has its tokens.
 /// let shape = Shape::from_widths(rt.alloc(), "2").expect(&rt, "a shape");
 /// let plan = EndPlan {
 ///     when_empty: true,
@@ -103,7 +102,7 @@ impl<F: Fn(u32, u32) -> bool> Tree<F> {
     }
 
     /// Splits a new token off `door`, a token of this tree. The new token has no members and is in the root's current
-    /// phase. Give each thread a token of its own.
+    /// phase. Give each thread a different token.
     pub fn split(&self, door: &mut Door) -> Door
         requires own { door.old.tree ≡ self.now.tree }
         ensures same { door.new ≡ split_once door.old }
@@ -213,8 +212,8 @@ impl<F: Fn(u32, u32) -> bool> Tree<F> {
         self.tiers.pass_on(errand, &self.rule, tries)
     }
 
-    /// Checks whether the phase of `crew`, a token of this tree, is over. Doesn't wait. Brings the crew's own tier into
-    /// the root's phase if that tier lags, with at most one try.
+    /// Checks whether the phase of `crew`, a token of this tree, is over. Doesn't wait. Brings the crew's tier into the
+    /// root's phase if that tier lags, with at most one try.
     ///
     /// * `Passed`: the phase in which all members had arrived is over. Arrive in the next.
     /// * `Waiting`: all members have arrived, and other parties haven't. Call again later.

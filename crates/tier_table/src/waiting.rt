@@ -2,7 +2,7 @@
 //! lets other threads run in between. That such a call returns is not part of its contract: others may hold a tier for
 //! ever.
 //!
-//! The functions take the tiers, and the rule where an advance may be due. [`Tree`] passes its own.
+//! The functions take the tiers, and the rule if an advance may be due. [`Tree`] passes both.
 
 ghost use Rattle.std.specs.Prelude.{◌≡◌, ◌<◌, ◌≤◌, ℕ, Some, length, List, MatchResult};
 ghost use Rattle.advance_rule.specs.Stored.{Answers};
@@ -305,9 +305,9 @@ impl<F: Fn(u32, u32) -> bool> Tree<F> {
 
     /// Lets a member of `crew`, a token of this tree, arrive. Never returns `Left`.
     ///
-    /// It takes the crew and returns it, so that the crew can't be used while its call is under way. Use it if the
-    /// crew is moved anyway, as between threads, or where the answer holds it. Else use `arrive_in_place`, which has
-    /// the same effect and moves nothing.
+    /// It takes the crew and returns it, so that the crew can't be used while its call is under way. Use it if the crew
+    /// is moved anyway, as between threads, or if the answer holds it. Otherwise use `arrive_in_place`, which has the
+    /// same effect and moves nothing.
     pub fn arrive_wait<R: Wait>(&self, rt: &R, crew: Crew) -> ArrivedAtLast
         requires own { crew.tree ≡ self.now.tree }
         requires rule { Answers (F.pre self.now.rule.closure) (F.post self.now.rule.closure) (end_ends_at self.now.rule.plan) }
@@ -319,8 +319,8 @@ impl<F: Fn(u32, u32) -> bool> Tree<F> {
         pass_wait(&self.tiers, rt, crew, Passage::Arrival, &self.rule)
     }
 
-    /// Lets a member of `crew`, a token of this tree, arrive. The crew stays where it is: this is `arrive_wait` for a
-    /// caller that keeps its crew in a variable or in a list. It waits as `arrive_wait` does.
+    /// Lets a member of `crew`, a token of this tree, arrive. The crew isn't moved: this is `arrive_wait` for a caller
+    /// that keeps its crew in a variable or in a list. It waits as `arrive_wait` does.
     #[inline]
     pub fn arrive_in_place<R: Wait>(&self, rt: &R, crew: &mut Crew) -> ArrivedInPlace
         requires own { crew.old.tree ≡ self.now.tree }

@@ -1,4 +1,4 @@
--- The line of an advance stands in front of its answer.
+-- The line of an advance is in front of its answer.
 use Rattle.std.proofs.Common.{◌≡◌, ◌≢◌, ℕ, ◌+◌, Bool, true, false, cond, List, ◌++◌, Some, None, pos, negsuc, refl, sym, ◌∙◌, arith}
 use Rattle.std.specs.Prelude.{◌==◌, if◌then◌else◌}
 use Rattle.std.proofs.lemmas.Bool.{false≢true}
@@ -16,7 +16,7 @@ use Rattle.trace_text.specs.Lines.{advance_line}
 use Rattle.trace_text.specs.Answers.{advance_text, reply_text}
 use Rattle.trace_laws.specs.Advances.{AdvancesComeFirst}
 
--- before an advance a call leaves the phase, and has made one due only where the phaser goes on
+-- before an advance a call leaves the phase, and has made one due only if the phaser goes on
 record Keeps (f g : Flat) : Type 0 where
   phase : g.phase ≡ f.phase
   going : g.due ≡ true → g.ended ≡ false

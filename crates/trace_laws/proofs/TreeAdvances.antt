@@ -1,4 +1,4 @@
--- The line of an advance stands in front of its answer in a trace of a tree.
+-- The line of an advance is in front of its answer in a trace of a tree.
 use Rattle.std.proofs.Common.{◌≡◌, ◌≢◌, inl, inr, ℕ, zero, suc, ◌+◌, ◌<◌, Bool, true, false, cond, List, [], ◌++◌, length, take, drop, Some, None, refl, sym, ap, ◌∙◌, subst, arith}
 use Rattle.std.specs.Prelude.{◌==◌, if◌then◌else◌, ◌&&◌, not, nat_lt, codes}
 use Rattle.std.proofs.lemmas.Bool.{ltb-true, false≢true}

@@ -35,7 +35,7 @@ not_underway (played.MustAdvance phase parties) e = cc
 pub answered : (s : State) (token : ℕ) → IsAnswered s token → is_underway (answer_to s (going_on s token)) ≡ false
 answered s token a = ap is_underway a.answer ∙ not_underway a.played a.last
 
--- where it goes on, what comes is the same
+-- if it goes on, what comes is the same
 same_part : {A : Type 0} (b : Bool) (x y z : A) → (b ≡ true → x ≡ y) → (if b then x else z) ≡ (if b then y else z)
 same_part true x y z h = h refl
 same_part false x y z h = refl

@@ -1,4 +1,4 @@
--- Where the line of an advance stands (own).
+-- The place of an advance's line (own).
 use Rattle.std.specs.Prelude.{◌≡◌, ◌≢◌, false, ◌++◌}
 use Rattle.advance_rule.specs.declared.CountPlan.{CountPlan}
 use Rattle.flat_phaser.specs.Flat.{Flat, registered}

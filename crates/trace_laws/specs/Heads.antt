@@ -8,15 +8,15 @@ use Rattle.trace_text.specs.Words.{Word}
 use Rattle.trace_text.specs.TreeWords.{TreeAsked}
 use Rattle.trace_text.specs.Trace.{OfPhaser, OfTree, OfBarrier, head_of}
 
--- a number, which may be left out where it is this one
+-- a number, which may be left out if it is this one
 abbrev pub IsNumberOr : ℕ → ℕ → List Word → Type 0
 IsNumberOr usual n words = (words ≡ decimal n ∷ []) ⊎ ((n ≡ usual) × (words ≡ []))
 
--- a keyword and a number, which may be left out where it is this one
+-- a keyword and a number, which may be left out if it is this one
 abbrev pub IsKeyOr : Word → ℕ → ℕ → List Word → Type 0
 IsKeyOr key usual n words = (words ≡ key ∷ decimal n ∷ []) ⊎ ((n ≡ usual) × (words ≡ []))
 
--- a keyword and a number, or nothing where there is none
+-- a keyword and a number, or nothing if there is none
 abbrev pub IsKey : Word → Option ℕ → List Word → Type 0
 IsKey key None words = words ≡ []
 IsKey key (Some n) words = words ≡ key ∷ decimal n ∷ []
@@ -30,7 +30,7 @@ abbrev pub IsUpTo : ℕ → Option ℕ → Type 0
 IsUpTo most None = Unit {0}
 IsUpTo most (Some n) = n ≤ most
 
--- `phaser PARTIES [PHASE] [least L] [at Q]`, without PHASE in phase 0, and without `least` where it is 1
+-- `phaser PARTIES [PHASE] [least L] [at Q]`, without PHASE in phase 0, and without `least` if it is 1
 pub record SpellsPhaser (h : PhaserHead) (words : List Word) : Type 0 where
   pub phase : List Word
   pub least : List Word
@@ -44,7 +44,7 @@ pub record SpellsPhaser (h : PhaserHead) (words : List Word) : Type 0 where
   pub least_fits : h.plan.least ≤ 65536
   pub at_fits : IsUpTo 2147483647 h.plan.at
 
--- `tree WIDTHS [PHASE] [keep] [at Q]`, with `keep` where it doesn't end when it is empty
+-- `tree WIDTHS [PHASE] [keep] [at Q]`, with `keep` if it doesn't end when it is empty
 pub record SpellsTree (h : TreeAsked) (words : List Word) : Type 0 where
   pub phase : List Word
   pub keep : List Word
@@ -64,7 +64,7 @@ pub record SpellsBarrier (h : BarrierHead) (words : List Word) : Type 0 where
   pub parties_fit : FitsSigned w64 h.parties
   pub fails_fit : IsUpTo 9223372036854775807 h.fails
 
--- A line is read as a head exactly where it is written so.
+-- A line is read as a head exactly if it is written so.
 abbrev pub HeadsAreSpelled : Type 0
 HeadsAreSpelled =
     ((words : List Word) (h : PhaserHead) → (head_of words ≡ Ok (OfPhaser h)) ↔ SpellsPhaser h words)

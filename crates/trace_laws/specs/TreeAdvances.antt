@@ -1,4 +1,4 @@
--- Where the line of an advance stands in a trace of a tree (own).
+-- The place of an advance's line in a trace of a tree (own).
 use Rattle.std.specs.Prelude.{◌≡◌, ◌≢◌, ℕ, zero, suc, ◌&&◌, if◌then◌else◌, List, ◌++◌, Option, None, Some}
 use Rattle.phaser_word.specs.Fields.{Fields}
 use Rattle.tier_shape.specs.Paths.{IsTiers}
@@ -18,7 +18,7 @@ use Rattle.trace_text.specs.TreeAnswers.{call_of, is_token, has_tier, going_on, 
 abbrev pub root_of : State → Fields
 root_of s = word_at s.words 0
 
--- the answer at which a token stops that goes on with its call alone, after at most so many steps
+-- the answer at which a token stops that goes on with its call alone, after at most this many steps
 unfoldable pub last_answer : ℕ → ℕ → State → Answer
 last_answer zero token s = answer.NotNow
 last_answer (suc steps) token s =
@@ -36,8 +36,8 @@ answer_of (command.Do token c) s =
     else None
 answer_of (command.Show tier) s = None
 
--- A text that has the line of an advance in front of the answer's exactly where the root has moved on; then the answer is `done`. The
--- advance's line tells the phase that the root was in, and the parties that the advance left it.
+-- A text that has the line of an advance in front of the answer's exactly if the root has moved on. If it has, the
+-- answer is `done`. The advance's line has the phase that the root was in, and the parties that the advance left it.
 pub record IsInOrder (old new : State) (text : List ℕ) (a : Answer) : Type 0 where
   pub advances : (root_of new).phase ≢ (root_of old).phase → text ≡ advance_line (root_of old).phase (root_of new).parties ++ answer_text a
   pub done : (root_of new).phase ≢ (root_of old).phase → a ≡ answer.Played (played.Done (root_of old).phase)

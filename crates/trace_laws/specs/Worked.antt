@@ -30,8 +30,8 @@ pub record TracesAreWorkedOut : Type 0 where
 abbrev pub IsRefused : List ℕ → ℕ → Code → Type 0
 IsRefused text line code = asked_of text ≡ Err (record { line = line; code = code })
 
--- Numbers of tokens and tiers at their limit and one above it; first words; and what counts at the limits of commands and tokens, where
--- so many are above a line.
+-- Numbers of tokens and tiers at their limit and one above it; first words; and what counts at the limits of commands
+-- and tokens, by how many are above a line.
 pub record RefusedTracesAreWorkedOut : Type 0 where
   pub begin_most : Prints (codes "tree 1\nbegin 4294967295 arrive\n") (codes "no token\n")
   pub begin_more : IsRefused (codes "tree 1\nbegin 4294967296 arrive\n") 2 BadNumber

@@ -67,7 +67,7 @@ module _ {C : Type 0} (says : List Word → Result C Code) (brings : C → Bool)
   counted_is : (count tokens : ℕ) (r : Result C Code) (c : C) → r ≡ Ok c → count < 4096 → (brings c ≡ true → tokens < 256) → counted brings count tokens r ≡ Ok c
   counted_is count tokens r c e h t = let room = room_told (brings c) count tokens h t in rw (e, room) refl
 
-  -- the commands of lines, behind so many
+  -- the commands of lines, after this many
   pub record SaysMore (count tokens : ℕ) (lines : List (List ℕ)) (cs : List C) : Type 0 where
     pub each : map says (kept lines) ≡ map Ok cs
     pub few : 0 < length cs → count + length cs ≤ 4096
@@ -198,7 +198,7 @@ module _ {C : Type 0} (says : List Word → Result C Code) (brings : C → Bool)
       let tokens : length (filter brings cs) ≤ 256 = s.tokens in
       commands_told line 0 0 ls cs (record { each = s.each; few = λ h. omega arith; new = λ h. omega arith })
 
--- where the head stands
+-- the place of the head
 skipped_head : (line : ℕ) (l : List ℕ) (ls : List (List ℕ)) → is_skipped (words_of l) ≡ true → asked_from line (l ∷ ls) ≡ asked_from (line + 1) ls
 skipped_head line l ls e = rw e refl
 
@@ -206,7 +206,7 @@ head_here : (line : ℕ) (l : List ℕ) (ls : List (List ℕ)) → is_skipped (w
     → asked_from line (l ∷ ls) ≡ (at line (head_of (words_of l)) >>= λ head. below head (line + 1) ls)
 head_here line l ls e = rw e refl
 
--- what stands below a head
+-- what is below a head
 below_said : (words : List Word) (head : Head) (line : ℕ) (ls : List (List ℕ)) (asked : Asked) → head_of words ≡ Ok head → below head line ls ≡ Ok asked
     → SaysAsked words (kept ls) asked
 below_said words (OfPhaser h) line ls asked e b =

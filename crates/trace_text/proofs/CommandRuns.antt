@@ -1,4 +1,4 @@
--- A run of commands, part of which has been written.
+-- A run of commands that has been written in part.
 use Rattle.std.proofs.Common.{◌≡◌, ℕ, List, [], ◌∷◌, ◌++◌, Option, Result, Ok, Err, ap, sym, subst, ◌∙◌, refl, append_assoc, append-nil}
 use Rattle.std.specs.Prelude.{OnOk}
 use Rattle.trace_text.specs.declared.fault.TraceFault.{TraceFault}
@@ -8,9 +8,9 @@ use Rattle.devices.specs.Device.{AppendsBeginning}
 use Rattle.trace_text.specs.Outcome.{Writes, WriteCause, Moves}
 use Rattle.devices.proofs.PassedBytes.{Passed, passed_none, passed_part, passed_begun, passed_whole, Appends-none}
 
--- Commands C of a thing that stands for S: what each prints, and what it leaves.
+-- Commands C of a thing that represents S: what each prints, and what it leaves.
 module _ {C S : Type 0} (text : C → S → List ℕ) (after : C → S → S) where
-  -- The thing as it is now stands for `current`, and what still waits or is still to come of the run from s.
+  -- The thing as it is now represents `current`, together with what still waits and the rest of the run from s.
   pub record RunsOn (old new : Option (List ℕ)) (waits : List ℕ) (all rest : List C) (s : S) (IsNow : S → Type 0) : Type 0 where
     pub current : S
     pub seen : IsNow current
@@ -89,7 +89,7 @@ moved_out old new waited all waits text (Err Memory) e none done = rw (← e) do
 moved_out old new waited all waits text (Err Read) e none done = absurd done
 moved_out old new waited all waits text (Err (Text t)) e none done = absurd done
 
--- what was put behind what waits moves as if it had been asked for just now
+-- what was put after what waits moves as if it had been asked for just now
 pub moves_behind : (old new : Option (List ℕ)) (waited put waits : List ℕ) (result : Result (Unit {0}) TraceFault) (text : List ℕ)
     → put ≡ waited ++ text → Moves old new put waits result [] → Moves old new waited waits result text
 moves_behind old new waited put waits (Ok x) text e m = (m.0, sym e ∙ sym (append-nil put) ∙ m.1, m.2)
@@ -102,6 +102,6 @@ pub on_ok_always : {T E P : Type 0} (result : Result T E) → P → OnOk result 
 on_ok_always (Ok x) p = p
 on_ok_always (Err e) p = tt
 
--- failures are counted from where there had been none yet
+-- failures are counted from a point at which there had been none yet
 pub cause_from : {T : Type 0} (old mid new : ℕ) (result : Result T TraceFault) → mid ≡ old → WriteCause mid new result → WriteCause old new result
 cause_from old mid new result e h = subst (λ (n : ℕ). WriteCause n new result) e h

@@ -1,4 +1,4 @@
--- A line that is no command is refused by its own fault.
+-- A line that is no command is refused by the fault of its words.
 use Rattle.std.proofs.Common.{Bool, List, Result, refl}
 use Rattle.text_lines.specs.declared.refusal.Code.{Code}
 use Rattle.trace_text.specs.Words.{Word, command_of}

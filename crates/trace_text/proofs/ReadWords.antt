@@ -28,7 +28,7 @@ pub from-or : {A : Type 0} (code : Code) (o : Option A) (a : A) → or_else code
 from-or {A} code None a e = absurd (let wrong : ◌≡◌ {A = Result A Code} (Err code) (Ok a) = e in cc)
 from-or code (Some x) a e = cc
 
--- of a chain of keywords: what holds where it is this one, and what where it is one of the rest
+-- of a chain of keywords: what holds if it is this one, and what if it is one of the rest
 pub by-word : {F : Type 0} (P : F → Type 0) (w k : Word) (f g : F) (rest : Option F) → (w ≡ k → P f) → (rest ≡ Some g → P g)
     → cond {A = Option F} (bytes_eq w k) (Some f) rest ≡ Some g → P g
 by-word {F} P w k f g rest here behind h = chosen (bytes_eq w k) refl h

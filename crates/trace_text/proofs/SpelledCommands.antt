@@ -107,7 +107,7 @@ refused c e = absurd cc
 nothing : (w : Word) (f : Form) → w ≡ [] → form_of w ≡ Some f → {A : Type 0} → A
 nothing w f e t = absurd (let wrong : ◌≡◌ {A = Option Form} None (Some f) = ap form_of (sym e) ∙ t in cc)
 
--- what a form and the words behind it say
+-- what a form and the words after it say
 said : (w : Word) (ws : List Word) (f : Form) (c : PhaserCommand) → w ≡ first_word f → form_of w ≡ Some f → formed (Some f) ws ≡ Ok c → (w ∷ ws ≡ spelled c) × HasRoom c
 said w ws (Alone (Call call.Register)) c e t h = alone w ws (Call call.Register) c (ap (λ (v : Word). v ∷ []) (sym e)) tt h
 said w ws (Alone (Call (call.Bulk n))) c e t h = nothing w (Alone (Call (call.Bulk n))) e t

@@ -203,7 +203,7 @@ tree-said (w ∷ ws) c h = by-tree-form w ws (tree_form_of w) c refl h
 abbrev BarrierSaid : List Word → BarrierCommand → Type 0
 BarrierSaid words c = (words ≡ barrier_spelled c) × BarrierHasRoom c
 
--- what a form of a barrier's command and the words behind it say, by its first word
+-- what a form of a barrier's command and the words after it say, by its first word
 abbrev FormSaid : Word → BarrierForm → Type 0
 FormSaid w (barrier_form.Alone c) = BarrierSaid (w ∷ []) c
 FormSaid w barrier_form.Await = w ≡ codes "await"

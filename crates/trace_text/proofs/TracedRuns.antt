@@ -62,7 +62,7 @@ pub barrier_output : (old new : Option (List ℕ)) (result : Result (Unit {0}) T
 unfolding output_of
 barrier_output old new result h cs w = w
 
--- so many parties that a phaser was made of
+-- a number of parties that a phaser was made of
 few_parties : (n : ℕ) (parties : ℤ) → pos n ≡ parties → ((parties <ℤ pos 0) ⊎ (pos 65535 <ℤ parties) → ⊥) → nat_le n 65535 ≡ true
 few_parties n (pos m) e f = chosen (nat_le n 65535) refl
   where

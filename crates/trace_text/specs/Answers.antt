@@ -1,4 +1,4 @@
--- What a trace prints (own), over the flat phaser with an advance at once where it is due.
+-- What a trace prints (own), over the flat phaser with an advance as soon as it is due.
 use Rattle.std.specs.Prelude.{ℕ, Bool, nat_le, if◌then◌else◌, List, [], ◌++◌, Option, None, Some, ℤ, pos, negsuc, codes, decimal}
 use Rattle.std.specs.Fmt.{signed_decimal}
 use Rattle.advance_rule.specs.declared.CountPlan.{CountPlan}
@@ -47,7 +47,7 @@ abbrev pub command_after : CountPlan → PhaserCommand → Flat → Flat
 command_after plan (Call call) f = after plan call f
 command_after plan Show f = f
 
--- so many parties in this phase, or the refusal of as many
+-- this many parties in this phase, or the refusal of as many
 abbrev pub opened_text : CountPlan → List PhaserCommand → ℕ → ℤ → List ℕ
 opened_text plan commands phase (negsuc n) = fault_text TooMany
 opened_text plan commands phase (pos n) =

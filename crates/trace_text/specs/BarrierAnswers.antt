@@ -11,7 +11,7 @@ use Rattle.trace_text.specs.declared.barrier_words.BarrierCommand.TheVariants.{C
 use Rattle.trace_text.specs.declared.barrier_words.BarrierHead.{BarrierHead}
 use Rattle.trace_text.specs.Runs.{run_text}
 
--- want of memory has no line
+-- running out of memory has no line
 abbrev pub barrier_fault_text : BarrierFault → List ℕ
 barrier_fault_text NoParty = codes "refused 1 NoParty\n"
 barrier_fault_text AlreadyWaiting = codes "refused 2 AlreadyWaiting\n"
@@ -19,7 +19,7 @@ barrier_fault_text NotWaiting = codes "refused 3 NotWaiting\n"
 barrier_fault_text TooMany = codes "refused 4 TooMany\n"
 barrier_fault_text Memory = []
 
--- callers, and callers with their indices, each behind a space
+-- callers, and callers with their indices, each after a space
 abbrev pub callers_text : List ℕ → List ℕ
 callers_text [] = []
 callers_text (c ∷ cs) = codes " " ++ decimal c ++ callers_text cs
@@ -32,7 +32,7 @@ turns_text (t ∷ ts) = codes " " ++ decimal t.0 ++ codes ":" ++ decimal t.1 ++ 
 abbrev pub callers_line : List ℕ → List ℕ → List ℕ
 callers_line name callers = name ++ callers_text callers ++ codes "\n"
 
--- a reset names callers only where there are some
+-- a reset names callers only if there are some
 abbrev pub reset_text : List ℕ → List ℕ
 reset_text [] = codes "reset\n"
 reset_text (c ∷ cs) = callers_line (codes "reset broken") (c ∷ cs)
@@ -70,7 +70,7 @@ barrier_rest generation broken = codes " generation " ++ decimal generation ++ b
 abbrev pub barrier_line : ℕ → ℕ → ℕ → Bool → List ℕ
 barrier_line parties waiting generation broken = barrier_front parties waiting ++ barrier_rest generation broken
 
--- what a command prints, where the action fails in one generation or in none, and the barrier after it
+-- what a command prints, if the action fails in one generation or in none, and the barrier after it
 abbrev pub barrier_text : Option ℕ → BarrierCommand → Machine → List ℕ
 barrier_text fails (Call c) m = call_text c (answer fails c m)
 barrier_text fails Show m = barrier_line m.parties (length m.waiting) m.generation m.broken
@@ -79,7 +79,7 @@ abbrev pub barrier_after : Option ℕ → BarrierCommand → Machine → Machine
 barrier_after fails (Call c) m = after fails c m
 barrier_after fails Show m = m
 
--- so many parties, or the refusal of as many
+-- this many parties, or the refusal of as many
 abbrev pub barrier_of : Option ℕ → List BarrierCommand → ℤ → List ℕ
 barrier_of fails commands (negsuc n) = barrier_fault_text NoParty
 barrier_of fails commands (pos zero) = barrier_fault_text NoParty

@@ -13,7 +13,7 @@ use Rattle.trace_text.specs.declared.barrier_words.Form.TheVariants.{Await, Aban
 use Rattle.trace_text.specs.Words.{Word, take_behind, ended, or_else}
 use Rattle.trace_text.specs.TreeWords.{one_number, made}
 
--- a head in words: the parties, then `fails` with the word behind it
+-- a head in words: the parties, then `fails` with the word after it
 pub record BarrierHeadWords : Type 0 where
   pub parties : Word
   pub fails : Option Word

@@ -42,7 +42,8 @@ pub record SayAsked (lines : List (List Word)) (asked : Asked) : Type 0 where
   pub whole : lines ≡ head ∷ rest
   pub says : SaysAsked head rest asked
 
--- Lines ask for a head and commands exactly where those that aren't skipped are that head and those commands; so empty lines and comments change nothing but the numbers of lines.
+-- Lines ask for a head and commands exactly if those that aren't skipped are that head and those commands; so empty
+-- lines and comments change nothing but the numbers of lines.
 abbrev pub LinesSayWhatIsAsked : Type 0
 LinesSayWhatIsAsked = (line : ℕ) (lines : List (List ℕ)) (asked : Asked) → (asked_from line lines ≡ Ok asked) ↔ SayAsked (kept lines) asked
 
@@ -113,7 +114,8 @@ BarrierHasRoom (barrier.Call (gate.Await k)) = IsSmall k
 BarrierHasRoom (barrier.Call (gate.Abandon k)) = IsSmall k
 BarrierHasRoom _ = Unit {0}
 
--- Each command whose numbers fit is written in one way, and read back from it; no other words are read as a command.
+-- Each command whose numbers fit is written in one way, and reading that gives the command again; no other words are
+-- read as a command.
 pub record AreSpelled {C : Type 0} (says : List Word → Result C Code) (spell : C → List Word) (Fits : C → Type 0) : Type 0 where
   pub read_back : (c : C) → Fits c → says (spell c) ≡ Ok c
   pub written : (words : List Word) (c : C) → says words ≡ Ok c → (words ≡ spell c) × Fits c
@@ -124,7 +126,8 @@ pub record CommandsAreSpelled : Type 0 where
   pub trees : AreSpelled tree_command_of tree_spelled TreeHasRoom
   pub barriers : AreSpelled barrier_command_of barrier_spelled BarrierHasRoom
 
--- A line whose words are no command is refused by its own fault, however many commands and tokens are above it.
+-- A line whose words are no command is refused by the fault of those words, however many commands and tokens are above
+-- it.
 abbrev pub RefusesByItself : {C : Type 0} → (List Word → Result C Code) → (C → Bool) → Type 0
 RefusesByItself {C} says brings =
     (line count tokens : ℕ) (this : List ℕ) (below : List (List ℕ)) (code : Code) → is_skipped (words_of this) ≡ false → says (words_of this) ≡ Err code

@@ -26,7 +26,8 @@ Writes old new (Err Memory) text = AppendsBeginning old new text
 Writes old new (Err Read) text = ⊥
 Writes old new (Err (Text r)) text = ⊥
 
--- What waits to be written and a text behind it: a beginning went out, and the rest waits; or less of it went out, and no more will.
+-- What waits to be written and a text after it: a beginning went out, and the rest waits; or less of it went out, and
+-- no more will.
 abbrev pub Moves : Option (List ℕ) → Option (List ℕ) → List ℕ → List ℕ → Result (Unit {0}) TraceFault → List ℕ → Type 0
 Moves old new waited waits (Ok x) text = (front : List ℕ) × (waited ++ text ≡ front ++ waits) × Appends old new front
 Moves old new waited waits (Err Write) text = AppendsBeginning old new (waited ++ text)

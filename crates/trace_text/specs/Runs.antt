@@ -1,4 +1,4 @@
--- What a run of commands prints, where what each prints and leaves is given.
+-- What a run of commands prints, if what each prints and leaves is given.
 use Rattle.std.specs.Prelude.{ℕ, List, [], ◌∷◌, ◌++◌}
 
 abbrev pub run_text : {C S : Type 0} → (C → S → List ℕ) → (C → S → S) → List C → S → List ℕ

@@ -48,7 +48,7 @@ most_commands = 4096
 abbrev pub most_tokens : ℕ
 most_tokens = 256
 
--- one more command after `count`, of which `tokens` bring a token in, if the limits allow it
+-- one more command after `count` commands, `tokens` of which bring a token, if the limits allow it
 abbrev pub counted : {C : Type 0} → (C → Bool) → ℕ → ℕ → Result C Code → Result C Code
 counted brings count tokens (Err code) = Err code
 counted brings count tokens (Ok c) = if nat_lt count most_commands && (not (brings c) || nat_lt tokens most_tokens) then Ok c else Err TooMany

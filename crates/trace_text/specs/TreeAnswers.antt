@@ -66,7 +66,7 @@ state_text w =
     else if is_being_opened w then codes " opening\n"
     else codes " open\n"
 
--- the numbers of a tier; nobody is unarrived where there is no party
+-- the numbers of a tier; nobody is unarrived if there is no party
 abbrev pub tier_front : ℕ → Fields → List ℕ
 tier_front tier w = codes "tier " ++ decimal tier ++ codes " phase " ++ signed_decimal (shown_of w.phase w.ended)
 
@@ -113,7 +113,7 @@ is_underway (answer.Played played.GoesOn) = true
 is_underway (answer.Played (played.MustAdvance phase parties)) = true
 is_underway _ = false
 
--- The rest of a call, of at most so many steps: its advance, and its answer; and what it leaves.
+-- The rest of a call, of at most this many steps: its advance, and its answer; and what it leaves.
 unfoldable pub rest_text : ℕ → ℕ → State → List ℕ
 rest_text zero token s = []
 rest_text (suc steps) token s =

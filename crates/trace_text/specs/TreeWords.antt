@@ -13,7 +13,8 @@ use Rattle.trace_text.specs.declared.tree_words.Form.{Form}
 use Rattle.trace_text.specs.declared.tree_words.Form.TheVariants as form
 use Rattle.trace_text.specs.Words.{Word, up_to, take_number, take_behind, ended, number_or, number_if, or_else}
 
--- A head in words: the widths, then the phase if the next word begins as a number does, then `keep`, and `at` with the word behind it.
+-- A head in words: the widths, then the phase if the next word begins as a number does, then `keep`, and `at` with the
+-- word after it.
 pub record TreeHeadWords : Type 0 where
   pub widths : Word
   pub phase : Option Word

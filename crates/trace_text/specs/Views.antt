@@ -1,4 +1,4 @@
--- What was read, without where it lies in memory.
+-- What was read, apart from its place in memory.
 use Rattle.std.specs.Prelude.{ℕ, All}
 use Rattle.trace_text.specs.declared.head.Head as declared
 use Rattle.trace_text.specs.declared.head.Head.TheVariants as head

@@ -69,7 +69,7 @@ fn push_abandon<F: Fn(u64) -> bool>(
     }
 }
 
-/// Does a command, and puts what it prints behind what is there.
+/// Does a command, and appends what it prints.
 pub(crate) fn push_barrier_command<F: Fn(u64) -> bool>(
     out: &mut Vec<u8>,
     core: &mut BarrierCore<F>,

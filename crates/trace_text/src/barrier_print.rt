@@ -6,7 +6,7 @@ use crate::print::push_field;
 use cyclic_gate::BarrierFault;
 use std::alloc::AllocError;
 
-/// The line of a refusal; want of memory has none.
+/// The line of a refusal. Running out of memory has none.
 pub(crate) fn barrier_fault_line(fault: BarrierFault) -> &'static str
     ensures { result.now ≡ barrier_fault_text fault }
 {

@@ -1,19 +1,20 @@
 //! What a trace asks for, in the words of its lines.
 ghost use Rattle.trace_text.specs.Laws.{LinesSayWhatIsAsked, CommandsAreSpelled, FaultsOfLinesComeFirst};
 
-/// Lines ask for a head and commands exactly where those that aren't skipped are that head and those
-/// commands, in their order.
+/// Lines ask for a head and commands exactly if those that aren't skipped are that head and those commands, in their
+/// order.
 pub fn lines_say_what_is_asked()
     ensures { LinesSayWhatIsAsked }
 {}
 
-/// Each command of a phaser, of a tree and of a barrier whose numbers fit is written in one way, and read back from it; no
-/// other words are read as a command.
+/// Each command of a phaser, of a tree and of a barrier whose numbers fit is written in one way, and reading that gives
+/// the command again. No other words are read as a command.
 pub fn commands_are_spelled()
     ensures { CommandsAreSpelled }
 {}
 
-/// A line whose words are no command is refused by its own fault, however many commands and tokens are above it.
+/// A line whose words are no command is refused by the fault of those words, however many commands and tokens are above
+/// it.
 pub fn faults_of_lines_come_first()
     ensures { FaultsOfLinesComeFirst }
 {}

@@ -5,7 +5,7 @@
 //! * `words.rt`, `tree_words.rt`, `barrier_words.rt` and `head.rt`: one line; `command.rt`: what all kinds of
 //!   command have in common; `trace.rt`: a text; `print.rt`, `tree_print.rt` and `barrier_print.rt`: answers as
 //!   lines; `tree.rt` and `barrier.rt`: commands done on a tree and on a barrier; `run.rt`: the run.
-//! * `proofs/CommandRuns.antt`: a run part of which has been written.
+//! * `proofs/CommandRuns.antt`: a run that is written in part.
 #![tactic(auto)]
 
 mod barrier;

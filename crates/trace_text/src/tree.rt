@@ -191,7 +191,7 @@ fn push_finish(out: &mut Vec<u8>, core: &mut Core, token: usize) -> Result<(), A
     push_step(out, core, Step::Finish(token))
 }
 
-/// Does a command, and puts what it prints behind what is there.
+/// Does a command, and appends what it prints.
 pub(crate) fn push_tree_command(
     out: &mut Vec<u8>,
     core: &mut Core,

@@ -9,7 +9,7 @@ use std::alloc::AllocError;
 use tier_core::call::{Answer, Cause, Played};
 use tier_shape::ShapeFault;
 
-/// The line of a refused shape; want of memory has none.
+/// The line of a refused shape. Running out of memory has none.
 pub(crate) fn shape_fault_line(fault: &ShapeFault) -> &'static str
     ensures { result.now ≡ shape_fault_text fault.now }
 {

@@ -1,4 +1,4 @@
-//! Callers who come to a barrier, and to a gate.
+//! Callers who arrive at a barrier, and at a gate.
 ghost use Rattle.std.specs.Prelude.{◌≡◌};
 ghost use Rattle.advance_rule.specs.Action.{AnswersAction};
 
@@ -11,7 +11,7 @@ use std::test::Fail;
 use std::thread;
 use std::thread::Threads;
 
-// Looks at a barrier: so many wait, in this generation, and it isn't broken.
+// Looks at a barrier: this many wait, in this generation, and it isn't broken.
 fn is_as_it_was<F: Fn(u64) -> bool>(
     rt: &impl Abort,
     core: &BarrierCore<F>,
@@ -35,7 +35,7 @@ fn is_waiting_or_tripped(
     }
 }
 
-// A caller comes while others wait, and comes again where there was no memory.
+// A caller comes while others wait, and comes again if there was no memory.
 fn comes<F: Fn(u64) -> bool>(rt: &impl Abort, core: &mut BarrierCore<F>, caller: u32)
     requires rule { AnswersAction (F.pre core.old.action.closure) (F.post core.old.action.closure) core.old.action.plan }
     ensures rule { core.new.action ≡ core.old.action }
@@ -67,7 +67,7 @@ fn callers_come_to_a_barrier(rt: HostRuntime) -> Result<(), Fail> {
     Ok(())
 }
 
-// The one caller of a gate comes, and again where there was no memory.
+// The one caller of a gate comes, and again if there was no memory.
 fn turns<R: Wait + Abort, F: Fn(u64) -> bool>(rt: &R, gate: &CyclicGate<F>)
     requires { AnswersAction (F.pre gate.now.action.closure) (F.post gate.now.action.closure) gate.now.action.plan }
 {
@@ -89,7 +89,7 @@ fn a_caller_comes_to_a_gate(rt: HostRuntime) -> Result<(), Fail> {
     Ok(())
 }
 
-// A caller comes to a gate, and again where there was no memory.
+// A caller arrives at a gate, and again if there was no memory.
 fn comes_again<R: Wait, F: Fn(u64) -> bool>(
     rt: &R,
     gate: &CyclicGate<F>,
@@ -104,7 +104,7 @@ fn comes_again<R: Wait, F: Fn(u64) -> bool>(
     turn
 }
 
-// A thread of its own comes and waits, then another caller comes here: what both are answered, unless no thread was started.
+// Another thread comes and waits, then a caller comes here. Returns what both get, unless no thread was started.
 fn both_come<R: Threads + Wait + Sync, F: Fn(u64) -> bool + Sync>(
     rt: &R,
     gate: &CyclicGate<F>,
@@ -131,7 +131,7 @@ fn both_come<R: Threads + Wait + Sync, F: Fn(u64) -> bool + Sync>(
     )
 }
 
-// Who waits isn't lost where the one that comes last finds no memory: both go on, each with an index of its own.
+// Who waits isn't lost if the last to come finds no memory: both go on, and get different indices.
 #[test]
 fn one_waits_at_a_gate(rt: HostRuntime) -> Result<(), Fail> {
     let action = StoredAction::new(|_generation: u64| false, None);

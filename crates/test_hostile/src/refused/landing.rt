@@ -50,7 +50,7 @@ fn entries(alloc: Global) -> Result<Run, AllocError> {
     Ok(entries)
 }
 
-// What stood there before.
+// What the cells held before.
 const BEFORE: [Option<i64>; 3] = [Some(1), Some(2), Some(3)];
 
 // What these puts leave.

@@ -38,7 +38,7 @@ fn hand_all_in(alloc: Global, round: &mut Round<'_>) -> Result<(), AllocError> {
     Ok(())
 }
 
-// Closes a round that goes on, and closes it again where there was no memory.
+// Closes a round that goes on, and closes it again if there was no memory.
 fn closes(rt: &impl Abort, alloc: Global, round: &mut Round<'_>) {
     let step = round.step();
     if round.has_ended() {

@@ -13,8 +13,8 @@ use tier_table::joining::Registered;
 use tier_table::tokens::{Crew, Door, Token};
 use tier_table::tree::Tree;
 
-// The words of a tree `2x3` in phase 5, two members of which are registered at its first leaf: the phase, the parties, how
-// many of them are unarrived.
+// The words of a tree `2x3` in phase 5, with two members registered at its first leaf: the phase, the parties, how many
+// of them are unarrived.
 const WORDS: [(u32, u32, u32); 9] = [
     (5, 1, 1),
     (5, 1, 1),
@@ -60,7 +60,7 @@ fn are_both(tokens: &[Token]) -> bool {
     }
 }
 
-// Closes a tree of two tokens, and again where there was no memory: then it and its tokens come back.
+// Closes a tree of two tokens, and again if there was no memory. Then it and its tokens are returned.
 fn closes<F: Fn(u32, u32) -> bool + Drop>(
     rt: &impl Abort,
     alloc: Global,

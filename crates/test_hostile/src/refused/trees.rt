@@ -5,7 +5,7 @@ use std::test::Fail;
 use tier_core::tree::Core;
 use tier_shape::Shape;
 
-// Asks a tree for its next token, and again where there was no memory.
+// Asks a tree for its next token, and again if there was no memory.
 fn grows(rt: &impl Abort, core: &mut Core) {
     let (tokens, root) = (core.tokens(), core.root());
     let mut token = core.add_token();

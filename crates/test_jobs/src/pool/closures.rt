@@ -1,4 +1,4 @@
-//! What the closure that ends the tree is told.
+//! What the closure that ends the tree gets.
 use crate::left::job_of;
 use crate::pool::fixtures::{SPAWNS, SWAP, left_by};
 use std::alloc::Global;
@@ -8,7 +8,7 @@ use std::thread::Threads;
 use task_code::job::Job;
 use worker_pool::{AllStart, OpenGate};
 
-// What the closure is told of a run with two workers, added up; nothing if the run is refused.
+// What the closure gets in a run with two workers, added up; nothing if the run is refused.
 fn told<R: Threads + Wait + Sync>(rt: &R, alloc: Global, job: &Job, widths: &str) -> u64 {
     let sum = AtomicU64::new(0);
     match left_by(
@@ -30,9 +30,9 @@ end
 start p 0
 ";
 
-// Each job, a tree, and what the closure is told of two supersteps with so many parties at the root in the first, and none in
-// the second. On one tier all nine tasks are parties of the root; on three levels its two children are. On two leaves the
-// second start task stands at the second leaf, and so does the first task that one at the first leaf spawns.
+// Each job, a tree, and what the closure gets in two supersteps: a number of parties at the root in the first, and none
+// in the second. On one tier all nine tasks are parties of the root; on three levels its two children are. On two
+// leaves the second start task is at the second leaf, and so is the first task that one at the first leaf spawns.
 const TOLD: [(&str, &str, u64); 4] = [
     (SPAWNS, "flat", 2001009),
     (SPAWNS, "2x3", 2001002),
@@ -40,7 +40,7 @@ const TOLD: [(&str, &str, u64); 4] = [
     (SPAWNS_ONE, "2", 2001002),
 ];
 
-// Whether it is told so of the job of this text.
+// Whether it gets this in a run of the job of this text.
 fn is_told<R: Threads + Wait + Sync>(
     rt: &R,
     alloc: Global,

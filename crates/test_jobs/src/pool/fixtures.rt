@@ -86,7 +86,7 @@ start b 0
 start b 0
 ";
 
-// What workers leave of a job, whose tree ends in this phase at the latest. The closure that ends it adds what it is told:
+// What workers leave of a job, whose tree ends in this phase at the latest. The closure that ends it adds what it gets:
 // 1000000 each time, 1000 for each phase, and the parties at the root.
 fn run<R: Threads + Wait + Sync, G: Gate + Sync, S: Starter>(
     rt: &R,

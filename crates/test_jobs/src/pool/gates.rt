@@ -78,7 +78,7 @@ fn has_ended(ran: &Result<Report, Refused>) -> bool {
     }
 }
 
-// Whether two workers end a job of two tasks as they should where one task waits for the other.
+// Whether two workers end a job of two tasks as they should if one task waits for the other.
 fn overlap<R: Threads + Wait + Sync>(
     rt: &R,
     alloc: Global,
@@ -91,7 +91,7 @@ fn overlap<R: Threads + Wait + Sync>(
     has_ended(&ran) && has_held(gate)
 }
 
-// Whether they do where either waits for the other, on each of three trees.
+// Whether they do if either waits for the other, on each of three trees.
 fn all_overlap<R: Threads + Wait + Sync>(rt: &R, alloc: Global, job: &Job) -> bool {
     for widths in ["flat", "2", "2x3"] {
         for held in 0..2 {

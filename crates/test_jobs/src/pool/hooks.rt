@@ -1,4 +1,4 @@
-//! What a gate is told: the path of each task, those of spawned ones too, and the superstep.
+//! What a gate gets: the path of each task, those of spawned ones too, and the superstep.
 use crate::left::job_of;
 use crate::pool::fixtures::left_by;
 use std::alloc::Global;
@@ -24,7 +24,7 @@ end
 start p 0
 ";
 
-// What a gate is told of that job: the numbers of the path, each one more, and the superstep, as digits.
+// What a gate gets in that job: the numbers of the path, each one more, and the superstep, as digits.
 const SEGMENTS: [u64; 9] = [10, 11, 111, 12, 112, 122, 132, 123, 133];
 
 // A path and a superstep as digits.
@@ -36,14 +36,14 @@ fn digits_of(path: &Path, step: u32) -> u64 {
     digits.wrapping_mul(10).wrapping_add(u64::from(step))
 }
 
-// Notes what it is told.
+// Notes what it gets.
 #[derive(Drop)]
 struct Notes {
     entered: Mutex<Vec<u64>>,
     left: Mutex<Vec<u64>>,
 }
 
-// Adds to a list; where there is no memory it stays as it is.
+// Adds to a list. If there is no memory, the list stays as it is.
 fn note<R: Wait>(rt: &R, list: &Mutex<Vec<u64>>, digits: u64) {
     let _ = list.lock(rt).push(digits);
 }
@@ -58,7 +58,7 @@ impl Gate for Notes {
     }
 }
 
-// How often a number stands in a list.
+// How often a number is in a list.
 fn count_of(list: &[u64], number: u64) -> usize {
     let mut count = 0usize;
     for one in list {
@@ -79,7 +79,7 @@ fn are_all(list: &[u64]) -> bool {
     list.len() == SEGMENTS.len()
 }
 
-// Whether so many workers tell their gate of each segment, before it and after it.
+// Whether `workers` workers call their gate for each segment, before it and after it.
 fn tell_all<R: Threads + Wait + Sync>(rt: &R, alloc: Global, job: &Job, workers: u32) -> bool {
     let gate = Notes {
         entered: Mutex::new(Vec::new(alloc)),
@@ -124,7 +124,7 @@ impl Gate for Stretches {
     fn leave<R: Wait>(&self, _rt: &R, _path: &Path, _step: u32) {}
 }
 
-// Whether so many workers call an open gate for stretches with nine tasks in all, whose supersteps add up to 16.
+// Whether `workers` workers call an open gate for stretches with nine tasks in all, whose supersteps add up to 16.
 fn counts_all<R: Threads + Wait + Sync>(rt: &R, alloc: Global, job: &Job, workers: u32) -> bool {
     let gate = Stretches {
         tasks: AtomicU64::new(0),

@@ -10,7 +10,7 @@ use std::thread::Threads;
 use task_code::job::Job;
 use worker_pool::{AllStart, OpenGate};
 
-// Whether so many workers leave of a job what it leaves on one thread without workers.
+// Whether `workers` workers leave of a job what it leaves on one thread without workers.
 fn leave_the_same<R: Threads + Wait + Sync>(
     rt: &R,
     alloc: Global,

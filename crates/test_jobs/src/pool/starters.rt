@@ -29,7 +29,7 @@ fn is_refused(ran: &Result<Report, Refused>, but: u32) -> bool {
     }
 }
 
-// Whether a run of eight workers comes to what it should of which the one of this number can't be started.
+// Whether a run of eight workers ends as it should if the worker of this number can't be started.
 fn is_sent_home<R: Threads + Wait + Sync>(
     rt: &R,
     alloc: Global,
@@ -42,7 +42,7 @@ fn is_sent_home<R: Threads + Wait + Sync>(
     is_refused(&ran, but)
 }
 
-// Whether no task runs but where all workers are started, and then two do, twice.
+// Whether no task runs unless all workers are started, and then two do, twice.
 fn all_sent_home<R: Threads + Wait + Sync>(rt: &R, alloc: Global, job: &Job) -> bool {
     let gate = holding(u16::MAX, u16::MAX);
     for but in 0..9 {

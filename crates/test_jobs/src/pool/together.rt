@@ -19,7 +19,7 @@ start b 1
 start b 2
 ";
 
-// Holds each segment of superstep 0 until so many were entered. After many turns it gives up.
+// Holds each segment of superstep 0 until a given number were entered. After many turns it gives up.
 #[derive(Drop)]
 struct HoldsAll {
     wanted: u32,

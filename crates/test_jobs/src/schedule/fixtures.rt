@@ -7,7 +7,7 @@ use std::alloc::{AllocError, Global};
 use task_code::job::Job;
 use tier_shape::Shape;
 
-// The answers of a job to these steps, on a tree of this shape; none where the limit is none.
+// The answers of a job to these steps, on a tree of this shape. None if the limit is none.
 fn drive(
     alloc: Global,
     job: &Job,
@@ -60,14 +60,14 @@ pub(crate) fn step_of(kind: usize, worker: usize) -> JobStep {
     }
 }
 
-// The try of this number of workers in turn, each of which tries these kinds in its turn.
+// The try of this number, when workers try in turn and each tries these kinds in its turn.
 fn try_at(number: usize, workers: usize, kinds: &[usize]) -> JobStep {
     let each = kinds.len().max(1);
     let kind = kinds.get(number % each).copied().unwrap_or(0);
     step_of(kind, number / each % workers.max(1))
 }
 
-// Adds so many tries of workers in turn.
+// Adds `tries` tries of workers in turn.
 pub(crate) fn add_tries(
     steps: &mut Vec<JobStep>,
     workers: usize,

@@ -33,7 +33,7 @@ pub(crate) const JOBS: [(&str, u32); 6] = [
     (HANDOVER, 10),
 ];
 
-// So many tries of workers in turn, each of which tries each kind of step in its turn.
+// Makes `tries` tries of workers in turn. Each worker tries each kind of step in its turn.
 fn tries_of(alloc: Global, workers: usize, tries: usize) -> Result<Vec<JobStep>, AllocError> {
     let mut steps = Vec::new(alloc);
     add_tries(&mut steps, workers, &[0, 1, 2, 3, 4], tries)?;
@@ -45,7 +45,7 @@ fn leave_the_same(alloc: Global, job: &Job, limit: u32, steps: &[JobStep]) -> bo
     is_as_alone(alloc, job, "flat", limit, steps) && is_as_alone(alloc, job, "2x3", limit, steps)
 }
 
-// Whether so many tries of workers in turn do.
+// Whether `tries` tries of workers in turn do.
 fn tries_leave_the_same(
     alloc: Global,
     job: &Job,

@@ -19,7 +19,7 @@ fn below(number: u32, bound: u32) -> usize {
     ((number >> 16) % bound.max(1)) as usize
 }
 
-// The number that comes so many after one.
+// The number that is `count` places after another.
 fn skip(number: u32, count: usize) -> u32 {
     let mut number = number;
     for _ in 0..count {
@@ -36,7 +36,7 @@ fn start_of(number: u32) -> &'static str {
     STARTS[below(number, 4) % 4]
 }
 
-// The text of a job of so many start tasks, by the numbers after this.
+// The text of a job of `starts` start tasks, by the numbers after this.
 fn text_of(alloc: Global, starts: usize, number: u32) -> Result<String, AllocError> {
     let mut text = String::from_str(alloc, HEAD)?;
     let mut number = number;

@@ -19,7 +19,7 @@ enum Seen {
     NotNow,
 }
 
-// What an answer tells; of a path, how many numbers it has.
+// What an answer says; for a path, how many numbers it has.
 fn told(answer: &Answer) -> Seen {
     match answer {
         Answer::Took(path) => Seen::Took(path.len()),
@@ -32,7 +32,7 @@ fn told(answer: &Answer) -> Seen {
     }
 }
 
-// A step, and what its answer has to tell.
+// A step, and what its answer has to say.
 type Row = (JobStep, Seen);
 
 // One worker does a job.
@@ -102,7 +102,7 @@ const RUNS: [(&str, &str, &[Row]); 4] = [
     ("bsp 1\nbody b\nend\n", "2x3", &NO_TASKS),
 ];
 
-// Whether these answers tell what the rows say.
+// Whether these answers say what the rows say.
 fn are_told(answers: &[Answer], rows: &[Row]) -> bool {
     for (answer, (_, want)) in answers.iter().zip(rows) {
         if told(answer) != *want {

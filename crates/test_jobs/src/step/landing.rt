@@ -28,10 +28,10 @@ type Row = (&'static [&'static [Log]], Said, [i64; 3]);
 
 const UNCHANGED: [i64; 3] = [10, 20, 30];
 
-// Puts of three tasks; none; paths that don't rise; a put to no cell, which isn't the last of those. Then two runs, whose
-// last log has a later path than all others, the path of one in the other run, or an earlier one than the log in front of it.
-// Then puts that add: behind one that sets, and in both runs; one that overflows, though it would be covered; and one behind which
-// another is to no cell.
+// Puts of three tasks; none; paths that don't rise; a put to no cell, which isn't the last of those. Then two runs.
+// Their last log has a later path than all others, the path of one in the other run, or an earlier one than the log in
+// front of it. Then puts that add: after one that sets, and in both runs; one that overflows, though it would be
+// covered; and one that is followed by a put to no cell.
 const ROWS: [Row; 10] = [
     (
         &[&[
@@ -151,7 +151,7 @@ fn said_of(done: &Result<(), LandFault>) -> Said {
     }
 }
 
-// What comes of runs: of one by itself, and of others together.
+// Lands runs: one by itself, or several together.
 fn land_all(alloc: Global, arrays: &mut Arrays, runs: &[Run]) -> Result<(), LandFault> {
     match runs {
         [run] => land(alloc, arrays, run),
@@ -166,7 +166,7 @@ fn hold(arrays: &Arrays, [first, second, third]: [i64; 3]) -> bool {
         && is_cell(arrays, 1, 0, Some(third))
 }
 
-// Whether these runs come to this, and leave these cells.
+// Whether these runs end with this, and leave these cells.
 fn come_to(alloc: Global, arrays: &mut Arrays, runs: &[Run], said: Said, cells: [i64; 3]) -> bool {
     let done = land_all(alloc, arrays, runs);
     said_of(&done) == said && hold(arrays, cells)

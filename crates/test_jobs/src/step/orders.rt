@@ -17,7 +17,7 @@ fn are_one(paths: &[Path], want: &[u16]) -> bool {
     }
 }
 
-// Whether a delivery tells of one spawned task, which has this path.
+// Whether a delivery has one spawned task, with this path.
 fn has_spawned(delivery: &Delivery<'_>, want: &[u16]) -> bool {
     if delivery.spawn_count() != 1 || delivery.spawn_path(1).is_some() {
         return false;
@@ -77,7 +77,7 @@ fn second_says(alloc: Global, round: &Round<'_>) -> bool {
     }
 }
 
-// Whether so many tasks live in a round.
+// Whether `count` tasks live in a round.
 fn has_live(alloc: Global, round: &Round<'_>, count: usize) -> bool {
     match round.live(alloc) {
         Ok(live) => live.len() == count,

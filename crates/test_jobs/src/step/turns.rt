@@ -6,8 +6,8 @@ use step_core::Round;
 use superstep_memory::path::Path;
 use task_code::job::Job;
 
-// Puts the live tasks into such an order: the one at this place comes first and those behind it next, then those in front of
-// it; or the other way round.
+// Puts the live tasks into an order: the one at the place `first` comes first, then those after it, then those in front
+// of it; or the other way round.
 fn turn(live: &mut Vec<Path>, first: usize, forwards: bool) {
     if !forwards {
         live.reverse();

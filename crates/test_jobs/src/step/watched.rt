@@ -1,4 +1,4 @@
-//! What who looks on at a job on one thread is told: each superstep once, with its number and how many tasks live.
+//! What the watcher of a job on one thread gets: each superstep once, with its number and how many tasks live.
 use crate::left::job_of;
 use std::alloc::Global;
 use step_core::{Watch, run_watched};

@@ -1,5 +1,5 @@
-//! What a gate keeps doesn't grow with its generations, also where more callers come than there are parties, so that some
-//! are late to read how their generation ended.
+//! What a gate keeps doesn't grow with its generations, even if more callers come than there are parties and some are
+//! late to read how their generation ended.
 ghost use Rattle.advance_rule.specs.Action.{AnswersAction};
 
 use advance_rule::StoredAction;
@@ -13,8 +13,8 @@ use std::thread::Threads;
 
 const GENERATIONS: u32 = 100000;
 
-// Comes until it has had a turn in so many generations, or another thread has, and then ends all. Returns the most ends
-// that it saw kept.
+// Comes until it has had a turn in a given number of generations, or another thread has, and then ends all. Returns the
+// most ends that it saw kept.
 fn comes<R: Wait, F: Fn(u64) -> bool>(
     rt: &R,
     gate: &CyclicGate<F>,
@@ -41,7 +41,7 @@ fn comes<R: Wait, F: Fn(u64) -> bool>(
     Ok(most)
 }
 
-// Whether so many threads come, and none of them sees more ends kept than there are others.
+// Whether these threads come, and none of them sees more ends kept than there are others.
 fn all_come<R: Threads + Wait + Abort + Sync, F: Fn(u64) -> bool + Sync>(
     rt: &R,
     alloc: Global,
@@ -64,7 +64,8 @@ fn all_come<R: Threads + Wait + Abort + Sync, F: Fn(u64) -> bool + Sync>(
     })
 }
 
-// Whether a gate of so many parties keeps little while these threads come, through all generations, and nothing after them.
+// Whether a gate of `parties` parties keeps little while these threads come, through all generations, and nothing after
+// them.
 fn keeps_little<R: Threads + Wait + Abort + Sync>(
     rt: &R,
     alloc: Global,

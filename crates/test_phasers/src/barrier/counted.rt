@@ -35,7 +35,7 @@ fn sees_each<R: Wait, F: Fn(u64) -> bool>(
     true
 }
 
-// Whether so many threads see it.
+// Whether all these threads see it.
 fn all_see<R: Threads + Wait + Abort + Sync, F: Fn(u64) -> bool + Sync>(
     rt: &R,
     alloc: Global,
@@ -56,7 +56,7 @@ fn all_see<R: Threads + Wait + Abort + Sync, F: Fn(u64) -> bool + Sync>(
     seen.expect(rt, "memory").iter().all(|it| *it)
 }
 
-// Whether the action of a gate of so many threads runs once a generation.
+// Whether the action of a gate of `threads` threads runs once a generation.
 fn runs_once<R: Threads + Wait + Abort + Sync>(rt: &R, alloc: Global, threads: usize) -> bool {
     let runs = AtomicU64::new(0);
     let action = |_generation: u64| {

@@ -14,7 +14,7 @@ use std::thread::Threads;
 enum Ending {
     // Comes as caller 1.
     Comes,
-    // Comes as caller 0, and then as caller 1, if it is told that caller 0 waits.
+    // Comes as caller 0, and then as caller 1, if the answer is that caller 0 waits.
     ComesAgain,
     // Begins the next generation, once caller 0 waits.
     Resets,
@@ -36,7 +36,7 @@ fn ends<R: Wait>(rt: &R, over: &Mutex<bool>) {
     *over = true;
 }
 
-// Waits as caller 0, and again where the gate was broken before all is over.
+// Waits as caller 0, and again if the gate was broken before all is over.
 fn waits<R: Wait, F: Fn(u64) -> bool>(
     rt: &R,
     gate: &CyclicGate<F>,
@@ -54,7 +54,7 @@ fn waits<R: Wait, F: Fn(u64) -> bool>(
     Err(GateFault::Memory)
 }
 
-// Comes as caller 0, and as caller 1 where that one waits.
+// Comes as caller 0, and as caller 1 if that one waits.
 fn comes_again<R: Wait, F: Fn(u64) -> bool>(rt: &R, gate: &CyclicGate<F>) -> Result<u32, GateFault>
     requires { AnswersAction (F.pre gate.now.action.closure) (F.post gate.now.action.closure) gate.now.action.plan }
 {
@@ -65,8 +65,7 @@ fn comes_again<R: Wait, F: Fn(u64) -> bool>(rt: &R, gate: &CyclicGate<F>) -> Res
     told
 }
 
-// Ends the wait of caller 0 once, if it waits, and tells who was sent home; a gate that is broken is made whole
-// where nobody was.
+// Ends the wait of caller 0 once, if it waits, and returns whose wait ended. If nobody's did, a broken gate is reset.
 fn ends_once<R: Wait, F: Fn(u64) -> bool>(
     rt: &R,
     gate: &CyclicGate<F>,
@@ -85,7 +84,7 @@ fn ends_once<R: Wait, F: Fn(u64) -> bool>(
     }
 }
 
-// Whether the wait of caller 0 was ended, by the list that came of it.
+// Whether the wait of caller 0 was ended, by the list that was returned.
 fn is_ended(ending: Ending, callers: &[u32]) -> bool {
     match ending {
         Ending::TakesAway => callers.is_empty(),
@@ -133,7 +132,7 @@ fn does<R: Wait, F: Fn(u64) -> bool>(
     }
 }
 
-// What two threads are told.
+// What two threads get.
 fn two<R: Threads + Wait + Abort + Sync, F: Fn(u64) -> bool + Sync>(
     rt: &R,
     alloc: Global,
@@ -154,7 +153,7 @@ fn two<R: Threads + Wait + Abort + Sync, F: Fn(u64) -> bool + Sync>(
     told.expect(rt, "memory")
 }
 
-// Whether two were told these, in whatever order.
+// Whether two threads got these answers, in whatever order.
 fn are(
     told: &[Result<u32, GateFault>],
     one: Result<u32, GateFault>,
@@ -163,7 +162,7 @@ fn are(
     told.len() == 2 && told.contains(&one) && told.contains(&other)
 }
 
-// Whether the two are told these by a gate of two parties whose action fails in generation 0.
+// Whether the two get these answers from a gate of two parties whose action fails in generation 0.
 fn is_told<R: Threads + Wait + Abort + Sync>(
     rt: &R,
     alloc: Global,

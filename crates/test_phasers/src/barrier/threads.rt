@@ -19,13 +19,13 @@ enum Duty {
     TakesAway,
 }
 
-// They meet, each as its own caller.
+// They meet, each as a different caller.
 const MEET: [Duty; 3] = [Duty::Awaits(0), Duty::Awaits(1), Duty::Awaits(2)];
 
-// Two wait, of which the third takes one away.
+// Two wait, and the third takes one of them away.
 const PART: [Duty; 3] = [Duty::Awaits(0), Duty::Awaits(1), Duty::TakesAway];
 
-// A turn, which sends the others home where it finds no memory.
+// A turn. If it finds no memory, it ends the others' wait.
 fn turn<R: Wait, F: Fn(u64) -> bool>(
     rt: &R,
     gate: &CyclicGate<F>,
@@ -40,7 +40,7 @@ fn turn<R: Wait, F: Fn(u64) -> bool>(
     turn
 }
 
-// Takes the caller 1 away once it waits. Gives up after many turns, and sends the others home where it finds no memory.
+// Takes the caller 1 away once it waits. Gives up after many turns. If it finds no memory, it ends the others' wait.
 fn take_away<R: Wait, F: Fn(u64) -> bool>(rt: &R, gate: &CyclicGate<F>) -> Result<u32, GateFault> {
     for _ in 0..1000000u32 {
         match gate.abandon(rt, 1) {
@@ -104,7 +104,7 @@ fn all_meet<R: Threads + Wait + Abort + Sync, F: Fn(u64) -> bool + Sync>(
     is_each_once(&turns)
 }
 
-// Whether two were told that the gate is broken, and the third took one of them away.
+// Whether two got the answer that the gate is broken, and the third took one of them away.
 fn are_broken(told: &[Result<u32, GateFault>]) -> bool {
     let Some((last, others)) = told.split_last() else {
         return false;
@@ -112,7 +112,7 @@ fn are_broken(told: &[Result<u32, GateFault>]) -> bool {
     *last == Ok(0) && others.len() == 2 && others.iter().all(|it| *it == Err(GateFault::Broken))
 }
 
-// Whether, of two that wait, one is taken away, and all are told that the gate is broken.
+// Whether, of two that wait, one is taken away, and all get the answer that the gate is broken.
 fn all_are_broken<R: Threads + Wait + Abort + Sync, F: Fn(u64) -> bool + Sync>(
     rt: &R,
     alloc: Global,
@@ -124,7 +124,7 @@ fn all_are_broken<R: Threads + Wait + Abort + Sync, F: Fn(u64) -> bool + Sync>(
     are_broken(&told)
 }
 
-// Three threads meet; then the gate is broken, and a late caller is told so; renewed, they meet there again.
+// Three threads meet. Then the gate is broken, and a late caller gets `Broken`. After a reset they meet there again.
 fn all_meet_twice<R: Threads + Wait + Abort + Sync, F: Fn(u64) -> bool + Sync>(
     rt: &R,
     alloc: Global,

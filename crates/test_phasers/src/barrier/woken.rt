@@ -43,7 +43,7 @@ fn waits<R: Wait, F: Fn(u64) -> bool>(
     turn
 }
 
-// Gives the others time until so many are counted.
+// Gives the others time until `want` are counted.
 fn gives_time(count: &AtomicU32, want: u32, most: u32) {
     for _ in 0..most {
         if count.load(Ordering::SeqCst) == want {
@@ -112,7 +112,7 @@ fn four<R: Threads + Wait + Abort + Sync, F: Fn(u64) -> bool + Sync>(
     turns.expect(rt, "memory")
 }
 
-// Whether three were told that the gate broke, and the fourth this.
+// Whether three got the answer that the gate broke, and the fourth this one.
 fn are_broken(turns: &[Result<u32, GateFault>], last: Result<u32, GateFault>) -> bool {
     let Some((own, others)) = turns.split_last() else {
         return false;
@@ -156,7 +156,7 @@ fn a_failure_wakes_three(rt: HostRuntime) {
     assert!(rt; are_broken(&turns, Err(GateFault::ActionFailed)));
 }
 
-// Whether three are told that the gate broke, where the fourth ends their wait in this way.
+// Whether three get the answer that the gate broke if the fourth ends their wait in this way.
 fn are_woken<R: Threads + Wait + Abort + Sync>(rt: &R, alloc: Global, ending: Ending) -> bool {
     let turns = answered(rt, alloc, None, ending);
     are_broken(&turns, Ok(7))

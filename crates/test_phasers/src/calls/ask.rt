@@ -1,11 +1,11 @@
-//! What tokens are asked, and what they are told.
+//! What tokens are asked, and what they answer.
 
 use tier_core::call::Cause;
 
 /// What a token is asked.
 #[derive(Clone, Copy)]
 pub enum Ask {
-    /// To register so many members at a tier.
+    /// To register a number of members at a tier.
     Register(u16, u32),
     /// To register a member beside the crew of the first token.
     Beside,
@@ -23,7 +23,7 @@ pub enum Ask {
     Force,
 }
 
-/// What it is told.
+/// What it answers.
 #[derive(Clone, Copy, PartialEq, Eq)]
 pub enum Told {
     /// Nothing is done yet.
@@ -34,7 +34,7 @@ pub enum Told {
     Joined(u32),
     /// They are held off in this phase.
     Held(u32, Cause),
-    /// There is no room beside so many parties.
+    /// There is no room beside this number of parties.
     Full(u32),
     /// A member arrived or left in this phase; whether that led.
     Done(u32, bool),

@@ -114,7 +114,7 @@ fn poll(tree: &Tree<Rule>, mut crew: Crew) -> (Holder, Told)
     (Holder::Inside(crew), told)
 }
 
-/// One call, with so many tries at most. A poll makes one at most, whatever is said.
+/// One call, with at most `tries` tries. A poll makes one at most, whatever `tries` is.
 pub fn call(
     rt: &impl Abort,
     tree: &Tree<Rule>,

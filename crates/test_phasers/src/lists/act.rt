@@ -34,8 +34,8 @@ fn next_ask(holder: &Holder, numbers: &mut Numbers, tiers: u32, late: bool) -> A
     }
 }
 
-// How many tries a call gets: up to 3, at least one where it was busy. The tree gets two more to end by force,
-// which the machine does in one step.
+// How many tries a call gets: up to 3, and at least one if it was busy. The tree gets two more to end by force, which
+// the machine does in one step.
 fn next_tries(numbers: &mut Numbers, ask: Ask, again: bool) -> (u32, u32) {
     let tries = if again {
         numbers.below(3).saturating_add(1)
@@ -48,8 +48,8 @@ fn next_tries(numbers: &mut Numbers, ask: Ask, again: bool) -> (u32, u32) {
     }
 }
 
-/// A token takes a call with up to 3 tries, which is repeated where it is busy, and is told each time what
-/// the machine tells.
+/// A token takes a call with up to 3 tries, which is repeated if it is busy, and gets each time what the machine
+/// answers.
 pub fn act(
     rt: &impl Abort,
     tree: &Tree<Rule>,

@@ -40,7 +40,7 @@ fn changed(before: &[u64; 9], after: &[u64; 9]) -> Option<(usize, u64)> {
     None
 }
 
-// What an answer tells.
+// What an answer says.
 fn told_by(ask: Ask, view: View, answer: Played) -> Told {
     match answer {
         Played::GoesOn | Played::MustAdvance(_, _) => Told::Owing,
@@ -77,7 +77,7 @@ fn call_of(rt: &impl Abort, ask: Ask) -> Option<Call>
     }
 }
 
-// The tier that a token that is on its way has to tell next.
+// The tier that a token on its way has to report next.
 fn next_tier(view: View) -> Option<usize> {
     match view.errand {
         Errand::Climbing { tier, .. } => Some(usize::from(tier)),
@@ -98,7 +98,7 @@ impl Mirror {
         self.core.tiers() as u32
     }
 
-    // Steps of a call until it is over, or so many of them have changed a word.
+    // Steps of a call until it is over, or `tries` of them have changed a word.
     fn go(&mut self, rt: &impl Abort, token: usize, tries: u32) -> Option<Played> {
         assert!(rt; token < 8);
         let mut left = tries;
@@ -120,7 +120,7 @@ impl Mirror {
         None
     }
 
-    // The tier where a call that goes on loses its first try: another has changed the word that its token left
+    // The tier at which a call that goes on loses its first try: another has changed the word that its token left
     // there. The token has then seen the word.
     fn lost_at(&mut self, rt: &impl Abort, token: usize) -> Option<usize> {
         assert!(rt; token < 8);
@@ -134,7 +134,7 @@ impl Mirror {
         Some(next)
     }
 
-    // A call goes on. A lost try is a look, and the last step where that finds the end.
+    // A call goes on. A lost try is a look, and it is the last step if it finds the end.
     fn resume(&mut self, rt: &impl Abort, token: usize, tries: u32) -> Option<Played> {
         if tries == 0 {
             return None;
@@ -157,7 +157,7 @@ impl Mirror {
         }
     }
 
-    // The steps of a call with so many tries, or of one that was busy.
+    // The steps of a call with `tries` tries, or of one that was busy.
     fn steps(
         &mut self,
         rt: &impl Abort,
@@ -180,7 +180,7 @@ impl Mirror {
         self.begin(rt, token, call, tries)
     }
 
-    /// What a token is told of a call with so many tries, or of one that was busy.
+    /// What a token gets from a call with `tries` tries, or from one that was busy.
     pub(crate) fn told(
         &mut self,
         rt: &impl Abort,

@@ -4,7 +4,7 @@ use phaser_word::Word;
 use tier_shape::Shape;
 use tier_table::closing::ClosedToken;
 
-// How many parties of a tier have not arrived in the root's phase: all of them where it lags.
+// How many parties of a tier have not arrived in the root's phase: all of them if it lags.
 fn late(word: &Word, phase: u32) -> u32 {
     if word.parties == 0 {
         0
@@ -47,7 +47,8 @@ fn children(shape: &Shape, words: &[Word], tier: usize, phase: u32) -> (u32, u32
     (all, unarrived)
 }
 
-/// Whether each word counts the tokens at its tier and the tiers below it; the root's, where it has not ended.
+/// Whether each word counts the tokens at its tier and the tiers below it. This leaves out the root's word if it has
+/// ended.
 pub(crate) fn tally(shape: &Shape, words: &[Word], tokens: &[ClosedToken]) -> bool {
     let Some(root) = words.first() else {
         return false;

@@ -24,7 +24,7 @@ pub enum Duty {
     Joins(u16),
     /// A member arrives.
     Arrives,
-    /// A member joins this tier and leaves, so many times.
+    /// A member joins this tier and leaves, a number of times.
     ComesAndGoes(u16, u32),
     /// A member arrives in place and waits for the next phase, from phase 0 on this many times.
     Meets(u32),
@@ -32,7 +32,7 @@ pub enum Duty {
     MeetsByCrew(u32),
 }
 
-/// A token, and what is done with it in each stage, each time in a thread of its own.
+/// A token, and what is done with it in each stage, each time in a separate thread.
 #[derive(Drop)]
 pub struct Actor {
     /// The token.
@@ -77,7 +77,7 @@ fn leaves<R: Wait + Abort>(rt: &R, tree: &Tree<Rule>, crew: Crew) -> Door
     }
 }
 
-// A member joins a tier and leaves, so many times.
+// A member joins a tier and leaves, `times` times.
 fn comes_and_goes<R: Wait + Abort>(
     rt: &R,
     tree: &Tree<Rule>,
@@ -96,7 +96,7 @@ fn comes_and_goes<R: Wait + Abort>(
     door
 }
 
-// A member of a crew arrives that stays where it is.
+// A member of a crew arrives, and the crew isn't moved.
 fn arrives_in_place<R: Wait + Abort>(rt: &R, tree: &Tree<Rule>, crew: &mut Crew)
     requires own { crew.old.tree ≡ tree.now.tree }
     requires rule { Answers (pre tree.now.rule.closure) (post tree.now.rule.closure) (end_ends_at tree.now.rule.plan) }
@@ -108,7 +108,7 @@ fn arrives_in_place<R: Wait + Abort>(rt: &R, tree: &Tree<Rule>, crew: &mut Crew)
     }
 }
 
-// A member arrives and waits for the next phase, from phase 0 on so many times.
+// A member arrives and waits for the next phase, `times` times, beginning with phase 0.
 fn meets<R: Wait + Abort>(rt: &R, tree: &Tree<Rule>, mut crew: Crew, times: u32) -> Crew
     requires own { crew.tree ≡ tree.now.tree }
     requires rule { Answers (pre tree.now.rule.closure) (post tree.now.rule.closure) (end_ends_at tree.now.rule.plan) }

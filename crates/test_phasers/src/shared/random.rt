@@ -215,8 +215,8 @@ fn tokens_of(
     (tokens, led)
 }
 
-// Eight threads call at random. In the end the root has advanced as often as the calls were told, and each word
-// counts the tokens at its tier and the tiers below it. Answers how often it advanced; a game may end before it does.
+// Eight threads call at random. At the end the root has advanced as often as the answers say, and each word counts the
+// tokens at its tier and the tiers below it. Returns how often it advanced; a game may end before it does.
 fn game<R: Threads + Abort + Sync>(
     rt: &R,
     alloc: Global,

@@ -17,9 +17,9 @@ use tier_table::closing::Closed;
 use tier_table::tokens::{Door, Token};
 use tier_table::tree::Tree;
 
-// What some threads do on a tree, stage after stage, each with a token of its own, of which the first is told apart;
-// and what is left: how many tiers, the root's phase and its parties, none of which has arrived, and how many tokens
-// at least have one member in that phase.
+// What some threads do on a tree, stage after stage, each with a token. The first token is given apart from the others.
+// Then what is left: how many tiers, the root's phase and its parties, none of which has arrived, and the least number
+// of tokens that have one member in that phase.
 struct Scene {
     widths: &'static str,
     first: &'static [Duty],
@@ -45,7 +45,7 @@ const FOUR_ARRIVE: Scene = Scene {
     members: 0,
 };
 
-// Two threads come to a flat tree and leave 10000 times, beside one that meets 1000 phases alone.
+// Two threads join a flat tree and leave, 10000 times each, beside one that meets 1000 phases alone.
 const TWO_COME_AND_GO: Scene = Scene {
     widths: "flat",
     first: &[Joins(0), Meets(1000)],
@@ -75,8 +75,8 @@ const TWO_COME_AND_GO_AT_LEAVES: Scene = Scene {
     members: 1,
 };
 
-// Eight threads meet 1000 times, each at the leaf whose number is its own, counted round and round. The last four
-// join after the first four.
+// Eight threads meet 1000 times, each at the leaf of its number modulo the number of leaves. The last four join after
+// the first four.
 const EIGHT_MEET: Scene = Scene {
     widths: "2x3",
     first: &[Joins(3), Stays, Meets(1000)],

@@ -1,9 +1,9 @@
-//! What a call may be told, by its token before it and after it.
+//! What a call may answer, by its token before it and after it.
 
 use crate::calls::ask::{Ask, Told};
 use crate::calls::holders::Holder;
 
-/// What a token tells of itself.
+/// What a token says of itself.
 #[derive(Clone, Copy, PartialEq, Eq)]
 pub enum Seen {
     /// No members, in this phase.
@@ -16,7 +16,7 @@ pub enum Seen {
     Opening,
 }
 
-/// What a token tells of itself.
+/// What a token says of itself.
 pub(crate) fn tells(holder: &Holder) -> Seen {
     match holder {
         Holder::Outside(door) => Seen::Door(door.phase()),
@@ -33,8 +33,8 @@ fn next(phase: u32) -> u32 {
     (phase.wrapping_add(1)) % 2147483648
 }
 
-// How many members are unarrived, and in which phase, as an arrival finds them: all of them in the next phase
-// where all had arrived.
+// How many members are unarrived, and in which phase, as an arrival finds them: all of them in the next phase if all
+// had arrived.
 fn found(size: u32, unarrived: u32, phase: u32) -> (u32, u32) {
     if unarrived == 0 {
         (size, next(phase))
@@ -43,7 +43,7 @@ fn found(size: u32, unarrived: u32, phase: u32) -> (u32, u32) {
     }
 }
 
-// What a registration of so many members at a tier may be told.
+// What a registration of `members` members at a tier may answer.
 fn registered(tier: u16, members: u32, after: Seen, told: Told) -> bool {
     match told {
         Told::Joined(phase) => after == Seen::Crew(tier, members, members, phase),
@@ -60,7 +60,7 @@ fn registered(tier: u16, members: u32, after: Seen, told: Told) -> bool {
     }
 }
 
-// What one may be told that goes on.
+// What a registration that goes on may answer.
 fn opened(after: Seen, told: Told) -> bool {
     match told {
         Told::Joined(phase) => {
@@ -74,8 +74,8 @@ fn opened(after: Seen, told: Told) -> bool {
     }
 }
 
-// What an arrival or a departure may be told by a crew of this tier, of so many members, so many of them
-// unarrived, in this phase.
+// What an arrival or a departure may answer. `crew` has the tier, how many members, how many of them are unarrived, and
+// the phase.
 fn passed(leaves: bool, crew: (u16, u32, u32, u32), after: Seen, told: Told) -> bool {
     let (tier, size, unarrived, phase) = crew;
     let (here, now) = found(size, unarrived, phase);
@@ -97,7 +97,7 @@ fn passed(leaves: bool, crew: (u16, u32, u32, u32), after: Seen, told: Told) -> 
     }
 }
 
-// What one may be told that goes on.
+// What an arrival or a departure that goes on may answer.
 fn resumed(after: Seen, told: Told) -> bool {
     match told {
         Told::Done(phase, _) => matches!(after, Seen::Crew(_, _, _, at) if at == phase),
@@ -107,7 +107,7 @@ fn resumed(after: Seen, told: Told) -> bool {
     }
 }
 
-// What a poll may be told.
+// What a poll may answer.
 fn polled(crew: (u16, u32, u32, u32), after: Seen, told: Told) -> bool {
     let (tier, size, unarrived, phase) = crew;
     let (here, now) = found(size, unarrived, phase);
@@ -124,7 +124,7 @@ fn polled(crew: (u16, u32, u32, u32), after: Seen, told: Told) -> bool {
     }
 }
 
-/// Whether a call may be told this.
+/// Whether a call may answer this.
 pub(crate) fn may_be_told(ask: Ask, before: Seen, after: Seen, told: Told) -> bool {
     match (ask, before) {
         (Ask::Register(tier, members), Seen::Door(_)) => registered(tier, members, after, told),

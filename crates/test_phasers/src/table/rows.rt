@@ -13,10 +13,10 @@ use std::process::Abort;
 use tier_table::joining::Registered;
 use tier_table::tree::Tree;
 
-/// A row of a worked run: the token that is asked, what it is asked, with so many tries, and what it has to be told.
+/// A row of a worked run: the token that is asked, what it is asked, with how many tries, and what it has to answer.
 pub type Row = (usize, Ask, u32, Told);
 
-// A token is asked as this row says, and told so.
+// A token is asked as this row says, and gives its answer.
 fn asked(rt: &impl Abort, tree: &Tree<Rule>, holder: Holder, number: usize, row: Row) -> Holder
     requires own { tree_of holder ≡ tree.now.tree }
     requires rule { Answers (pre tree.now.rule.closure) (post tree.now.rule.closure) (end_ends_at tree.now.rule.plan) }
@@ -28,7 +28,7 @@ fn asked(rt: &impl Abort, tree: &Tree<Rule>, holder: Holder, number: usize, row:
     holder
 }
 
-// A member joins beside a crew that has an unarrived member, and is told as this row says.
+// A member joins beside a crew that has an unarrived member, and gets the answer of this row.
 fn beside(
     rt: &impl Abort,
     tree: &Tree<Rule>,

@@ -1,4 +1,4 @@
-//! Worked runs on one thread, row by row. Each run has three tokens, and ends where nobody is registered.
+//! Worked runs on one thread, row by row. Each run has three tokens, and ends when nobody is registered.
 
 ghost use Rattle.std.specs.Prelude.{◌≡◌, ◌==◌, ◌≤◌};
 ghost use Rattle.advance_rule.specs.Stored.{Answers};
@@ -18,8 +18,8 @@ use std::process::Abort;
 use tier_core::call::Cause;
 use tier_table::closing::ClosedToken;
 
-// A run: the widths of its tree, the first phase, its rows, the last words, and, where it is told, what the third
-// token is in the end.
+// A run: the widths of its tree, the first phase, its rows, the last words, and, if given, what the third token is in
+// the end.
 type Run = (
     &'static str,
     u32,
@@ -83,7 +83,7 @@ const HELD_OFF: [Row; 8] = [
     (2, Register(1, 1), 16, Joined(1)),
 ];
 
-// A departure in flight, while another token joins where it left.
+// A departure in flight, while another token joins at the tier that it left.
 const A_DEPARTURE: [Row; 4] = [
     (0, Register(2, 1), 16, Joined(0)),
     (0, Leave, 1, Owing),
@@ -281,7 +281,7 @@ const RUNS: [Run; 12] = [
     ),
 ];
 
-// Whether a token is a crew that tells this of itself, where it is told at all.
+// Whether a token is a crew that says this of itself, if anything is wanted.
 fn is_told(holder: &Holder, want: Option<ClosedToken>) -> bool {
     match (holder, want) {
         (_, None) => true,
@@ -295,7 +295,7 @@ fn is_told(holder: &Holder, want: Option<ClosedToken>) -> bool {
     }
 }
 
-// Whether the third of the tokens that were handed back is this, where it is told at all.
+// Whether the third of the tokens that were handed back is this, if anything is wanted.
 fn is_handed_back(tokens: &[ClosedToken], want: Option<ClosedToken>) -> bool {
     match (tokens.last(), want) {
         (_, None) => true,

@@ -19,7 +19,7 @@ use tier_table::tokens::{Crew, Door};
 use tier_table::tree::Tree;
 use tier_table::waiting::{ArrivedAtLast, AwaitedAdvance, RegisteredAtLast};
 
-// The token that is asked, what it is asked, and what it has to be told. `Poll` is asked as `await_advance`.
+// The token that is asked, what it is asked, and what it has to answer. `Poll` is asked as `await_advance`.
 type Row = (usize, Ask, Told);
 
 // A registration.
@@ -75,7 +75,7 @@ fn awaits<R: Wait + Abort>(rt: &R, tree: &Tree<Rule>, mut crew: Crew) -> (Holder
     (Holder::Inside(crew), told)
 }
 
-// A token is asked as this row says, and told so.
+// A token is asked as this row says, and gives its answer.
 fn asked<R: Wait + Abort>(rt: &R, tree: &Tree<Rule>, holder: Holder, row: (usize, Row)) -> Holder
     requires own { tree_of holder ≡ tree.now.tree }
     requires rule { Answers (pre tree.now.rule.closure) (post tree.now.rule.closure) (end_ends_at tree.now.rule.plan) }
@@ -144,7 +144,7 @@ const UNTIL_EMPTY: [Row; 19] = [
     (2, Register(0, 1), Ended(-2147483646)),
 ];
 
-// An end by force, of which a member learns that has arrived, and one that hasn't.
+// An end by force. A member that has arrived learns of it, and one that hasn't.
 const BY_FORCE: [Row; 9] = [
     (0, Register(1, 1), Joined(0)),
     (1, Register(2, 1), Joined(0)),
