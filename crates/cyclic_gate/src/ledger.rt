@@ -74,7 +74,7 @@ impl Arrived {
     }
 }
 
-// Keeps the end of a generation if it ended while callers wait; `waiting` is how many.
+// Keeps the end of a generation if it ended while callers wait; `unread` is how many.
 fn keep(ends: &mut Vec<KeptEnd>, generation: u64, outcome: Outcome, unread: u32)
     requires { 0 < unread → vec_len ends.old < vec_capacity ends.old }
     ensures items { ends.new.items ≡ kept_after generation outcome unread ends.old.items }

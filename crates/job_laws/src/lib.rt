@@ -97,13 +97,13 @@ pub fn deliveries_name_their_spawns()
     ensures { DeliveriesNameTheirSpawns }
 {}
 
-/// Paths that don't rise are refused first. After them, the first put to no cell is, by its path and its place from 0.
+/// Paths that don't rise are refused first, and otherwise the first put to no cell, by its path and its place from 0.
 pub fn landings_are_refused_in_order()
     ensures { LandingsAreRefusedInOrder }
 {}
 
-/// A delivery of another step is refused as such, even if it is of another job. A delivery of another job is refused
-/// before a second one of the same path.
+/// A delivery of another step is refused as such, even if it is of another job; otherwise one of another job is, and
+/// otherwise a second one.
 pub fn deliveries_are_refused_in_order()
     ensures { DeliveriesAreRefusedInOrder }
 {}

@@ -26,8 +26,8 @@ pub fn next_steps_are_answered()
     ensures { NextStepsAreAnswered }
 {}
 
-/// The root advances in the phase of the superstep, which is its number. If none of its tasks faults, the members of
-/// the tree are then the parties of the superstep's record except those that left.
+/// The root advances in the phase of the superstep, which is its number, and if none of its tasks faults, the members
+/// of the tree are then the parties of the superstep's record except those that left.
 pub fn advances_are_counted()
     ensures { AdvancesAreCounted }
 {}

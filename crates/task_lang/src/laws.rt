@@ -47,7 +47,7 @@ pub fn stays_the_same_task()
     ensures { StaysTheSameTask }
 {}
 
-/// A task that synced goes on exactly where it was cut. Over the same arrays, and if its two segments don't fault, they
+/// A task that synced goes on exactly where it was cut: over the same arrays, and if its two segments don't fault, they
 /// do what its statements do without that sync, up to the next one.
 pub fn goes_on_where_it_was_cut()
     ensures { GoesOnWhereItWasCut }

@@ -24,9 +24,8 @@ pub fn lines_above_go_on()
     ensures { LinesAboveGoOn }
 {}
 
-/// A refusal is of a line that no job's text has after the lines above it, while those lines may be the beginning of a
-/// job. Or the whole text may be the beginning of a job. This leaves out refusals for the length, for a byte and for a
-/// missing header.
+/// A refusal, unless it is for the length, for a byte or for a missing header, is of a line that no job's text has
+/// after the lines above it, which may be the beginning of a job, or the whole text may be the beginning of a job.
 pub fn refusals_are_of_a_line_or_texts_go_on()
     ensures { RefusalsAreOfALineOrTextsGoOn }
 {}

@@ -79,8 +79,8 @@ pub fn settling_keeps_members()
     ensures { SettlingKeepsMembers }
 {}
 
-/// A token brings a tier into its phase only if the tier lags. The tier is the token's, if a member is to arrive, or
-/// the one that it climbs to.
+/// A token brings a tier into its phase only if the tier lags and is the token's tier, at which a member is to arrive,
+/// or the one that it climbs to.
 pub fn refreshes_are_next()
     ensures { RefreshesAreNext }
 {}

@@ -7,8 +7,8 @@ pub fn lines_say_what_is_asked()
     ensures { LinesSayWhatIsAsked }
 {}
 
-/// Each command of a phaser, of a tree and of a barrier whose numbers fit is written in one way, and reading that gives
-/// the command again. No other words are read as a command.
+/// Each command of a phaser, of a tree and of a barrier whose numbers fit is written in one way, which is read as that
+/// command, and no other words are read as a command.
 pub fn commands_are_spelled()
     ensures { CommandsAreSpelled }
 {}
