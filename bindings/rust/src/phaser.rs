@@ -128,7 +128,7 @@ impl Phaser {
         self.exchanged(|word, next, answer| sys::bsp_phaser_leave(word, 1, NEVER, next, answer))
     }
 
-    /// So many parties register. Answers the phase to which this applies, negative once the phaser has ended.
+    /// Registers `count` parties. Returns the phase to which this applies, negative once the phaser has ended.
     pub fn register(&self, count: i64) -> Result<i32, Refused> {
         self.exchanged(|word, next, answer| sys::bsp_phaser_register(word, count, next, answer))
     }

@@ -24,7 +24,7 @@ book fails barrier ends = record { fails = fails; barrier = barrier; ends = ends
 abbrev pub IsReached : Option ℕ → Machine → Type 0
 IsReached fails barrier = AfterSome barrier.parties fails (λ m. m ≡ barrier)
 
--- Where callers wait, the end of their generation has room in the memory of the list.
+-- If callers wait, the end of their generation has room in the memory of the list.
 abbrev pub HasRoom : Machine → ℕ → ℕ → Type 0
 HasRoom barrier len room = (length barrier.waiting == 0 || nat_lt len room) ≡ true
 

@@ -8,7 +8,7 @@ pub struct Shop {
     pub open: u32,
 }
 
-/// Who takes part.
+/// The parts that tasks play.
 #[derive(Clone, Copy)]
 pub enum Role {
     /// Lets customers in. The number is the state of a random sequence.

@@ -32,7 +32,7 @@ fn array_number(before: i64, cells: &[i64]) -> i64 {
     number
 }
 
-// A number by all cells of all arrays: other cells give another one, but for a rare chance.
+// A number by all cells of all arrays. Other cells give another number, except by a rare chance.
 fn number_of(arrays: &Arrays) -> i64 {
     let mut number = 0;
     for place in 0..arrays.len() {

@@ -64,7 +64,7 @@ pub record BringsAdvance (ends : Bool) (before after : Flat) : Type 0 where
   pub next : (flat_step (Advance ends) after).phase ≡ next_phase_of before.phase
   pub end : (flat_step (Advance ends) after).ended ≡ ends
 
--- Where the last member that hasn't arrived arrives or leaves, the advance comes.
+-- If the last member that hasn't arrived arrives or leaves, the advance comes.
 abbrev pub TheLastBringsTheAdvance : Type 0
 TheLastBringsTheAdvance =
     (f : Flat) (owner : ℕ) (ends : Bool) → f.ended ≡ false → unarrived f ≡ 1 → MayTake (Arrive owner) f

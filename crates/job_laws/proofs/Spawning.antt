@@ -1,4 +1,4 @@
--- Where a task may spawn.
+-- When a task may spawn.
 use Rattle.std.proofs.Common.{◌≡◌, ℕ, ◌+◌, ◌<◌, ◌≤◌, Bool, true, false, nat_le, length, ℤ, refl, arith}
 use Rattle.std.proofs.lemmas.Grind.{common_steps}
 use Rattle.task_lang.specs.declared.fault.Fault.TheVariants.{Spawns}

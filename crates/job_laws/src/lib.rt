@@ -46,8 +46,8 @@ pub fn faults_tell_the_first()
     ensures { FaultsTellTheFirst }
 {}
 
-/// What some jobs leave is written down and not said by a rule: a swap, a conflict in both orders, a spawn, a fault, a limit, a sum
-/// by all, sums that overflow, also under a put that would cover one, and such a sum beside a faulting task.
+/// What some jobs leave, worked out by hand: a swap, a conflict in both orders, a spawn, a fault, a limit, a sum by
+/// all, sums that overflow, also under a put that would cover one, and such a sum beside a faulting task.
 pub fn jobs_are_worked_out()
     ensures { JobsAreWorkedOut }
 {}
@@ -58,24 +58,24 @@ pub fn operators_are_arithmetic()
     ensures { OperatorsAreArithmetic }
 {}
 
-/// What each operator gives of some numbers, on both sides of 0 and at the ends, is written down and not said by a rule.
+/// What each operator gives for some numbers, on both sides of 0 and at the ends, worked out by hand.
 pub fn operators_are_worked_out()
     ensures { OperatorsAreWorkedOut }
 {}
 
-/// Where a task may spawn, and as what: with a path of fewer than 8 numbers, fewer than 8 spawns in the superstep and fewer than 65535
-/// in all; else it faults.
+/// When a task may spawn, and as what: with a path of fewer than 8 numbers, fewer than 8 spawns in the superstep and
+/// fewer than 65535 in all; else it faults.
 pub fn spawns_are_numbered()
     ensures { SpawnsAreNumbered }
 {}
 
-/// What some jobs with a fault leave, each with its number, and what jobs leave that just don't fault or just reach the limit, is
-/// written down and not said by a rule.
+/// What some jobs with a fault leave, each with its number, and what jobs leave that just don't fault or just reach the
+/// limit, worked out by hand.
 pub fn faults_are_worked_out()
     ensures { FaultsAreWorkedOut }
 {}
 
-/// What some tests and indices lead to is written down and not said by a rule: each number but 0 is a yes, also a negative one, and no
+/// What some tests and indices lead to, worked out by hand: each number but 0 is a yes, also a negative one, and no
 /// negative number is an index.
 pub fn tests_are_worked_out()
     ensures { TestsAreWorkedOut }
@@ -86,8 +86,7 @@ pub fn outcomes_tell_why()
     ensures { OutcomesTellWhy }
 {}
 
-/// How some supersteps end, written down without a rule: one for each outcome, and those to which two outcomes would
-/// apply.
+/// How some supersteps end, worked out by hand: one for each outcome, and those to which two outcomes would apply.
 pub fn outcomes_are_worked_out()
     ensures { OutcomesAreWorkedOut }
 {}
@@ -113,7 +112,7 @@ pub fn refusals_are_numbered()
     ensures { RefusalsAreNumbered }
 {}
 
-/// What logs in two runs leave, and why some don't land, is written down and not said by a rule.
+/// What logs in two runs leave, and why some don't land, worked out by hand.
 pub fn runs_are_landed_so()
     ensures { RunsAreLandedSo }
 {}

@@ -24,7 +24,7 @@ use std::alloc::{AllocError, Global};
 use task_code::job::{Job, MOST_BODIES};
 use text_lines::{Code, Refusal, bad_byte_line, first_word, split_line, split_word};
 
-// Returns true if a line names a body that isn't there, from its first word and the rest of the line.
+// Returns true if a line names a body that doesn't exist, from its first word and the rest of the line.
 fn is_missing(bodies: &[&[u8]], first: &[u8], rest: &[u8]) -> bool
     ensures { result ≡ spec.is_missing (lent bodies.now) (first.now ∷ words_of rest.now) }
 {
@@ -67,7 +67,7 @@ impl<'a> State<'a> {
         }
     }
 
-    // Notes the first line that names a body that isn't there.
+    // Notes the first line that names a body that doesn't exist.
     fn note_missing(&mut self, line: usize, missing: bool)
         ensures missing { self.new.missing ≡ spec.first_missing self.old.missing line missing }
         ensures inside { self.new.inside ≡ self.old.inside }
@@ -100,7 +100,7 @@ impl<'a> State<'a> {
         Ok(())
     }
 
-    // Returns the job, if no body is open and each body that is named is there.
+    // Returns the job, if no body is open and each body that is named exists.
     fn finished(self, line: usize) -> Result<Job, ReadJobFault>
         requires { HasEnd line self }
         ensures { (a : Above) → IsAt a self.entry → Gives job_tree result (spec.finished line a a.inside a.missing) }
@@ -176,10 +176,10 @@ fn split_header(text: &[u8]) -> Result<(u32, usize, &[u8]), Refusal>
     Err(Refusal { line, code })
 }
 
-/// Reads a text as a job, or returns its first refusal. The order is: `TooLong` above 1048576 bytes; the first byte that
-/// isn't allowed; the first line that is refused, by its first fault in the order of `job_words::faults`; `Unclosed` if
-/// the text ends in a body; the first line that names a body that isn't there. Checks the length, the bytes and the header
-/// before it allocates.
+/// Reads a text as a job, or returns its first refusal. The order is: `TooLong` above 1048576 bytes; the first byte
+/// that isn't allowed; the first line that is refused, by its first fault in the order of `job_words::faults`;
+/// `Unclosed` if the text ends in a body; the first line that names a body that doesn't exist. Checks the length, the
+/// bytes and the header before it allocates.
 ///
 /// ```
 /// let text = b"bsp 1\narray a 1\nbody b\nput a[0] = 7\nend\nstart b 0\n";

@@ -5,7 +5,7 @@ ghost use Rattle.std.specs.Option.{ForSome};
 use crate::inside::OpenBody;
 use crate::so_far::SoFar;
 
-/// The job so far, the open body, and the first line that names a body that isn't there.
+/// The job so far, the open body, and the first line that names a body that doesn't exist.
 #[derive(Drop)]
 pub(crate) struct State<'a> {
     pub so_far: SoFar<'a>,

@@ -1,4 +1,4 @@
--- Behind the end of a job nothing is answered but the end of its tree, after a fault.
+-- After the end of a job nothing is answered but the end of its tree, after a fault.
 use Rattle.std.proofs.Common.{◌≡◌, ℕ, zero, suc, ◌<◌, ◌⊎◌, inl, inr, ⊎_elim, Bool, true, false, List, [], ◌∷◌, length, refl, sym, ap, subst, arith, ◌∙◌, Some, None, Option}
 use Rattle.std.specs.Prelude.{if◌then◌else◌, ◌==◌, ◌&&◌, nat_lt, is_some}
 use Rattle.std.proofs.lemmas.Bool.{ltb-true, lt-ltb, eqb-true}
@@ -75,7 +75,7 @@ pub force_done : (w : World) (worker closer token : ℕ) → CanEnd w closer tok
 force_done w worker closer token can =
     ap (ended_by w (after (after w.tree (Begin token call.Force)) (Go token))) (force_told w closer token can)
 
--- Behind the end.
+-- After the end.
 
 over_step : (w : World) (x : JobStep) → w.mode ≡ mode.Over → step_of w x ≡ (NotNow, w)
 over_step w x e = ap (if_asked w x) (ap (λ (m : Mode). if nat_lt (worker_of x) 64 then by_mode w (worker_of x) m else None) e ∙ by (nat_lt (worker_of x) 64))

@@ -46,7 +46,8 @@ RoundsAreClosedOnce =
     × ((report : ReportValue) → answer_of (reached (initial_world p parents limit) xs) x ≡ Finished report
     → IsFinishing (reached (initial_world p parents limit) xs) x)
 
--- Behind the end each step answers NotNow, but one: after a fault the closer's first step in the tree answers the tree's end.
+-- After the end each step answers NotNow, but one: after a fault the closer's first step in the tree answers the tree's
+-- end.
 abbrev pub is_tree_step : ℕ → JobStep → Bool
 is_tree_step closer (TreeStep worker) = worker == closer
 is_tree_step _ _ = false

@@ -11,7 +11,7 @@ use crate::words::{is_word, place, take_word};
 use std::alloc::AllocError;
 use text_lines::begins_number;
 
-// Notes a local: adds it at the end, unless it is there.
+// Notes a local: adds it at the end, unless it is in the list.
 #[tactic(auto, using(crate::proofs::NotedLemmas::note_steps))]
 fn note<'a>(locals: &mut Vec<&'a [u8]>, word: &'a [u8]) -> Result<(), AllocError>
     ensures noted { OnOk result (lent locals.new.items ≡ words.noted (lent locals.old.items) (word.entry.now ∷ [])) }

@@ -108,13 +108,13 @@ BeginningsKeepTheCast =
     → (may_begin s token c ≡ true) × IsCast (after s (Begin token c)) (slice_set roles token next)
     × ((flat_of (after s (Begin token c))).phase ≡ (flat_of s).phase)
 
--- Where a member is awaited nobody leads.
+-- If a member is awaited nobody leads.
 abbrev pub NobodyLeads : Type 0
 NobodyLeads =
     (s : State) (roles : List Role) (token other : ℕ) → IsCast s roles → token < length s.views → other < length s.views
     → is_awaited (role_at roles token) ≡ true → is_leading (role_at roles other) ≡ false
 
--- Where one token leads no other climbs, or leads.
+-- If one token leads no other climbs, or leads.
 abbrev pub LeadersAreAlone : Type 0
 LeadersAreAlone =
     (s : State) (roles : List Role) (token other home : ℕ) (passage : Passage) → IsCast s roles → token < length s.views → other < length s.views
@@ -165,8 +165,8 @@ MembersAreInRoles = (s : State) (roles : List Role) → IsCast s roles → regis
 abbrev pub NewTokensAreOut : Type 0
 NewTokensAreOut = (s : State) (roles : List Role) → IsCast s roles → IsCast (with_token s) (roles ++ Out ∷ [])
 
--- Where a token's member is awaited at a tier that is in the root's phase, a join there by a token that has looked is done at once, if
--- there is room.
+-- If a token's member is awaited at a tier that is in the root's phase, a join there by a token that has looked is done
+-- at once, if there is room.
 pub record IsAdmittedAt (s : State) (roles : List Role) (token home : ℕ) : Type 0 where
   pub answer : answer_then s token ≡ Done (flat_of s).phase
   pub cast : IsCast (after s (Go token)) (slice_set roles token (Ready home))

@@ -3,12 +3,12 @@
 
 ghost use Rattle.schedule_laws.specs.Cast.{NobodyLeads, LeadersAreAlone, MembersAreInRoles, StepsKeepTheCast, BeginningsKeepTheCast, AdvancesTurnTheCast, NewTokensAreOut, HomesAdmit};
 
-/// Where a member is awaited no token has to advance the root.
+/// If a member is awaited no token has to advance the root.
 pub fn nobody_leads()
     ensures { NobodyLeads }
 {}
 
-/// Where a token has to advance the root no other climbs, or has to advance it.
+/// If a token has to advance the root no other climbs, or has to advance it.
 pub fn leaders_are_alone()
     ensures { LeadersAreAlone }
 {}
@@ -34,7 +34,7 @@ pub fn advances_turn_the_cast()
     ensures { AdvancesTurnTheCast }
 {}
 
-/// A token that comes in has no member.
+/// A new token has no member.
 pub fn new_tokens_are_out()
     ensures { NewTokensAreOut }
 {}

@@ -26,8 +26,8 @@ pub fn count_living(slots: &Slots<'_>) -> usize
     count
 }
 
-// The next live tasks are collected with the last by path first. Tasks come from the last slot to the first, so
-// that each passes only those that its path begins. They are moved, into room that is there.
+// The next live tasks are collected with the last by path first. Tasks come from the last slot to the first, so that
+// each passes only those that its path begins. They are moved into existing room.
 
 // The place for a task of this path.
 fn place_for(living: &[Task], path: &[u16]) -> usize

@@ -15,7 +15,7 @@ use std::sync::Arc;
 use superstep_memory::arrays::Arrays;
 use superstep_memory::path::is_before;
 
-// Where a task of this path is, if paths rise.
+// The place of a task of this path, if paths rise.
 fn guess(slots: &Slots<'_>, path: &[u16]) -> usize {
     let mut low = 0;
     let mut high = slots.len();

@@ -158,7 +158,7 @@ impl Arrays {
         }
     }
 
-    /// Whether a put is to a cell that is there.
+    /// Whether the cell of a put exists.
     pub fn has_cell(&self, put: Put) -> bool
         ensures { result ≡ is_cell self.now put }
     {

@@ -67,7 +67,7 @@ fn is_row_in(arrays: &Arrays, array: u16, first: u32, count: usize) -> bool
     }
 }
 
-// Whether a lot is to cells that are there.
+// Whether the cells of a lot exist.
 fn is_lot_in(arrays: &Arrays, lot: Lot, rows: &[Row]) -> bool
     ensures { result ≡ list_all (is_cell arrays.now) (puts_of lot rows.now) }
 {
@@ -94,7 +94,7 @@ fn after_lot<'a>(lot: Lot, rows: &'a [Row]) -> &'a [Row]
     }
 }
 
-/// Whether each of these is to cells that are there.
+/// Whether the cells of each of these exist.
 pub(crate) fn are_all_in(arrays: &Arrays, lots: &[Lot], rows: &[Row]) -> bool
     ensures { result ≡ list_all (is_cell arrays.now) (puts_in lots.now rows.now) }
 {

@@ -218,18 +218,19 @@ impl Puts {
         Ok(())
     }
 
-    /// Whether each put is to a cell that is there.
+    /// Whether the cell of each put exists.
     pub fn are_in(&self, arrays: &Arrays) -> bool
         ensures { result ≡ list_all (is_cell arrays.now) self.now }
     {
         are_all_in(arrays, &self.lots, &self.rows)
     }
 
-    /// Lands the puts, one after another: each in turn sets its cell, or adds to what it holds. Or returns the place, from 0,
-    /// of the first put whose sum is outside of 64 signed bits, and changes nothing. A put to no cell is left out.
+    /// Lands the puts, one after another: each in turn sets its cell, or adds to what it holds. If a sum is outside of
+    /// 64 signed bits, returns the place, from 0, of the first such put, and changes nothing. A put to no cell is left
+    /// out.
     ///
-    /// Only if a put adds it takes memory: `olds` is working space for what cells held before, which a caller may keep for the
-    /// next landing. What it holds means nothing.
+    /// It takes memory only if a put adds. `olds` is working space for what cells held before; a caller may keep it for
+    /// the next landing. Its content has no meaning.
     pub fn land(
         &self,
         arrays: &mut Arrays,

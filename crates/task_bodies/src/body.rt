@@ -75,8 +75,8 @@ impl<K: Drop> Out<K> {
         })
     }
 
-    /// Adds to a cell. If there is no such cell, the run ends with fault 3; if a sum doesn't fit 64 signed bits, with fault 8.
-    /// Bits of an `f64` can't be added so.
+    /// Adds to a cell. If there is no such cell, the run ends with fault 3; if a sum doesn't fit 64 signed bits, with
+    /// fault 8. Bits of an `f64` can't be added like this.
     #[inline(always)]
     pub fn add(&mut self, array: u16, index: u32, value: i64) -> Result<(), AllocError>
         ensures done { OnOk result (self.new ≡ record self.old { puts = self.old.puts ++ record { array = array; index = index; kind = PutKinds.Add; value = value } ∷ [] }) }
@@ -90,8 +90,8 @@ impl<K: Drop> Out<K> {
         })
     }
 
-    /// Sets cells side by side, beginning with the cell `first`. If one isn't there, the run ends with fault 3. A row costs less
-    /// than single puts: 8 bytes a cell, and one look at the array.
+    /// Sets adjacent cells, beginning with the cell `first`. If one doesn't exist, the run ends with fault 3. A row
+    /// costs less than single puts: 8 bytes a cell, and one look at the array.
     #[inline(always)]
     pub fn put_row(&mut self, array: u16, first: u32, values: Vec<i64>) -> Result<(), AllocError>
         ensures done { OnOk result (self.new ≡ record self.old { puts = self.old.puts ++ row_puts array first values.items }) }

@@ -121,7 +121,7 @@ fn window_of(left: Column, middle: Column, right: Column) -> Window
     }
 }
 
-// So many cells from this place on, or those that are there.
+// Returns `width` cells from this place on, or as many as exist.
 fn cells_from(cells: &[i64], place: usize, width: usize) -> &[i64]
     ensures { result.now ≡ take width (drop place cells.now) }
 {

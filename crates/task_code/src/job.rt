@@ -215,11 +215,11 @@ fn is_job(format: u32, arrays: &Arrays, bodies: &Vec<Body>, starts: &Vec<Start>)
 }
 
 impl Job {
-    /// Makes a job of this format, 1 or 2, with these arrays, bodies and start lines. Returns `None` if there is no such
-    /// format; if in format 1 a line is an add, or the locals of a body aren't in the order of first mention; if a name
-    /// isn't one, or two bodies share a name; if an array has no cell or over 4096; if a line names an array or a body that
-    /// isn't there, or a start line no body; and above [`MOST_ARRAYS`] arrays, [`MOST_BODIES`] bodies and [`MOST_TASKS`]
-    /// start lines (all own).
+    /// Makes a job of this format, 1 or 2, with these arrays, bodies and start lines. Returns `None` if there is no
+    /// such format; if in format 1 a line is an add, or the locals of a body aren't in the order of first mention; if a
+    /// name isn't one, or two bodies share a name; if an array has no cell or over 4096; if a line names an array or a
+    /// body that doesn't exist, or a start line no body; and above [`MOST_ARRAYS`] arrays, [`MOST_BODIES`] bodies and
+    /// [`MOST_TASKS`] start lines (all own).
     pub fn new(format: u32, arrays: Arrays, bodies: Vec<Body>, starts: Vec<Start>) -> Option<Job>
         ensures refused { IsSome result ↔ IsJob (job_value format arrays bodies starts) }
         ensures made { IfSome result (λ job. job ≡ job_value format arrays bodies starts) }

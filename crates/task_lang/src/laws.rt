@@ -32,7 +32,7 @@ pub fn stays_within_its_budget()
     ensures { StaysWithinItsBudget }
 {}
 
-/// A segment puts only into cells that are there.
+/// A segment puts only into cells that exist.
 pub fn puts_into_cells()
     ensures { PutsIntoCells }
 {}

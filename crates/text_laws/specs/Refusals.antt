@@ -28,7 +28,7 @@ pub record IsRefusedOfALine (text : List ℕ) (r : Refusal) : Type 0 where
 abbrev pub BeginAlike : ℕ → List ℕ → List ℕ → Type 0
 BeginAlike n text other = take n (lines_of text) ≡ take n (lines_of other)
 
--- Where a text is refused of a line, no text that has the same lines up to it is a job's.
+-- If a text is refused at a line, no text that has the same lines up to it is a job's.
 abbrev pub RefusalsHoldForAllThatFollows : Type 0
 RefusalsHoldForAllThatFollows =
     (text other : List ℕ) (r : Refusal) → IsRefusedOfALine text r → BeginAlike r.line text other → (j : JobTree) → IsTextOfJob j other → ⊥

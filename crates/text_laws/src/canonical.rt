@@ -6,7 +6,7 @@ pub fn canonical_texts_are_texts()
     ensures { CanonicalTextsAreTexts }
 {}
 
-/// What a text is read as is a job: it keeps all limits, and what its lines name is there.
+/// What a text is read as is a job: it keeps all limits, and what its lines name exists.
 pub fn read_jobs_are_jobs()
     ensures { ReadJobsAreJobs }
 {}

@@ -9,8 +9,8 @@ ghost use Rattle.text_laws.specs.Laws.{
 };
 ghost use Rattle.text_laws.specs.Worked.{TextsAreWorkedOut};
 
-/// A text of a job, which is short, has allowed bytes only, and whose lines that aren't skipped are the job's as they
-/// are written, is read as that job.
+/// A text of a job is read as that job, if it is short, has allowed bytes only, and its lines that aren't skipped are
+/// the job's as they are written.
 pub fn texts_of_jobs_are_read()
     ensures { TextsOfJobsAreRead }
 {}
@@ -40,8 +40,7 @@ pub fn writing_twice_is_writing_once()
     ensures { WritingTwiceIsWritingOnce }
 {}
 
-/// What a text with each statement is read as, and written as again, is written down and not said by a rule; so are two
-/// refusals.
+/// What a text with each statement is read as, and written as again, and two refusals, worked out by hand.
 pub fn texts_are_worked_out()
     ensures { TextsAreWorkedOut }
 {}

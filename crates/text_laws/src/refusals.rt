@@ -1,18 +1,18 @@
 //! Laws on refusals. Each function does nothing: its contract is the law.
 ghost use Rattle.text_laws.specs.Refusals.{RefusalsHoldForAllThatFollows, PlainTextsAreRefusedAlike, LinesAboveAreRead, LinesAboveGoOn, RefusalsAreOfALineOrTextsGoOn};
 
-/// Where a text is refused of one of its lines, no text that has the same lines up to it is a text of a job.
+/// If a text is refused at one of its lines, no text that has the same lines up to it is a text of a job.
 pub fn refusals_hold_for_all_that_follows()
     ensures { RefusalsHoldForAllThatFollows }
 {}
 
-/// Where a text is refused of one of its lines, each text that has the same lines up to it, isn't too long and has
-/// allowed bytes only is refused of that line by the same code.
+/// If a text is refused at one of its lines, each text that has the same lines up to it, isn't too long and has allowed
+/// bytes only is refused at that line by the same code.
 pub fn plain_texts_are_refused_alike()
     ensures { PlainTextsAreRefusedAlike }
 {}
 
-/// Where a text of allowed bytes is refused of one of its lines, no text that has the same lines above it is refused of
+/// If a text of allowed bytes is refused at one of its lines, no text that has the same lines above it is refused at
 /// one of those.
 pub fn lines_above_are_read()
     ensures { LinesAboveAreRead }

@@ -14,7 +14,7 @@ pub fn upgrading_twice_is_upgrading_once()
 {}
 
 /// What texts of format 2 are read as and written as again, what a job of format 1 is upgraded to, and refusals that
-/// distinguish the formats, all written down without a rule.
+/// distinguish the formats, worked out by hand.
 pub fn second_format_is_worked_out()
     ensures { SecondFormatIsWorkedOut }
 {}

@@ -18,7 +18,7 @@ pub fn names_are_told()
     ensures { NamesAreTold }
 {}
 
-/// Why some lines are refused that have a word which is no name is written down and not said by a rule.
+/// Why some lines are refused that have a word which is no name, worked out by hand.
 pub fn names_are_worked_out()
     ensures { NamesAreWorkedOut }
 {}
@@ -33,7 +33,7 @@ pub fn codes_are_numbered()
     ensures { CodesAreNumbered }
 {}
 
-/// Which fault counts of lines that have several, and of texts in which bodies are missing, is written down and not said by a rule.
+/// Which fault of a line with several counts, and which of a text in which bodies are missing, worked out by hand.
 pub fn refusals_are_worked_out()
     ensures { RefusalsAreWorkedOut }
 {}

@@ -31,7 +31,8 @@ fn is_text_of(n: i64, word: &[u8]) -> bool
     Buffer::new().format(n).as_bytes() == word
 }
 
-/// Returns true if the word begins with a digit or a minus. Where a number or a name may be, it is then meant as a number.
+/// Returns true if the word begins with a digit or a minus. If both a number and a name are allowed, it is then meant
+/// as a number.
 pub fn begins_number(word: &[u8]) -> bool
     ensures { result ≡ spec.begins_number word.now }
 {

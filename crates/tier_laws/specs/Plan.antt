@@ -35,7 +35,7 @@ pub record IsLastStep (s : State) (token : ℕ) : Type 0 where
 abbrev pub TheLastOneAdvances : Type 0
 TheLastOneAdvances = (s : State) (token : ℕ) → IsCore s → (flat_of s).ended ≡ false → may_finish s token ≡ true → IsLastStep s token
 
--- Where no token has an errand nothing is due.
+-- If no token has an errand nothing is due.
 abbrev pub QuietTreesWait : Type 0
 QuietTreesWait = (s : State) → AllByRecursion (λ v. v.errand ≡ Rest) s.views → (flat_of s).due ≡ false
 

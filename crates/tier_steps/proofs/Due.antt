@@ -1,4 +1,4 @@
--- Where everyone has arrived and nobody climbs, no tier counts an unarrived party.
+-- If everyone has arrived and nobody climbs, no tier counts an unarrived party.
 use Rattle.std.proofs.Common.{◌≡◌, ◌≢◌, ℕ, zero, suc, ◌+◌, ◌<◌, ◌≤◌, ⊎_elim, Bool, true, false, cond, eqb, List, [], ◌∷◌, ◌++◌, length, get_or, refl, sym, ◌∙◌, ap, arith}
 use Rattle.std.specs.Prelude.{sum_by, ◌&&◌}
 use Rattle.std.specs.List.{AllByRecursion}
@@ -99,7 +99,7 @@ still_by ps p u v (Opening tier claimed Joined size) c ok h = absurd
 still_by ps p u v (Opening tier claimed Seeking size) c ok h = refl
 still_by ps p u v (Opening tier claimed GoingBack size) c ok h = refl
 
--- Where everyone has arrived and nobody climbs or advances, no tier counts an unarrived party.
+-- If everyone has arrived and nobody climbs or advances, no tier counts an unarrived party.
 pub all_still : (ps : List ℕ) (ws : List Fields) (vs : List View) → IsShape ps → Tallies ps ws vs → (word_at ws 0).ended ≡ false
     → everyone_arrived (root_phase ws) (all_members 0 vs) ≡ true → some_climbing vs ≡ false
     → (t : ℕ) → t < length ws → late (root_phase ws) (word_at ws t) ≡ 0

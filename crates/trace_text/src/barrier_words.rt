@@ -109,7 +109,7 @@ fn generation(word: &[u8]) -> Option<u64>
     u64::try_from(n).ok()
 }
 
-// Reads a generation, if the word is there.
+// Reads a generation, if there is a word.
 fn generation_if(word: Option<&[u8]>) -> Option<Option<u64>>
     ensures { result ≡ spec.generation_if (option_copied word.entry) }
 {

@@ -25,7 +25,7 @@ fn is_token(core: &Core, token: u32) -> bool
     (token as usize) < core.tokens()
 }
 
-// The machine's call, if its tier is there.
+// The machine's call, if its tier exists.
 fn call_of(core: &Core, call: TokenCall) -> Option<Call>
     ensures { result ≡ (if spec.has_tier core.now call then Some (spec.call_of call) else None) }
 {

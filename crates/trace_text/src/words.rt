@@ -212,7 +212,7 @@ pub(crate) fn number_or(most: u32, default: u32, word: Option<&[u8]>) -> Option<
     }
 }
 
-// Reads a number from 0 to `most`, if the word is there.
+// Reads a number from 0 to `most`, if there is a word.
 pub(crate) fn number_if(most: u32, word: Option<&[u8]>) -> Option<Option<u32>>
     ensures { result ≡ spec.number_if most (option_copied word.entry) }
 {

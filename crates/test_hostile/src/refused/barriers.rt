@@ -131,7 +131,7 @@ fn both_come<R: Threads + Wait + Sync, F: Fn(u64) -> bool + Sync>(
     )
 }
 
-// Who waits isn't lost if the last to come finds no memory: both go on, and get different indices.
+// If the last to come finds no memory, those who wait aren't lost: both go on, and get different indices.
 #[test]
 fn one_waits_at_a_gate(rt: HostRuntime) -> Result<(), Fail> {
     let action = StoredAction::new(|_generation: u64| false, None);

@@ -63,7 +63,7 @@ fn two_runs(alloc: Global) -> Result<Vec<Run>, AllocError> {
     Ok(vec![in alloc; entries(alloc)?, last]?)
 }
 
-// Whether a call landed. Where it did not, it found no memory and left the cells as they were.
+// Whether a call landed. If it did not, it found no memory and left the cells as they were.
 fn has_landed(rt: &impl Abort, arrays: &Arrays, landed: &Result<(), LandFault>) -> bool {
     match landed {
         Ok(()) => true,

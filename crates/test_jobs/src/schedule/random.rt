@@ -47,7 +47,7 @@ fn text_of(alloc: Global, starts: usize, number: u32) -> Result<String, AllocErr
     Ok(text)
 }
 
-// Of which kinds random steps are, most often a tree's.
+// The kinds of random steps, most often a tree's.
 const KINDS: [usize; 10] = [0, 1, 3, 4, 2, 2, 2, 2, 2, 2];
 
 // What each worker tries in its turn.

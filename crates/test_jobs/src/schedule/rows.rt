@@ -7,7 +7,7 @@ use std::process::Abort;
 use task_code::job::Job;
 use tier_core::call::Played;
 
-// An answer, without what it carries but for the tree's.
+// An answer, without what it carries except for the tree's.
 #[derive(Clone, Copy, PartialEq, Eq)]
 enum Seen {
     Took(usize),

@@ -25,7 +25,7 @@ pub(crate) enum Move {
     Count,
     // What it is, beside the other job.
     Says,
-    // A superstep whose deliveries come in such an order.
+    // A superstep whose deliveries come in this order.
     Superstep(usize, bool),
     // Whether it leaves what one thread leaves.
     Alone,
@@ -54,7 +54,7 @@ fn answer_to<'j>(
     }
 }
 
-// Whether calls made one after another are answered so.
+// Whether calls made one after another get these answers.
 fn plays_so<'j>(
     alloc: Global,
     round: &mut Round<'j>,

@@ -106,7 +106,7 @@ fn rounds_answer_as_the_rows_say(rt: HostRuntime) {
     }
 }
 
-// Three supersteps whose deliveries come in such an order leave what one thread leaves.
+// Three supersteps whose deliveries come in any of these orders leave what one thread leaves.
 #[test]
 fn deliveries_come_in_any_order(rt: HostRuntime) {
     for turn in 0..6 {

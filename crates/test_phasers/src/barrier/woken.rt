@@ -53,7 +53,7 @@ fn gives_time(count: &AtomicU32, want: u32, most: u32) {
     }
 }
 
-// Ends the wait of three by one call. Where it came too early for some, breaks the gate until they are gone.
+// Ends the wait of three by one call. If it came too early for some, breaks the gate until they are gone.
 fn ends<R: Wait, F: Fn(u64) -> bool>(
     rt: &R,
     gate: &CyclicGate<F>,

@@ -76,7 +76,7 @@ fn turn(rt: &impl Abort, tree: &Tree<Rule>, holder: Holder, ask: Ask, tries: u32
     (holder, led)
 }
 
-// So many random calls of a token; and how many advances it took.
+// Makes a number of random calls of a token. Returns also how many advances it took.
 fn turns(
     rt: &impl Abort,
     tree: &Tree<Rule>,
@@ -171,7 +171,7 @@ fn all_play<R: Threads + Abort + Sync>(
     played.expect(rt, "memory")
 }
 
-// So many players, split off a token.
+// A number of players, split off a token.
 #[tactic(auto, using(crate::proofs::Held::all_pushed))]
 fn players(
     rt: &impl Abort,
