@@ -17,7 +17,7 @@ pub record Inside : Type 0 where
   pub block : Block
   pub statements : ℕ
 
--- the job so far, the open body, and the first line that names a body that isn't there
+-- the job so far, the open body, and the first line that names a body that doesn't exist
 pub record Above : Type 0 where
   pub job : JobTree
   pub inside : Option Inside

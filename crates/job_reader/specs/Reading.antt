@@ -176,7 +176,7 @@ any_line bodies j i [] = Err UnknownLine
 any_line bodies j (Some o) (k ∷ ws) = inner_line bodies j o (known_in j.format (keyword_of k)) ws
 any_line bodies j None (k ∷ ws) = outer_line bodies j (outer_of k) ws
 
--- whether a line names a body that isn't there
+-- whether a line names a body that doesn't exist
 abbrev pub is_missing : List Word → Words → Bool
 is_missing bodies (k ∷ b ∷ ws) = (bytes_eq k (codes "spawn") || bytes_eq k (codes "start")) && not (is_among bodies b)
 is_missing bodies _ = false
@@ -194,7 +194,7 @@ line_step bodies line a ws =
 abbrev pub kept_step : List Word → ℕ → Above → Words → Result Above Code
 kept_step bodies line a ws = if is_skipped ws then Ok a else line_step bodies line a ws
 
--- no body is open, and each that is named is there
+-- no body is open, and each that is named exists
 abbrev pub finished : ℕ → Above → Option Inside → Option ℕ → Result JobTree Refusal
 finished line a (Some o) missing = refused line Unclosed
 finished line a None (Some n) = refused n UnknownName

@@ -46,7 +46,7 @@ pub record World : Type 0 where
   pub free : List ℕ
   pub mode : Mode
 
--- One start task more: its token comes in, and joins the leaf of its number, in at most 16 steps.
+-- One start task more: its token is added, and joins the leaf of its number, in at most 16 steps.
 abbrev pub gone : ℕ → ℕ → Tree → Tree
 gone zero token tree = tree
 gone (suc n) token tree = gone n token (after tree (Go token))

@@ -182,6 +182,6 @@ line_names n m (line.If e j) = is_expr n e
 line_names n m (line.While e j) = is_expr n e
 line_names n m _ = true
 
--- the arrays, bodies and locals that a line names are there
+-- the arrays, bodies and locals that a line names exist
 abbrev pub line_fits : Names → Line → Bool
 line_fits s l = line_names (length s.arrays) (length s.bodies) l && list_all (λ i. nat_lt i (length s.locals)) (in_line l)

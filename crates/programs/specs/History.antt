@@ -77,7 +77,8 @@ module _ {T : Type 0} where
   abbrev pub OfState : (ℕ → List (List ℕ × List ℤ) → ℕ → Type 0) → State T → Type 0
   OfState seen st = seen st.step st.arrays (length st.live)
 
-  -- Who looks on let each superstep of a run begin. The run was taken to this limit, or who looks on stopped it before. Then it is the run to that earlier limit.
+  -- The watcher let each superstep of a run begin. The run was taken to this limit, or the watcher stopped it before.
+  -- Then it is the run to that earlier limit.
   pub record HasRunTo (stops goes : ℕ → List (List ℕ × List ℤ) → ℕ → Type 0) (f : Frame T) (may : T → List (List ℕ × List ℤ) → ℕ → Segment T → Type 0) (most : ℕ) (arrays : List (List ℕ × List ℤ)) (tasks : List T) (limit : ℕ) (outcome : ReportValue) (living : List T) : Type 0 where
     pub taken : ℕ
     pub within : taken ≤ limit

@@ -11,8 +11,8 @@ pub record HasAdded {S T : Type 0} (f : S → T) (old new : Work S) (g : Segment
   pub prints : new.prints.items ≡ g.prints
   pub spawns : map f new.spawns.items ≡ g.spawns
 
--- This task's segment ended so, and left this in the buffers and in the task. After a fault what the buffers hold, and the task
--- but for its path, means nothing.
+-- This task's segment ended so, and left this in the buffers and in the task. After a fault the content of the buffers
+-- has no meaning, nor has the task except for its path.
 abbrev pub IsLeft : {S T : Type 0} → (S → T) → (S → List ℕ) → Ending → S → S → Work S → Work S → Segment T → Type 0
 IsLeft f path (ending.Fails code) t u old new g = (g.after ≡ Faulted code) × (path u ≡ path t)
 IsLeft f path ending.Stops t u old new g = HasAdded f old new g × (g.after ≡ Stopped) × (path u ≡ path t)

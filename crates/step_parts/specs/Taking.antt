@@ -25,7 +25,7 @@ abbrev pub is_done : Option SlotValue → Bool
 is_done None = false
 is_done (Some s) = is_some s.done
 
--- its order is one of this round, but for the step
+-- its order is one of this round, except for the step
 abbrev pub IsOrdered : RoundValue → DeliveryValue → Type 0
 IsOrdered r d = (d.job ≡ r.job) × IsFor d.path (slice_get r.slots d.place)
 

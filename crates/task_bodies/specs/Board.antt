@@ -66,7 +66,7 @@ pub record IsGridded (gives : Window → ℤ → Type 0) (array width : ℕ) (be
   pub spawns : o.spawns ≡ []
   pub ending : o.ending ≡ ends_in last step
 
--- such rows if all these are there, else the fault 16
+-- such rows if all these exist, else the fault 16
 pub record GridMay (gives : Window → ℤ → Type 0) (array width : ℕ) (beyond : ℤ) (last : ℕ) (arrays : List (List ℕ × List ℤ)) (step : ℕ) (k : BoardRows) (o : Left BoardRows) : Type 0 where
   pub there : are_rows (length (cells_in (slice_get arrays array))) width k ≡ true → IsGridded gives array width beyond last (cells_in (slice_get arrays array)) step k o
   pub not_there : are_rows (length (cells_in (slice_get arrays array))) width k ≡ false → o.ending ≡ Fails 16

@@ -26,7 +26,7 @@ pub record IsStencilled (gives : ℤ → ℤ → ℤ → ℤ → Type 0) (array 
   pub spawns : o.spawns ≡ []
   pub ending : o.ending ≡ ends_in last step
 
--- all cells of a span and their neighbours are there
+-- all cells of a span and their neighbours exist
 abbrev pub is_there : List ℤ → Span → Bool
 is_there cells k = nat_le k.before k.end && nat_le (k.end + 2) (length cells)
 

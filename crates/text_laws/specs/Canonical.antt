@@ -11,6 +11,6 @@ abbrev pub CanonicalTextsAreTexts : Type 0
 CanonicalTextsAreTexts =
     (j : JobTree) → IsJobTree j → (bad_byte_line 1 (canonical_text j) ≡ None) × IsTextOf j (kept (lines_of (canonical_text j)))
 
--- What a text is read as is a job: it keeps all limits, and what its lines name is there.
+-- What a text is read as is a job: it keeps all limits, and what its lines name exists.
 abbrev pub ReadJobsAreJobs : Type 0
 ReadJobsAreJobs = (text : List ℕ) (j : JobTree) → job_in text ≡ Ok j → IsJobTree j

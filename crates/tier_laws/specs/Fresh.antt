@@ -52,7 +52,7 @@ JoinsAreDoneAlone =
     → tier < length s.parents → 0 < size → sum_by (λ v. v.size) s.views + size + length s.parents ≤ 65535
     → IsJoined s (run_of (join_alone token tier size) s) token tier size (moments token (join_alone token tier size) s (flat_of s) [])
 
--- A new tree is fresh, and stays so when a token comes in.
+-- A new tree is fresh, and stays so when a token is added.
 abbrev pub NewTreesAreFresh : Type 0
 NewTreesAreFresh = (parents : List ℕ) (phase : ℕ) (plan : EndPlan) → IsShape parents → IsFresh (opened parents phase plan)
 

@@ -50,8 +50,8 @@ abbrev pub run_of : List Event → State → State
 run_of [] s = s
 run_of (event ∷ events) s = run_of events (state_then s event)
 
--- The moments of a run before those that are given, the latest first, beside a flat phaser that takes the labels of all steps; a token that
--- comes in has none.
+-- The moments of a run before those that are given, the latest first, beside a flat phaser that takes the labels of all
+-- steps. A token that is added has none.
 abbrev pub moments : ℕ → List Event → State → Flat → List Moment → List Moment
 moments token [] s f past = past
 moments token (Takes step ∷ events) s f past =

@@ -1,4 +1,4 @@
--- Tokens that come in (own).
+-- Tokens that are added (own).
 use Rattle.std.specs.Prelude.{◌≡◌, ◌↔◌, ℕ, ◌+◌, ◌<◌, length}
 use Rattle.tier_steps.specs.View.{new_view}
 use Rattle.tier_core.specs.declared.call.Progress.TheVariants.{Idle}
@@ -6,7 +6,7 @@ use Rattle.tier_core.specs.Machine.{State, IsCore, view_at, call_at, with_token}
 use Rattle.tier_laws.specs.Frame.{flat_of}
 use Rattle.tier_laws.specs.Hold.{IsAwaited}
 
--- A token that comes in has no members and is in no call, and nothing else is otherwise than before.
+-- A token that is added has no members and is in no call, and nothing else changes.
 pub record HasEntered (old new : State) : Type 0 where
   pub core : IsCore new
   pub tokens : length new.views ≡ length old.views + 1

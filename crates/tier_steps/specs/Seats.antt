@@ -1,4 +1,5 @@
--- Seats that hold lists of views: a step by a seat with one view is a flat step, two seats may be joined, and a new one may come in (own).
+-- Seats that hold lists of views: a step by a seat with one view is a flat step, two seats may be joined, and a new one
+-- may be added (own).
 use Rattle.std.specs.Prelude.{◌≡◌, ℕ, ◌<◌, Bool, Option, List, [], ◌∷◌, ◌++◌, length, count_by}
 use Rattle.flat_phaser.specs.Flat.{Flat}
 use Rattle.tier_steps.specs.Word.{Fields}
@@ -29,7 +30,7 @@ JoinedSeatsTally =
     → Tallies parents words (seated_views (front ++ x ∷ (middle ++ y ∷ back)))
     → Tallies parents words (seated_views (front ++ (x ++ y) ∷ (middle ++ [] ∷ back)))
 
--- A seat for a token without members may come in anywhere.
+-- A seat for a token without members may be added anywhere.
 abbrev pub NewSeatsTally : Type 0
 NewSeatsTally =
     (parents : List ℕ) (words : List Fields) (front back : List (List View)) (phase : ℕ)

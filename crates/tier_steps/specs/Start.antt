@@ -1,4 +1,4 @@
--- How a tree starts, and how tokens come in (own).
+-- How a tree starts, and how tokens are added (own).
 use Rattle.std.specs.Prelude.{◌≡◌, ℕ, ◌≤◌, false, List, [], ◌∷◌, ◌++◌, length, replicate}
 use Rattle.flat_phaser.specs.Flat.{empty_in}
 use Rattle.tier_steps.specs.Word.{Fields}
@@ -24,7 +24,7 @@ StartTallies =
 abbrev pub EmptyTreesHaveNoMembers : Type 0
 EmptyTreesHaveNoMembers = (parents : List ℕ) (phase : ℕ) → IsShape parents → image (empty_words parents phase) [] ≡ empty_in phase
 
--- A token without members may come in anywhere.
+-- A token without members may be added anywhere.
 abbrev pub NewTokensTally : Type 0
 NewTokensTally =
     (parents : List ℕ) (words : List Fields) (front back : List View) (phase : ℕ)
