@@ -3,7 +3,7 @@
 //! nanoseconds that took.
 use std::fmt::Write;
 use std::hint::black_box;
-use std::sync::atomic::{AtomicI64, Ordering::Relaxed};
+use std::sync::atomic::{AtomicI64, AtomicUsize, Ordering::Relaxed};
 use std::sync::Barrier;
 use std::time::Instant;
 
@@ -130,6 +130,63 @@ fn spawns(steps: usize) -> String {
         step += 1;
     }
     finish(out, &[0], step)
+}
+
+/// What the tasks of a superstep did, for all threads: how many lived, left and were spawned.
+#[derive(Default)]
+struct Counts {
+    live: AtomicUsize,
+    left: AtomicUsize,
+    spawned: AtomicUsize,
+}
+
+/// The same tasks as in `spawns`, in equal parts on threads that meet at a barrier after each superstep. A task stays on the
+/// thread that spawned it.
+fn spawns_on_threads(steps: usize, threads: usize) -> String {
+    let parents = 455;
+    let barrier = Barrier::new(threads);
+    let counts: Vec<Counts> = (0..=steps).map(|_| Counts::default()).collect();
+    std::thread::scope(|scope| {
+        for thread in 0..threads {
+            let (barrier, counts) = (&barrier, &counts);
+            scope.spawn(move || {
+                let mut tasks: Vec<Task> = (parents * thread / threads..parents * (thread + 1) / threads)
+                    .map(|i| Task { path: vec![i as u16], parent: true, spawned: 0, turn: 0 })
+                    .collect();
+                for counts in counts {
+                    let (mut next, mut left, mut spawned) = (Vec::with_capacity(tasks.len()), 0, 0);
+                    counts.live.fetch_add(tasks.len(), Relaxed);
+                    for mut task in tasks {
+                        if !task.parent || task.turn == steps {
+                            left += 1;
+                            continue;
+                        }
+                        let children = (0..8).map(|i| {
+                            let mut path = task.path.clone();
+                            path.push(task.spawned + i);
+                            Task { path, parent: false, spawned: 0, turn: 0 }
+                        });
+                        let children: Vec<Task> = children.collect();
+                        task.spawned += 8;
+                        task.turn += 1;
+                        spawned += 8;
+                        next.push(task);
+                        next.extend(children);
+                    }
+                    counts.left.fetch_add(left, Relaxed);
+                    counts.spawned.fetch_add(spawned, Relaxed);
+                    tasks = next;
+                    barrier.wait();
+                }
+            });
+        }
+    });
+    let mut out = String::new();
+    for (step, counts) in counts.iter().enumerate() {
+        let spawned = counts.spawned.load(Relaxed);
+        record(&mut out, step, counts.live.load(Relaxed) + spawned, counts.left.load(Relaxed), spawned);
+    }
+    finish(out, &[0], steps + 1)
 }
 
 /// Tasks that count a number of turns and put, in equal parts on threads that meet at a barrier after each superstep.
@@ -298,6 +355,7 @@ fn main() {
         "many" => many(steps),
         "remainder" => remainder(steps),
         "spawns" => spawns(steps),
+        "spawns_on_threads" => spawns_on_threads(steps, number(3)),
         "turns" => turns(steps, number(3) as i64, number(4)),
         "rod" => rod(steps, false),
         "rows" => rod(steps, true),

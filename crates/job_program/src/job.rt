@@ -7,7 +7,11 @@ ghost use Rattle.task_lang.specs.Views.{plans, task_of};
 ghost use Rattle.step_parts.specs.JobMeaning.{start_tasks};
 ghost use Rattle.job_program.specs.JobTasks.{job_frame, JobMay};
 
-use programs::program::Program;
+use phase_records::Print;
+use programs::blame::Blame;
+use programs::deeds::Deeds;
+use programs::in_place::{StepScene, do_range};
+use programs::program::{Program, TaskLoop};
 use programs::work::{Ending, Work};
 use smallvec::SmallVec;
 use std::alloc::{AllocError, Global};
@@ -38,8 +42,7 @@ impl<'j> Program for JobProgram<'j> {
 
     ghost ready = { λ p. Unit {0} };
 
-    // One function of a program, so that the loop over operations is inlined in it, however many copies the loop over tasks has.
-    #[inline(never)]
+    #[inline(always)]
     fn segment(
         &self,
         alloc: Global,
@@ -56,6 +59,32 @@ impl<'j> Program for JobProgram<'j> {
     }
 
     ghost keeps_paths = { λ p t. refl };
+}
+
+impl<'j> TaskLoop for JobProgram<'j> {
+    // Not generic, so that all engines call one copy, in which the loop over operations is inlined: no task is a call.
+    #[inline(never)]
+    fn segments(
+        &self,
+        alloc: Global,
+        arrays: &Arrays,
+        step: u32,
+        tasks: &mut Vec<Task>,
+        first: usize,
+        end: usize,
+        work: &mut Work<Task>,
+        deeds: &mut Deeds<Task>,
+        prints: &mut Vec<Print>,
+    ) -> Result<Option<Blame>, AllocError> {
+        let scene = StepScene {
+            program: self,
+            arrays,
+            step,
+        };
+        do_range(
+            alloc, &scene, tasks, first, end, work, deeds, prints,
+        )
+    }
 }
 
 /// The tasks of the start lines.

@@ -5,8 +5,7 @@ ghost use Rattle.program_stretches.specs.Parts.{HasRun, reading_of, fresh_part};
 use phase_records::Print;
 use programs::blame::{Blame, copy_path, task_path};
 use programs::deeds::{Change, Deeds};
-use programs::in_place::{StepScene, do_range};
-use programs::program::{OnPath, Program};
+use programs::program::{OnPath, TaskLoop};
 use programs::work::Work;
 use std::alloc::{AllocError, Global};
 use std::marker::Model;
@@ -226,7 +225,7 @@ impl<T: OnPath> Part<T> {
 }
 
 /// Runs the tasks of a stretch, each in its place, over these arrays. Out of memory, the tasks are lost.
-pub(crate) fn run_part<P: Program>(
+pub(crate) fn run_part<P: TaskLoop>(
     alloc: Global,
     program: &P,
     arrays: &Arrays,
@@ -243,15 +242,11 @@ pub(crate) fn run_part<P: Program>(
     part.work.puts.clear();
     part.deeds.clear();
     part.prints.clear();
-    let scene = StepScene {
-        program,
+    let end = part.tasks.len();
+    match program.segments(
+        alloc,
         arrays,
         step,
-    };
-    let end = part.tasks.len();
-    match do_range(
-        alloc,
-        &scene,
         &mut part.tasks,
         0,
         end,

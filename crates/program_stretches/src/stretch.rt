@@ -2,7 +2,7 @@
 use crate::opened::Opened;
 use crate::part::{Part, run_part};
 use programs::deeds::Change;
-use programs::program::Program;
+use programs::program::{Program, TaskLoop};
 use snapshot_log::log::Snapshot;
 use std::alloc::{AllocError, Global};
 use std::marker::Model;
@@ -34,7 +34,7 @@ impl<'p, P: Program> Model for Stretch<'p, P> {
     ghost invariant = { λ s. IsStretch (reading_of P.frame P.may P.meant P.Task.path_of) P.ready (stretch_of s) };
 }
 
-impl<'p, P: Program> Stretch<'p, P> {
+impl<'p, P: TaskLoop> Stretch<'p, P> {
     ghost use Rattle.std.specs.Prelude.{◌≡◌, ◌↔◌, true, false, IsTrue, IfOk, OnOk, is_some, length, map, slice_get};
     ghost use Rattle.std.specs.Option.{option_map};
     ghost use Rattle.programs.specs.InPlace.{left_in, spawned_in};

@@ -12,7 +12,7 @@ ghost use Rattle.programs.specs.Course.{HasTaken, left_by};
 use crate::blame::{Blame, too_many};
 use crate::deeds::Deeds;
 use crate::in_place::{StepScene, do_all};
-use crate::program::{OnPath, Program};
+use crate::program::{OnPath, TaskLoop};
 use crate::watch::{NoWatch, Watch};
 use crate::work::Work;
 use phase_records::{JobStatus, PhaseRecord, Print, Report};
@@ -108,7 +108,7 @@ fn go_on<T: OnPath>(
 }
 
 // Takes one superstep, or returns the fault that ends the run in it. At most so many tasks may live on.
-fn take_superstep<P: Program>(
+fn take_superstep<P: TaskLoop>(
     alloc: Global,
     program: &P,
     most: u32,
@@ -166,7 +166,7 @@ fn take_superstep<P: Program>(
 }
 
 // Takes supersteps until the run ends, and returns how it ended. The room is working space.
-fn run_within<P: Program, W: Watch>(
+fn run_within<P: TaskLoop, W: Watch>(
     alloc: Global,
     program: &P,
     most: u32,
@@ -209,7 +209,7 @@ fn run_within<P: Program, W: Watch>(
 }
 
 // Takes supersteps until the run ends, and returns how it ended.
-fn run_on<P: Program, W: Watch>(
+fn run_on<P: TaskLoop, W: Watch>(
     alloc: Global,
     program: &P,
     most: u32,
@@ -264,7 +264,7 @@ fn leave<T: OnPath>(course: Course<T>, status: JobStatus) -> Ran<T>
 
 /// Runs a program that begins with these arrays and tasks, on one thread: each superstep's tasks one after another, by path. At
 /// most `most` tasks may live at once, and at most `limit` supersteps are taken.
-pub fn run_alone<P: Program>(
+pub fn run_alone<P: TaskLoop>(
     alloc: Global,
     program: &P,
     arrays: Arrays,
@@ -284,7 +284,7 @@ pub fn run_alone<P: Program>(
 }
 
 /// Runs a program as [`run_alone`] does. `watch` is called before each superstep, and may stop the run.
-pub fn run_watched<P: Program, W: Watch>(
+pub fn run_watched<P: TaskLoop, W: Watch>(
     alloc: Global,
     program: &P,
     arrays: Arrays,

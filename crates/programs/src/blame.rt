@@ -34,12 +34,15 @@ impl Blame {
     ghost use Rattle.phase_records.specs.Status.{Fault, IsShort};
 
     /// The status of a run that it ended in this step.
-    pub fn status(self, step: u32) -> JobStatus
-        ensures status { status_seen result ≡ Fault self.0 step self.1 }
+    pub fn status(&self, step: u32) -> JobStatus
+        ensures status { status_seen result ≡ Fault self.now.0 step self.now.1 }
         ensures short { IsShort (status_seen result) }
     {
-        let Blame { code, path } = self;
-        JobStatus::Fault { code, step, path }
+        JobStatus::Fault {
+            code: self.code,
+            step,
+            path: copy_path(&self.path),
+        }
     }
 }
 

@@ -8,7 +8,7 @@ ghost use Rattle.programs.specs.Done.{HasDoneOne, HasDoneRange, HasDoneAll};
 
 use crate::blame::{Blame, push_prints, task_path};
 use crate::deeds::Deeds;
-use crate::program::{OnPath, Program};
+use crate::program::{OnPath, Program, TaskLoop};
 use crate::work::{Ending, Work};
 use phase_records::Print;
 use std::alloc::{AllocError, Global};
@@ -106,7 +106,7 @@ fn do_one<P: Program>(
 
 /// Does the segments of the tasks from one place to another, one after another, each in its place; what they did follows
 /// what others did. Or returns the first fault; then what `work`, the deeds and the tasks hold means nothing, and what was
-/// printed before stays. A program has one copy of it, so that no task is a call.
+/// printed before stays.
 #[inline(never)]
 pub fn do_range<P: Program>(
     alloc: Global,
@@ -144,7 +144,7 @@ pub fn do_range<P: Program>(
 }
 
 /// Does the segments of tasks, one after another: all their puts are in one log then. Or returns the first fault.
-pub fn do_all<P: Program>(
+pub fn do_all<P: TaskLoop>(
     alloc: Global,
     scene: &StepScene<'_, P>,
     tasks: &mut Vec<P::Task>,
@@ -160,6 +160,16 @@ pub fn do_all<P: Program>(
         fault work.new.puts tasks.old.items tasks.new.items deeds.new prints.old.items prints.new.items) }
 {
     let end = tasks.len();
-    let told = do_range(alloc, scene, tasks, 0, end, work, deeds, prints)?;
+    let told = scene.program.segments(
+        alloc,
+        scene.arrays,
+        scene.step,
+        tasks,
+        0,
+        end,
+        work,
+        deeds,
+        prints,
+    )?;
     Ok(told)
 }

@@ -2,8 +2,12 @@
 ghost use Rattle.std.specs.Prelude.{◌≡◌, ◌≤◌, ℕ, ℤ, List, [], IfOk, length};
 ghost use Rattle.programs.specs.Meaning.{Frame, Segment};
 ghost use Rattle.programs.specs.Lent.{HasLeft};
+ghost use Rattle.programs.specs.Done.{HasDoneRange};
 
+use crate::blame::Blame;
+use crate::deeds::Deeds;
 use crate::work::{Ending, Work};
+use phase_records::Print;
 use std::alloc::{AllocError, Global};
 use superstep_memory::arrays::Arrays;
 use superstep_memory::path::Path;
@@ -56,4 +60,30 @@ pub trait Program {
 
     /// The path of a task is that of its value.
     ghost keeps_paths: { (p : Self) (t : Self.Task) → (frame p).path (meant p t) ≡ Self.Task.path_of t };
+}
+
+/// A program with a loop over its tasks (own). All engines call it, so a program has one compiled copy of that loop, whichever engines
+/// run it. Implement it by a call of [`do_range`](crate::in_place::do_range).
+pub trait TaskLoop: Program {
+    /// Does the segments of the tasks from one place to another, one after another, each in its place; what they did follows what
+    /// others did. Or returns the first fault; then what `work`, the deeds and the tasks hold means nothing, and what was printed
+    /// before stays.
+    fn segments(
+        &self,
+        alloc: Global,
+        arrays: &Arrays,
+        step: u32,
+        tasks: &mut Vec<Self::Task>,
+        first: usize,
+        end: usize,
+        work: &mut Work<Self::Task>,
+        deeds: &mut Deeds<Self::Task>,
+        prints: &mut Vec<Print>,
+    ) -> Result<Option<Blame>, AllocError>
+        requires ready { Self.ready self.now }
+        requires rises { first ≤ end }
+        requires within { end ≤ length tasks.old.items }
+        ensures done { IfOk result (λ fault. HasDoneRange (Self.frame self.now) (Self.may self.now) (Self.meant self.now) Self.Task.path_of arrays.now step fault first end
+            work.old.puts work.new.puts tasks.old.items tasks.new.items deeds.old deeds.new prints.old.items prints.new.items) }
+        ensures count { IfOk result (λ _. length tasks.new.items ≡ length tasks.old.items) };
 }

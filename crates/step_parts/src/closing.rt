@@ -5,12 +5,12 @@ ghost use Rattle.step_parts.specs.Superstep.{first_fault, prints_of, print_of, r
 ghost use Rattle.step_parts.specs.Slots.{slots_of, delivered, first_missing};
 ghost use Rattle.step_parts.specs.SlotParts.{path_of, AllSmall};
 
-use crate::slot::{Blame, Slots, task_path};
+use crate::slot::Slots;
 use phase_records::{PhaseRecord, Print};
-use smallvec::SmallVec;
+use programs::blame::{Blame, push_prints, task_path};
 use std::alloc::{AllocError, Global};
 use superstep_memory::path::Path;
-use task_lang::task::{After, Task};
+use task_lang::task::After;
 
 /// The first path for whose task nothing was delivered.
 pub fn find_missing(slots: &Slots<'_>) -> Option<Path>
@@ -42,47 +42,6 @@ pub fn find_fault(slots: &Slots<'_>) -> Option<Blame>
         rest = after;
     }
     None
-}
-
-/// The fault of too many live tasks.
-pub fn too_many(alloc: Global) -> Blame
-    ensures { result ≡ (7, []) }
-{
-    Blame {
-        code: 7,
-        path: SmallVec::new(alloc),
-    }
-}
-
-/// The fault of a put of this task that overflows.
-pub fn overflowed(task: &Task) -> Blame
-    ensures { result ≡ (8, task.now.path) }
-{
-    Blame {
-        code: 8,
-        path: task_path(task),
-    }
-}
-
-/// Appends prints of a task.
-pub fn push_prints(
-    prints: &mut Vec<Print>,
-    step: u32,
-    task: &Task,
-    values: &[i64],
-) -> Result<(), AllocError>
-    ensures { OnOk result (prints.new.items ≡ prints.old.items ++ map (print_of step task.now.path) values.now) }
-{
-    let mut rest = values;
-    while let Some((value, after)) = rest.split_first() {
-        prints.push(Print {
-            step,
-            path: task_path(task),
-            value: *value,
-        })?;
-        rest = after;
-    }
-    Ok(())
 }
 
 /// What was printed, by path, then in program order.

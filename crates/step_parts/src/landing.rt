@@ -9,8 +9,8 @@ ghost use Rattle.step_parts.specs.Superstep.{overflow, fault_eight, log_of};
 ghost use Rattle.step_parts.specs.Slots.{slots_of, delivered};
 ghost use Rattle.step_parts.specs.SlotParts.{log_in, path_at, told_at};
 
-use crate::closing::overflowed;
-use crate::slot::{Blame, Slots};
+use crate::slot::Slots;
+use programs::blame::{Blame, overflowed};
 use std::alloc::{AllocError, Global};
 use std::sync::Arc;
 use superstep_memory::arrays::Arrays;

@@ -12,7 +12,8 @@ ghost use Rattle.step_parts.specs.SlotParts.{AllSmall, beside, living_by, no_seg
 use crate::closing::{collect_prints, record_of};
 use crate::landing::land_start_arrays;
 use crate::next::{go_on, make_room, set_undone};
-use crate::slot::{Blame, Finished, Slots};
+use crate::slot::{Finished, Slots};
+use programs::blame::Blame;
 use std::alloc::{AllocError, Global};
 use std::marker::Model;
 use std::sync::Arc;

@@ -1,14 +1,12 @@
 //! The next live tasks, in path order.
-ghost use Rattle.std.specs.Prelude.{◌≡◌, ◌≤◌, ◌<◌, ◌+◌, ◌++◌, [], OnOk, map, length, reverse};
-ghost use Rattle.std.specs.List.{insert};
+ghost use Rattle.std.specs.Prelude.{◌≡◌, ◌≤◌, ◌+◌, ◌++◌, [], OnOk, map, length, reverse};
 ghost use Rattle.std.specs.Vec.{vec_len, vec_capacity};
-ghost use Rattle.task_lang.specs.TaskValue.{TaskValue};
-ghost use Rattle.superstep_memory.specs.PathOrder.{put_in, put_all, in_path_order};
+ghost use Rattle.superstep_memory.specs.PathOrder.{put_all, in_path_order};
 ghost use Rattle.step_parts.specs.SlotParts.{AllSmall, path_in, living_of, living_in, living_by, no_segment};
 
 use crate::slot::Slots;
+use programs::next::put_task;
 use std::alloc::AllocError;
-use superstep_memory::path::is_before;
 use task_lang::task::{After, Segment, Task};
 
 /// How many tasks live on.
@@ -28,41 +26,6 @@ pub fn count_living(slots: &Slots<'_>) -> usize
 
 // The next live tasks are collected with the last by path first. Tasks come from the last slot to the first, so that
 // each passes only those that its path begins. They are moved into existing room.
-
-// The place for a task of this path.
-fn place_for(living: &[Task], path: &[u16]) -> usize
-    ensures place { (t : TaskValue) → t.path ≡ path.now
-        → insert living.now result t ≡ reverse (put_in path_in t (reverse living.now)) }
-    ensures within { result ≤ length living.now }
-{
-    let mut rest = living;
-    while let Some((last, before)) = rest.split_last() {
-        if !is_before(last.path.as_slice(), path) {
-            break;
-        }
-        rest = before;
-    }
-    rest.len()
-}
-
-/// Puts a task in its place among those that live on, the last by path first. It takes no memory.
-#[inline(always)]
-pub fn put_task(living: &mut Vec<Task>, task: Task)
-    requires room { vec_len living.old < vec_capacity living.old }
-    ensures items { living.new.items ≡ reverse (put_in path_in task (reverse living.old.items)) }
-    ensures one_more { vec_len living.new ≡ vec_len living.old + 1 }
-    ensures room { vec_capacity living.new ≡ vec_capacity living.old }
-{
-    let place = place_for(living, task.path.as_slice());
-    if place == living.len() {
-        living.push_reserved(task);
-        return;
-    }
-    match living.insert(place, task) {
-        Ok(()) => {}
-        Err(_) => unreachable!(),
-    }
-}
 
 /// Puts tasks in their places among those that live on, the last by path first. It takes no memory.
 pub fn put_tasks(living: &mut Vec<Task>, tasks: Vec<Task>)

@@ -4,7 +4,7 @@ ghost use Rattle.std.specs.Option.{option_map};
 ghost use Rattle.step_parts.specs.OrderValue.{now_of};
 ghost use Rattle.step_parts.specs.SlotParts.{path_of, path_in};
 
-use crate::slot::task_path;
+use programs::blame::task_path;
 use std::alloc::{AllocError, Global};
 use std::marker::Model;
 use std::sync::Arc;

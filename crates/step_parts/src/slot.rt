@@ -1,12 +1,8 @@
 //! Live tasks with what was delivered for them, by reference, and what a superstep leaves.
-ghost use Rattle.std.specs.Prelude.{◌≡◌, ◌≤◌, length};
-
-use phase_records::{JobStatus, PhaseRecord, Print};
-use smallvec::SmallVec;
+use phase_records::{PhaseRecord, Print};
 use std::alloc::{AllocError, Global};
 use std::marker::Model;
 use superstep_memory::arrays::Arrays;
-use superstep_memory::path::Path;
 use superstep_memory::puts::Puts;
 use task_lang::task::{After, Segment, Task};
 
@@ -181,60 +177,6 @@ impl<'a> Slot<'a> {
         match self.done {
             Some(segment) => segment.puts.len(),
             None => 0,
-        }
-    }
-}
-
-/// Copies this path. It takes no memory.
-pub(crate) fn copy_path(path: &Path) -> Path
-    requires { length path.now.items ≤ 8 }
-    ensures { result.items ≡ path.now.items }
-{
-    match SmallVec::from_slice(*path.allocator(), path.as_slice()) {
-        Ok(copy) => copy,
-        Err(_) => unreachable!(),
-    }
-}
-
-/// Copies the path of a task. It takes no memory.
-pub fn task_path(task: &Task) -> Path
-    ensures path { result.items ≡ task.now.path }
-    ensures short { length result.items ≤ 8 }
-{
-    copy_path(&task.path)
-}
-
-/// Why a job ended by a fault, and by which task.
-#[derive(Drop)]
-pub struct Blame {
-    pub code: u8,
-    pub path: Path,
-}
-
-impl Model for Blame {
-    ghost use Rattle.std.specs.Prelude.{ℕ, List, ◌≤◌, length};
-
-    ghost Value = { ℕ × List ℕ };
-
-    ghost view = { λ b. (b.code, b.path.items) };
-
-    ghost invariant = { λ b. length b.path.items ≤ 8 };
-}
-
-impl Blame {
-    ghost use Rattle.std.specs.Prelude.{◌≡◌};
-    ghost use Rattle.phase_records.specs.StatusSeen.{status_seen};
-    ghost use Rattle.phase_records.specs.Status.{Fault, IsShort};
-
-    /// The status of a job that it ended in this step.
-    pub fn status(&self, step: u32) -> JobStatus
-        ensures status { status_seen result ≡ Fault self.now.0 step self.now.1 }
-        ensures short { IsShort (status_seen result) }
-    {
-        JobStatus::Fault {
-            code: self.code,
-            step,
-            path: copy_path(&self.path),
         }
     }
 }

@@ -5,7 +5,11 @@ ghost use Rattle.task_bodies.specs.Bodies.{MemberValue, member_frame, BodyMay};
 use crate::body::{Ending, TaskBody, View};
 use crate::framing::{open, settle};
 use crate::member::Member;
-use programs::program::Program;
+use phase_records::Print;
+use programs::blame::Blame;
+use programs::deeds::Deeds;
+use programs::in_place::{StepScene, do_range};
+use programs::program::{Program, TaskLoop};
 use programs::work::{Ending as Ended, Work};
 use std::alloc::{AllocError, Global};
 use superstep_memory::arrays::Arrays;
@@ -54,4 +58,28 @@ impl<'b, B: TaskBody> Program for Native<'b, B> {
     }
 
     ghost keeps_paths = { λ p t. refl };
+}
+
+impl<'b, B: TaskBody> TaskLoop for Native<'b, B> {
+    fn segments(
+        &self,
+        alloc: Global,
+        arrays: &Arrays,
+        step: u32,
+        tasks: &mut Vec<Member<B::Kept>>,
+        first: usize,
+        end: usize,
+        work: &mut Work<Member<B::Kept>>,
+        deeds: &mut Deeds<Member<B::Kept>>,
+        prints: &mut Vec<Print>,
+    ) -> Result<Option<Blame>, AllocError> {
+        let scene = StepScene {
+            program: self,
+            arrays,
+            step,
+        };
+        do_range(
+            alloc, &scene, tasks, first, end, work, deeds, prints,
+        )
+    }
 }

@@ -15,7 +15,7 @@ use crate::run::{limit_in, run_engine, stretches_wanted};
 use advance_rule::StoredAdvance;
 use program_stretches::{Left, Opened, Stretches};
 use programs::alone::Ran;
-use programs::program::Program;
+use programs::program::TaskLoop;
 use snapshot_log::log::Log;
 use std::alloc::Global;
 use std::sync::Wait;
@@ -34,7 +34,7 @@ use tier_shape::Shape;
 ///
 /// Returns after joining all workers that were started. Termination is not part of the contract.
 pub fn run_program<
-    P: Program + Sync,
+    P: TaskLoop + Sync,
     R: Threads + Wait + Sync,
     F: Fn(u32, u32) -> bool + Sync + Drop,
     G: Gate + Sync,
@@ -84,7 +84,7 @@ where
 fn run_stretches<
     't,
     'p,
-    P: Program + Sync,
+    P: TaskLoop + Sync,
     R: Threads + Wait + Sync,
     F: Fn(u32, u32) -> bool + Sync + Drop,
     G: Gate + Sync,

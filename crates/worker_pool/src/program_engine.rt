@@ -4,7 +4,7 @@ use crate::engine::{Closed, Engine};
 use crate::fault::{Reason, reason_of_closing, reason_of_delivery};
 use program_stretches::{Left, Outcome, Stretch, Stretches};
 use programs::deeds::Change;
-use programs::program::Program;
+use programs::program::{Program, TaskLoop};
 use std::alloc::{AllocError, Global};
 use std::marker::Model;
 use superstep_memory::path::Path;
@@ -23,7 +23,7 @@ impl<'p, P: Program> Model for Taken<'p, P> {
     ghost view = { λ t. t.stretch };
 }
 
-impl<'p, P: Program> engine::Stretch for Taken<'p, P> {
+impl<'p, P: TaskLoop> engine::Stretch for Taken<'p, P> {
     ghost use Rattle.std.specs.Prelude.{◌≡◌, is_some, length, map};
     ghost use Rattle.programs.specs.InPlace.{left_in, spawned_in};
     ghost use Rattle.programs.specs.Changes.{change_in};
@@ -122,7 +122,7 @@ impl<'t, 'p, P: Program> Run<'t, 'p, P> {
     }
 }
 
-impl<'t, 'p, P: Program> Engine for Run<'t, 'p, P> {
+impl<'t, 'p, P: TaskLoop> Engine for Run<'t, 'p, P> {
     ghost use Rattle.std.specs.Prelude.{Some, true, is_some, length, slice_get};
     ghost use Rattle.program_stretches.specs.Parts.{reading_of, covers};
     ghost use Rattle.program_stretches.specs.StretchesValue.{status_in, can_leave, ready_at, tasks_at, with_slot};
