@@ -34,8 +34,8 @@ impl<'p, P: Program> Model for Stretch<'p, P> {
     ghost invariant = { λ s. IsStretch (reading_of P.frame P.may P.meant P.Task.path_of) P.ready (stretch_of s) };
 }
 
-impl<'p, P: TaskLoop> Stretch<'p, P> {
-    ghost use Rattle.std.specs.Prelude.{◌≡◌, ◌↔◌, true, false, IsTrue, IfOk, OnOk, is_some, length, map, slice_get};
+impl<'p, P: Program> Stretch<'p, P> {
+    ghost use Rattle.std.specs.Prelude.{◌≡◌, ◌↔◌, IsTrue, IfOk, is_some, length, map, slice_get};
     ghost use Rattle.std.specs.Option.{option_map};
     ghost use Rattle.programs.specs.InPlace.{left_in, spawned_in};
     ghost use Rattle.programs.specs.Changes.{change_of, change_in};
@@ -75,17 +75,6 @@ impl<'p, P: TaskLoop> Stretch<'p, P> {
         self.part.first_path()
     }
 
-    /// Runs its tasks, each in its place. Out of memory, the tasks are lost.
-    pub fn run(&mut self, alloc: Global) -> Result<(), AllocError>
-        requires { self.old.part.done ≡ false }
-        ensures done { OnOk result (self.new.part.done ≡ true) }
-        ensures count { OnOk result (length self.new.part.tasks ≡ length self.old.part.tasks) }
-        ensures same { self.new ≡ record self.old { part = self.new.part } }
-        ensures place { self.new.part.first ≡ self.old.part.first }
-    {
-        run_part(alloc, self.program, &self.arrays, self.step, &mut self.part)
-    }
-
     /// Whether one of its tasks has faulted.
     pub fn has_faulted(&self) -> bool
         ensures { result ≡ is_some self.now.part.fault }
@@ -111,5 +100,20 @@ impl<'p, P: TaskLoop> Stretch<'p, P> {
     pub(crate) fn give_up(self) {
         let Stretch { snapshot, .. } = self;
         snapshot.give_up();
+    }
+}
+
+impl<'p, P: TaskLoop> Stretch<'p, P> {
+    ghost use Rattle.std.specs.Prelude.{◌≡◌, true, false, OnOk, length};
+
+    /// Runs its tasks, each in its place. Out of memory, the tasks are lost.
+    pub fn run(&mut self, alloc: Global) -> Result<(), AllocError>
+        requires { self.old.part.done ≡ false }
+        ensures done { OnOk result (self.new.part.done ≡ true) }
+        ensures count { OnOk result (length self.new.part.tasks ≡ length self.old.part.tasks) }
+        ensures same { self.new ≡ record self.old { part = self.new.part } }
+        ensures place { self.new.part.first ≡ self.old.part.first }
+    {
+        run_part(alloc, self.program, &self.arrays, self.step, &mut self.part)
     }
 }
