@@ -263,7 +263,7 @@ pub struct Change {
 fn paths_in<T: OnPath>(alloc: Global, tasks: &[T]) -> Result<Vec<Path>, AllocError>
     ensures { IfOk result (λ paths. map (λ p. p.items) paths.items ≡ map T.path_of tasks.now) }
 {
-    let mut paths = Vec::new(alloc);
+    let mut paths = Vec::with_capacity(alloc, tasks.len())?;
     let mut rest = tasks;
     while let Some((task, after)) = rest.split_first() {
         paths.push(task_path(task))?;

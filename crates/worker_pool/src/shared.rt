@@ -40,6 +40,15 @@ fn list_participant<J: Running>(
     }
 }
 
+// How many participants tasks and those that they spawned have at most after these changes.
+fn room_for(changes: &[Change]) -> usize {
+    let mut room: usize = 0;
+    for change in changes {
+        room = room.saturating_add(change.spawned.len()).saturating_add(1);
+    }
+    room
+}
+
 impl<E: Engine, J: Running, F: Fn(u32, u32) -> bool> Shared<E, J, F> {
     ghost use Rattle.std.specs.Prelude.{◌≡◌, ◌<◌, IfOk, IfErr};
     ghost use Rattle.advance_rule.specs.Stored.{Answers};
@@ -222,9 +231,9 @@ impl<E: Engine, J: Running, F: Fn(u32, u32) -> bool> Shared<E, J, F> {
         requires rule { Answers (F.pre self.now.tree.phaser.rule.closure) (F.post self.now.tree.phaser.rule.closure) (end_ends_at self.now.tree.phaser.rule.plan) }
     {
         let mut led = false;
+        let mut passed = Vec::with_capacity(alloc, room_for(&changes))?;
         let mut changes = VecDeque::from_vec(changes);
         let mut spawned = Vec::new(alloc);
-        let mut passed = Vec::with_capacity(alloc, participants.len())?;
         let mut rest = VecDeque::from_vec(mem::replace(participants, Vec::new(alloc)));
         for _ in 0..rest.len() {
             let Some(participant) = rest.pop_front() else {
