@@ -1,6 +1,7 @@
 -- Rounds one after another.
-use Rattle.std.proofs.Common.{◌≡◌, ℕ, zero, suc, ◌+◌, ◌*◌, List, [], ◌++◌, Option, Some, None, true, false, refl, sym, ap, ◌∙◌, subst, arith}
+use Rattle.std.proofs.Common.{◌≡◌, ℕ, zero, suc, ◌+◌, ◌*◌, List, ◌++◌, Option, Some, None, true, refl, sym, ap, ◌∙◌, arith}
 use Rattle.std.specs.Prelude.{ℤ, is_some}
+use Rattle.std.proofs.Math.Nat.{mul-suc}
 use Rattle.phase_records.specs.Status.{Status}
 use Rattle.step_core.specs.JobMeaning.{so_far, status, unless_ended}
 use Rattle.step_core.specs.OrderValue.{DeliveryValue}
@@ -12,7 +13,8 @@ use Rattle.step_core.proofs.Rounds.{tasks_stay}
 use Rattle.task_code.specs.JobValue.{JobValue}
 use Rattle.task_lang.specs.Meaning.{Task}
 use Rattle.task_lang.specs.Views.{plans}
-use Rattle.job_rows.specs.Rows.{row_at, rows}
+use Rattle.job_view.specs.Look.{named}
+use Rattle.job_rows.specs.Rows.{cells_or_none, rows}
 use Rattle.job_rows.specs.Steps.{IsAfter, IsLater, IsSame, next}
 
 -- nothing was done
@@ -62,7 +64,11 @@ same_after r s t h g = record {
 
 -- no superstep
 pub none_later : (r : RoundValue) → IsLater 0 r r
-none_later r = record { job = refl; limit = refl; state = λ n e. e ∙ ap (λ (k : ℕ). so_far (program_of r.job) r.limit k) (omega arith) }
+none_later r = record {
+  job = refl;
+  limit = refl;
+  state = λ n e. let same : n ≡ n + 0 = omega arith in e ∙ ap (λ (k : ℕ). so_far (program_of r.job) r.limit k) same;
+}
 
 -- one superstep more
 pub one_later : (k : ℕ) (r s t : RoundValue) → IsLater k r s → IsAfter s t → IsLater (k + 1) r t
@@ -78,27 +84,22 @@ one_later k r s t h g = record {
 }
 
 -- a round of this job and this limit, so many times so many supersteps after its beginning
-pub record IsAt (j : JobValue) (limit every i : ℕ) (r : RoundValue) : Type 0 where
+pub record IsAt (j : JobValue) (most every i : ℕ) (r : RoundValue) : Type 0 where
   pub job : r.job ≡ j
-  pub limit : r.limit ≡ limit
-  pub state : state_of r ≡ so_far (program_of j) limit (every * i)
+  pub limit : r.limit ≡ most
+  pub state : state_of r ≡ so_far (program_of j) most (every * i)
 
 -- a round that begins
 pub begun : (j : JobValue) (limit every : ℕ) (r : RoundValue) → Opens r j limit (so_far (program_of j) limit 0) → IsAt j limit every 0 r
-begun j limit every r h = record {
-  job = h.job;
-  limit = h.limit;
-  state = h.state ∙ ap (λ (m : ℕ). so_far (program_of j) limit m) (sym (times-none every));
-}
-  where
-    times-none : (n : ℕ) → n * 0 ≡ 0
-    times-none zero = refl
-    times-none (suc n) = times-none n
+begun j limit every r h =
+    let none : 0 ≡ every * 0 = omega arith in
+    record { job = h.job; limit = h.limit; state = h.state ∙ ap (λ (m : ℕ). so_far (program_of j) limit m) none }
 
 -- so many supersteps later
 pub later_at : (j : JobValue) (limit every i : ℕ) (r s : RoundValue) → IsAt j limit every i r → IsLater every r s → IsAt j limit every (i + 1) s
 later_at j limit every i r s h g =
-    let more : every * i + every ≡ every * (i + 1) = times-more every i in
+    let one : suc i ≡ i + 1 = omega arith in
+    let more : every * i + every ≡ every * (i + 1) = sym (mul-suc every i) ∙ ap (λ (k : ℕ). every * k) one in
     let before : state_of r ≡ so_far (program_of r.job) r.limit (every * i) =
         h.state ∙ ap (λ (m : ℕ). so_far (program_of j) m (every * i)) (sym h.limit) ∙ ap (λ (x : JobValue). so_far (program_of x) r.limit (every * i)) (sym h.job) in
     record {
@@ -109,6 +110,13 @@ later_at j limit every i r s h g =
           ∙ ap (λ (m : ℕ). so_far (program_of j) m (every * i + every)) h.limit
           ∙ ap (λ (m : ℕ). so_far (program_of j) limit m) more;
     }
-  where
-    times-more : (n i : ℕ) → n * i + n ≡ n * (i + 1)
-    times-more n i = ring arith
+
+-- one row more
+pub next_row : (j : JobValue) (limit every i : ℕ) (name : List ℕ) (r : RoundValue) (arrays : List (List ℕ × List ℤ)) (old new : List ℤ) → IsAt j limit every i r
+    → arrays ≡ r.arrays → old ≡ rows (program_of j) limit name every i → new ≡ old ++ cells_or_none (named name arrays)
+    → new ≡ rows (program_of j) limit name every (i + 1)
+next_row j limit every i name r arrays old new h a o e =
+    let one : suc i ≡ i + 1 = omega arith in
+    e ∙ ap (λ (xs : List ℤ). xs ++ cells_or_none (named name arrays)) o
+    ∙ ap (λ (all : List (List ℕ × List ℤ)). rows (program_of j) limit name every i ++ cells_or_none (named name all)) (a ∙ ap (λ (st : State). st.arrays) h.state)
+    ∙ ap (λ (k : ℕ). rows (program_of j) limit name every k) one

@@ -98,6 +98,7 @@ fn push_row(values: &mut Vec<i64>, arrays: &Arrays, name: &[u8]) -> Result<(), A
 
 /// Returns the cells of an array as this many supersteps begin, one after another: superstep 0, `every`, 2 `every` and so on.
 /// After the end they are as the job left them. Runs the job once, on this thread.
+#[tactic(auto, using(crate::proofs::Steps::begun, crate::proofs::Steps::later_at))]
 pub fn rows_of(
     alloc: Global,
     job: &Job,

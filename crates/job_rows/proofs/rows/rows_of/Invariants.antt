@@ -6,6 +6,6 @@ use Rattle.job_rows.proofs.rows.rows_of.Given as goal
 
 abbrev pub invariant-loop : goal.invariant-loop
 invariant-loop l = record {
-  values : l.values.items ≡ rows (program_of l.job) l.limit l.name l.every l.index;
-  at : IsAt l.job l.limit l.every l.index l.round;
+  values : l.values.items ≡ rows (program_of l.job) l.limit l.name l.every l.counter;
+  at : IsAt l.job l.limit l.every l.counter l.round;
 }
