@@ -1,5 +1,6 @@
 -- What a command did that did not end.
 use Rattle.std.proofs.Common.{◌≡◌, ℕ, inl, inr, List, Option, Err, arith}
+use Rattle.job_view.specs.Look.{LookValue}
 use Rattle.bsp_cli.specs.Did.{Did}
 use Rattle.bsp_cli.specs.Ends.{Does}
 use Rattle.bsp_cli.specs.Texts.{fault_text, fault_status}
@@ -8,9 +9,9 @@ use Rattle.bsp_cli.specs.declared.fault.RunFault.{RunFault}
 use Rattle.bsp_cli.specs.declared.fault.RunFault.TheVariants.{Text, Read, Write, Memory, NotStarted, Internal}
 
 -- by its fault, the line that was told, and its status
-pub faulted : (a : Asked) (input old new : Option (List ℕ)) (told : List ℕ → Type 0) (fault : RunFault) (status : ℕ) → Does a input old new (Err fault)
-    → told (fault_text fault) → status ≡ fault_status fault → Did a input old new told status
-faulted a input old new told (Text r) status does line e =
+pub faulted : (a : Asked) (look : LookValue) (input old new : Option (List ℕ)) (told : List ℕ → Type 0) (fault : RunFault) (status : ℕ) → Does a look input old new (Err fault)
+    → told (fault_text fault) → status ≡ fault_status fault → Did a look input old new told status
+faulted a look input old new told (Text r) status does line e =
     let known : status ≡ 4 = e in
     record {
       finished = λ h. absurd (omega arith);
@@ -20,7 +21,7 @@ faulted a input old new told (Text r) status does line e =
       failed = λ h. absurd (omega arith);
       internal = λ h. absurd (omega arith);
     }
-faulted a input old new told Read status does line e =
+faulted a look input old new told Read status does line e =
     let known : status ≡ 8 = e in
     record {
       finished = λ h. absurd (omega arith);
@@ -30,7 +31,7 @@ faulted a input old new told Read status does line e =
       failed = λ h. inl does;
       internal = λ h. absurd (omega arith);
     }
-faulted a input old new told Write status does line e =
+faulted a look input old new told Write status does line e =
     let known : status ≡ 8 = e in
     record {
       finished = λ h. absurd (omega arith);
@@ -40,7 +41,7 @@ faulted a input old new told Write status does line e =
       failed = λ h. inr does;
       internal = λ h. absurd (omega arith);
     }
-faulted a input old new told Memory status does line e =
+faulted a look input old new told Memory status does line e =
     let known : status ≡ 6 = e in
     record {
       finished = λ h. absurd (omega arith);
@@ -50,7 +51,7 @@ faulted a input old new told Memory status does line e =
       failed = λ h. absurd (omega arith);
       internal = λ h. absurd (omega arith);
     }
-faulted a input old new told (NotStarted k) status does line e =
+faulted a look input old new told (NotStarted k) status does line e =
     let known : status ≡ 7 = e in
     record {
       finished = λ h. absurd (omega arith);
@@ -60,7 +61,7 @@ faulted a input old new told (NotStarted k) status does line e =
       failed = λ h. absurd (omega arith);
       internal = λ h. absurd (omega arith);
     }
-faulted a input old new told Internal status does line e =
+faulted a look input old new told Internal status does line e =
     let known : status ≡ 9 = e in
     record {
       finished = λ h. absurd (omega arith);

@@ -3,7 +3,7 @@ use Rattle.std.proofs.Common.{◌≡◌, true, refl}
 use Rattle.clap.specs.Words.{is_simple_and_free, is_simple}
 use Rattle.clap.proofs.OnLiterals.{clap_on_literals}
 use Rattle.bsp_cli.specs.CommandLine.{program}
-use Rattle.bsp_cli.specs.Laws.{EachNameAsks, EachNameHelps, EachNameNamesFiles, EachNameRefuses, EachNameTellsVersion}
+use Rattle.bsp_cli.specs.Laws.{EachNameAsks, EachNameHelps, EachNameLooks, EachNameNamesFiles, EachNameRefuses, EachNameTellsVersion}
 
 pub free-program : is_simple_and_free program ≡ true
 unfolding clap_on_literals
@@ -63,6 +63,9 @@ words-refused name = record {
   json_checked = refl;
   json_twice = refl;
   json_value = refl;
+  width_run = refl;
+  over_time_checked = refl;
+  two_titles = refl;
   more_draw = refl;
   drawn_never = refl;
   drawn_by_none = refl;
@@ -77,6 +80,18 @@ words-refused name = record {
   file_explained = refl;
   bare_file = refl;
   same = refl;
+}
+
+pub words-look : EachNameLooks
+unfolding clap_on_literals
+words-look name = record {
+  plain = (refl, refl);
+  other = (refl, refl);
+  width = (refl, refl);
+  over_time = (refl, refl);
+  title = (refl, refl);
+  file = (refl, refl);
+  both = (refl, refl);
 }
 
 pub words-help : EachNameHelps

@@ -6,6 +6,7 @@ use Rattle.std.specs.Io.KnownBytes.{Keeps}
 use Rattle.clap.specs.Words.{IsAmong, Kinds}
 use Rattle.clap.specs.declared.error.kind.ErrorKind.{ErrorKind}
 use Rattle.clap.specs.declared.error.kind.ErrorKind.TheVariants as kinds
+use Rattle.job_view.specs.Look.{LookValue}
 use Rattle.bsp_cli.specs.Did.{Did, RunsOut, is_refusal, are_refused}
 use Rattle.bsp_cli.specs.declared.asked.Asked.{Asked}
 use Rattle.bsp_cli.specs.declared.asked.Asked.TheVariants.{Trace, Check, CheckAll, Upgrade, Run, RunJson, Draw, Explain}
@@ -25,9 +26,9 @@ out (Explain topic) input old = keeps old
 out (Draw workers limit) input old = keeps old
 
 -- memory ran out before anything was read
-pub no-memory : (a : Asked) (input old new : Option (List ℕ)) (told : List ℕ → Type 0) (status : ℕ) → new ≡ old → status ≡ 6
-    → Did a input old new told status
-no-memory a input old new told status same e = record {
+pub no-memory : (a : Asked) (look : LookValue) (input old new : Option (List ℕ)) (told : List ℕ → Type 0) (status : ℕ) → new ≡ old → status ≡ 6
+    → Did a look input old new told status
+no-memory a look input old new told status same e = record {
   finished = λ h. absurd (omega arith);
   refused = λ h. absurd (omega arith);
   memory = λ h. subst (λ (x : Option (List ℕ)). RunsOut a input old x) (sym same) (out a input old);

@@ -1,9 +1,9 @@
 -- What running a job leaves.
-use Rattle.std.proofs.Common.{◌≡◌, ℕ, List, [], ◌∷◌, map, Option, Some, None, Result, Ok, Err, refl, ap, ◌∙◌, ◌≤◌, arith}
+use Rattle.std.proofs.Common.{◌≡◌, ℕ, List, [], ◌∷◌, map, Option, Some, None, Result, Ok, Err, refl, sym, subst, ap, ◌∙◌, ◌≤◌, arith}
 use Rattle.std.specs.Prelude.{IfSome}
 use Rattle.phase_records.specs.ReportValue.{ReportValue}
 use Rattle.phase_records.specs.ReportText.{report_text}
-use Rattle.job_picture.specs.Picture.{picture}
+use Rattle.job_view.specs.Look.{LookValue}
 use Rattle.report_json.specs.ReportJson.{json_text}
 use Rattle.phase_records.specs.Status.{Status, Ended, Fault, Limit}
 use Rattle.phase_records.specs.StatusSeen.{status_seen}
@@ -17,8 +17,10 @@ use Rattle.job_reader.specs.Reading.{job_in}
 use Rattle.step_core.specs.Program.{Program, program_of}
 use Rattle.step_core.specs.JobMeaning.{report_of}
 use Rattle.bsp_cli.specs.Jobs.{plan_of, program_of_tree, status_number}
-use Rattle.std.specs.Io.KnownBytes.{Keeps}
-use Rattle.bsp_cli.specs.Ends.{IsOfPool, ReadCause, WriteCause, Reports, Runs, Does, end_result}
+use Rattle.std.specs.Io.KnownBytes.{Appends, Keeps}
+use Rattle.devices.specs.Device.{AppendsBeginning}
+use Rattle.bsp_cli.specs.Drawn.{drawn, program_told}
+use Rattle.bsp_cli.specs.Ends.{IsOfPool, ReadCause, WriteCause, Reports, Runs, Draws, Does, end_result}
 use Rattle.bsp_cli.specs.declared.asked.Asked.TheVariants.{Run, RunJson, Draw}
 use Rattle.bsp_cli.specs.declared.fault.RunFault.{RunFault}
 use Rattle.bsp_cli.specs.declared.fault.RunFault.TheVariants.{Text, Read, Write, Memory, NotStarted, Internal}
@@ -57,40 +59,60 @@ runs form workers limit input old new j report (Err (NotStarted k)) read left_it
 runs form workers limit input old new j report (Err Internal) read left_it h = absurd h
 
 -- and so what was asked for was done
-pub does : (workers limit : ℕ) (input old new : Option (List ℕ)) (r : Result JobStatus RunFault) → Runs report_text workers limit input old new r
-    → Does (Run workers limit) input old new (end_result r)
-does workers limit input old new (Ok status) h =
+pub does : (workers limit : ℕ) (look : LookValue) (input old new : Option (List ℕ)) (r : Result JobStatus RunFault) → Runs report_text workers limit input old new r
+    → Does (Run workers limit) look input old new (end_result r)
+does workers limit look input old new (Ok status) h =
     (small (status_seen status), if-some input (λ bytes w. (w.0, w.1, w.2, ap status_number w.3)) h)
-does workers limit input old new (Err (Text x)) h = h
-does workers limit input old new (Err Read) h = h
-does workers limit input old new (Err Write) h = h
-does workers limit input old new (Err Memory) h = h
-does workers limit input old new (Err (NotStarted k)) h = h
-does workers limit input old new (Err Internal) h = h
+does workers limit look input old new (Err (Text x)) h = h
+does workers limit look input old new (Err Read) h = h
+does workers limit look input old new (Err Write) h = h
+does workers limit look input old new (Err Memory) h = h
+does workers limit look input old new (Err (NotStarted k)) h = h
+does workers limit look input old new (Err Internal) h = h
 
 -- and written as JSON
-pub does_json : (workers limit : ℕ) (input old new : Option (List ℕ)) (r : Result JobStatus RunFault) → Runs json_text workers limit input old new r
-    → Does (RunJson workers limit) input old new (end_result r)
-does_json workers limit input old new (Ok status) h =
+pub does_json : (workers limit : ℕ) (look : LookValue) (input old new : Option (List ℕ)) (r : Result JobStatus RunFault) → Runs json_text workers limit input old new r
+    → Does (RunJson workers limit) look input old new (end_result r)
+does_json workers limit look input old new (Ok status) h =
     (small (status_seen status), if-some input (λ bytes w. (w.0, w.1, w.2, ap status_number w.3)) h)
-does_json workers limit input old new (Err (Text x)) h = h
-does_json workers limit input old new (Err Read) h = h
-does_json workers limit input old new (Err Write) h = h
-does_json workers limit input old new (Err Memory) h = h
-does_json workers limit input old new (Err (NotStarted k)) h = h
-does_json workers limit input old new (Err Internal) h = h
+does_json workers limit look input old new (Err (Text x)) h = h
+does_json workers limit look input old new (Err Read) h = h
+does_json workers limit look input old new (Err Write) h = h
+does_json workers limit look input old new (Err Memory) h = h
+does_json workers limit look input old new (Err (NotStarted k)) h = h
+does_json workers limit look input old new (Err Internal) h = h
 
 -- and drawn
-pub draws : (workers limit : ℕ) (input old new : Option (List ℕ)) (r : Result JobStatus RunFault) → Runs picture workers limit input old new r
-    → Does (Draw workers limit) input old new (end_result r)
-draws workers limit input old new (Ok status) h =
+pub draws : (workers limit : ℕ) (look : LookValue) (input old new : Option (List ℕ)) (r : Result JobStatus RunFault) → Draws look workers limit input old new r
+    → Does (Draw workers limit) look input old new (end_result r)
+draws workers limit look input old new (Ok status) h =
     (small (status_seen status), if-some input (λ bytes w. (w.0, w.1, w.2, ap status_number w.3)) h)
-draws workers limit input old new (Err (Text x)) h = h
-draws workers limit input old new (Err Read) h = h
-draws workers limit input old new (Err Write) h = h
-draws workers limit input old new (Err Memory) h = h
-draws workers limit input old new (Err (NotStarted k)) h = h
-draws workers limit input old new (Err Internal) h = h
+draws workers limit look input old new (Err (Text x)) h = h
+draws workers limit look input old new (Err Read) h = h
+draws workers limit look input old new (Err Write) h = h
+draws workers limit look input old new (Err Memory) h = h
+draws workers limit look input old new (Err (NotStarted k)) h = h
+draws workers limit look input old new (Err Internal) h = h
+
+-- the program of a text is that of the job that was read
+program-read : (j : JobValue) (bytes : List ℕ) → job_in bytes ≡ Ok (job_tree j) → program_of j ≡ program_told (job_in bytes)
+program-read j bytes e = sym (ap program_told e ∙ same-program j)
+
+-- a job that was read and run, and its picture that was written
+pub draws_runs : (look : LookValue) (workers limit : ℕ) (input old new : Option (List ℕ)) (j : JobValue) (report : ReportValue) (r : Result JobStatus RunFault)
+    → IfSome input (λ bytes. job_in bytes ≡ Ok (job_tree j)) → report_of (program_of j) limit ≡ Some report
+    → Reports (drawn look (program_of j) limit) report old new r → Draws look workers limit input old new r
+draws_runs look workers limit input old new j report (Ok status) read left_it h =
+    if-some input (λ bytes e. (report, (job_tree j, e, left j limit report left_it),
+      subst (λ (p : Program). Appends old new (drawn look p limit report)) (program-read j bytes e) h.0, h.1)) read
+draws_runs look workers limit input old new j report (Err (Text x)) read left_it h = absurd h
+draws_runs look workers limit input old new j report (Err Read) read left_it h = absurd h
+draws_runs look workers limit input old new j report (Err Write) read left_it h =
+    if-some input (λ bytes e. (report, (job_tree j, e, left j limit report left_it),
+      subst (λ (p : Program). AppendsBeginning old new (drawn look p limit report)) (program-read j bytes e) h)) read
+draws_runs look workers limit input old new j report (Err Memory) read left_it h = h
+draws_runs look workers limit input old new j report (Err (NotStarted k)) read left_it h = absurd h
+draws_runs look workers limit input old new j report (Err Internal) read left_it h = absurd h
 
 keeps : (o : Option (List ℕ)) → Keeps o o
 keeps None = tt
@@ -121,3 +143,12 @@ pool_writes workers old Write h = absurd h
 pool_writes workers old Memory h = refl
 pool_writes workers old (NotStarted k) h = refl
 pool_writes workers old Internal h = refl
+
+-- nor drawn
+pub pool_draws : (look : LookValue) (workers limit : ℕ) (input old : Option (List ℕ)) (fault : RunFault) → IsOfPool workers fault → Draws look workers limit input old old (Err fault)
+pool_draws look workers limit input old (Text r) h = absurd h
+pool_draws look workers limit input old Read h = absurd h
+pool_draws look workers limit input old Write h = absurd h
+pool_draws look workers limit input old Memory h = keeps old
+pool_draws look workers limit input old (NotStarted k) h = (keeps old, h)
+pool_draws look workers limit input old Internal h = keeps old

@@ -3,7 +3,7 @@ use Rattle.std.specs.Prelude.{◌≡◌, ◌≢◌, ◌≤◌, ◌⊎◌, ℕ, t
 use Rattle.std.specs.Io.KnownBytes.{Appends}
 use Rattle.clap.specs.declared.error.kind.ErrorKind.TheVariants as kinds
 use Rattle.tier_shape.specs.Told.{shape_told}
-use Rattle.bsp_cli.specs.CommandLine.{asked_in, refused_by, tree_asked}
+use Rattle.bsp_cli.specs.CommandLine.{asked_in, look_asked, refused_by, tree_asked}
 use Rattle.bsp_cli.specs.Did.{Did, ReadsNothing, are_refused}
 use Rattle.bsp_cli.specs.Texts.{CountsFailures, Says, Tells, WritesSome, version_line}
 
@@ -24,7 +24,7 @@ IsSame d = d.after ≡ d.before
 -- The status that words end with, and what was read, written and told: words that are taken do what they ask for, at the tree that they
 -- ask for; help and the version are written; other words are refused, and nothing is read.
 pub record AnswersWords {R W E : Type 0} (words : List (List ℕ)) (reader : Around R) (writer : Around W) (errors : Around E) (status : ℕ) : Type 0 where
-  pub did : refused_by words ≡ [] → Did (asked_in words) (reader.bytes reader.before) (writer.bytes writer.before) (writer.bytes writer.after)
+  pub did : refused_by words ≡ [] → Did (asked_in words) (look_asked words) (reader.bytes reader.before) (writer.bytes writer.before) (writer.bytes writer.after)
       (Tells (errors.bytes errors.before) (errors.bytes errors.after) (errors.failures errors.before) (errors.failures errors.after)) status
   pub taken : refused_by words ≡ [] → IsOk (shape_told (tree_asked words)) → status ≢ 5
   pub reads_nothing : refused_by words ≡ [] → ReadsNothing (asked_in words) → IsSame reader

@@ -1,5 +1,5 @@
 -- The command line (own): the program's name, a subcommand, and its options.
-use Rattle.std.specs.Prelude.{ℕ, ◌&&◌, Bool, true, false, pos, nat_le, if◌then◌else◌, List, codes, Option, Some, None}
+use Rattle.std.specs.Prelude.{ℕ, ◌&&◌, Bool, true, false, pos, nat_le, if◌then◌else◌, List, [], codes, Option, Some, None}
 use Rattle.std.specs.Str.{bytes_eq}
 use Rattle.std.specs.Str.Parse.{digits_value, without_leading_plus}
 use Rattle.std.specs.Option.{unwrap_or}
@@ -8,6 +8,7 @@ use Rattle.clap.specs.ValueTests.{is_unsigned_in}
 use Rattle.clap.specs.declared.builder.action.ArgAction.TheVariants.{Set, SetTrue}
 use Rattle.clap.specs.declared.builder.value_parser.ValueParser.{ValueParser}
 use Rattle.clap.specs.declared.builder.value_parser.ValueParser.TheVariants as parser
+use Rattle.job_view.specs.Look.{LookValue}
 use Rattle.bsp_cli.specs.Topics.{topic_by}
 use Rattle.bsp_cli.specs.declared.asked.Topic.{Topic}
 use Rattle.bsp_cli.specs.declared.asked.Asked.{Asked}
@@ -29,6 +30,14 @@ number_rule name most = record (numbers_rule name (parser.Signed (pos 1) (pos mo
 abbrev pub tree_rule : Rule
 tree_rule = record (new_rule (codes "tree")) {
   long = Some (codes "tree");
+  value_names = 1;
+  action = Some Set;
+}
+
+-- an option with any text
+abbrev pub text_rule : List ℕ → Rule
+text_rule name = record (new_rule name) {
+  long = Some name;
   value_names = 1;
   action = Some Set;
 }
@@ -78,6 +87,11 @@ json_rule = record (new_rule (codes "json")) {
 abbrev pub run_app : App
 run_app = with_rule (with_rule (job_app (codes "run")) progress_rule) json_rule
 
+-- `draw`, with `--width`, `--over-time` and `--title`
+abbrev pub draw_app : App
+draw_app =
+    with_rule (with_rule (with_rule (job_app (codes "draw")) (text_rule (codes "width"))) (text_rule (codes "over-time"))) (text_rule (codes "title"))
+
 -- the number of a code, a word without a dash
 abbrev pub code_rule : Rule
 code_rule = numbers_rule (codes "code") (parser.Signed (pos 1) (pos 14))
@@ -100,7 +114,7 @@ program =
     check_app.top)
     (text_app (codes "upgrade")).top)
     run_app.top)
-    (job_app (codes "draw")).top)
+    draw_app.top)
     explain_app.top
 
 -- the number of an option, from 1 to the most; the usual one where it isn't given
@@ -140,6 +154,23 @@ unless_hyphen (Some text) = if bytes_eq text (codes "-") then None else Some tex
 abbrev pub file_in : List Row → Option (List ℕ)
 file_in rows = unless_hyphen (first_of (codes "file") rows)
 
+-- the title of a picture: the file's name, unless another is given
+abbrev pub title_or : Option (List ℕ) → Option (List ℕ) → Option (List ℕ)
+title_or None file = file
+title_or (Some title) file = Some title
+
+-- what is asked of a picture
+abbrev pub look_in : List Row → LookValue
+look_in rows = record {
+  title = title_or (first_of (codes "title") rows) (file_in rows);
+  widths = unwrap_or (first_of (codes "width") rows) [];
+  over_time = unwrap_or (first_of (codes "over-time") rows) [];
+}
+
+-- nothing
+abbrev pub no_look : LookValue
+no_look = record { title = None; widths = []; over_time = [] }
+
 -- the number that was read, if it is one from 1 to the most
 abbrev pub chosen : ℕ → ℕ → Option ℕ → ℕ
 chosen most usual None = usual
@@ -178,6 +209,16 @@ abbrev pub file_by : Option (List ℕ × List Row) → Option (List ℕ)
 file_by None = None
 file_by (Some p) = file_in p.1
 
+-- what a subcommand asks of a picture
+abbrev pub look_by : Option (List ℕ × List Row) → LookValue
+look_by None = no_look
+look_by (Some p) =
+    if bytes_eq p.0 (codes "check") then no_look
+    else if bytes_eq p.0 (codes "upgrade") then no_look
+    else if bytes_eq p.0 (codes "explain") then no_look
+    else if bytes_eq p.0 (codes "run") then no_look
+    else if bytes_eq p.0 (codes "draw") then look_in p.1 else no_look
+
 -- what words ask for, where they are taken
 abbrev pub asked_in : List (List ℕ) → Asked
 asked_in words = asked_by (subcommand_of program words)
@@ -185,6 +226,10 @@ asked_in words = asked_by (subcommand_of program words)
 -- the text of the tree that words ask for, where they are taken
 abbrev pub tree_asked : List (List ℕ) → List ℕ
 tree_asked words = tree_by (subcommand_of program words)
+
+-- what words ask of a picture, where they are taken
+abbrev pub look_asked : List (List ℕ) → LookValue
+look_asked words = look_by (subcommand_of program words)
 
 -- the file that words name, where they are taken: none where standard input is read
 abbrev pub file_asked : List (List ℕ) → Option (List ℕ)

@@ -4,7 +4,7 @@ use Rattle.std.specs.List.{list_all}
 use Rattle.std.specs.Io.KnownBytes.{Appends, Keeps}
 use Rattle.text_lines.specs.declared.refusal.Refusal.{Refusal}
 use Rattle.phase_records.specs.ReportText.{report_text}
-use Rattle.job_picture.specs.Picture.{picture}
+use Rattle.job_view.specs.Look.{LookValue}
 use Rattle.report_json.specs.ReportJson.{json_text}
 use Rattle.trace_text.specs.Trace.{asked_of}
 use Rattle.trace_text.specs.Outcome.{WritesAnswers, WritesBeginning}
@@ -13,6 +13,7 @@ use Rattle.job_faults.specs.Listing.{listing}
 use Rattle.clap.specs.declared.error.kind.ErrorKind.{ErrorKind}
 use Rattle.clap.specs.declared.error.kind.ErrorKind.TheVariants as kinds
 use Rattle.clap.specs.Words.{Kinds}
+use Rattle.bsp_cli.specs.Drawn.{drawn_in}
 use Rattle.bsp_cli.specs.Jobs.{WritesCanonical, BeginsCanonical, BeginsListing, WritesUpgraded, BeginsUpgraded, WritesReport, BeginsReport}
 use Rattle.bsp_cli.specs.Texts.{refusal_line, worker_line}
 use Rattle.bsp_cli.specs.Topics.{WritesTopic, BeginsTopic}
@@ -20,26 +21,26 @@ use Rattle.bsp_cli.specs.declared.asked.Asked.{Asked}
 use Rattle.bsp_cli.specs.declared.asked.Asked.TheVariants.{Trace, Check, CheckAll, Upgrade, Run, RunJson, Draw, Explain}
 
 -- the input was read, and all that is asked for was written
-abbrev pub Finishes : Asked → List ℕ → Option (List ℕ) → Option (List ℕ) → ℕ → Type 0
-Finishes Trace input old new status = (status ≡ 0) × WritesAnswers input old new
-Finishes Check input old new status = (status ≡ 0) × WritesCanonical input old new
-Finishes CheckAll input old new status = (status ≡ 0) × WritesCanonical input old new
-Finishes Upgrade input old new status = (status ≡ 0) × WritesUpgraded input old new
-Finishes (Run workers limit) input old new status = WritesReport report_text limit input old new status
-Finishes (RunJson workers limit) input old new status = WritesReport json_text limit input old new status
-Finishes (Explain topic) input old new status = (status ≡ 0) × WritesTopic topic old new
-Finishes (Draw workers limit) input old new status = WritesReport picture limit input old new status
+abbrev pub Finishes : Asked → LookValue → List ℕ → Option (List ℕ) → Option (List ℕ) → ℕ → Type 0
+Finishes Trace look input old new status = (status ≡ 0) × WritesAnswers input old new
+Finishes Check look input old new status = (status ≡ 0) × WritesCanonical input old new
+Finishes CheckAll look input old new status = (status ≡ 0) × WritesCanonical input old new
+Finishes Upgrade look input old new status = (status ≡ 0) × WritesUpgraded input old new
+Finishes (Run workers limit) look input old new status = WritesReport report_text limit input old new status
+Finishes (RunJson workers limit) look input old new status = WritesReport json_text limit input old new status
+Finishes (Explain topic) look input old new status = (status ≡ 0) × WritesTopic topic old new
+Finishes (Draw workers limit) look input old new status = WritesReport (drawn_in look limit input) limit input old new status
 
 -- the input was read, and a beginning of what is asked for was written
-abbrev pub Begins : Asked → List ℕ → Option (List ℕ) → Option (List ℕ) → Type 0
-Begins Trace input old new = WritesBeginning input old new
-Begins Check input old new = BeginsCanonical input old new
-Begins CheckAll input old new = BeginsCanonical input old new ⊎ BeginsListing input old new
-Begins Upgrade input old new = BeginsUpgraded input old new
-Begins (Run workers limit) input old new = BeginsReport report_text limit input old new
-Begins (RunJson workers limit) input old new = BeginsReport json_text limit input old new
-Begins (Explain topic) input old new = BeginsTopic topic old new
-Begins (Draw workers limit) input old new = BeginsReport picture limit input old new
+abbrev pub Begins : Asked → LookValue → List ℕ → Option (List ℕ) → Option (List ℕ) → Type 0
+Begins Trace look input old new = WritesBeginning input old new
+Begins Check look input old new = BeginsCanonical input old new
+Begins CheckAll look input old new = BeginsCanonical input old new ⊎ BeginsListing input old new
+Begins Upgrade look input old new = BeginsUpgraded input old new
+Begins (Run workers limit) look input old new = BeginsReport report_text limit input old new
+Begins (RunJson workers limit) look input old new = BeginsReport json_text limit input old new
+Begins (Explain topic) look input old new = BeginsTopic topic old new
+Begins (Draw workers limit) look input old new = BeginsReport (drawn_in look limit input) limit input old new
 
 -- the input is refused, first here
 abbrev pub Refuses : Asked → List ℕ → Refusal → Type 0
@@ -70,12 +71,12 @@ IsWorkerOf (Draw workers limit) k = k < workers
 IsWorkerOf _ k = ⊥
 
 -- what is asked for is done if the status is 0, 2 or 3; else the output and the line on standard error say what went wrong
-pub record Did (a : Asked) (input old new : Option (List ℕ)) (told : List ℕ → Type 0) (status : ℕ) : Type 0 where
-  pub finished : status ≤ 3 → IfSome input (λ bytes. Finishes a bytes old new status)
+pub record Did (a : Asked) (look : LookValue) (input old new : Option (List ℕ)) (told : List ℕ → Type 0) (status : ℕ) : Type 0 where
+  pub finished : status ≤ 3 → IfSome input (λ bytes. Finishes a look bytes old new status)
   pub refused : status ≡ 4 → Lists a input old new × (r : Refusal) × told (refusal_line r) × IfSome input (λ bytes. Refuses a bytes r)
   pub memory : status ≡ 6 → RunsOut a input old new
   pub not_started : status ≡ 7 → Keeps old new × (k : ℕ) × IsWorkerOf a k × told (worker_line k)
-  pub failed : status ≡ 8 → Keeps old new ⊎ IfSome input (λ bytes. Begins a bytes old new)
+  pub failed : status ≡ 8 → Keeps old new ⊎ IfSome input (λ bytes. Begins a look bytes old new)
   pub internal : status ≡ 9 → Keeps old new
 
 -- words that are refused: neither taken nor a call for help or for the version

@@ -11,8 +11,10 @@ use Rattle.trace_text.specs.Outcome.{WritesAnswers, WritesBeginning}
 use Rattle.job_reader.specs.Trees.{job_tree}
 use Rattle.job_reader.specs.Reading.{job_in}
 use Rattle.job_faults.specs.Listing.{listing}
+use Rattle.job_view.specs.Look.{LookValue}
 use Rattle.text_lines.specs.declared.refusal.Refusal.{Refusal}
 use Rattle.bsp_cli.specs.Jobs.{status_number, WritesCanonical, BeginsCanonical, BeginsListing, WritesUpgraded, BeginsUpgraded, WritesReportOf, BeginsReport}
+use Rattle.bsp_cli.specs.Drawn.{drawn_in}
 use Rattle.bsp_cli.specs.Did.{Finishes, Begins, Lists, Refuses, RunsOut, IsWorkerOf}
 use Rattle.bsp_cli.specs.Texts.{fault_status}
 use Rattle.bsp_cli.specs.Topics.{WritesTopic, BeginsTopic}
@@ -124,14 +126,23 @@ Runs form workers limit input old new (Err Write) = IfSome input (λ bytes. Begi
 Runs form workers limit input old new (Err (NotStarted k)) = Keeps old new × (k < workers)
 Runs form workers limit input old new _ = Keeps old new
 
+-- the same of its picture, as it is asked for
+abbrev pub Draws : LookValue → ℕ → ℕ → Option (List ℕ) → Option (List ℕ) → Option (List ℕ) → Result JobStatus RunFault → Type 0
+Draws look workers limit input old new (Ok status) =
+    IfSome input (λ bytes. WritesReportOf (drawn_in look limit bytes) limit bytes old new (status_seen status))
+Draws look workers limit input old new (Err (Text r)) = IfSome input (λ bytes. job_in bytes ≡ Err r) × Keeps old new
+Draws look workers limit input old new (Err Write) = IfSome input (λ bytes. BeginsReport (drawn_in look limit bytes) limit bytes old new)
+Draws look workers limit input old new (Err (NotStarted k)) = Keeps old new × (k < workers)
+Draws look workers limit input old new _ = Keeps old new
+
 -- what is asked for was done, whichever it is
-abbrev pub Does : Asked → Option (List ℕ) → Option (List ℕ) → Option (List ℕ) → Result ℕ RunFault → Type 0
-Does a input old new (Ok status) = (status ≤ 3) × IfSome input (λ bytes. Finishes a bytes old new status)
-Does a input old new (Err (Text r)) = IfSome input (λ bytes. Refuses a bytes r) × Lists a input old new
-Does a input old new (Err Write) = IfSome input (λ bytes. Begins a bytes old new)
-Does a input old new (Err Memory) = RunsOut a input old new
-Does a input old new (Err (NotStarted k)) = Keeps old new × IsWorkerOf a k
-Does a input old new _ = Keeps old new
+abbrev pub Does : Asked → LookValue → Option (List ℕ) → Option (List ℕ) → Option (List ℕ) → Result ℕ RunFault → Type 0
+Does a look input old new (Ok status) = (status ≤ 3) × IfSome input (λ bytes. Finishes a look bytes old new status)
+Does a look input old new (Err (Text r)) = IfSome input (λ bytes. Refuses a bytes r) × Lists a input old new
+Does a look input old new (Err Write) = IfSome input (λ bytes. Begins a look bytes old new)
+Does a look input old new (Err Memory) = RunsOut a input old new
+Does a look input old new (Err (NotStarted k)) = Keeps old new × IsWorkerOf a k
+Does a look input old new _ = Keeps old new
 
 -- there is such a code or fault
 abbrev pub IsTopic : Topic → Type 0

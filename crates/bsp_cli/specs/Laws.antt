@@ -2,7 +2,8 @@
 use Rattle.std.specs.Prelude.{◌≡◌, ◌≤◌, ℕ, true, false, List, [], ◌∷◌, Option, Some, None, codes, decimal}
 use Rattle.std.specs.Str.Parse.{digits_value, starts_with_minus, without_leading_plus}
 use Rattle.clap.specs.ValueTests.{is_unsigned_in}
-use Rattle.bsp_cli.specs.CommandLine.{asked_in, file_asked, refused_by, tree_asked}
+use Rattle.job_view.specs.Look.{LookValue}
+use Rattle.bsp_cli.specs.CommandLine.{asked_in, file_asked, look_asked, no_look, refused_by, tree_asked}
 use Rattle.bsp_cli.specs.Did.{are_refused}
 use Rattle.clap.specs.declared.error.kind.ErrorKind.TheVariants.{DisplayHelp, DisplayVersion}
 use Rattle.bsp_cli.specs.declared.asked.Topic.TheVariants.{All, Code, Fault}
@@ -69,6 +70,20 @@ pub record WordsNameFiles (name : List ℕ) : Type 0 where
   pub trace_none : Reads (name ∷ codes "trace" ∷ []) None
   pub explain : Reads (name ∷ codes "explain" ∷ codes "3" ∷ []) None
 
+-- words that are taken, and what they ask of a picture
+abbrev pub Looks : List (List ℕ) → LookValue → Type 0
+Looks words look = (refused_by words ≡ []) × (look_asked words ≡ look)
+
+-- a picture is as it always was, unless a width, arrays over supersteps, a title or a file is given; a title is given before a file's name
+pub record WordsLook (name : List ℕ) : Type 0 where
+  pub plain : Looks (name ∷ codes "draw" ∷ []) no_look
+  pub other : Looks (name ∷ codes "run" ∷ codes "-f" ∷ codes "a" ∷ []) no_look
+  pub width : Looks (name ∷ codes "draw" ∷ codes "--width" ∷ codes "a=3" ∷ []) (record no_look { widths = codes "a=3" })
+  pub over_time : Looks (name ∷ codes "draw" ∷ codes "--over-time=a,b" ∷ []) (record no_look { over_time = codes "a,b" })
+  pub title : Looks (name ∷ codes "draw" ∷ codes "--title" ∷ codes "T" ∷ []) (record no_look { title = Some (codes "T") })
+  pub file : Looks (name ∷ codes "draw" ∷ codes "-f" ∷ codes "a.job" ∷ []) (record no_look { title = Some (codes "a.job") })
+  pub both : Looks (name ∷ codes "draw" ∷ codes "-f" ∷ codes "a.job" ∷ codes "--title" ∷ codes "T" ∷ []) (record no_look { title = Some (codes "T") })
+
 -- words that aren't taken
 pub record WordsAreRefused (name : List ℕ) : Type 0 where
   pub nothing : AreRefused (name ∷ [])
@@ -88,6 +103,9 @@ pub record WordsAreRefused (name : List ℕ) : Type 0 where
   pub json_checked : AreRefused (name ∷ codes "check" ∷ codes "--json" ∷ [])
   pub json_twice : AreRefused (name ∷ codes "run" ∷ codes "--json" ∷ codes "--json" ∷ [])
   pub json_value : AreRefused (name ∷ codes "run" ∷ codes "--json=true" ∷ [])
+  pub width_run : AreRefused (name ∷ codes "run" ∷ codes "--width" ∷ codes "a=3" ∷ [])
+  pub over_time_checked : AreRefused (name ∷ codes "check" ∷ codes "--over-time" ∷ codes "a" ∷ [])
+  pub two_titles : AreRefused (name ∷ codes "draw" ∷ codes "--title" ∷ codes "a" ∷ codes "--title" ∷ codes "b" ∷ [])
   pub more_draw : AreRefused (name ∷ codes "draw" ∷ codes "job" ∷ [])
   pub drawn_never : AreRefused (name ∷ codes "draw" ∷ codes "--limit" ∷ codes "0" ∷ [])
   pub drawn_by_none : AreRefused (name ∷ codes "draw" ∷ codes "--workers" ∷ codes "0" ∷ [])
@@ -142,6 +160,9 @@ EachNameAsks = (name : List ℕ) → WordsAsk name
 
 abbrev pub EachNameNamesFiles : Type 0
 EachNameNamesFiles = (name : List ℕ) → WordsNameFiles name
+
+abbrev pub EachNameLooks : Type 0
+EachNameLooks = (name : List ℕ) → WordsLook name
 
 abbrev pub EachNameRefuses : Type 0
 EachNameRefuses = (name : List ℕ) → WordsAreRefused name

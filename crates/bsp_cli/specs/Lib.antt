@@ -1,6 +1,7 @@
 pub mod Answers
 pub mod CommandLine
 pub mod Did
+pub mod Drawn
 pub mod Ends
 pub mod Jobs
 pub mod Laws

@@ -1,14 +1,17 @@
 //! What a command line asks for.
-ghost use Rattle.std.specs.Prelude.{◌≡◌, ◌≤◌, false, true, codes, option_map, None, IfOk, IfErr};
-ghost use Rattle.clap.specs.Words.{app_of, found_of, kind_of, new_app, one_of, rows_of, rule_of, subcommand_rows_of};
+ghost use Rattle.std.specs.Prelude.{◌≡◌, ◌≤◌, [], false, true, codes, option_map, None, IfOk, IfErr};
+ghost use Rattle.clap.specs.Words.{app_of, first_of, found_of, kind_of, new_app, one_of, rows_of, rule_of, subcommand_rows_of};
 ghost use Rattle.clap.specs.declared.builder.command.Command.TheViews.{out-Command as fields_of};
 ghost use Rattle.clap.specs.declared.error.kind.ErrorKind.TheVariants as kinds;
-ghost use Rattle.bsp_cli.specs.CommandLine.{all_rule, asked_by, bare, check_app, check_by, chosen, code_rule, explain_app, file_by, file_in, file_rule, flag_in, is_set, job_app, json_rule, limit_in, number_from, number_rule, numbers_rule, program, progress_rule, run_app, run_by, text_app, topic_in, tree_by, tree_in, tree_rule, unless_hyphen, workers_in};
+ghost use Rattle.bsp_cli.specs.CommandLine.{all_rule, asked_by, bare, check_app, check_by, chosen, code_rule, explain_app, file_by, file_in, file_rule, draw_app, flag_in, is_set, job_app, json_rule, limit_in, look_by, look_in, no_look, number_from, number_rule, numbers_rule, program, progress_rule, run_app, run_by, text_app, text_rule, title_or, topic_in, tree_by, tree_in, tree_rule, unless_hyphen, workers_in};
 ghost use Rattle.bsp_cli.specs.Ends.{IsAsked, IsTopic};
 ghost use Rattle.bsp_cli.specs.Topics.{topic_by};
+ghost use Rattle.std.specs.Option.{unwrap_or};
+ghost use Rattle.job_view.specs.Look.{look_value};
 
 use crate::help::{CHECK_LINES, DRAW_LINES, EXAMPLES, RUN_LINES, TRACE_LINES, UPGRADE_LINES};
 use clap::builder::ValueParser;
+use job_rows::Look;
 use clap::{Arg, ArgAction, ArgMatches, Command, Error};
 use std::alloc::Global;
 
@@ -59,14 +62,16 @@ pub enum Asked {
     },
 }
 
-/// A command line: its subcommand, the text of the tree at which workers meet, the file that it names, and whether to report
-/// progress.
+/// A command line: its subcommand, the text of the tree at which workers meet, the file that it names, what it asks of a
+/// picture, and whether to report progress.
 #[derive(Clone, Copy)]
 pub(crate) struct Request<'a> {
     pub(crate) asked: Asked,
     pub(crate) tree: &'a str,
     /// The file that the text is read from. `None` is standard input.
     pub(crate) file: Option<&'a str>,
+    /// What is asked of a picture.
+    pub(crate) look: Look<'a>,
     /// Whether to report progress. No contract depends on it.
     pub(crate) progress: bool,
 }
@@ -157,6 +162,42 @@ fn file_option<'a>(alloc: Global) -> Arg<'a>
         .long("file")
         .value_name("FILE")
         .help("File to read; - is standard input [default: -]")
+        .action(ArgAction::Set)
+}
+
+// Makes the option `--width`.
+fn width_option<'a>(alloc: Global) -> Arg<'a>
+    ensures rule { rule_of result ≡ text_rule (codes "width") }
+    ensures local { result.global ≡ false }
+{
+    Arg::new(alloc, "width")
+        .long("width")
+        .value_name("NAME=N")
+        .help("Draws an array in rows of N cells; commas between several")
+        .action(ArgAction::Set)
+}
+
+// Makes the option `--over-time`.
+fn over_time_option<'a>(alloc: Global) -> Arg<'a>
+    ensures rule { rule_of result ≡ text_rule (codes "over-time") }
+    ensures local { result.global ≡ false }
+{
+    Arg::new(alloc, "over-time")
+        .long("over-time")
+        .value_name("NAME[,NAME]")
+        .help("Also draws these arrays over supersteps")
+        .action(ArgAction::Set)
+}
+
+// Makes the option `--title`.
+fn title_option<'a>(alloc: Global) -> Arg<'a>
+    ensures rule { rule_of result ≡ text_rule (codes "title") }
+    ensures local { result.global ≡ false }
+{
+    Arg::new(alloc, "title")
+        .long("title")
+        .value_name("TEXT")
+        .help("Title of the picture [default: the file]")
         .action(ArgAction::Set)
 }
 
@@ -272,12 +313,16 @@ fn run_command<'a>(alloc: Global) -> Result<Command<'a>, Error>
 
 // Makes the subcommand `draw`.
 fn draw_command<'a>(alloc: Global) -> Result<Command<'a>, Error>
-    ensures app { IfOk result (λ c. app_of c ≡ job_app (codes "draw")) }
+    ensures app { IfOk result (λ c. app_of c ≡ draw_app) }
     ensures local { IfOk result (λ c. (fields_of c).has_globals ≡ false) }
     ensures memory { IfErr result (λ e. kind_of e ≡ kinds.OutOfMemory) }
 {
     let about = "Runs a job, and prints a picture of its supersteps and arrays, an SVG file";
-    job_command(alloc, "draw", about, DRAW_LINES)
+    let bare = job_command(alloc, "draw", about, DRAW_LINES)?;
+    let with_width = bare.arg(width_option(alloc))?;
+    let with_time = with_width.arg(over_time_option(alloc))?;
+    let with_title = with_time.arg(title_option(alloc))?;
+    Ok(with_title)
 }
 
 // Makes the subcommand `trace`.
@@ -452,6 +497,69 @@ fn file_of<'a>(matches: &ArgMatches<'a>) -> Option<&'a str>
     unless_hyphen(matches.get_str("file"))
 }
 
+// Returns a text, or the empty one if none is given.
+fn or_empty<'a>(text: Option<&'a str>) -> &'a str
+    ensures { result.now ≡ unwrap_or (option_map (λ s. s.now) text.entry) [] }
+{
+    match text {
+        Some(text) => text,
+        None => "",
+    }
+}
+
+// Returns the widths of arrays in a picture.
+fn widths_of<'a>(matches: &ArgMatches<'a>) -> &'a str
+    ensures { result.now ≡ unwrap_or (first_of (codes "width") (rows_of (found_of matches.now))) [] }
+{
+    or_empty(matches.get_str("width"))
+}
+
+// Returns the names of the arrays that are drawn over supersteps.
+fn over_time_of<'a>(matches: &ArgMatches<'a>) -> &'a str
+    ensures { result.now ≡ unwrap_or (first_of (codes "over-time") (rows_of (found_of matches.now))) [] }
+{
+    or_empty(matches.get_str("over-time"))
+}
+
+// Returns the title, or else the file's name.
+fn title_or<'a>(title: Option<&'a str>, file: Option<&'a str>) -> Option<&'a str>
+    ensures { option_map (λ s. s.now) result ≡ title_or (option_map (λ s. s.now) title.entry) (option_map (λ s. s.now) file.entry) }
+{
+    match title {
+        Some(_) => title,
+        None => file,
+    }
+}
+
+// Returns the title of a picture.
+fn title_of<'a>(matches: &ArgMatches<'a>) -> Option<&'a str>
+    ensures { option_map (λ s. s.now) result ≡ title_or (first_of (codes "title") (rows_of (found_of matches.now))) (file_in (rows_of (found_of matches.now))) }
+{
+    title_or(matches.get_str("title"), file_of(matches))
+}
+
+// Returns what is asked of a picture.
+fn look_of<'a>(matches: &ArgMatches<'a>) -> Look<'a>
+    ensures { look_value result ≡ look_in (rows_of (found_of matches.now)) }
+{
+    Look {
+        title: title_of(matches),
+        widths: widths_of(matches),
+        over_time: over_time_of(matches),
+    }
+}
+
+// Returns that nothing is asked of a picture.
+fn no_look<'a>() -> Look<'a>
+    ensures { look_value result ≡ no_look }
+{
+    Look {
+        title: None,
+        widths: "",
+        over_time: "",
+    }
+}
+
 // Returns the number of the code to be explained, or 0 if none is given.
 fn code_of(matches: &ArgMatches<'_>) -> u32
     ensures code { result ≡ number_from 14 0 (one_of (codes "code") (rows_of (found_of matches.now))) }
@@ -510,25 +618,34 @@ fn without_tree<'a>(asked: Asked, options: &ArgMatches<'a>) -> Request<'a>
     ensures asked { result.asked ≡ asked }
     ensures tree { result.tree.now ≡ codes "flat" }
     ensures file { option_map (λ s. s.now) result.file ≡ file_in (rows_of (found_of options.now)) }
+    ensures look { look_value result.look ≡ no_look }
 {
     Request {
         asked,
         tree: "flat",
         file: file_of(options),
+        look: no_look(),
         progress: false,
     }
 }
 
 // Returns the request of a subcommand that runs a job.
-fn with_tree<'a>(asked: Asked, options: &ArgMatches<'a>, progress: bool) -> Request<'a>
+fn with_tree<'a>(
+    asked: Asked,
+    options: &ArgMatches<'a>,
+    look: Look<'a>,
+    progress: bool,
+) -> Request<'a>
     ensures asked { result.asked ≡ asked }
     ensures tree { result.tree.now ≡ tree_in (rows_of (found_of options.now)) }
     ensures file { option_map (λ s. s.now) result.file ≡ file_in (rows_of (found_of options.now)) }
+    ensures look { look_value result.look ≡ look_value look.entry }
 {
     Request {
         asked,
         tree: tree_of(options),
         file: file_of(options),
+        look,
         progress,
     }
 }
@@ -538,11 +655,13 @@ fn nothing_asked<'a>() -> Request<'a>
     ensures asked { result.asked ≡ Asked.Trace }
     ensures tree { result.tree.now ≡ codes "flat" }
     ensures file { result.file ≡ None }
+    ensures look { look_value result.look ≡ no_look }
 {
     Request {
         asked: Asked::Trace,
         tree: "flat",
         file: None,
+        look: no_look(),
         progress: false,
     }
 }
@@ -552,6 +671,7 @@ pub(crate) fn asked_for<'a>(matches: &ArgMatches<'a>) -> Request<'a>
     ensures asked { result.asked ≡ asked_by (subcommand_rows_of matches.now) }
     ensures tree { result.tree.now ≡ tree_by (subcommand_rows_of matches.now) }
     ensures file { option_map (λ s. s.now) result.file ≡ file_by (subcommand_rows_of matches.now) }
+    ensures look { look_value result.look ≡ look_by (subcommand_rows_of matches.now) }
     ensures limit { IsAsked result.asked }
 {
     match matches.subcommand() {
@@ -568,10 +688,11 @@ pub(crate) fn asked_for<'a>(matches: &ArgMatches<'a>) -> Request<'a>
             let (workers, limit) = (workers_of(options), limit_of(options));
             if name == "run" {
                 let asked = run_by(json_of(options), workers, limit);
-                return with_tree(asked, options, options.get_flag("progress"));
+                return with_tree(asked, options, no_look(), options.get_flag("progress"));
             }
             if name == "draw" {
-                return with_tree(Asked::Draw { workers, limit }, options, false);
+                let asked = Asked::Draw { workers, limit };
+                return with_tree(asked, options, look_of(options), false);
             }
             without_tree(Asked::Trace, options)
         }

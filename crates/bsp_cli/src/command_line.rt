@@ -5,7 +5,8 @@ ghost use Rattle.clap.specs.Words.{HasKind, kind_of};
 ghost use Rattle.clap.specs.declared.error.kind.ErrorKind.TheVariants as kinds;
 ghost use Rattle.tier_shape.specs.Told.{shape_told};
 ghost use Rattle.bsp_cli.specs.Answers.{AnswersWords, around};
-ghost use Rattle.bsp_cli.specs.CommandLine.{asked_in, file_asked, refused_by, tree_asked};
+ghost use Rattle.bsp_cli.specs.CommandLine.{asked_in, file_asked, look_asked, refused_by, tree_asked};
+ghost use Rattle.job_view.specs.Look.{look_value};
 ghost use Rattle.bsp_cli.specs.Did.{Did, ReadsNothing};
 ghost use Rattle.bsp_cli.specs.Ends.{Does, IsAsked, ReadCause, WriteCause};
 ghost use Rattle.bsp_cli.specs.Texts.{CountsFailures, Says, Tells, WritesSome, version_line};
@@ -32,6 +33,7 @@ fn parse<'a, S: AsStr>(alloc: Global, words: &'a [S]) -> Result<Request<'a>, Err
     ensures asked { IfOk result (λ r. r.asked ≡ asked_in (map S.text words.entry.now)) }
     ensures tree { IfOk result (λ r. r.tree.now ≡ tree_asked (map S.text words.entry.now)) }
     ensures file { IfOk result (λ r. option_map (λ s. s.now) r.file ≡ file_asked (map S.text words.entry.now)) }
+    ensures look { IfOk result (λ r. look_value r.look ≡ look_asked (map S.text words.entry.now)) }
     ensures limit { IfOk result (λ r. IsAsked r.asked) }
     ensures err { IfErr result (HasKind (refused_by (map S.text words.entry.now))) }
 {
@@ -133,7 +135,7 @@ fn do_asked<T: Threads + Wait + Sync, R: CountedRead, W: CountedWrite, P: Progre
 ) -> Result<u8, RunFault>
     requires { IsAsked request.asked }
     ensures reads_nothing { ReadsNothing request.entry.asked → reader.new ≡ reader.old }
-    ensures does { Does request.entry.asked (R.remaining reader.old) (W.contents writer.old) (W.contents writer.new) result }
+    ensures does { Does request.entry.asked (look_value request.entry.look) (R.remaining reader.old) (W.contents writer.old) (W.contents writer.new) result }
     ensures read_failures { ReadCause (R.failures reader.old) (R.failures reader.new) result }
     ensures write_failures { WriteCause (W.failures writer.old) (W.failures writer.new) result }
 {
@@ -175,7 +177,14 @@ fn do_asked<T: Threads + Wait + Sync, R: CountedRead, W: CountedWrite, P: Progre
             run_status(run_json_bytes(rt, alloc, reader, writer, shape, workers, limit, progress))
         }
         Asked::Draw { workers, limit } => run_status(draw_bytes(
-            rt, alloc, reader, writer, shape, workers, limit,
+            rt,
+            alloc,
+            reader,
+            writer,
+            shape,
+            workers,
+            limit,
+            request.look,
         )),
     }
 }
@@ -199,7 +208,7 @@ fn run_asked<
     progress: &P,
 ) -> u8
     requires { IsAsked request.asked }
-    ensures did { Did request.entry.asked (R.remaining reader.old) (W.contents writer.old) (W.contents writer.new)
+    ensures did { Did request.entry.asked (look_value request.entry.look) (R.remaining reader.old) (W.contents writer.old) (W.contents writer.new)
         (Tells (E.contents errors.old) (E.contents errors.new) (E.failures errors.old) (E.failures errors.new)) result }
     ensures reads_nothing { ReadsNothing request.entry.asked → reader.new ≡ reader.old }
     ensures status { (result ≤ 9) × (result ≢ COMMAND_LINE_REFUSED) }
@@ -291,7 +300,7 @@ fn run_request<
     progress: &P,
 ) -> u8
     requires { IsAsked request.asked }
-    ensures did { Did request.entry.asked (R.remaining reader.old) (W.contents writer.old) (W.contents writer.new)
+    ensures did { Did request.entry.asked (look_value request.entry.look) (R.remaining reader.old) (W.contents writer.old) (W.contents writer.new)
         (Tells (E.contents errors.old) (E.contents errors.new) (E.failures errors.old) (E.failures errors.new)) result }
     ensures reads_nothing { ReadsNothing request.entry.asked → reader.new ≡ reader.old }
     ensures taken { IsOk (shape_told request.entry.tree.now) → result ≢ COMMAND_LINE_REFUSED }

@@ -4,14 +4,15 @@ ghost use Rattle.phase_records.specs.StatusSeen.{status_seen};
 ghost use Rattle.bsp_cli.specs.Jobs.{status_number};
 ghost use Rattle.phase_records.specs.ReportText.{report_text};
 ghost use Rattle.job_faults.specs.Listing.{listing};
-ghost use Rattle.job_picture.specs.Picture.{picture};
+ghost use Rattle.job_view.specs.Look.{look_value};
 ghost use Rattle.job_reader.specs.Grammar.{canonical_text};
 ghost use Rattle.job_reader.specs.Trees.{job_tree};
 ghost use Rattle.report_json.specs.ReportJson.{json_text};
 ghost use Rattle.step_core.specs.Program.{program_of};
 ghost use Rattle.step_core.specs.JobMeaning.{report_of};
 ghost use Rattle.worker_pool.specs.Refusals.{IsOfWorkers};
-ghost use Rattle.bsp_cli.specs.Ends.{TakesJob, Checks, ChecksAll, ChecksText, ListsFaults, Writes, Upgrades, IsOfPool, Reports, Runs, ReadCause, WriteCause, end_result};
+ghost use Rattle.bsp_cli.specs.Drawn.{drawn, is_bare as is_bare_of};
+ghost use Rattle.bsp_cli.specs.Ends.{TakesJob, Checks, ChecksAll, Draws, ChecksText, ListsFaults, Writes, Upgrades, IsOfPool, Reports, Runs, ReadCause, WriteCause, end_result};
 
 use crate::fault::RunFault;
 use crate::progress::{NoProgress, Progress, WatchEnd};
@@ -19,6 +20,7 @@ use crate::status::{LIMIT_REACHED, TASK_FAULT};
 use devices::{CountedRead, CountedWrite, ReadFault, read_all, write_all};
 use job_faults::listing_of;
 use job_picture::picture_of;
+use job_rows::{Look, draw_job};
 use job_reader::{Code, ReadJobFault, Refusal, read_job, upgrade as upgraded, write_job};
 use phase_records::{JobStatus, Report, WriteFault, write_report};
 use report_json::json_text_of;
@@ -308,16 +310,44 @@ fn json_end<W: CountedWrite>(
     }
 }
 
-// Writes the picture of a report. Returns how its job ended. Allocates before it writes the first byte.
+// Returns true if nothing is asked of a picture.
+fn is_bare(look: Look<'_>) -> bool
+    ensures { result ≡ is_bare_of (look_value look.entry) }
+{
+    look.title.is_none() && look.widths.is_empty() && look.over_time.is_empty()
+}
+
+// Returns the picture of what a job leaves, as it is asked for.
+fn picture_by(
+    alloc: Global,
+    job: &Job,
+    limit: u32,
+    report: &Report,
+    look: Look<'_>,
+) -> Result<Vec<u8>, AllocError>
+    requires limit { 1 ≤ limit }
+    ensures { IfOk result (λ text. text.items ≡ drawn (look_value look.entry) (program_of job.now) limit report.now) }
+{
+    if is_bare(look) {
+        return picture_of(alloc, report);
+    }
+    draw_job(alloc, job, limit, report, look)
+}
+
+// Writes the picture of what a job leaves. Returns how it ended. Allocates before it writes the first byte.
 fn draw_end<W: CountedWrite>(
     alloc: Global,
+    job: &Job,
+    limit: u32,
     report: Report,
     writer: &mut W,
+    look: Look<'_>,
 ) -> Result<JobStatus, RunFault>
-    ensures reports { Reports picture report (W.contents writer.old) (W.contents writer.new) result }
+    requires limit { 1 ≤ limit }
+    ensures reports { Reports (drawn (look_value look.entry) (program_of job.now) limit) report (W.contents writer.old) (W.contents writer.new) result }
     ensures write_failures { WriteCause (W.failures writer.old) (W.failures writer.new) result }
 {
-    let text = match picture_of(alloc, &report) {
+    let text = match picture_by(alloc, job, limit, &report, look) {
         Ok(text) => text,
         Err(AllocError) => return Err(RunFault::Memory),
     };
@@ -403,7 +433,8 @@ pub fn run_json_bytes<
     }
 }
 
-/// Reads a job to the reader's end, runs it as [`run_bytes`] does, and writes the picture of its report, an SVG file.
+/// Reads a job to the reader's end, runs it as [`run_bytes`] does, and writes the picture of its report, an SVG file, as it
+/// is asked for.
 pub fn draw_bytes<T: Threads + Wait + Sync, R: CountedRead, W: CountedWrite>(
     rt: &T,
     alloc: Global,
@@ -412,16 +443,17 @@ pub fn draw_bytes<T: Threads + Wait + Sync, R: CountedRead, W: CountedWrite>(
     shape: Shape,
     workers: u32,
     limit: u32,
+    look: Look<'_>,
 ) -> Result<JobStatus, RunFault>
     requires workers { (1 ≤ workers) × (workers ≤ 64) }
     requires limit { (1 ≤ limit) × (limit ≤ 2147483648) }
-    ensures runs { Runs picture workers limit (R.remaining reader.old) (W.contents writer.old) (W.contents writer.new) result }
+    ensures draws { Draws (look_value look.entry) workers limit (R.remaining reader.old) (W.contents writer.old) (W.contents writer.new) result }
     ensures read_failures { ReadCause (R.failures reader.old) (R.failures reader.new) result }
     ensures write_failures { WriteCause (W.failures writer.old) (W.failures writer.new) result }
 {
     let job = take_job(alloc, reader)?;
     match leave(rt, alloc, &job, shape, workers, limit, None::<&NoProgress>) {
-        Ok(report) => draw_end(alloc, report, writer),
+        Ok(report) => draw_end(alloc, &job, limit, report, writer, look),
         Err(refused) => Err(fault_of(refused)),
     }
 }

@@ -1,5 +1,5 @@
 //! Laws on the words of a command line. Each function does nothing: its contract is the law.
-ghost use Rattle.bsp_cli.specs.Laws.{EachNameAsks, EachNameHelps, EachNameNamesFiles, EachNameRefuses, EachNameTellsVersion};
+ghost use Rattle.bsp_cli.specs.Laws.{EachNameAsks, EachNameHelps, EachNameLooks, EachNameNamesFiles, EachNameRefuses, EachNameTellsVersion};
 ghost use Rattle.bsp_cli.specs.Laws.{EachLimitAsks, EachNumberAsks, EachNumberOfWorkersAsks, EachOtherNumberIsRefused};
 ghost use Rattle.bsp_cli.specs.Lines.{LinesAreWorkedOut};
 
@@ -18,6 +18,11 @@ pub fn words_name_files()
 /// `run` doesn't have.
 pub fn words_are_refused()
     ensures { EachNameRefuses }
+{}
+
+/// What these words ask of a picture: nothing but what a width, arrays over supersteps, a title or a file says.
+pub fn words_look()
+    ensures { EachNameLooks }
 {}
 
 /// The words `--help` and `-h`, alone and after each subcommand, ask for help.

@@ -26,7 +26,7 @@ pub use fault::RunFault;
 pub use job::{draw_bytes, run_bytes, run_json_bytes};
 pub use laws::{
     limits_ask, lines_are_worked_out, numbers_ask, other_numbers_are_refused, words_are_refused,
-    words_ask, words_help, words_name_files, words_tell_the_version, workers_ask,
+    words_ask, words_help, words_look, words_name_files, words_tell_the_version, workers_ask,
 };
 pub use program::run_program;
 pub use progress::{NoProgress, Progress, WatchEnd};

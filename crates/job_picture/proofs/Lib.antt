@@ -2,4 +2,5 @@ pub mod Behind
 pub mod Boards
 pub mod Joins
 pub mod Strips
+pub mod Viewing
 pub mod Working

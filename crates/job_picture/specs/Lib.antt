@@ -4,5 +4,6 @@ pub mod Columns
 pub mod Grids
 pub mod Panels
 pub mod Picture
+pub mod Views
 pub mod Worked
 pub mod WorkedPanels

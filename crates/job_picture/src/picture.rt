@@ -24,6 +24,7 @@ ghost use Rattle.job_picture.specs.Picture.{
   supersteps,
   title,
 };
+ghost use Rattle.job_picture.specs.Views.{viewed, views_of};
 
 use crate::axes::{push_party_ticks, push_step_ticks};
 use crate::cells::{push_escaped, push_strips};
@@ -298,13 +299,15 @@ pub fn picture_of(alloc: Global, report: &Report) -> Result<Vec<u8>, AllocError>
 
 /// The picture of a report as [`picture_of`] draws it, but with this name before its title, and with these panels in place
 /// of its arrays.
+#[tactic(auto, using(crate::proofs::Viewing::shown))]
 pub fn picture_with(
     alloc: Global,
     report: &Report,
     name: Option<&str>,
     panels: &[Panel<'_>],
 ) -> Result<Vec<u8>, AllocError>
-    ensures { IfOk result (λ text. text.items ≡ told_with (option_map (λ s. s.now) name.entry) panels.now report.now) }
+    ensures panels { IfOk result (λ text. text.items ≡ told_with (option_map (λ s. s.now) name.entry) panels.now report.now) }
+    ensures views { IfOk result (λ text. text.items ≡ viewed (option_map (λ s. s.now) name.entry) (views_of panels.now) report.now) }
 {
     let (columns, most) = shown_columns(alloc, report)?;
     let mut out = Vec::new(alloc);

@@ -189,6 +189,13 @@ impl<'j> Round<'j> {
         join_report(alloc, start_arrays, finished, status)
     }
 
+    /// The arrays as the next superstep begins, or as the job left them. It takes no memory.
+    pub fn arrays(&self) -> &Arrays
+        ensures { result.now ≡ self.now.arrays }
+    {
+        &self.start_arrays
+    }
+
     /// For how many live tasks nothing was delivered yet: none exactly where closing doesn't answer `Missing`. It takes no
     /// memory.
     pub fn missing(&self) -> usize

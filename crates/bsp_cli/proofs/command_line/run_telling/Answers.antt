@@ -10,7 +10,7 @@ returns-in-Err g c = record {
       elim kind [
         | inl memory ↦
             let six : c.answer_error.result ≡ 6 = c.answer_error.ensures.memory memory in
-            no-memory _ _ _ _ _ c.answer_error.result (ap g.W.CountedWrite.contents (c.answer_error.ensures.out six)) six
+            no-memory _ _ _ _ _ _ c.answer_error.result (ap g.W.CountedWrite.contents (c.answer_error.ensures.out six)) six
         | inr none ↦ absurd none
       ];
   taken = search rules;

@@ -1,16 +1,16 @@
-use Rattle.job_picture.specs.Picture.{picture}
-use Rattle.bsp_cli.proofs.RunJobs.{runs, pool_runs, pool_reads, pool_writes}
+use Rattle.job_view.specs.Look.{look_value}
+use Rattle.bsp_cli.proofs.RunJobs.{draws_runs, pool_draws, pool_reads, pool_writes}
 use Rattle.bsp_cli.proofs.job.draw_bytes.Goals as goal
 
-pub returns-in-Ok-clause-runs : goal.returns-in-Ok-clause-runs
-returns-in-Ok-clause-runs g c =
-    runs picture c.args.workers c.args.limit (g.R.CountedRead.remaining c.args.reader.now) (g.W.CountedWrite.contents c.args.writer.now)
+pub returns-in-Ok-clause-draws : goal.returns-in-Ok-clause-draws
+returns-in-Ok-clause-draws g c =
+    draws_runs (look_value c.args.look) c.args.workers c.args.limit (g.R.CountedRead.remaining c.args.reader.now) (g.W.CountedWrite.contents c.args.writer.now)
     (g.W.CountedWrite.contents c.draw_end.new.writer) c.in_ok-job.job c.in-Ok.report c.draw_end.result c.in_ok-job.ensures.takes
     c.in-Ok.ensures.report c.draw_end.ensures.reports
 
-pub returns-clause-runs : goal.returns-clause-runs
-returns-clause-runs g c =
-    pool_runs picture c.args.workers c.args.limit _ _ c.fault_of.result (c.fault_of.ensures c.args.workers c.in-Err.ensures.started)
+pub returns-clause-draws : goal.returns-clause-draws
+returns-clause-draws g c =
+    pool_draws (look_value c.args.look) c.args.workers c.args.limit _ _ c.fault_of.result (c.fault_of.ensures c.args.workers c.in-Err.ensures.started)
 
 pub returns-clause-read_failures : goal.returns-clause-read_failures
 returns-clause-read_failures g c =

@@ -1,0 +1,14 @@
+//! What the options of `bsp draw` mean: a picture of a report with a title of its own, arrays in rows of a width, and arrays
+//! over supersteps. Nothing here is part of Java's API.
+//!
+//! # Where things are
+//!
+//! * `words.rt`: the texts of the options; `views.rt`: what is drawn of each array, and the whole.
+//! * `specs/` has a file for each.
+#![tactic(auto)]
+
+mod views;
+mod words;
+
+pub use views::{Look, cells_named, every_of, look_picture, rows_of};
+pub use words::spaced_text;
