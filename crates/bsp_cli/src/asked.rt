@@ -11,8 +11,8 @@ ghost use Rattle.job_view.specs.Look.{look_value};
 
 use crate::help::{CHECK_LINES, DRAW_LINES, EXAMPLES, RUN_LINES, TRACE_LINES, UPGRADE_LINES};
 use clap::builder::ValueParser;
-use job_rows::Look;
 use clap::{Arg, ArgAction, ArgMatches, Command, Error};
+use job_rows::Look;
 use std::alloc::Global;
 
 /// What `explain` explains.

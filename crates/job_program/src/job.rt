@@ -81,9 +81,7 @@ impl<'j> TaskLoop for JobProgram<'j> {
             arrays,
             step,
         };
-        do_range(
-            alloc, &scene, tasks, first, end, work, deeds, prints,
-        )
+        do_range(alloc, &scene, tasks, first, end, work, deeds, prints)
     }
 }
 

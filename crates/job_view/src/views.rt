@@ -171,7 +171,13 @@ fn time_panel<'a>(
 ) -> Panel<'a>
     ensures { view_of result ≡ time_view (words_of widths.now) every arrays.now name.entry.now values.entry.now }
 {
-    found_panel(widths, every, name, values, cells_named(arrays, name.as_bytes()))
+    found_panel(
+        widths,
+        every,
+        name,
+        values,
+        cells_named(arrays, name.as_bytes()),
+    )
 }
 
 // Appends each array of these names over supersteps. A name that is no text is out of memory: it is a part of one.

@@ -78,8 +78,6 @@ impl<'b, B: TaskBody> TaskLoop for Native<'b, B> {
             arrays,
             step,
         };
-        do_range(
-            alloc, &scene, tasks, first, end, work, deeds, prints,
-        )
+        do_range(alloc, &scene, tasks, first, end, work, deeds, prints)
     }
 }
