@@ -17,9 +17,12 @@ pub enum StreamFault {
 }
 
 impl From<AllocError> for StreamFault {
-    fn from(_fault: AllocError) -> Self
-        ensures { result ≡ StreamFault.Memory }
-    {
+    ghost use Rattle.std.specs.Prelude.{◌≡◌};
+    ghost use Rattle.job_stream.specs.declared.fault.StreamFault.TheVariants.{Memory};
+
+    ghost from_gives = { λ _ fault. fault ≡ Memory };
+
+    fn from(_fault: AllocError) -> Self {
         StreamFault::Memory
     }
 }

@@ -1,5 +1,5 @@
 //! The lines of supersteps, and the rest of a report.
-ghost use Rattle.std.specs.Prelude.{◌≡◌, ◌++◌, codes, IfOk};
+ghost use Rattle.std.specs.Prelude.{◌≡◌, ◌≤◌, ◌++◌, codes, IfOk, IfSome};
 ghost use Rattle.phase_records.specs.ReportText.{steps_text, report_text};
 ghost use Rattle.job_stream.specs.Streamed.{IsPiece, Continues, WritesWhole, StreamCause};
 ghost use Rattle.step_parts.specs.Program.{program_of};
@@ -73,16 +73,37 @@ pub(crate) fn pass_on<W: CountedWrite>(
     written: u32,
     writer: &mut W,
 ) -> Result<u32, StreamFault>
-    requires piece { IsPiece (program_of job.now) limit lines }
+    requires piece { lines.next ≤ limit → IsPiece (program_of job.now) limit lines }
     ensures text { Continues (program_of job.now) limit written (W.contents writer.old) (W.contents writer.new) result }
     ensures failures { StreamCause (W.failures writer.old) (W.failures writer.new) result }
 {
-    if lines.first != written {
+    let next = lines.next;
+    if lines.first != written || next > limit {
         return Err(StreamFault::Internal);
     }
-    let next = lines.next;
-    write_lines(alloc, lines, writer)?;
-    Ok(next)
+    match write_lines(alloc, lines, writer) {
+        Ok(()) => Ok(next),
+        Err(fault) => Err(fault),
+    }
+}
+
+/// The same of what a superstep gave away, if a fault hasn't ended the run in it.
+pub(crate) fn pass_taken<W: CountedWrite>(
+    alloc: Global,
+    job: &Job,
+    limit: u32,
+    taken: Option<Lines>,
+    written: u32,
+    writer: &mut W,
+) -> Result<u32, StreamFault>
+    requires piece { IfSome taken (λ lines. lines.next ≤ limit → IsPiece (program_of job.now) limit lines) }
+    ensures text { Continues (program_of job.now) limit written (W.contents writer.old) (W.contents writer.new) result }
+    ensures failures { StreamCause (W.failures writer.old) (W.failures writer.new) result }
+{
+    match taken {
+        Some(lines) => pass_on(alloc, job, limit, lines, written, writer),
+        None => Ok(written),
+    }
 }
 
 /// Writes what of a report isn't written yet.
