@@ -84,8 +84,7 @@ goes_on p limit n next old mid new a h =
 pub streams_failed : (p : Program) (limit n : ℕ) (old mid new : Option (List ℕ)) (fault : StreamFault) → Appends old mid (lines_of p limit n) → Continues p limit n mid new (Err fault)
     → Streams p limit old new (Err fault)
 streams_failed p limit n old mid new Write a h =
-    let r = some_rest p limit h.0 in
-    (
+    let r = some_rest p limit h.0 in (
       r.report,
       r.is,
       subst (λ (t : List ℕ). AppendsBeginning old new t) (sym r.text)

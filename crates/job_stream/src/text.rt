@@ -37,7 +37,9 @@ fn text_of_lines(alloc: Global, lines: Lines) -> Result<Vec<u8>, AllocError>
     ensures { IfOk result (λ text. text.items ≡ steps_text lines.prints lines.records) }
 {
     let Lines {
-        prints, records, ..
+        prints,
+        records,
+        ..
     } = lines;
     let mut text = text_with_end(alloc, prints, records)?;
     let end = text.len().saturating_sub(LAST_LINE);

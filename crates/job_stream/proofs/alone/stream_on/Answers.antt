@@ -14,7 +14,7 @@ loop-preserved g c = record {
   name = c.in-Ok.ensures.name ∙ c.loop.invariant.name;
   out =
       goes_on (program_of c.args.job.now) c.args.limit c.loop.written c.in-Ok.next (g.W.CountedWrite.contents c.args.writer.now) (g.W.CountedWrite.contents c.loop.writer) (g.W.CountedWrite.contents c.advance.new.writer)
-          c.loop.invariant.out c.in-Ok.ensures.text;
+      c.loop.invariant.out c.in-Ok.ensures.text;
   failures = c.in-Ok.ensures.failures ∙ c.loop.invariant.failures;
 }
 
