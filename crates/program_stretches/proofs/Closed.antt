@@ -11,7 +11,8 @@ use Rattle.phase_records.specs.PrintValue.{PrintValue}
 use Rattle.phase_records.specs.declared.record.PhaseRecord.{PhaseRecord}
 use Rattle.phase_records.specs.Status.{Status, Ended, Fault, Limit}
 use Rattle.phase_records.specs.ReportValue.{ReportValue}
-use Rattle.programs.specs.History.{HasRun, living_after}
+use Rattle.programs.specs.History.{living_after}
+use Rattle.program_stretches.specs.Reached.{HasRunOn}
 use Rattle.superstep_memory.proofs.InOrder.{count_in_order}
 use Rattle.programs.specs.Meaning.{children}
 use Rattle.programs.specs.DeedValue.{DeedValue}
@@ -50,7 +51,7 @@ module _ {Q S T : Type 0} (m : Q → Reading S T) (v : StretchesValue Q S) (law 
     pub ends_fault : (x : ℕ × List ℕ) (puts : List Put) (us : List S) (ds : List (DeedValue S)) (after : List PrintValue) → DidAll (m v.program) v.arrays v.step (Some x) puts (live_of o) us ds after
         → IsStepTo (m v.program).frame (m v.program).may v.most (state_of o) (ended_by (state_of o) x) Faulted
     ends_fault x puts us ds after d =
-        faulted (m v.program) law v.most begun.begun.first.arrays (map (m v.program).meant (live_of begun.begun.first)) v.limit start_paths (state_of o) begun.reached going (live_of o) refl few_tasks
+        faulted (m v.program) law v.most begun.begun.first.arrays (map (m v.program).meant (live_of begun.begun.first)) v.limit v.given start_paths (state_of o) begun.reached going (live_of o) refl few_tasks
         (Some x) puts us ds after d x refl
 
     module _ (puts : List Put) (us : List S) (ds : List (DeedValue S)) (after : List PrintValue) (d : DidAll (m v.program) v.arrays v.step None puts (live_of o) us ds after) where
@@ -62,7 +63,7 @@ module _ {Q S T : Type 0} (m : Q → Reading S T) (v : StretchesValue Q S) (law 
 
       pub fit : Fit
       fit =
-          let f = fits (m v.program) law v.most begun.begun.first.arrays (map (m v.program).meant (live_of begun.begun.first)) v.limit start_paths (state_of o) begun.reached going (live_of o) refl few_tasks
+          let f = fits (m v.program) law v.most begun.begun.first.arrays (map (m v.program).meant (live_of begun.begun.first)) v.limit v.given start_paths (state_of o) begun.reached going (live_of o) refl few_tasks
           None puts us ds after d refl in
           record { same = f.same; all = f.all ∙ sym (length-map (live_of o) (m v.program).meant) ∙ sym begun.count; living = f.living; rising = f.rising }
 
@@ -70,7 +71,7 @@ module _ {Q S T : Type 0} (m : Q → Reading S T) (v : StretchesValue Q S) (law 
       pub ends_many : v.most + left_in ds < length ds + spawned_in ds → IsStepTo (m v.program).frame (m v.program).may v.most (state_of o) (ended_by (state_of o) (7, [])) TooMany
       ends_many lt =
           let l = fit.living in
-          many (m v.program) law v.most begun.begun.first.arrays (map (m v.program).meant (live_of begun.begun.first)) v.limit start_paths (state_of o) begun.reached going (live_of o) refl few_tasks
+          many (m v.program) law v.most begun.begun.first.arrays (map (m v.program).meant (live_of begun.begun.first)) v.limit v.given start_paths (state_of o) begun.reached going (live_of o) refl few_tasks
           None puts us ds after d refl (omega (arith, l, lt))
 
       -- a put that overflows ends it
@@ -83,7 +84,7 @@ module _ {Q S T : Type 0} (m : Q → Reading S T) (v : StretchesValue Q S) (law 
           → blame ≡ option_map told_at (maker (m v.program).path us ds place) → EndsOver blame
       ends_over place blame le there made =
           let l = fit.living in
-          let e = over (m v.program) law v.most begun.begun.first.arrays (map (m v.program).meant (live_of begun.begun.first)) v.limit start_paths (state_of o) begun.reached going (live_of o) refl few_tasks
+          let e = over (m v.program) law v.most begun.begun.first.arrays (map (m v.program).meant (live_of begun.begun.first)) v.limit v.given start_paths (state_of o) begun.reached going (live_of o) refl few_tasks
           None puts us ds after d refl place blame (omega (arith, l, le)) there made in
           record { cause = e.cause; is = e.is; step = e.step }
 
@@ -99,7 +100,7 @@ module _ {Q S T : Type 0} (m : Q → Reading S T) (v : StretchesValue Q S) (law 
           }) Landed
       goes told le e none =
           let l = fit.living in
-          goes_on (m v.program) law v.most begun.begun.first.arrays (map (m v.program).meant (live_of begun.begun.first)) v.limit start_paths (state_of o) begun.reached going (live_of o) refl few_tasks
+          goes_on (m v.program) law v.most begun.begun.first.arrays (map (m v.program).meant (live_of begun.begun.first)) v.limit v.given start_paths (state_of o) begun.reached going (live_of o) refl few_tasks
           None puts us ds after d refl told (omega (arith, l, le)) e none
 
   -- a fault is how it ends
@@ -150,7 +151,7 @@ module _ {Q S T : Type 0} (m : Q → Reading S T) (v : StretchesValue Q S) (law 
       let living = f.living in
       let n = ap length is_next ∙ count_in_order (m v.program).path (living_with us ds) in
       let l = length-map next (m v.program).meant in
-      after_next m v (landed_with v puts told after (length next)) (map (m v.program).meant (live_of h.opening)) (map (m v.program).meant next) law h.begun run step_landed.step refl refl refl refl (sym l)
+      after_next m v (landed_with v puts told after (length next)) (map (m v.program).meant (live_of h.opening)) (map (m v.program).meant next) law h.begun run step_landed.step refl refl refl refl refl (sym l)
       (omega (arith, l, n, living, le))
 
   pub closed_landed : (parts : List (Option (PartValue S))) → AreFresh 0 parts → tasks_in parts ≡ next → (w : StretchesValue Q S) → w ≡ opened_with (landed_with v puts told after (length next)) parts → IsClosed m v w Landed
@@ -360,7 +361,7 @@ module _ {Q S T : Type 0} (m : Q → Reading S T) (v : StretchesValue Q S) (h : 
   -- what it leaves
   pub has_left : (law : (t : S) → (m v.program).frame.path ((m v.program).meant t) ≡ (m v.program).path t) (s : Status) → status_in v ≡ Some s → (tasks : List S)
       → tasks ≡ (if is_at_limit s then tasks_in v.parts else []) → (is_at_limit s ≡ true → covers false v.count 0 v.parts ≡ true)
-      → (outcome : ReportValue) → outcome ≡ record { prints = v.prints; records = v.records; arrays = v.arrays; status = s } → HasLeft m v.log outcome tasks
+      → (outcome : ReportValue) → outcome ≡ record { prints = v.prints; records = v.records; arrays = v.arrays; status = s } → HasLeft m v.log v.given outcome tasks
   has_left law s e tasks t c outcome is =
       let b = h.after.begun in
       record {
@@ -368,9 +369,9 @@ module _ {Q S T : Type 0} (m : Q → Reading S T) (v : StretchesValue Q S) (h : 
         since = b.since;
         begun = b.is;
         run =
-            subst (λ (n : ℕ). HasRun (m b.first.program).frame (m b.first.program).may b.first.most b.first.arrays (map (m b.first.program).meant (live_of b.first)) n outcome (map (m b.first.program).meant tasks)) b.limit
-            (subst (λ (n : ℕ). HasRun (m b.first.program).frame (m b.first.program).may n b.first.arrays (map (m b.first.program).meant (live_of b.first)) v.limit outcome (map (m b.first.program).meant tasks)) b.most
-            (subst (λ (q : Q). HasRun (m q).frame (m q).may v.most b.first.arrays (map (m q).meant (live_of b.first)) v.limit outcome (map (m q).meant tasks)) b.program
-            (has_run (m v.program) law v.most b.first.arrays (map (m v.program).meant (live_of b.first)) v.limit (state_with v h.live) h.after.reached s (status_is m v h.live h.after.count ∙ e) outcome is
+            subst (λ (n : ℕ). HasRunOn (m b.first.program).frame (m b.first.program).may b.first.most b.first.arrays (map (m b.first.program).meant (live_of b.first)) n v.given outcome (map (m b.first.program).meant tasks)) b.limit
+            (subst (λ (n : ℕ). HasRunOn (m b.first.program).frame (m b.first.program).may n b.first.arrays (map (m b.first.program).meant (live_of b.first)) v.limit v.given outcome (map (m b.first.program).meant tasks)) b.most
+            (subst (λ (q : Q). HasRunOn (m q).frame (m q).may v.most b.first.arrays (map (m q).meant (live_of b.first)) v.limit v.given outcome (map (m q).meant tasks)) b.program
+            (has_run (m v.program) law v.most b.first.arrays (map (m v.program).meant (live_of b.first)) v.limit v.given (state_with v h.live) h.after.reached s (status_is m v h.live h.after.count ∙ e) outcome is
             (map (m v.program).meant tasks) (living_is s e tasks t c))));
       }

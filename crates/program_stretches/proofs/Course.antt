@@ -1,12 +1,14 @@
 -- A run by stretches, from one call to the next.
-use Rattle.std.proofs.Common.{◌≡◌, ℕ, zero, suc, ◌+◌, ◌≤◌, List, [], ◌∷◌, ◌++◌, length, map, Option, Some, None, refl, sym, ap, ◌∙◌, subst, inr, ⊎_elim, slice_get, arith, length-append}
+use Rattle.std.proofs.Common.{◌≡◌, ℕ, zero, suc, ◌+◌, ◌≤◌, List, [], ◌∷◌, ◌++◌, length, map, Option, Some, None, refl, sym, ap, ◌∙◌, subst, inl, inr, ⊎_elim, append-nil, slice_get, arith, length-append}
 use Rattle.std.proofs.lemmas.List.{length-map}
 use Rattle.programs.specs.Meaning.{children}
-use Rattle.programs.specs.Supersteps.{status, status_of}
+use Rattle.programs.specs.Supersteps.{so_far, status, status_of}
+use Rattle.programs.specs.History.{says_by}
+use Rattle.programs.specs.Superstep.{State}
 use Rattle.program_stretches.specs.PartValue.{PartValue}
 use Rattle.program_stretches.specs.Parts.{Reading, IsPartOf, IsOwn, AreOwn, AreFresh}
 use Rattle.program_stretches.specs.Opening.{OpeningValue, live_of}
-use Rattle.program_stretches.specs.Reached.{IsReached}
+use Rattle.program_stretches.specs.Reached.{IsReached, with_earlier}
 use Rattle.program_stretches.specs.Did.{IsStep}
 use Rattle.program_stretches.specs.StretchesValue.{StretchesValue, StretchValue, state_with, status_for, status_in, with_slot, IsAfter, IsOpen, IsStretch, IsCourse}
 use Rattle.program_stretches.proofs.Owning.{fresh_own, own_set, some_there}
@@ -16,8 +18,8 @@ module _ {Q S T : Type 0} (m : Q → Reading S T) where
   -- before the first superstep
   pub course_begun : (v : StretchesValue Q S) (o : OpeningValue Q S) → v.log ≡ o ∷ [] → v.program ≡ o.program → v.most ≡ o.most → v.limit ≡ o.limit → v.arrays ≡ o.arrays → v.parts ≡ o.parts → AreFresh 0 o.parts
       → map (m v.program).path (live_of o) ≡ children [] 0 (length (live_of o)) → v.count ≡ length (live_of o) → length (live_of o) ≤ v.most
-      → v.step ≡ 0 → v.prints ≡ [] → v.records ≡ [] → v.fault ≡ None → IsCourse m v
-  course_begun v o log program most limit arrays parts fresh paths count few es ep er ef =
+      → v.step ≡ 0 → v.prints ≡ [] → v.records ≡ [] → v.fault ≡ None → v.given ≡ 0 → IsCourse m v
+  course_begun v o log program most limit arrays parts fresh paths count few es ep er ef eg =
       let q = v.program in
       let live = map (m q).meant (live_of o) in
       let l = length-map (live_of o) (m q).meant in
@@ -28,7 +30,9 @@ module _ {Q S T : Type 0} (m : Q → Reading S T) where
           reached = record {
             history = [];
             entered = λ n lt. absurd (omega (arith, lt));
-            state = λ i. record { step = es i; arrays = arrays i; live = live; prints = ep i; records = er i; fault = ef i };
+            within = omega (arith, eg);
+            count = λ none. sym es;
+            state = λ i. with_earlier (so_far (says_by (m q).frame v.most []) o.arrays live v.limit (eg i)) (record { step = es i; arrays = arrays i; live = live; prints = ep i; records = er i; fault = ef i });
           };
           count = count ∙ sym l;
           few = omega (arith, l, few);
@@ -59,8 +63,8 @@ module _ {Q S T : Type 0} (m : Q → Reading S T) where
   -- one superstep more
   pub after_next : (v w : StretchesValue Q S) (live next : List T) → ((t : S) → (m v.program).frame.path ((m v.program).meant t) ≡ (m v.program).path t) → (h : IsAfter m v live) → status_in v ≡ None
       → IsStep (m v.program).frame (m v.program).may v.most (state_with v live) (state_with w next)
-      → w.log ≡ v.log → w.program ≡ v.program → w.most ≡ v.most → w.limit ≡ v.limit → w.count ≡ length next → length next ≤ w.most → IsAfter m w next
-  after_next v w live next law h run s log program most limit count few = record {
+      → w.log ≡ v.log → w.program ≡ v.program → w.most ≡ v.most → w.limit ≡ v.limit → w.given ≡ v.given → w.count ≡ length next → length next ≤ w.most → IsAfter m w next
+  after_next v w live next law h run s log program most limit given count few = record {
     begun = record {
       first = h.begun.first;
       since = h.begun.since;
@@ -71,10 +75,11 @@ module _ {Q S T : Type 0} (m : Q → Reading S T) where
       paths = subst (λ (q : Q). map (m q).path (live_of h.begun.first) ≡ children [] 0 (length (live_of h.begun.first))) (sym program) h.begun.paths;
     };
     reached =
-        subst (λ (q : Q). IsReached (m q).frame (m q).may w.most h.begun.first.arrays (map (m q).meant (live_of h.begun.first)) w.limit (state_with w next)) (sym program)
-        (subst (λ (n : ℕ). IsReached (m v.program).frame (m v.program).may n h.begun.first.arrays (map (m v.program).meant (live_of h.begun.first)) w.limit (state_with w next)) (sym most)
-        (subst (λ (n : ℕ). IsReached (m v.program).frame (m v.program).may v.most h.begun.first.arrays (map (m v.program).meant (live_of h.begun.first)) n (state_with w next)) (sym limit)
-        (reached_next (m v.program) law v.most h.begun.first.arrays (map (m v.program).meant (live_of h.begun.first)) v.limit (state_with v live) (state_with w next) h.reached (status_is v live h.count ∙ run) s)));
+        subst (λ (q : Q). IsReached (m q).frame (m q).may w.most h.begun.first.arrays (map (m q).meant (live_of h.begun.first)) w.limit w.given (state_with w next)) (sym program)
+        (subst (λ (n : ℕ). IsReached (m v.program).frame (m v.program).may n h.begun.first.arrays (map (m v.program).meant (live_of h.begun.first)) w.limit w.given (state_with w next)) (sym most)
+        (subst (λ (n : ℕ). IsReached (m v.program).frame (m v.program).may v.most h.begun.first.arrays (map (m v.program).meant (live_of h.begun.first)) n w.given (state_with w next)) (sym limit)
+        (subst (λ (n : ℕ). IsReached (m v.program).frame (m v.program).may v.most h.begun.first.arrays (map (m v.program).meant (live_of h.begun.first)) v.limit n (state_with w next)) (sym given)
+        (reached_next (m v.program) law v.most h.begun.first.arrays (map (m v.program).meant (live_of h.begun.first)) v.limit v.given (state_with v live) (state_with w next) h.reached (status_is v live h.count ∙ run) s))));
     count = count;
     few = few;
   }
@@ -111,6 +116,39 @@ module _ {Q S T : Type 0} (m : Q → Reading S T) where
           lives = refl;
           own = fresh_own (m q) v.arrays v.step o.parts fresh;
         });
+      })
+
+  -- what was printed and recorded is given away
+  pub course_given : (v w : StretchesValue Q S) → IsCourse m v → v.fault ≡ None → w ≡ record v { prints = []; records = []; given = v.step } → IsCourse m w
+  course_given v w h none is =
+      let q = v.program in
+      let r = h.after.reached in
+      let b = h.after.begun in
+      let says = says_by (m q).frame v.most r.history in
+      let tasks = map (m q).meant (live_of b.first) in
+      let last = so_far says b.first.arrays tasks v.limit (length r.history) in
+      let k : length r.history ≡ v.step = r.count none in
+      let e = r.state in
+      let bare : State T = record { step = v.step; arrays = v.arrays; live = h.live; prints = []; records = []; fault = v.fault } in
+      subst (IsCourse m) (sym is) (record {
+        live = h.live;
+        after = record {
+          begun = record { first = b.first; since = b.since; is = b.is; program = b.program; most = b.most; limit = b.limit; paths = b.paths };
+          reached = record {
+            history = r.history;
+            entered = r.entered;
+            within = omega (arith, k);
+            count = r.count;
+            state =
+                ap (λ (n : ℕ). with_earlier (so_far says b.first.arrays tasks v.limit n) bare) (sym k)
+                ∙ (λ i. record { step = (e i).step; arrays = (e i).arrays; live = (e i).live; prints = append-nil last.prints i; records = append-nil last.records i; fault = (e i).fault });
+          };
+          count = h.after.count;
+          few = h.after.few;
+        };
+        opened = ⊎_elim inl
+            (λ o. inr (record { opening = o.opening; older = o.older; is = o.is; count = o.count; program = o.program; arrays = o.arrays; lives = o.lives; own = o.own }))
+            h.opened;
       })
 
   -- two logs of one name, as long as each other, are the same

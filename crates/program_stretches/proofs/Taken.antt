@@ -1,11 +1,11 @@
 -- One superstep more, by what the live tasks did in stretches.
-use Rattle.std.proofs.Common.{◌≡◌, ℕ, suc, ◌+◌, ◌≤◌, ◌<◌, true, List, [], ◌∷◌, ◌++◌, map, length, Option, Some, None, get_or, refl, sym, ap, ◌∙◌, subst, arith, length-append}
+use Rattle.std.proofs.Common.{◌≡◌, ℕ, suc, ◌+◌, ◌≤◌, ◌<◌, true, List, [], ◌∷◌, ◌++◌, map, length, Option, Some, None, get_or, refl, sym, ap, ◌∙◌, subst, arith, length-append, append_assoc}
 use Rattle.std.specs.Prelude.{ℤ}
 use Rattle.std.specs.Option.{option_map}
 use Rattle.std.proofs.lemmas.List.{length-map, map-append}
 use Rattle.std.proofs.Math.Seq.{get_or-append_seam}
 use Rattle.superstep_memory.specs.declared.arrays.Put.{Put}
-use Rattle.superstep_memory.specs.Landing.{landed, over_in}
+use Rattle.superstep_memory.specs.Landing.{landed, joined, over_in}
 use Rattle.superstep_memory.specs.Paths.{is_rising}
 use Rattle.superstep_memory.specs.PathOrder.{in_path_order}
 use Rattle.phase_records.specs.PrintValue.{PrintValue}
@@ -15,10 +15,10 @@ use Rattle.phase_records.specs.declared.record.PhaseRecord.{PhaseRecord}
 use Rattle.programs.specs.Meaning.{Segment, Says, NumbersItsSpawns, StaysTheSameTask, children}
 use Rattle.programs.specs.Reads.{reads}
 use Rattle.programs.specs.DeedValue.{DeedValue}
-use Rattle.programs.specs.Superstep.{State, superstep, ended_by, segments, first_fault, next_live, too_many, overflow, live_paths}
+use Rattle.programs.specs.Superstep.{State, superstep, closed, fault_in, log_of, prints_of, record_of, ended_by, segments, first_fault, next_live, too_many, overflow, live_paths}
 use Rattle.programs.specs.Supersteps.{so_far, status, told}
 use Rattle.programs.specs.InPlace.{IsAllDone, Told, living_with, left_in, spawned_in, told_in, told_at, maker}
-use Rattle.programs.specs.History.{Entry, AreOf, IsEntered, says_in, says_by, segments_in, living_after, HasRun}
+use Rattle.programs.specs.History.{Entry, AreOf, IsEntered, says_in, says_by, segments_in, living_after}
 use Rattle.programs.proofs.History.{numbers_by, stays_by, all_formed, numbers_in, stays_in, entries_rise, agrees}
 use Rattle.programs.proofs.Histories.{superstep_by, so_far_more, formed_by}
 use Rattle.programs.proofs.Course.{deeds_told, by_fault_in, by_many_in, by_over_in, by_landing_in, fits_in, none_faults, many_told, few_told, none_over}
@@ -27,64 +27,101 @@ use Rattle.programs.proofs.Reached.{entered_more}
 use Rattle.programs.proofs.Runs.{goes, going_on, ended_is_last}
 use Rattle.programs.proofs.Apart.{live-paths-rise}
 use Rattle.program_stretches.specs.Parts.{Reading}
-use Rattle.program_stretches.specs.Reached.{IsReached}
+use Rattle.program_stretches.specs.Reached.{IsReached, HasRunOn, with_earlier, with_before}
 use Rattle.program_stretches.specs.declared.fault.Outcome.{Outcome}
 use Rattle.program_stretches.specs.declared.fault.Outcome.TheVariants.{Landed, Faulted, TooMany, Overflowed}
 use Rattle.program_stretches.specs.Did.{DidAll, IsStep, IsStepTo, outcome_by, outcome_of}
 
-module _ {S T : Type 0} (r : Reading S T) (law : (t : S) → r.frame.path (r.meant t) ≡ r.path t) (most : ℕ) (arrays : List (List ℕ × List ℤ)) (tasks : List T) (limit : ℕ) where
-  abbrev pub Reached : State T → Type 0
-  Reached st = IsReached r.frame r.may most arrays tasks limit st
+-- what was printed and recorded before changes nothing of a superstep
+closed_later : {T : Type 0} (s : Says T) (early st : State T) (ss : List (List ℕ × Segment T)) (o : Option (ℕ × List ℕ)) → closed s (with_earlier early st) ss o ≡ with_earlier early (closed s st ss o)
+closed_later s early st ss (Some f) = refl
+closed_later s early st ss None = λ i. record {
+  step = st.step + 1;
+  arrays = landed (joined (map log_of ss)) st.arrays;
+  live = next_live s ss;
+  prints = append_assoc early.prints st.prints (prints_of st.step ss) i;
+  records = append_assoc early.records st.records (record_of st.step ss ∷ []) i;
+  fault = None;
+}
 
-  -- as it begins
-  pub reached_none : Reached (record { step = 0; arrays = arrays; live = tasks; prints = []; records = []; fault = None })
-  reached_none = record { history = []; entered = λ n lt. absurd (omega (arith, lt)); state = refl }
+superstep_later : {T : Type 0} (s : Says T) (early st : State T) → superstep s (with_earlier early st) ≡ with_earlier early (superstep s st)
+superstep_later s early st =
+    closed_later s early st (segments s st.arrays st.step st.live) (fault_in s st.arrays (segments s st.arrays st.step st.live))
+
+-- a superstep without a fault goes on to the next step
+moved : {T : Type 0} (s : Says T) (st next : State T) → superstep s st ≡ next → next.fault ≡ None → next.step ≡ st.step + 1
+moved {T} s st next e none = ap (λ (x : State T). x.step) (sym e) ∙ by (fault_in s st.arrays ss) (ap (λ (x : State T). x.fault) e ∙ none)
+  where
+    ss : List (List ℕ × Segment T)
+    ss = segments s st.arrays st.step st.live
+
+    by : (o : Option (ℕ × List ℕ)) → (closed s st ss o).fault ≡ None → (closed s st ss o).step ≡ st.step + 1
+    by (Some f) h = cc
+    by None h = refl
+
+module _ {S T : Type 0} (r : Reading S T) (law : (t : S) → r.frame.path (r.meant t) ≡ r.path t) (most : ℕ) (arrays : List (List ℕ × List ℤ)) (tasks : List T) (limit given : ℕ) where
+  abbrev pub Reached : State T → Type 0
+  Reached st = IsReached r.frame r.may most arrays tasks limit given st
 
   -- one superstep more
   pub reached_next : (st next : State T) (h : Reached st) → status limit st ≡ None → IsStep r.frame r.may most st next → Reached next
   reached_next st next h run s =
       let es = s.entries in
-      let entered = s.entered in
-      let e = s.is in
       let says = says_by r.frame most h.history in
+      let early = so_far says arrays tasks limit given in
+      let whole = with_earlier early st in
+      let entered : IsEntered r.frame r.may whole es = record { tasks = s.entered.tasks; allowed = s.entered.allowed } in
       let more = h.history ++ es ∷ [] in
       let l = length-append h.history (es ∷ []) in
       let k : length more ≡ suc (length h.history) = omega (arith, l) in
       let now = so_far_more r.frame most h.history (es ∷ []) arrays tasks limit (length h.history) (omega arith) in
-      let at : so_far (says_by r.frame most more) arrays tasks limit (length h.history) ≡ st = now ∙ sym h.state in
+      let then_ = so_far_more r.frame most h.history (es ∷ []) arrays tasks limit given h.within in
+      let at : so_far (says_by r.frame most more) arrays tasks limit (length h.history) ≡ whole = now ∙ sym h.state in
       let step : st.step ≡ length h.history =
       ap (λ (x : State T). x.step) h.state ∙ (going_on says arrays tasks limit (length h.history) (ap (status limit) (sym h.state) ∙ run)).step in
       let entry : get_or more st.step [] ≡ es = ap (λ (n : ℕ). get_or more n []) step ∙ get_or-append_seam h.history es [] [] in
+      let within = h.within in
       record {
         history = more;
         entered = entered_more r.frame r.may most r.meant r.path law arrays tasks limit h.history es h.entered (subst (λ (x : State T). IsEntered r.frame r.may x es) h.state entered);
+        within = omega (arith, k, within);
+        count = λ none. let up = moved (says_in r.frame most es) st next s.is none in omega (arith, k, step, up);
         state =
-            sym (
+            ap (λ (x : State T). with_earlier x next) then_
+            ∙ sym (
             ap (so_far (says_by r.frame most more) arrays tasks limit) k
             ∙ goes (says_by r.frame most more) arrays tasks (status limit (so_far (says_by r.frame most more) arrays tasks limit (length h.history))) (so_far (says_by r.frame most more) arrays tasks limit (length h.history))
             (superstep (says_by r.frame most more) (so_far (says_by r.frame most more) arrays tasks limit (length h.history))) (ap (status limit) at ∙ run)
             ∙ ap (superstep (says_by r.frame most more)) at
-            ∙ superstep_by r.frame most more st
-            ∙ ap (λ (fs : List (Entry T)). superstep (says_in r.frame most fs) st) entry
-            ∙ e
+            ∙ superstep_by r.frame most more whole
+            ∙ ap (λ (fs : List (Entry T)). superstep (says_in r.frame most fs) whole) entry
+            ∙ superstep_later (says_in r.frame most es) early st
+            ∙ ap (with_earlier early) s.is
             );
       }
 
   -- a run that has ended
   pub has_run : (st : State T) (h : Reached st) (s : Status) → status limit st ≡ Some s → (outcome : ReportValue) → outcome ≡ record { prints = st.prints; records = st.records; arrays = st.arrays; status = s }
-      → (living : List T) → living_after s st.live ≡ living → HasRun r.frame r.may most arrays tasks limit outcome living
+      → (living : List T) → living_after s st.live ≡ living → HasRunOn r.frame r.may most arrays tasks limit given outcome living
   has_run st h s e outcome is living l =
       let says = says_by r.frame most h.history in
       let n = length h.history in
+      let early = so_far says arrays tasks limit given in
+      let whole = with_earlier early st in
       let ended : status limit (so_far says arrays tasks limit n) ≡ Some s = ap (status limit) (sym h.state) ∙ e in
       let last : so_far says arrays tasks limit n ≡ so_far says arrays tasks limit limit = ended_is_last says arrays tasks limit n s ended in
-      subst (λ (o : ReportValue). HasRun r.frame r.may most arrays tasks limit o living) (sym is) (record {
-        history = h.history;
-        entered = h.entered;
-        ended = ended;
-        report = ap (λ (x : State T). told x (status limit x)) (sym (h.state ∙ last)) ∙ ap (told st) e;
-        at_end = ap (λ (x : State T). living_after s x.live) (sym h.state) ∙ l;
-      })
+      record {
+        whole = record { prints = whole.prints; records = whole.records; arrays = st.arrays; status = s };
+        run = record {
+          history = h.history;
+          entered = h.entered;
+          ended = ended;
+          report = ap (λ (x : State T). told x (status limit x)) (sym (h.state ∙ last)) ∙ ap (told whole) e;
+          at_end = ap (λ (x : State T). living_after s x.live) (sym h.state) ∙ l;
+        };
+        within = h.within;
+        rest = ap (with_before early) (sym is);
+      }
 
   module _ (begin : map r.frame.path tasks ≡ children [] 0 (length tasks)) where
     -- the paths of live tasks rise

@@ -2,8 +2,9 @@
 use Rattle.std.specs.Prelude.{◌≡◌, ℕ, ℤ, Bool, true, false, List, [], ◌∷◌, ◌++◌, map, Option, Some, None, slice_get}
 use Rattle.atomic_table.specs.Seated.{TableId}
 use Rattle.phase_records.specs.ReportValue.{ReportValue}
-use Rattle.programs.specs.History.{HasRun}
 use Rattle.programs.specs.Superstep.{ended_by}
+use Rattle.program_stretches.specs.Reached.{HasRunOn}
+use Rattle.program_stretches.specs.LinesValue.{LinesValue}
 use Rattle.program_stretches.specs.declared.fault.Unwanted.{Unwanted}
 use Rattle.program_stretches.specs.declared.fault.Unwanted.TheVariants as unwanted
 use Rattle.program_stretches.specs.declared.fault.Unclosed.{Unclosed}
@@ -14,7 +15,7 @@ use Rattle.program_stretches.specs.PartValue.{PartValue}
 use Rattle.program_stretches.specs.Parts.{Reading, AreFresh, covers, tasks_in}
 use Rattle.program_stretches.specs.Opening.{OpeningValue, live_of}
 use Rattle.program_stretches.specs.Did.{IsStep, IsStepTo}
-use Rattle.program_stretches.specs.StretchesValue.{StretchesValue, StretchValue, state_with, with_slot, IsAfter}
+use Rattle.program_stretches.specs.StretchesValue.{StretchesValue, StretchValue, state_with, with_slot, IsAfter, IsCourse}
 
 -- a stretch that isn't taken
 abbrev pub is_there : {S : Type 0} → Option (Option (PartValue S)) → Bool
@@ -98,9 +99,18 @@ module _ {Q S T : Type 0} where
     pub leaves : EndsAs m outcome new live
     pub same : IsSameRun old new
 
-  -- a run that began with the first opening of this log left this
-  pub record HasLeft (m : Q → Reading S T) (log : List (OpeningValue Q S)) (outcome : ReportValue) (living : List S) : Type 0 where
+  -- A run that began with the first opening of this log left this. What its first `given` supersteps printed and recorded was given
+  -- away.
+  pub record HasLeft (m : Q → Reading S T) (log : List (OpeningValue Q S)) (given : ℕ) (outcome : ReportValue) (living : List S) : Type 0 where
     pub first : OpeningValue Q S
     pub since : List (OpeningValue Q S)
     pub begun : log ≡ since ++ first ∷ []
-    pub run : HasRun (m first.program).frame (m first.program).may first.most first.arrays (map (m first.program).meant (live_of first)) first.limit outcome (map (m first.program).meant living)
+    pub run : HasRunOn (m first.program).frame (m first.program).may first.most first.arrays (map (m first.program).meant (live_of first)) first.limit given outcome (map (m first.program).meant living)
+
+  -- What supersteps printed and recorded that is given away: of all from the one that is next to be given on
+  pub record IsGiven (m : Q → Reading S T) (v : StretchesValue Q S) (lines : LinesValue) : Type 0 where
+    pub course : IsCourse m v
+    pub first : lines.first ≡ v.given
+    pub next : lines.next ≡ v.step
+    pub prints : lines.prints ≡ v.prints
+    pub records : lines.records ≡ v.records

@@ -7,5 +7,6 @@ pub mod Did
 pub mod StretchesValue
 pub mod StretchView
 pub mod StretchesView
+pub mod LinesValue
 pub mod Closing
 pub mod Laws

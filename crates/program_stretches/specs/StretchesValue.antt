@@ -27,7 +27,8 @@ pub record StretchValue (Q S : Type 0) : Type 0 where
   pub part : PartValue S
 
 -- A run: the openings of its supersteps, the last first, by the name of their log; its limits; so many supersteps taken; what they
--- left; how many tasks live, and the stretches of the next superstep that aren't taken.
+-- left; how many tasks live, and the stretches of the next superstep that aren't taken. What the first `given` supersteps printed
+-- and recorded was given away, and isn't among the prints and records.
 pub record StretchesValue (Q S : Type 0) : Type 0 where
   pub name : TableId
   pub log : List (OpeningValue Q S)
@@ -41,6 +42,7 @@ pub record StretchesValue (Q S : Type 0) : Type 0 where
   pub prints : List PrintValue
   pub records : List PhaseRecord
   pub fault : Option (ℕ × List ℕ)
+  pub given : ℕ
 
 module _ {Q S T : Type 0} where
   -- the run between two supersteps, if these tasks live
@@ -82,7 +84,7 @@ module _ {Q S T : Type 0} where
   -- it is the run after some of its supersteps, in which these tasks live
   pub record IsAfter (m : Q → Reading S T) (v : StretchesValue Q S) (live : List T) : Type 0 where
     pub begun : HasBegun m v
-    pub reached : IsReached (m v.program).frame (m v.program).may v.most begun.first.arrays (map (m v.program).meant (live_of begun.first)) v.limit (state_with v live)
+    pub reached : IsReached (m v.program).frame (m v.program).may v.most begun.first.arrays (map (m v.program).meant (live_of begun.first)) v.limit v.given (state_with v live)
     pub count : v.count ≡ length live
     pub few : length live ≤ v.most
 

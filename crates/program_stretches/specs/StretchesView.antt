@@ -19,6 +19,7 @@ stretches_of i = record {
   prints = i.prints.items;
   records = i.records.items;
   fault = i.fault;
+  given = i.given;
 }
 
 pub record IsStretchesInside {Q S T : Type 0} (m : Q → Reading S T) (ready : Q → Type 0) (i : Inside Q S) : Type 0 where

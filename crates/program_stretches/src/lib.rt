@@ -5,7 +5,7 @@
 //!
 //! * `part.rt`: a stretch and what its tasks did; `stretch.rt`: one that was taken; `parts.rt`: several together;
 //!   `hand_over.rt`: what they hand over in the end; `landing.rt`: how puts land; `cut.rt`: new stretches;
-//!   `opened.rt`: a superstep as it begins; `stretches.rt`: the whole.
+//!   `opened.rt`: a superstep as it begins; `lines.rt`: what supersteps printed; `stretches.rt`: the whole.
 //! * `specs/StretchesValue.antt`: the supersteps; `Closing.antt`: how they are taken, taken back and closed;
 //!   `Reached.antt`: the history so far.
 #![tactic(auto)]
@@ -15,6 +15,7 @@ mod fault;
 mod hand_over;
 mod landing;
 pub mod laws;
+mod lines;
 mod opened;
 mod part;
 mod parts;
@@ -22,6 +23,7 @@ mod stretch;
 mod stretches;
 
 pub use fault::{Outcome, Unclosed, Unwanted};
+pub use lines::Lines;
 pub use opened::Opened;
 pub use programs::deeds::Change;
 pub use stretch::Stretch;

@@ -13,6 +13,7 @@ use crate::cut::cut;
 use crate::fault::{Outcome, Unclosed, Unwanted};
 use crate::hand_over::{give_all_prints, give_all_tasks, join_adds, renew_all};
 use crate::landing::land_shared;
+use crate::lines::Lines;
 use crate::opened::Opened;
 use crate::part::{Part, blame_again};
 use crate::parts::{count_left, count_prints, count_spawned, cover, find_fault};
@@ -51,6 +52,8 @@ pub struct Stretches<'t, 'p, P: Program> {
     prints: Vec<Print>,
     records: Vec<PhaseRecord>,
     fault: Option<Blame>,
+    // How many supersteps' prints and records were given away.
+    given: u32,
     // Room for landing. What it holds means nothing.
     olds: Vec<i64>,
 }
@@ -73,12 +76,13 @@ impl<'t, 'p, P: Program> Stretches<'t, 'p, P> {
     ghost use Rattle.phase_records.specs.Status.{IsShort};
     ghost use Rattle.phase_records.specs.StatusSeen.{status_seen};
     ghost use Rattle.programs.specs.Meaning.{children};
+    ghost use Rattle.snapshot_log.specs.Agreed.{WasBefore};
     ghost use Rattle.programs.specs.InPlace.{told_in, left_in, spawned_in};
     ghost use Rattle.std.specs.List.{list_all};
     ghost use Rattle.superstep_memory.specs.Landing.{is_set};
     ghost use Rattle.program_stretches.specs.Parts.{reading_of, AreFresh, covers, tasks_in, puts_in, deeds_in, prints_in};
     ghost use Rattle.program_stretches.specs.StretchesValue.{status_in, can_leave, ready_at, tasks_at, with_slot, IsAfter, HaveRun, OverflowsAt};
-    ghost use Rattle.program_stretches.specs.Closing.{IsBegun, IsTaken, Refuses, Accepts, IsSameRun, NotClosed, IsClosed, EndsBy, HasLeft, opened_with};
+    ghost use Rattle.program_stretches.specs.Closing.{IsBegun, IsTaken, Refuses, Accepts, IsSameRun, NotClosed, IsClosed, EndsBy, HasLeft, IsGiven, opened_with};
 
     /// The stretches of a program that begins with these arrays and tasks, before the first superstep, by a new log. At most `most`
     /// tasks may live at once, and at most `limit` supersteps are taken. Whenever tasks come or leave, the live ones are cut into
@@ -137,6 +141,7 @@ impl<'t, 'p, P: Program> Stretches<'t, 'p, P> {
             prints: Vec::new(alloc),
             records: Vec::new(alloc),
             fault: None,
+            given: 0,
             olds: Vec::new(alloc),
         })
     }
@@ -147,6 +152,22 @@ impl<'t, 'p, P: Program> Stretches<'t, 'p, P> {
         ensures snapshot { result ≡ record { name = self.old.name; log = self.old.log } }
     {
         self.writer.snapshot(self.log)
+    }
+
+    /// Proves that what the log of openings was is a beginning of what it is.
+    pub fn compare(&mut self, earlier: Snapshot<Opened<'p, P, P::Task>>)
+        requires { earlier.name ≡ self.old.name }
+        ensures same { self.new ≡ self.old }
+        ensures before { WasBefore earlier.entry.log self.old.log }
+    {
+        self.writer.compare(self.log, earlier);
+    }
+
+    /// The arrays as the next superstep begins.
+    pub fn arrays(&self) -> &Arrays
+        ensures { result.now ≡ self.now.arrays }
+    {
+        &self.arrays
     }
 
     /// How the run has ended, if it has: by a fault, with no task left, or at the limit, looked at in this order. It takes no memory.
@@ -482,6 +503,24 @@ impl<'t, 'p, P: Program> Stretches<'t, 'p, P> {
         }
     }
 
+    /// Gives away what the supersteps printed and recorded since the last call. What the run leaves has only what comes after.
+    pub fn give(&mut self, alloc: Global) -> Lines
+        requires { self.old.fault ≡ None }
+        ensures given { IsGiven (reading_of P.frame P.may P.meant P.Task.path_of) self.old result }
+        ensures rest { self.new ≡ record self.old { prints = []; records = []; given = self.old.step } }
+    {
+        let prints = mem::replace(&mut self.prints, Vec::new(alloc));
+        let records = mem::replace(&mut self.records, Vec::new(alloc));
+        let first = self.given;
+        self.given = self.step;
+        Lines {
+            first,
+            next: self.step,
+            prints,
+            records,
+        }
+    }
+
     // Whether no stretch is taken or has run, if tasks still live.
     fn is_at_rest(&self, lives: bool) -> bool
         ensures { result ≡ (not lives || covers false self.now.count 0 self.now.parts) }
@@ -498,11 +537,11 @@ impl<'t, 'p, P: Program> Stretches<'t, 'p, P> {
         writer.give_up();
     }
 
-    /// What the run leaves, once it has ended, with the writer of its log. `None` if it hasn't ended, or if it ended at the limit
+    /// What the run leaves, once it has ended, but for what was given away, with the writer of its log. `None` if it hasn't ended, or if it ended at the limit
     /// while a stretch was taken.
     pub fn into_left(self, alloc: Global) -> Result<Option<Left<'p, P>>, AllocError>
         ensures left { IfOk result (λ left. IfSome left (λ l. (l.writer.name ≡ self.entry.name)
-            × HasLeft (reading_of P.frame P.may P.meant P.Task.path_of) l.writer.log l.ran.report l.ran.tasks.items)) }
+            × HasLeft (reading_of P.frame P.may P.meant P.Task.path_of) l.writer.log l.given l.ran.report l.ran.tasks.items)) }
         ensures some { IfOk result (λ left. is_some left ≡ can_leave self.entry) }
     {
         let Some(status) = self.status() else {
@@ -520,6 +559,7 @@ impl<'t, 'p, P: Program> Stretches<'t, 'p, P> {
             mut parts,
             prints,
             records,
+            given,
             ..
         } = self;
         match finish(alloc, arrays, &mut parts, lives) {
@@ -531,7 +571,7 @@ impl<'t, 'p, P: Program> Stretches<'t, 'p, P> {
                     status,
                 };
                 let ran = Ran { report, tasks };
-                Ok(Some(Left { ran, writer }))
+                Ok(Some(Left { ran, given, writer }))
             }
             Err(fault) => {
                 writer.give_up();
@@ -544,8 +584,10 @@ impl<'t, 'p, P: Program> Stretches<'t, 'p, P> {
 /// What a run leaves: its report, the tasks that still live, and the writer of its log.
 #[derive(Drop)]
 pub struct Left<'p, P: Program> {
-    /// The report, and the tasks that still live.
+    /// The report, without the prints and records that were given away, and the tasks that still live.
     pub ran: Ran<P::Task>,
+    /// How many supersteps' prints and records were given away.
+    pub given: u32,
     /// The writer of the log of its openings.
     pub writer: Writer<Opened<'p, P, P::Task>>,
 }

@@ -13,9 +13,10 @@ use Rattle.worker_pool.specs.declared.engine.Closed as closings
 use Rattle.worker_pool.specs.declared.engine.Closed.TheVariants as closed
 
 module _ {Q S T : Type 0} where
-  -- what the run gives: a run that began with the first opening of the log by this name
-  abbrev pub Gives : (Q → Reading S T) → TableId → LogValue (OpeningValue Q S) → ReportValue → List S → Type 0
-  Gives m id w outcome living = (w.name ≡ id) × HasLeft m w.log outcome living
+  -- what the run gives: a run that began with the first opening of the log by this name, but for what its first `given` supersteps
+  -- printed and recorded
+  abbrev pub Gives : (Q → Reading S T) → TableId → LogValue (OpeningValue Q S) → ℕ → ReportValue → List S → Type 0
+  Gives m id w given outcome living = (w.name ≡ id) × HasLeft m w.log given outcome living
 
 abbrev pub closed_by : outcomes.Outcome → closings.Closed
 closed_by outcome.Landed = closed.Landed

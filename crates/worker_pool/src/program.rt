@@ -1,5 +1,5 @@
 //! Runs of programs on worker threads.
-ghost use Rattle.std.specs.Prelude.{◌≡◌, ◌≤◌, ◌<◌, ◌^◌, ◌∷◌, [], IfOk, IfErr, length, map};
+ghost use Rattle.std.specs.Prelude.{◌≡◌, ◌≤◌, ◌<◌, ◌^◌, ◌∷◌, [], ℕ, IfOk, IfErr, length, map};
 ghost use Rattle.advance_rule.specs.Stored.{Answers};
 ghost use Rattle.advance_rule.specs.Plan.{end_ends_at};
 ghost use Rattle.program_stretches.specs.Opening.{OpeningValue, live_of};
@@ -15,7 +15,7 @@ use crate::run::{limit_in, run_engine, stretches_wanted};
 use advance_rule::StoredAdvance;
 use program_stretches::{Left, Opened, Stretches};
 use programs::alone::Ran;
-use programs::program::TaskLoop;
+use programs::program::{OnPath, TaskLoop};
 use snapshot_log::log::Log;
 use std::alloc::Global;
 use std::sync::Wait;
@@ -122,14 +122,30 @@ where
         starter,
     ) {
         Ok(left) => {
-            let Left { ran, mut writer } = left;
+            let Left {
+                ran,
+                given,
+                mut writer,
+            } = left;
             writer.compare(log, first);
             writer.give_up();
-            Ok(ran)
+            whole(ran, given)
         }
         Err(refused) => {
             first.give_up();
             Err(refused)
         }
+    }
+}
+
+// What a run leaves of which nothing was given away.
+fn whole<T: OnPath>(ran: Ran<T>, given: u32) -> Result<Ran<T>, Refused>
+    ensures all { IfOk result (λ whole. (whole ≡ ran) × (given ≡ 0)) }
+    ensures internal { (workers : ℕ) → IfErr result (IsOfWorkers workers) }
+{
+    if given == 0 {
+        Ok(ran)
+    } else {
+        Err(Refused::Internal)
     }
 }

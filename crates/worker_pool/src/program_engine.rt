@@ -135,7 +135,7 @@ impl<'t, 'p, P: TaskLoop> Engine for Run<'t, 'p, P> {
 
     ghost mark = { λ v. v.name };
 
-    ghost gives = { λ mark left. Gives (reading_of P.frame P.may P.meant P.Task.path_of) mark left.writer left.ran.report left.ran.tasks.items };
+    ghost gives = { λ mark left. Gives (reading_of P.frame P.may P.meant P.Task.path_of) mark left.writer left.given left.ran.report left.ran.tasks.items };
 
     ghost count = { λ v. v.count };
 

@@ -19,7 +19,7 @@ invariant_of-result g c =
           (ready.arrays.0 ∙ sym ready.arrays.1) parts ready.fresh
           (ap (map g.P.Task.OnPath.path_of) ready.tasks ∙ c.requires.paths ∙ ap (λ (ts : List g.row.P-Task.Denot). children [] 0 (length ts)) (sym ready.tasks))
           (ready.count ∙ sym l) (let few = c.requires.few in omega (arith, l, few))
-          refl c.new.ensures.items c.new-2.ensures.items refl;
+          refl c.new.ensures.items c.new-2.ensures.items refl refl;
       same = sym (ap (λ w. w.name) noted ∙ ap (λ w. w.name) c.write-writer.ensures);
       is_ready = c.requires.ready;
       pieces = c.requires.pieces;

@@ -1,0 +1,2 @@
+pub mod Streamed
+pub mod Running

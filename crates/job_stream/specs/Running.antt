@@ -1,0 +1,32 @@
+-- The run of a job by stretches (own).
+use Rattle.std.specs.Prelude.{◌≡◌, ℕ, List, [], ◌∷◌, ◌++◌, map, None}
+use Rattle.snapshot_log.specs.Agreed.{WasBefore}
+use Rattle.task_code.specs.JobValue.{JobValue}
+use Rattle.task_lang.specs.TaskValue.{TaskValue}
+use Rattle.task_lang.specs.Views.{plans, task_of}
+use Rattle.step_parts.specs.JobMeaning.{start_tasks}
+use Rattle.job_program.specs.declared.job.JobProgram.{JobProgram}
+use Rattle.program_stretches.specs.Opening.{OpeningValue, live_of}
+use Rattle.program_stretches.specs.Parts.{Reading}
+use Rattle.program_stretches.specs.LinesValue.{LinesValue}
+use Rattle.program_stretches.specs.StretchesValue.{StretchesValue}
+use Rattle.program_stretches.specs.Closing.{IsGiven}
+
+-- a log of the openings of a run that began as this job begins
+pub record IsRunOf (j : JobValue) (limit : ℕ) (log : List (OpeningValue JobProgram TaskValue)) : Type 0 where
+  pub first : OpeningValue JobProgram TaskValue
+  pub since : List (OpeningValue JobProgram TaskValue)
+  pub begun : log ≡ since ++ first ∷ []
+  pub job : first.program.job.now ≡ j
+  pub most : first.most ≡ 4096
+  pub limit_is : first.limit ≡ limit
+  pub arrays : first.arrays ≡ j.arrays
+  pub tasks : map (task_of (plans j.bodies)) (live_of first) ≡ start_tasks (plans j.bodies) 0 j.starts
+
+module _ {Q S T : Type 0} where
+  -- this was given away by a run whose log went on from this one, and which no fault has ended
+  pub record IsGivenAfter (m : Q → Reading S T) (log : List (OpeningValue Q S)) (lines : LinesValue) : Type 0 where
+    pub run : StretchesValue Q S
+    pub since : WasBefore log run.log
+    pub calm : run.fault ≡ None
+    pub given : IsGiven m run lines

@@ -1,0 +1,19 @@
+//! A job whose report is written superstep by superstep: each superstep's lines when it is closed, the arrays and the last line at
+//! the end. The bytes are those of the report's text.
+//!
+//! Arrays, tasks and one superstep are all that is kept in memory.
+//!
+//! # Where things are
+//!
+//! * `alone.rt`: a run on one thread; `step.rt`: one superstep; `text.rt`: what is written; `fault.rt`: why a run doesn't end.
+//! * `specs/Streamed.antt`: what is written; `Running.antt`: the run of a job.
+//! * `proofs/Texts.antt`: texts superstep by superstep; `Pieces.antt`: what supersteps of a run leave.
+#![tactic(auto)]
+
+mod alone;
+mod fault;
+mod step;
+mod text;
+
+pub use alone::stream_alone;
+pub use fault::StreamFault;
