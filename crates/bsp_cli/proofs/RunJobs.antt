@@ -103,13 +103,20 @@ pub draws_runs : (look : LookValue) (workers limit : ℕ) (input old new : Optio
     → IfSome input (λ bytes. job_in bytes ≡ Ok (job_tree j)) → report_of (program_of j) limit ≡ Some report
     → Reports (drawn look (program_of j) limit) report old new r → Draws look workers limit input old new r
 draws_runs look workers limit input old new j report (Ok status) read left_it h =
-    if-some input (λ bytes e. (report, (job_tree j, e, left j limit report left_it),
-      subst (λ (p : Program). Appends old new (drawn look p limit report)) (program-read j bytes e) h.0, h.1)) read
+    if-some input (λ bytes e. (
+      report,
+      (job_tree j, e, left j limit report left_it),
+      subst (λ (p : Program). Appends old new (drawn look p limit report)) (program-read j bytes e) h.0,
+      h.1,
+    )) read
 draws_runs look workers limit input old new j report (Err (Text x)) read left_it h = absurd h
 draws_runs look workers limit input old new j report (Err Read) read left_it h = absurd h
 draws_runs look workers limit input old new j report (Err Write) read left_it h =
-    if-some input (λ bytes e. (report, (job_tree j, e, left j limit report left_it),
-      subst (λ (p : Program). AppendsBeginning old new (drawn look p limit report)) (program-read j bytes e) h)) read
+    if-some input (λ bytes e. (
+      report,
+      (job_tree j, e, left j limit report left_it),
+      subst (λ (p : Program). AppendsBeginning old new (drawn look p limit report)) (program-read j bytes e) h,
+    )) read
 draws_runs look workers limit input old new j report (Err Memory) read left_it h = h
 draws_runs look workers limit input old new j report (Err (NotStarted k)) read left_it h = absurd h
 draws_runs look workers limit input old new j report (Err Internal) read left_it h = absurd h

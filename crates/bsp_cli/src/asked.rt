@@ -11,8 +11,8 @@ ghost use Rattle.job_view.specs.Look.{look_value};
 
 use crate::help::{CHECK_LINES, DRAW_LINES, EXAMPLES, RUN_LINES, TRACE_LINES, UPGRADE_LINES};
 use clap::builder::ValueParser;
-use job_rows::Look;
 use clap::{Arg, ArgAction, ArgMatches, Command, Error};
+use job_rows::Look;
 use std::alloc::Global;
 
 /// What `explain` explains.
@@ -625,11 +625,7 @@ fn topic_of(matches: &ArgMatches<'_>) -> Topic
     ensures topic { result ≡ topic_in (rows_of (found_of matches.now)) }
     ensures known { IsTopic result }
 {
-    topic_by(
-        code_of(matches),
-        fault_of(matches),
-        trace_code_of(matches),
-    )
+    topic_by(code_of(matches), fault_of(matches), trace_code_of(matches))
 }
 
 // Returns what `run` asks for.

@@ -498,7 +498,8 @@ const TRACE_BAD_NESTING: &str = "trace code 11 BadNesting: no code of a trace
 Only the text of a job gets it, as bsp explain 11 says.
 ";
 
-const TRACE_TOO_MANY: &str = "trace code 12 TooMany: over 4096 commands, or over 256 tokens of a tree
+const TRACE_TOO_MANY: &str =
+    "trace code 12 TooMany: over 4096 commands, or over 256 tokens of a tree
 
 A trace has at most 4096 commands after its first line, and a trace of a tree
 at most 256 tokens.

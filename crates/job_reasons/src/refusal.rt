@@ -18,12 +18,7 @@ use std::alloc::{AllocError, Global};
 use text_lines::{Code, Refusal};
 
 // Appends the place, the code with its name, and what it means.
-fn push_head(
-    out: &mut Vec<u8>,
-    source: &[u8],
-    kind: Kind,
-    place: Place,
-) -> Result<(), AllocError>
+fn push_head(out: &mut Vec<u8>, source: &[u8], kind: Kind, place: Place) -> Result<(), AllocError>
     ensures { OnOk result (out.new.items ≡ out.old.items ++ head source.now kind place) }
 {
     push_text(out, source)?;
@@ -51,12 +46,7 @@ fn shown_refusal(text: &[u8], refusal: Refusal) -> Refusal
 }
 
 // Appends the line of a place.
-fn push_place(
-    alloc: Global,
-    out: &mut Vec<u8>,
-    place: Place,
-    text: &[u8],
-) -> Result<(), AllocError>
+fn push_place(alloc: Global, out: &mut Vec<u8>, place: Place, text: &[u8]) -> Result<(), AllocError>
     ensures { OnOk result (out.new.items ≡ out.old.items ++ place_shown place text.now) }
 {
     let before = place.column.saturating_sub(1);
@@ -90,11 +80,7 @@ pub fn refusal_reason(
 }
 
 /// Returns why the text of a job is refused, or `None` if it isn't.
-pub fn job_reason(
-    alloc: Global,
-    source: &str,
-    text: &[u8],
-) -> Result<Option<Vec<u8>>, AllocError>
+pub fn job_reason(alloc: Global, source: &str, text: &[u8]) -> Result<Option<Vec<u8>>, AllocError>
     ensures { IfOk result (λ reason. option_map (λ v. v.items) reason ≡ job_reason_by source.now text.now (job_in text.now)) }
 {
     match read_job(alloc, text) {

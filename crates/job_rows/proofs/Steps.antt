@@ -101,7 +101,7 @@ later_at j limit every i r s h g =
     let one : suc i ≡ i + 1 = omega arith in
     let more : every * i + every ≡ every * (i + 1) = sym (mul-suc every i) ∙ ap (λ (k : ℕ). every * k) one in
     let before : state_of r ≡ so_far (program_of r.job) r.limit (every * i) =
-        h.state ∙ ap (λ (m : ℕ). so_far (program_of j) m (every * i)) (sym h.limit) ∙ ap (λ (x : JobValue). so_far (program_of x) r.limit (every * i)) (sym h.job) in
+    h.state ∙ ap (λ (m : ℕ). so_far (program_of j) m (every * i)) (sym h.limit) ∙ ap (λ (x : JobValue). so_far (program_of x) r.limit (every * i)) (sym h.job) in
     record {
       job = g.job ∙ h.job;
       limit = g.limit ∙ h.limit;

@@ -174,7 +174,13 @@ fn time_panel<'a>(
 ) -> Panel<'a>
     ensures { view_of result ≡ time_view (words_of widths.now) every arrays.now name.entry.now values.entry.now }
 {
-    found_panel(widths, every, name, values, cells_named(arrays, name.as_bytes()))
+    found_panel(
+        widths,
+        every,
+        name,
+        values,
+        cells_named(arrays, name.as_bytes()),
+    )
 }
 
 // Appends each array of these names over supersteps. A name that is no text is out of memory: it is a part of one.
@@ -206,7 +212,11 @@ fn push_times<'a>(
 }
 
 // Appends a line of a name that no array has.
-fn push_missing<'a>(panels: &mut Vec<Panel<'a>>, arrays: &Arrays, name: &'a str) -> Result<(), AllocError>
+fn push_missing<'a>(
+    panels: &mut Vec<Panel<'a>>,
+    arrays: &Arrays,
+    name: &'a str,
+) -> Result<(), AllocError>
     ensures { OnOk result (views_of panels.new.items ≡ views_of panels.old.items ++ unless_found name.entry.now (named name.entry.now arrays.now)) }
 {
     match cells_named(arrays, name.as_bytes()) {
@@ -224,7 +234,11 @@ fn push_missing<'a>(panels: &mut Vec<Panel<'a>>, arrays: &Arrays, name: &'a str)
 }
 
 // Appends a line of a name that no array has. A name that is no text is out of memory: it is a part of one.
-fn push_unknown<'a>(panels: &mut Vec<Panel<'a>>, arrays: &Arrays, name: &'a [u8]) -> Result<(), AllocError>
+fn push_unknown<'a>(
+    panels: &mut Vec<Panel<'a>>,
+    arrays: &Arrays,
+    name: &'a [u8],
+) -> Result<(), AllocError>
     ensures { OnOk result (views_of panels.new.items ≡ views_of panels.old.items ++ unless_found name.entry.now (named name.entry.now arrays.now)) }
 {
     match str::from_utf8(name) {
@@ -234,7 +248,11 @@ fn push_unknown<'a>(panels: &mut Vec<Panel<'a>>, arrays: &Arrays, name: &'a [u8]
 }
 
 // Appends a line of each name with a width that no array has.
-fn push_unknowns<'a>(panels: &mut Vec<Panel<'a>>, arrays: &Arrays, widths: &'a [u8]) -> Result<(), AllocError>
+fn push_unknowns<'a>(
+    panels: &mut Vec<Panel<'a>>,
+    arrays: &Arrays,
+    widths: &'a [u8],
+) -> Result<(), AllocError>
     ensures { OnOk result (views_of panels.new.items ≡ views_of panels.old.items ++ missing_views arrays.now (words_of widths.entry.now)) }
 {
     let mut rest = widths;
