@@ -7,6 +7,7 @@ _bsp() {
         --tree) COMPREPLY=($(compgen -W "flat 2x2 2x3 4x4" -- "$word")); return ;;
         --limit) COMPREPLY=($(compgen -W "1000 1000000" -- "$word")); return ;;
         -f | --file) COMPREPLY=($(compgen -f -- "$word")); return ;;
+        --trace) COMPREPLY=($(compgen -W "1 2 3 4 6 7 12" -- "$word")); return ;;
         --fault) COMPREPLY=($(compgen -W "1 2 3 4 5 6 7 8" -- "$word")); return ;;
     esac
     if [ "$COMP_CWORD" = 1 ]; then
@@ -16,7 +17,7 @@ _bsp() {
     case ${COMP_WORDS[1]} in
         run) COMPREPLY=($(compgen -W "--file --workers --tree --limit --progress --json --help" -- "$word")) ;;
         draw) COMPREPLY=($(compgen -W "--file --workers --tree --limit --width --over-time --title --help" -- "$word")) ;;
-        explain) COMPREPLY=($(compgen -W "1 2 3 4 5 6 7 8 9 10 11 12 13 14 --fault --help" -- "$word")) ;;
+        explain) COMPREPLY=($(compgen -W "1 2 3 4 5 6 7 8 9 10 11 12 13 14 --fault --trace --help" -- "$word")) ;;
         check) COMPREPLY=($(compgen -W "--file --all --help" -- "$word")) ;;
         trace | upgrade) COMPREPLY=($(compgen -W "--file --help" -- "$word")) ;;
         help) COMPREPLY=($(compgen -W "$commands" -- "$word")) ;;

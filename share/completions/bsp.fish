@@ -22,4 +22,5 @@ complete -c bsp -n '__fish_seen_subcommand_from draw' -l over-time -x -d 'arrays
 complete -c bsp -n '__fish_seen_subcommand_from draw' -l title -x -d 'the title'
 complete -c bsp -n '__fish_seen_subcommand_from check' -l all -d 'lists all faulty lines'
 complete -c bsp -n '__fish_seen_subcommand_from explain' -l fault -x -a '1 2 3 4 5 6 7 8' -d 'the number of a fault'
+complete -c bsp -n '__fish_seen_subcommand_from explain' -l trace -x -a '1 2 3 4 6 7 12' -d 'the code of a trace'
 complete -c bsp -n '__fish_seen_subcommand_from explain' -a '1 2 3 4 5 6 7 8 9 10 11 12 13 14' -d 'the code of a refusal'

@@ -97,7 +97,7 @@ abbrev pub code_rule : Rule
 code_rule = numbers_rule (codes "code") (parser.Signed (pos 1) (pos 14))
 
 abbrev pub explain_app : App
-explain_app = with_rule (with_rule (new_app (codes "explain")) code_rule) (number_rule (codes "fault") 8)
+explain_app = with_rule (with_rule (with_rule (new_app (codes "explain")) code_rule) (number_rule (codes "fault") 8)) (number_rule (codes "trace") 12)
 
 abbrev pub bare : App
 bare = new_app (codes "bsp")
@@ -132,7 +132,8 @@ limit_in rows = number_from 1000000 1000000 (one_of (codes "limit") rows)
 
 -- what is to be explained
 abbrev pub topic_in : List Row → Topic
-topic_in rows = topic_by (number_from 14 0 (one_of (codes "code") rows)) (number_from 8 0 (one_of (codes "fault") rows))
+topic_in rows =
+    topic_by (number_from 14 0 (one_of (codes "code") rows)) (number_from 8 0 (one_of (codes "fault") rows)) (number_from 12 0 (one_of (codes "trace") rows))
 
 -- whether a flag is given, by the text that says so
 abbrev pub is_set : Option (List ℕ) → Bool

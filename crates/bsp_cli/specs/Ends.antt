@@ -19,7 +19,7 @@ use Rattle.bsp_cli.specs.Did.{Finishes, Begins, Lists, Refuses, RunsOut, IsWorke
 use Rattle.bsp_cli.specs.Texts.{fault_status}
 use Rattle.bsp_cli.specs.Topics.{WritesTopic, BeginsTopic}
 use Rattle.bsp_cli.specs.declared.asked.Topic.{Topic}
-use Rattle.bsp_cli.specs.declared.asked.Topic.TheVariants.{All, Code, Fault}
+use Rattle.bsp_cli.specs.declared.asked.Topic.TheVariants.{All, Code, Fault, TraceCode}
 use Rattle.bsp_cli.specs.declared.asked.Asked.{Asked}
 use Rattle.bsp_cli.specs.declared.asked.Asked.TheVariants.{Run, RunJson, Draw, Explain}
 use Rattle.bsp_cli.specs.declared.fault.RunFault.{RunFault}
@@ -149,6 +149,7 @@ abbrev pub IsTopic : Topic → Type 0
 IsTopic All = Unit {0}
 IsTopic (Code n) = (1 ≤ n) × (n ≤ 14)
 IsTopic (Fault n) = (1 ≤ n) × (n ≤ 8)
+IsTopic (TraceCode n) = (1 ≤ n) × (n ≤ 12)
 
 -- workers and limit are in range, and there is what is to be explained
 abbrev pub IsAsked : Asked → Type 0

@@ -6,7 +6,7 @@ use Rattle.job_view.specs.Look.{LookValue}
 use Rattle.bsp_cli.specs.CommandLine.{asked_in, file_asked, look_asked, no_look, refused_by, tree_asked}
 use Rattle.bsp_cli.specs.Did.{are_refused}
 use Rattle.clap.specs.declared.error.kind.ErrorKind.TheVariants.{DisplayHelp, DisplayVersion}
-use Rattle.bsp_cli.specs.declared.asked.Topic.TheVariants.{All, Code, Fault}
+use Rattle.bsp_cli.specs.declared.asked.Topic.TheVariants.{All, Code, Fault, TraceCode}
 use Rattle.bsp_cli.specs.declared.asked.Asked.{Asked}
 use Rattle.bsp_cli.specs.declared.asked.Asked.TheVariants.{Trace, Check, CheckAll, Upgrade, Run, RunJson, Draw, Explain}
 
@@ -48,6 +48,7 @@ pub record WordsAsk (name : List ℕ) : Type 0 where
   pub explain : Asks (name ∷ codes "explain" ∷ []) (Explain All)
   pub explain_code : Asks (name ∷ codes "explain" ∷ codes "14" ∷ []) (Explain (Code 14))
   pub explain_fault : Asks (name ∷ codes "explain" ∷ codes "--fault" ∷ codes "8" ∷ []) (Explain (Fault 8))
+  pub explain_trace : Asks (name ∷ codes "explain" ∷ codes "--trace" ∷ codes "12" ∷ []) (Explain (TraceCode 12))
   pub explain_both : Asks (name ∷ codes "explain" ∷ codes "--fault" ∷ codes "8" ∷ codes "3" ∷ []) (Explain (Code 3))
   pub draw : Asks (name ∷ codes "draw" ∷ []) (Draw 1 1000000)
   pub drawn_by : Asks (name ∷ codes "draw" ∷ codes "--workers" ∷ codes "64" ∷ codes "--limit" ∷ codes "7" ∷ []) (Draw 64 7)
@@ -94,6 +95,7 @@ pub record WordsAreRefused (name : List ℕ) : Type 0 where
   pub other_code : AreRefused (name ∷ codes "explain" ∷ codes "15" ∷ [])
   pub two_codes : AreRefused (name ∷ codes "explain" ∷ codes "1" ∷ codes "2" ∷ [])
   pub other_fault : AreRefused (name ∷ codes "explain" ∷ codes "--fault" ∷ codes "9" ∷ [])
+  pub other_trace : AreRefused (name ∷ codes "explain" ∷ codes "--trace" ∷ codes "13" ∷ [])
   pub progress_drawn : AreRefused (name ∷ codes "draw" ∷ codes "--progress" ∷ [])
   pub progress_twice : AreRefused (name ∷ codes "run" ∷ codes "--progress" ∷ codes "--progress" ∷ [])
   pub all_run : AreRefused (name ∷ codes "run" ∷ codes "--all" ∷ [])

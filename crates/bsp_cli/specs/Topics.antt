@@ -3,18 +3,20 @@ use Rattle.std.specs.Prelude.{◌≡◌, ℕ, zero, suc, ◌==◌, ◌&&◌, Boo
 use Rattle.std.specs.Io.KnownBytes.{Appends}
 use Rattle.devices.specs.Device.{AppendsBeginning}
 use Rattle.bsp_cli.specs.declared.asked.Topic.{Topic}
-use Rattle.bsp_cli.specs.declared.asked.Topic.TheVariants.{All, Code, Fault}
+use Rattle.bsp_cli.specs.declared.asked.Topic.TheVariants.{All, Code, Fault, TraceCode}
 
--- by the numbers of a code and of a fault, 0 where none is given: a code goes before a fault
-abbrev pub topic_by : ℕ → ℕ → Topic
-topic_by zero zero = All
-topic_by zero (suc fault) = Fault (suc fault)
-topic_by (suc code) fault = Code (suc code)
+-- by the numbers of a code, of a fault and of a code of a trace, 0 where none is given: a code goes before a fault, and that before a code of a trace
+abbrev pub topic_by : ℕ → ℕ → ℕ → Topic
+topic_by zero zero zero = All
+topic_by zero zero (suc told) = TraceCode (suc told)
+topic_by zero (suc fault) told = Fault (suc fault)
+topic_by (suc code) fault told = Code (suc code)
 
 -- how the text begins
 abbrev pub heading : Topic → List ℕ
 heading All = codes "Codes of a job's refusals"
 heading (Code n) = (codes "code " ++ decimal n) ++ codes " "
+heading (TraceCode n) = (codes "trace code " ++ decimal n) ++ codes " "
 heading (Fault n) = (codes "fault " ++ decimal n) ++ codes ": "
 
 -- a text begins with another, and goes on

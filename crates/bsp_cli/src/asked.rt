@@ -24,6 +24,8 @@ pub enum Topic {
     Code(u32),
     /// The number of a fault, 1 to 8.
     Fault(u32),
+    /// The code of a trace's refusal, 1 to 12.
+    TraceCode(u32),
 }
 
 /// A subcommand of the command line, with its numbers.
@@ -93,6 +95,9 @@ const MOST_CODES: u32 = 14;
 
 /// The number of faults.
 const MOST_FAULTS: u32 = 8;
+
+/// The largest code of a trace's refusal.
+const MOST_TRACE_CODES: u32 = 12;
 
 /// The largest number of supersteps of a job. Also the default.
 const MOST_STEPS: u32 = 1_000_000;
@@ -254,6 +259,16 @@ fn fault_option<'a>(alloc: Global) -> Arg<'a>
     number_argument(alloc, "fault", "CODE", help, numbers).long("fault")
 }
 
+// Makes the option `--trace`.
+fn trace_option<'a>(alloc: Global) -> Arg<'a>
+    ensures rule { rule_of result ≡ number_rule (codes "trace") 12 }
+    ensures local { result.global ≡ false }
+{
+    let help = "Code of a trace's refusal, 1 to 12";
+    let numbers = clap::value_parser!(u32).range(1..=12);
+    number_argument(alloc, "trace", "CODE", help, numbers).long("trace")
+}
+
 // Makes a subcommand that reads a text, without its options.
 fn bare_text<'a>(alloc: Global, name: &'a str, about: &'a str, lines: &'a str) -> Command<'a>
     ensures app { app_of result ≡ new_app name.entry.now }
@@ -376,7 +391,8 @@ fn explain_command<'a>(alloc: Global) -> Result<Command<'a>, Error>
 {
     let with_code = bare_explain(alloc).arg(code_argument(alloc))?;
     let with_fault = with_code.arg(fault_option(alloc))?;
-    Ok(with_fault)
+    let with_trace = with_fault.arg(trace_option(alloc))?;
+    Ok(with_trace)
 }
 
 // Makes the program's command line without its subcommands.
@@ -576,11 +592,20 @@ fn fault_of(matches: &ArgMatches<'_>) -> u32
     within(matches.get_one::<u32>("fault"), MOST_FAULTS, 0)
 }
 
-// Returns what is to be explained, by the numbers of a code and of a fault. 0 means that none is given.
-fn topic_by(code: u32, fault: u32) -> Topic
+// Returns the code of a trace's refusal to be explained, or 0 if none is given.
+fn trace_code_of(matches: &ArgMatches<'_>) -> u32
+    ensures code { result ≡ number_from 12 0 (one_of (codes "trace") (rows_of (found_of matches.now))) }
+    ensures most { result ≤ 12 }
+{
+    within(matches.get_one::<u32>("trace"), MOST_TRACE_CODES, 0)
+}
+
+// Returns what is to be explained, by the numbers of a code, of a fault and of a code of a trace. 0 means that none is given.
+fn topic_by(code: u32, fault: u32, trace: u32) -> Topic
     requires code { code ≤ 14 }
     requires fault { fault ≤ 8 }
-    ensures topic { result ≡ topic_by code fault }
+    requires trace { trace ≤ 12 }
+    ensures topic { result ≡ topic_by code fault trace }
     ensures known { IsTopic result }
 {
     if code > 0 {
@@ -588,6 +613,9 @@ fn topic_by(code: u32, fault: u32) -> Topic
     }
     if fault > 0 {
         return Topic::Fault(fault);
+    }
+    if trace > 0 {
+        return Topic::TraceCode(trace);
     }
     Topic::All
 }
@@ -597,7 +625,7 @@ fn topic_of(matches: &ArgMatches<'_>) -> Topic
     ensures topic { result ≡ topic_in (rows_of (found_of matches.now)) }
     ensures known { IsTopic result }
 {
-    topic_by(code_of(matches), fault_of(matches))
+    topic_by(code_of(matches), fault_of(matches), trace_code_of(matches))
 }
 
 // Returns what `run` asks for.

@@ -176,16 +176,10 @@ fn do_asked<T: Threads + Wait + Sync, R: CountedRead, W: CountedWrite, P: Progre
             };
             run_status(run_json_bytes(rt, alloc, reader, writer, shape, workers, limit, progress))
         }
-        Asked::Draw { workers, limit } => run_status(draw_bytes(
-            rt,
-            alloc,
-            reader,
-            writer,
-            shape,
-            workers,
-            limit,
-            request.look,
-        )),
+        Asked::Draw { workers, limit } => {
+            let look = request.look;
+            run_status(draw_bytes(rt, alloc, reader, writer, shape, workers, limit, look))
+        }
     }
 }
 

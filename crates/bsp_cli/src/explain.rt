@@ -2,7 +2,7 @@
 ghost use Rattle.std.specs.Prelude.{◌≡◌, ◌≤◌, true};
 ghost use Rattle.bsp_cli.specs.Ends.{Explains, IsTopic, WriteCause};
 ghost use Rattle.bsp_cli.specs.Topics.{goes_on, heading};
-ghost use Rattle.bsp_cli.specs.declared.asked.Topic.TheVariants.{Code, Fault};
+ghost use Rattle.bsp_cli.specs.declared.asked.Topic.TheVariants.{Code, Fault, TraceCode};
 
 use crate::asked::Topic;
 use crate::fault::RunFault;
@@ -403,6 +403,132 @@ fn fault_text(number: u32) -> &'static str
     }
 }
 
+const TRACE_TOO_LONG: &str = "trace code 1 TooLong: over 1048576 bytes
+
+The text is longer than the 1048576 bytes that a text may have. The reported
+line is always 1.
+
+Split the trace into several.
+";
+
+const TRACE_BAD_BYTE: &str = "trace code 2 BadByte: a byte that isn't allowed
+
+The line has a byte that is neither a line end nor one from space to ~: a tab,
+a carriage return or a letter with an accent, also in a comment.
+
+A trace that gets it:
+
+    phaser 1
+    arrive\t
+
+Write spaces in place of tabs, and line ends as a line feed alone.
+";
+
+const TRACE_BAD_HEADER: &str = "trace code 3 BadHeader: the first line is no phaser, tree or barrier
+
+The first line that is neither empty nor a comment has to begin with phaser,
+tree or barrier.
+
+A trace that gets it:
+
+    arrive
+
+Put the line phaser 1 on top, or another of the three.
+";
+
+const TRACE_UNKNOWN_LINE: &str = "trace code 4 UnknownLine: a line whose first word is no command
+
+A line after the first begins with a command: each of the three kinds of trace
+has commands of its own, as bsp trace --help lists them.
+
+A trace that gets it:
+
+    phaser 1
+    hop
+
+Write one of the commands.
+";
+
+const TRACE_BAD_NAME: &str = "trace code 5 BadName: no code of a trace
+
+Only the text of a job gets it, as bsp explain 5 says.
+";
+
+const TRACE_BAD_NUMBER: &str = "trace code 6 BadNumber: not a number, or one out of its range
+
+A number is a whole number without a plus in front and without leading zeros,
+and each has a range.
+
+A trace that gets it:
+
+    phaser x
+
+Write a number of parties, or of what else the line needs.
+";
+
+const TRACE_BAD_LINE: &str = "trace code 7 BadLine: words too few, too many or misplaced
+
+The line begins well, but its other words don't fit.
+
+A trace that gets it:
+
+    phaser 1
+    arrive twice
+
+Write one command per line, and a comment on a line of its own.
+";
+
+const TRACE_TWICE: &str = "trace code 8 Twice: no code of a trace
+
+Only the text of a job gets it, as bsp explain 8 says.
+";
+
+const TRACE_UNKNOWN_NAME: &str = "trace code 9 UnknownName: no code of a trace
+
+Only the text of a job gets it, as bsp explain 9 says.
+";
+
+const TRACE_UNCLOSED: &str = "trace code 10 Unclosed: no code of a trace
+
+Only the text of a job gets it, as bsp explain 10 says.
+";
+
+const TRACE_BAD_NESTING: &str = "trace code 11 BadNesting: no code of a trace
+
+Only the text of a job gets it, as bsp explain 11 says.
+";
+
+const TRACE_TOO_MANY: &str =
+    "trace code 12 TooMany: over 4096 commands, or over 256 tokens of a tree
+
+A trace has at most 4096 commands after its first line, and a trace of a tree
+at most 256 tokens.
+
+Split the trace into several.
+";
+
+// What a code of a trace's refusal means, a trace that gets it, and how to mend it.
+fn trace_code_text(number: u32) -> &'static str
+    requires { (1 ≤ number) × (number ≤ 12) }
+    ensures { goes_on (heading (TraceCode number)) result.now ≡ true }
+{
+    match number {
+        1 => TRACE_TOO_LONG,
+        2 => TRACE_BAD_BYTE,
+        3 => TRACE_BAD_HEADER,
+        4 => TRACE_UNKNOWN_LINE,
+        5 => TRACE_BAD_NAME,
+        6 => TRACE_BAD_NUMBER,
+        7 => TRACE_BAD_LINE,
+        8 => TRACE_TWICE,
+        9 => TRACE_UNKNOWN_NAME,
+        10 => TRACE_UNCLOSED,
+        11 => TRACE_BAD_NESTING,
+        12 => TRACE_TOO_MANY,
+        _ => unreachable!(),
+    }
+}
+
 // The text on a topic.
 fn text_on(topic: Topic) -> &'static str
     requires { IsTopic topic }
@@ -412,6 +538,7 @@ fn text_on(topic: Topic) -> &'static str
         Topic::All => TOPICS,
         Topic::Code(number) => code_text(number),
         Topic::Fault(number) => fault_text(number),
+        Topic::TraceCode(number) => trace_code_text(number),
     }
 }
 

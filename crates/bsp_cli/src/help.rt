@@ -3,7 +3,7 @@
 /// Reasons and two worked examples, at the end of the program's help.
 pub(crate) const EXAMPLES: &str =
     "With --why anywhere in a command line, or if standard error is a terminal, the reason follows
-the line of a command line that is refused.
+the line of a command line or a text that is refused.
 
 Two tasks swap their cells, on four threads:
 
@@ -285,5 +285,9 @@ The report as a JSON object, for other programs:
 pub(crate) const DRAW_LINES: &str = run_help!(
     "A picture of a search in a graph, for a browser:
 
-  $ bsp draw -f examples/breadth.job > breadth.svg"
+  $ bsp draw -f examples/breadth.job > breadth.svg
+
+A game of life, a board a superstep:
+
+  $ bsp draw --width cell=12 --over-time cell -f examples/gallery/life.job > life.svg"
 );

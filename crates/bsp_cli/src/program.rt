@@ -5,8 +5,8 @@ ghost use Rattle.bsp_cli.specs.Texts.{Says};
 use crate::command_line::{file_named, run_telling};
 use crate::fault::{RunFault, refuse, tell};
 use crate::progress::Teller;
-use crate::status::{COMMAND_LINE_REFUSED, OUT_OF_MEMORY};
-use crate::why::{WHY, reason_of};
+use crate::status::{COMMAND_LINE_REFUSED, OUT_OF_MEMORY, TEXT_REFUSED};
+use crate::why::{WHY, reason_of, text_reason};
 use devices::{CountedWrite, Reader};
 use std::alloc::{AllocError, Global};
 use std::io::{Input, Read};
@@ -64,6 +64,24 @@ impl<F: Read + Drop, S: Read + Drop> Read for Source<F, S> {
     }
 }
 
+// A reader that keeps what it gives, as long as it is asked to and memory is there.
+#[derive(Drop)]
+struct Kept<'a, R: Read + Drop> {
+    inner: R,
+    text: &'a mut Vec<u8>,
+    keeps: &'a mut bool,
+}
+
+impl<R: Read + Drop> Read for Kept<'_, R> {
+    fn read(&mut self, buffer: &mut [u8]) -> io::Result<usize> {
+        let count = self.inner.read(buffer)?;
+        if *self.keeps && count <= buffer.len() {
+            *self.keeps = self.text.extend_from_slice(&buffer[..count]).is_ok();
+        }
+        Ok(count)
+    }
+}
+
 // Opens the file that is named, or takes standard input.
 fn opened<T: Files, S: Read + Drop>(rt: &T, file: Option<&str>, standard: S) -> Source<T::File, S> {
     match file {
@@ -91,11 +109,29 @@ fn tell_reason<T: AllocGlobal + Eprint>(rt: &T, words: &[&str]) {
     }
 }
 
+// Says on standard error why a text is refused that was read whole.
+fn tell_text_reason<T: AllocGlobal + Eprint>(
+    rt: &T,
+    words: &[&str],
+    file: Option<&str>,
+    text: &[u8],
+) {
+    let source = match file {
+        Some(file) => file,
+        None => "standard input",
+    };
+    if let Ok(Some(reason)) = text_reason(rt.alloc(), words, source, text)
+        && let Ok(reason) = str::from_utf8(&reason)
+    {
+        let _ = eprint!(rt; "{reason}");
+    }
+}
+
 /// Does what the command line of this process asks for, as [`run_telling`] does. Reads the file that the command line names,
 /// or else standard input, prints to `writer`, and reports to `errors` what went wrong. Returns the status that the process
 /// ends with. Words that aren't text are refused; the reads of a file that can't be opened fail. If `terminal` is true,
 /// standard input is a terminal, and a first read of it says on standard error what it waits for. If `reasons` is true, or a
-/// word is `--why`, standard error gets the reason after the line of a refused command line.
+/// word is `--why`, standard error gets the reason after the line of a refused command line or text.
 pub fn run_program<
     T: env::Env + AllocGlobal + Files + Input + Clock + Eprint + Threads + Wait + Sync,
     W: CountedWrite,
@@ -124,7 +160,14 @@ pub fn run_program<
         input: rt.reader(),
         tells: terminal,
     };
-    let mut reader = Reader::new(opened(rt, file, standard));
+    let asks = reasons || asked.len() < words.len();
+    let mut text = Vec::new(rt.alloc());
+    let mut keeps = asks;
+    let mut reader = Reader::new(Kept {
+        inner: opened(rt, file, standard),
+        text: &mut text,
+        keeps: &mut keeps,
+    });
     let teller = Teller::new(rt);
     let status = run_telling(
         rt,
@@ -135,8 +178,12 @@ pub fn run_program<
         errors,
         &teller,
     );
-    if status == COMMAND_LINE_REFUSED && (reasons || asked.len() < words.len()) {
+    drop(reader);
+    if asks && status == COMMAND_LINE_REFUSED {
         tell_reason(rt, &asked);
+    }
+    if keeps && status == TEXT_REFUSED {
+        tell_text_reason(rt, &asked, file, &text);
     }
     status
 }

@@ -1,7 +1,15 @@
-//! Why a command line is refused, in words for people. They follow the line on standard error if they are asked for.
+//! Why a command line or a text is refused, in words for people. They follow the line on standard error if they are asked for.
+
+ghost use Rattle.std.specs.Prelude.{◌≡◌, Err, IfOk, IfSome};
+ghost use Rattle.text_lines.specs.declared.refusal.Refusal.{Refusal};
+ghost use Rattle.trace_text.specs.Trace.{asked_of};
+ghost use Rattle.job_reasons.specs.Reasons.{refusal_reason as told_reason};
 
 use crate::asked::parser;
+use devices::{Reader, Writer};
+use job_reasons::{Kind, job_reason, refusal_reason};
 use std::alloc::{AllocError, Global};
+use trace_text::{TraceFault, run_trace};
 
 /// The word that asks for reasons, anywhere in a command line.
 pub(crate) const WHY: &str = "--why";
@@ -55,4 +63,37 @@ pub(crate) fn reason_of(alloc: Global, words: &[&str]) -> Result<String, AllocEr
         reason.push_str(hint.as_str())?;
     }
     Ok(reason)
+}
+
+// Returns why the text of a trace is refused, if it is.
+fn trace_reason(alloc: Global, source: &str, text: &[u8]) -> Result<Option<Vec<u8>>, AllocError>
+    ensures { IfOk result (λ reason. IfSome reason (λ said.
+        (r : Refusal) × (asked_of text.now ≡ Err r) × (said.items ≡ told_reason source.now text.now Kind.Trace r))) }
+{
+    let mut answers = Vec::new(alloc);
+    match run_trace(
+        alloc,
+        &mut Reader::new(text),
+        &mut Writer::new(&mut answers),
+    ) {
+        Err(TraceFault::Text(refusal)) => {
+            let reason = refusal_reason(alloc, source, text, Kind::Trace, refusal)?;
+            Ok(Some(reason))
+        }
+        Err(TraceFault::Memory) => Err(AllocError),
+        _ => Ok(None),
+    }
+}
+
+/// Returns why the text of this source is refused that a subcommand of these words read, if it is.
+pub(crate) fn text_reason(
+    alloc: Global,
+    words: &[&str],
+    source: &str,
+    text: &[u8],
+) -> Result<Option<Vec<u8>>, AllocError> {
+    match words.get(1) {
+        Some(command) if *command == "trace" => trace_reason(alloc, source, text),
+        _ => job_reason(alloc, source, text),
+    }
 }

@@ -1,6 +1,6 @@
 -- Arrays one after another.
-use Rattle.std.proofs.Common.{◌≡◌, ℕ, zero, suc, ◌+◌, ◌-◌, ◌<◌, List, [], ◌∷◌, ◌++◌, drop, map, Bool, true, false, Option, Some, None, refl, sym, ap, ◌∙◌, append_assoc, add-one, arith}
-use Rattle.std.specs.Prelude.{slice_get, ℤ, length, if◌then◌else◌}
+use Rattle.std.proofs.Common.{◌≡◌, ℕ, zero, suc, ◌+◌, ◌-◌, ◌<◌, List, [], ◌∷◌, ◌++◌, drop, map, Bool, true, false, Option, Some, None, Result, Ok, Err, refl, sym, ap, ◌∙◌, append_assoc, add-one, arith}
+use Rattle.std.specs.Prelude.{slice_get, ℤ, if◌then◌else◌, OnOk}
 use Rattle.std.specs.Str.{bytes_eq}
 use Rattle.job_picture.specs.Views.{View}
 use Rattle.job_view.specs.Look.{cells_if, named}
@@ -73,3 +73,11 @@ named_here name xs i cells all g h = at xs i g ∙ h
     at [] (suc n) e = absurd cc
     at (y ∷ ys) zero e = met (bytes_eq y.0 name) y.1 cells (named name ys) e
     at (y ∷ ys) (suc n) e = at ys n e
+
+-- three lists after one another, the last if there was memory
+pub three_on : {T E : Type 0} (old one two new a b c : List View) (r : Result T E) → one ≡ old ++ a → two ≡ one ++ b → OnOk r (new ≡ two ++ c)
+    → OnOk r (new ≡ old ++ (a ++ (b ++ c)))
+three_on old one two new a b c (Ok x) f g h =
+    h ∙ ap (λ (xs : List View). xs ++ c) (g ∙ ap (λ (xs : List View). xs ++ b) f)
+    ∙ append_assoc (old ++ a) b c ∙ append_assoc old a (b ++ c)
+three_on old one two new a b c (Err x) f g h = h

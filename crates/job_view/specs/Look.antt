@@ -62,11 +62,27 @@ time_views widths every arrays [] rows = []
 time_views widths every arrays (n ∷ ns) [] = []
 time_views widths every arrays (n ∷ ns) (r ∷ rs) = time_view widths every arrays n r ∷ time_views widths every arrays ns rs
 
--- first each array as the job leaves it, and then each name over supersteps
+-- a name with a width that no array has
+abbrev pub missing_view : List ℕ → View
+missing_view name = record { name = name; cells = 0; values = []; form = Missing }
+
+abbrev pub unless_found : List ℕ → Option (List ℤ) → List View
+unless_found name None = missing_view name ∷ []
+unless_found name (Some cells) = []
+
+-- the names with a width that no array has, if names and widths take turns
+abbrev pub missing_views : List (List ℕ × List ℤ) → List (List ℕ) → List View
+missing_views arrays [] = []
+missing_views arrays (n ∷ []) = unless_found n (named n arrays)
+missing_views arrays (n ∷ w ∷ ws) = unless_found n (named n arrays) ++ missing_views arrays ws
+
+-- first each array as the job leaves it, then each name over supersteps, and then the names with a width that no array has
+abbrev pub views_by : List (List ℕ) → List (List ℕ) → List (List ℤ) → ReportValue → List View
+views_by widths names rows r =
+    map (array_view widths) r.arrays ++ (time_views widths (every_of (length r.records)) r.arrays names rows ++ missing_views r.arrays widths)
+
 abbrev pub views : LookValue → List (List ℤ) → ReportValue → List View
-views look rows r =
-    map (array_view (words_in look.widths)) r.arrays
-    ++ time_views (words_in look.widths) (every_of (length r.records)) r.arrays (words_in look.over_time) rows
+views look rows r = views_by (words_in look.widths) (words_in look.over_time) rows r
 
 -- the picture of a report, with these rows of the arrays that are drawn over supersteps
 abbrev pub looked : LookValue → List (List ℤ) → ReportValue → List ℕ

@@ -11,11 +11,14 @@ ghost use Rattle.job_view.specs.Look.{
   found_view,
   look_value,
   looked,
+  missing_views,
   named,
   rows_of as rows_for,
   time_form as time_form_for,
   time_view,
   time_views,
+  unless_found,
+  views_by,
 };
 
 use crate::words::{spaced_text, width_of};
@@ -208,6 +211,79 @@ fn push_times<'a>(
     Ok(())
 }
 
+// Appends a line of a name that no array has.
+fn push_missing<'a>(
+    panels: &mut Vec<Panel<'a>>,
+    arrays: &Arrays,
+    name: &'a str,
+) -> Result<(), AllocError>
+    ensures { OnOk result (views_of panels.new.items ≡ views_of panels.old.items ++ unless_found name.entry.now (named name.entry.now arrays.now)) }
+{
+    match cells_named(arrays, name.as_bytes()) {
+        Some(_) => Ok(()),
+        None => {
+            panels.push(Panel {
+                name,
+                cells: 0,
+                values: &[],
+                form: Form::Missing,
+            })?;
+            Ok(())
+        }
+    }
+}
+
+// Appends a line of a name that no array has. A name that is no text is out of memory: it is a part of one.
+fn push_unknown<'a>(
+    panels: &mut Vec<Panel<'a>>,
+    arrays: &Arrays,
+    name: &'a [u8],
+) -> Result<(), AllocError>
+    ensures { OnOk result (views_of panels.new.items ≡ views_of panels.old.items ++ unless_found name.entry.now (named name.entry.now arrays.now)) }
+{
+    match str::from_utf8(name) {
+        Ok(name) => push_missing(panels, arrays, name),
+        Err(_) => Err(AllocError),
+    }
+}
+
+// Appends a line of each name with a width that no array has.
+fn push_unknowns<'a>(
+    panels: &mut Vec<Panel<'a>>,
+    arrays: &Arrays,
+    widths: &'a [u8],
+) -> Result<(), AllocError>
+    ensures { OnOk result (views_of panels.new.items ≡ views_of panels.old.items ++ missing_views arrays.now (words_of widths.entry.now)) }
+{
+    let mut rest = widths;
+    while let Some((name, after)) = split_word(rest) {
+        push_unknown(panels, arrays, name)?;
+        let Some((_, more)) = split_word(after) else {
+            return Ok(());
+        };
+        rest = more;
+    }
+    Ok(())
+}
+
+// Appends all that is drawn below the supersteps.
+#[tactic(auto, using(crate::proofs::Listing::three_on))]
+fn push_views<'a>(
+    panels: &mut Vec<Panel<'a>>,
+    report: &'a Report,
+    widths: &'a [u8],
+    names: &'a [u8],
+    rows: &'a [Vec<i64>],
+) -> Result<(), AllocError>
+    ensures { OnOk result (views_of panels.new.items
+        ≡ views_of panels.old.items ++ views_by (words_of widths.entry.now) (words_of names.entry.now) (map (λ v. v.items) rows.entry.now) report.entry.now) }
+{
+    let every = every_of(report.records.len());
+    push_arrays(panels, widths, &report.arrays)?;
+    push_times(panels, widths, every, &report.arrays, names, rows)?;
+    push_unknowns(panels, &report.arrays, widths)
+}
+
 /// Returns the picture of a report as it is asked for. `rows` has the cells of each array that is drawn over supersteps, by
 /// the order of the names: those at superstep 0, then at [`every_of`], and so on.
 pub fn look_picture(
@@ -220,9 +296,7 @@ pub fn look_picture(
 {
     let widths = spaced_text(alloc, look.widths)?;
     let names = spaced_text(alloc, look.over_time)?;
-    let every = every_of(report.records.len());
     let mut panels = Vec::new(alloc);
-    push_arrays(&mut panels, &widths, &report.arrays)?;
-    push_times(&mut panels, &widths, every, &report.arrays, &names, rows)?;
+    push_views(&mut panels, report, &widths, &names, rows)?;
     picture_with(alloc, report, look.title, &panels)
 }

@@ -1,0 +1,13 @@
+use Rattle.std.proofs.Common.{◌≡◌, ◌+◌, ◌≤◌, length}
+use Rattle.text_lines.specs.Text.{lines_of}
+use Rattle.job_reasons.specs.Reasons.{last_body}
+use Rattle.job_reasons.proofs.line.last_body.Given as goal
+
+abbrev pub invariant-loop-line : goal.invariant-loop-line
+invariant-loop-line l = record {
+  same : last_body l.number l.found (lines_of l.rest) ≡ last_body 1 0 (lines_of l.text);
+  bound : l.number + length l.rest ≤ 1 + length l.text;
+}
+
+abbrev pub decreases-loop-line : goal.decreases-loop-line
+decreases-loop-line l = length l.rest

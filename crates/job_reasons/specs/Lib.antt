@@ -1,0 +1,4 @@
+pub mod Laws
+pub mod Meanings
+pub mod Reasons
+pub mod Worked
