@@ -1,6 +1,6 @@
-//! As many workers as are asked for: each holds a task until all have one.
+//! As many workers as are asked for: each holds a task, or a stretch, until all have one.
 use crate::left::job_of;
-use crate::pool::fixtures::left_by;
+use crate::pool::fixtures::{FORTY, left_by};
 use std::alloc::Global;
 use std::sync::Wait;
 use std::sync::atomic::{AtomicBool, AtomicU32, AtomicU64, Ordering};
@@ -19,35 +19,59 @@ start b 1
 start b 2
 ";
 
-// Holds each segment of superstep 0 until a given number were entered. After many turns it gives up.
+// Holds each segment of superstep 0 until a given number were entered. If it is open, it holds each stretch instead.
+// After many turns it gives up.
 #[derive(Drop)]
 struct HoldsAll {
+    open: bool,
     wanted: u32,
     entered: AtomicU32,
     gave_up: AtomicBool,
 }
 
-impl Gate for HoldsAll {
-    fn enter<R: Wait>(&self, _rt: &R, _path: &Path, step: u32) {
-        if step != 0 {
+// Waits until as many were entered as are wanted.
+fn hold(gate: &HoldsAll, step: u32) {
+    if step != 0 {
+        return;
+    }
+    gate.entered.fetch_add(1, Ordering::SeqCst);
+    for _ in 0..10000000u32 {
+        if gate.entered.load(Ordering::SeqCst) >= gate.wanted {
             return;
         }
-        self.entered.fetch_add(1, Ordering::SeqCst);
-        for _ in 0..10000000u32 {
-            if self.entered.load(Ordering::SeqCst) >= self.wanted {
-                return;
-            }
-            thread::yield_now();
+        thread::yield_now();
+    }
+    gate.gave_up.store(true, Ordering::SeqCst);
+}
+
+impl Gate for HoldsAll {
+    fn is_open(&self) -> bool {
+        self.open
+    }
+
+    fn stretch<R: Wait>(&self, _rt: &R, step: u32, _tasks: usize) {
+        if self.open {
+            hold(self, step);
         }
-        self.gave_up.store(true, Ordering::SeqCst);
+    }
+
+    fn enter<R: Wait>(&self, _rt: &R, _path: &Path, step: u32) {
+        hold(self, step);
     }
 
     fn leave<R: Wait>(&self, _rt: &R, _path: &Path, _step: u32) {}
 }
 
-// Whether three workers have a task each at once, on this tree.
-fn meet<R: Threads + Wait + Sync>(rt: &R, alloc: Global, job: &Job, widths: &str) -> bool {
+// Whether three workers have a task each at once, or a stretch each if the gate is open, on this tree.
+fn meet<R: Threads + Wait + Sync>(
+    rt: &R,
+    alloc: Global,
+    job: &Job,
+    widths: &str,
+    open: bool,
+) -> bool {
     let gate = HoldsAll {
+        open,
         wanted: 3,
         entered: AtomicU32::new(0),
         gave_up: AtomicBool::new(false),
@@ -57,15 +81,21 @@ fn meet<R: Threads + Wait + Sync>(rt: &R, alloc: Global, job: &Job, widths: &str
     ran.is_ok() && !gate.gave_up.load(Ordering::SeqCst)
 }
 
-// Whether they have on both trees.
-fn all_meet<R: Threads + Wait + Sync>(rt: &R, alloc: Global) -> bool {
-    match job_of(alloc, THREE) {
-        Ok(job) => meet(rt, alloc, &job, "flat") && meet(rt, alloc, &job, "2x3"),
+// Whether they have on both trees, in the job of this text.
+fn all_meet<R: Threads + Wait + Sync>(rt: &R, alloc: Global, text: &str, open: bool) -> bool {
+    match job_of(alloc, text) {
+        Ok(job) => meet(rt, alloc, &job, "flat", open) && meet(rt, alloc, &job, "2x3", open),
         Err(_) => false,
     }
 }
 
 #[test]
 fn three_workers_are_three_threads(rt: HostRuntime) {
-    assert!(rt; all_meet(&rt, rt.alloc()));
+    assert!(rt; all_meet(&rt, rt.alloc(), THREE, false));
+}
+
+// They share the stretches of a job too, if no gate sees its segments.
+#[test]
+fn three_workers_share_the_stretches(rt: HostRuntime) {
+    assert!(rt; all_meet(&rt, rt.alloc(), FORTY, true));
 }
