@@ -5,8 +5,8 @@ ghost use Rattle.std.specs.Prelude.{◌≡◌, ◌≤◌, IfOk, length};
 use std::io;
 use std::io::{Read, Write};
 
-// Gives at most `most` bytes, as far as there are some and room for them.
-fn give(rest: &mut &[u8], buffer: &mut [u8], most: usize) -> usize
+/// Gives at most `most` bytes, as far as there are some and room for them.
+pub(crate) fn give(rest: &mut &[u8], buffer: &mut [u8], most: usize) -> usize
     ensures { result ≤ length buffer.old }
 {
     let count = rest.len().min(buffer.len()).min(most);

@@ -13,6 +13,8 @@ mod fronts;
 #[cfg(test)]
 mod help;
 #[cfg(test)]
+mod interrupted;
+#[cfg(test)]
 mod progress;
 #[cfg(test)]
 mod refused;
