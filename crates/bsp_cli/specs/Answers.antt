@@ -21,8 +21,8 @@ around bytes failures before after = record { before = before; after = after; by
 abbrev pub IsSame : {D : Type 0} → Around D → Type 0
 IsSame d = d.after ≡ d.before
 
--- The status that words end with, and what was read, written and told: words that are taken do what they ask for, at the tree that they
--- ask for; help and the version are written; other words are refused, and nothing is read.
+-- The status that words end with, and what was read, written and reported: words that are taken do what they ask for,
+-- at the tree that they ask for; help and the version are written; other words are refused, and nothing is read.
 pub record AnswersWords {R W E : Type 0} (words : List (List ℕ)) (reader : Around R) (writer : Around W) (errors : Around E) (status : ℕ) : Type 0 where
   pub did : refused_by words ≡ [] → Did (asked_in words) (look_asked words) (reader.bytes reader.before) (writer.bytes writer.before) (writer.bytes writer.after)
       (Tells (errors.bytes errors.before) (errors.bytes errors.after) (errors.failures errors.before) (errors.failures errors.after)) status

@@ -117,7 +117,7 @@ program =
     draw_app.top)
     explain_app.top
 
--- the number of an option, from 1 to the most; the usual one where it isn't given
+-- the number of an option, from 1 to the most; the default if it isn't given
 abbrev pub number_from : ℕ → ℕ → Option (List ℕ) → ℕ
 number_from most usual None = usual
 number_from most usual (Some text) = if is_unsigned_in 1 most text then digits_value 10 (without_leading_plus text) else usual
@@ -147,7 +147,7 @@ flag_in name rows = is_set (first_of name rows)
 abbrev pub tree_in : List Row → List ℕ
 tree_in rows = unwrap_or (first_of (codes "tree") rows) (codes "flat")
 
--- the file that the text is read from: none where standard input is, which a hyphen names too
+-- the file that the text is read from: none for standard input. A hyphen names it too.
 abbrev pub unless_hyphen : Option (List ℕ) → Option (List ℕ)
 unless_hyphen None = None
 unless_hyphen (Some text) = if bytes_eq text (codes "-") then None else Some text
@@ -220,22 +220,22 @@ look_by (Some p) =
     else if bytes_eq p.0 (codes "run") then no_look
     else if bytes_eq p.0 (codes "draw") then look_in p.1 else no_look
 
--- what words ask for, where they are taken
+-- what words ask for, if they are taken
 abbrev pub asked_in : List (List ℕ) → Asked
 asked_in words = asked_by (subcommand_of program words)
 
--- the text of the tree that words ask for, where they are taken
+-- the text of the tree that words ask for, if they are taken
 abbrev pub tree_asked : List (List ℕ) → List ℕ
 tree_asked words = tree_by (subcommand_of program words)
 
--- what words ask of a picture, where they are taken
+-- what words ask of a picture, if they are taken
 abbrev pub look_asked : List (List ℕ) → LookValue
 look_asked words = look_by (subcommand_of program words)
 
--- the file that words name, where they are taken: none where standard input is read
+-- the file that words name, if they are taken: none if standard input is read
 abbrev pub file_asked : List (List ℕ) → Option (List ℕ)
 file_asked words = file_by (subcommand_of program words)
 
--- why words are not taken: nothing where they are
+-- why words are not taken: nothing if they are
 abbrev pub refused_by : List (List ℕ) → Kinds
 refused_by words = fault_of program words

@@ -48,7 +48,7 @@ Refuses Trace input r = asked_of input ≡ Err r
 Refuses (Explain topic) input r = ⊥
 Refuses _ input r = job_in input ≡ Err r
 
--- what is written where the input is refused: the list of its faulty lines, if that is asked for, and else nothing
+-- what is written if the input is refused: the list of its faulty lines, if that is asked for, and else nothing
 abbrev pub Lists : Asked → Option (List ℕ) → Option (List ℕ) → Option (List ℕ) → Type 0
 Lists CheckAll input old new = IfSome input (λ bytes. Appends old new (listing bytes))
 Lists _ input old new = Keeps old new

@@ -25,7 +25,7 @@ Reads words file = (refused_by words ≡ []) × (file_asked words ≡ file)
 abbrev pub AreRefused : List (List ℕ) → Type 0
 AreRefused words = are_refused (refused_by words) ≡ true
 
--- the program under any name, a subcommand behind it, and the options of `run` and `draw`
+-- the program under any name, a subcommand after it, and the options of `run` and `draw`
 pub record WordsAsk (name : List ℕ) : Type 0 where
   pub trace : Asks (name ∷ codes "trace" ∷ []) Trace
   pub check : Asks (name ∷ codes "check" ∷ []) Check
@@ -169,7 +169,7 @@ EachNameLooks = (name : List ℕ) → WordsLook name
 abbrev pub EachNameRefuses : Type 0
 EachNameRefuses = (name : List ℕ) → WordsAreRefused name
 
--- each number from 1 to 1000000, in digits behind a plus or none, is the limit that it writes
+-- each number from 1 to 1000000, in digits with or without a plus before them, is the limit that it writes
 abbrev pub EachLimitAsks : Type 0
 EachLimitAsks = (name digits : List ℕ) → is_unsigned_in 1 1000000 digits ≡ true
     → Asks (name ∷ codes "run" ∷ codes "--limit" ∷ digits ∷ []) (Run 1 (digits_value 10 (without_leading_plus digits)))

@@ -5,7 +5,7 @@ use Rattle.text_lines.specs.declared.refusal.Code.TheVariants.{TooLong, BadName,
 use Rattle.bsp_cli.specs.Texts.{Says, refusal_line, worker_line, fault_text, fault_status}
 use Rattle.bsp_cli.specs.declared.fault.RunFault.TheVariants.{Text, Read, Write, Memory, NotStarted, Internal}
 
--- this status has this line: where standard error didn't fail, just that was written to it
+-- this status has this line: if standard error didn't fail, just that was written to it
 abbrev pub HasLine : ℕ → List ℕ → Type 0
 HasLine status line = (old new : Option (List ℕ)) (failures : ℕ) → Says status old new failures failures → Appends old new line
 

@@ -16,7 +16,7 @@ worker_line k = (codes "worker " ++ decimal k) ++ codes " not started\n"
 abbrev pub Tells : Option (List ℕ) → Option (List ℕ) → ℕ → ℕ → List ℕ → Type 0
 Tells old new failures failures_after text = failures_after ≡ failures → Appends old new text
 
--- what standard error got where the status alone says which line
+-- what standard error got if the status alone says which line
 pub record Says (status : ℕ) (old new : Option (List ℕ)) (failures failures_after : ℕ) : Type 0 where
   pub command_line : status ≡ 5 → Tells old new failures failures_after (codes "command line refused\n")
   pub memory : status ≡ 6 → Tells old new failures failures_after (codes "out of memory\n")

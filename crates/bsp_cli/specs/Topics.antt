@@ -1,11 +1,12 @@
--- What `explain` tells (own).
+-- What `explain` prints (own).
 use Rattle.std.specs.Prelude.{◌≡◌, ℕ, zero, suc, ◌==◌, ◌&&◌, Bool, true, false, List, [], ◌∷◌, ◌++◌, Option, codes, decimal}
 use Rattle.std.specs.Io.KnownBytes.{Appends}
 use Rattle.devices.specs.Device.{AppendsBeginning}
 use Rattle.bsp_cli.specs.declared.asked.Topic.{Topic}
 use Rattle.bsp_cli.specs.declared.asked.Topic.TheVariants.{All, Code, Fault, TraceCode}
 
--- by the numbers of a code, of a fault and of a code of a trace, 0 where none is given: a code goes before a fault, and that before a code of a trace
+-- by the numbers of a code, of a fault and of a code of a trace, 0 if none is given: a code goes before a fault, and a
+-- fault before a code of a trace
 abbrev pub topic_by : ℕ → ℕ → ℕ → Topic
 topic_by zero zero zero = All
 topic_by zero zero (suc told) = TraceCode (suc told)

@@ -253,7 +253,7 @@ fn is_memory(error: &Error) -> bool
     }
 }
 
-/// Returns the file that a command line names, from which [`run`] is to read: the caller opens it and hands it over as the
+/// Returns the file that a command line names for [`run`] to read: the caller opens it and hands it over as the
 /// reader. Returns `None` if standard input is to be read. So it does if the command line or the text of its tree is
 /// refused: then nothing is read.
 pub fn file_named<'a, S: AsStr>(

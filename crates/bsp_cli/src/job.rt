@@ -87,7 +87,7 @@ fn write_canonical<W: CountedWrite>(
     }
 }
 
-// Writes the lines that tell of a text's faulty lines. Returns the first of them as a fault.
+// Writes the lines that report a text's faulty lines. Returns the first of them as a fault.
 fn write_faults<W: CountedWrite>(
     writer: &mut W,
     lines: &[u8],
@@ -365,7 +365,7 @@ fn draw_end<W: CountedWrite>(
 /// let text = b"bsp 1\narray a 1\nbody b\nput a[0] = 7\nend\nstart b 0\n";
 /// let mut printed = Vec::new(rt.alloc());
 /// let shape = Shape::from_widths(rt.alloc(), "2").expect(&rt, "a shape");
-/// // Four workers, at most 1000 supersteps, and no progress is told.
+/// // Four workers, at most 1000 supersteps, and no progress is reported.
 /// let (mut reader, mut writer) = (Reader::new(text.as_slice()), Writer::new(&mut printed));
 /// let status = run_bytes(
 ///     &rt,

@@ -27,8 +27,8 @@ block_left (k ∷ ws) =
     if bytes_eq k (codes "if") || bytes_eq k (codes "while") then codes "if 0"
     else if bytes_eq k (codes "end") then codes "end" else []
 
--- What a faulty line is read as when the lines after it are looked at: where only its words are wrong, what it does to blocks;
--- else nothing.
+-- What a faulty line is read as when the lines after it are looked at: if only its words are wrong, what it does to
+-- blocks; else nothing.
 abbrev pub stand_in : Code → Words → List ℕ
 stand_in BadLine ws = block_left ws
 stand_in Reserved ws = block_left ws
@@ -51,7 +51,7 @@ ends_list _ ws = opens_body ws
 abbrev pub repaired_by : List ℕ → Refusal → Words → Option (List ℕ)
 repaired_by text r ws = if ends_list r.code ws then None else Some (joined (replaced r.line (stand_in r.code ws) (lines_of text)))
 
--- the text in which the refused line is read as what stands in for it
+-- the text with a replacement for the refused line
 abbrev pub repaired : List ℕ → Refusal → Option (List ℕ)
 repaired text r = repaired_by text r (words_of (line_at r.line (lines_of text)))
 
@@ -63,7 +63,7 @@ abbrev pub listed : (List ℕ → List Refusal) → List ℕ → Result JobTree 
 listed more text (Ok job) = []
 listed more text (Err r) = r ∷ or_none more (repaired text r)
 
--- the first refusal, and then those of the text without that line, up to so many
+-- the first refusal, and then those of the text without that line, up to a given number
 unfoldable pub faulty : ℕ → List ℕ → List Refusal
 faulty zero text = []
 faulty (suc n) text = listed (faulty n) text (job_in text)

@@ -13,7 +13,7 @@ use Rattle.job_words.specs.Words.{Words}
 use Rattle.job_faults.specs.Faults.{line_at}
 use Rattle.job_faults.specs.declared.place.Place.{Place}
 
--- how many bytes of a line, from its start or from behind a space, stand in front of the word of this number
+-- how many bytes of a line, from its start or from after a space, are before the word of this number
 abbrev pub before_word : Bool → ℕ → List ℕ → ℕ
 before_word spaced n [] = 0
 before_word true zero (c ∷ cs) = if c == 32 then before_word true zero cs + 1 else 0
@@ -25,7 +25,7 @@ abbrev pub word_length : List ℕ → ℕ
 word_length [] = 0
 word_length (c ∷ cs) = if c == 32 then 0 else word_length cs + 1
 
--- how many bytes stand in front of the first that isn't allowed
+-- how many bytes are before the first that isn't allowed
 abbrev pub before_bad : List ℕ → ℕ
 before_bad [] = 0
 before_bad (c ∷ cs) = if is_allowed c then before_bad cs + 1 else 0
@@ -73,8 +73,8 @@ abbrev pub first_unknown : Words → ℕ → Words → ℕ
 first_unknown known at [] = 1
 first_unknown known at (w ∷ ws) = if suits_else known w then at else first_unknown known (at + 1) ws
 
--- the number of the word that counts, from 0: for a fault of a name or a number the first behind the line's first word that it may be about,
--- for a length the length, and else the line's first word
+-- the number of the word that counts, from 0: for a fault of a name or a number the first after the line's first word
+-- that it may be about, for a length the length, and else the line's first word
 abbrev pub counted : Code → Words → Words → ℕ
 counted code known [] = 0
 counted Reserved known (k ∷ ws) = first_suited Reserved known 1 1 ws
@@ -85,7 +85,7 @@ counted Twice known (k ∷ ws) = 1
 counted BadLength known (k ∷ ws) = 2
 counted code known (k ∷ ws) = 0
 
--- how many bytes stand in front of what counts
+-- how many bytes are before what counts
 abbrev pub before_fault : Code → Words → List ℕ → ℕ
 before_fault BadByte known line = before_bad line
 before_fault code known line = before_word true (counted code known (words_of line)) line

@@ -4,7 +4,7 @@ use Rattle.text_lines.specs.declared.refusal.Code.{Code}
 use Rattle.text_lines.specs.declared.refusal.Code.TheVariants.{BadByte, UnknownLine, BadNumber, BadLine, UnknownName, Twice, BadLength, Reserved, BadName, Unclosed}
 use Rattle.job_faults.specs.Places.{place_in}
 
--- the fault of this line and code of a text is shown at a column, with so many bytes
+-- the fault of this line and code of a text is shown at a column, with `count` bytes
 abbrev pub IsAt : List ℕ → ℕ → Code → ℕ → ℕ → Type 0
 IsAt text line code column count = place_in text (record { line = line; code = code }) ≡ record { line = line; code = code; column = column; count = count }
 

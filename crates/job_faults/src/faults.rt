@@ -72,7 +72,7 @@ fn refusal_of(alloc: Global, text: &[u8]) -> Result<Option<Refusal>, AllocError>
     }
 }
 
-// Returns the text in which the refused line is read as what stands in for it, or `None` if no line after it can be read.
+// Returns the text with a replacement for the refused line, or `None` if no line after it can be read.
 fn repaired(alloc: Global, text: &[u8], refusal: Refusal) -> Result<Option<Vec<u8>>, AllocError>
     ensures { IfOk result (λ other. option_map (λ t. t.items) other ≡ repaired text.now refusal) }
 {

@@ -44,7 +44,7 @@ pub struct Place {
     pub count: usize,
 }
 
-// Returns how many bytes stand in front of the word of this number, or all if there are fewer words.
+// Returns how many bytes are before the word of this number, or all if there are fewer words.
 fn before_word(line: &[u8], number: usize) -> usize
     ensures before { result ≡ before_word_of true number line.now }
     ensures within { result ≤ length line.now }
@@ -86,7 +86,7 @@ fn is_allowed(byte: u8) -> bool
     byte == b'\n' || (b' ' <= byte && byte <= b'~')
 }
 
-// Returns how many bytes stand in front of the first that isn't allowed.
+// Returns how many bytes are before the first that isn't allowed.
 fn before_bad(line: &[u8]) -> usize
     ensures before { result ≡ before_bad_of line.now }
     ensures within { result ≤ length line.now }
@@ -254,7 +254,7 @@ fn counted(code: Code, known: &[&[u8]], line: &[u8]) -> usize
     }
 }
 
-// Returns how many bytes stand in front of what counts.
+// Returns how many bytes are before what counts.
 fn before_fault(code: Code, known: &[&[u8]], line: &[u8]) -> usize
     ensures before { result ≡ before_fault_of code (lent known.now) line.now }
     ensures within { result ≤ length line.now }

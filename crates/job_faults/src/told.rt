@@ -38,7 +38,7 @@ fn push_field<I: Integer>(out: &mut Vec<u8>, name: &[u8], n: I) -> Result<(), Al
     out.extend_from_slice(Buffer::new().format(n).as_bytes())
 }
 
-// Appends the line that tells of a faulty line.
+// Appends the line that reports a faulty line.
 fn push_fault(out: &mut Vec<u8>, refusal: Refusal) -> Result<(), AllocError>
     ensures { OnOk result (out.new.items ≡ out.old.items ++ fault_line refusal) }
 {

@@ -22,7 +22,7 @@ most (v ∷ vs) = fold int_max v vs
 abbrev pub extent_of : List ℤ → Extent
 extent_of values = record { low = least values; high = most values }
 
--- how far up a value lies between the least and the greatest, in ninths
+-- how far up a value is between the least and the greatest, in ninths
 abbrev pub shade : Extent → ℤ → ℕ
 shade e v =
     if unsigned_abs (e.high -ℤ e.low) == 0 then 0 else unsigned_abs (v -ℤ e.low) * 9 / unsigned_abs (e.high -ℤ e.low)
@@ -32,7 +32,7 @@ abbrev pub cell : ℕ → ℕ → List ℕ
 cell at dark =
     codes "<rect x=\"" ++ decimal at ++ codes "\" width=\"1\" height=\"1\" fill-opacity=\"." ++ decimal dark ++ codes "\"/>\n"
 
--- the last cells of an array of so many
+-- the last cells of an array of `count`
 abbrev pub cells_from : Extent → ℕ → List ℤ → List ℕ
 cells_from e count [] = []
 cells_from e count (v ∷ vs) = cell (count - length (v ∷ vs)) (shade e v) ++ cells_from e count vs
@@ -41,13 +41,13 @@ cells_from e count (v ∷ vs) = cell (count - length (v ∷ vs)) (shade e v) ++ 
 abbrev pub longest : List ℤ → ℕ
 longest values = fold (λ n v. max n (length (signed_decimal v))) 1 values
 
--- a value in the middle of its cell, of so many
+-- a value in the middle of its cell, of `count`
 abbrev pub value_at : ℕ → ℕ → ℤ → List ℕ
 value_at count at v =
     codes "<text class=\"v\" transform=\"translate(" ++ decimal at ++ codes ".5,.68) scale(" ++ decimal count ++ codes ",1) scale(.00125,.04)\">"
     ++ signed_decimal v ++ codes "</text>\n"
 
--- the last values of so many
+-- the last values, out of `count`
 abbrev pub values_from : ℕ → List ℤ → List ℕ
 values_from count [] = []
 values_from count (v ∷ vs) = value_at count (count - length (v ∷ vs)) v ++ values_from count vs
@@ -58,11 +58,12 @@ few_values values =
     codes "<g font-size=\"" ++ decimal (min (1300 / max (length values) 1 / longest values) 12) ++ codes "\">\n"
     ++ values_from (length values) values ++ codes "</g>\n"
 
--- where there are 64 cells or fewer their values
+-- the values of the cells, if there are 64 or fewer
 abbrev pub shown_values : List ℤ → List ℕ
 shown_values values = if nat_le (length values) 64 then few_values values else []
 
--- what stands over the cells of an array, so far below the top: its name, how many cells it has, the least and the greatest
+-- what is written over the cells of an array, `top` below the top: its name, how many cells it has, the least and the
+-- greatest
 abbrev pub caption : ℕ → List ℕ → ℕ → Extent → List ℕ
 caption top name count e =
     codes "<g transform=\"translate(0," ++ decimal top ++ codes ")\"><text class=\"k\" x=\"80\" y=\"12\">" ++ flat_map escaped name
@@ -76,7 +77,7 @@ strip top a =
     ++ codes " 1\" preserveAspectRatio=\"none\" overflow=\"visible\"><g class=\"c\">\n" ++ cells_from (extent_of a.1) (length a.1) a.1 ++ codes "</g>\n"
     ++ shown_values a.1 ++ codes "</svg><path class=\"o\" d=\"M80 18h800v25h-800z\"/></g>\n"
 
--- arrays, the first of which so many others stand before
+-- arrays, with `place` others before the first
 abbrev pub strips_from : ℕ → List (List ℕ × List ℤ) → List ℕ
 strips_from place [] = []
 strips_from place (a ∷ rest) = strip (310 + 50 * place) a ++ strips_from (place + 1) rest

@@ -37,13 +37,14 @@ abbrev pub greatest : List Column → Column
 greatest [] = no_superstep
 greatest (c ∷ cs) = fold greater c cs
 
--- as many columns, each the greatest of so many, the last of what is left
+-- a number of columns, each the greatest of `group`, the last of what is left
 abbrev pub joined : ℕ → ℕ → List Column → List Column
 joined zero group columns = []
 joined (suc n) group columns =
     record (greatest (take group columns)) { steps = length (take group columns) } ∷ joined n group (drop group columns)
 
--- a rectangle of a class: where it begins, over so many supersteps with a tenth of one left free, how far up, and how high
+-- a rectangle of a class: where it begins, over `steps` supersteps with a tenth of one left free, how far up, and how
+-- high
 abbrev pub bar : List ℕ → ℕ → ℕ → ℕ → ℕ → List ℕ
 bar class at steps up height =
     codes "<rect class=\"" ++ class ++ codes "\" x=\"" ++ decimal at ++ codes "\" width=\"" ++ decimal (steps - 1) ++ codes ".9\" y=\"" ++ decimal up

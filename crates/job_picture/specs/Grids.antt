@@ -10,11 +10,11 @@ use Rattle.job_picture.specs.declared.grids.Frame.{Frame}
 abbrev pub mark : ℕ → ℕ → List ℕ
 mark x y = codes "M" ++ decimal x ++ codes " " ++ decimal y ++ codes "h1"
 
--- the cell of this number in rows of so many, if it is this dark
+-- the cell of this number in rows of `across`, if it is this dark
 abbrev pub mark_if : Extent → ℕ → ℕ → ℕ → ℤ → List ℕ
 mark_if e across dark at v = if shade e v == dark then mark (at % across) (at / across) else []
 
--- those of the last cells of so many that are this dark
+-- those of the last cells, out of `count`, that are this dark
 abbrev pub marks_from : Extent → ℕ → ℕ → ℕ → List ℤ → List ℕ
 marks_from e across dark count [] = []
 marks_from e across dark count (v ∷ vs) = mark_if e across dark (count - length (v ∷ vs)) v ++ marks_from e across dark count vs
@@ -31,7 +31,7 @@ shaded dark (m ∷ ms) = path dark (m ∷ ms)
 abbrev pub layer : Extent → ℕ → List ℤ → ℕ → List ℕ
 layer e across values dark = shaded dark (marks_from e across dark (length values) values)
 
--- each shade from 1 on, so many: the least stays white
+-- each shade from 1 to a last one: the least stays white
 abbrev pub layers : Extent → ℕ → List ℤ → ℕ → List ℕ
 layers e across values zero = []
 layers e across values (suc n) = layers e across values n ++ layer e across values (n + 1)
@@ -51,11 +51,11 @@ frame_end f =
 abbrev pub grid : Frame → Extent → ℕ → List ℤ → List ℕ
 grid f e across values = frame_head f ++ layers e across values 9 ++ frame_end f
 
--- how long the side of a cell is, so that so many fit: at most so long
+-- how long the side of a cell is, so that `across` of them fit: at most `longest`
 abbrev pub side : ℕ → ℕ → ℕ → ℕ
 side room longest across = max 1 (min longest (room / across))
 
--- as many cells in rows of so many: squares, unless there are too many for the room
+-- `count` cells in rows of `across`: squares, unless there are too many for the room
 abbrev pub sized : ℕ → ℕ → ℕ → ℕ → ℕ → Frame
 sized wide high longest across count = record {
   left = 80;
@@ -74,7 +74,7 @@ board_frame across count = sized 800 600 20 across count
 abbrev pub time_frame : ℕ → ℕ → Frame
 time_frame across count = record (sized 800 600 20 across count) { high = max 24 (sized 800 600 20 across count).high }
 
--- how many small boards stand side by side
+-- how many small boards are side by side
 abbrev pub beside : Frame → ℕ
 beside f = 800 / (f.wide + 8)
 

@@ -25,7 +25,7 @@ spacing what every = codes ", a " ++ what ++ distance every
 abbrev pub row_number : ℕ → ℕ → List ℕ
 row_number y n = codes "<text class=\"n\" x=\"71\" y=\"" ++ decimal y ++ codes "\">" ++ decimal n ++ codes "</text>\n"
 
--- the superstep of the first row, and of the last where there are several: row `i` is of superstep `every * i`
+-- the superstep of the first row, and of the last if there are several: row `i` is of superstep `every * i`
 abbrev pub row_numbers : Frame → ℕ → List ℕ
 row_numbers f every =
     if nat_lt 1 f.down then row_number 28 0 ++ row_number (f.top + f.high) (every * (f.down - 1)) else row_number 28 0
@@ -37,7 +37,7 @@ board_number f n = codes "<text x=\"" ++ decimal f.left ++ codes "\" y=\"" ++ de
 abbrev pub small_board : Frame → Extent → ℕ → ℕ → List ℤ → List ℕ
 small_board f e across n values = board_number f n ++ grid f e across values
 
--- the last boards of so many, each of so many cells: board `i` is of superstep `every * i`
+-- the last boards, out of `count`, each of `cells` cells: board `i` is of superstep `every * i`
 abbrev pub boards_from : Extent → ℕ → ℕ → ℕ → ℕ → ℕ → List ℤ → List ℕ
 boards_from e across every count cells zero values = []
 boards_from e across every count cells (suc n) values =
@@ -56,7 +56,7 @@ small_boards across every cells values =
 abbrev pub across_of : ℕ → ℕ
 across_of across = max across 1
 
--- what stands over an array that isn't there
+-- what is written over an array that isn't there
 abbrev pub missing : ℕ → List ℕ → List ℕ
 missing top name =
     codes "<g transform=\"translate(0," ++ decimal top ++ codes ")\"><text class=\"k\" x=\"80\" y=\"12\">" ++ flat_map escaped name ++ codes ": no such array</text></g>\n"

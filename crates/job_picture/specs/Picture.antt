@@ -29,11 +29,11 @@ ending (Limit steps) = codes "stopped at the limit"
 abbrev pub shared_by : ℕ → List ℕ
 shared_by group = codes ", each column the greatest of " ++ decimal group ++ codes " supersteps"
 
--- where several do
+-- if several do
 abbrev pub sharing : ℕ → List ℕ
 sharing group = if nat_lt 1 group then shared_by group else []
 
--- a name of its own
+-- the name of a picture
 abbrev pub named : Option (List ℕ) → List ℕ
 named None = []
 named (Some name) = flat_map escaped name ++ codes ": "
@@ -59,13 +59,13 @@ legend =
     ++ codes "<rect class=\"s\" x=\"280\" y=\"287\" width=\"10\" height=\"10\"/><text x=\"295\" y=\"296\">spawned</text>"
     ++ codes "<rect class=\"d\" x=\"380\" y=\"287\" width=\"10\" height=\"10\"/><text x=\"395\" y=\"296\">some task printed</text>\n"
 
--- where a part of the file begins that has units of its own: how high it is, and how many units it has across and up
+-- where a part of the file with other units begins: how high it is, and how many units it has across and up
 abbrev pub part_head : List ℕ → ℕ → ℕ → List ℕ
 part_head place across up =
     codes "<svg x=\"80\" width=\"800\" " ++ place ++ codes " preserveAspectRatio=\"none\" viewBox=\"0 0 " ++ decimal across ++ codes " " ++ decimal up
     ++ codes "\" overflow=\"visible\">\n"
 
--- the lines across, for so many parties
+-- the lines across, for `most` parties
 abbrev pub lines : ℕ → List ℕ
 lines most = part_head (codes "y=\"50\" height=\"200\"") 1 most ++ ticks (party_tick most) most ++ codes "</svg>\n"
 
@@ -90,12 +90,12 @@ shown_columns r =
 abbrev pub most_parties : ReportValue → ℕ
 most_parties r = (greatest (columns_of r.prints r.records)).told.parties
 
--- so many supersteps, with so many parties at most, as these columns
+-- `steps` supersteps, with at most `most` parties, as these columns
 abbrev pub supersteps : Option (List ℕ) → ℕ → ℕ → Status → List Column → List ℕ
 supersteps name steps most status columns =
     title name steps most status ++ legend ++ lines (max most 1) ++ heights (max steps 1) (max most 1) columns ++ below (max steps 1) columns
 
--- the whole of so many supersteps, with so many parties at most, and of these panels
+-- the whole of `steps` supersteps, with at most `most` parties, and of these panels
 unfoldable pub file : Option (List ℕ) → ℕ → ℕ → Status → List Column → List Panel → List ℕ
 file name steps most status columns panels =
     head (320 + height_of panels) ++ supersteps name steps most status columns ++ panels_from 310 panels ++ codes "</svg>\n"
@@ -105,7 +105,7 @@ unfoldable pub plain : ℕ → ℕ → Status → List Column → List (List ℕ
 plain steps most status columns arrays =
     head (320 + 50 * length arrays) ++ supersteps None steps most status columns ++ strips_from 0 arrays ++ codes "</svg>\n"
 
--- a report with a name of its own, below which these panels are drawn in place of its arrays
+-- a report with a given name, and below it these panels in place of its arrays
 abbrev pub picture_with : Option (List ℕ) → List Panel → ReportValue → List ℕ
 picture_with name panels r = file name (length r.records) (most_parties r) r.status (shown_columns r) panels
 

@@ -32,11 +32,11 @@ abbrev pub views_height : List View → ℕ
 views_height [] = 0
 views_height (v ∷ vs) = height v.cells v.values v.form + views_height vs
 
--- the whole of so many supersteps, with so many parties at most, and of these views
+-- the whole of `steps` supersteps, with at most `most` parties, and of these views
 unfoldable pub viewed_file : Option (List ℕ) → ℕ → ℕ → Status → List Column → List View → List ℕ
 viewed_file name steps most status columns views =
     head (320 + views_height views) ++ supersteps name steps most status columns ++ views_from 310 views ++ codes "</svg>\n"
 
--- a report with a name of its own, below which these views are drawn in place of its arrays
+-- a report with a given name, and below it these views in place of its arrays
 abbrev pub viewed : Option (List ℕ) → List View → ReportValue → List ℕ
 viewed name views r = viewed_file name (length r.records) (most_parties r) r.status (shown_columns r) views

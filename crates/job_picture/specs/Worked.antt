@@ -6,7 +6,8 @@ use Rattle.job_picture.specs.Columns.{joined}
 use Rattle.job_picture.specs.Picture.{ending, group_of, picture, sharing}
 use Rattle.job_picture.specs.declared.columns.Column.{Column}
 
--- Three tasks, of which one leaves and two are spawned, and then four, one of which prints; one of them faults. There is an array of two cells.
+-- Three tasks: one leaves, and two are spawned. After them four tasks: one prints, and one faults. There is an array of
+-- two cells.
 abbrev pub faulted_report : ReportValue
 faulted_report = record {
   prints = record { step = 1; path = 0 ∷ []; value = pos 20 } ∷ [];

@@ -67,7 +67,7 @@ pub(crate) fn push_party_ticks(out: &mut Vec<u8>, most: u32) -> Result<(), Alloc
     push_party_quarters(out, most)
 }
 
-// Appends the number of each of the first supersteps, so many.
+// Appends the numbers of the first `count` supersteps.
 fn push_first_steps(out: &mut Vec<u8>, steps: usize, count: usize) -> Result<(), AllocError>
     ensures { OnOk result (out.new.items ≡ out.old.items ++ first_ticks (step_tick steps) count) }
 {

@@ -90,7 +90,7 @@ pub(crate) fn range_of(values: &[i64]) -> Extent
     }
 }
 
-/// How far up a value lies between the least and the greatest, in ninths.
+/// How far up a value is between the least and the greatest, in ninths.
 pub(crate) fn shade(extent: Extent, value: &i64) -> u128
     ensures { result ≡ shade_of extent value.now }
 {

@@ -120,7 +120,7 @@ fn push_layer(
     push_shaded(out, dark, &marks)
 }
 
-// Appends the cells of each shade from 1 on, so many.
+// Appends the cells of each shade from 1 to a last one.
 fn push_layers(
     alloc: Global,
     out: &mut Vec<u8>,
@@ -242,7 +242,7 @@ pub(crate) fn small_frame(across: usize, cells: usize) -> Frame
     sized(152, 152, 8, across, cells)
 }
 
-/// Returns how many small boards stand side by side: at least one.
+/// Returns how many small boards are side by side: at least one.
 pub(crate) fn beside(frame: Frame) -> u128
     requires { frame.wide ≤ 152 }
     ensures beside { result ≡ beside_of frame }

@@ -83,7 +83,7 @@ fn push_sharing(out: &mut Vec<u8>, group: usize) -> Result<(), AllocError>
     Ok(())
 }
 
-// Appends a name of its own.
+// Appends the name of a picture.
 fn push_named(out: &mut Vec<u8>, name: Option<&str>) -> Result<(), AllocError>
     ensures { OnOk result (out.new.items ≡ out.old.items ++ named (option_map (λ s. s.now) name.entry)) }
 {
@@ -160,7 +160,7 @@ fn push_legend(out: &mut Vec<u8>) -> Result<(), AllocError>
     )
 }
 
-// Begins a part of the file that has its own units.
+// Begins a part of the file with other units.
 fn push_part(out: &mut Vec<u8>, place: &[u8], across: usize, up: u32) -> Result<(), AllocError>
     ensures { OnOk result (out.new.items ≡ out.old.items ++ part_head place.now across up) }
 {

@@ -6,7 +6,7 @@ use Rattle.job_view.specs.Look.{LookValue, every_of, looked, rows_of}
 use Rattle.job_view.specs.Words.{words_in}
 use Rattle.job_rows.specs.Rows.{rows}
 
--- the rows of each array that is drawn over supersteps, of a job that takes so many
+-- the rows of each array that is drawn over supersteps, of a job that takes `steps`
 abbrev pub all_rows : Program → ℕ → ℕ → List (List ℕ) → List (List ℤ)
 all_rows p limit steps names = map (λ name. rows p limit name (every_of steps) (rows_of steps)) names
 

@@ -21,7 +21,7 @@ pub record IsAfter (r s : RoundValue) : Type 0 where
   pub limit : s.limit ≡ r.limit
   pub state : state_of s ≡ next r.limit (program_of r.job) (state_of r)
 
--- a round of the same job so many supersteps later
+-- a round of the same job `k` supersteps later
 pub record IsLater (k : ℕ) (r s : RoundValue) : Type 0 where
   pub job : s.job ≡ r.job
   pub limit : s.limit ≡ r.limit

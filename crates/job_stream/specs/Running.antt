@@ -24,7 +24,7 @@ pub record IsRunOf (j : JobValue) (limit : ℕ) (log : List (OpeningValue JobPro
   pub tasks : map (task_of (plans j.bodies)) (live_of first) ≡ start_tasks (plans j.bodies) 0 j.starts
 
 module _ {Q S T : Type 0} where
-  -- this was given away by a run whose log went on from this one, and which no fault has ended
+  -- this was given away by a run whose log went on from this one, and that no fault has ended
   pub record IsGivenAfter (m : Q → Reading S T) (log : List (OpeningValue Q S)) (lines : LinesValue) : Type 0 where
     pub run : StretchesValue Q S
     pub since : WasBefore log run.log

@@ -12,7 +12,7 @@ use Rattle.program_stretches.specs.LinesValue.{LinesValue}
 use Rattle.job_stream.specs.declared.fault.StreamFault.{StreamFault}
 use Rattle.job_stream.specs.declared.fault.StreamFault.TheVariants.{Write, Memory, Internal}
 
--- the lines of the first supersteps that a job takes within a limit, so many of them
+-- the lines of the first `n` supersteps that a job takes within a limit
 abbrev pub lines_of : Program → ℕ → ℕ → List ℕ
 lines_of p limit n = steps_text (so_far p limit n).prints (so_far p limit n).records
 
@@ -24,7 +24,7 @@ WritesSteps p limit old new = (n : ℕ) × Appends old new (lines_of p limit n)
 abbrev pub BeginsReport : Program → ℕ → Option (List ℕ) → Option (List ℕ) → Type 0
 BeginsReport p limit old new = (report : ReportValue) × (report_of p limit ≡ Some report) × AppendsBeginning old new (report_text report)
 
--- the whole text of what the job leaves; where the device failed, a beginning of it; else whole supersteps
+-- the whole text of what the job leaves; if the device failed, a beginning of it; else whole supersteps
 abbrev pub Streams : Program → ℕ → Option (List ℕ) → Option (List ℕ) → Result JobStatus StreamFault → Type 0
 Streams p limit old new (Ok status) =
     (report : ReportValue) × (report_of p limit ≡ Some report) × Appends old new (report_text report) × (status_seen status ≡ report.status)
@@ -32,7 +32,7 @@ Streams p limit old new (Err Write) = BeginsReport p limit old new
 Streams p limit old new (Err Memory) = WritesSteps p limit old new
 Streams p limit old new (Err Internal) = WritesSteps p limit old new
 
--- the same of a call that comes when the lines of so many supersteps are written
+-- the same of a call that comes when the lines of `n` supersteps are written
 abbrev pub Ends : Program → ℕ → ℕ → Option (List ℕ) → Option (List ℕ) → Result JobStatus StreamFault → Type 0
 Ends p limit n old new (Ok status) =
     (report : ReportValue) × (report_of p limit ≡ Some report)
@@ -65,7 +65,7 @@ Closes report old new (Err Write) = AppendsBeginning old new (report_text report
 Closes report old new (Err Memory) = Keeps old new
 Closes report old new (Err Internal) = Keeps old new
 
--- the count of failures rises where the device is blamed, and else stays
+-- the count of failures rises if the device is blamed, and else stays
 abbrev pub StreamCause : {T : Type 0} → ℕ → ℕ → Result T StreamFault → Type 0
 StreamCause old new (Ok x) = new ≡ old
 StreamCause old new (Err Write) = new ≡ old + 1
@@ -84,7 +84,7 @@ pub record IsPiece (p : Program) (limit : ℕ) (l : LinesValue) : Type 0 where
   pub prints : (so_far p limit l.next).prints ≡ (so_far p limit l.first).prints ++ l.prints
   pub records : (so_far p limit l.next).records ≡ (so_far p limit l.first).records ++ l.records
 
--- what a job leaves, but for what its first supersteps printed and recorded, so many of them
+-- what a job leaves, but for what its first `n` supersteps printed and recorded
 pub record IsRest (p : Program) (limit : ℕ) (n : ℕ) (rest : ReportValue) : Type 0 where
   pub whole : ReportValue
   pub report : report_of p limit ≡ Some whole

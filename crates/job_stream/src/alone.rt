@@ -69,7 +69,7 @@ fn stream_on<'t, 'p, 'j, W: CountedWrite>(
     finish(alloc, log, stretches, first, job, limit, written, writer)
 }
 
-// Takes a superstep, and writes its lines after those of so many. Returns how many are written then.
+// Takes a superstep, and writes its lines after those of `written` others. Returns how many are written now.
 fn advance<W: CountedWrite>(
     alloc: Global,
     stretches: &mut Stretches<'_, '_, JobProgram<'_>>,
@@ -90,7 +90,7 @@ fn advance<W: CountedWrite>(
     }
 }
 
-// What a run leaves that has ended, if the lines of so many supersteps are what was given away.
+// What a run that has ended leaves, if it gave away the lines of `written` supersteps.
 fn left_of<'t, 'p, 'j>(
     alloc: Global,
     log: &'t Log<Opened<'p, JobProgram<'j>, Task>>,
@@ -150,7 +150,7 @@ fn status_of(report: Report) -> JobStatus
     status
 }
 
-// Writes what a run leaves, after the lines of so many supersteps. Returns how it ended.
+// Writes what a run leaves, after the lines of `written` supersteps. Returns how it ended.
 fn finish<'t, 'p, 'j, W: CountedWrite>(
     alloc: Global,
     log: &'t Log<Opened<'p, JobProgram<'j>, Task>>,

@@ -66,7 +66,7 @@ fn write_lines<W: CountedWrite>(
     }
 }
 
-/// Writes the lines of the supersteps that come next, after so many that were written. Returns how many are written then.
+/// Writes the lines of the supersteps that come next, after the first `written`. Returns how many are written now.
 pub(crate) fn pass_on<W: CountedWrite>(
     alloc: Global,
     job: &Job,

@@ -27,7 +27,7 @@ abbrev pub named : List ℕ → List (List ℕ × List ℤ) → Option (List ℤ
 named name [] = None
 named name (a ∷ rest) = if bytes_eq a.0 name then Some a.1 else named name rest
 
--- how far two rows are apart, after so many supersteps, so that there are at most 1000 rows
+-- how far two rows are apart, after `steps` supersteps, so that there are at most 1000 rows
 abbrev pub every_of : ℕ → ℕ
 every_of steps = min (steps / 1000 + 1) 4294967295
 

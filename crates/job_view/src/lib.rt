@@ -1,4 +1,4 @@
-//! What the options of `bsp draw` mean: a picture of a report with a title of its own, arrays in rows of a width, and arrays
+//! What the options of `bsp draw` mean: a picture of a report with a given title, arrays in rows of a width, and arrays
 //! over supersteps. Nothing here is part of Java's API.
 //!
 //! # Where things are

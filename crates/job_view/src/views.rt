@@ -31,7 +31,7 @@ use text_lines::split_word;
 /// What is asked of a picture.
 #[derive(Clone, Copy)]
 pub struct Look<'a> {
-    /// The title in front of its own. `None` is none.
+    /// The title before the name of the picture. `None` is none.
     pub title: Option<&'a str>,
     /// Which arrays are drawn in rows, and how many cells a row has: `NAME=N`, with commas between several. Empty is none.
     pub widths: &'a str,
@@ -39,14 +39,14 @@ pub struct Look<'a> {
     pub over_time: &'a str,
 }
 
-/// Returns how far two rows are apart after so many supersteps, so that there are at most 1000.
+/// Returns how far two rows are apart after `steps` supersteps, so that there are at most 1000.
 pub fn every_of(steps: usize) -> u32
     ensures { result ≡ every_for steps }
 {
     (steps / 1000 + 1).min(4_294_967_295) as u32
 }
 
-/// Returns how many rows there are after so many supersteps.
+/// Returns how many rows there are after `steps` supersteps.
 pub fn rows_of(steps: usize) -> usize
     ensures { result ≡ rows_for steps }
 {

@@ -26,7 +26,7 @@ pub record DidAll {S T : Type 0} (r : Reading S T) (arrays : List (List ℕ × L
   pub faults : (x : ℕ × List ℕ) → fault ≡ Some x → first_fault (segments_in r.frame entries) ≡ Some x
   pub told : (s : Says T) → Agrees s arrays step entries → Told (reads s r.meant r.path) (deeds_of (reads s r.meant r.path) arrays step ts) step fault puts us ds [] after
 
--- one superstep of what the live tasks of a state left, each of which is allowed, leads to this state
+-- one superstep of what the live tasks of a state left, each allowed, leads to this state
 pub record IsStep {T : Type 0} (f : Frame T) (may : T → List (List ℕ × List ℤ) → ℕ → Segment T → Type 0) (most : ℕ) (st next : State T) : Type 0 where
   pub entries : List (Entry T)
   pub entered : IsEntered f may st entries

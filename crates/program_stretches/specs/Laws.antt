@@ -6,8 +6,8 @@ use Rattle.program_stretches.specs.PartValue.{PartValue}
 use Rattle.program_stretches.specs.StretchesValue.{StretchesValue, StretchValue}
 use Rattle.program_stretches.specs.Closing.{Refuses}
 
--- A stretch of another step is refused as such, whatever else is wrong; then one that hasn't run; then one whose number no stretch has;
--- then one whose stretch isn't out.
+-- A stretch is refused for the first of these that holds: it is of another step, it hasn't run, no stretch has its
+-- number, its stretch isn't out.
 pub record StretchesAreRefusedInOrder (Q S : Type 0) : Type 0 where
   pub step : (fault : Unwanted) (v : StretchesValue Q S) (s : StretchValue Q S) → Refuses fault v s → s.step ≢ v.step → fault ≡ WrongStep
   pub unfinished : (fault : Unwanted) (v : StretchesValue Q S) (s : StretchValue Q S) → Refuses fault v s → s.step ≡ v.step → s.part.done ≡ false

@@ -4,8 +4,8 @@ use Rattle.superstep_memory.specs.declared.arrays.Put.{Put}
 use Rattle.phase_records.specs.PrintValue.{PrintValue}
 use Rattle.programs.specs.DeedValue.{DeedValue}
 
--- Consecutive live tasks, the first of which has this place among all live ones. Once they have run: their puts, deeds and prints,
--- and the first fault.
+-- Consecutive live tasks, and the place of the first among all live ones. Once they have run: their puts, deeds and
+-- prints, and the first fault.
 pub record PartValue (S : Type 0) : Type 0 where
   pub first : ℕ
   pub tasks : List S

@@ -8,7 +8,7 @@ use Rattle.programs.specs.DeedValue.{DeedValue}
 use Rattle.programs.specs.Done.{HasDoneRange}
 use Rattle.program_stretches.specs.PartValue.{PartValue}
 
--- how the tasks of a program are read: where they are, what they may leave, what they stand for, and their paths
+-- how the tasks of a program are read: where they are, what they may leave, what they mean, and their paths
 pub record Reading (S T : Type 0) : Type 1 where
   pub frame : Frame T
   pub may : T → List (List ℕ × List ℤ) → ℕ → Segment T → Type 0

@@ -10,8 +10,8 @@ use Rattle.phase_records.specs.ReportValue.{ReportValue}
 abbrev pub with_earlier : {T : Type 0} → State T → State T → State T
 with_earlier early st = record st { prints = early.prints ++ st.prints; records = early.records ++ st.records }
 
--- A run that began with these arrays and tasks is in this state after the supersteps of some history. What so many of its first
--- supersteps printed and recorded was given away.
+-- A run that began with these arrays and tasks is in this state after the supersteps of some history. What its first
+-- `given` supersteps printed and recorded was given away.
 pub record IsReached {T : Type 0} (f : Frame T) (may : T → List (List ℕ × List ℤ) → ℕ → Segment T → Type 0) (most : ℕ) (arrays : List (List ℕ × List ℤ)) (tasks : List T) (limit given : ℕ) (st : State T) : Type 0 where
   pub history : List (List (Entry T))
   pub entered : (n : ℕ) → n < length history → IsEntered f may (so_far (says_by f most history) arrays tasks limit n) (get_or history n [])

@@ -16,7 +16,7 @@ use Rattle.program_stretches.specs.Reached.{IsReached}
 use Rattle.program_stretches.specs.Did.{DidAll}
 
 -- A stretch that was taken: its place among those of its superstep, what its superstep began with, and its tasks. The log by this
--- name had these openings when it was taken, its own the last.
+-- name had these openings when it was taken, the last being that of the superstep of the stretch.
 pub record StretchValue (Q S : Type 0) : Type 0 where
   pub name : TableId
   pub log : List (OpeningValue Q S)
@@ -26,9 +26,9 @@ pub record StretchValue (Q S : Type 0) : Type 0 where
   pub arrays : List (List ℕ × List ℤ)
   pub part : PartValue S
 
--- A run: the openings of its supersteps, the last first, by the name of their log; its limits; so many supersteps taken; what they
--- left; how many tasks live, and the stretches of the next superstep that aren't taken. What the first `given` supersteps printed
--- and recorded was given away, and isn't among the prints and records.
+-- A run: the openings of its supersteps, the last first, by the name of their log; its limits; how many supersteps it
+-- has taken; what they left; how many tasks live, and the stretches of the next superstep that aren't taken. What the
+-- first `given` supersteps printed and recorded was given away, and isn't among the prints and records.
 pub record StretchesValue (Q S : Type 0) : Type 0 where
   pub name : TableId
   pub log : List (OpeningValue Q S)

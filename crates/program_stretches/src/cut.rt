@@ -10,7 +10,7 @@ use std::alloc::Global;
 // The most tasks of a stretch.
 const MOST_TASKS: usize = 512;
 
-// How many tasks each of about so many stretches has.
+// How many tasks each of about `pieces` stretches has.
 fn size_for(count: usize, pieces: usize) -> usize
     requires { 1 ≤ pieces }
     ensures { 1 ≤ result }
@@ -44,8 +44,8 @@ fn cut_off<T: OnPath>(
     }
 }
 
-/// Cuts live tasks into about so many stretches. There is room for one; without memory for more it has all the tasks that are
-/// left.
+/// Cuts live tasks into about `pieces` stretches. There is room for one. If there is no memory for more, that one has
+/// all the tasks that are left.
 pub(crate) fn cut<T: OnPath>(
     alloc: Global,
     tasks: Vec<T>,

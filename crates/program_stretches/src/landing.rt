@@ -12,7 +12,7 @@ use std::sync::Arc;
 use superstep_memory::arrays::Arrays;
 use superstep_memory::puts::Puts;
 
-// Lands the puts of a stretch, none of which adds.
+// Lands the puts of a stretch. None of them adds.
 fn land_one<T: OnPath>(arrays: &mut Arrays, slot: &Option<Part<T>>)
     requires { IsTrue (list_all is_set (of_slot (λ part. part.puts) slot.now)) }
     ensures { arrays.new ≡ landed (of_slot (λ part. part.puts) slot.now) arrays.old }
@@ -22,7 +22,7 @@ fn land_one<T: OnPath>(arrays: &mut Arrays, slot: &Option<Part<T>>)
     }
 }
 
-// Lands the puts of stretches, none of which adds, one stretch after another, from where they are.
+// Lands the puts of stretches, one stretch after another, from where they are. None of them adds.
 fn land_each<T: OnPath>(arrays: &mut Arrays, parts: &[Option<Part<T>>])
     requires { IsTrue (list_all is_set (puts_in parts.now)) }
     ensures { arrays.new ≡ landed (puts_in parts.now) arrays.old }
@@ -35,8 +35,8 @@ fn land_each<T: OnPath>(arrays: &mut Arrays, parts: &[Option<Part<T>>])
     }
 }
 
-// Lands puts, and after them those of stretches, none of which adds. Or returns the place of the first put that overflows. Then, and
-// if memory runs out, nothing changes.
+// Lands puts, and after them those of stretches. The puts of stretches don't add. If a put overflows, returns the place
+// of the first that does. Then, and if memory runs out, nothing changes.
 fn land_all<T: OnPath>(
     arrays: &mut Arrays,
     puts: &Puts,
@@ -58,8 +58,9 @@ fn land_all<T: OnPath>(
     }
 }
 
-/// Lands puts, and after them those of stretches, none of which adds: in place if nobody else has the arrays, else in a copy. Or
-/// returns the place of the first put that overflows. Then, and if memory runs out, nothing changes.
+/// Lands puts, and after them those of stretches: in place if nobody else has the arrays, else in a copy. The puts of
+/// stretches don't add. If a put overflows, returns the place of the first that does. Then, and if memory runs out,
+/// nothing changes.
 pub(crate) fn land_shared<T: OnPath>(
     alloc: Global,
     arrays: &mut Arc<Arrays>,

@@ -3,8 +3,8 @@ ghost use Rattle.program_stretches.specs.Laws.{StretchesAreRefusedInOrder};
 
 use programs::program::Program;
 
-/// A stretch of another step is refused as such, also if it hasn't run; then one that hasn't run; then one whose number no stretch
-/// has; then one whose stretch isn't out. Any other is taken back.
+/// A stretch is refused for the first of these that holds: it is of another step, it hasn't run, no stretch has its
+/// number, its stretch isn't out. If none holds, it is taken back.
 pub fn stretches_are_refused_in_order<P: Program>()
     ensures { StretchesAreRefusedInOrder P P.Task }
 {}

@@ -58,7 +58,7 @@ impl<T: OnPath> Part<T> {
     ghost use Rattle.programs.specs.Changes.{change_of, change_in};
     ghost use Rattle.program_stretches.specs.Parts.{fresh_part};
 
-    /// These tasks, the first of which has this place among the live ones, before their segments.
+    /// These tasks before their segments. The first has this place among the live ones.
     pub(crate) fn new(alloc: Global, first: usize, tasks: Vec<T>) -> Self
         ensures { result ≡ fresh_part first tasks.items }
     {
@@ -168,7 +168,7 @@ impl<T: OnPath> Part<T> {
         self.work.puts.are_sets()
     }
 
-    /// Lands its puts, none of which adds.
+    /// Lands its puts. None of them adds.
     pub(crate) fn land_sets(&self, arrays: &mut Arrays)
         requires { IsTrue (list_all is_set self.now.puts) }
         ensures { arrays.new ≡ landed self.now.puts arrays.old }

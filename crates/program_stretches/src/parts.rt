@@ -79,7 +79,7 @@ fn spawned_by<T: OnPath>(slot: &Option<Part<T>>) -> usize
     }
 }
 
-/// How many tasks stopped, at most so many.
+/// How many tasks stopped, at most `most`.
 pub(crate) fn count_left<T: OnPath>(parts: &[Option<Part<T>>], most: usize) -> usize
     requires { left_in (deeds_in parts.now) ≤ most }
     ensures { result ≡ left_in (deeds_in parts.now) }
@@ -94,7 +94,7 @@ pub(crate) fn count_left<T: OnPath>(parts: &[Option<Part<T>>], most: usize) -> u
     count
 }
 
-/// How many tasks were spawned, unless more than so many.
+/// How many tasks were spawned, unless more than `most`.
 pub(crate) fn count_spawned<T: OnPath>(parts: &[Option<Part<T>>], most: usize) -> Option<usize>
     ensures { MatchOption result (most < spawned_in (deeds_in parts.now)) (λ count. (count ≡ spawned_in (deeds_in parts.now)) × (count ≤ most)) }
 {

@@ -32,7 +32,7 @@ use superstep_memory::arrays::Arrays;
 use superstep_memory::puts::Puts;
 
 /// The supersteps of a run so far, and the stretches of live tasks of the next that aren't taken. Its type keeps that its arrays,
-/// prints, records and status are those of a history of supersteps, each task of which left what it may leave.
+/// prints, records and status are those of a history of supersteps, whose tasks each left what they may leave.
 #[derive(Drop)]
 pub struct Stretches<'t, 'p, P: Program> {
     log: &'t Log<Opened<'p, P, P::Task>>,
@@ -680,7 +680,7 @@ fn append_reserved(prints: &mut Vec<Print>, more: &mut Vec<Print>)
     }
 }
 
-// The next live tasks, of whom there are so many, in place of the tasks. There is room for them.
+// Puts the next live tasks, `count` of them, in place of the tasks. There is room for them.
 fn regroup<T: OnPath>(deeds: &mut Deeds<T>, tasks: &mut Vec<T>, room: &mut Vec<T>, count: usize)
     requires same { length tasks.old.items ≡ length deeds.old }
     requires count { length (living_with tasks.old.items deeds.old) ≤ count }
@@ -693,7 +693,7 @@ fn regroup<T: OnPath>(deeds: &mut Deeds<T>, tasks: &mut Vec<T>, room: &mut Vec<T
     }
 }
 
-// What a run begins with: the arrays, for two that share them, and the stretches of so many tasks.
+// What a run begins with: the arrays, for two that share them, and the stretches of `count` tasks.
 #[derive(Drop)]
 struct Ready<T> {
     arrays: Arc<Arrays>,
@@ -702,7 +702,7 @@ struct Ready<T> {
     parts: Vec<Option<Part<T>>>,
 }
 
-// Shares the arrays, and cuts the tasks into about so many stretches.
+// Shares the arrays, and cuts the tasks into about `pieces` stretches.
 fn get_ready<T: OnPath>(
     alloc: Global,
     arrays: Arrays,

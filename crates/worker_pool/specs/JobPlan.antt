@@ -3,7 +3,7 @@ use Rattle.std.specs.Prelude.{◌≡◌, ℕ, ◌+◌, ◌≤◌, true, is_some,
 use Rattle.std.specs.Option.{unwrap_or}
 use Rattle.advance_rule.specs.declared.EndPlan.{EndPlan}
 
--- the limit of supersteps that a plan stands for: the tree ends in the phase of the last, and phases count from 0
+-- the limit of supersteps that a plan means: the tree ends in the phase of the last, and phases count from 0
 abbrev pub limit_of : EndPlan → ℕ
 limit_of plan = unwrap_or plan.at 0 + 1
 

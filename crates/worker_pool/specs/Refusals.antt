@@ -15,7 +15,7 @@ abbrev pub refusal_of : Reason → Refused
 refusal_of reason.Memory = Memory
 refusal_of reason.Internal = Internal
 
--- a worker that couldn't be started is one of so many, numbered from 0
+-- a worker that couldn't be started is one of `workers`, numbered from 0
 abbrev pub IsOfWorkers : ℕ → Refused → Type 0
 IsOfWorkers workers Memory = Unit {0}
 IsOfWorkers workers (NotStarted k) = k < workers

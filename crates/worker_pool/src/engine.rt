@@ -29,7 +29,7 @@ pub trait Stretch: Drop {
     /// The path of the task whose segment is next.
     ghost next: { Self → Option (List ℕ) };
 
-    /// How it changes until so many of its tasks have done their segments.
+    /// How it changes until this many of its tasks have done their segments.
     ghost runs_to: { ℕ → Self → Self → Type 0 };
 
     /// Whether one of its tasks has faulted.

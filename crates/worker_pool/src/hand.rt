@@ -81,8 +81,8 @@ fn do_rest<S: Stretch>(alloc: Global, stretch: &mut S) -> Result<(), AllocError>
 }
 
 // Runs all segments of a stretch. If the gate isn't open, the stretch has one task, whose segment runs between the two
-// calls of the gate. There it has more only if there was no memory to cut it; then the call fails, since one of the tasks
-// could wait for another.
+// calls of the gate. There it has more only if there was no memory to cut it. The call then fails, since one of the
+// tasks could wait for another.
 fn do_all<S: Stretch, R: Wait, G: Gate>(
     rt: &R,
     alloc: Global,

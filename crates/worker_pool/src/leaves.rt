@@ -49,7 +49,7 @@ impl<J: Running> Leaves<J> {
         leaf_at(&self.tiers, number)
     }
 
-    /// The leaf at which a spawned task is registered first, given the tier of its spawner and its own path.
+    /// The leaf that a spawned task tries first, given its path and the tier of its spawner.
     pub(crate) fn preferred(&self, home: u16, path: &[u16]) -> u16
         ensures leaf { result ≡ preferred (leaves_of J.tree.key.shape) home path.now }
         ensures within { result < length J.tree.key.shape }

@@ -37,7 +37,8 @@ pub(crate) struct Group<J: Running> {
     pub(crate) participants: Vec<Participant<J>>,
 }
 
-/// A worker's own token without members, by which it can end the tree. Its type keeps that it is of the tree of the run.
+/// The token of a worker, without members, by which it can end the tree. Its type keeps that it is of the tree of the
+/// run.
 #[derive(Drop)]
 pub(crate) struct OwnToken<J: Running> {
     pub(crate) door: Door,
@@ -46,7 +47,7 @@ pub(crate) struct OwnToken<J: Running> {
 }
 
 impl<J: Running> OwnToken<J> {
-    /// Makes a worker's own token.
+    /// Makes the token of a worker.
     pub(crate) fn new(door: Door) -> Self
         requires { door.tree ≡ J.tree }
     {

@@ -138,7 +138,7 @@ where
     }
 }
 
-// What a run leaves of which nothing was given away.
+// What a run leaves, if it gave nothing away.
 fn whole<T: OnPath>(ran: Ran<T>, given: u32) -> Result<Ran<T>, Refused>
     ensures all { IfOk result (λ whole. (whole ≡ ran) × (given ≡ 0)) }
     ensures internal { (workers : ℕ) → IfErr result (IsOfWorkers workers) }

@@ -11,7 +11,8 @@ use std::alloc::{AllocError, Global};
 use std::collections::VecDeque;
 use std::marker::{Brand, Model, PhantomData};
 
-/// What a run is of: the mark of its engine, the number of workers, and the tree at which they meet. Each run picks its own.
+/// What a run is of: the mark of its engine, the number of workers, and the tree at which they meet. Each run picks
+/// these.
 pub trait Running {
     ghost use Rattle.std.specs.Prelude.{ℕ};
     ghost use Rattle.tier_table.specs.Holding.{Named};
@@ -134,7 +135,7 @@ impl<E: Engine, J: Running> Queue<E, J> {
         }
     }
 
-    /// Hands out the first ready stretch, or tells the worker to stop.
+    /// Hands out the first ready stretch, or returns that the worker must stop.
     pub(crate) fn next(&mut self) -> Result<Next<E, J>, Reason> {
         if self.is_over() {
             return Ok(Next::Stop);

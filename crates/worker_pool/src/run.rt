@@ -296,8 +296,8 @@ fn opening_of<F: Fn(u32, u32) -> bool + Drop>(
     Ok(Opening { tree, door, leaves })
 }
 
-/// About how many stretches an engine should cut its live tasks into for a run on so many workers: some for each worker,
-/// or if the gate isn't open, one for each task.
+/// About how many stretches an engine should cut its live tasks into for a run on `workers` threads: some for each
+/// worker, or if the gate isn't open, one for each task.
 pub fn stretches_wanted<G: Gate>(gate: &G, workers: u32) -> usize
     requires { 1 ≤ workers }
     ensures { 1 ≤ result }
@@ -317,7 +317,7 @@ fn spins_of<R: Threads>(rt: &R, workers: u32) -> u32 {
     }
 }
 
-/// The limit of supersteps that a plan stands for.
+/// The limit of supersteps that a plan means.
 pub fn limit_in(plan: EndPlan) -> u32
     requires { IsJobPlan plan }
     ensures limit { result ≡ limit_of plan }

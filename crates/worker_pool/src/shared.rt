@@ -182,7 +182,7 @@ impl<E: Engine, J: Running, F: Fn(u32, u32) -> bool> Shared<E, J, F> {
     }
 
     // Brings a task's spawned tasks in, then arrives or leaves for it. What stays alive is appended in this order: the task, its
-    // spawned tasks. Returns true if that advanced the tree. `spawned` is working space, which is empty.
+    // spawned tasks. Returns true if that advanced the tree. `spawned` is empty working space.
     fn pass<R: Wait>(
         &self,
         rt: &R,
@@ -204,7 +204,7 @@ impl<E: Engine, J: Running, F: Fn(u32, u32) -> bool> Shared<E, J, F> {
         Ok(led)
     }
 
-    // Arrives for each task of a group, all of which stay alive. Returns true if one of them advanced the tree.
+    // Arrives for each task of a group. All of them stay alive. Returns true if one of them advanced the tree.
     fn arrive_each<R: Wait>(
         &self,
         rt: &R,

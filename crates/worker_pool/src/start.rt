@@ -27,7 +27,7 @@ pub(crate) struct Setup<'a, G: Gate, S: Starter> {
     pub(crate) starter: &'a S,
 }
 
-// Notes why the run is refused before all workers have come to the barrier, and stops those that wait there.
+// Notes why the run is refused before all workers have reached the barrier, and stops those that wait there.
 fn call_off<E: Engine, J: Running, R: Wait, F: Fn(u32, u32) -> bool, A: Fn(u64) -> bool>(
     rt: &R,
     shared: &Shared<E, J, F>,

@@ -52,7 +52,7 @@ impl<J: Running, F: Fn(u32, u32) -> bool> WorkerTree<J, F> {
         WorkerTree { phaser, leaves }
     }
 
-    /// Splits off a worker's own token.
+    /// Splits off the token of a worker.
     pub(crate) fn own_token(&self, own: &mut OwnToken<J>) -> OwnToken<J> {
         OwnToken::new(self.phaser.split(&mut own.door))
     }

@@ -12,7 +12,7 @@ use crate::shared::Shared;
 use std::alloc::Global;
 use std::sync::Wait;
 
-/// Runs stretches until workers stop. `own` is the worker's own token, by which it can end the tree.
+/// Runs stretches until workers stop. `own` is the token of the worker, by which it can end the tree.
 pub(crate) fn work<E: Engine, J: Running, R: Wait, F: Fn(u32, u32) -> bool, G: Gate>(
     rt: &R,
     alloc: Global,
