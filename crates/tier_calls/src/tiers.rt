@@ -135,6 +135,7 @@ impl Tiers {
     }
 
     /// Loads the word of the root.
+    #[inline(always)]
     pub(crate) fn look_at_root(&self, token: &mut Seated)
         requires own { token.old.tree ≡ self.now }
         ensures { Looked Look 0 token.old token.new }
