@@ -69,6 +69,10 @@ module _ {S : Type 0} where
       ∙ ap (λ (es : List (DeedValue S)). record { synced = y.synced; puts = y.puts; spawns = take y.spawned front } ∷ es)
       (deeds_more ds d (behind y.spawned front) back (omega (arith, l)) f)
 
+pub stopped_more : (ds : List Deed) (d : Deed) → stopped_by (ds ++ d ∷ []) ≡ stopped_by ds + one_left d.synced
+stopped_more [] d = omega arith
+stopped_more (x ∷ ds) d = let l = stopped_more ds d in omega (arith, l)
+
 pub spawned_more : (ds : List Deed) (d : Deed) → spawned_by (ds ++ d ∷ []) ≡ spawned_by ds + d.spawned
 spawned_more [] d = omega arith
 spawned_more (x ∷ ds) d = let l = spawned_more ds d in omega (arith, l)
@@ -88,6 +92,10 @@ module _ {S : Type 0} where
 pub spawned_append : (ds es : List Deed) → spawned_by (ds ++ es) ≡ spawned_by ds + spawned_by es
 spawned_append [] es = omega arith
 spawned_append (d ∷ ds) es = let l = spawned_append ds es in omega (arith, l)
+
+pub stopped_append : (ds es : List Deed) → stopped_by (ds ++ es) ≡ stopped_by ds + stopped_by es
+stopped_append [] es = omega arith
+stopped_append (d ∷ ds) es = let l = stopped_append ds es in omega (arith, l)
 
 module _ {S : Type 0} where
   pub count_told : (ds : List Deed) (ts : List S) → length (deeds_with ds ts) ≡ length ds
@@ -122,14 +130,14 @@ module _ {S : Type 0} where
   -- what is counted of deeds
   pub record Counts (i : Inside S) (ds : List (DeedValue S)) : Type 0 where
     pub count : length i.each.items ≡ length ds
-    pub stopped : stopped_by i.each.items ≡ left_in ds
+    pub stopped : i.stopped ≡ left_in ds
     pub spawned : length i.spawns.items ≡ spawned_in ds
 
   pub counts : (i : Inside S) (ds : List (DeedValue S)) → IsInside i → ds ≡ deeds_in i → Counts i ds
   counts i ds h e = record {
     count = sym (ap length e ∙ count_told i.each.items i.spawns.items);
-    stopped = sym (ap left_in e ∙ stopped_told i.each.items i.spawns.items);
-    spawned = sym (ap spawned_in e ∙ spawned_told i.each.items i.spawns.items h);
+    stopped = h.stopped ∙ sym (ap left_in e ∙ stopped_told i.each.items i.spawns.items);
+    spawned = sym (ap spawned_in e ∙ spawned_told i.each.items i.spawns.items h.spawned);
   }
 
   -- the last task and its deed, with the tasks that it spawned

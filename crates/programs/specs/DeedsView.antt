@@ -32,5 +32,7 @@ module _ {S : Type 0} where
   abbrev pub deeds_in : Inside S → List (DeedValue S)
   deeds_in i = deeds_with i.each.items i.spawns.items
 
-  abbrev pub IsInside : Inside S → Type 0
-  IsInside i = spawned_by i.each.items ≡ length i.spawns.items
+  -- the tasks that were spawned are all there, and those that stopped are counted
+  pub record IsInside (i : Inside S) : Type 0 where
+    pub spawned : spawned_by i.each.items ≡ length i.spawns.items
+    pub stopped : i.stopped ≡ stopped_by i.each.items

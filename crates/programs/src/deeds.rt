@@ -5,7 +5,7 @@ ghost use Rattle.std.specs.Vec.{vec_len, vec_capacity};
 ghost use Rattle.superstep_memory.specs.PathOrder.{put_all, in_path_order};
 ghost use Rattle.programs.specs.DeedsView.{deeds_with, spawned_by, stopped_by, behind};
 ghost use Rattle.programs.specs.Changes.{change_of, change_in};
-ghost use Rattle.programs.specs.InPlace.{told_at, told_in, maker, kept, living_with, left_in, spawned_in};
+ghost use Rattle.programs.specs.InPlace.{one_left, told_at, told_in, maker, kept, living_with, left_in, spawned_in};
 
 use crate::blame::{Blame, overflowed, task_path};
 use crate::next::put_task;
@@ -30,6 +30,8 @@ struct Deed {
 pub struct Deeds<T> {
     each: Vec<Deed>,
     spawns: Vec<T>,
+    // How many tasks stopped.
+    stopped: usize,
 }
 
 impl<T> Model for Deeds<T> {
@@ -112,19 +114,13 @@ fn fit(count: usize, others: usize, most: usize) -> bool
     count <= most && others <= most - count
 }
 
-// How many tasks stopped.
-fn count_stopped(each: &[Deed]) -> usize
-    ensures { result ≡ stopped_by each.now }
+// How many tasks stopped, with one task more.
+#[inline(always)]
+fn with_one(stopped: usize, synced: bool) -> usize
+    requires { stopped < 18446744073709551615 }
+    ensures { result ≡ stopped + one_left synced }
 {
-    let mut left = 0;
-    let mut rest = each;
-    while let Some((deed, after)) = rest.split_first() {
-        if !deed.synced {
-            left += 1;
-        }
-        rest = after;
-    }
-    left
+    if synced { stopped } else { stopped + 1 }
 }
 
 // Moves tasks to the end of others.
@@ -148,6 +144,7 @@ impl<T: OnPath> Deeds<T> {
         Deeds {
             each: Vec::new(alloc),
             spawns: Vec::new(alloc),
+            stopped: 0,
         }
     }
 
@@ -157,6 +154,7 @@ impl<T: OnPath> Deeds<T> {
     {
         self.each.clear();
         self.spawns.clear();
+        self.stopped = 0;
     }
 
     /// Notes what the next task did. What it spawned is moved out of the list.
@@ -173,6 +171,7 @@ impl<T: OnPath> Deeds<T> {
             puts,
             spawned,
         });
+        self.stopped = with_one(self.stopped, synced);
         Ok(())
     }
 
@@ -207,7 +206,7 @@ impl<T: OnPath> Deeds<T> {
         if fit(count, spawned, most) {
             return true;
         }
-        let stay = count - count_stopped(&self.each);
+        let stay = count - self.stopped;
         fit(stay, spawned, most)
     }
 
@@ -216,7 +215,7 @@ impl<T: OnPath> Deeds<T> {
         requires { length self.now + spawned_in self.now < 2 ^ 32 }
         ensures { result ≡ told_in step self.now }
     {
-        let left = count_stopped(&self.each) as u32;
+        let left = self.stopped as u32;
         let count = self.each.len() as u32;
         let spawned = self.spawns.len() as u32;
         PhaseRecord {
@@ -244,6 +243,7 @@ impl<T: OnPath> Deeds<T> {
         room.clear();
         room.reserve(count)?;
         collect(tasks, &mut self.each, &mut self.spawns, room);
+        self.stopped = 0;
         room.reverse();
         std::mem::swap(room, tasks);
         Ok(())
@@ -297,26 +297,12 @@ fn changes_of<T: OnPath>(
     Ok(changes)
 }
 
-// Whether no task stopped.
-fn none_stopped(each: &[Deed]) -> bool
-    ensures { IsTrue result ↔ (stopped_by each.now ≡ 0) }
-{
-    let mut rest = each;
-    while let Some((deed, after)) = rest.split_first() {
-        if !deed.synced {
-            return false;
-        }
-        rest = after;
-    }
-    true
-}
-
 impl<T: OnPath> Deeds<T> {
     /// Whether the same tasks live on: nobody stopped, and nobody was spawned.
     pub fn all_stay(&self) -> bool
         ensures { IsTrue result ↔ ((left_in self.now ≡ 0) × (spawned_in self.now ≡ 0)) }
     {
-        self.spawns.is_empty() && none_stopped(&self.each)
+        self.spawns.is_empty() && self.stopped == 0
     }
 
     /// What each task did to the list of tasks.
@@ -330,7 +316,7 @@ impl<T: OnPath> Deeds<T> {
     pub fn left(&self) -> usize
         ensures { result ≡ left_in self.now }
     {
-        count_stopped(&self.each)
+        self.stopped
     }
 
     /// How many tasks were spawned.
@@ -356,8 +342,11 @@ impl<T: OnPath> Deeds<T> {
         self.each.reserve(others.each.len())?;
         take_all(&mut self.spawns, &mut others.spawns)?;
         match self.each.append(&mut others.each) {
-            Ok(()) => Ok(()),
+            Ok(()) => {}
             Err(_) => unreachable!(),
         }
+        self.stopped += others.stopped;
+        others.stopped = 0;
+        Ok(())
     }
 }

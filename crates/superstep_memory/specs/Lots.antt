@@ -1,19 +1,13 @@
 -- Puts in order, some of them in rows (own).
 use Rattle.std.specs.Prelude.{ℕ, ◌+◌, Bool, true, false, List, [], ◌∷◌, ◌++◌}
-use Rattle.superstep_memory.specs.declared.arrays.PutKind.{PutKind}
-use Rattle.superstep_memory.specs.declared.arrays.PutKind.TheVariants.{Set, Add}
 use Rattle.superstep_memory.specs.declared.arrays.Put.{Put}
 use Rattle.superstep_memory.specs.declared.lots.Lot.{Lot}
 use Rattle.superstep_memory.specs.declared.lots.Row.{Row}
 use Rattle.superstep_memory.specs.Rows.{row_puts}
 
-abbrev pub kind_of : Bool → PutKind
-kind_of false = Set
-kind_of true = Add
-
 -- a lot that is one put
 abbrev pub put_of : Lot → Put
-put_of l = record { array = l.array; index = l.index; kind = kind_of l.adds; value = l.value }
+put_of l = record { array = l.array; index = l.index; kind = l.kind; value = l.value }
 
 -- the puts of a lot: one, or those of the first of these rows
 abbrev pub puts_by : Bool → Lot → List Row → List Put

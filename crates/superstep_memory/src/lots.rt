@@ -9,8 +9,8 @@ pub(crate) struct Lot {
     pub array: u16,
     /// Whether it is a row. Its values are kept elsewhere, and the value here means nothing.
     pub is_row: bool,
-    /// Whether the value is added to the cell's. A row sets its cells.
-    pub adds: bool,
+    /// What landing does with the value. A row sets its cells.
+    pub kind: PutKind,
     /// The number of the cell, or of a row's first cell.
     pub index: u32,
     /// What is put.
@@ -37,7 +37,7 @@ impl Lot {
         Lot {
             array: put.array,
             is_row: false,
-            adds: matches!(put.kind, PutKind::Add),
+            kind: put.kind,
             index: put.index,
             value: put.value,
         }
@@ -53,7 +53,7 @@ impl Lot {
         Lot {
             array,
             is_row: true,
-            adds: false,
+            kind: PutKind::Set,
             index: first,
             value: 0,
         }
@@ -64,15 +64,10 @@ impl Lot {
     pub(crate) fn put(self) -> Put
         ensures { result ≡ put_of self }
     {
-        let kind = if self.adds {
-            PutKind::Add
-        } else {
-            PutKind::Set
-        };
         Put {
             array: self.array,
             index: self.index,
-            kind,
+            kind: self.kind,
             value: self.value,
         }
     }

@@ -1,5 +1,5 @@
 //! Puts in order, some of them in rows.
-ghost use Rattle.std.specs.Prelude.{◌≡◌, ◌≤◌, ◌++◌, ◌∷◌, ◌↔◌, [], None, true, IsTrue, IsSome, IfOk, OnOk, OnErr, length, ◌&&◌};
+ghost use Rattle.std.specs.Prelude.{◌≡◌, ◌≤◌, ◌+◌, ◌++◌, ◌∷◌, ◌↔◌, [], None, true, IsTrue, IsSome, IfOk, OnOk, OnErr, length, ◌&&◌};
 ghost use Rattle.std.specs.List.{list_all};
 ghost use Rattle.superstep_memory.specs.Cells.{is_cell};
 ghost use Rattle.superstep_memory.specs.Landing.{landed, over_in, is_set};
@@ -18,7 +18,8 @@ use std::mem;
 pub struct Puts {
     lots: Vec<Lot>,
     rows: Vec<Row>,
-    count: usize,
+    // How many puts there are beyond one for each lot. Rows have these.
+    more: usize,
     // Whether none of them adds.
     sets: bool,
     // Rows of the puts that were there before, whose memory later rows may use.
@@ -38,12 +39,29 @@ impl Model for Puts {
     ghost invariant = { IsInside };
 }
 
-// Whether a put sets its cell.
+// The most that rows may have beyond one put each.
+const MOST_MORE: usize = 4611686018427387904;
+
+// Notes of a put whether it adds. A branch is cheaper here than storing the flag again.
 #[inline(always)]
-fn is_one_set(put: Put) -> bool
-    ensures { result ≡ is_set put }
+fn note_kind(sets: &mut bool, put: Put)
+    ensures { sets.new ≡ (sets.old && is_set put) }
 {
-    matches!(put.kind, PutKind::Set)
+    if matches!(put.kind, PutKind::Add) {
+        *sets = false;
+    }
+}
+
+// The sum, if it is at most `MOST_MORE`.
+fn add_more(more: usize, others: usize) -> Result<usize, AllocError>
+    requires { more ≤ 4611686018427387904 }
+    ensures sum { IfOk result (λ sum. sum ≡ more + others) }
+    ensures few { IfOk result (λ sum. sum ≤ 4611686018427387904) }
+{
+    if others > MOST_MORE - more {
+        return Err(AllocError);
+    }
+    Ok(more + others)
 }
 
 // Whether both hold.
@@ -62,7 +80,7 @@ impl Puts {
         Puts {
             lots: Vec::new(alloc),
             rows: Vec::new(alloc),
-            count: 0,
+            more: 0,
             sets: true,
             spare: Vec::new(alloc),
         }
@@ -77,7 +95,7 @@ impl Puts {
             mem::swap(&mut self.rows, &mut self.spare);
             self.rows.clear();
         }
-        self.count = 0;
+        self.more = 0;
         self.sets = true;
     }
 
@@ -87,7 +105,7 @@ impl Puts {
     {
         self.lots.clear();
         self.rows.clear();
-        self.count = 0;
+        self.more = 0;
         self.sets = true;
     }
 
@@ -96,7 +114,7 @@ impl Puts {
     pub fn len(&self) -> usize
         ensures { result ≡ length self.now }
     {
-        self.count
+        self.lots.len() + self.more
     }
 
     /// Whether none of them adds, so that no sum can overflow. It takes no time.
@@ -113,12 +131,8 @@ impl Puts {
         ensures added { OnOk result (self.new ≡ self.old ++ put ∷ []) }
         ensures memory { OnErr result (self.new ≡ self.old) }
     {
-        let Some(count) = self.count.checked_add(1) else {
-            return Err(AllocError);
-        };
         self.lots.push(Lot::one(put))?;
-        self.count = count;
-        self.sets = both(self.sets, is_one_set(put));
+        note_kind(&mut self.sets, put);
         Ok(())
     }
 
@@ -127,13 +141,15 @@ impl Puts {
         ensures added { OnOk result (self.new ≡ self.old ++ row_puts array first values.items) }
         ensures memory { OnErr result (self.new ≡ self.old) }
     {
-        let Some(count) = self.count.checked_add(values.len()) else {
-            return Err(AllocError);
-        };
+        let count = values.len();
+        if count == 0 {
+            return Ok(());
+        }
+        let more = add_more(self.more, count - 1)?;
         self.rows.reserve(1)?;
         self.lots.push(Lot::row(array, first))?;
         self.rows.push_reserved(Row { values });
-        self.count = count;
+        self.more = more;
         Ok(())
     }
 
@@ -165,18 +181,16 @@ impl Puts {
         ensures moved { OnOk result (others.new ≡ []) }
         ensures memory { OnErr result ((self.new ≡ self.old) × (others.new ≡ others.old)) }
     {
-        let Some(count) = self.count.checked_add(others.count) else {
-            return Err(AllocError);
-        };
+        let more = add_more(self.more, others.more)?;
         self.rows.reserve(others.rows.len())?;
         self.lots.append(&mut others.lots)?;
         match self.rows.append(&mut others.rows) {
             Ok(()) => {}
             Err(_) => unreachable!(),
         }
-        self.count = count;
+        self.more = more;
         self.sets = both(self.sets, others.sets);
-        others.count = 0;
+        others.more = 0;
         others.sets = true;
         Ok(())
     }
@@ -245,7 +259,7 @@ impl Puts {
             write_lots(arrays, &self.lots, &self.rows);
             return Ok(None);
         }
-        land_adds(arrays, &self.lots, &self.rows, self.count, olds)
+        land_adds(arrays, &self.lots, &self.rows, self.len(), olds)
     }
 
     /// Lands puts that don't add, one after another. A put to no cell is left out. It takes no memory.

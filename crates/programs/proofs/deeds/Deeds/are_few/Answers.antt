@@ -1,6 +1,5 @@
 use Rattle.std.proofs.Common.{◌≡◌, arith, ◌∙◌, sym, ap, length, refl}
 use Rattle.programs.specs.InPlace.{left_in}
-use Rattle.programs.specs.DeedsView.{stopped_by}
 use Rattle.programs.proofs.InPlace.{few_left}
 use Rattle.programs.proofs.Listed.{counts, few_stopped}
 use Rattle.programs.proofs.deeds.Deeds.are_few.Goals as goal
@@ -13,14 +12,13 @@ returns-then-fit g c =
 
 pub overflow_sub-stay : goal.overflow_sub-stay
 overflow_sub-stay g c =
-    let l = few_stopped c.deref.result.now in
-    let e = ap length c.deref.ensures.value in
-    omega (arith, l, e, c.count_stopped.ensures, c.len-count.ensures, c.self.inside.each.ok.0)
+    let l = few_stopped c.self.inside.each.items in
+    omega (arith, l, c.self.invariant.stopped, c.len-count.ensures, c.self.inside.each.ok.0)
 
 pub returns : goal.returns
 returns g c =
     let k = counts c.self.inside c.args.self.now c.self.invariant (sym c.self.view_is) in
-    let left : c.count_stopped.result ≡ left_in c.args.self.now = c.count_stopped.ensures ∙ ap stopped_by c.deref.ensures.value ∙ k.stopped in
+    let left : c.self.inside.stopped ≡ left_in c.args.self.now = k.stopped in
     let l = few_left c.args.self.now in (
       λ yes. let few = c.fit-2.ensures.0 yes in
           omega (arith, few, left, l, k.count, k.spawned, c.len-count.ensures, c.len-spawned.ensures, c.self.inside.each.ok.0, c.self.inside.spawns.ok.0),

@@ -1,15 +1,13 @@
 use Rattle.std.proofs.Common.{◌≡◌, arith, ◌∙◌, sym, ap, length, ◌+◌}
 use Rattle.programs.specs.InPlace.{left_in, spawned_in}
 use Rattle.programs.proofs.Listed.{counts, few_stopped}
-use Rattle.programs.specs.DeedsView.{stopped_by}
 use Rattle.programs.proofs.deeds.Deeds.record.Goals as goal
 
 pub overflow_cast-left : goal.overflow_cast-left
 overflow_cast-left g c =
     let k = counts c.self.inside c.args.self.now c.self.invariant (sym c.self.view_is) in
-    let l = few_stopped c.deref.result.now in
-    let e = ap length c.deref.ensures.value in
-    omega (arith, k.count, l, e, c.requires, c.count_stopped-left.ensures)
+    let l = few_stopped c.self.inside.each.items in
+    omega (arith, k.count, l, c.self.invariant.stopped, c.requires)
 
 pub overflow_cast-count : goal.overflow_cast-count
 overflow_cast-count g c =
@@ -31,5 +29,5 @@ returns g c =
     let k = counts c.self.inside c.args.self.now c.self.invariant (sym c.self.view_is) in
     let count : c.len-count.result ≡ length c.args.self.now = omega (arith, c.len-count.ensures, k.count) in
     let spawned : c.len-spawned.result ≡ spawned_in c.args.self.now = omega (arith, c.len-spawned.ensures, k.spawned) in
-    let left : c.count_stopped-left.result ≡ left_in c.args.self.now = c.count_stopped-left.ensures ∙ ap stopped_by c.deref.ensures.value ∙ k.stopped in
+    let left : c.self.inside.stopped ≡ left_in c.args.self.now = k.stopped in
     λ i. record { phase = c.args.step; parties = count i + spawned i; left = left i; spawned = spawned i }
