@@ -50,7 +50,7 @@ fn room_for(changes: &[Change]) -> usize {
 }
 
 impl<E: Engine, J: Running, F: Fn(u32, u32) -> bool> Shared<E, J, F> {
-    ghost use Rattle.std.specs.Prelude.{◌≡◌, ◌<◌, IfOk, IfErr};
+    ghost use Rattle.std.specs.Prelude.{◌≡◌, ◌<◌, true, IfOk, IfErr};
     ghost use Rattle.advance_rule.specs.Stored.{Answers};
     ghost use Rattle.advance_rule.specs.Plan.{end_ends_at};
     ghost use Rattle.worker_pool.specs.Refusals.{IsOfWorkers};
@@ -108,9 +108,11 @@ impl<E: Engine, J: Running, F: Fn(u32, u32) -> bool> Shared<E, J, F> {
         rt: &R,
         held: HeldStretch<E::Stretch, J>,
         changes: &Changes,
-    ) -> Result<(), Reason> {
+    )
+        requires { E.Stretch.finished held ≡ true }
+    {
         let stay = matches!(changes, Changes::Same);
-        self.queue.lock(rt).deliver(held, stay)
+        self.queue.lock(rt).deliver(held, stay);
     }
 
     // Registers a spawned task, and arrives for it. There is room for it in `spawned`.
@@ -234,11 +236,7 @@ impl<E: Engine, J: Running, F: Fn(u32, u32) -> bool> Shared<E, J, F> {
         let mut passed = Vec::with_capacity(alloc, room_for(&changes))?;
         let mut changes = VecDeque::from_vec(changes);
         let mut spawned = Vec::new(alloc);
-        let mut rest = VecDeque::from_vec(mem::replace(participants, Vec::new(alloc)));
-        for _ in 0..rest.len() {
-            let Some(participant) = rest.pop_front() else {
-                return Err(Reason::Internal);
-            };
+        for participant in mem::replace(participants, Vec::new(alloc)) {
             let one_led = match changes.pop_front() {
                 Some(change) => self.pass(rt, participant, change, &mut spawned, &mut passed)?,
                 None => self.leave(rt, participant)?,

@@ -118,7 +118,8 @@ impl<J: Running, F: Fn(u32, u32) -> bool> WorkerTree<J, F> {
         path: Path,
         number: usize,
     ) -> Result<Participant<J>, Reason>
-        ensures { IfOk result (λ participant. participant.crew.view.tier ≡ leaf_at (leaves_of J.tree.key.shape) number) }
+        ensures leaf { IfOk result (λ participant. participant.crew.view.tier ≡ leaf_at (leaves_of J.tree.key.shape) number) }
+        ensures path { IfOk result (λ participant. participant.path ≡ path) }
     {
         let fresh = self.phaser.split(&mut own.door);
         match self.register(rt, fresh, self.leaves.tier(number)) {
