@@ -108,12 +108,7 @@ impl<E: Engine, J: Running> Queue<E, J> {
     ghost use Rattle.worker_pool.specs.declared.fault.Reason.TheVariants as reason;
 
     /// Makes a queue of this engine, the participants of whose stretches are in these groups. All of them are ready.
-    pub(crate) fn new(
-        alloc: Global,
-        engine: E,
-        passes: PassList,
-        ready: VecDeque<Group<J>>,
-    ) -> Self
+    pub(crate) fn new(alloc: Global, engine: E, passes: PassList, ready: VecDeque<Group<J>>) -> Self
         requires mark { E.mark engine ≡ J.mark }
         requires passes { (passes.name ≡ J.passes) × (passes.out ≡ []) }
         ensures { result ≡ record { engine = engine; first = None; ready = map (λ g. g.number) ready.items } }
