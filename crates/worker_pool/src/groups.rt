@@ -1,5 +1,5 @@
 //! Participants, grouped by the stretch of their tasks.
-ghost use Rattle.std.specs.Prelude.{◌≡◌, ◌∷◌, ◌++◌, [], ℕ, IfOk, OnOk, map, length};
+ghost use Rattle.std.specs.Prelude.{◌≡◌, ◌∷◌, ◌++◌, [], ℕ, IfOk, OnOk, OnErr, map, length};
 ghost use Rattle.worker_pool.specs.Grouping.{numbers_from, in_turn};
 
 use crate::engine::Engine;
@@ -72,7 +72,10 @@ pub(crate) fn list_group<J: Running>(
 pub(crate) fn push_group<J: Running>(
     groups: &mut VecDeque<Group<J>>,
     group: Group<J>,
-) -> Result<(), AllocError> {
+) -> Result<(), AllocError>
+    ensures pushed { OnOk result (groups.new.items ≡ groups.old.items ++ group ∷ []) }
+    ensures unchanged { OnErr result (groups.new.items ≡ groups.old.items) }
+{
     match groups.push_back(group) {
         Ok(()) => Ok(()),
         Err(_) => Err(AllocError),

@@ -95,7 +95,7 @@ impl<E: Engine, J: Running> Model for Queue<E, J> {
 
     ghost Value = { QueueValue E };
 
-    ghost view = { λ b. record { engine = b.engine; first = b.first; ready = map (λ g. g.number) b.ready.items } };
+    ghost view = { λ b. record { engine = b.engine; first = b.first; ready = map (λ g. g.number) b.ready.items; cut = b.is_cut } };
 
     ghost invariant = { λ b. (E.mark b.engine ≡ J.mark) × IfSome b.first (IsOfWorkers J.workers)
         × (b.passes.name ≡ J.passes) × AreOut (E.out b.engine) (E.step b.engine) b.passes.out };
@@ -103,7 +103,7 @@ impl<E: Engine, J: Running> Model for Queue<E, J> {
 
 impl<E: Engine, J: Running> Queue<E, J> {
     ghost use Rattle.std.specs.Prelude.{◌≡◌, [], None, Err, true, false, IfOk, IfSome, IfErr, OnOk, OnErr, map};
-    ghost use Rattle.worker_pool.specs.QueueValue.{with_engine, refused_by, is_over, is_idle};
+    ghost use Rattle.worker_pool.specs.QueueValue.{with_engine, refused_by, is_over, is_idle, AreAsCut, AreWith};
     ghost use Rattle.worker_pool.specs.Refusals.{IsOfWorkers, refusal_of};
     ghost use Rattle.worker_pool.specs.declared.fault.Reason.TheVariants as reason;
 
@@ -111,7 +111,7 @@ impl<E: Engine, J: Running> Queue<E, J> {
     pub(crate) fn new(alloc: Global, engine: E, passes: PassList, ready: VecDeque<Group<J>>) -> Self
         requires mark { E.mark engine ≡ J.mark }
         requires passes { (passes.name ≡ J.passes) × (passes.out ≡ []) }
-        ensures { result ≡ record { engine = engine; first = None; ready = map (λ g. g.number) ready.items } }
+        ensures { result ≡ record { engine = engine; first = None; ready = map (λ g. g.number) ready.items; cut = false } }
     {
         Queue {
             engine,
@@ -200,7 +200,8 @@ impl<E: Engine, J: Running> Queue<E, J> {
     // After the tasks were cut anew: pairs stretches up with their participants, once all participants are back. Returns
     // whether they are.
     fn pair_up(&mut self) -> Result<bool, Reason>
-        ensures { self.new ≡ record self.old { ready = self.new.ready } }
+        ensures same { self.new ≡ record self.old { ready = self.new.ready } }
+        ensures ready { AreAsCut (E.len self.old.engine) self.old.ready self.new.ready }
     {
         if self.coming_count < self.engine.count() {
             return Ok(false);
@@ -224,7 +225,9 @@ impl<E: Engine, J: Running> Queue<E, J> {
     // Takes back a group whose superstep was closed meanwhile. A group whose tasks have all left may come even later; nothing
     // waits for it. Returns whether a stretch became ready.
     fn take_back_late(&mut self, group: Group<J>) -> Result<bool, Reason>
-        ensures { self.new ≡ record self.old { ready = self.new.ready } }
+        ensures same { self.new ≡ record self.old { ready = self.new.ready } }
+        ensures cut { self.old.cut ≡ true → AreAsCut (E.len self.old.engine) self.old.ready self.new.ready }
+        ensures uncut { self.old.cut ≡ false → AreWith group.number self.old.ready self.new.ready }
     {
         if group.participants.is_empty() {
             return Ok(false);
@@ -253,7 +256,8 @@ impl<E: Engine, J: Running> Queue<E, J> {
 
     // Makes the next superstep's stretches ready, as far as their participants are back. Returns whether some are.
     fn open(&mut self) -> Result<bool, Reason>
-        ensures { self.new ≡ record self.old { ready = self.new.ready } }
+        ensures same { self.new ≡ record self.old { ready = self.new.ready } }
+        ensures cut { self.old.cut ≡ true → AreAsCut (E.len self.old.engine) self.old.ready self.new.ready }
     {
         if !self.is_cut {
             self.ready.append(&mut self.back)?;
