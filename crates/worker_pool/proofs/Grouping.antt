@@ -1,8 +1,8 @@
 -- Participants cut into groups, and start tasks in their order.
 use Rattle.std.specs.Prelude.{take, drop}
-use Rattle.std.proofs.Common.{◌≡◌, ℕ, zero, suc, ◌+◌, ◌-◌, ◌<◌, List, [], ◌∷◌, ◌++◌, map, length, refl, sym, ap, ◌∙◌, subst, arith, append_assoc}
+use Rattle.std.proofs.Common.{◌≡◌, ℕ, zero, suc, ◌+◌, ◌-◌, ◌<◌, List, [], ◌∷◌, ◌++◌, refl, sym, ap, ◌∙◌, arith, append_assoc}
 use Rattle.programs.specs.Meaning.{children}
-use Rattle.worker_pool.specs.Grouping.{numbers_from, in_turn}
+use Rattle.worker_pool.specs.Grouping.{numbers_from}
 
 -- a last one more
 pub children_more : (path : List ℕ) (begun n : ℕ) → children path begun (suc n) ≡ children path begun n ++ (path ++ (begun + n) ∷ []) ∷ []

@@ -1,6 +1,6 @@
 -- What is known of stretches that are out, as they go and come.
 use Rattle.std.specs.Prelude.{◌==◌, if◌then◌else◌, IfSome}
-use Rattle.std.proofs.Common.{◌≡◌, ◌≢◌, ◌⊎◌, ℕ, Bool, true, false, List, [], ◌∷◌, Option, Some, refl, sym, ap, ◌∙◌, subst, arith, ⊎_elim}
+use Rattle.std.proofs.Common.{◌≡◌, ◌≢◌, ℕ, Bool, true, false, List, [], ◌∷◌, Option, Some, refl, sym, ap, ◌∙◌, subst, arith, ⊎_elim}
 use Rattle.pass_list.specs.declared.rule.Ticket.{Ticket}
 use Rattle.pass_list.specs.Passed.{IsOut, without, ticket}
 use Rattle.worker_pool.specs.HandedOut.{Each, AreApart, AreOut}

@@ -1,6 +1,6 @@
 -- Which stretches of a program are out.
 use Rattle.std.specs.Prelude.{slice_get, slice_set, ◌&&◌, ◌==◌, IfOk, OnErr, MatchOption}
-use Rattle.std.proofs.Common.{◌≡◌, ◌≢◌, ℕ, zero, suc, ◌+◌, Bool, true, false, List, [], ◌∷◌, length, Option, Some, None, Result, Ok, Err, refl, sym, ap, ◌∙◌, subst}
+use Rattle.std.proofs.Common.{◌≡◌, ◌≢◌, ℕ, zero, suc, ◌+◌, Bool, true, false, List, [], ◌∷◌, length, Option, Some, None, Result, Ok, Err, refl, sym, ap, subst}
 use Rattle.program_stretches.specs.PartValue.{PartValue}
 use Rattle.program_stretches.specs.Parts.{covers, is_done}
 use Rattle.program_stretches.specs.StretchesValue.{StretchesValue, with_slot}

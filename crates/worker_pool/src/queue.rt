@@ -232,12 +232,12 @@ impl<E: Engine, J: Running> Queue<E, J> {
         if group.participants.is_empty() {
             return Ok(false);
         }
-        if !self.is_cut {
-            push_group(&mut self.ready, group)?;
-            return Ok(true);
+        if self.is_cut {
+            self.take_coming(group)?;
+            return self.pair_up();
         }
-        self.take_coming(group)?;
-        self.pair_up()
+        push_group(&mut self.ready, group)?;
+        Ok(true)
     }
 
     // Closes the superstep.

@@ -1,5 +1,5 @@
-use Rattle.std.proofs.Common.{◌≡◌, ◌∙◌, ◌-◌, ◌<◌, ◌++◌, ◌∷◌, List, map, length, sym, ap, arith, rules}
-use Rattle.worker_pool.specs.Grouping.{numbers_from, in_turn}
+use Rattle.std.proofs.Common.{◌≡◌, ◌∙◌, ◌-◌, ◌<◌, ◌++◌, ◌∷◌, map, length, ap, rules}
+use Rattle.worker_pool.specs.Grouping.{in_turn}
 use Rattle.worker_pool.proofs.Grouping.{one_before, cut_off}
 use Rattle.worker_pool.proofs.groups.groups_of.Goals as goal
 

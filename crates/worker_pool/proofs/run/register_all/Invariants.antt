@@ -1,4 +1,4 @@
-use Rattle.std.proofs.Common.{◌≡◌, ◌≤◌, [], map, length}
+use Rattle.std.proofs.Common.{◌≡◌, ◌≤◌, [], map}
 use Rattle.programs.specs.Meaning.{children}
 use Rattle.worker_pool.proofs.run.register_all.Given as goal
 

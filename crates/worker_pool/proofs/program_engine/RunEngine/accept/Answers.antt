@@ -1,4 +1,4 @@
-use Rattle.std.proofs.Common.{◌≡◌, ◌≢◌, ◌∙◌, true, ℕ, sym, ap, subst, slice_get}
+use Rattle.std.proofs.Common.{◌≡◌, ◌∙◌, true, sym, ap, subst, slice_get}
 use Rattle.program_stretches.specs.StretchesValue.{StretchesValue}
 use Rattle.worker_pool.specs.Leaving.{out_at}
 use Rattle.worker_pool.proofs.Slots.{out_still}

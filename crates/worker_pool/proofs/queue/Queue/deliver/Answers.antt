@@ -1,4 +1,4 @@
-use Rattle.std.proofs.Common.{sym, ◌∙◌, subst, arith}
+use Rattle.std.proofs.Common.{sym, ◌∙◌, subst}
 use Rattle.worker_pool.specs.HandedOut.{AreOut}
 use Rattle.worker_pool.proofs.HandedOut.{found, one_less, struck}
 use Rattle.worker_pool.proofs.queue.Queue.deliver.Goals as goal
