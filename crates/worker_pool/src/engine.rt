@@ -214,7 +214,8 @@ pub trait Engine: Drop {
         ensures others { (k : ℕ) → out self.old k ≡ true → out self.new k ≡ true }
         ensures step { step self.new ≡ step self.old }
         ensures mark { mark self.new ≡ mark self.old }
-        ensures unchanged { OnErr result (self.new ≡ self.old) };
+        ensures unchanged { OnErr result (self.new ≡ self.old) }
+        ensures ready { OnErr result (ready self.old number ≡ true) };
 
     /// Takes a stretch back whose segments have run.
     fn accept(&mut self, stretch: Self::Stretch)

@@ -144,6 +144,7 @@ impl<E: Engine, J: Running> Queue<E, J> {
     // Hands out the stretch of a group that was ready.
     fn hand_out(&mut self, group: Group<J>) -> Result<Next<E, J>, Reason>
         ensures internal { result ≡ Err reason.Internal → E.ready self.old.engine group.number ≡ false }
+        ensures memory { result ≡ Err reason.Memory → E.ready self.old.engine group.number ≡ true }
     {
         match self.engine.take(group.number) {
             Ok(Some(stretch)) => {
@@ -157,7 +158,8 @@ impl<E: Engine, J: Running> Queue<E, J> {
 
     /// Hands out the first ready stretch, or returns that the worker must stop. The worker needn't wait.
     pub(crate) fn next(&mut self) -> Result<Next<E, J>, Reason>
-        requires { is_idle E.ended self.old ≡ false }
+        requires idle { is_idle E.ended self.old ≡ false }
+        ensures running { OnErr result (is_over E.ended self.old ≡ false) }
     {
         if self.is_over() {
             return Ok(Next::Stop);
@@ -247,6 +249,7 @@ impl<E: Engine, J: Running> Queue<E, J> {
         ensures closed { IfOk result (λ closed. E.closes self.old.engine self.new.engine closed) }
         ensures first { self.new.first ≡ self.old.first }
         ensures internal { result ≡ Err reason.Internal → E.whole self.old.engine ≡ false }
+        ensures memory { result ≡ Err reason.Memory → E.whole self.old.engine ≡ true }
     {
         let closed = self.engine.close(alloc)?;
         self.is_cut = self.moves;
