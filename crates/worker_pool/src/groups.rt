@@ -1,5 +1,5 @@
 //! Participants, grouped by the stretch of their tasks.
-ghost use Rattle.std.specs.Prelude.{◌≡◌, ◌∷◌, ◌++◌, [], ℕ, IfOk, OnOk, OnErr, map, length};
+ghost use Rattle.std.specs.Prelude.{◌≡◌, ◌∷◌, ◌++◌, [], ℕ, IfOk, OnOk, OnErr, IsPermutation, map, length};
 ghost use Rattle.worker_pool.specs.Grouping.{numbers_from, in_turn};
 
 use crate::engine::Engine;
@@ -33,7 +33,9 @@ fn are_in_order<J: Running>(participants: &[Participant<J>]) -> bool {
 
 // Puts participants in path order. They mostly are: only a spawned task whose spawner has earlier ones that still live isn't in its
 // place.
-fn in_path_order<J: Running>(participants: &mut Vec<Participant<J>>) {
+fn in_path_order<J: Running>(participants: &mut Vec<Participant<J>>)
+    ensures { IsPermutation participants.old.items participants.new.items }
+{
     if are_in_order(participants) {
         return;
     }
