@@ -241,6 +241,7 @@ impl<'t, 'p, P: Program> Stretches<'t, 'p, P> {
             ((ready_at (slice_get self.old.parts number) ≡ false) × (self.new ≡ self.old))
             (λ stretch. IsTaken self.old self.new number stretch)) }
         ensures unchanged { OnErr result (self.new ≡ self.old) }
+        ensures ready { OnErr result (ready_at (slice_get self.old.parts number) ≡ true) }
     {
         if !self.is_ready(number) {
             return Ok(None);

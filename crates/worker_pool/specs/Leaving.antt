@@ -1,9 +1,10 @@
 -- The stretches of a program, as workers see any engine (own).
-use Rattle.std.specs.Prelude.{◌≡◌, ℕ, if◌then◌else◌, List, length, map, Option, None, slice_get}
+use Rattle.std.specs.Prelude.{◌≡◌, ℕ, if◌then◌else◌, Bool, true, false, List, length, map, Option, Some, None, slice_get}
 use Rattle.atomic_table.specs.Seated.{TableId}
 use Rattle.phase_records.specs.ReportValue.{ReportValue}
 use Rattle.program_stretches.specs.declared.fault.Outcome as outcomes
 use Rattle.program_stretches.specs.declared.fault.Outcome.TheVariants as outcome
+use Rattle.program_stretches.specs.PartValue.{PartValue}
 use Rattle.program_stretches.specs.Parts.{Reading}
 use Rattle.program_stretches.specs.StretchesValue.{StretchesValue, StretchValue}
 use Rattle.program_stretches.specs.Closing.{IsClosed, HasLeft}
@@ -26,6 +27,12 @@ module _ {Q S T : Type 0} where
   -- how closing a superstep leaves the run
   abbrev pub IsClosedBy : (Q → Reading S T) → StretchesValue Q S → StretchesValue Q S → closings.Closed → Type 0
   IsClosedBy m old new closed = (outcome : outcomes.Outcome) × (IsClosed m old new outcome × (closed ≡ closed_by outcome))
+
+-- a stretch that was taken
+abbrev pub out_at : {S : Type 0} → Option (Option (PartValue S)) → Bool
+out_at None = false
+out_at (Some None) = true
+out_at (Some (Some part)) = false
 
 module _ {Q S : Type 0} where
   -- how many of its tasks have run

@@ -4,3 +4,5 @@ pub mod JobPlan
 pub mod Refusals
 pub mod Changes
 pub mod Leaving
+pub mod HandedOut
+pub mod Grouping

@@ -1,5 +1,7 @@
 -- The numbers of refusals (own).
 use Rattle.std.specs.Prelude.{ℕ, ◌<◌}
+use Rattle.program_stretches.specs.declared.fault.Unclosed.{Unclosed}
+use Rattle.program_stretches.specs.declared.fault.Unclosed.TheVariants as unclosed
 use Rattle.worker_pool.specs.declared.fault.Refused.{Refused}
 use Rattle.worker_pool.specs.declared.fault.Refused.TheVariants.{Memory, NotStarted, Internal}
 use Rattle.worker_pool.specs.declared.fault.Reason.{Reason}
@@ -14,6 +16,11 @@ refusal_number Internal = 3
 abbrev pub refusal_of : Reason → Refused
 refusal_of reason.Memory = Memory
 refusal_of reason.Internal = Internal
+
+-- the reason to note if a superstep can't be closed
+abbrev pub closing_reason : Unclosed → Reason
+closing_reason unclosed.Missing = reason.Internal
+closing_reason (unclosed.Memory fault) = reason.Memory
 
 -- a worker that couldn't be started is one of `workers`, numbered from 0
 abbrev pub IsOfWorkers : ℕ → Refused → Type 0

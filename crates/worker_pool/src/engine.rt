@@ -6,7 +6,7 @@ use superstep_memory::path::Path;
 
 /// Consecutive live tasks of a superstep, in path order, which one worker holds while it runs their segments (own).
 pub trait Stretch: Drop {
-    ghost use Rattle.std.specs.Prelude.{◌≡◌, ◌<◌, ◌+◌, ◌↔◌, ℕ, Bool, IsTrue, List, Option, IfOk, OnOk, map, nat_le};
+    ghost use Rattle.std.specs.Prelude.{◌≡◌, ◌<◌, ◌+◌, ◌↔◌, ℕ, Bool, true, false, IsTrue, List, Option, IfOk, OnOk, map, nat_le};
     ghost use Rattle.std.specs.Option.{option_map};
     ghost use Rattle.programs.specs.Changes.{change_of};
     ghost use Rattle.atomic_table.specs.Seated.{TableId};
@@ -25,6 +25,9 @@ pub trait Stretch: Drop {
 
     /// How many of its tasks have done their segments.
     ghost done: { Self → ℕ };
+
+    /// Whether all its tasks have done their segments.
+    ghost finished: { Self → Bool };
 
     /// The path of the task whose segment is next.
     ghost next: { Self → Option (List ℕ) };
@@ -55,7 +58,8 @@ pub trait Stretch: Drop {
 
     /// Whether all its tasks have done their segments.
     fn is_finished(&self) -> bool
-        ensures { result ≡ nat_le (len self.now) (done self.now) };
+        ensures all { result ≡ finished self.now }
+        ensures left { finished self.now ≡ false → 0 < len self.now → done self.now < len self.now };
 
     /// The path of the task whose segment is next; `None` if all are done. It takes no memory.
     fn next_path(&self) -> Option<Path>
@@ -63,9 +67,11 @@ pub trait Stretch: Drop {
 
     /// Runs the segment of the next task. If memory runs out, the tasks are lost.
     fn do_next(&mut self, alloc: Global) -> Result<(), AllocError>
-        requires { done self.old < len self.old }
+        requires left { finished self.old ≡ false }
+        requires next { done self.old < len self.old }
         ensures run { OnOk result (runs_to (done self.old + 1) self.old self.new) }
         ensures done { OnOk result (done self.new ≡ done self.old + 1) }
+        ensures finished { OnOk result (finished self.new ≡ nat_le (len self.new) (done self.new)) }
         ensures len { OnOk result (len self.new ≡ len self.old) }
         ensures mark { mark self.new ≡ mark self.old }
         ensures number { number self.new ≡ number self.old }
@@ -73,9 +79,10 @@ pub trait Stretch: Drop {
 
     /// Runs the segments of all tasks that are left. If memory runs out, the tasks are lost.
     fn do_rest(&mut self, alloc: Global) -> Result<(), AllocError>
-        requires { done self.old < len self.old }
+        requires { finished self.old ≡ false }
         ensures run { OnOk result (runs_to (len self.old) self.old self.new) }
         ensures done { OnOk result (done self.new ≡ len self.old) }
+        ensures finished { OnOk result (finished self.new ≡ true) }
         ensures len { OnOk result (len self.new ≡ len self.old) }
         ensures mark { mark self.new ≡ mark self.old }
         ensures number { number self.new ≡ number self.old }
@@ -113,7 +120,8 @@ pub enum Closed {
 /// * If no task faulted, left or came in a superstep, the next one has the same stretches, by number and by task.
 /// * A run ends by a fault in [`Engine::close`], with no task left, or at its limit.
 pub trait Engine: Drop {
-    ghost use Rattle.std.specs.Prelude.{◌≡◌, ◌<◌, ◌+◌, ℕ, Bool, true, false, is_some, IfOk, IfSome, OnOk, OnErr, MatchOption};
+    ghost use Rattle.std.specs.Prelude.{◌≡◌, ◌≢◌, ◌<◌, ◌+◌, ◌⊎◌, ℕ, Bool, true, false, Err, is_some, IfOk, IfSome, OnOk, OnErr, MatchOption};
+    ghost use Rattle.worker_pool.specs.declared.fault.Reason.TheVariants as reason;
     ghost use Rattle.atomic_table.specs.Seated.{TableId};
     ghost use Rattle.worker_pool.specs.declared.engine.Closed.{Closed};
 
@@ -140,6 +148,9 @@ pub trait Engine: Drop {
 
     /// Whether the stretch of this number isn't out, and its tasks haven't done their segments.
     ghost ready: { Self → ℕ → Bool };
+
+    /// Whether the stretch of this number is out.
+    ghost out: { Self → ℕ → Bool };
 
     /// How many supersteps were taken.
     ghost step: { Self → ℕ };
@@ -197,23 +208,36 @@ pub trait Engine: Drop {
         ensures lent { IfOk result (λ taken. MatchOption taken
             ((ready self.old number ≡ false) × (self.new ≡ self.old))
             (λ stretch. lends self.old self.new number stretch)) }
-        ensures stretch { IfOk result (λ taken. IfSome taken (λ stretch. Self.Stretch.mark stretch ≡ mark self.old)) }
+        ensures stretch { IfOk result (λ taken. IfSome taken (λ stretch. (Self.Stretch.mark stretch ≡ mark self.old)
+            × (Self.Stretch.number stretch ≡ number) × (Self.Stretch.step stretch ≡ step self.old))) }
+        ensures out { IfOk result (λ taken. IfSome taken (λ stretch. (out self.old number ≡ false) × (out self.new number ≡ true))) }
+        ensures others { (k : ℕ) → out self.old k ≡ true → out self.new k ≡ true }
+        ensures step { step self.new ≡ step self.old }
         ensures mark { mark self.new ≡ mark self.old }
-        ensures unchanged { OnErr result (self.new ≡ self.old) };
+        ensures unchanged { OnErr result (self.new ≡ self.old) }
+        ensures ready { OnErr result (ready self.old number ≡ true) };
 
-    /// Takes a stretch back whose segments have run, or fails with `Internal` and changes nothing.
-    fn accept(&mut self, stretch: Self::Stretch) -> Result<(), Reason>
+    /// Takes a stretch back whose segments have run.
+    fn accept(&mut self, stretch: Self::Stretch)
         requires stretch { Self.Stretch.mark stretch ≡ mark self.old }
-        ensures taken { OnOk result (accepts self.old stretch) }
-        ensures added { OnOk result (self.new ≡ with_stretch self.old stretch) }
-        ensures mark { mark self.new ≡ mark self.old }
-        ensures unchanged { OnErr result (self.new ≡ self.old) };
+        requires step { Self.Stretch.step stretch ≡ step self.old }
+        requires finished { Self.Stretch.finished stretch ≡ true }
+        requires out { out self.old (Self.Stretch.number stretch) ≡ true }
+        ensures taken { accepts self.old stretch }
+        ensures added { self.new ≡ with_stretch self.old stretch }
+        ensures others { (k : ℕ) → out self.old k ≡ true → k ≢ Self.Stretch.number stretch → out self.new k ≡ true }
+        ensures step { step self.new ≡ step self.old }
+        ensures mark { mark self.new ≡ mark self.old };
 
     /// Takes one superstep, once each stretch is back. Fails with `Internal` if one is out, and with `Memory`, after which the run is
     /// given up.
     fn close(&mut self, alloc: Global) -> Result<Closed, Reason>
         requires running { ended self.old ≡ false }
         ensures whole { OnOk result (whole self.old ≡ true) }
+        ensures missing { result ≡ Err reason.Internal → (whole self.old ≡ false) × (self.new ≡ self.old) }
+        ensures memory { result ≡ Err reason.Memory → whole self.old ≡ true }
+        ensures refused { OnErr result ((self.new ≡ self.old) ⊎ (whole self.old ≡ true)) }
+        ensures back { whole self.old ≡ true → (k : ℕ) → out self.old k ≡ false }
         ensures closed { IfOk result (λ closed. closes self.old self.new closed) }
         ensures mark { mark self.new ≡ mark self.old }
         ensures kept { OnErr result (keeps self.old self.new) };

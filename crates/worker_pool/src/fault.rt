@@ -1,8 +1,8 @@
 //! Why a run gives no report.
 ghost use Rattle.std.specs.Prelude.{◌≡◌, ℕ};
-ghost use Rattle.worker_pool.specs.Refusals.{IsOfWorkers, refusal_number, refusal_of};
+ghost use Rattle.worker_pool.specs.Refusals.{IsOfWorkers, refusal_number, refusal_of, closing_reason};
 
-use program_stretches::{Unclosed, Unwanted};
+use program_stretches::Unclosed;
 use std::alloc::AllocError;
 use thiserror::Error;
 
@@ -71,21 +71,11 @@ impl From<AllocError> for Reason {
     }
 }
 
-/// The reason to note if a stretch isn't taken back. It never comes: one worker holds a stretch, and delivers it once,
-/// finished.
-pub(crate) fn reason_of_delivery(fault: Unwanted) -> Reason
-    ensures { result ≡ Reason.Internal }
-{
-    match fault {
-        Unwanted::WrongStep | Unwanted::Unfinished | Unwanted::Stranger | Unwanted::Double => {
-            Reason::Internal
-        }
-    }
-}
-
 /// The reason to note if a superstep can't be closed. Only memory can be the cause: once all tasks have arrived, each
 /// stretch was delivered.
-pub(crate) fn reason_of_closing(fault: Unclosed) -> Reason {
+pub(crate) fn reason_of_closing(fault: Unclosed) -> Reason
+    ensures { result ≡ closing_reason fault }
+{
     match fault {
         Unclosed::Missing => Reason::Internal,
         Unclosed::Memory(_) => Reason::Memory,

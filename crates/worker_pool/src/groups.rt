@@ -1,4 +1,7 @@
 //! Participants, grouped by the stretch of their tasks.
+ghost use Rattle.std.specs.Prelude.{◌≡◌, ◌∷◌, ◌++◌, [], ℕ, IfOk, OnOk, OnErr, IsPermutation, map, length};
+ghost use Rattle.worker_pool.specs.Grouping.{numbers_from, in_turn};
+
 use crate::engine::Engine;
 use crate::fault::Reason;
 use crate::participant::{Group, Participant};
@@ -30,7 +33,9 @@ fn are_in_order<J: Running>(participants: &[Participant<J>]) -> bool {
 
 // Puts participants in path order. They mostly are: only a spawned task whose spawner has earlier ones that still live isn't in its
 // place.
-fn in_path_order<J: Running>(participants: &mut Vec<Participant<J>>) {
+fn in_path_order<J: Running>(participants: &mut Vec<Participant<J>>)
+    ensures { IsPermutation participants.old.items participants.new.items }
+{
     if are_in_order(participants) {
         return;
     }
@@ -69,7 +74,10 @@ pub(crate) fn list_group<J: Running>(
 pub(crate) fn push_group<J: Running>(
     groups: &mut VecDeque<Group<J>>,
     group: Group<J>,
-) -> Result<(), AllocError> {
+) -> Result<(), AllocError>
+    ensures pushed { OnOk result (groups.new.items ≡ groups.old.items ++ group ∷ []) }
+    ensures unchanged { OnErr result (groups.new.items ≡ groups.old.items) }
+{
     match groups.push_back(group) {
         Ok(()) => Ok(()),
         Err(_) => Err(AllocError),
@@ -80,7 +88,9 @@ pub(crate) fn push_group<J: Running>(
 fn push_first<J: Running>(
     groups: &mut VecDeque<Group<J>>,
     group: Group<J>,
-) -> Result<(), AllocError> {
+) -> Result<(), AllocError>
+    ensures { OnOk result (groups.new.items ≡ group ∷ groups.old.items) }
+{
     match groups.push_front(group) {
         Ok(()) => Ok(()),
         Err(_) => Err(AllocError),
@@ -88,11 +98,15 @@ fn push_first<J: Running>(
 }
 
 /// Groups participants, which are in path order, by the stretches of their tasks. No worker holds a stretch. Takes all
-/// participants.
+/// participants that have a stretch, from the end on.
 pub(crate) fn groups_of<E: Engine, J: Running>(
     engine: &E,
     participants: &mut Vec<Participant<J>>,
-) -> Result<VecDeque<Group<J>>, Reason> {
+) -> Result<VecDeque<Group<J>>, Reason>
+    ensures order { IfOk result (λ groups. participants.new.items ++ in_turn (λ g. g.participants.items) groups.items ≡ participants.old.items) }
+    ensures numbers { IfOk result (λ groups. map (λ g. g.number) groups.items ≡ numbers_from 0 (E.len engine.now)) }
+    ensures sizes { IfOk result (λ groups. map (λ g. length g.participants.items) groups.items ≡ map (E.size engine.now) (numbers_from 0 (E.len engine.now))) }
+{
     let mut groups = VecDeque::new(*participants.allocator());
     let count = engine.len();
     for behind in 0..count {

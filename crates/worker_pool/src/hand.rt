@@ -1,31 +1,36 @@
 //! A stretch that a worker holds.
-ghost use Rattle.std.specs.Prelude.{◌≡◌, ◌+◌, ◌<◌, ◌≤◌, IfOk, OnOk};
+ghost use Rattle.std.specs.Prelude.{◌≡◌, ◌+◌, ◌<◌, ◌≤◌, true, false, nat_le, IfOk, OnOk};
 ghost use Rattle.worker_pool.specs.Changes.{Tells};
+ghost use Rattle.worker_pool.specs.HandedOut.{IsSame};
 
 use crate::engine::Stretch;
 use crate::fault::Reason;
 use crate::hooks::Gate;
 use crate::queue::Running;
+use pass_list::list::Pass;
 use programs::deeds::Change;
 use std::alloc::{AllocError, Global};
 use std::marker::{Model, PhantomData};
 use std::sync::Wait;
 
-/// A stretch that a worker holds. Its type keeps that it is of the engine that runs.
+/// A stretch that a worker holds, with the pass by which it comes back. Its type keeps that it is of the engine that runs, and that
+/// the pass is for it.
 #[derive(Drop)]
 pub(crate) struct HeldStretch<S: Stretch, J: Running> {
     stretch: S,
+    pass: Pass,
     of: PhantomData<J>,
 }
 
 impl<S: Stretch, J: Running> Model for HeldStretch<S, J> {
     ghost use Rattle.std.specs.Prelude.{◌≡◌};
+    ghost use Rattle.worker_pool.specs.HandedOut.{IsFor};
 
     ghost Value = { S };
 
     ghost view = { λ l. l.stretch };
 
-    ghost invariant = { λ l. S.mark l.stretch ≡ J.mark };
+    ghost invariant = { λ l. (S.mark l.stretch ≡ J.mark) × IsFor J.passes (S.step l.stretch) (S.number l.stretch) l.pass };
 }
 
 /// How the tasks of a stretch changed the list of live tasks.
@@ -39,11 +44,13 @@ pub(crate) enum Changes {
 
 // Runs the next segment of a stretch.
 fn do_one<S: Stretch>(alloc: Global, stretch: &mut S) -> Result<(), AllocError>
-    requires { S.done stretch.old < S.len stretch.old }
+    requires left { S.finished stretch.old ≡ false }
+    requires next { S.done stretch.old < S.len stretch.old }
     ensures run { OnOk result (S.runs_to (S.done stretch.old + 1) stretch.old stretch.new) }
     ensures done { OnOk result (S.done stretch.new ≡ S.done stretch.old + 1) }
     ensures len { OnOk result (S.len stretch.new ≡ S.len stretch.old) }
-    ensures mark { S.mark stretch.new ≡ S.mark stretch.old }
+    ensures finished { OnOk result (S.finished stretch.new ≡ nat_le (S.len stretch.new) (S.done stretch.new)) }
+    ensures same { IsSame (S.mark stretch.old) (S.number stretch.old) (S.step stretch.old) (S.mark stretch.new) (S.number stretch.new) (S.step stretch.new) }
 {
     stretch.do_next(alloc)
 }
@@ -55,11 +62,13 @@ fn do_gated<S: Stretch, R: Wait, G: Gate>(
     gate: &G,
     stretch: &mut S,
 ) -> Result<(), AllocError>
-    requires { S.done stretch.old < S.len stretch.old }
+    requires left { S.finished stretch.old ≡ false }
+    requires next { S.done stretch.old < S.len stretch.old }
     ensures run { OnOk result (S.runs_to (S.done stretch.old + 1) stretch.old stretch.new) }
     ensures done { OnOk result (S.done stretch.new ≡ S.done stretch.old + 1) }
     ensures len { OnOk result (S.len stretch.new ≡ S.len stretch.old) }
-    ensures mark { S.mark stretch.new ≡ S.mark stretch.old }
+    ensures finished { OnOk result (S.finished stretch.new ≡ nat_le (S.len stretch.new) (S.done stretch.new)) }
+    ensures same { IsSame (S.mark stretch.old) (S.number stretch.old) (S.step stretch.old) (S.mark stretch.new) (S.number stretch.new) (S.step stretch.new) }
 {
     let Some(path) = stretch.next_path() else {
         return do_one(alloc, stretch);
@@ -71,11 +80,29 @@ fn do_gated<S: Stretch, R: Wait, G: Gate>(
     done
 }
 
+// Runs the only segment of a stretch between the two calls of a gate.
+fn do_only<S: Stretch, R: Wait, G: Gate>(
+    rt: &R,
+    alloc: Global,
+    gate: &G,
+    stretch: &mut S,
+) -> Result<(), AllocError>
+    requires left { S.finished stretch.old ≡ false }
+    requires next { S.done stretch.old < S.len stretch.old }
+    requires only { S.len stretch.old ≡ 1 }
+    ensures done { OnOk result (S.len stretch.new ≤ S.done stretch.new) }
+    ensures finished { OnOk result (S.finished stretch.new ≡ true) }
+    ensures same { IsSame (S.mark stretch.old) (S.number stretch.old) (S.step stretch.old) (S.mark stretch.new) (S.number stretch.new) (S.step stretch.new) }
+{
+    do_gated(rt, alloc, gate, stretch)
+}
+
 // Runs all segments that are left, by one call.
 fn do_rest<S: Stretch>(alloc: Global, stretch: &mut S) -> Result<(), AllocError>
-    requires { S.done stretch.old < S.len stretch.old }
+    requires { S.finished stretch.old ≡ false }
     ensures done { OnOk result (S.len stretch.new ≤ S.done stretch.new) }
-    ensures mark { S.mark stretch.new ≡ S.mark stretch.old }
+    ensures finished { OnOk result (S.finished stretch.new ≡ true) }
+    ensures same { IsSame (S.mark stretch.old) (S.number stretch.old) (S.step stretch.old) (S.mark stretch.new) (S.number stretch.new) (S.step stretch.new) }
 {
     stretch.do_rest(alloc)
 }
@@ -89,32 +116,36 @@ fn do_all<S: Stretch, R: Wait, G: Gate>(
     gate: &G,
     stretch: &mut S,
 ) -> Result<(), AllocError>
-    ensures done { OnOk result (S.len stretch.new ≤ S.done stretch.new) }
-    ensures mark { S.mark stretch.new ≡ S.mark stretch.old }
+    ensures finished { OnOk result (S.finished stretch.new ≡ true) }
+    ensures same { IsSame (S.mark stretch.old) (S.number stretch.old) (S.step stretch.old) (S.mark stretch.new) (S.number stretch.new) (S.step stretch.new) }
 {
     if stretch.is_finished() {
         return Ok(());
     }
-    if gate.is_open() {
+    let count = stretch.len();
+    if gate.is_open() || count == 0 {
         return do_rest(alloc, stretch);
     }
-    if stretch.len() > 1 {
+    if count > 1 {
         return Err(AllocError);
     }
-    do_gated(rt, alloc, gate, stretch)
+    do_only(rt, alloc, gate, stretch)
 }
 
 impl<S: Stretch, J: Running> HeldStretch<S, J> {
-    ghost use Rattle.std.specs.Prelude.{◌≡◌, ◌≤◌, IfOk, OnOk};
+    ghost use Rattle.std.specs.Prelude.{◌≡◌, true, IfOk, OnOk};
     ghost use Rattle.worker_pool.specs.Changes.{Tells};
+    ghost use Rattle.worker_pool.specs.HandedOut.{IsFor};
 
-    /// Holds a stretch of the engine that runs.
-    pub(crate) fn new(stretch: S) -> Self
-        requires { S.mark stretch ≡ J.mark }
+    /// Holds a stretch of the engine that runs, with its pass.
+    pub(crate) fn new(stretch: S, pass: Pass) -> Self
+        requires mark { S.mark stretch ≡ J.mark }
+        requires pass { IsFor J.passes (S.step stretch) (S.number stretch) pass }
         ensures { result ≡ stretch }
     {
         HeldStretch {
             stretch,
+            pass,
             of: PhantomData,
         }
     }
@@ -134,7 +165,7 @@ impl<S: Stretch, J: Running> HeldStretch<S, J> {
         alloc: Global,
         gate: &G,
     ) -> Result<Changes, Reason>
-        ensures done { OnOk result (S.len self.new ≤ S.done self.new) }
+        ensures finished { OnOk result (S.finished self.new ≡ true) }
         ensures told { IfOk result (Tells (S.stays self.new) (S.faulted self.new) (S.told self.new)) }
     {
         gate.stretch(rt, self.stretch.step(), self.stretch.len());
@@ -144,12 +175,18 @@ impl<S: Stretch, J: Running> HeldStretch<S, J> {
         }
     }
 
-    /// Gives up the stretch.
-    pub(crate) fn into_stretch(self) -> S
-        ensures stretch { result ≡ self }
-        ensures mark { S.mark result ≡ J.mark }
+    /// The stretch and its pass.
+    pub(crate) fn into_parts(self) -> (S, Pass)
+        ensures stretch { result.0 ≡ self }
+        ensures mark { S.mark result.0 ≡ J.mark }
+        ensures pass { IsFor J.passes (S.step result.0) (S.number result.0) result.1 }
     {
-        self.stretch
+        let HeldStretch {
+            stretch,
+            pass,
+            of: _,
+        } = self;
+        (stretch, pass)
     }
 }
 

@@ -20,7 +20,8 @@ impl<J: Running> Participant<J> {
     /// Makes the participant of a task with this path and crew.
     pub(crate) fn new(path: Path, crew: Crew) -> Self
         requires { crew.tree ≡ J.tree }
-        ensures { result.crew ≡ crew }
+        ensures crew { result.crew ≡ crew }
+        ensures path { result.path ≡ path }
     {
         Participant {
             path,

@@ -1,7 +1,7 @@
 //! The stretches of a program as an engine.
 use crate::engine;
 use crate::engine::{Closed, Engine};
-use crate::fault::{Reason, reason_of_closing, reason_of_delivery};
+use crate::fault::{Reason, reason_of_closing};
 use program_stretches::{Left, Outcome, Stretch, Stretches};
 use programs::deeds::Change;
 use programs::program::{Program, TaskLoop};
@@ -39,6 +39,8 @@ impl<'p, P: TaskLoop> engine::Stretch for Taken<'p, P> {
 
     ghost done = { done_of };
 
+    ghost finished = { λ s. s.part.done };
+
     ghost next = { λ s. next_of P.Task.path_of s };
 
     ghost runs_to = { HasRunTo };
@@ -62,7 +64,7 @@ impl<'p, P: TaskLoop> engine::Stretch for Taken<'p, P> {
     }
 
     fn is_finished(&self) -> bool {
-        self.stretch.is_done() || self.stretch.len() == 0
+        self.stretch.is_done()
     }
 
     fn next_path(&self) -> Option<Path> {
@@ -127,7 +129,7 @@ impl<'t, 'p, P: TaskLoop> Engine for Run<'t, 'p, P> {
     ghost use Rattle.program_stretches.specs.Parts.{reading_of, covers};
     ghost use Rattle.program_stretches.specs.StretchesValue.{status_in, can_leave, ready_at, tasks_at, with_slot};
     ghost use Rattle.program_stretches.specs.Closing.{IsTaken, Accepts, IsSameRun};
-    ghost use Rattle.worker_pool.specs.Leaving.{Gives, IsClosedBy};
+    ghost use Rattle.worker_pool.specs.Leaving.{Gives, IsClosedBy, out_at};
 
     type Stretch = Taken<'p, P>;
 
@@ -144,6 +146,8 @@ impl<'t, 'p, P: TaskLoop> Engine for Run<'t, 'p, P> {
     ghost size = { λ v number. length (tasks_at (slice_get v.parts number)) };
 
     ghost ready = { λ v number. ready_at (slice_get v.parts number) };
+
+    ghost out = { λ v number. out_at (slice_get v.parts number) };
 
     ghost step = { λ v. v.step };
 
@@ -194,10 +198,10 @@ impl<'t, 'p, P: TaskLoop> Engine for Run<'t, 'p, P> {
         }
     }
 
-    fn accept(&mut self, stretch: Taken<'p, P>) -> Result<(), Reason> {
+    fn accept(&mut self, stretch: Taken<'p, P>) {
         match self.stretches.accept(stretch.stretch) {
-            Ok(()) => Ok(()),
-            Err(fault) => Err(reason_of_delivery(fault)),
+            Ok(()) => {}
+            Err(_) => unreachable!(),
         }
     }
 

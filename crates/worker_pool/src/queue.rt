@@ -1,5 +1,5 @@
 //! An engine as workers share it, and which of its stretches are ready.
-ghost use Rattle.std.specs.Prelude.{◌≡◌, ◌⊎◌, ℕ, true, IfOk, IfErr, OnOk, OnErr};
+ghost use Rattle.std.specs.Prelude.{◌≡◌, ◌⊎◌, [], ℕ, true, false, Err, IfOk, IfErr, OnOk, OnErr, map};
 ghost use Rattle.worker_pool.specs.Refusals.{IsOfWorkers};
 
 use crate::engine::{Closed, Engine};
@@ -7,12 +7,13 @@ use crate::fault::{Reason, Refused};
 use crate::groups::{groups_of, list_group, participants_of, push_group};
 use crate::hand::HeldStretch;
 use crate::participant::Group;
+use pass_list::list::PassList;
 use std::alloc::{AllocError, Global};
 use std::collections::VecDeque;
 use std::marker::{Brand, Model, PhantomData};
 
-/// What a run is of: the mark of its engine, the number of workers, and the tree at which they meet. Each run picks
-/// these.
+/// What a run is of: the mark of its engine, the number of workers, the tree at which they meet, and the list of the passes for its
+/// stretches. Each run picks these.
 pub trait Running {
     ghost use Rattle.std.specs.Prelude.{ℕ};
     ghost use Rattle.tier_table.specs.Holding.{Named};
@@ -23,6 +24,8 @@ pub trait Running {
     ghost workers: { ℕ };
 
     ghost tree: { Named };
+
+    ghost passes: { TableId };
 }
 
 impl Running for Brand {
@@ -36,13 +39,18 @@ impl Running for Brand {
       id = record { words = 0; slots = 0; views_name = 0; atom = 0; block = 0; offset = 0; slot_names = [] };
       key = record { shape = []; phase = 0; plan = record { when_empty = false; at = None } };
     } };
+
+    ghost passes = { record { words = 0; slots = 0; views_name = 0; atom = 0; block = 0; offset = 0; slot_names = [] } };
 }
 
 /// The engine that runs, the groups of its participants, and the first refusal. Its type keeps that the engine is of the
-/// run's mark, and that a worker that couldn't be started is one of the run's.
+/// run's mark, that a worker that couldn't be started is one of the run's, and that each pass that is out is for a stretch of this
+/// superstep that is out.
 #[derive(Drop)]
 pub(crate) struct Queue<E: Engine, J: Running> {
     engine: E,
+    // The passes for the stretches that workers hold.
+    passes: PassList,
     // The groups of stretches that are ready and that no worker has taken.
     ready: VecDeque<Group<J>>,
     // The groups of this superstep that are back from the tree. If all tasks stay, they are ready once it is closed.
@@ -80,29 +88,34 @@ pub(crate) enum HandedBack {
 }
 
 impl<E: Engine, J: Running> Model for Queue<E, J> {
-    ghost use Rattle.std.specs.Prelude.{◌≡◌, IfSome};
+    ghost use Rattle.std.specs.Prelude.{◌≡◌, IfSome, map};
     ghost use Rattle.worker_pool.specs.QueueValue.{QueueValue};
     ghost use Rattle.worker_pool.specs.Refusals.{IsOfWorkers};
+    ghost use Rattle.worker_pool.specs.HandedOut.{AreOut};
 
     ghost Value = { QueueValue E };
 
-    ghost view = { λ b. record { engine = b.engine; first = b.first } };
+    ghost view = { λ b. record { engine = b.engine; first = b.first; ready = map (λ g. g.number) b.ready.items; cut = b.is_cut } };
 
-    ghost invariant = { λ b. (E.mark b.engine ≡ J.mark) × IfSome b.first (IsOfWorkers J.workers) };
+    ghost invariant = { λ b. (E.mark b.engine ≡ J.mark) × IfSome b.first (IsOfWorkers J.workers)
+        × (b.passes.name ≡ J.passes) × AreOut (E.out b.engine) (E.step b.engine) b.passes.out };
 }
 
 impl<E: Engine, J: Running> Queue<E, J> {
-    ghost use Rattle.std.specs.Prelude.{◌≡◌, ◌||◌, None, Err, true, false, is_some, IfOk, IfSome, IfErr, OnOk, OnErr};
-    ghost use Rattle.worker_pool.specs.QueueValue.{with_engine, refused_by};
+    ghost use Rattle.std.specs.Prelude.{◌≡◌, [], None, Err, true, false, IfOk, IfSome, IfErr, OnOk, OnErr, map};
+    ghost use Rattle.worker_pool.specs.QueueValue.{with_engine, refused_by, is_over, is_idle, AreAsCut, AreWith};
     ghost use Rattle.worker_pool.specs.Refusals.{IsOfWorkers, refusal_of};
+    ghost use Rattle.worker_pool.specs.declared.fault.Reason.TheVariants as reason;
 
     /// Makes a queue of this engine, the participants of whose stretches are in these groups. All of them are ready.
-    pub(crate) fn new(alloc: Global, engine: E, ready: VecDeque<Group<J>>) -> Self
+    pub(crate) fn new(alloc: Global, engine: E, passes: PassList, ready: VecDeque<Group<J>>) -> Self
         requires mark { E.mark engine ≡ J.mark }
-        ensures { result ≡ record { engine = engine; first = None } }
+        requires passes { (passes.name ≡ J.passes) × (passes.out ≡ []) }
+        ensures { result ≡ record { engine = engine; first = None; ready = map (λ g. g.number) ready.items; cut = false } }
     {
         Queue {
             engine,
+            passes,
             ready,
             back: VecDeque::new(alloc),
             coming: Vec::new(alloc),
@@ -116,49 +129,57 @@ impl<E: Engine, J: Running> Queue<E, J> {
 
     /// Returns whether workers stop: the run has ended, or the run is refused.
     pub(crate) fn is_over(&self) -> bool
-        ensures { result ≡ (is_some self.now.first || E.ended self.now.engine) }
+        ensures { result ≡ is_over E.ended self.now }
     {
         self.first.is_some() || self.engine.has_ended()
     }
 
     /// Returns whether a worker has to wait: no stretch is ready, and workers don't stop.
-    pub(crate) fn is_idle(&self) -> bool {
+    pub(crate) fn is_idle(&self) -> bool
+        ensures { result ≡ is_idle E.ended self.now }
+    {
         self.ready.is_empty() && !self.is_over()
     }
 
     // Hands out the stretch of a group that was ready.
-    fn hand_out(&mut self, group: Group<J>) -> Result<Next<E, J>, Reason> {
+    fn hand_out(&mut self, group: Group<J>) -> Result<Next<E, J>, Reason>
+        ensures internal { result ≡ Err reason.Internal → E.ready self.old.engine group.number ≡ false }
+        ensures memory { result ≡ Err reason.Memory → E.ready self.old.engine group.number ≡ true }
+    {
         match self.engine.take(group.number) {
-            Ok(Some(stretch)) => Ok(Next::Run(HeldStretch::new(stretch), group)),
+            Ok(Some(stretch)) => {
+                let pass = self.passes.issue(self.engine.step(), group.number);
+                Ok(Next::Run(HeldStretch::new(stretch, pass), group))
+            }
             Ok(None) => Err(Reason::Internal),
             Err(_) => Err(Reason::Memory),
         }
     }
 
-    /// Hands out the first ready stretch, or returns that the worker must stop.
-    pub(crate) fn next(&mut self) -> Result<Next<E, J>, Reason> {
+    /// Hands out the first ready stretch, or returns that the worker must stop. The worker needn't wait.
+    pub(crate) fn next(&mut self) -> Result<Next<E, J>, Reason>
+        requires idle { is_idle E.ended self.old ≡ false }
+        ensures running { OnErr result (is_over E.ended self.old ≡ false) }
+    {
         if self.is_over() {
             return Ok(Next::Stop);
         }
         match self.ready.pop_front() {
             Some(group) => self.hand_out(group),
-            None => Err(Reason::Internal),
+            None => unreachable!(),
         }
     }
 
     /// Takes a stretch back whose segments have run. `stay` says whether each task goes on and none was spawned.
-    pub(crate) fn deliver(
-        &mut self,
-        held: HeldStretch<E::Stretch, J>,
-        stay: bool,
-    ) -> Result<(), Reason>
-        ensures taken { OnOk result (E.accepts self.old.engine held) }
-        ensures added { OnOk result (self.new ≡ with_engine self.old (E.with_stretch self.old.engine held)) }
-        ensures unchanged { OnErr result (self.new ≡ self.old) }
+    pub(crate) fn deliver(&mut self, held: HeldStretch<E::Stretch, J>, stay: bool)
+        requires { E.Stretch.finished held ≡ true }
+        ensures taken { E.accepts self.old.engine held }
+        ensures added { self.new ≡ with_engine self.old (E.with_stretch self.old.engine held) }
     {
-        self.engine.accept(held.into_stretch())?;
+        let (stretch, pass) = held.into_parts();
+        self.passes.redeem(pass);
+        self.engine.accept(stretch);
         self.moves = self.moves || !stay;
-        Ok(())
     }
 
     /// Notes why the run is refused. The first note stays.
@@ -181,7 +202,8 @@ impl<E: Engine, J: Running> Queue<E, J> {
     // After the tasks were cut anew: pairs stretches up with their participants, once all participants are back. Returns
     // whether they are.
     fn pair_up(&mut self) -> Result<bool, Reason>
-        ensures { self.new ≡ self.old }
+        ensures same { self.new ≡ record self.old { ready = self.new.ready } }
+        ensures ready { AreAsCut (E.len self.old.engine) self.old.ready self.new.ready }
     {
         if self.coming_count < self.engine.count() {
             return Ok(false);
@@ -205,26 +227,31 @@ impl<E: Engine, J: Running> Queue<E, J> {
     // Takes back a group whose superstep was closed meanwhile. A group whose tasks have all left may come even later; nothing
     // waits for it. Returns whether a stretch became ready.
     fn take_back_late(&mut self, group: Group<J>) -> Result<bool, Reason>
-        ensures { self.new ≡ self.old }
+        ensures same { self.new ≡ record self.old { ready = self.new.ready } }
+        ensures cut { self.old.cut ≡ true → AreAsCut (E.len self.old.engine) self.old.ready self.new.ready }
+        ensures uncut { self.old.cut ≡ false → AreWith group.number self.old.ready self.new.ready }
     {
         if group.participants.is_empty() {
             return Ok(false);
         }
-        if !self.is_cut {
-            push_group(&mut self.ready, group)?;
-            return Ok(true);
+        if self.is_cut {
+            self.take_coming(group)?;
+            return self.pair_up();
         }
-        self.take_coming(group)?;
-        self.pair_up()
+        push_group(&mut self.ready, group)?;
+        Ok(true)
     }
 
     // Closes the superstep.
     fn close(&mut self, alloc: Global) -> Result<Closed, Reason>
+        requires running { is_over E.ended self.old ≡ false }
         ensures whole { OnOk result (E.whole self.old.engine ≡ true) }
         ensures closed { IfOk result (λ closed. E.closes self.old.engine self.new.engine closed) }
         ensures first { self.new.first ≡ self.old.first }
+        ensures internal { result ≡ Err reason.Internal → E.whole self.old.engine ≡ false }
+        ensures memory { result ≡ Err reason.Memory → E.whole self.old.engine ≡ true }
     {
-        let closed = close_superstep(&mut self.engine, alloc)?;
+        let closed = self.engine.close(alloc)?;
         self.is_cut = self.moves;
         self.moves = false;
         Ok(closed)
@@ -232,7 +259,8 @@ impl<E: Engine, J: Running> Queue<E, J> {
 
     // Makes the next superstep's stretches ready, as far as their participants are back. Returns whether some are.
     fn open(&mut self) -> Result<bool, Reason>
-        ensures { self.new ≡ self.old }
+        ensures same { self.new ≡ record self.old { ready = self.new.ready } }
+        ensures cut { self.old.cut ≡ true → AreAsCut (E.len self.old.engine) self.old.ready self.new.ready }
     {
         if !self.is_cut {
             self.ready.append(&mut self.back)?;
@@ -247,7 +275,7 @@ impl<E: Engine, J: Running> Queue<E, J> {
     }
 
     /// Takes back the group of a stretch whose tasks have arrived or left in this superstep. If one of them advanced the
-    /// tree (`led`), closes the superstep.
+    /// tree (`led`), closes the superstep. If workers stop, nobody needs the group any more.
     pub(crate) fn hand_back(
         &mut self,
         alloc: Global,
@@ -255,8 +283,12 @@ impl<E: Engine, J: Running> Queue<E, J> {
         group: Group<J>,
         led: bool,
     ) -> Result<HandedBack, Reason>
-        ensures unled { led ≡ false → self.new ≡ self.old }
+        ensures unled { led ≡ false → self.new ≡ record self.old { ready = self.new.ready } }
+        ensures over { is_over E.ended self.old ≡ true → self.new ≡ self.old }
     {
+        if self.is_over() {
+            return Ok(HandedBack::Unchanged);
+        }
         if self.engine.step() != step {
             return after_late(self.take_back_late(group));
         }
@@ -306,17 +338,4 @@ fn outcome_by<E: Engine>(alloc: Global, engine: E) -> Result<E::Outcome, Refused
         Ok(None) => Err(Refused::Internal),
         Err(_) => Err(Refused::Memory),
     }
-}
-
-// Closes a superstep of a run that hasn't ended.
-fn close_superstep<E: Engine>(engine: &mut E, alloc: Global) -> Result<Closed, Reason>
-    ensures whole { OnOk result (E.whole engine.old ≡ true) }
-    ensures closed { IfOk result (λ closed. E.closes engine.old engine.new closed) }
-    ensures mark { E.mark engine.new ≡ E.mark engine.old }
-    ensures kept { OnErr result ((engine.new ≡ engine.old) ⊎ E.keeps engine.old engine.new) }
-{
-    if engine.has_ended() {
-        return Err(Reason::Internal);
-    }
-    engine.close(alloc)
 }

@@ -8,6 +8,7 @@ ghost use Rattle.tier_shape.specs.Preferred.{leaf_at};
 ghost use Rattle.tier_table.specs.Ruled.{IsNew};
 ghost use Rattle.worker_pool.specs.JobPlan.{limit_of, IsJobPlan};
 ghost use Rattle.worker_pool.specs.Refusals.{IsOfWorkers};
+ghost use Rattle.programs.specs.Meaning.{children};
 
 use crate::engine::Engine;
 use crate::fault::{Reason, Refused};
@@ -20,7 +21,8 @@ use crate::shared::Shared;
 use crate::start::{Setup, start_all};
 use crate::tree::WorkerTree;
 use advance_rule::{EndPlan, StoredAction, StoredAdvance};
-use cyclic_gate::{BarrierFault, CyclicGate};
+use cyclic_gate::CyclicGate;
+use pass_list::list::PassList;
 use smallvec::SmallVec;
 use std::alloc::{AllocError, Global};
 use std::collections::VecDeque;
@@ -37,16 +39,20 @@ use tier_table::tree::Tree;
 // About how many stretches each worker gets in a superstep.
 const STRETCHES_EACH: usize = 8;
 
+// The most start tasks: the path of each is a number of 16 bits.
+const MOST_STARTS: usize = 65536;
+
 // How often a worker looks for a ready stretch before it sleeps, or backs off for another worker: some 100
 // microseconds.
 const MOST_SPINS: u32 = 2000;
 
-// The tree at which workers meet, its first token, and its leaves.
+// The tree at which workers meet, its first token, and its leaves; and the list of the passes for stretches.
 #[derive(Drop)]
 struct Opening<F: Fn(u32, u32) -> bool> {
     tree: Tree<F>,
     door: Door,
     leaves: Vec<u16>,
+    passes: PassList,
 }
 
 // The barrier's action: it does nothing and never fails.
@@ -64,13 +70,26 @@ fn register_one<J: Running, R: Wait, F: Fn(u32, u32) -> bool>(
     path: Path,
     participants: &mut Vec<Participant<J>>,
 ) -> Result<(), Reason>
-    ensures { OnOk result (map (λ participant. participant.crew.view.tier) participants.new.items
+    ensures leaf { OnOk result (map (λ participant. participant.crew.view.tier) participants.new.items
         ≡ map (λ participant. participant.crew.view.tier) participants.old.items ++ leaf_at (leaves_of J.tree.key.shape) (length participants.old.items) ∷ []) }
+    ensures path { OnOk result (map (λ participant. participant.path.items) participants.new.items
+        ≡ map (λ participant. participant.path.items) participants.old.items ++ path.items ∷ []) }
 {
     let participant = tree.register_start(rt, own, path, participants.len())?;
     match participants.push(participant) {
         Ok(()) => Ok(()),
         Err(_) => Err(Reason::Memory),
+    }
+}
+
+// The start line of this number.
+fn line_of(number: usize) -> u16
+    requires { number < 65536 }
+    ensures { result ≡ number }
+{
+    match u16::try_from(number) {
+        Ok(line) => line,
+        Err(_) => unreachable!(),
     }
 }
 
@@ -83,12 +102,13 @@ fn register_all<E: Engine, J: Running, R: Wait, F: Fn(u32, u32) -> bool>(
     own: &mut OwnToken<J>,
     engine: &E,
     participants: &mut Vec<Participant<J>>,
-) -> Result<(), Reason> {
+) -> Result<(), Reason>
+    requires few { E.count engine.now ≤ 65536 }
+    requires none_yet { participants.old.items ≡ [] }
+    ensures paths { OnOk result (map (λ participant. participant.path.items) participants.new.items ≡ children [] 0 (E.count engine.now)) }
+{
     for number in 0..engine.count() {
-        let Ok(line) = u16::try_from(number) else {
-            return Err(Reason::Internal);
-        };
-        let path = SmallVec::from_slice(alloc, &[line])?;
+        let path = SmallVec::from_slice(alloc, &[line_of(number)])?;
         register_one(rt, tree, own, path, participants)?;
     }
     Ok(())
@@ -101,7 +121,9 @@ fn registered<E: Engine, J: Running, R: Wait, F: Fn(u32, u32) -> bool>(
     tree: &WorkerTree<J, F>,
     own: &mut OwnToken<J>,
     engine: &E,
-) -> Result<VecDeque<Group<J>>, Reason> {
+) -> Result<VecDeque<Group<J>>, Reason>
+    requires few { E.count engine.now ≤ 65536 }
+{
     let mut participants = Vec::new(alloc);
     register_all(rt, alloc, tree, own, engine, &mut participants)?;
     groups_of(engine, &mut participants)
@@ -111,15 +133,17 @@ fn registered<E: Engine, J: Running, R: Wait, F: Fn(u32, u32) -> bool>(
 fn shared_by<E: Engine, J: Running, F: Fn(u32, u32) -> bool>(
     alloc: Global,
     engine: E,
+    passes: PassList,
     tree: WorkerTree<J, F>,
     groups: VecDeque<Group<J>>,
     spins: u32,
 ) -> Shared<E, J, F>
     requires mark { E.mark engine ≡ J.mark }
+    requires passes { (passes.name ≡ J.passes) × (passes.out ≡ []) }
     ensures { result.tree ≡ tree }
 {
     Shared {
-        queue: Mutex::new(Queue::new(alloc, engine, groups)),
+        queue: Mutex::new(Queue::new(alloc, engine, passes, groups)),
         changed: Condvar::new(),
         wakeups: AtomicU64::new(0),
         passing: AtomicBool::new(false),
@@ -141,18 +165,21 @@ fn run_at<
     rt: &R,
     alloc: Global,
     engine: E,
+    passes: PassList,
     tree: WorkerTree<J, F>,
     door: Door,
-    barrier: &Result<CyclicGate<A>, BarrierFault>,
+    barrier: &CyclicGate<A>,
     setup: Setup<'_, G, S>,
 ) -> Result<E::Outcome, Refused>
 where
     E::Stretch: Send,
     requires mark { E.mark engine ≡ J.mark }
+    requires few { E.count engine ≤ 65536 }
+    requires passes { (passes.name ≡ J.passes) × (passes.out ≡ []) }
     requires workers { setup.workers ≡ J.workers }
     requires tree { door.tree ≡ J.tree }
     requires rule { Answers (F.pre tree.phaser.rule.closure) (F.post tree.phaser.rule.closure) (end_ends_at tree.phaser.rule.plan) }
-    requires action { IfOk barrier.now (λ barrier. AnswersAction (A.pre barrier.action.closure) (A.post barrier.action.closure) barrier.action.plan) }
+    requires action { AnswersAction (A.pre barrier.now.action.closure) (A.post barrier.now.action.closure) barrier.now.action.plan }
     ensures outcome { IfOk result (E.gives J.mark) }
     ensures started { IfErr result (IsOfWorkers setup.entry.workers) }
 {
@@ -162,12 +189,12 @@ where
         Err(reason) => (VecDeque::new(alloc), Some(reason)),
     };
     let spins = spins_of(rt, setup.workers);
-    let shared = shared_by(alloc, engine, tree, groups, spins);
+    let shared = shared_by(alloc, engine, passes, tree, groups, spins);
     start_registered(rt, alloc, &shared, &mut own, barrier, setup, fault);
     shared.conclude(alloc)
 }
 
-// Starts the workers if the start tasks were registered and there is a barrier. Otherwise notes why not.
+// Starts the workers if the start tasks were registered. Otherwise notes why not.
 fn start_registered<
     E: Engine + Send,
     J: Running + Send + Sync,
@@ -181,7 +208,7 @@ fn start_registered<
     alloc: Global,
     shared: &Shared<E, J, F>,
     own: &mut OwnToken<J>,
-    barrier: &Result<CyclicGate<A>, BarrierFault>,
+    barrier: &CyclicGate<A>,
     setup: Setup<'_, G, S>,
     fault: Option<Reason>,
 )
@@ -189,16 +216,26 @@ where
     E::Stretch: Send,
     requires workers { setup.workers ≡ J.workers }
     requires rule { Answers (F.pre shared.now.tree.phaser.rule.closure) (F.post shared.now.tree.phaser.rule.closure) (end_ends_at shared.now.tree.phaser.rule.plan) }
-    requires action { IfOk barrier.now (λ barrier. AnswersAction (A.pre barrier.action.closure) (A.post barrier.action.closure) barrier.action.plan) }
+    requires action { AnswersAction (A.pre barrier.now.action.closure) (A.post barrier.now.action.closure) barrier.now.action.plan }
 {
-    if let Some(reason) = fault {
-        shared.queue.lock(rt).note(reason);
-        return;
+    match fault {
+        Some(reason) => shared.queue.lock(rt).note(reason),
+        None => start_all(rt, alloc, shared, own, barrier, setup),
     }
-    match barrier {
-        Ok(barrier) => start_all(rt, alloc, shared, own, barrier, setup),
-        Err(BarrierFault::Memory) => shared.queue.lock(rt).note(Reason::Memory),
-        Err(_) => shared.queue.lock(rt).note(Reason::Internal),
+}
+
+// The barrier at which workers wait for each other before they begin.
+fn barrier_for<A: Fn(u64) -> bool + Drop>(
+    alloc: Global,
+    workers: u32,
+    action: StoredAction<A>,
+) -> CyclicGate<A>
+    requires { (1 ≤ workers) × (workers ≤ 64) }
+    ensures { result.action ≡ action }
+{
+    match CyclicGate::new(alloc, i64::from(workers), action) {
+        Ok(barrier) => barrier,
+        Err(_) => unreachable!(),
     }
 }
 
@@ -220,18 +257,25 @@ fn run_shared<
 where
     E::Stretch: Send,
     requires mark { E.mark engine ≡ J.mark }
-    requires workers { setup.workers ≡ J.workers }
+    requires few { E.count engine ≤ 65536 }
+    requires workers { (setup.workers ≡ J.workers) × (1 ≤ setup.workers) × (setup.workers ≤ 64) }
+    requires passes { (opening.passes.name ≡ J.passes) × (opening.passes.out ≡ []) }
     requires tree { (opening.tree.tree ≡ J.tree) × (opening.door.tree ≡ J.tree) }
     requires leaves { (opening.leaves.items ≡ leaves_of J.tree.key.shape) × (0 < length opening.leaves.items) }
     requires rule { Answers (F.pre opening.tree.rule.closure) (F.post opening.tree.rule.closure) (end_ends_at opening.tree.rule.plan) }
     ensures outcome { IfOk result (E.gives J.mark) }
     ensures started { IfErr result (IsOfWorkers setup.entry.workers) }
 {
-    let Opening { tree, door, leaves } = opening;
+    let Opening {
+        tree,
+        door,
+        leaves,
+        passes,
+    } = opening;
     let tree = WorkerTree::<J, F>::new(tree, Leaves::new(leaves));
     let action = StoredAction::new(do_nothing, None);
-    let barrier = CyclicGate::new(alloc, i64::from(setup.workers), action);
-    run_at(rt, alloc, engine, tree, door, &barrier, setup)
+    let barrier = barrier_for(alloc, setup.workers, action);
+    run_at(rt, alloc, engine, passes, tree, door, &barrier, setup)
 }
 
 /// Runs `engine` on `workers` threads that synchronize at a tree of phasers of this `shape`, superstep by superstep
@@ -275,6 +319,9 @@ where
         gate,
         starter,
     };
+    if engine.count() > MOST_STARTS {
+        return Err(Refused::Internal);
+    }
     match opening_of(alloc, shape, advance) {
         Ok(opening) => run_shared::<E, Brand, R, F, G, S>(rt, alloc, engine, opening, setup),
         Err(_) => Err(Refused::Memory),
@@ -290,10 +337,17 @@ fn opening_of<F: Fn(u32, u32) -> bool + Drop>(
     requires plan { IsJobPlan advance.plan }
     ensures tree { IfOk result (λ o. IsNew shape 0 advance o.tree o.door) }
     ensures leaves { IfOk result (λ o. (o.leaves.items ≡ leaves_of shape) × (0 < length o.leaves.items)) }
+    ensures passes { IfOk result (λ o. o.passes.out ≡ []) }
 {
     let leaves = leaves_in(alloc, &shape)?;
+    let passes = PassList::new(alloc)?;
     let (tree, door) = Tree::new(alloc, shape, 0, advance)?;
-    Ok(Opening { tree, door, leaves })
+    Ok(Opening {
+        tree,
+        door,
+        leaves,
+        passes,
+    })
 }
 
 /// About how many stretches an engine should cut its live tasks into for a run on `workers` threads: some for each

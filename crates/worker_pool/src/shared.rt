@@ -1,4 +1,7 @@
 //! What the workers of a run share.
+ghost use Rattle.std.specs.Prelude.{◌≡◌, ◌++◌, ◌∷◌, [], IfErr, OnOk};
+ghost use Rattle.worker_pool.specs.declared.fault.Reason.TheVariants as reason;
+
 use crate::engine::Engine;
 use crate::fault::{Reason, Refused};
 use crate::hand::{Changes, HeldStretch};
@@ -33,7 +36,10 @@ pub(crate) struct Shared<E: Engine, J: Running, F: Fn(u32, u32) -> bool> {
 fn list_participant<J: Running>(
     participants: &mut Vec<Participant<J>>,
     participant: Participant<J>,
-) -> Result<(), Reason> {
+) -> Result<(), Reason>
+    ensures listed { OnOk result (participants.new.items ≡ participants.old.items ++ participant ∷ []) }
+    ensures memory { IfErr result (λ fault. fault ≡ reason.Memory) }
+{
     match participants.push(participant) {
         Ok(()) => Ok(()),
         Err(_) => Err(Reason::Memory),
@@ -50,7 +56,8 @@ fn room_for(changes: &[Change]) -> usize {
 }
 
 impl<E: Engine, J: Running, F: Fn(u32, u32) -> bool> Shared<E, J, F> {
-    ghost use Rattle.std.specs.Prelude.{◌≡◌, ◌<◌, IfOk, IfErr};
+    ghost use Rattle.std.specs.Prelude.{◌≡◌, ◌<◌, ◌++◌, ◌∷◌, [], true, IfOk, IfErr, OnOk, map};
+    ghost use Rattle.worker_pool.specs.declared.fault.Reason.TheVariants as reason;
     ghost use Rattle.advance_rule.specs.Stored.{Answers};
     ghost use Rattle.advance_rule.specs.Plan.{end_ends_at};
     ghost use Rattle.worker_pool.specs.Refusals.{IsOfWorkers};
@@ -108,9 +115,11 @@ impl<E: Engine, J: Running, F: Fn(u32, u32) -> bool> Shared<E, J, F> {
         rt: &R,
         held: HeldStretch<E::Stretch, J>,
         changes: &Changes,
-    ) -> Result<(), Reason> {
+    )
+        requires { E.Stretch.finished held ≡ true }
+    {
         let stay = matches!(changes, Changes::Same);
-        self.queue.lock(rt).deliver(held, stay)
+        self.queue.lock(rt).deliver(held, stay);
     }
 
     // Registers a spawned task, and arrives for it. There is room for it in `spawned`.
@@ -124,6 +133,7 @@ impl<E: Engine, J: Running, F: Fn(u32, u32) -> bool> Shared<E, J, F> {
         requires rule { Answers (F.pre self.now.tree.phaser.rule.closure) (F.post self.now.tree.phaser.rule.closure) (end_ends_at self.now.tree.phaser.rule.plan) }
         requires unarrived { participant.old.crew.view.arrived < participant.old.crew.view.size }
         ensures same { participant.new.crew.view.arrived < participant.new.crew.view.size }
+        ensures path { participant.new.path ≡ participant.old.path }
     {
         let mut child = self.tree.register_spawned(rt, &mut participant.crew, path)?;
         let _led = self.tree.arrive(rt, &mut child.crew)?;
@@ -204,6 +214,15 @@ impl<E: Engine, J: Running, F: Fn(u32, u32) -> bool> Shared<E, J, F> {
         Ok(led)
     }
 
+    // Arrives for a task that stays alive. Returns true if that advanced the tree.
+    fn arrive_one<R: Wait>(&self, rt: &R, participant: &mut Participant<J>) -> Result<bool, Reason>
+        requires rule { Answers (F.pre self.now.tree.phaser.rule.closure) (F.post self.now.tree.phaser.rule.closure) (end_ends_at self.now.tree.phaser.rule.plan) }
+        ensures same { participant.new.path ≡ participant.old.path }
+        ensures internal { IfErr result (λ fault. fault ≡ reason.Internal) }
+    {
+        self.tree.arrive(rt, &mut participant.crew)
+    }
+
     // Arrives for each task of a group. All of them stay alive. Returns true if one of them advanced the tree.
     fn arrive_each<R: Wait>(
         &self,
@@ -211,10 +230,14 @@ impl<E: Engine, J: Running, F: Fn(u32, u32) -> bool> Shared<E, J, F> {
         participants: &mut Vec<Participant<J>>,
     ) -> Result<bool, Reason>
         requires rule { Answers (F.pre self.now.tree.phaser.rule.closure) (F.post self.now.tree.phaser.rule.closure) (end_ends_at self.now.tree.phaser.rule.plan) }
+        ensures same { OnOk result (map (λ participant. participant.path) participants.new.items ≡ map (λ participant. participant.path) participants.old.items) }
+        ensures internal { IfErr result (λ fault. fault ≡ reason.Internal) }
     {
         let mut led = false;
-        for participant in participants.iter_mut() {
-            led = self.tree.arrive(rt, &mut participant.crew)? || led;
+        let mut place = 0;
+        while place < participants.len() {
+            led = self.arrive_one(rt, &mut participants[place])? || led;
+            place += 1;
         }
         Ok(led)
     }
@@ -234,11 +257,7 @@ impl<E: Engine, J: Running, F: Fn(u32, u32) -> bool> Shared<E, J, F> {
         let mut passed = Vec::with_capacity(alloc, room_for(&changes))?;
         let mut changes = VecDeque::from_vec(changes);
         let mut spawned = Vec::new(alloc);
-        let mut rest = VecDeque::from_vec(mem::replace(participants, Vec::new(alloc)));
-        for _ in 0..rest.len() {
-            let Some(participant) = rest.pop_front() else {
-                return Err(Reason::Internal);
-            };
+        for participant in mem::replace(participants, Vec::new(alloc)) {
             let one_led = match changes.pop_front() {
                 Some(change) => self.pass(rt, participant, change, &mut spawned, &mut passed)?,
                 None => self.leave(rt, participant)?,

@@ -34,13 +34,14 @@ enum Entry {
 }
 
 impl<J: Running, F: Fn(u32, u32) -> bool> WorkerTree<J, F> {
-    ghost use Rattle.std.specs.Prelude.{◌≡◌, ◌<◌, true, is_some, IfOk, IfSome, OnOk, length};
+    ghost use Rattle.std.specs.Prelude.{◌≡◌, ◌<◌, true, is_some, IfOk, IfErr, IfSome, OnOk, length};
     ghost use Rattle.advance_rule.specs.Stored.{Answers};
     ghost use Rattle.advance_rule.specs.Plan.{end_ends_at};
     ghost use Rattle.tier_shape.specs.Leaves.{leaves_of};
     ghost use Rattle.tier_table.specs.Openings.{asked_tier};
     ghost use Rattle.tier_shape.specs.Preferred.{leaf_at};
     ghost use Rattle.worker_pool.specs.Entries.{IsOf, IsAtLeaf};
+    ghost use Rattle.worker_pool.specs.declared.fault.Reason.TheVariants as reason;
     ghost use Rattle.tier_table.specs.Arrives.{HasPassed};
     ghost use Rattle.tier_steps.specs.declared.view.Passage.TheVariants.{Arrival};
 
@@ -96,6 +97,7 @@ impl<J: Running, F: Fn(u32, u32) -> bool> WorkerTree<J, F> {
         requires unarrived { crew.old.view.arrived < crew.old.view.size }
         ensures same { (crew.new.tree ≡ J.tree) × (crew.new.view.arrived < crew.new.view.size) × (crew.new.view.tier ≡ crew.old.view.tier) }
         ensures joined { IfOk result (λ child. (child.tree ≡ J.tree) × (child.view.tier ≡ crew.old.view.tier)) }
+        ensures internal { IfErr result (λ fault. fault ≡ reason.Internal) }
     {
         for _ in rt.forever() {
             match self.phaser.join_here(crew, door, 1, TRIES) {
@@ -118,7 +120,9 @@ impl<J: Running, F: Fn(u32, u32) -> bool> WorkerTree<J, F> {
         path: Path,
         number: usize,
     ) -> Result<Participant<J>, Reason>
-        ensures { IfOk result (λ participant. participant.crew.view.tier ≡ leaf_at (leaves_of J.tree.key.shape) number) }
+        ensures leaf { IfOk result (λ participant. participant.crew.view.tier ≡ leaf_at (leaves_of J.tree.key.shape) number) }
+        ensures path { IfOk result (λ participant. participant.path ≡ path) }
+        ensures internal { IfErr result (λ fault. fault ≡ reason.Internal) }
     {
         let fresh = self.phaser.split(&mut own.door);
         match self.register(rt, fresh, self.leaves.tier(number)) {
@@ -139,6 +143,8 @@ impl<J: Running, F: Fn(u32, u32) -> bool> WorkerTree<J, F> {
         requires unarrived { crew.old.view.arrived < crew.old.view.size }
         ensures same { (crew.new.tree ≡ J.tree) × (crew.new.view.arrived < crew.new.view.size) × (crew.new.view.tier ≡ crew.old.view.tier) }
         ensures leaf { IfOk result (λ participant. IsAtLeaf (leaves_of J.tree.key.shape) crew.old.view.tier path.items participant.crew.view.tier) }
+        ensures path { IfOk result (λ participant. participant.path ≡ path) }
+        ensures internal { IfErr result (λ fault. fault ≡ reason.Internal) }
     {
         let fresh = self.phaser.split_crew(crew);
         let tier = self.leaves.preferred(crew.tier(), path.as_slice());
@@ -161,6 +167,7 @@ impl<J: Running, F: Fn(u32, u32) -> bool> WorkerTree<J, F> {
         requires { crew.old.tree ≡ J.tree }
         ensures same { crew.new.tree ≡ J.tree }
         ensures unarrived { OnOk result (crew.new.view.arrived < crew.new.view.size) }
+        ensures internal { IfErr result (λ fault. fault ≡ reason.Internal) }
     {
         let _polled = self.phaser.poll(crew);
         if crew.unarrived() == 0 {
@@ -175,6 +182,7 @@ impl<J: Running, F: Fn(u32, u32) -> bool> WorkerTree<J, F> {
         requires rule { Answers (F.pre self.now.phaser.rule.closure) (F.post self.now.phaser.rule.closure) (end_ends_at self.now.phaser.rule.plan) }
         ensures same { crew.new.tree ≡ J.tree }
         ensures passed { IfOk result (λ led. (led ≡ crew.new.view.led) × HasPassed Arrival crew.old.view crew.new.view) }
+        ensures internal { IfErr result (λ fault. fault ≡ reason.Internal) }
     {
         match self.phaser.arrive_in_place(rt, crew) {
             ArrivedInPlace::Done { phase: _, led } => Ok(led),
@@ -187,6 +195,7 @@ impl<J: Running, F: Fn(u32, u32) -> bool> WorkerTree<J, F> {
     pub(crate) fn leave<R: Wait>(&self, rt: &R, crew: Crew) -> Result<bool, Reason>
         requires own { crew.tree ≡ J.tree }
         requires rule { Answers (F.pre self.now.phaser.rule.closure) (F.post self.now.phaser.rule.closure) (end_ends_at self.now.phaser.rule.plan) }
+        ensures internal { IfErr result (λ fault. fault ≡ reason.Internal) }
     {
         match self.phaser.leave_wait(rt, crew) {
             ArrivedAtLast::Left(_door, _phase, led) => Ok(led),

@@ -64,6 +64,6 @@ fn do_stretch<E: Engine, J: Running, R: Wait, F: Fn(u32, u32) -> bool, G: Gate>(
 {
     let step = held.step();
     let changes = held.run(rt, alloc, gate)?;
-    shared.deliver(rt, held, &changes)?;
+    shared.deliver(rt, held, &changes);
     shared.pass_all(rt, alloc, own, step, group, changes)
 }

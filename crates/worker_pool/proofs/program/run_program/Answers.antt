@@ -1,8 +1,7 @@
-use Rattle.std.proofs.Common.{◌≡◌, ◌∙◌, ℕ, List, Result, Ok, Err, map, ap, sym, subst}
+use Rattle.std.proofs.Common.{◌≡◌, ◌∙◌, ℕ, List, Result, Ok, Err, map, ap, subst}
 use Rattle.std.specs.Prelude.{ℤ, IfOk}
 use Rattle.programs.specs.History.{HasRun}
 use Rattle.program_stretches.specs.Opening.{live_of}
-use Rattle.program_stretches.specs.Closing.{IsBegun}
 use Rattle.worker_pool.specs.JobPlan.{limit_of}
 use Rattle.worker_pool.proofs.program.run_program.Goals as goal
 

@@ -1,0 +1,64 @@
+//! The rule of the word under a list of passes, and what each step on it says.
+ghost use Rattle.std.specs.Prelude.{[], None};
+ghost use Rattle.pass_list.specs.Passed.{IsKept, Issues as HasIssued, Redeems as HasRedeemed, passed_on, with_none, receiving};
+
+use atomic_table::{Join, Play, Split, TableRule};
+use std::collections::LinkedList;
+
+/// What a pass is for: a step and a number. Each pass of a list has its key.
+pub struct Ticket {
+    pub key: u64,
+    pub step: u64,
+    pub number: u64,
+}
+
+/// What a seat knows. Only contracts use it: no value of this type is made.
+pub struct Known {
+    /// The tickets of the passes that are out.
+    pub out: LinkedList<Ticket>,
+    /// The ticket that it has.
+    pub held: Option<Ticket>,
+    /// The key of the next pass.
+    pub next: u64,
+}
+
+/// The ticket of each seat is among those that the first seat knows.
+pub struct Rule;
+
+impl TableRule<u64, Known, ()> for Rule {
+    ghost holds = { λ k s. IsKept s };
+
+    ghost first = { λ k. record { out = []; held = None; next = 0 } };
+}
+
+/// The first seat writes a ticket.
+pub struct Issues;
+
+impl Play<u64, Known> for Issues {
+    ghost then = { λ step me n next. HasIssued step.first step.second me next };
+}
+
+/// The first seat looks its ticket up, and strikes it out.
+pub struct Redeems;
+
+impl Play<u64, Known> for Redeems {
+    ghost then = { λ step me n next. HasRedeemed me next };
+}
+
+/// Splits off a seat that has the ticket.
+pub struct Gives;
+
+impl Split<Known> for Gives {
+    ghost left = { with_none };
+
+    ghost right = { passed_on };
+}
+
+/// Takes the ticket of another seat.
+pub struct Receives;
+
+impl Join<Known> for Receives {
+    ghost both = { receiving };
+
+    ghost spent = { record { out = []; held = None; next = 0 } };
+}
