@@ -1,8 +1,8 @@
 //! Names of arrays, bodies, locals and cells.
-ghost use Rattle.std.specs.Prelude.{◌≡◌, ◌++◌, OnOk, map, string_bytes};
+ghost use Rattle.std.specs.Prelude.{◌≡◌, ◌++◌, OnOk, map, string_bytes, codes};
 ghost use Rattle.job_words.specs.Words.{name_at, index_word};
 
-use crate::pieces::{push_field, push_text};
+use crate::pieces::{push_number, push_text};
 use std::alloc::AllocError;
 use superstep_memory::arrays::Arrays;
 use task_code::body::Body;
@@ -55,7 +55,7 @@ pub(crate) fn push_index(
     ensures { OnOk result (out.new.items ≡ out.old.items ++ index_word (map string_bytes locals.now) index) }
 {
     match index {
-        Index::Number(n) => push_field(out, b"", n),
+        Index::Number(n) => push_number(out, n),
         Index::Local(local) => push_local(out, locals, usize::from(local)),
         Index::Arg => push_text(out, b"arg"),
         Index::Step => push_text(out, b"step"),
@@ -68,7 +68,10 @@ pub(crate) fn push_cell(
     arrays: &Arrays,
     locals: &[String],
     cell: Cell,
-) -> Result<(), AllocError> {
+) -> Result<(), AllocError>
+    ensures { OnOk result (out.new.items ≡ out.old.items
+        ++ (name_at (map (λ a. a.0) arrays.now) cell.array ++ codes "[" ++ index_word (map string_bytes locals.now) cell.index ++ codes "]")) }
+{
     push_array_name(out, arrays, usize::from(cell.array))?;
     push_text(out, b"[")?;
     push_index(out, locals, cell.index)?;

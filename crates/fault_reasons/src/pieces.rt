@@ -18,3 +18,10 @@ pub(crate) fn push_field<I: Integer>(out: &mut Vec<u8>, name: &[u8], n: I) -> Re
     out.extend_from_slice(name)?;
     out.extend_from_slice(Buffer::new().format(n).as_bytes())
 }
+
+/// Appends a number.
+pub(crate) fn push_number<I: Integer>(out: &mut Vec<u8>, n: I) -> Result<(), AllocError>
+    ensures { OnOk result (out.new.items ≡ out.old.items ++ I.text n) }
+{
+    out.extend_from_slice(Buffer::new().format(n).as_bytes())
+}

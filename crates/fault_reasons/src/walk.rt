@@ -1,8 +1,16 @@
 //! Where a segment ends, and what it did up to there: line by line, by what each line says.
+ghost use Rattle.std.specs.Prelude.{◌≡◌, ◌≤◌, Some, IfOk, length, slice_get};
+ghost use Rattle.task_code.specs.Reading.{IsMatched};
+ghost use Rattle.task_lang.specs.Meaning.{value_of as value_in};
+ghost use Rattle.task_lang.specs.Views.{setting};
+ghost use Rattle.fault_reasons.specs.Walk.{acted, costing, free_to as free_to_of, moved, moved_at, spent as spent_at, statement_count, tested, walked, with_local, with_put, with_spawn};
+
 use crate::values::{index_value, value_of};
-use std::alloc::{AllocError, Global};
+use std::alloc::AllocError;
+use std::marker::Model;
 use superstep_memory::arrays::{Put, PutKind};
 use task_code::code::{Action, Cell, Expr, Line};
+use task_code::operation::line_at;
 use task_lang::fault::Fault;
 use task_lang::scene::{Effect, Move, Scene};
 use task_lang::segment::BUDGET;
@@ -12,7 +20,15 @@ use task_lang::segment::BUDGET;
 pub(crate) struct Doing {
     pub(crate) locals: Vec<i64>,
     pub(crate) puts: Vec<Put>,
-    pub(crate) spawned: usize,
+    pub(crate) spawned: u8,
+}
+
+impl Model for Doing {
+    ghost use Rattle.fault_reasons.specs.Done.{Done};
+
+    ghost Value = { Done };
+
+    ghost view = { λ d. record { locals = d.locals.items; puts = d.puts.items; spawned = d.spawned } };
 }
 
 /// How a segment ends.
@@ -33,7 +49,9 @@ fn put(
     kind: PutKind,
     cell: &Cell,
     expr: &Expr,
-) -> Result<Effect, AllocError> {
+) -> Result<Effect, AllocError>
+    ensures { IfOk result (λ e. (e, doing.new) ≡ with_put (setting scene.now) doing.old kind cell.now expr.now) }
+{
     let array = cell.array;
     let index = index_value(scene, &doing.locals, &cell.index);
     let Some(index) = scene.arrays.place(array, index) else {
@@ -54,11 +72,13 @@ fn put(
 }
 
 // Counts a spawn.
-fn spawn(scene: &Scene<'_>, doing: &mut Doing) -> Effect {
+fn spawn(scene: &Scene<'_>, doing: &mut Doing) -> Effect
+    ensures { (result, doing.new) ≡ with_spawn (setting scene.now) doing.old }
+{
     if scene.path.len() >= 8 {
         return Effect::Fails(Fault::Depth);
     }
-    if doing.spawned >= 8 || usize::from(scene.spawned) + doing.spawned >= 65535 {
+    if doing.spawned >= 8 || u32::from(scene.spawned) + u32::from(doing.spawned) >= 65535 {
         return Effect::Fails(Fault::Spawns);
     }
     doing.spawned += 1;
@@ -66,7 +86,9 @@ fn spawn(scene: &Scene<'_>, doing: &mut Doing) -> Effect {
 }
 
 // Sets a local, if it is there.
-fn set_local(scene: &Scene<'_>, doing: &mut Doing, local: u8, expr: &Expr) -> Effect {
+fn set_local(scene: &Scene<'_>, doing: &mut Doing, local: u8, expr: &Expr) -> Effect
+    ensures { (result, doing.new) ≡ with_local (setting scene.now) doing.old local expr.now }
+{
     match value_of(scene, &doing.locals, expr) {
         Ok(value) => {
             let local = usize::from(local);
@@ -84,7 +106,9 @@ fn act(
     scene: &Scene<'_>,
     doing: &mut Doing,
     action: &Action,
-) -> Result<Effect, AllocError> {
+) -> Result<Effect, AllocError>
+    ensures { IfOk result (λ e. (e, doing.new) ≡ acted (setting scene.now) doing.old action.now) }
+{
     match action {
         Action::Let(local, expr) => Ok(set_local(scene, doing, *local, expr)),
         Action::Put(kind, cell, expr) => put(scene, doing, *kind, cell, expr),
@@ -102,10 +126,12 @@ fn act(
 }
 
 // Returns where a test leads.
-fn test(scene: &Scene<'_>, doing: &Doing, test: &Expr, then: usize, other: usize) -> Move {
+fn test(scene: &Scene<'_>, doing: &Doing, test: &Expr, yes: usize, no: usize) -> Move
+    ensures { result ≡ tested (value_in (setting scene.now) doing.now.locals test.now) yes no }
+{
     match value_of(scene, &doing.locals, test) {
-        Ok(0) => Move::To(other),
-        Ok(_) => Move::To(then),
+        Ok(0) => Move::To(no),
+        Ok(_) => Move::To(yes),
         Err(fault) => Move::Fails(fault),
     }
 }
@@ -113,10 +139,15 @@ fn test(scene: &Scene<'_>, doing: &Doing, test: &Expr, then: usize, other: usize
 // Does the line at a place, and returns where it leads.
 fn play_line(
     scene: &Scene<'_>,
+    code: &[Line],
     doing: &mut Doing,
     place: usize,
     line: &Line,
-) -> Result<Move, AllocError> {
+) -> Result<Move, AllocError>
+    requires matched { IsMatched code.now }
+    requires at { slice_get code.now place ≡ Some line.now }
+    ensures { IfOk result (λ m. (m, doing.new) ≡ moved (setting scene.now) place doing.old line.now) }
+{
     match line {
         Line::Do(action) => match act(scene, doing, action)? {
             Effect::Goes => Ok(Move::To(place + 1)),
@@ -132,17 +163,60 @@ fn play_line(
     }
 }
 
+// Returns where the line at a place leads at no cost, if it costs nothing.
+fn free_to(code: &[Line], place: usize) -> Option<usize>
+    requires matched { IsMatched code.now }
+    ensures { result ≡ free_to_of (slice_get code.now place) place }
+{
+    let line = line_at(code, place)?;
+    match line {
+        Line::Else(n) => Some(place + 1 + *n),
+        Line::EndIf => Some(place + 1),
+        _ => None,
+    }
+}
+
 // Returns the first place from this one on whose line costs, or the end of the code.
-fn skip(code: &[Line], first: usize) -> usize {
+fn skip(code: &[Line], first: usize) -> usize
+    requires matched { IsMatched code.now }
+    ensures { result ≡ costing code.now first }
+{
     let mut place = first;
-    while let Some(line) = code.get(place) {
-        match line {
-            Line::Else(n) => place = place + 1 + *n,
-            Line::EndIf => place += 1,
-            _ => break,
+    let mut left = code.len();
+    while left > 0 {
+        left -= 1;
+        match free_to(code, place) {
+            Some(next) => place = next,
+            None => return place,
         }
     }
     place
+}
+
+// Returns how a segment ends that has nothing left of its budget.
+fn spent(code: &[Line], place: usize, doing: &Doing) -> End
+    ensures { (result, doing.now) ≡ spent_at (slice_get code.now place) place doing.now }
+{
+    if place < code.len() {
+        return End::Fault(Fault::Budget, place);
+    }
+    End::Stopped
+}
+
+// Does the line at a place, if there is one. Returns where it leads: after the last line, to the end of the task.
+fn play_at(
+    scene: &Scene<'_>,
+    code: &[Line],
+    doing: &mut Doing,
+    place: usize,
+) -> Result<Move, AllocError>
+    requires matched { IsMatched code.now }
+    ensures { IfOk result (λ m. (m, doing.new) ≡ moved_at (setting scene.now) (slice_get code.now place) place doing.old) }
+{
+    match line_at(code, place) {
+        Some(line) => play_line(scene, code, doing, place, line),
+        None => Ok(Move::Stops),
+    }
 }
 
 /// Does a segment from a place of its body on. Returns how it ends.
@@ -151,29 +225,33 @@ pub(crate) fn walk(
     code: &[Line],
     first: usize,
     doing: &mut Doing,
-) -> Result<End, AllocError> {
-    let mut place = skip(code, first);
-    for _ in 0..BUDGET {
-        let Some(line) = code.get(place) else {
-            return Ok(End::Stopped);
-        };
-        match play_line(scene, doing, place, line)? {
-            Move::To(next) => place = skip(code, next),
+) -> Result<End, AllocError>
+    requires matched { IsMatched code.now }
+    ensures { IfOk result (λ e. (e, doing.new) ≡ walked (setting scene.now) code.now 100000 first doing.old) }
+{
+    let mut place = first;
+    let mut left = BUDGET;
+    while left > 0 {
+        left -= 1;
+        let here = skip(code, place);
+        match play_at(scene, code, doing, here)? {
+            Move::To(next) => place = next,
             Move::Syncs(_) => return Ok(End::Synced),
             Move::Stops => return Ok(End::Stopped),
-            Move::Fails(fault) => return Ok(End::Fault(fault, place)),
+            Move::Fails(fault) => return Ok(End::Fault(fault, here)),
         }
     }
-    if place < code.len() {
-        return Ok(End::Fault(Fault::Budget, place));
-    }
-    Ok(End::Stopped)
+    Ok(spent(code, skip(code, place), doing))
 }
 
-/// Returns the place of the statement whose line is at a place: at the end of a loop, that is the loop's first line.
-pub(crate) fn statement_at(code: &[Line], place: usize) -> usize {
-    match code.get(place) {
-        Some(Line::EndWhile(_, n)) => place.saturating_sub(*n + 1),
-        _ => place,
+/// Returns how many lines after the first of its body the statement is whose line is at a place: at the end of a loop, that is
+/// the loop's first line.
+pub(crate) fn statement_at(code: &[Line], place: usize) -> usize
+    ensures { result ≡ statement_count (slice_get code.now place) place }
+{
+    match line_at(code, place) {
+        None => 0,
+        Some(Line::EndWhile(_, n)) => place.saturating_sub(*n),
+        Some(_) => place + 1,
     }
 }
