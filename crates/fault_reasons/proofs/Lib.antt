@@ -1,1 +1,3 @@
+pub mod Before
+pub mod Behind
 pub mod Walks

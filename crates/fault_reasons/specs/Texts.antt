@@ -58,12 +58,13 @@ more_said n = codes "  and " ++ decimal n ++ codes " more\n"
 abbrev pub fresh : List ℤ → Done
 fresh locals = record { locals = locals; puts = []; spawned = 0 }
 
--- what a task adds to a cell, and what that came to before
-abbrev pub adds : List ℕ → Put → List ℕ
-adds path p = codes ", and task " ++ path_text path ++ codes " adds " ++ signed_decimal p.value ++ codes "\n"
+-- the superstep in which this fault came
+unfoldable pub step_head : List ℕ → ℕ → List ℕ
+step_head name step = codes "fault " ++ name ++ codes " in superstep " ++ decimal step ++ codes ": "
 
-abbrev pub added : List ℕ → Put → ℤ → List ℕ
-added path p held = codes " came to " ++ signed_decimal held ++ adds path p
+-- what the task of this path adds to a cell
+unfoldable pub adds : List ℕ → Put → List ℕ
+adds path p = codes ", and task " ++ path_text path ++ codes " adds " ++ signed_decimal p.value ++ codes "\n"
 
 -- how many tasks live on of one whose segment ends so, with those that it spawned
 abbrev pub living : End × Done → ℕ
@@ -123,9 +124,7 @@ module _ (a : Again) where
   all_living (t ∷ ts) = living (walk_of t) + all_living ts
 
   abbrev pub too_many : List ℕ
-  too_many =
-      codes "fault 7 (TooMany) in superstep " ++ decimal a.step ++ codes ": " ++ decimal (all_living a.tasks)
-      ++ codes " tasks would live on, and at most 4096 may\n"
+  too_many = step_head (codes "7 (TooMany)") a.step ++ decimal (all_living a.tasks) ++ codes " tasks would live on, and at most 4096 may\n"
 
   -- the puts of all tasks, by path and then in program order
   abbrev pub all_puts : List TaskValue → List Put
@@ -136,14 +135,15 @@ module _ (a : Again) where
   array_name array = name_at (map (λ x. x.0) a.arrays) array
 
   -- the cell of a put
-  abbrev pub cell_said : Put → List ℕ
+  unfoldable pub cell_said : Put → List ℕ
   cell_said p = array_name p.array ++ codes "[" ++ decimal p.index ++ codes "]"
 
-  -- a put makes a sum that overflows in a cell that held this by then
-  abbrev pub sum_said : List ℕ → Put → ℤ → List ℕ
-  sum_said path p held =
-      codes "fault 8 (Overflowed) in superstep " ++ decimal a.step ++ codes ": " ++ cell_said p ++ added path p held
+  unfoldable pub sum_head : Put → List ℕ
+  sum_head p = step_head (codes "8 (Overflowed)") a.step ++ cell_said p
 
+  -- a put makes a sum that overflows in a cell that had come to this
+  abbrev pub sum_said : List ℕ → Put → ℤ → List ℕ
+  sum_said path p held = sum_head p ++ codes " came to " ++ signed_decimal held ++ adds path p
 
   abbrev pub sum_at : List ℕ → List Put → ℕ → Option Put → List ℕ
   sum_at path puts place None = []

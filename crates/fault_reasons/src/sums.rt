@@ -3,10 +3,10 @@ ghost use Rattle.std.specs.Prelude.{◌≡◌, ◌≤◌, ◌++◌, [], Some, On
 ghost use Rattle.superstep_memory.specs.Cells.{cell_at};
 ghost use Rattle.superstep_memory.specs.Landing.{landed, over_in};
 ghost use Rattle.fault_reasons.specs.AgainSeen.{again_seen};
-ghost use Rattle.fault_reasons.specs.Texts.{added, adds, all_living, all_puts as all_puts_of, cell_said, living as living_of, overflow, sum_by, sum_said, too_many};
+ghost use Rattle.fault_reasons.specs.Texts.{adds, all_living, all_puts as all_puts_of, cell_said, living as living_of, overflow, step_head, sum_at, sum_by, sum_head, sum_said, too_many};
 
 use crate::names::push_array_name;
-use crate::pieces::{push_field, push_text};
+use crate::pieces::{push_field, push_number, push_text};
 use crate::task::{Superstep, push_path, walk_task};
 use crate::walk::{Doing, End};
 use std::alloc::{AllocError, Global};
@@ -39,6 +39,17 @@ fn count_living(alloc: Global, at: Superstep<'_>) -> Result<u128, AllocError>
     Ok(count)
 }
 
+// Appends the superstep in which a fault of this name came.
+#[tactic(auto, unfolding(crate::specs::Texts::step_head))]
+fn push_step(out: &mut Vec<u8>, name: &[u8], step: u32) -> Result<(), AllocError>
+    ensures { OnOk result (out.new.items ≡ out.old.items ++ step_head name.now step) }
+{
+    push_text(out, b"fault ")?;
+    push_text(out, name)?;
+    push_field(out, b" in superstep ", step)?;
+    push_text(out, b": ")
+}
+
 /// Appends why a superstep has too many tasks.
 pub fn push_too_many(
     alloc: Global,
@@ -47,8 +58,9 @@ pub fn push_too_many(
 ) -> Result<(), AllocError>
     ensures { OnOk result (out.new.items ≡ out.old.items ++ too_many (again_seen at.entry)) }
 {
-    push_field(out, b"fault 7 (TooMany) in superstep ", at.step)?;
-    push_field(out, b": ", count_living(alloc, at)?)?;
+    let count = count_living(alloc, at)?;
+    push_step(out, b"7 (TooMany)", at.step)?;
+    push_number(out, count)?;
     push_text(out, b" tasks would live on, and at most 4096 may\n")
 }
 
@@ -67,6 +79,7 @@ fn all_puts(alloc: Global, at: Superstep<'_>) -> Result<Vec<Put>, AllocError>
 }
 
 // Appends the cell of a put.
+#[tactic(auto, unfolding(crate::specs::Texts::cell_said))]
 fn push_put_cell(out: &mut Vec<u8>, at: Superstep<'_>, put: Put) -> Result<(), AllocError>
     ensures { OnOk result (out.new.items ≡ out.old.items ++ cell_said (again_seen at.entry) put) }
 {
@@ -76,6 +89,7 @@ fn push_put_cell(out: &mut Vec<u8>, at: Superstep<'_>, put: Put) -> Result<(), A
 }
 
 // Appends what the task of this path adds to a cell.
+#[tactic(auto, unfolding(crate::specs::Texts::adds))]
 fn push_adds(out: &mut Vec<u8>, path: &[u16], put: Put) -> Result<(), AllocError>
     ensures { OnOk result (out.new.items ≡ out.old.items ++ adds path.now put) }
 {
@@ -85,15 +99,16 @@ fn push_adds(out: &mut Vec<u8>, path: &[u16], put: Put) -> Result<(), AllocError
     push_text(out, b"\n")
 }
 
-// Appends what a cell came to, and what the task of this path adds to it.
-fn push_added(out: &mut Vec<u8>, path: &[u16], put: Put, held: i64) -> Result<(), AllocError>
-    ensures { OnOk result (out.new.items ≡ out.old.items ++ added path.now put held) }
+// Appends the superstep and the cell of a put that makes a sum that overflows.
+#[tactic(auto, unfolding(crate::specs::Texts::sum_head))]
+fn push_sum_head(out: &mut Vec<u8>, at: Superstep<'_>, put: Put) -> Result<(), AllocError>
+    ensures { OnOk result (out.new.items ≡ out.old.items ++ sum_head (again_seen at.entry) put) }
 {
-    push_field(out, b" came to ", held)?;
-    push_adds(out, path, put)
+    push_step(out, b"8 (Overflowed)", at.step)?;
+    push_put_cell(out, at, put)
 }
 
-// Appends that a put of the task of this path makes a sum that overflows, in a cell that held this by then.
+// Appends that a put of the task of this path makes a sum that overflows, in a cell that had come to this.
 fn push_sum(
     out: &mut Vec<u8>,
     at: Superstep<'_>,
@@ -103,10 +118,9 @@ fn push_sum(
 ) -> Result<(), AllocError>
     ensures { OnOk result (out.new.items ≡ out.old.items ++ sum_said (again_seen at.entry) path.now put held) }
 {
-    push_field(out, b"fault 8 (Overflowed) in superstep ", at.step)?;
-    push_text(out, b": ")?;
-    push_put_cell(out, at, put)?;
-    push_added(out, path, put, held)
+    push_sum_head(out, at, put)?;
+    push_field(out, b" came to ", held)?;
+    push_adds(out, path, put)
 }
 
 // Lands the puts before one that is the first to overflow.
@@ -135,7 +149,26 @@ fn held_in(arrays: &Arrays, put: Put) -> i64
         .unwrap_or(0)
 }
 
-// Appends the sum of the put at a place of the log.
+// Appends the sum of the put at a place of the log, which is the first to overflow.
+fn push_put(
+    alloc: Global,
+    out: &mut Vec<u8>,
+    at: Superstep<'_>,
+    path: &[u16],
+    puts: &[Put],
+    place: usize,
+    put: Put,
+) -> Result<(), AllocError>
+    requires within { place ≤ length puts.now }
+    requires first { over_in (again_seen at).arrays [] 0 puts.now ≡ Some place }
+    ensures { OnOk result (out.new.items ≡ out.old.items ++ sum_at (again_seen at.entry) path.now puts.now place (Some put)) }
+{
+    let arrays = land_before(alloc, at, puts, place)?;
+    let held = held_in(&arrays, put);
+    push_sum(out, at, path, put, held)
+}
+
+// Appends the sum of the put at a place of the log, if there is one. It is the first to overflow.
 fn push_at(
     alloc: Global,
     out: &mut Vec<u8>,
@@ -150,10 +183,7 @@ fn push_at(
     if place >= puts.len() {
         return Ok(());
     }
-    let put = puts[place];
-    let arrays = land_before(alloc, at, puts, place)?;
-    let held = held_in(&arrays, put);
-    push_sum(out, at, path, put, held)
+    push_put(alloc, out, at, path, puts, place, puts[place])
 }
 
 /// Appends which sum overflows in a superstep: the cell, what it came to, and what the task of this path adds.
