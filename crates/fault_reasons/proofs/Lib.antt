@@ -1,3 +1,4 @@
 pub mod Before
 pub mod Behind
+pub mod RanAgain
 pub mod Walks

@@ -9,15 +9,16 @@
 //!   `limit.rt`: the texts; `reason.rt`: the whole.
 #![tactic(auto)]
 
+mod again;
 mod items;
 mod limit;
 mod lines;
 mod names;
 mod pieces;
+mod reason;
 mod sums;
 mod task;
 mod values;
 mod walk;
 
-pub use task::push_task_fault; pub use limit::push_limit; pub use sums::{push_overflow, push_too_many};
-pub use task::Superstep;
+pub use reason::end_reason;

@@ -48,7 +48,7 @@ fn push_waiting(out: &mut Vec<u8>, at: Superstep<'_>) -> Result<(), AllocError>
 }
 
 /// Appends how many tasks live at the limit, and where the first of them wait.
-pub fn push_limit(out: &mut Vec<u8>, at: Superstep<'_>) -> Result<(), AllocError>
+pub(crate) fn push_limit(out: &mut Vec<u8>, at: Superstep<'_>) -> Result<(), AllocError>
     ensures { OnOk result (out.new.items ≡ out.old.items ++ limit_text (again_seen at.entry)) }
 {
     push_field(out, b"limit of ", at.step)?;

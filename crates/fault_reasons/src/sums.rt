@@ -51,7 +51,7 @@ fn push_step(out: &mut Vec<u8>, name: &[u8], step: u32) -> Result<(), AllocError
 }
 
 /// Appends why a superstep has too many tasks.
-pub fn push_too_many(
+pub(crate) fn push_too_many(
     alloc: Global,
     out: &mut Vec<u8>,
     at: Superstep<'_>,
@@ -187,7 +187,7 @@ fn push_at(
 }
 
 /// Appends which sum overflows in a superstep: the cell, what it came to, and what the task of this path adds.
-pub fn push_overflow(
+pub(crate) fn push_overflow(
     alloc: Global,
     out: &mut Vec<u8>,
     at: Superstep<'_>,

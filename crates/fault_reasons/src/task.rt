@@ -43,7 +43,7 @@ use task_lang::task::Task;
 /// A superstep that is looked at again: the text of the job, the job, and the arrays and the tasks with which the superstep of
 /// this number begins.
 #[derive(Clone, Copy)]
-pub struct Superstep<'a> {
+pub(crate) struct Superstep<'a> {
     pub(crate) text: &'a [u8],
     pub(crate) job: &'a Job,
     pub(crate) arrays: &'a Arrays,
@@ -264,7 +264,7 @@ fn push_end(
 }
 
 /// Appends why the task of this path faulted in a superstep.
-pub fn push_task_fault(
+pub(crate) fn push_task_fault(
     alloc: Global,
     out: &mut Vec<u8>,
     at: Superstep<'_>,
