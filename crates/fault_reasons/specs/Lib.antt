@@ -3,6 +3,7 @@ pub mod Done
 pub mod Explains
 pub mod Found
 pub mod Items
+pub mod Laws
 pub mod Lines
 pub mod RunAgain
 pub mod SightSeen

@@ -11,6 +11,7 @@
 
 mod again;
 mod items;
+pub mod laws;
 mod limit;
 mod lines;
 mod names;
