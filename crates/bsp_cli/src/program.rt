@@ -139,6 +139,22 @@ fn tell_end_reason<T: AllocGlobal + Eprint>(rt: &T, words: &[&str], text: &[u8])
     }
 }
 
+// Says on standard error why a command that read this text whole ended with this status, if there is more to say.
+fn tell_why<T: AllocGlobal + Eprint>(
+    rt: &T,
+    words: &[&str],
+    file: Option<&str>,
+    text: &[u8],
+    status: u8,
+) {
+    match status {
+        TEXT_REFUSED => tell_text_reason(rt, words, file, text),
+        TASK_FAULT => tell_end_reason(rt, words, text),
+        LIMIT_REACHED => tell_end_reason(rt, words, text),
+        _ => {}
+    }
+}
+
 /// Does what the command line of this process asks for, as [`run_telling`] does. Reads the file that the command line names,
 /// or else standard input, prints to `writer`, and reports to `errors` what went wrong. Returns the status that the process
 /// ends with. Words that aren't text are refused; the reads of a file that can't be opened fail. If `terminal` is true,
@@ -195,11 +211,8 @@ pub fn run_program<
     if asks && status == COMMAND_LINE_REFUSED {
         tell_reason(rt, &asked);
     }
-    if keeps && status == TEXT_REFUSED {
-        tell_text_reason(rt, &asked, file, &text);
-    }
-    if keeps && (status == TASK_FAULT || status == LIMIT_REACHED) {
-        tell_end_reason(rt, &asked, &text);
+    if keeps {
+        tell_why(rt, &asked, file, &text, status);
     }
     status
 }
