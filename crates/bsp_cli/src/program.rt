@@ -6,9 +6,7 @@ use crate::command_line::{file_named, run_telling};
 use crate::end_why::job_end_reason;
 use crate::fault::{RunFault, refuse, tell};
 use crate::progress::Teller;
-use crate::status::{
-    COMMAND_LINE_REFUSED, LIMIT_REACHED, OUT_OF_MEMORY, TASK_FAULT, TEXT_REFUSED,
-};
+use crate::status::{COMMAND_LINE_REFUSED, LIMIT_REACHED, OUT_OF_MEMORY, TASK_FAULT, TEXT_REFUSED};
 use crate::why::{WHY, reason_of, text_reason};
 use devices::{CountedWrite, Reader};
 use std::alloc::{AllocError, Global};

@@ -45,7 +45,7 @@ module _ (j : JobValue) (limit : ℕ) (outcome : ReportValue) (tasks : List Task
       → Runs arrays begun → HasRunAgain j limit outcome tasks
   run-again arrays begun ea et h =
       let h' : Runs j.arrays (starts (program_of j)) =
-          subst (λ (xs : List (List ℕ × List ℤ)). Runs xs (starts (program_of j))) ea (subst (λ (us : List job.Task). Runs arrays us) et h) in
+      subst (λ (xs : List (List ℕ × List ℤ)). Runs xs (starts (program_of j))) ea (subst (λ (us : List job.Task). Runs arrays us) et h) in
       record {
         report = job_report (program_of j) limit outcome (map (task_of (plans j.bodies)) tasks) h';
         living = living-is (program_of j) limit outcome (map (task_of (plans j.bodies)) tasks) h';

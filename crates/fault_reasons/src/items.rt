@@ -115,12 +115,7 @@ fn size_text(alloc: Global, sight: Sight<'_>, array: u16) -> Result<Vec<u8>, All
 }
 
 // Returns a cell and its value.
-fn cell_text(
-    alloc: Global,
-    sight: Sight<'_>,
-    cell: Cell,
-    value: i64,
-) -> Result<Vec<u8>, AllocError>
+fn cell_text(alloc: Global, sight: Sight<'_>, cell: Cell, value: i64) -> Result<Vec<u8>, AllocError>
     ensures { IfOk result (λ text. text.items ≡ value_item_of (sight_seen sight.entry) cell (Ok value)) }
 {
     let mut text = Vec::new(alloc);

@@ -102,11 +102,7 @@ fn set_local(scene: &Scene<'_>, doing: &mut Doing, local: u8, expr: &Expr) -> Ef
 }
 
 // Does an action.
-fn act(
-    scene: &Scene<'_>,
-    doing: &mut Doing,
-    action: &Action,
-) -> Result<Effect, AllocError>
+fn act(scene: &Scene<'_>, doing: &mut Doing, action: &Action) -> Result<Effect, AllocError>
     ensures { IfOk result (λ e. (e, doing.new) ≡ acted (setting scene.now) doing.old action.now) }
 {
     match action {

@@ -11,7 +11,7 @@ loop-left-preserved c =
     let s = setting c.args.scene.now in
     let code = c.args.code.now in
     let on = step s code c.loop-left.left c.skip-here.result c.loop-left.place c.in_ok-next.field-0 c.loop-left.doing c.play_at.new.doing
-        c.skip-here.ensures c.in_ok-next.ensures (omega (arith, c.loop-left-test.true)) in
+    c.skip-here.ensures c.in_ok-next.ensures (omega (arith, c.loop-left-test.true)) in
     sym (on ∙ ap (λ (m : Move). after_move c.skip-here.result (m, c.play_at.new.doing) (walked s code (c.loop-left.left - 1))) c.in-To.is) ∙ c.loop-left.invariant
 
 pub returns-in-Syncs : goal.returns-in-Syncs
@@ -19,7 +19,7 @@ returns-in-Syncs c =
     let s = setting c.args.scene.now in
     let code = c.args.code.now in
     let on = step s code c.loop-left.left c.skip-here.result c.loop-left.place c.in_ok-next.field-0 c.loop-left.doing c.play_at.new.doing
-        c.skip-here.ensures c.in_ok-next.ensures (omega (arith, c.loop-left-test.true)) in
+    c.skip-here.ensures c.in_ok-next.ensures (omega (arith, c.loop-left-test.true)) in
     sym (on ∙ ap (λ (m : Move). after_move c.skip-here.result (m, c.play_at.new.doing) (walked s code (c.loop-left.left - 1))) c.in-Syncs.is) ∙ c.loop-left.invariant
 
 pub returns-in-Stops : goal.returns-in-Stops
@@ -27,7 +27,7 @@ returns-in-Stops c =
     let s = setting c.args.scene.now in
     let code = c.args.code.now in
     let on = step s code c.loop-left.left c.skip-here.result c.loop-left.place c.in_ok-next.field-0 c.loop-left.doing c.play_at.new.doing
-        c.skip-here.ensures c.in_ok-next.ensures (omega (arith, c.loop-left-test.true)) in
+    c.skip-here.ensures c.in_ok-next.ensures (omega (arith, c.loop-left-test.true)) in
     sym (on ∙ ap (λ (m : Move). after_move c.skip-here.result (m, c.play_at.new.doing) (walked s code (c.loop-left.left - 1))) c.in-Stops.is) ∙ c.loop-left.invariant
 
 pub returns-in-Fails : goal.returns-in-Fails
@@ -35,7 +35,7 @@ returns-in-Fails c =
     let s = setting c.args.scene.now in
     let code = c.args.code.now in
     let on = step s code c.loop-left.left c.skip-here.result c.loop-left.place c.in_ok-next.field-0 c.loop-left.doing c.play_at.new.doing
-        c.skip-here.ensures c.in_ok-next.ensures (omega (arith, c.loop-left-test.true)) in
+    c.skip-here.ensures c.in_ok-next.ensures (omega (arith, c.loop-left-test.true)) in
     sym (on ∙ ap (λ (m : Move). after_move c.skip-here.result (m, c.play_at.new.doing) (walked s code (c.loop-left.left - 1))) c.in-Fails.is) ∙ c.loop-left.invariant
 
 pub returns : goal.returns
