@@ -3,7 +3,8 @@
 /// Reasons and two worked examples, at the end of the program's help.
 pub(crate) const EXAMPLES: &str =
     "With --why anywhere in a command line, or if standard error is a terminal, the reason follows
-the line of a command line or a text that is refused.
+the line of a command line or a text that is refused. So it does after a fault and at the limit;
+the job is then run again, on one thread.
 
 Two tasks swap their cells, on four threads:
 

@@ -3,13 +3,15 @@
 //! # Where things are
 //!
 //! * `asked.rt`: the parser and what words ask for; `help.rt`: the texts of help; `trace.rt`, `job.rt` and
-//!   `explain.rt`: the subcommands; `progress.rt`: progress while a job runs; `why.rt`: the reasons for people;
+//!   `explain.rt`: the subcommands; `progress.rt`: progress while a job runs; `why.rt`, `end_why.rt`: the reasons
+//!   for people;
 //!   `fault.rt`: the line on standard error; `command_line.rt`: the whole; `program.rt`: from the system's words.
 //! * `specs/CommandLine.antt`: words; `Did.antt`: what a status means.
 #![tactic(auto)]
 
 mod asked;
 mod command_line;
+mod end_why;
 mod explain;
 mod fault;
 mod help;

@@ -3,9 +3,10 @@ ghost use Rattle.std.specs.Prelude.{◌≡◌, ◌≤◌, ◌⊎◌};
 ghost use Rattle.bsp_cli.specs.Texts.{Says};
 
 use crate::command_line::{file_named, run_telling};
+use crate::end_why::job_end_reason;
 use crate::fault::{RunFault, refuse, tell};
 use crate::progress::Teller;
-use crate::status::{COMMAND_LINE_REFUSED, OUT_OF_MEMORY, TEXT_REFUSED};
+use crate::status::{COMMAND_LINE_REFUSED, LIMIT_REACHED, OUT_OF_MEMORY, TASK_FAULT, TEXT_REFUSED};
 use crate::why::{WHY, reason_of, text_reason};
 use devices::{CountedWrite, Reader};
 use std::alloc::{AllocError, Global};
@@ -127,11 +128,37 @@ fn tell_text_reason<T: AllocGlobal + Eprint>(
     }
 }
 
+// Says on standard error why a job ended by a fault or at its limit.
+fn tell_end_reason<T: AllocGlobal + Eprint>(rt: &T, words: &[&str], text: &[u8]) {
+    if let Ok(Some(reason)) = job_end_reason(rt.alloc(), words, text)
+        && let Ok(reason) = str::from_utf8(&reason)
+    {
+        let _ = eprint!(rt; "{reason}");
+    }
+}
+
+// Says on standard error why a command that read this text whole ended with this status, if there is more to say.
+fn tell_why<T: AllocGlobal + Eprint>(
+    rt: &T,
+    words: &[&str],
+    file: Option<&str>,
+    text: &[u8],
+    status: u8,
+) {
+    match status {
+        TEXT_REFUSED => tell_text_reason(rt, words, file, text),
+        TASK_FAULT => tell_end_reason(rt, words, text),
+        LIMIT_REACHED => tell_end_reason(rt, words, text),
+        _ => {}
+    }
+}
+
 /// Does what the command line of this process asks for, as [`run_telling`] does. Reads the file that the command line names,
 /// or else standard input, prints to `writer`, and reports to `errors` what went wrong. Returns the status that the process
 /// ends with. Words that aren't text are refused; the reads of a file that can't be opened fail. If `terminal` is true,
 /// standard input is a terminal, and a first read of it says on standard error what it waits for. If `reasons` is true, or a
-/// word is `--why`, standard error gets the reason after the line of a refused command line or text.
+/// word is `--why`, standard error gets the reason after the line of a refused command line or text; so it does if a fault
+/// ended a job or it reached its limit, and the job is then run again, on this thread.
 pub fn run_program<
     T: env::Env + AllocGlobal + Files + Input + Clock + Eprint + Threads + Wait + Sync,
     W: CountedWrite,
@@ -182,8 +209,8 @@ pub fn run_program<
     if asks && status == COMMAND_LINE_REFUSED {
         tell_reason(rt, &asked);
     }
-    if keeps && status == TEXT_REFUSED {
-        tell_text_reason(rt, &asked, file, &text);
+    if keeps {
+        tell_why(rt, &asked, file, &text, status);
     }
     status
 }

@@ -1,5 +1,5 @@
 -- Why a text is refused, in words for people (own): where, what the code means, and the line with a mark below what counts.
-use Rattle.std.specs.Prelude.{◌≡◌, ℕ, ◌+◌, ◌-◌, ◌/◌, ◌%◌, max, ◌==◌, ◌&&◌, nat_le, nat_lt, if◌then◌else◌, List, [], ◌∷◌, ◌++◌, length, take, drop, replicate, codes, decimal, Option, Some, None, Result, Ok, Err}
+use Rattle.std.specs.Prelude.{◌≡◌, ℕ, ◌+◌, ◌-◌, ◌/◌, ◌%◌, max, ◌==◌, Bool, false, ◌&&◌, nat_le, nat_lt, if◌then◌else◌, List, [], ◌∷◌, ◌++◌, length, take, drop, replicate, codes, decimal, Option, Some, None, Result, Ok, Err}
 use Rattle.std.specs.List.{flat_map}
 use Rattle.std.specs.Str.{bytes_eq}
 use Rattle.text_lines.specs.declared.refusal.Code.{Code}
@@ -40,18 +40,18 @@ line_shown number before count (c ∷ cs) =
     ++ mark before count (c ∷ cs) ++ codes "\n"
 
 -- whether a line is the first of a body
-abbrev pub body_at : List (List ℕ) → ℕ → ℕ → ℕ
-body_at [] line other = other
-body_at (w ∷ ws) line other = if bytes_eq w (codes "body") then line else other
+abbrev pub begins_body : List (List ℕ) → Bool
+begins_body [] = false
+begins_body (w ∷ ws) = bytes_eq w (codes "body")
 
--- the number of the last line of a body's name, if the first of the lines has this number; else another
-abbrev pub last_body : ℕ → ℕ → List (List ℕ) → ℕ
-last_body line other [] = other
-last_body line other (l ∷ ls) = last_body (line + 1) (body_at (words_of l) line other) ls
+-- the greatest number of a line that is the first of a body, if the first of the lines has this number; 0, if none is
+abbrev pub last_body : ℕ → List (List ℕ) → ℕ
+last_body number [] = 0
+last_body number (l ∷ ls) = max (if begins_body (words_of l) then number else 0) (last_body (number + 1) ls)
 
 -- whose line is shown: that of a body that isn't closed is the first of the body
 abbrev pub shown_refusal_by : Code → List ℕ → Refusal → Refusal
-shown_refusal_by Unclosed text r = record { line = last_body 1 0 (lines_of text); code = UnknownLine }
+shown_refusal_by Unclosed text r = record { line = last_body 1 (lines_of text); code = UnknownLine }
 shown_refusal_by code text r = r
 
 abbrev pub shown_refusal : List ℕ → Refusal → Refusal

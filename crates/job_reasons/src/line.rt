@@ -3,7 +3,7 @@ ghost use Rattle.std.specs.Prelude.{◌≡◌, ◌++◌, ◌≤◌, ◌<◌, OnO
 ghost use Rattle.text_lines.specs.Text.{lines_of, words_of};
 ghost use Rattle.job_faults.specs.Faults.{line_at as line_at_of};
 ghost use Rattle.job_reasons.specs.Reasons.{
-  body_at as body_at_of,
+  begins_body as begins_body_of,
   hex as hex_of,
   last_body as last_body_of,
   line_shown,
@@ -142,25 +142,28 @@ pub(crate) fn line_at(text: &[u8], number: usize) -> &[u8]
     &[]
 }
 
-// Returns the number of a line if it is the first of a body, and else another.
-fn body_at(line: &[u8], number: usize, other: usize) -> usize
-    ensures { result ≡ body_at_of (words_of line.now) number other }
+// Returns true if a line is the first of a body.
+fn begins_body(line: &[u8]) -> bool
+    ensures { result ≡ begins_body_of (words_of line.now) }
 {
     match split_word(line) {
-        Some((word, _)) if word == b"body".as_slice() => number,
-        _ => other,
+        Some((word, _)) => word == b"body".as_slice(),
+        None => false,
     }
 }
 
 /// Returns the number of the last line that begins a body, or 0 if there is none.
+#[tactic(auto, using(crate::proofs::Lasts::is_last, crate::proofs::Lasts::not_last))]
 pub(crate) fn last_body(text: &[u8]) -> usize
-    ensures { result ≡ last_body_of 1 0 (lines_of text.now) }
+    ensures { result ≡ last_body_of 1 (lines_of text.now) }
 {
     let mut number: usize = 1;
     let mut found: usize = 0;
     let mut rest = text;
     while let Some((line, after)) = split_line(rest) {
-        found = body_at(line, number, found);
+        if begins_body(line) {
+            found = number;
+        }
         number += 1;
         rest = after;
     }

@@ -1,5 +1,5 @@
 -- Rounds one after another.
-use Rattle.std.proofs.Common.{◌≡◌, ℕ, zero, suc, ◌+◌, ◌*◌, List, ◌++◌, Option, Some, None, true, refl, sym, ap, ◌∙◌, arith}
+use Rattle.std.proofs.Common.{◌≡◌, ℕ, zero, suc, ◌+◌, ◌-◌, ◌*◌, ◌≤◌, subst, List, ◌++◌, Option, Some, None, true, refl, sym, ap, ◌∙◌, arith}
 use Rattle.std.specs.Prelude.{ℤ, is_some}
 use Rattle.std.proofs.Math.Nat.{mul-suc}
 use Rattle.phase_records.specs.Status.{Status}
@@ -120,3 +120,15 @@ next_row j limit every i name r arrays old new h a o e =
     e ∙ ap (λ (xs : List ℤ). xs ++ cells_or_none (named name arrays)) o
     ∙ ap (λ (all : List (List ℕ × List ℤ)). rows (program_of j) limit name every i ++ cells_or_none (named name all)) (a ∙ ap (λ (st : State). st.arrays) h.state)
     ∙ ap (λ (k : ℕ). rows (program_of j) limit name every k) one
+
+-- the first row
+pub first_row : (j : JobValue) (limit every : ℕ) (name : List ℕ) (r : RoundValue) (arrays : List (List ℕ × List ℤ)) (old new : List ℤ) → IsAt j limit every 0 r
+    → arrays ≡ r.arrays → old ≡ rows (program_of j) limit name every 0 → new ≡ old ++ cells_or_none (named name arrays)
+    → new ≡ rows (program_of j) limit name every 1
+first_row j limit every name r arrays old new h a o e = next_row j limit every 0 name r arrays old new h a o e
+
+-- as many supersteps later as lie between two rows, if a row was read before
+pub row_later : (j : JobValue) (limit every done : ℕ) (r s : RoundValue) → 1 ≤ done → IsAt j limit every (done - 1) r → IsLater every r s → IsAt j limit every done s
+row_later j limit every done r s lt h g =
+    let one : (done - 1) + 1 ≡ done = omega (arith, lt) in
+    subst (λ (i : ℕ). IsAt j limit every i s) one (later_at j limit every (done - 1) r s h g)

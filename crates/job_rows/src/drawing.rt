@@ -6,7 +6,7 @@ ghost use Rattle.job_view.specs.Look.{look_value};
 ghost use Rattle.job_rows.specs.Drawing.{all_rows, drawing};
 
 use crate::rows::rows_of;
-use job_view::{Look, every_of, look_picture, rows_of as count_of, spaced_text};
+use job_view::{Look, every_of, look_picture, row_count, spaced_text};
 use phase_records::Report;
 use std::alloc::{AllocError, Global};
 use task_code::job::Job;
@@ -24,7 +24,7 @@ fn rows_by_name(
     ensures { IfOk result (λ rows. map (λ v. v.items) rows.items ≡ all_rows (program_of job.now) limit steps (words_of names.now)) }
 {
     let every = every_of(steps);
-    let count = count_of(steps);
+    let count = row_count(steps);
     let mut rows = Vec::new(alloc);
     let mut rest = names;
     while let Some((name, after)) = split_word(rest) {

@@ -97,8 +97,8 @@ fn push_row(values: &mut Vec<i64>, arrays: &Arrays, name: &[u8]) -> Result<(), A
 }
 
 /// Returns the cells of an array as this many supersteps begin, one after another: superstep 0, `every`, 2 `every` and so on.
-/// After the end they are as the job left them. Runs the job once, on this thread.
-#[tactic(auto, using(crate::proofs::Steps::begun, crate::proofs::Steps::later_at))]
+/// After the end they are as the job left them. Runs the job once, on this thread, to the last of these supersteps.
+#[tactic(auto, using(crate::proofs::Steps::begun, crate::proofs::Steps::first_row))]
 pub fn rows_of(
     alloc: Global,
     job: &Job,
@@ -107,14 +107,18 @@ pub fn rows_of(
     every: u32,
     count: usize,
 ) -> Result<Vec<i64>, AllocError>
-    requires { 1 ≤ limit }
+    requires limit { 1 ≤ limit }
+    requires count { 1 ≤ count }
     ensures { IfOk result (λ values. values.items ≡ rows (program_of job.now) limit name.now every count) }
 {
     let mut round = Round::new(alloc, job, limit)?;
     let mut values = Vec::new(alloc);
-    for _ in 0..count {
-        push_row(&mut values, round.arrays(), name)?;
+    push_row(&mut values, round.arrays(), name)?;
+    let mut done: usize = 1;
+    while done < count {
         advance(alloc, &mut round, every)?;
+        push_row(&mut values, round.arrays(), name)?;
+        done += 1;
     }
     Ok(values)
 }

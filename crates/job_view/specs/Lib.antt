@@ -1,2 +1,3 @@
 pub mod Look
 pub mod Words
+pub mod Worked

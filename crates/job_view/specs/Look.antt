@@ -32,8 +32,8 @@ abbrev pub every_of : ℕ → ℕ
 every_of steps = min (steps / 1000 + 1) 4294967295
 
 -- how many rows there are: those of the supersteps 0, every, 2 every and so on, and of the end
-abbrev pub rows_of : ℕ → ℕ
-rows_of steps = steps / every_of steps + 1
+abbrev pub row_count : ℕ → ℕ
+row_count steps = steps / every_of steps + 1
 
 -- an array as the job leaves it: in rows if it has a width, and else as a strip
 abbrev pub form_by : Option ℕ → Form

@@ -4,11 +4,13 @@
 //! # Where things are
 //!
 //! * `words.rt`: the texts of the options; `views.rt`: what is drawn of each array, and the whole.
-//! * `specs/` has a file for each.
+//! * `specs/` has a file for each; `Worked.antt`: worked out.
 #![tactic(auto)]
 
+mod laws;
 mod views;
 mod words;
 
-pub use views::{Look, cells_named, every_of, look_picture, rows_of};
+pub use laws::looks_are_worked_out;
+pub use views::{Look, cells_named, every_of, look_picture, row_count};
 pub use words::spaced_text;

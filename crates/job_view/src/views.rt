@@ -13,7 +13,7 @@ ghost use Rattle.job_view.specs.Look.{
   looked,
   missing_views,
   named,
-  rows_of as rows_for,
+  row_count as row_count_for,
   time_form as time_form_for,
   time_view,
   time_views,
@@ -47,8 +47,8 @@ pub fn every_of(steps: usize) -> u32
 }
 
 /// Returns how many rows there are after `steps` supersteps.
-pub fn rows_of(steps: usize) -> usize
-    ensures { result ≡ rows_for steps }
+pub fn row_count(steps: usize) -> usize
+    ensures { result ≡ row_count_for steps }
 {
     let every = every_of(steps) as usize;
     steps / every + 1

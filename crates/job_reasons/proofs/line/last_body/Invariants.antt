@@ -1,11 +1,13 @@
 use Rattle.std.proofs.Common.{◌≡◌, ◌+◌, ◌≤◌, length}
+use Rattle.std.specs.Prelude.{max}
 use Rattle.text_lines.specs.Text.{lines_of}
 use Rattle.job_reasons.specs.Reasons.{last_body}
 use Rattle.job_reasons.proofs.line.last_body.Given as goal
 
 abbrev pub invariant-loop-line : goal.invariant-loop-line
 invariant-loop-line l = record {
-  same : last_body l.number l.found (lines_of l.rest) ≡ last_body 1 0 (lines_of l.text);
+  same : max l.found (last_body l.number (lines_of l.rest)) ≡ last_body 1 (lines_of l.text);
+  before : l.found ≤ l.number;
   bound : l.number + length l.rest ≤ 1 + length l.text;
 }
 

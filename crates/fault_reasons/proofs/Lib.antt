@@ -1,0 +1,5 @@
+pub mod Before
+pub mod Behind
+pub mod RanAgain
+pub mod WalkedRuns
+pub mod Walks

@@ -1,0 +1,10 @@
+use Rattle.std.proofs.Common.{◌≡◌, ◌++◌, length}
+use Rattle.fault_reasons.specs.AgainSeen.{again_seen}
+use Rattle.fault_reasons.specs.Texts.{all_puts}
+use Rattle.fault_reasons.proofs.sums.all_puts.Given as goal
+
+abbrev pub invariant-loop-task : goal.invariant-loop-task
+invariant-loop-task l = l.puts.items ++ all_puts (again_seen l.at) l.rest ≡ all_puts (again_seen l.at) (again_seen l.at).tasks
+
+abbrev pub decreases-loop-task : goal.decreases-loop-task
+decreases-loop-task l = length l.rest
