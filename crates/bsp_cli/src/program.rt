@@ -134,7 +134,7 @@ fn tell_text_reason<T: AllocGlobal + Eprint>(
 /// word is `--why`, standard error gets the reason after the line of a refused command line or text.
 pub fn run_program<
     T: env::Env + AllocGlobal + Files + Input + Clock + Eprint + Threads + Wait + Sync,
-    W: CountedWrite,
+    W: CountedWrite + Send,
     E: CountedWrite,
 >(rt: &T, terminal: bool, reasons: bool, writer: &mut W, errors: &mut E) -> u8
     ensures status { result ≤ 9 }
