@@ -1,3 +1,4 @@
+mod Clashes
 mod Faulted
 mod Limits
 mod Listings
@@ -5,6 +6,7 @@ mod Numbers
 mod Parsed
 mod Refusals
 mod RunJobs
+mod StreamJobs
 mod TooLong
 pub mod Upgrading
 pub mod Saying

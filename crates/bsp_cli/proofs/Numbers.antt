@@ -6,7 +6,7 @@ use Rattle.std.specs.Str.Parse.{AllDigits, IsNumeral, digits_value, without_lead
 use Rattle.std.proofs.lemmas.Bool.{eqb-true, leb-true, lt-ltb}
 use Rattle.std.proofs.lemmas.Fmt.{decimal_is_IsNumeral}
 use Rattle.std.specs.Option.{unwrap_or}
-use Rattle.clap.specs.Faults.{check_fault, defaults_fault, settle_fault, walk_fault}
+use Rattle.clap.specs.Faults.{fault_of, check_fault, defaults_fault, settle_fault, walk_fault}
 use Rattle.clap.specs.Kinds.{Kinds, or_else}
 use Rattle.clap.specs.Simple.{Shape, built, label_of, new_shape, subcommand_of}
 use Rattle.clap.specs.ValueTests.{is_numeral, is_unsigned_in}
@@ -16,7 +16,7 @@ use Rattle.clap.specs.declared.error.kind.ErrorKind.TheVariants.{ValueValidation
 use Rattle.clap.proofs.OnLiterals.{clap_on_literals}
 use Rattle.clap.proofs.ValueTestLemmas.{Accepts-accepts}
 use Rattle.clap.proofs.WalkLemmas.{both}
-use Rattle.bsp_cli.specs.CommandLine.{asked_by, asked_in, number_from, program, refused_by}
+use Rattle.bsp_cli.specs.CommandLine.{asked_by, asked_in, clash_kinds, clashes_by, number_from, program, refused_by}
 use Rattle.bsp_cli.specs.Did.{are_refused}
 use Rattle.bsp_cli.specs.Laws.{Asks, EachLimitAsks, EachNumberAsks, EachNumberOfWorkersAsks, EachOtherNumberIsRefused}
 use Rattle.bsp_cli.specs.declared.asked.Asked.TheVariants.{Run}
@@ -119,19 +119,38 @@ limit-asked name d ds e =
     ∙ limit-said d ds e
 
 limit-fault : (name : List ℕ) (d : ℕ) (ds : List ℕ) → (d == 45) ≡ false
-    → refused_by (name ∷ codes "run" ∷ codes "--limit" ∷ (d ∷ ds) ∷ []) ≡ or_else (ends_by [] (one_held (codes "limit") (d ∷ ds))) []
+    → fault_of program (name ∷ codes "run" ∷ codes "--limit" ∷ (d ∷ ds) ∷ []) ≡ or_else (ends_by [] (one_held (codes "limit") (d ∷ ds))) []
 unfolding clap_on_literals
 limit-fault name d ds e = ap₂ (λ (met : Kinds) (h : Held). or_else (ends_by met h) []) (limit-met d ds e) (limit-walked d ds e)
 
+limit-clashes : (name : List ℕ) (d : ℕ) (ds : List ℕ) → (d == 45) ≡ false
+    → clashes_by (Some (codes "run", finished run.rules (one_held (codes "limit") (d ∷ ds)))) ≡ false
+unfolding clap_on_literals
+limit-clashes name d ds e = refl
+
+limit-apart : (name : List ℕ) (d : ℕ) (ds : List ℕ) → (d == 45) ≡ false → clashes_by (subcommand_of program (name ∷ codes "run" ∷ codes "--limit" ∷ (d ∷ ds) ∷ [])) ≡ false
+limit-apart name d ds e =
+    ap clashes_by (limit-entered name d ds)
+    ∙ ap (λ (h : Held). clashes_by (Some (codes "run", finished run.rules h))) (limit-walked d ds e)
+    ∙ limit-clashes name d ds e
+
+limit-fault-taken : (name : List ℕ) (d : ℕ) (ds : List ℕ) → (d == 45) ≡ false → is_taken 1000000 (d ∷ ds) ≡ true
+    → fault_of program (name ∷ codes "run" ∷ codes "--limit" ∷ (d ∷ ds) ∷ []) ≡ []
+unfolding clap_on_literals
+limit-fault-taken name d ds e a = limit-fault name d ds e ∙ rw e (rw a refl)
+
 limit-taken : (name : List ℕ) (d : ℕ) (ds : List ℕ) → (d == 45) ≡ false → is_taken 1000000 (d ∷ ds) ≡ true
     → refused_by (name ∷ codes "run" ∷ codes "--limit" ∷ (d ∷ ds) ∷ []) ≡ []
+limit-taken name d ds e a = ap₂ or_else (limit-fault-taken name d ds e a) (ap clash_kinds (limit-apart name d ds e))
+
+limit-fault-refused : (name : List ℕ) (d : ℕ) (ds : List ℕ) → (d == 45) ≡ false → is_taken 1000000 (d ∷ ds) ≡ false
+    → fault_of program (name ∷ codes "run" ∷ codes "--limit" ∷ (d ∷ ds) ∷ []) ≡ ValueValidation ∷ []
 unfolding clap_on_literals
-limit-taken name d ds e a = limit-fault name d ds e ∙ rw e (rw a refl)
+limit-fault-refused name d ds e a = limit-fault name d ds e ∙ rw e (rw a refl)
 
 limit-refused : (name : List ℕ) (d : ℕ) (ds : List ℕ) → (d == 45) ≡ false → is_taken 1000000 (d ∷ ds) ≡ false
     → refused_by (name ∷ codes "run" ∷ codes "--limit" ∷ (d ∷ ds) ∷ []) ≡ ValueValidation ∷ []
-unfolding clap_on_literals
-limit-refused name d ds e a = limit-fault name d ds e ∙ rw e (rw a refl)
+limit-refused name d ds e a = ap₂ or_else (limit-fault-refused name d ds e a) (ap clash_kinds (limit-apart name d ds e))
 
 no-limit : (name : List ℕ) → refused_by (name ∷ codes "run" ∷ codes "--limit" ∷ [] ∷ []) ≡ ValueValidation ∷ []
 unfolding clap_on_literals
@@ -176,19 +195,38 @@ workers-asked name d ds e =
     ∙ workers-said d ds e
 
 workers-fault : (name : List ℕ) (d : ℕ) (ds : List ℕ) → (d == 45) ≡ false
-    → refused_by (name ∷ codes "run" ∷ codes "--workers" ∷ (d ∷ ds) ∷ []) ≡ or_else (ends_by [] (one_held (codes "workers") (d ∷ ds))) []
+    → fault_of program (name ∷ codes "run" ∷ codes "--workers" ∷ (d ∷ ds) ∷ []) ≡ or_else (ends_by [] (one_held (codes "workers") (d ∷ ds))) []
 unfolding clap_on_literals
 workers-fault name d ds e = ap₂ (λ (met : Kinds) (h : Held). or_else (ends_by met h) []) (workers-met d ds e) (workers-walked d ds e)
 
+workers-clashes : (name : List ℕ) (d : ℕ) (ds : List ℕ) → (d == 45) ≡ false
+    → clashes_by (Some (codes "run", finished run.rules (one_held (codes "workers") (d ∷ ds)))) ≡ false
+unfolding clap_on_literals
+workers-clashes name d ds e = refl
+
+workers-apart : (name : List ℕ) (d : ℕ) (ds : List ℕ) → (d == 45) ≡ false → clashes_by (subcommand_of program (name ∷ codes "run" ∷ codes "--workers" ∷ (d ∷ ds) ∷ [])) ≡ false
+workers-apart name d ds e =
+    ap clashes_by (workers-entered name d ds)
+    ∙ ap (λ (h : Held). clashes_by (Some (codes "run", finished run.rules h))) (workers-walked d ds e)
+    ∙ workers-clashes name d ds e
+
+workers-fault-taken : (name : List ℕ) (d : ℕ) (ds : List ℕ) → (d == 45) ≡ false → is_taken 64 (d ∷ ds) ≡ true
+    → fault_of program (name ∷ codes "run" ∷ codes "--workers" ∷ (d ∷ ds) ∷ []) ≡ []
+unfolding clap_on_literals
+workers-fault-taken name d ds e a = workers-fault name d ds e ∙ rw e (rw a refl)
+
 workers-taken : (name : List ℕ) (d : ℕ) (ds : List ℕ) → (d == 45) ≡ false → is_taken 64 (d ∷ ds) ≡ true
     → refused_by (name ∷ codes "run" ∷ codes "--workers" ∷ (d ∷ ds) ∷ []) ≡ []
+workers-taken name d ds e a = ap₂ or_else (workers-fault-taken name d ds e a) (ap clash_kinds (workers-apart name d ds e))
+
+workers-fault-refused : (name : List ℕ) (d : ℕ) (ds : List ℕ) → (d == 45) ≡ false → is_taken 64 (d ∷ ds) ≡ false
+    → fault_of program (name ∷ codes "run" ∷ codes "--workers" ∷ (d ∷ ds) ∷ []) ≡ ValueValidation ∷ []
 unfolding clap_on_literals
-workers-taken name d ds e a = workers-fault name d ds e ∙ rw e (rw a refl)
+workers-fault-refused name d ds e a = workers-fault name d ds e ∙ rw e (rw a refl)
 
 workers-refused : (name : List ℕ) (d : ℕ) (ds : List ℕ) → (d == 45) ≡ false → is_taken 64 (d ∷ ds) ≡ false
     → refused_by (name ∷ codes "run" ∷ codes "--workers" ∷ (d ∷ ds) ∷ []) ≡ ValueValidation ∷ []
-unfolding clap_on_literals
-workers-refused name d ds e a = workers-fault name d ds e ∙ rw e (rw a refl)
+workers-refused name d ds e a = ap₂ or_else (workers-fault-refused name d ds e a) (ap clash_kinds (workers-apart name d ds e))
 
 no-workers : (name : List ℕ) → refused_by (name ∷ codes "run" ∷ codes "--workers" ∷ [] ∷ []) ≡ ValueValidation ∷ []
 unfolding clap_on_literals

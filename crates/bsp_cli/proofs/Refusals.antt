@@ -9,7 +9,7 @@ use Rattle.clap.specs.declared.error.kind.ErrorKind.TheVariants as kinds
 use Rattle.job_view.specs.Look.{LookValue}
 use Rattle.bsp_cli.specs.Did.{Did, RunsOut, is_refusal, are_refused}
 use Rattle.bsp_cli.specs.declared.asked.Asked.{Asked}
-use Rattle.bsp_cli.specs.declared.asked.Asked.TheVariants.{Trace, Check, CheckAll, Upgrade, Run, RunJson, Draw, Explain}
+use Rattle.bsp_cli.specs.declared.asked.Asked.TheVariants.{Trace, Check, CheckAll, Upgrade, Run, RunJson, RunStream, Draw, Explain}
 
 keeps : (old : Option (List ℕ)) → Keeps old old
 keeps None = tt
@@ -22,6 +22,7 @@ out CheckAll input old = keeps old
 out Upgrade input old = keeps old
 out (Run workers limit) input old = keeps old
 out (RunJson workers limit) input old = keeps old
+out (RunStream workers limit) input old = inl (keeps old)
 out (Explain topic) input old = keeps old
 out (Draw workers limit) input old = keeps old
 

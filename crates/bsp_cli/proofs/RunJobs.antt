@@ -29,18 +29,18 @@ same-plans : (bs : List BodyValue) → map plan_of (map body_tree bs) ≡ plans 
 same-plans [] = refl
 same-plans (b ∷ bs) = ap (λ (ps : List Plan). plan_of (body_tree b) ∷ ps) (same-plans bs)
 
-same-program : (j : JobValue) → program_of_tree (job_tree j) ≡ program_of j
+pub same-program : (j : JobValue) → program_of_tree (job_tree j) ≡ program_of j
 same-program j = ap (λ (ps : List Plan). record { arrays = j.arrays; plans = ps; starts = j.starts }) (same-plans j.bodies)
 
-left : (j : JobValue) (limit : ℕ) (report : ReportValue) → report_of (program_of j) limit ≡ Some report
+pub left : (j : JobValue) (limit : ℕ) (report : ReportValue) → report_of (program_of j) limit ≡ Some report
     → report_of (program_of_tree (job_tree j)) limit ≡ Some report
 left j limit report e = ap (λ (p : Program). report_of p limit) (same-program j) ∙ e
 
-if-some : {P Q : List ℕ → Type 0} (o : Option (List ℕ)) → ((x : List ℕ) → P x → Q x) → IfSome o P → IfSome o Q
+pub if-some : {P Q : List ℕ → Type 0} (o : Option (List ℕ)) → ((x : List ℕ) → P x → Q x) → IfSome o P → IfSome o Q
 if-some None so h = tt
 if-some (Some x) so h = so x h
 
-small : (s : Status) → status_number s ≤ 3
+pub small : (s : Status) → status_number s ≤ 3
 small (Ended n) = omega arith
 small (Fault c n p) = omega arith
 small (Limit n) = omega arith

@@ -1,18 +1,20 @@
 -- The command line (own): the program's name, a subcommand, and its options.
-use Rattle.std.specs.Prelude.{ℕ, ◌&&◌, Bool, true, false, pos, nat_le, if◌then◌else◌, List, [], codes, Option, Some, None}
+use Rattle.std.specs.Prelude.{ℕ, ◌&&◌, Bool, true, false, pos, nat_le, if◌then◌else◌, List, [], ◌∷◌, codes, Option, Some, None}
 use Rattle.std.specs.Str.{bytes_eq}
 use Rattle.std.specs.Str.Parse.{digits_value, without_leading_plus}
 use Rattle.std.specs.Option.{unwrap_or}
+use Rattle.clap.specs.Kinds.{or_else}
 use Rattle.clap.specs.Words.{App, Kinds, Row, Rule, fault_of, first_of, new_app, new_rule, one_of, subcommand_of, with_rule, with_subcommand}
 use Rattle.clap.specs.ValueTests.{is_unsigned_in}
 use Rattle.clap.specs.declared.builder.action.ArgAction.TheVariants.{Set, SetTrue}
 use Rattle.clap.specs.declared.builder.value_parser.ValueParser.{ValueParser}
 use Rattle.clap.specs.declared.builder.value_parser.ValueParser.TheVariants as parser
+use Rattle.clap.specs.declared.error.kind.ErrorKind.TheVariants.{ArgumentConflict}
 use Rattle.job_view.specs.Look.{LookValue}
 use Rattle.bsp_cli.specs.Topics.{topic_by}
 use Rattle.bsp_cli.specs.declared.asked.Topic.{Topic}
 use Rattle.bsp_cli.specs.declared.asked.Asked.{Asked}
-use Rattle.bsp_cli.specs.declared.asked.Asked.TheVariants.{Trace, Check, CheckAll, Upgrade, Run, RunJson, Draw, Explain}
+use Rattle.bsp_cli.specs.declared.asked.Asked.TheVariants.{Trace, Check, CheckAll, Upgrade, Run, RunJson, RunStream, Draw, Explain}
 
 -- an argument that is one of these numbers
 abbrev pub numbers_rule : List ℕ → ValueParser → Rule
@@ -84,8 +86,15 @@ json_rule = record (new_rule (codes "json")) {
   action = Some SetTrue;
 }
 
+-- `--stream`
+abbrev pub stream_rule : Rule
+stream_rule = record (new_rule (codes "stream")) {
+  long = Some (codes "stream");
+  action = Some SetTrue;
+}
+
 abbrev pub run_app : App
-run_app = with_rule (with_rule (job_app (codes "run")) progress_rule) json_rule
+run_app = with_rule (with_rule (with_rule (job_app (codes "run")) progress_rule) json_rule) stream_rule
 
 -- `draw`, with `--width`, `--over-time` and `--title`
 abbrev pub draw_app : App
@@ -181,9 +190,9 @@ chosen most usual (Some n) = if nat_le 1 n && nat_le n most then n else usual
 abbrev pub check_by : Bool → Asked
 check_by all = if all then CheckAll else Check
 
--- what `run` asks for: its report as a text, or as JSON
-abbrev pub run_by : Bool → ℕ → ℕ → Asked
-run_by json workers limit = if json then RunJson workers limit else Run workers limit
+-- what `run` asks for: its report as a text, as JSON, or as a text that is written superstep by superstep
+abbrev pub run_by : Bool → Bool → ℕ → ℕ → Asked
+run_by json stream workers limit = if json then RunJson workers limit else if stream then RunStream workers limit else Run workers limit
 
 -- what a subcommand asks for, by its name and its options
 abbrev pub asked_by : Option (List ℕ × List Row) → Asked
@@ -192,7 +201,7 @@ asked_by (Some p) =
     if bytes_eq p.0 (codes "check") then check_by (flag_in (codes "all") p.1)
     else if bytes_eq p.0 (codes "upgrade") then Upgrade
     else if bytes_eq p.0 (codes "explain") then Explain (topic_in p.1)
-    else if bytes_eq p.0 (codes "run") then run_by (flag_in (codes "json") p.1) (workers_in p.1) (limit_in p.1)
+    else if bytes_eq p.0 (codes "run") then run_by (flag_in (codes "json") p.1) (flag_in (codes "stream") p.1) (workers_in p.1) (limit_in p.1)
     else if bytes_eq p.0 (codes "draw") then Draw (workers_in p.1) (limit_in p.1) else Trace
 
 -- the text of the tree at which workers meet; traces, and texts that are checked or upgraded, have none
@@ -236,6 +245,14 @@ look_asked words = look_by (subcommand_of program words)
 abbrev pub file_asked : List (List ℕ) → Option (List ℕ)
 file_asked words = file_by (subcommand_of program words)
 
+-- a report both as JSON and superstep by superstep
+abbrev pub clashes_by : Option (List ℕ × List Row) → Bool
+clashes_by None = false
+clashes_by (Some p) = bytes_eq p.0 (codes "run") && (flag_in (codes "json") p.1 && flag_in (codes "stream") p.1)
+
+abbrev pub clash_kinds : Bool → Kinds
+clash_kinds clashes = if clashes then ArgumentConflict ∷ [] else []
+
 -- why words are not taken: nothing if they are
 abbrev pub refused_by : List (List ℕ) → Kinds
-refused_by words = fault_of program words
+refused_by words = or_else (fault_of program words) (clash_kinds (clashes_by (subcommand_of program words)))

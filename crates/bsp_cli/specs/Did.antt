@@ -14,11 +14,11 @@ use Rattle.clap.specs.declared.error.kind.ErrorKind.{ErrorKind}
 use Rattle.clap.specs.declared.error.kind.ErrorKind.TheVariants as kinds
 use Rattle.clap.specs.Words.{Kinds}
 use Rattle.bsp_cli.specs.Drawn.{drawn_in}
-use Rattle.bsp_cli.specs.Jobs.{WritesCanonical, BeginsCanonical, BeginsListing, WritesUpgraded, BeginsUpgraded, WritesReport, BeginsReport}
+use Rattle.bsp_cli.specs.Jobs.{WritesCanonical, BeginsCanonical, BeginsListing, WritesUpgraded, BeginsUpgraded, WritesReport, BeginsReport, WritesSteps}
 use Rattle.bsp_cli.specs.Texts.{refusal_line, worker_line}
 use Rattle.bsp_cli.specs.Topics.{WritesTopic, BeginsTopic}
 use Rattle.bsp_cli.specs.declared.asked.Asked.{Asked}
-use Rattle.bsp_cli.specs.declared.asked.Asked.TheVariants.{Trace, Check, CheckAll, Upgrade, Run, RunJson, Draw, Explain}
+use Rattle.bsp_cli.specs.declared.asked.Asked.TheVariants.{Trace, Check, CheckAll, Upgrade, Run, RunJson, RunStream, Draw, Explain}
 
 -- the input was read, and all that is asked for was written
 abbrev pub Finishes : Asked → LookValue → List ℕ → Option (List ℕ) → Option (List ℕ) → ℕ → Type 0
@@ -28,6 +28,7 @@ Finishes CheckAll look input old new status = (status ≡ 0) × WritesCanonical 
 Finishes Upgrade look input old new status = (status ≡ 0) × WritesUpgraded input old new
 Finishes (Run workers limit) look input old new status = WritesReport report_text limit input old new status
 Finishes (RunJson workers limit) look input old new status = WritesReport json_text limit input old new status
+Finishes (RunStream workers limit) look input old new status = WritesReport report_text limit input old new status
 Finishes (Explain topic) look input old new status = (status ≡ 0) × WritesTopic topic old new
 Finishes (Draw workers limit) look input old new status = WritesReport (drawn_in look limit input) limit input old new status
 
@@ -39,6 +40,7 @@ Begins CheckAll look input old new = BeginsCanonical input old new ⊎ BeginsLis
 Begins Upgrade look input old new = BeginsUpgraded input old new
 Begins (Run workers limit) look input old new = BeginsReport report_text limit input old new
 Begins (RunJson workers limit) look input old new = BeginsReport json_text limit input old new
+Begins (RunStream workers limit) look input old new = BeginsReport report_text limit input old new
 Begins (Explain topic) look input old new = BeginsTopic topic old new
 Begins (Draw workers limit) look input old new = BeginsReport (drawn_in look limit input) limit input old new
 
@@ -53,10 +55,15 @@ abbrev pub Lists : Asked → Option (List ℕ) → Option (List ℕ) → Option 
 Lists CheckAll input old new = IfSome input (λ bytes. Appends old new (listing bytes))
 Lists _ input old new = Keeps old new
 
--- if memory ran out, only a trace may have written some of its answers
+-- if a job stops short, only one that is written superstep by superstep may have written the lines of some supersteps
+abbrev pub StopsShort : Asked → Option (List ℕ) → Option (List ℕ) → Option (List ℕ) → Type 0
+StopsShort (RunStream workers limit) input old new = Keeps old new ⊎ IfSome input (λ bytes. WritesSteps limit bytes old new)
+StopsShort _ input old new = Keeps old new
+
+-- if memory ran out, also a trace may have written some of its answers
 abbrev pub RunsOut : Asked → Option (List ℕ) → Option (List ℕ) → Option (List ℕ) → Type 0
 RunsOut Trace input old new = Keeps old new ⊎ IfSome input (λ bytes. WritesBeginning bytes old new)
-RunsOut _ input old new = Keeps old new
+RunsOut a input old new = StopsShort a input old new
 
 -- what reads no input
 abbrev pub ReadsNothing : Asked → Type 0
@@ -67,6 +74,7 @@ ReadsNothing _ = ⊥
 abbrev pub IsWorkerOf : Asked → ℕ → Type 0
 IsWorkerOf (Run workers limit) k = k < workers
 IsWorkerOf (RunJson workers limit) k = k < workers
+IsWorkerOf (RunStream workers limit) k = k < workers
 IsWorkerOf (Draw workers limit) k = k < workers
 IsWorkerOf _ k = ⊥
 
@@ -77,7 +85,7 @@ pub record Did (a : Asked) (look : LookValue) (input old new : Option (List ℕ)
   pub memory : status ≡ 6 → RunsOut a input old new
   pub not_started : status ≡ 7 → Keeps old new × (k : ℕ) × IsWorkerOf a k × told (worker_line k)
   pub failed : status ≡ 8 → Keeps old new ⊎ IfSome input (λ bytes. Begins a look bytes old new)
-  pub internal : status ≡ 9 → Keeps old new
+  pub internal : status ≡ 9 → StopsShort a input old new
 
 -- words that are refused: neither taken nor a call for help or for the version
 abbrev pub is_refusal : ErrorKind → Bool

@@ -3,6 +3,7 @@ use Rattle.std.specs.Prelude.{◌≡◌, ◌≤◌, ◌<◌, ◌⊎◌, ℕ, ◌
 use Rattle.std.specs.Io.KnownBytes.{Appends, Keeps}
 use Rattle.devices.specs.Device.{AppendsBeginning}
 use Rattle.phase_records.specs.ReportValue.{ReportValue}
+use Rattle.phase_records.specs.ReportText.{report_text}
 use Rattle.phase_records.specs.StatusSeen.{status_seen}
 use Rattle.phase_records.specs.declared.record.JobStatus.{JobStatus}
 use Rattle.task_code.specs.JobValue.{JobValue}
@@ -15,13 +16,16 @@ use Rattle.job_view.specs.Look.{LookValue}
 use Rattle.text_lines.specs.declared.refusal.Refusal.{Refusal}
 use Rattle.bsp_cli.specs.Jobs.{status_number, WritesCanonical, BeginsCanonical, BeginsListing, WritesUpgraded, BeginsUpgraded, WritesReportOf, BeginsReport}
 use Rattle.bsp_cli.specs.Drawn.{drawn_in}
-use Rattle.bsp_cli.specs.Did.{Finishes, Begins, Lists, Refuses, RunsOut, IsWorkerOf}
+use Rattle.step_core.specs.Program.{Program}
+use Rattle.job_stream.specs.Streamed.{Streams}
+use Rattle.job_stream.specs.declared.fault.StreamFault.TheVariants as stream
+use Rattle.bsp_cli.specs.Did.{Finishes, Begins, Lists, Refuses, RunsOut, StopsShort, IsWorkerOf}
 use Rattle.bsp_cli.specs.Texts.{fault_status}
 use Rattle.bsp_cli.specs.Topics.{WritesTopic, BeginsTopic}
 use Rattle.bsp_cli.specs.declared.asked.Topic.{Topic}
 use Rattle.bsp_cli.specs.declared.asked.Topic.TheVariants.{All, Code, Fault, TraceCode}
 use Rattle.bsp_cli.specs.declared.asked.Asked.{Asked}
-use Rattle.bsp_cli.specs.declared.asked.Asked.TheVariants.{Run, RunJson, Draw, Explain}
+use Rattle.bsp_cli.specs.declared.asked.Asked.TheVariants.{Run, RunJson, RunStream, Draw, Explain}
 use Rattle.bsp_cli.specs.declared.fault.RunFault.{RunFault}
 use Rattle.bsp_cli.specs.declared.fault.RunFault.TheVariants.{Text, Read, Write, Memory, NotStarted, Internal}
 
@@ -126,6 +130,21 @@ Runs form workers limit input old new (Err Write) = IfSome input (λ bytes. Begi
 Runs form workers limit input old new (Err (NotStarted k)) = Keeps old new × (k < workers)
 Runs form workers limit input old new _ = Keeps old new
 
+-- a job's report was written superstep by superstep, as far as it came
+abbrev pub StreamsJob : ℕ → Program → ℕ → Option (List ℕ) → Option (List ℕ) → Result JobStatus RunFault → Type 0
+StreamsJob workers p limit old new (Ok status) = Streams p limit old new (Ok status)
+StreamsJob workers p limit old new (Err Write) = Streams p limit old new (Err stream.Write)
+StreamsJob workers p limit old new (Err Memory) = Streams p limit old new (Err stream.Memory)
+StreamsJob workers p limit old new (Err Internal) = Streams p limit old new (Err stream.Internal)
+StreamsJob workers p limit old new (Err (NotStarted k)) = Keeps old new × (k < workers)
+StreamsJob workers p limit old new _ = ⊥
+
+-- the same of the job of the input, as a run of it
+abbrev pub RunsStream : ℕ → ℕ → Option (List ℕ) → Option (List ℕ) → Option (List ℕ) → Result JobStatus RunFault → Type 0
+RunsStream workers limit input old new (Err Memory) = StopsShort (RunStream workers limit) input old new
+RunsStream workers limit input old new (Err Internal) = StopsShort (RunStream workers limit) input old new
+RunsStream workers limit input old new r = Runs report_text workers limit input old new r
+
 -- the same of its picture, as it is asked for
 abbrev pub Draws : LookValue → ℕ → ℕ → Option (List ℕ) → Option (List ℕ) → Option (List ℕ) → Result JobStatus RunFault → Type 0
 Draws look workers limit input old new (Ok status) =
@@ -142,6 +161,7 @@ Does a look input old new (Err (Text r)) = IfSome input (λ bytes. Refuses a byt
 Does a look input old new (Err Write) = IfSome input (λ bytes. Begins a look bytes old new)
 Does a look input old new (Err Memory) = RunsOut a input old new
 Does a look input old new (Err (NotStarted k)) = Keeps old new × IsWorkerOf a k
+Does a look input old new (Err Internal) = StopsShort a input old new
 Does a look input old new _ = Keeps old new
 
 -- there is such a code or fault
@@ -155,6 +175,7 @@ IsTopic (TraceCode n) = (1 ≤ n) × (n ≤ 12)
 abbrev pub IsAsked : Asked → Type 0
 IsAsked (Run workers limit) = ((1 ≤ workers) × (workers ≤ 64)) × ((1 ≤ limit) × (limit ≤ 1000000))
 IsAsked (RunJson workers limit) = ((1 ≤ workers) × (workers ≤ 64)) × ((1 ≤ limit) × (limit ≤ 1000000))
+IsAsked (RunStream workers limit) = ((1 ≤ workers) × (workers ≤ 64)) × ((1 ≤ limit) × (limit ≤ 1000000))
 IsAsked (Explain topic) = IsTopic topic
 IsAsked (Draw workers limit) = ((1 ≤ workers) × (workers ≤ 64)) × ((1 ≤ limit) × (limit ≤ 1000000))
 IsAsked _ = Unit {0}

@@ -13,6 +13,7 @@ use Rattle.step_core.specs.Program.{Program}
 use Rattle.text_lines.specs.declared.refusal.Refusal.{Refusal}
 use Rattle.job_faults.specs.Listing.{listing}
 use Rattle.step_core.specs.JobMeaning.{report_of}
+use Rattle.job_stream.specs.Streamed as stream
 
 -- the status of a job that ended so: a fault is 2, the limit is 3
 abbrev pub status_number : Status → ℕ
@@ -64,3 +65,7 @@ WritesReport form limit input old new status =
 -- or a beginning of it
 abbrev pub BeginsReport : (ReportValue → List ℕ) → ℕ → List ℕ → Option (List ℕ) → Option (List ℕ) → Type 0
 BeginsReport form limit input old new = (report : ReportValue) × Leaves limit input report × AppendsBeginning old new (form report)
+
+-- the input is the text of a job, and the lines of some first supersteps of it were written, whole
+abbrev pub WritesSteps : ℕ → List ℕ → Option (List ℕ) → Option (List ℕ) → Type 0
+WritesSteps limit input old new = (job : JobTree) × (job_in input ≡ Ok job) × stream.WritesSteps (program_of_tree job) limit old new

@@ -8,7 +8,7 @@ use Rattle.bsp_cli.specs.Did.{are_refused}
 use Rattle.clap.specs.declared.error.kind.ErrorKind.TheVariants.{DisplayHelp, DisplayVersion}
 use Rattle.bsp_cli.specs.declared.asked.Topic.TheVariants.{All, Code, Fault, TraceCode}
 use Rattle.bsp_cli.specs.declared.asked.Asked.{Asked}
-use Rattle.bsp_cli.specs.declared.asked.Asked.TheVariants.{Trace, Check, CheckAll, Upgrade, Run, RunJson, Draw, Explain}
+use Rattle.bsp_cli.specs.declared.asked.Asked.TheVariants.{Trace, Check, CheckAll, Upgrade, Run, RunJson, RunStream, Draw, Explain}
 
 -- words that are taken, and what they ask for
 abbrev pub Asks : List (List ℕ) → Asked → Type 0
@@ -45,6 +45,10 @@ pub record WordsAsk (name : List ℕ) : Type 0 where
   pub json_first : Asks (name ∷ codes "run" ∷ codes "--json" ∷ codes "--workers" ∷ codes "4" ∷ codes "--limit" ∷ codes "7" ∷ []) (RunJson 4 7)
   pub json_last : Asks (name ∷ codes "run" ∷ codes "-f" ∷ codes "a" ∷ codes "--progress" ∷ codes "--limit=7" ∷ codes "--json" ∷ []) (RunJson 1 7)
   pub json_tree : AsksTree (name ∷ codes "run" ∷ codes "--json" ∷ codes "--tree" ∷ codes "2x3" ∷ []) (codes "2x3")
+  pub stream : Asks (name ∷ codes "run" ∷ codes "--stream" ∷ []) (RunStream 1 1000000)
+  pub stream_first : Asks (name ∷ codes "run" ∷ codes "--stream" ∷ codes "--workers" ∷ codes "4" ∷ codes "--limit" ∷ codes "7" ∷ []) (RunStream 4 7)
+  pub stream_last : Asks (name ∷ codes "run" ∷ codes "--progress" ∷ codes "--limit=7" ∷ codes "--stream" ∷ []) (RunStream 1 7)
+  pub stream_tree : AsksTree (name ∷ codes "run" ∷ codes "--stream" ∷ codes "--tree" ∷ codes "2x3" ∷ []) (codes "2x3")
   pub explain : Asks (name ∷ codes "explain" ∷ []) (Explain All)
   pub explain_code : Asks (name ∷ codes "explain" ∷ codes "14" ∷ []) (Explain (Code 14))
   pub explain_fault : Asks (name ∷ codes "explain" ∷ codes "--fault" ∷ codes "8" ∷ []) (Explain (Fault 8))
@@ -105,6 +109,10 @@ pub record WordsAreRefused (name : List ℕ) : Type 0 where
   pub json_checked : AreRefused (name ∷ codes "check" ∷ codes "--json" ∷ [])
   pub json_twice : AreRefused (name ∷ codes "run" ∷ codes "--json" ∷ codes "--json" ∷ [])
   pub json_value : AreRefused (name ∷ codes "run" ∷ codes "--json=true" ∷ [])
+  pub json_streamed : AreRefused (name ∷ codes "run" ∷ codes "--json" ∷ codes "--stream" ∷ [])
+  pub streamed_json : AreRefused (name ∷ codes "run" ∷ codes "--stream" ∷ codes "--workers" ∷ codes "4" ∷ codes "--json" ∷ [])
+  pub stream_drawn : AreRefused (name ∷ codes "draw" ∷ codes "--stream" ∷ [])
+  pub stream_twice : AreRefused (name ∷ codes "run" ∷ codes "--stream" ∷ codes "--stream" ∷ [])
   pub width_run : AreRefused (name ∷ codes "run" ∷ codes "--width" ∷ codes "a=3" ∷ [])
   pub over_time_checked : AreRefused (name ∷ codes "check" ∷ codes "--over-time" ∷ codes "a" ∷ [])
   pub two_titles : AreRefused (name ∷ codes "draw" ∷ codes "--title" ∷ codes "a" ∷ codes "--title" ∷ codes "b" ∷ [])

@@ -3,7 +3,7 @@ ghost use Rattle.std.specs.Prelude.{◌≡◌, ◌≤◌, [], false, true, codes
 ghost use Rattle.clap.specs.Words.{app_of, first_of, found_of, kind_of, new_app, one_of, rows_of, rule_of, subcommand_rows_of};
 ghost use Rattle.clap.specs.declared.builder.command.Command.TheViews.{out-Command as fields_of};
 ghost use Rattle.clap.specs.declared.error.kind.ErrorKind.TheVariants as kinds;
-ghost use Rattle.bsp_cli.specs.CommandLine.{all_rule, asked_by, bare, check_app, check_by, chosen, code_rule, explain_app, file_by, file_in, file_rule, draw_app, flag_in, is_set, job_app, json_rule, limit_in, look_by, look_in, no_look, number_from, number_rule, numbers_rule, program, progress_rule, run_app, run_by, text_app, text_rule, title_or, topic_in, tree_by, tree_in, tree_rule, unless_hyphen, workers_in};
+ghost use Rattle.bsp_cli.specs.CommandLine.{all_rule, asked_by, bare, check_app, check_by, chosen, clashes_by, code_rule, explain_app, file_by, file_in, file_rule, draw_app, flag_in, is_set, job_app, json_rule, limit_in, look_by, look_in, no_look, number_from, number_rule, numbers_rule, program, progress_rule, run_app, run_by, stream_rule, text_app, text_rule, title_or, topic_in, tree_by, tree_in, tree_rule, unless_hyphen, workers_in};
 ghost use Rattle.bsp_cli.specs.Ends.{IsAsked, IsTopic};
 ghost use Rattle.bsp_cli.specs.Topics.{topic_by};
 ghost use Rattle.std.specs.Option.{unwrap_or};
@@ -48,6 +48,13 @@ pub enum Asked {
     },
     /// Runs a job, and writes its report as JSON.
     RunJson {
+        /// Returns the number of workers.
+        workers: u32,
+        /// The largest number of supersteps.
+        limit: u32,
+    },
+    /// Runs a job, and writes its report superstep by superstep.
+    RunStream {
         /// Returns the number of workers.
         workers: u32,
         /// The largest number of supersteps.
@@ -239,6 +246,17 @@ fn json_option<'a>(alloc: Global) -> Arg<'a>
         .action(ArgAction::SetTrue)
 }
 
+// Makes the option `--stream`.
+fn stream_option<'a>(alloc: Global) -> Arg<'a>
+    ensures rule { rule_of result ≡ stream_rule }
+    ensures local { result.global ≡ false }
+{
+    Arg::new(alloc, "stream")
+        .long("stream")
+        .help("Prints each superstep's lines when it is closed; not with --json")
+        .action(ArgAction::SetTrue)
+}
+
 // Makes the argument for the code of a refusal.
 fn code_argument<'a>(alloc: Global) -> Arg<'a>
     ensures rule { rule_of result ≡ code_rule }
@@ -323,7 +341,8 @@ fn run_command<'a>(alloc: Global) -> Result<Command<'a>, Error>
     let bare = job_command(alloc, "run", about, RUN_LINES)?;
     let with_progress = bare.arg(progress_option(alloc))?;
     let with_json = with_progress.arg(json_option(alloc))?;
-    Ok(with_json)
+    let with_stream = with_json.arg(stream_option(alloc))?;
+    Ok(with_stream)
 }
 
 // Makes the subcommand `draw`.
@@ -496,6 +515,23 @@ fn json_of(matches: &ArgMatches<'_>) -> bool
     is_set(matches.get_str("json"))
 }
 
+// Returns true if the report is to be written superstep by superstep.
+fn stream_of(matches: &ArgMatches<'_>) -> bool
+    ensures { result ≡ flag_in (codes "stream") (rows_of (found_of matches.now)) }
+{
+    is_set(matches.get_str("stream"))
+}
+
+/// Returns true if parsed words ask for a report both as JSON and superstep by superstep.
+pub(crate) fn clashes(matches: &ArgMatches<'_>) -> bool
+    ensures { result ≡ clashes_by (subcommand_rows_of matches.now) }
+{
+    match matches.subcommand() {
+        Some((name, options)) => name == "run" && (json_of(options) && stream_of(options)),
+        None => false,
+    }
+}
+
 // Returns the name of a file, or `None` if there is none, or it is a hyphen.
 fn unless_hyphen<'a>(text: Option<&'a str>) -> Option<&'a str>
     ensures { option_map (λ s. s.now) result ≡ unless_hyphen (option_map (λ s. s.now) text.entry) }
@@ -629,14 +665,17 @@ fn topic_of(matches: &ArgMatches<'_>) -> Topic
 }
 
 // Returns what `run` asks for.
-fn run_by(json: bool, workers: u32, limit: u32) -> Asked
+fn run_by(json: bool, stream: bool, workers: u32, limit: u32) -> Asked
     requires workers { (1 ≤ workers) × (workers ≤ 64) }
     requires limit { (1 ≤ limit) × (limit ≤ 1000000) }
-    ensures asked { result ≡ run_by json workers limit }
+    ensures asked { result ≡ run_by json stream workers limit }
     ensures limit { IsAsked result }
 {
     if json {
         return Asked::RunJson { workers, limit };
+    }
+    if stream {
+        return Asked::RunStream { workers, limit };
     }
     Asked::Run { workers, limit }
 }
@@ -715,7 +754,7 @@ pub(crate) fn asked_for<'a>(matches: &ArgMatches<'a>) -> Request<'a>
             }
             let (workers, limit) = (workers_of(options), limit_of(options));
             if name == "run" {
-                let asked = run_by(json_of(options), workers, limit);
+                let asked = run_by(json_of(options), stream_of(options), workers, limit);
                 return with_tree(asked, options, no_look(), options.get_flag("progress"));
             }
             if name == "draw" {

@@ -11,12 +11,14 @@ ghost use Rattle.bsp_cli.specs.Did.{Did, ReadsNothing};
 ghost use Rattle.bsp_cli.specs.Ends.{Does, IsAsked, ReadCause, WriteCause};
 ghost use Rattle.bsp_cli.specs.Texts.{CountsFailures, Says, Tells, WritesSome, version_line};
 
-use crate::asked::{Asked, Request, VERSION_LINE, asked_for, parser};
+use crate::asked::{Asked, Request, VERSION_LINE, asked_for, clashes, parser};
+use crate::clash::refuse_clash;
 use crate::explain::explain;
 use crate::fault::{RunFault, refuse, tell};
 use crate::job::{check, check_all, draw_bytes, run_bytes, run_json_bytes, run_status, upgrade};
 use crate::progress::{NoProgress, Progress};
 use crate::status::{COMMAND_LINE_REFUSED, DEVICE_FAILED, OUT_OF_MEMORY};
+use crate::stream::stream_bytes;
 use crate::trace::trace;
 use clap::Error;
 use clap::error::ErrorKind;
@@ -39,7 +41,12 @@ fn parse<'a, S: AsStr>(alloc: Global, words: &'a [S]) -> Result<Request<'a>, Err
 {
     let command = parser(alloc)?;
     match command.try_get_matches_from(words) {
-        Ok(matches) => Ok(asked_for(&matches)),
+        Ok(matches) => {
+            if clashes(&matches) {
+                return refuse_clash(alloc);
+            }
+            Ok(asked_for(&matches))
+        }
         Err(error) => Err(error),
     }
 }
@@ -124,7 +131,7 @@ fn answer_error<W: CountedWrite, E: CountedWrite>(
 }
 
 // Does what is asked for. Returns the status.
-fn do_asked<T: Threads + Wait + Sync, R: CountedRead, W: CountedWrite, P: Progress + Sync>(
+fn do_asked<T: Threads + Wait + Sync, R: CountedRead, W: CountedWrite + Send, P: Progress + Sync>(
     rt: &T,
     alloc: Global,
     request: Request<'_>,
@@ -176,6 +183,14 @@ fn do_asked<T: Threads + Wait + Sync, R: CountedRead, W: CountedWrite, P: Progre
             };
             run_status(run_json_bytes(rt, alloc, reader, writer, shape, workers, limit, progress))
         }
+        Asked::RunStream { workers, limit } => {
+            let progress = if request.progress {
+                Some(progress)
+            } else {
+                None
+            };
+            run_status(stream_bytes(rt, alloc, reader, writer, shape, workers, limit, progress))
+        }
         Asked::Draw { workers, limit } => {
             let look = request.look;
             run_status(draw_bytes(rt, alloc, reader, writer, shape, workers, limit, look))
@@ -188,7 +203,7 @@ fn do_asked<T: Threads + Wait + Sync, R: CountedRead, W: CountedWrite, P: Progre
 fn run_asked<
     T: Threads + Wait + Sync,
     R: CountedRead,
-    W: CountedWrite,
+    W: CountedWrite + Send,
     E: CountedWrite,
     P: Progress + Sync,
 >(
@@ -281,7 +296,7 @@ pub fn file_named<'a, S: AsStr>(
 fn run_request<
     T: Threads + Wait + Sync,
     R: CountedRead,
-    W: CountedWrite,
+    W: CountedWrite + Send,
     E: CountedWrite,
     P: Progress + Sync,
 >(
@@ -321,7 +336,7 @@ pub fn run_telling<
     T: Threads + Wait + Sync,
     S: AsStr,
     R: CountedRead,
-    W: CountedWrite,
+    W: CountedWrite + Send,
     E: CountedWrite,
     P: Progress + Sync,
 >(
@@ -350,7 +365,7 @@ pub fn run<
     T: Threads + Wait + Sync,
     S: AsStr,
     R: CountedRead,
-    W: CountedWrite,
+    W: CountedWrite + Send,
     E: CountedWrite,
 >(rt: &T, alloc: Global, words: &'a [S], reader: &mut R, writer: &mut W, errors: &mut E) -> u8
     ensures { AnswersWords (map S.text words.entry.now) (around R.remaining R.failures reader.old reader.new)

@@ -279,7 +279,12 @@ pub(crate) const RUN_LINES: &str = run_help!(
 
 The report as a JSON object, for other programs:
 
-  $ bsp run --json -f examples/swap.job > swap.json"
+  $ bsp run --json -f examples/swap.job > swap.json
+
+Each superstep's lines when it is closed, so that a long run keeps only its arrays, its tasks
+and one superstep in memory; if it ends with 6 or 9, whole supersteps may have been printed:
+
+  $ bsp run --stream -f examples/swap.job > swap.txt"
 );
 
 // The help of `draw`.

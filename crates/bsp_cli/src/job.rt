@@ -32,8 +32,8 @@ use task_code::job::Job;
 use tier_shape::Shape;
 use worker_pool::{AllStart, Gate, OpenGate, Refused, run_within};
 
-// Reads a job to the reader's end, or returns the first fault.
-fn take_job<R: CountedRead>(alloc: Global, reader: &mut R) -> Result<Job, RunFault>
+/// Reads a job to the reader's end, or returns the first fault.
+pub(crate) fn take_job<R: CountedRead>(alloc: Global, reader: &mut R) -> Result<Job, RunFault>
     ensures takes { TakesJob (R.remaining reader.old) result }
     ensures failures { ReadCause (R.failures reader.old) (R.failures reader.new) result }
 {
@@ -230,8 +230,8 @@ fn leave_alone<P: Progress>(
     left
 }
 
-// Runs a job within this limit of supersteps: a single worker on this thread, several on threads that share it.
-fn leave<T: Threads + Wait + Sync, P: Progress + Sync>(
+/// Runs a job within this limit of supersteps: a single worker on this thread, several on threads that share it.
+pub(crate) fn leave<T: Threads + Wait + Sync, P: Progress + Sync>(
     rt: &T,
     alloc: Global,
     job: &Job,
@@ -256,8 +256,8 @@ fn leave<T: Threads + Wait + Sync, P: Progress + Sync>(
     left
 }
 
-// Returns the program's fault for why a run on workers didn't end.
-fn fault_of(refused: Refused) -> RunFault
+/// Returns the program's fault for why a run on workers didn't end.
+pub(crate) fn fault_of(refused: Refused) -> RunFault
     ensures { (workers : ℕ) → IsOfWorkers workers refused → IsOfPool workers result }
 {
     match refused {
@@ -275,8 +275,8 @@ fn status_of(report: Report) -> JobStatus
     status
 }
 
-// Writes a report. Returns how its job ended.
-fn write_end<W: CountedWrite>(
+/// Writes a report. Returns how its job ended.
+pub(crate) fn write_end<W: CountedWrite>(
     alloc: Global,
     report: Report,
     writer: &mut W,

@@ -2,14 +2,15 @@
 //!
 //! # Where things are
 //!
-//! * `asked.rt`: the parser and what words ask for; `help.rt`: the texts of help; `trace.rt`, `job.rt` and
-//!   `explain.rt`: the subcommands; `progress.rt`: progress while a job runs; `why.rt`, `end_why.rt`: the reasons
-//!   for people;
+//! * `asked.rt`: the parser and what words ask for; `clash.rt`: words that ask for too much; `help.rt`: the texts of
+//!   help; `trace.rt`, `job.rt`, `stream.rt` and `explain.rt`: the subcommands; `progress.rt`: progress while a job
+//!   runs; `why.rt`, `end_why.rt`: the reasons for people;
 //!   `fault.rt`: the line on standard error; `command_line.rt`: the whole; `program.rt`: from the system's words.
 //! * `specs/CommandLine.antt`: words; `Did.antt`: what a status means.
 #![tactic(auto)]
 
 mod asked;
+mod clash;
 mod command_line;
 mod end_why;
 mod explain;
@@ -19,6 +20,7 @@ mod job;
 mod laws;
 mod program;
 mod progress;
+mod stream;
 mod trace;
 mod why;
 
@@ -32,6 +34,7 @@ pub use laws::{
 };
 pub use program::run_program;
 pub use progress::{NoProgress, Progress, WatchEnd};
+pub use stream::stream_bytes;
 
 /// Statuses that the program ends with. 0 means success.
 pub mod status {

@@ -161,7 +161,7 @@ fn tell_why<T: AllocGlobal + Eprint>(
 /// ended a job or it reached its limit, and the job is then run again, on this thread.
 pub fn run_program<
     T: env::Env + AllocGlobal + Files + Input + Clock + Eprint + Threads + Wait + Sync,
-    W: CountedWrite,
+    W: CountedWrite + Send,
     E: CountedWrite,
 >(rt: &T, terminal: bool, reasons: bool, writer: &mut W, errors: &mut E) -> u8
     ensures status { result ≤ 9 }

@@ -5,7 +5,8 @@ ghost use Rattle.text_lines.specs.declared.refusal.Refusal.{Refusal};
 ghost use Rattle.trace_text.specs.Trace.{asked_of};
 ghost use Rattle.job_reasons.specs.Reasons.{refusal_reason as told_reason};
 
-use crate::asked::parser;
+use crate::asked::{clashes, parser};
+use crate::clash::CLASH;
 use devices::{Reader, Writer};
 use job_reasons::{Kind, job_reason, refusal_reason};
 use std::alloc::{AllocError, Global};
@@ -56,6 +57,7 @@ pub(crate) fn reason_of(alloc: Global, words: &[&str]) -> Result<String, AllocEr
         return Err(AllocError);
     };
     let mut reason = match command.try_get_matches_from(words) {
+        Ok(matches) if clashes(&matches) => return String::from_str(alloc, CLASH),
         Ok(_) => return String::from_str(alloc, TREE),
         Err(error) => error.to_string(alloc)?,
     };

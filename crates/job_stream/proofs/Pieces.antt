@@ -8,7 +8,6 @@ use Rattle.task_code.specs.JobValue.{JobValue}
 use Rattle.task_lang.specs.TaskValue.{TaskValue}
 use Rattle.task_lang.specs.Views.{plans, task_of}
 use Rattle.task_lang.specs.Meaning as job
-use Rattle.step_parts.specs.SlotParts.{path_in}
 use Rattle.step_parts.specs.Program.{Program, program_of}
 use Rattle.step_parts.specs.JobMeaning as jm
 use Rattle.programs.specs.Superstep as gn
@@ -21,14 +20,13 @@ use Rattle.job_program.specs.declared.job.JobProgram.{JobProgram}
 use Rattle.job_program.specs.JobTasks.{job_frame, job_does, job_says, JobMay}
 use Rattle.job_program.proofs.Same.{as_state, so_far_as, starts, starts_begin, job_report}
 use Rattle.program_stretches.specs.Opening.{OpeningValue, live_of}
-use Rattle.program_stretches.specs.Parts.{Reading, reading_of}
 use Rattle.program_stretches.specs.LinesValue.{LinesValue}
 use Rattle.program_stretches.specs.Reached.{IsReached, HasRunOn}
 use Rattle.program_stretches.specs.StretchesValue.{state_with}
 use Rattle.program_stretches.specs.Closing.{HasLeft}
 use Rattle.program_stretches.proofs.Course.{last_same}
 use Rattle.job_stream.specs.Streamed.{IsPiece, IsRest}
-use Rattle.job_stream.specs.Running.{IsRunOf, IsGivenAfter}
+use Rattle.job_stream.specs.Running.{IsRunOf, IsGivenAfter, job_reading}
 
 -- ---- each state of a job's run is the job's
 
@@ -91,9 +89,6 @@ piece_at j limit given st l h calm first next prints records le =
           ap (λ x. x.records) at ∙ sym (ap (λ (x : gn.State job.Task). x.records) now) ∙ sym (ap (λ (x : gn.State job.Task). x.records) h.state)
           ∙ (λ i. (early i).records ++ sym records i) ∙ ap (λ (m : ℕ). (jm.so_far p limit m).records ++ l.records) (sym first);
     }
-
-abbrev pub job_reading : JobProgram → Reading TaskValue job.Task
-job_reading = reading_of (λ q. job_frame) (λ q. JobMay (plans q.job.now.bodies)) (λ q. task_of (plans q.job.now.bodies)) path_in
 
 -- the first opening of a log that went on
 first_same : (a b : OpeningValue JobProgram TaskValue) (since more : List (OpeningValue JobProgram TaskValue)) (log earlier : List (OpeningValue JobProgram TaskValue))

@@ -20,9 +20,9 @@ use Rattle.program_stretches.specs.Closing.{IsGiven}
 use Rattle.job_stream.specs.declared.fault.StreamFault.{StreamFault}
 use Rattle.job_stream.specs.declared.fault.StreamFault.TheVariants.{Write, Memory, Internal}
 use Rattle.job_stream.specs.Streamed.{lines_of, IsPiece, IsRest, Streams, Ends, Continues, Closes, WritesWhole, StreamCause}
-use Rattle.job_stream.specs.Running.{IsRunOf, IsGivenAfter}
+use Rattle.job_stream.specs.Running.{IsRunOf, IsGivenAfter, job_reading}
 use Rattle.job_stream.proofs.Texts.{lines_later, some_rest, rest_text}
-use Rattle.job_stream.proofs.Pieces.{job_reading, given_piece}
+use Rattle.job_stream.proofs.Pieces.{given_piece}
 
 -- ---- one superstep
 

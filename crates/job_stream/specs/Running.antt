@@ -5,9 +5,12 @@ use Rattle.task_code.specs.JobValue.{JobValue}
 use Rattle.task_lang.specs.TaskValue.{TaskValue}
 use Rattle.task_lang.specs.Views.{plans, task_of}
 use Rattle.step_parts.specs.JobMeaning.{start_tasks}
+use Rattle.step_parts.specs.SlotParts.{path_in}
+use Rattle.task_lang.specs.Meaning.{Task}
 use Rattle.job_program.specs.declared.job.JobProgram.{JobProgram}
+use Rattle.job_program.specs.JobTasks.{job_frame, JobMay}
 use Rattle.program_stretches.specs.Opening.{OpeningValue, live_of}
-use Rattle.program_stretches.specs.Parts.{Reading}
+use Rattle.program_stretches.specs.Parts.{Reading, reading_of}
 use Rattle.program_stretches.specs.LinesValue.{LinesValue}
 use Rattle.program_stretches.specs.StretchesValue.{StretchesValue}
 use Rattle.program_stretches.specs.Closing.{IsGiven}
@@ -30,3 +33,7 @@ module _ {Q S T : Type 0} where
     pub since : WasBefore log run.log
     pub calm : run.fault ≡ None
     pub given : IsGiven m run lines
+
+-- how the tasks of a job are read
+abbrev pub job_reading : JobProgram → Reading TaskValue Task
+job_reading = reading_of (λ q. job_frame) (λ q. JobMay (plans q.job.now.bodies)) (λ q. task_of (plans q.job.now.bodies)) path_in

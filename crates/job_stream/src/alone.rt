@@ -1,8 +1,9 @@
 //! A run of a job on one thread.
 ghost use Rattle.std.specs.Prelude.{◌≡◌, ◌≤◌, IfOk, IfErr, OnOk};
 ghost use Rattle.job_stream.specs.Streamed.{Streams, Continues, Ends, Closes, IsRest, IsNoWrite, StreamCause};
-ghost use Rattle.job_stream.specs.Running.{IsRunOf};
+ghost use Rattle.job_stream.specs.Running.{IsRunOf, job_reading};
 ghost use Rattle.phase_records.specs.StatusSeen.{status_seen};
+ghost use Rattle.program_stretches.specs.Closing.{HasLeft};
 ghost use Rattle.step_parts.specs.Program.{program_of};
 
 use crate::fault::StreamFault;
@@ -90,40 +91,34 @@ fn advance<W: CountedWrite>(
     }
 }
 
-// What a run that has ended leaves, if it gave away the lines of `written` supersteps.
-fn left_of<'t, 'p, 'j>(
-    alloc: Global,
+// What a run left, if it gave away the lines of `written` supersteps.
+fn rest_of<'t, 'p, 'j>(
     log: &'t Log<Opened<'p, JobProgram<'j>, Task>>,
-    stretches: Stretches<'t, 'p, JobProgram<'j>>,
+    left: Left<'p, JobProgram<'j>>,
     first: Snapshot<Opened<'p, JobProgram<'j>, Task>>,
     job: &Job,
     limit: u32,
     written: u32,
 ) -> Result<Report, StreamFault>
-    requires log { stretches.name ≡ log.now }
+    requires log { left.writer.name ≡ log.now }
+    requires left { HasLeft job_reading left.writer.log left.given left.ran.report left.ran.tasks.items }
     requires name { first.name ≡ log.now }
     requires run { IsRunOf job.now limit first.log }
     ensures report { IfOk result (λ report. IsRest (program_of job.now) limit written report) }
     ensures whole { IfErr result IsNoWrite }
 {
-    match stretches.into_left(alloc) {
-        Ok(Some(left)) => {
-            let Left {
-                ran,
-                given,
-                mut writer,
-            } = left;
-            writer.compare(log, first);
-            writer.give_up();
-            let Ran { report, tasks: _ } = ran;
-            if given == written {
-                Ok(report)
-            } else {
-                Err(StreamFault::Internal)
-            }
-        }
-        Ok(None) => Err(StreamFault::Internal),
-        Err(AllocError) => Err(StreamFault::Memory),
+    let Left {
+        ran,
+        given,
+        mut writer,
+    } = left;
+    writer.compare(log, first);
+    writer.give_up();
+    let Ran { report, tasks: _ } = ran;
+    if given == written {
+        Ok(report)
+    } else {
+        Err(StreamFault::Internal)
     }
 }
 
@@ -150,6 +145,47 @@ fn status_of(report: Report) -> JobStatus
     status
 }
 
+/// Writes what a run left after the lines of `written` supersteps, if these are what it gave away. Returns how it ended. `first` is of
+/// the run's log.
+pub fn write_left<'t, 'p, 'j, W: CountedWrite>(
+    alloc: Global,
+    log: &'t Log<Opened<'p, JobProgram<'j>, Task>>,
+    left: Left<'p, JobProgram<'j>>,
+    first: Snapshot<Opened<'p, JobProgram<'j>, Task>>,
+    job: &Job,
+    limit: u32,
+    written: u32,
+    writer: &mut W,
+) -> Result<JobStatus, StreamFault>
+    requires log { left.writer.name ≡ log.now }
+    requires left { HasLeft job_reading left.writer.log left.given left.ran.report left.ran.tasks.items }
+    requires name { first.name ≡ log.now }
+    requires run { IsRunOf job.now limit first.log }
+    ensures text { Ends (program_of job.now) limit written (W.contents writer.old) (W.contents writer.new) result }
+    ensures failures { StreamCause (W.failures writer.old) (W.failures writer.new) result }
+{
+    match rest_of(log, left, first, job, limit, written) {
+        Ok(report) => close_report(alloc, report, writer),
+        Err(fault) => Err(fault),
+    }
+}
+
+// What a run that has ended leaves.
+fn left_of<'t, 'p, 'j>(
+    alloc: Global,
+    stretches: Stretches<'t, 'p, JobProgram<'j>>,
+) -> Result<Left<'p, JobProgram<'j>>, StreamFault>
+    ensures name { IfOk result (λ left. left.writer.name ≡ stretches.entry.name) }
+    ensures left { IfOk result (λ left. HasLeft job_reading left.writer.log left.given left.ran.report left.ran.tasks.items) }
+    ensures whole { IfErr result IsNoWrite }
+{
+    match stretches.into_left(alloc) {
+        Ok(Some(left)) => Ok(left),
+        Ok(None) => Err(StreamFault::Internal),
+        Err(AllocError) => Err(StreamFault::Memory),
+    }
+}
+
 // Writes what a run leaves, after the lines of `written` supersteps. Returns how it ended.
 fn finish<'t, 'p, 'j, W: CountedWrite>(
     alloc: Global,
@@ -167,8 +203,8 @@ fn finish<'t, 'p, 'j, W: CountedWrite>(
     ensures text { Ends (program_of job.now) limit written (W.contents writer.old) (W.contents writer.new) result }
     ensures failures { StreamCause (W.failures writer.old) (W.failures writer.new) result }
 {
-    match left_of(alloc, log, stretches, first, job, limit, written) {
-        Ok(report) => close_report(alloc, report, writer),
+    match left_of(alloc, stretches) {
+        Ok(left) => write_left(alloc, log, left, first, job, limit, written, writer),
         Err(fault) => Err(fault),
     }
 }

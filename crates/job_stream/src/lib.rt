@@ -15,5 +15,6 @@ mod fault;
 mod step;
 mod text;
 
-pub use alone::stream_alone;
+pub use alone::{stream_alone, write_left};
 pub use fault::StreamFault;
+pub use text::pass_on;

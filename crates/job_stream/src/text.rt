@@ -67,7 +67,7 @@ fn write_lines<W: CountedWrite>(
 }
 
 /// Writes the lines of the supersteps that come next, after the first `written`. Returns how many are written now.
-pub(crate) fn pass_on<W: CountedWrite>(
+pub fn pass_on<W: CountedWrite>(
     alloc: Global,
     job: &Job,
     limit: u32,

@@ -110,14 +110,12 @@ pub(crate) struct Ran {
 }
 
 /// Runs the program on these devices.
-pub(crate) fn run_with<T: Threads + Wait + Sync, R: Read + Drop, W: Write + Drop, E: Write + Drop>(
-    rt: &T,
-    alloc: Global,
-    words: &[&str],
-    input: R,
-    out: W,
-    errors: E,
-) -> u8 {
+pub(crate) fn run_with<
+    T: Threads + Wait + Sync,
+    R: Read + Drop,
+    W: Write + Drop + Send,
+    E: Write + Drop,
+>(rt: &T, alloc: Global, words: &[&str], input: R, out: W, errors: E) -> u8 {
     let mut reader = Reader::new(input);
     let mut writer = Writer::new(out);
     let mut error_writer = Writer::new(errors);

@@ -1,6 +1,6 @@
 use Rattle.step_parts.specs.Program.{program_of}
 use Rattle.job_stream.proofs.Streams.{ends_after}
-use Rattle.job_stream.proofs.alone.finish.Goals as goal
+use Rattle.job_stream.proofs.alone.write_left.Goals as goal
 
 pub returns-in-Ok-clause-text : goal.returns-in-Ok-clause-text
 returns-in-Ok-clause-text g c =

@@ -1,0 +1,15 @@
+use Rattle.job_stream.proofs.Streams.{run_on}
+use Rattle.stream_workers.proofs.Handing.{lines_given}
+use Rattle.stream_workers.proofs.engine.HandingEngine.close.Goals as goal
+
+pub invariant_of-self : goal.invariant_of-self
+invariant_of-self g c =
+    let i = c.self.invariant in
+    (run_on g.J.Streaming.job g.J.Streaming.limit c.self.inside.stretches.log c.close_and_give.new.stretches.log i.0 c.close_and_give.ensures.log, i.1)
+
+pub invariant_of-self-2 : goal.invariant_of-self-2
+invariant_of-self-2 g c =
+    let i = c.self.invariant in (
+      run_on g.J.Streaming.job g.J.Streaming.limit c.self.inside.stretches.log c.close_and_give.new.stretches.log i.0 c.close_and_give.ensures.log,
+      lines_given g.J.Streaming.job g.J.Streaming.limit c.self.inside.stretches.log c.in_ok-closed.lines i.0 c.in_ok-closed.ensures.given,
+    )

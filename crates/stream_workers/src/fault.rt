@@ -1,0 +1,35 @@
+//! Why a run on workers that is written superstep by superstep doesn't end.
+ghost use Rattle.std.specs.Prelude.{◌≡◌, ℕ, List, Option, Err};
+ghost use Rattle.std.specs.Io.KnownBytes.{Appends};
+ghost use Rattle.step_parts.specs.Program.{Program};
+ghost use Rattle.worker_pool.specs.Refusals.{IsOfWorkers};
+ghost use Rattle.job_stream.specs.Streamed.{lines_of};
+ghost use Rattle.stream_workers.specs.Written.{CauseOn, StreamsOn};
+
+use job_stream::StreamFault;
+use thiserror::Error;
+use worker_pool::Refused;
+
+/// Why a run on workers that is written superstep by superstep doesn't end (own). All workers that were started have been joined.
+#[derive(Clone, Copy, Debug, PartialEq, Eq, Error)]
+pub enum Unstreamed {
+    /// As on one thread.
+    #[error(transparent)]
+    Fault(StreamFault),
+    /// The worker of this number, counted from 0, couldn't be started. Nothing was written.
+    #[error("worker {0} not started")]
+    NotStarted(u32),
+}
+
+/// Why a run doesn't end that workers refused when the lines of `written` supersteps were written.
+pub(crate) fn why_unstreamed(refused: Refused, written: u32) -> Unstreamed
+    ensures streams { (workers limit : ℕ) (p : Program) (old new : Option (List ℕ)) → IsOfWorkers workers refused → Appends old new (lines_of p limit written)
+        → StreamsOn workers p limit old new (Err result) }
+    ensures cause { (failures : ℕ) → CauseOn failures failures (Err result) }
+{
+    match refused {
+        Refused::NotStarted(k) if written == 0 => Unstreamed::NotStarted(k),
+        Refused::NotStarted(_) | Refused::Internal => Unstreamed::Fault(StreamFault::Internal),
+        Refused::Memory => Unstreamed::Fault(StreamFault::Memory),
+    }
+}
