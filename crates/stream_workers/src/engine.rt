@@ -72,6 +72,8 @@ impl<'p, 'j, 'o, 'w, R: Wait, W: CountedWrite, J: Streaming> engine::Stretch
 
     ghost done = { λ h. done_of h.stretch };
 
+    ghost finished = { λ h. h.stretch.part.done };
+
     ghost next = { λ h. next_of path_in h.stretch };
 
     ghost runs_to = { λ end old new. HasRunTo end old.stretch new.stretch };
@@ -95,7 +97,7 @@ impl<'p, 'j, 'o, 'w, R: Wait, W: CountedWrite, J: Streaming> engine::Stretch
     }
 
     fn is_finished(&self) -> bool {
-        self.stretch.is_done() || self.stretch.len() == 0
+        self.stretch.is_done()
     }
 
     fn next_path(&self) -> Option<Path> {
@@ -191,7 +193,7 @@ impl<'t, 'p, 'j, 'o, 'w, R: Wait, W: CountedWrite, J: Streaming> Engine
     ghost use Rattle.program_stretches.specs.StretchesValue.{status_in, can_leave, ready_at, tasks_at};
     ghost use Rattle.program_stretches.specs.Closing.{IsTaken, Accepts, IsSameRun};
     ghost use Rattle.job_stream.specs.Running.{job_reading};
-    ghost use Rattle.worker_pool.specs.Leaving.{Gives};
+    ghost use Rattle.worker_pool.specs.Leaving.{Gives, out_at};
     ghost use Rattle.stream_workers.specs.Handed.{with_handed};
 
     type Stretch = Handed<'p, 'j, 'o, 'w, R, W, J>;
@@ -209,6 +211,8 @@ impl<'t, 'p, 'j, 'o, 'w, R: Wait, W: CountedWrite, J: Streaming> Engine
     ghost size = { λ v number. length (tasks_at (slice_get v.stretches.parts number)) };
 
     ghost ready = { λ v number. ready_at (slice_get v.stretches.parts number) };
+
+    ghost out = { λ v number. out_at (slice_get v.stretches.parts number) };
 
     ghost step = { λ v. v.stretches.step };
 
@@ -270,11 +274,11 @@ impl<'t, 'p, 'j, 'o, 'w, R: Wait, W: CountedWrite, J: Streaming> Engine
         }
     }
 
-    fn accept(&mut self, handed: Handed<'p, 'j, 'o, 'w, R, W, J>) -> Result<(), Reason> {
+    fn accept(&mut self, handed: Handed<'p, 'j, 'o, 'w, R, W, J>) {
         let Handed { stretch, .. } = handed;
         match self.stretches.accept(stretch) {
-            Ok(()) => Ok(()),
-            Err(_) => Err(Reason::Internal),
+            Ok(()) => {}
+            Err(_) => unreachable!(),
         }
     }
 
