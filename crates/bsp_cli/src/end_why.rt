@@ -6,10 +6,11 @@ use std::alloc::{AllocError, Global};
 // Returns the limit that words ask for, if they ask for a run.
 fn limit_of(asked: Asked) -> Option<u32> {
     match asked {
-        Asked::Run { limit, .. } | Asked::RunJson { limit, .. } | Asked::Draw { limit, .. } => {
-            Some(limit)
-        }
-        _ => None,
+        Asked::Run { limit, .. }
+        | Asked::RunJson { limit, .. }
+        | Asked::RunStream { limit, .. }
+        | Asked::Draw { limit, .. } => Some(limit),
+        Asked::Trace | Asked::Check | Asked::CheckAll | Asked::Upgrade | Asked::Explain(_) => None,
     }
 }
 
