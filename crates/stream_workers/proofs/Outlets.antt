@@ -1,18 +1,18 @@
 -- What an outlet has written, call after call.
-use Rattle.std.proofs.Common.{◌≡◌, ◌<◌, ℕ, true, false, true≢false, List, [], Option, Some, None, Result, Ok, Err, refl, subst, ◌∙◌, append-nil}
+use Rattle.std.proofs.Common.{◌≡◌, ℕ, false, true≢false, List, [], Option, Some, None, Result, Ok, Err, refl, subst, ◌∙◌, append-nil}
 use Rattle.std.specs.Prelude.{is_some}
 use Rattle.std.specs.Io.KnownBytes.{Appends, Keeps}
 use Rattle.devices.proofs.PassedBytes.{Appends-none}
 use Rattle.phase_records.specs.declared.record.JobStatus.{JobStatus}
 use Rattle.task_code.specs.JobValue.{JobValue}
 use Rattle.step_parts.specs.Program.{Program, program_of}
-use Rattle.job_stream.specs.Streamed.{lines_of, Continues, Ends, StreamCause, Streams}
+use Rattle.job_stream.specs.Streamed.{lines_of, Continues, Ends, StreamCause}
 use Rattle.job_stream.specs.declared.fault.StreamFault.{StreamFault}
 use Rattle.job_stream.specs.declared.fault.StreamFault.TheVariants.{Write, Memory, Internal}
 use Rattle.job_stream.proofs.Streams.{goes_on, streams_failed, streams_ended}
 use Rattle.stream_workers.specs.Written.{HasWritten, StreamsOn, CauseOn}
 use Rattle.stream_workers.specs.declared.fault.Unstreamed.{Unstreamed}
-use Rattle.stream_workers.specs.declared.fault.Unstreamed.TheVariants.{Fault, NotStarted}
+use Rattle.stream_workers.specs.declared.fault.Unstreamed.TheVariants.{Fault}
 
 -- the lines of no superstep are nothing
 pub nothing_kept : (old new : Option (List ℕ)) → Appends old new [] → Keeps old new

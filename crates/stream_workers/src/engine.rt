@@ -1,5 +1,6 @@
 //! The stretches of a job as an engine, with the lines of its last superstep.
-ghost use Rattle.std.specs.Prelude.{◌≡◌, None, true, false, IfOk, IfSome, OnOk};
+ghost use Rattle.std.specs.Prelude.{◌≡◌, None, Err, true, false, IfOk, IfSome, OnOk};
+ghost use Rattle.worker_pool.specs.declared.fault.Reason.TheVariants as reason;
 ghost use Rattle.snapshot_log.specs.Agreed.{WasBefore};
 ghost use Rattle.program_stretches.specs.Parts.{covers};
 ghost use Rattle.program_stretches.specs.StretchesValue.{status_in};
@@ -301,6 +302,8 @@ fn close<'t, 'p, 'j>(
 ) -> Result<Closed, Reason>
     requires running { status_in stretches.old ≡ None }
     ensures whole { OnOk result (covers true stretches.old.count 0 stretches.old.parts ≡ true) }
+    ensures missing { result ≡ Err reason.Internal → (covers true stretches.old.count 0 stretches.old.parts ≡ false) × (stretches.new ≡ stretches.old) }
+    ensures memory { result ≡ Err reason.Memory → covers true stretches.old.count 0 stretches.old.parts ≡ true }
     ensures landed { IfOk result (λ closed. closed ≡ Closed.Landed → stretches.new.fault ≡ None) }
     ensures log { WasBefore stretches.old.log stretches.new.log }
     ensures same { IsSameRun stretches.old stretches.new }
@@ -340,6 +343,8 @@ fn close_and_give<'t, 'p, 'j>(
 ) -> Result<(Closed, Option<Lines>), Reason>
     requires running { status_in stretches.old ≡ None }
     ensures whole { OnOk result (covers true stretches.old.count 0 stretches.old.parts ≡ true) }
+    ensures missing { result ≡ Err reason.Internal → (covers true stretches.old.count 0 stretches.old.parts ≡ false) × (stretches.new ≡ stretches.old) }
+    ensures memory { result ≡ Err reason.Memory → covers true stretches.old.count 0 stretches.old.parts ≡ true }
     ensures given { IfOk result (λ r. IfSome r.1 (IsGivenAfter job_reading stretches.old.log)) }
     ensures log { WasBefore stretches.old.log stretches.new.log }
     ensures same { IsSameRun stretches.old stretches.new }
