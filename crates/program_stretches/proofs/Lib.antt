@@ -7,3 +7,4 @@ pub mod Course
 pub mod Closed
 pub mod Refusing
 pub mod InTurn
+pub mod Reopening

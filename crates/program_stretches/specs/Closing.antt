@@ -1,7 +1,8 @@
--- How stretches are taken and taken back, and how a superstep is closed (own).
-use Rattle.std.specs.Prelude.{◌≡◌, ℕ, ℤ, Bool, true, false, List, [], ◌∷◌, ◌++◌, map, Option, Some, None, slice_get}
+-- How stretches are handed out and taken back, and how a superstep is closed (own).
+use Rattle.std.specs.Prelude.{◌≡◌, ◌+◌, ℕ, ℤ, Bool, true, false, List, [], ◌∷◌, ◌++◌, length, map, Option, Some, None, slice_get}
 use Rattle.atomic_table.specs.Seated.{TableId}
 use Rattle.phase_records.specs.ReportValue.{ReportValue}
+use Rattle.programs.specs.InPlace.{left_in, spawned_in}
 use Rattle.programs.specs.Superstep.{ended_by}
 use Rattle.program_stretches.specs.Reached.{HasRunOn}
 use Rattle.program_stretches.specs.LinesValue.{LinesValue}
@@ -12,19 +13,19 @@ use Rattle.program_stretches.specs.declared.fault.Unclosed.TheVariants as unclos
 use Rattle.program_stretches.specs.declared.fault.Outcome.{Outcome}
 use Rattle.program_stretches.specs.declared.fault.Outcome.TheVariants.{Landed}
 use Rattle.program_stretches.specs.PartValue.{PartValue}
-use Rattle.program_stretches.specs.Parts.{Reading, AreFresh, covers, tasks_in}
+use Rattle.program_stretches.specs.Parts.{Reading, AreFresh, covers, of_slot, tasks_in, renewed}
 use Rattle.program_stretches.specs.Opening.{OpeningValue, live_of}
 use Rattle.program_stretches.specs.Did.{IsStep, IsStepTo}
 use Rattle.program_stretches.specs.StretchesValue.{StretchesValue, StretchValue, state_with, with_slot, IsAfter, IsCourse}
 
--- a stretch that isn't taken
+-- whether there is such a stretch and it isn't out
 abbrev pub is_there : {S : Type 0} → Option (Option (PartValue S)) → Bool
 is_there None = false
 is_there (Some None) = false
 is_there (Some (Some part)) = true
 
 module _ {Q S : Type 0} where
-  -- it begins with this program, these arrays and these tasks, and nothing was taken
+  -- a run of this program, with these arrays and these tasks, before its first superstep; no stretch is out or has run
   pub record IsBegun (name : TableId) (program : Q) (arrays : List (List ℕ × List ℤ)) (tasks : List S) (most limit : ℕ) (v : StretchesValue Q S) : Type 0 where
     pub opening : OpeningValue Q S
     pub log : v.log ≡ opening ∷ []
@@ -37,8 +38,10 @@ module _ {Q S : Type 0} where
     pub at_most : v.most ≡ most
     pub to_limit : v.limit ≡ limit
     pub ready : AreFresh 0 v.parts
+    pub counted : v.count ≡ length (tasks_in v.parts)
+    pub nothing_given : v.given ≡ 0
 
-  -- the stretch of this number was there and hasn't run, is taken, and is of this superstep
+  -- the stretch of this number, which wasn't out and hasn't run, is handed out for this superstep
   pub record IsTaken (old new : StretchesValue Q S) (k : ℕ) (s : StretchValue Q S) : Type 0 where
     pub number : s.number ≡ k
     pub there : slice_get old.parts k ≡ Some (Some s.part)
@@ -48,34 +51,46 @@ module _ {Q S : Type 0} where
     pub named : s.name ≡ old.name
     pub step : s.step ≡ old.step
 
-  -- why a stretch isn't taken back: the first of these reasons
+  -- why a stretch isn't taken back: the first of these reasons that applies
   abbrev pub Refuses : Unwanted → StretchesValue Q S → StretchValue Q S → Type 0
   Refuses unwanted.WrongStep v s = s.step ≡ v.step → ⊥
   Refuses unwanted.Unfinished v s = (s.step ≡ v.step) × (s.part.done ≡ false)
   Refuses unwanted.Stranger v s = (s.step ≡ v.step) × (s.part.done ≡ true) × (slice_get v.parts s.number ≡ None)
   Refuses unwanted.Double v s = (s.step ≡ v.step) × (s.part.done ≡ true) × (is_there (slice_get v.parts s.number) ≡ true)
 
-  -- when it is taken back
+  -- when a stretch is taken back
   pub record Accepts (v : StretchesValue Q S) (s : StretchValue Q S) : Type 0 where
     pub step : s.step ≡ v.step
     pub done : s.part.done ≡ true
     pub taken : slice_get v.parts s.number ≡ Some None
 
-  -- the same run
+  -- both are states of the same run
   pub record IsSameRun (old new : StretchesValue Q S) : Type 0 where
     pub named : new.name ≡ old.name
     pub program : new.program ≡ old.program
     pub most : new.most ≡ old.most
     pub limit : new.limit ≡ old.limit
 
-  -- why a superstep isn't closed
+  -- why a superstep isn't closed, and what that changes
   abbrev pub NotClosed : Unclosed → StretchesValue Q S → StretchesValue Q S → Type 0
   NotClosed unclosed.Missing old new = (covers true old.count 0 old.parts ≡ false) × (new ≡ old)
   NotClosed (unclosed.Memory e) old new = (covers true old.count 0 old.parts ≡ true) × (new.parts ≡ [])
 
-  -- the next superstep is opened with these stretches
+  -- the run after the next superstep was opened with these stretches
   abbrev pub opened_with : StretchesValue Q S → List (Option (PartValue S)) → StretchesValue Q S
   opened_with v parts = record v { log = record { program = v.program; most = v.most; limit = v.limit; arrays = v.arrays; parts = parts } ∷ v.log; parts = parts }
+
+-- no task of a stretch that isn't out has stopped or spawned another
+abbrev pub AllStay : {S : Type 0} → List (Option (PartValue S)) → Type 0
+AllStay [] = Unit {0}
+AllStay (s ∷ ss) = (left_in (of_slot (λ part. part.deeds) s) ≡ 0) × (spawned_in (of_slot (λ part. part.deeds) s) ≡ 0) × AllStay ss
+
+module _ {Q S : Type 0} where
+  -- The stretches after the superstep of this number, in which the stretches `ran` have run: all live tasks are in them, and none
+  -- has run. If all tasks stay, each stretch has the same tasks as before. After a fault there are no stretches.
+  abbrev pub IsReopened : Outcome → ℕ → List (Option (PartValue S)) → StretchesValue Q S → Type 0
+  IsReopened Landed step ran v = AreFresh 0 v.parts × (v.count ≡ length (tasks_in v.parts)) × (AllStay ran → v.parts ≡ map renewed ran) × (v.step ≡ step + 1)
+  IsReopened o step ran v = v.parts ≡ []
 
 module _ {Q S T : Type 0} where
   -- this fault ends the run in this superstep
@@ -84,12 +99,12 @@ module _ {Q S T : Type 0} where
     pub begun : IsAfter m v live
     pub step : IsStep (m v.program).frame (m v.program).may v.most (state_with v live) (ended_by (state_with v live) f)
 
-  -- what a superstep leaves that ended so
+  -- what a superstep with this outcome leaves
   abbrev pub EndsAs : (Q → Reading S T) → Outcome → StretchesValue Q S → List T → Type 0
   EndsAs m Landed v live = (v.fault ≡ None) × AreFresh 0 v.parts × (live ≡ map (m v.program).meant (tasks_in v.parts))
   EndsAs m o v live = (f : ℕ × List ℕ) × (v.fault ≡ Some f)
 
-  -- One superstep was taken, by what the tasks left that lived at its opening, and this is how it ended.
+  -- The tasks that lived when the superstep was opened have taken one step, and it ended with this outcome.
   pub record IsClosed (m : Q → Reading S T) (old new : StretchesValue Q S) (outcome : Outcome) : Type 0 where
     pub opening : OpeningValue Q S
     pub older : List (OpeningValue Q S)
@@ -99,15 +114,15 @@ module _ {Q S T : Type 0} where
     pub leaves : EndsAs m outcome new live
     pub same : IsSameRun old new
 
-  -- A run that began with the first opening of this log left this. What its first `given` supersteps printed and recorded was given
-  -- away.
+  -- This is the result of a run that began with the first opening of this log, without what its first `given` supersteps printed
+  -- and recorded.
   pub record HasLeft (m : Q → Reading S T) (log : List (OpeningValue Q S)) (given : ℕ) (outcome : ReportValue) (living : List S) : Type 0 where
     pub first : OpeningValue Q S
     pub since : List (OpeningValue Q S)
     pub begun : log ≡ since ++ first ∷ []
     pub run : HasRunOn (m first.program).frame (m first.program).may first.most first.arrays (map (m first.program).meant (live_of first)) first.limit given outcome (map (m first.program).meant living)
 
-  -- What supersteps printed and recorded that is given away: of all from the one that is next to be given on
+  -- The lines that `give` returns: what supersteps have printed and recorded since the last call.
   pub record IsGiven (m : Q → Reading S T) (v : StretchesValue Q S) (lines : LinesValue) : Type 0 where
     pub course : IsCourse m v
     pub first : lines.first ≡ v.given

@@ -2,7 +2,7 @@
 use std::alloc::AllocError;
 use thiserror::Error;
 
-/// Why a stretch isn't taken back (own). Nothing changes then.
+/// The error of `Stretches::accept` (own). Nothing has changed.
 #[derive(Clone, Copy, Debug, PartialEq, Eq, Error)]
 pub enum Unwanted {
     /// It is of another superstep.
@@ -19,7 +19,7 @@ pub enum Unwanted {
     Double,
 }
 
-/// Why a superstep isn't closed (own).
+/// The error of `Stretches::close` (own).
 #[derive(Debug, Drop, Error)]
 pub enum Unclosed {
     /// A stretch isn't back, or its tasks haven't run. Nothing changes.

@@ -1,5 +1,5 @@
-//! Supersteps of a program that are taken by stretches: consecutive live tasks that are handed out together, run by whoever has
-//! them, and taken back as a whole.
+//! Runs the supersteps of a program stretch by stretch. A stretch is a list of consecutive live tasks. It is handed out, run by
+//! its holder, and taken back, always as a whole.
 //!
 //! # Where things are
 //!

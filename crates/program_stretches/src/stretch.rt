@@ -40,56 +40,56 @@ impl<'p, P: Program> Stretch<'p, P> {
     ghost use Rattle.programs.specs.InPlace.{left_in, spawned_in};
     ghost use Rattle.programs.specs.Changes.{change_of, change_in};
 
-    /// Its number among the stretches of its superstep, from 0, in path order.
+    /// Returns its number among the stretches of its superstep, counted from 0 in path order.
     pub fn number(&self) -> usize
         ensures { result ≡ self.now.number }
     {
         self.number
     }
 
-    /// How many tasks it has.
+    /// Returns the number of its tasks.
     pub fn len(&self) -> usize
         ensures { result ≡ length self.now.part.tasks }
     {
         self.part.len()
     }
 
-    /// Its superstep, from 0.
+    /// Returns its superstep, counted from 0.
     pub fn step(&self) -> u32
         ensures { result ≡ self.now.step }
     {
         self.step
     }
 
-    /// Whether its tasks have run.
+    /// Returns true if its tasks have run.
     pub fn is_done(&self) -> bool
         ensures { result ≡ self.now.part.done }
     {
         self.part.is_done()
     }
 
-    /// The path of its first task, if it has one.
+    /// Returns the path of its first task, or `None` if it has no task.
     pub fn first_path(&self) -> Option<Path>
         ensures { option_map (λ p. p.items) result ≡ slice_get (map P.Task.path_of self.now.part.tasks) 0 }
     {
         self.part.first_path()
     }
 
-    /// Whether one of its tasks has faulted.
+    /// Returns true if one of its tasks has faulted.
     pub fn has_faulted(&self) -> bool
         ensures { result ≡ is_some self.now.part.fault }
     {
         self.part.has_faulted()
     }
 
-    /// Whether the same tasks live on, as far as tasks have run.
+    /// Returns true if every task that was run lives on, and none of them spawned a task.
     pub fn all_stay(&self) -> bool
         ensures { IsTrue result ↔ ((left_in self.now.part.deeds ≡ 0) × (spawned_in self.now.part.deeds ≡ 0)) }
     {
         self.part.all_stay()
     }
 
-    /// What each of its tasks did to the list of tasks, up to the first fault.
+    /// Returns what each of its tasks did to the list of tasks, up to the first fault.
     pub fn changes(&self, alloc: Global) -> Result<Vec<Change>, AllocError>
         ensures { IfOk result (λ changes. map change_of changes.items ≡ map (change_in P.Task.path_of) self.now.part.deeds) }
     {

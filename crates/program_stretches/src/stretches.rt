@@ -1,4 +1,4 @@
-//! The supersteps of a program, taken by stretches.
+//! The supersteps of a program, run stretch by stretch.
 ghost use Rattle.std.specs.Prelude.{◌≡◌, ◌≤◌, ◌<◌, ◌+◌, ◌++◌, if◌then◌else◌, [], IfOk, OnOk, length};
 ghost use Rattle.phase_records.specs.Status.{IsShort};
 ghost use Rattle.phase_records.specs.StatusSeen.{status_seen};
@@ -82,11 +82,11 @@ impl<'t, 'p, P: Program> Stretches<'t, 'p, P> {
     ghost use Rattle.superstep_memory.specs.Landing.{is_set};
     ghost use Rattle.program_stretches.specs.Parts.{reading_of, AreFresh, covers, tasks_in, puts_in, deeds_in, prints_in};
     ghost use Rattle.program_stretches.specs.StretchesValue.{status_in, can_leave, ready_at, tasks_at, with_slot, IsAfter, HaveRun, OverflowsAt};
-    ghost use Rattle.program_stretches.specs.Closing.{IsBegun, IsTaken, Refuses, Accepts, IsSameRun, NotClosed, IsClosed, EndsBy, HasLeft, IsGiven, opened_with};
+    ghost use Rattle.program_stretches.specs.Closing.{IsBegun, IsTaken, Refuses, Accepts, IsSameRun, NotClosed, IsClosed, EndsBy, HasLeft, IsGiven, IsReopened, AllStay, opened_with};
 
-    /// The stretches of a program that begins with these arrays and tasks, before the first superstep, by a new log. At most `most`
-    /// tasks may live at once, and at most `limit` supersteps are taken. Whenever tasks come or leave, the live ones are cut into
-    /// about `pieces` stretches.
+    /// Creates a run of `program` that begins with these arrays and tasks, with a new log. At most `most` tasks may live at once,
+    /// and the run takes at most `limit` supersteps. Whenever tasks come or leave, the live ones are cut into about `pieces`
+    /// stretches.
     pub fn new(
         alloc: Global,
         log: &'t Log<Opened<'p, P, P::Task>>,
@@ -146,7 +146,7 @@ impl<'t, 'p, P: Program> Stretches<'t, 'p, P> {
         })
     }
 
-    /// What the log of openings is now.
+    /// Returns a snapshot of the log of opened supersteps.
     pub fn snapshot(&mut self) -> Snapshot<Opened<'p, P, P::Task>>
         ensures same { self.new ≡ self.old }
         ensures snapshot { result ≡ record { name = self.old.name; log = self.old.log } }
@@ -154,7 +154,7 @@ impl<'t, 'p, P: Program> Stretches<'t, 'p, P> {
         self.writer.snapshot(self.log)
     }
 
-    /// Proves that what the log of openings was is a beginning of what it is.
+    /// Proves that an earlier snapshot of the log of opened supersteps is a beginning of that log.
     pub fn compare(&mut self, earlier: Snapshot<Opened<'p, P, P::Task>>)
         requires { earlier.name ≡ self.old.name }
         ensures same { self.new ≡ self.old }
@@ -163,14 +163,15 @@ impl<'t, 'p, P: Program> Stretches<'t, 'p, P> {
         self.writer.compare(self.log, earlier);
     }
 
-    /// The arrays as the next superstep begins.
+    /// Returns the arrays with which the next superstep begins.
     pub fn arrays(&self) -> &Arrays
         ensures { result.now ≡ self.now.arrays }
     {
         &self.arrays
     }
 
-    /// How the run has ended, if it has: by a fault, with no task left, or at the limit, looked at in this order. It takes no memory.
+    /// Returns how the run has ended, or `None` if it goes on. Checks, in this order, for a fault, for no live task, and for the
+    /// limit. Doesn't allocate.
     pub fn status(&self) -> Option<JobStatus>
         ensures status { option_map status_seen result ≡ status_in self.now }
         ensures short { IfSome result (λ status. IsShort (status_seen status)) }
@@ -187,35 +188,35 @@ impl<'t, 'p, P: Program> Stretches<'t, 'p, P> {
         None
     }
 
-    /// Whether the run has ended. It takes no memory.
+    /// Returns true if the run has ended. Doesn't allocate.
     pub fn has_ended(&self) -> bool
         ensures { result ≡ is_some (status_in self.now) }
     {
         self.fault.is_some() || self.count == 0 || self.limit <= self.step
     }
 
-    /// How many supersteps were taken. It takes no memory.
+    /// Returns the number of supersteps taken so far. Doesn't allocate.
     pub fn step(&self) -> u32
         ensures { result ≡ self.now.step }
     {
         self.step
     }
 
-    /// How many stretches the live tasks are cut into. It takes no memory.
+    /// Returns the number of stretches of live tasks. Doesn't allocate.
     pub fn len(&self) -> usize
         ensures { result ≡ length self.now.parts }
     {
         self.parts.len()
     }
 
-    /// How many tasks live. It takes no memory.
+    /// Returns the number of live tasks. Doesn't allocate.
     pub fn count(&self) -> usize
         ensures { result ≡ self.now.count }
     {
         self.count
     }
 
-    /// How many tasks the stretch of this number has; none if it is taken. It takes no memory.
+    /// Returns the number of tasks in the stretch of this number, or 0 if it is out. Doesn't allocate.
     pub fn length(&self, number: usize) -> usize
         ensures { result ≡ length (tasks_at (slice_get self.now.parts number)) }
     {
@@ -225,7 +226,7 @@ impl<'t, 'p, P: Program> Stretches<'t, 'p, P> {
         }
     }
 
-    /// Whether the stretch of this number is there and hasn't run. It takes no memory.
+    /// Returns true if the stretch of this number isn't out and hasn't run. Doesn't allocate.
     pub fn is_ready(&self, number: usize) -> bool
         ensures { result ≡ ready_at (slice_get self.now.parts number) }
     {
@@ -278,8 +279,8 @@ impl<'t, 'p, P: Program> Stretches<'t, 'p, P> {
         }
     }
 
-    /// Takes a stretch back, as a whole, or refuses to and changes nothing: it is of another superstep; its tasks haven't run; no
-    /// stretch has its number, or that one wasn't taken. The caller knows that it is of this run.
+    /// Takes a stretch back. Fails, and changes nothing, for the first of these reasons: it is of another superstep; its tasks
+    /// haven't run; no stretch has its number; that stretch isn't out. The caller ensures that it is of this run.
     pub fn accept(&mut self, stretch: Stretch<'p, P>) -> Result<(), Unwanted>
         requires { stretch.name ≡ self.old.name }
         ensures accepted { OnOk result (Accepts self.old stretch.entry) }
@@ -326,7 +327,10 @@ impl<'t, 'p, P: Program> Stretches<'t, 'p, P> {
         requires running { status_in self.old ≡ None }
         requires run { OverflowsAt (reading_of P.frame P.may P.meant P.Task.path_of) self.old tasks.now deeds.now prints.now place }
         requires few { length deeds.now + spawned_in deeds.now ≤ self.old.most + left_in deeds.now }
-        ensures { IsClosed (reading_of P.frame P.may P.meant P.Task.path_of) self.old self.new result }
+        ensures closed { IsClosed (reading_of P.frame P.may P.meant P.Task.path_of) self.old self.new result }
+        ensures over { result ≡ Outcome.Overflowed }
+        ensures none { self.new.parts ≡ [] }
+        ensures given { self.new.given ≡ self.old.given }
     {
         match deeds.blame_at(tasks, place) {
             Some(blame) => {
@@ -376,8 +380,10 @@ impl<'t, 'p, P: Program> Stretches<'t, 'p, P> {
         requires told { told ≡ told_in self.old.step (deeds_in parts.items) }
         requires stays { (told.left ≡ 0) × (told.spawned ≡ 0) }
         ensures closed { IfOk result (λ outcome. IsClosed (reading_of P.frame P.may P.meant P.Task.path_of) self.old self.new outcome) }
+        ensures reopened { IfOk result (λ outcome. IsReopened outcome self.old.step parts.items self.new) }
         ensures lost { OnErr result (self.new.parts ≡ []) }
         ensures same { IsSameRun self.old self.new }
+        ensures given { self.new.given ≡ self.old.given }
     {
         make_room(&parts, &mut self.prints, &mut self.records)?;
         match land_shared(alloc, &mut self.arrays, puts, &parts, &mut self.olds)? {
@@ -413,9 +419,12 @@ impl<'t, 'p, P: Program> Stretches<'t, 'p, P> {
         requires sets { IsTrue (list_all is_set (puts_in parts.items)) }
         requires few { length (deeds_in parts.items) + spawned_in (deeds_in parts.items) ≤ self.old.most + left_in (deeds_in parts.items) }
         requires told { told ≡ told_in self.old.step (deeds_in parts.items) }
+        requires moves { AllStay parts.items → ⊥ }
         ensures closed { IfOk result (λ outcome. IsClosed (reading_of P.frame P.may P.meant P.Task.path_of) self.old self.new outcome) }
+        ensures reopened { IfOk result (λ outcome. IsReopened outcome self.old.step parts.items self.new) }
         ensures lost { OnErr result (self.new.parts ≡ []) }
         ensures same { IsSameRun self.old self.new }
+        ensures given { self.new.given ≡ self.old.given }
     {
         let count = (told.parties - told.left) as usize;
         let mut room = Vec::with_capacity(alloc, count)?;
@@ -454,8 +463,10 @@ impl<'t, 'p, P: Program> Stretches<'t, 'p, P> {
         requires covered { covers true self.old.count 0 parts.items ≡ true }
         requires no_puts { puts.old ≡ [] }
         ensures closed { IfOk result (λ outcome. IsClosed (reading_of P.frame P.may P.meant P.Task.path_of) self.old self.new outcome) }
+        ensures reopened { IfOk result (λ outcome. IsReopened outcome self.old.step parts.items self.new) }
         ensures lost { OnErr result (self.new.parts ≡ []) }
         ensures same { IsSameRun self.old self.new }
+        ensures given { self.new.given ≡ self.old.given }
     {
         let left = count_left(&parts, self.count);
         let stay = self.count - left;
@@ -478,15 +489,17 @@ impl<'t, 'p, P: Program> Stretches<'t, 'p, P> {
         }
     }
 
-    /// Takes one superstep, if each live task has run and its stretch is back, or refuses to and changes nothing. A task's fault, more
-    /// tasks than the most, or a sum of puts that overflows, is no refusal: it ends the run, and the superstep leaves nothing else. If
-    /// memory runs out, the live tasks are lost, and the run can only be given up.
+    /// Closes the superstep. Fails with `Missing`, and changes nothing, if a stretch isn't back or hasn't run. A task's fault,
+    /// too many tasks, or a sum that overflows is not an error: it ends the run, and nothing else of the superstep counts. If
+    /// memory runs out, the live tasks are lost, and the run can't continue.
     pub fn close(&mut self, alloc: Global) -> Result<Outcome, Unclosed>
         requires running { status_in self.old ≡ None }
         ensures whole { OnOk result (covers true self.old.count 0 self.old.parts ≡ true) }
         ensures closed { IfOk result (λ outcome. IsClosed (reading_of P.frame P.may P.meant P.Task.path_of) self.old self.new outcome) }
+        ensures reopened { IfOk result (λ outcome. IsReopened outcome self.old.step self.old.parts self.new) }
         ensures refused { IfErr result (λ fault. NotClosed fault self.old self.new) }
         ensures same { IsSameRun self.old self.new }
+        ensures given { self.new.given ≡ self.old.given }
     {
         if !cover(&self.parts, true, self.count) {
             return Err(Unclosed::Missing);
@@ -504,7 +517,7 @@ impl<'t, 'p, P: Program> Stretches<'t, 'p, P> {
         }
     }
 
-    /// Gives away what the supersteps printed and recorded since the last call. What the run leaves has only what comes after.
+    /// Returns what supersteps have printed and recorded since the last call, and removes it from the run's result.
     pub fn give(&mut self, alloc: Global) -> Lines
         requires { self.old.fault ≡ None }
         ensures given { IsGiven (reading_of P.frame P.may P.meant P.Task.path_of) self.old result }
@@ -538,11 +551,12 @@ impl<'t, 'p, P: Program> Stretches<'t, 'p, P> {
         writer.give_up();
     }
 
-    /// What the run leaves, once it has ended, but for what was given away, with the writer of its log. `None` if it hasn't ended, or if it ended at the limit
-    /// while a stretch was taken.
+    /// Returns the result of a run that has ended, without what `give` returned, and the writer of its log. Returns `None` if the
+    /// run hasn't ended, or if it has reached the limit while a stretch is out or has run.
     pub fn into_left(self, alloc: Global) -> Result<Option<Left<'p, P>>, AllocError>
         ensures left { IfOk result (λ left. IfSome left (λ l. (l.writer.name ≡ self.entry.name)
             × HasLeft (reading_of P.frame P.may P.meant P.Task.path_of) l.writer.log l.given l.ran.report l.ran.tasks.items)) }
+        ensures given { IfOk result (λ left. IfSome left (λ l. l.given ≡ self.entry.given)) }
         ensures some { IfOk result (λ left. is_some left ≡ can_leave self.entry) }
     {
         let Some(status) = self.status() else {

@@ -1,17 +1,18 @@
 //! The stretches of a job as an engine, with the lines of its last superstep.
-ghost use Rattle.std.specs.Prelude.{◌≡◌, None, Err, true, false, IfOk, IfSome, OnOk};
+ghost use Rattle.std.specs.Prelude.{◌≡◌, ◌≢◌, None, Err, true, false, IfOk, IfSome, OnOk};
 ghost use Rattle.worker_pool.specs.declared.fault.Reason.TheVariants as reason;
 ghost use Rattle.snapshot_log.specs.Agreed.{WasBefore};
 ghost use Rattle.program_stretches.specs.Parts.{covers};
 ghost use Rattle.program_stretches.specs.StretchesValue.{status_in};
 ghost use Rattle.program_stretches.specs.Closing.{IsSameRun, IsGiven};
 ghost use Rattle.job_stream.specs.Running.{IsGivenAfter, job_reading};
+ghost use Rattle.worker_pool.specs.Leaving.{Reopens};
 
 use crate::outlet::Outlet;
 use crate::streaming::Streaming;
 use devices::CountedWrite;
 use job_program::JobProgram;
-use program_stretches::{Left, Lines, Outcome, Stretch, Stretches, Unclosed};
+use program_stretches::{Left, Lines, Stretch, Stretches};
 use programs::deeds::Change;
 use std::alloc::{AllocError, Global};
 use std::marker::Model;
@@ -19,7 +20,7 @@ use std::mem;
 use std::sync::{Mutex, Wait};
 use superstep_memory::path::Path;
 use worker_pool::engine::{Closed, Engine};
-use worker_pool::{Reason, engine};
+use worker_pool::{Reason, close_stretches, engine};
 
 /// A stretch that a worker holds, and the lines that it writes before the tasks run.
 #[derive(Drop)]
@@ -169,7 +170,7 @@ impl<'t, 'p, 'j, 'o, 'w, R: Wait, W: CountedWrite, J: Streaming> Handing<
     ghost use Rattle.std.specs.Prelude.{◌≡◌, None};
     ghost use Rattle.job_stream.specs.Running.{IsRunOf};
 
-    /// A run of these stretches, which have given nothing away.
+    /// Creates an engine that runs these stretches, which have given nothing away.
     pub(crate) fn new(
         rt: &'o R,
         outlet: &'o Mutex<Outlet<'w, W, J>>,
@@ -192,7 +193,7 @@ impl<'t, 'p, 'j, 'o, 'w, R: Wait, W: CountedWrite, J: Streaming> Engine
     ghost use Rattle.std.specs.Prelude.{true, is_some, length, slice_get};
     ghost use Rattle.program_stretches.specs.Parts.{covers};
     ghost use Rattle.program_stretches.specs.StretchesValue.{status_in, can_leave, ready_at, tasks_at};
-    ghost use Rattle.program_stretches.specs.Closing.{IsTaken, Accepts, IsSameRun};
+    ghost use Rattle.program_stretches.specs.Closing.{IsTaken, Accepts, IsSameRun, AllStay};
     ghost use Rattle.job_stream.specs.Running.{job_reading};
     ghost use Rattle.worker_pool.specs.Leaving.{Gives, out_at};
     ghost use Rattle.stream_workers.specs.Handed.{with_handed};
@@ -214,6 +215,8 @@ impl<'t, 'p, 'j, 'o, 'w, R: Wait, W: CountedWrite, J: Streaming> Engine
     ghost ready = { λ v number. ready_at (slice_get v.stretches.parts number) };
 
     ghost out = { λ v number. out_at (slice_get v.stretches.parts number) };
+
+    ghost stays = { λ v. AllStay v.stretches.parts };
 
     ghost step = { λ v. v.stretches.step };
 
@@ -304,19 +307,16 @@ fn close<'t, 'p, 'j>(
     ensures whole { OnOk result (covers true stretches.old.count 0 stretches.old.parts ≡ true) }
     ensures missing { result ≡ Err reason.Internal → (covers true stretches.old.count 0 stretches.old.parts ≡ false) × (stretches.new ≡ stretches.old) }
     ensures memory { result ≡ Err reason.Memory → covers true stretches.old.count 0 stretches.old.parts ≡ true }
+    ensures full { result ≢ Err reason.Full }
     ensures landed { IfOk result (λ closed. closed ≡ Closed.Landed → stretches.new.fault ≡ None) }
+    ensures reopened { IfOk result (λ closed. Reopens closed stretches.old.step stretches.old.parts stretches.new) }
     ensures log { WasBefore stretches.old.log stretches.new.log }
     ensures same { IsSameRun stretches.old stretches.new }
 {
     let before = stretches.snapshot();
-    let closed = stretches.close(alloc);
+    let closed = close_stretches(alloc, stretches);
     stretches.compare(before);
-    match closed {
-        Ok(Outcome::Landed) => Ok(Closed::Landed),
-        Ok(Outcome::Faulted | Outcome::TooMany | Outcome::Overflowed) => Ok(Closed::Ended),
-        Err(Unclosed::Missing) => Err(Reason::Internal),
-        Err(Unclosed::Memory(_)) => Err(Reason::Memory),
-    }
+    closed
 }
 
 // Gives the lines of a superstep away that was closed, if the run goes on.
@@ -327,6 +327,7 @@ fn give<'t, 'p, 'j>(
     requires calm { stretches.old.fault ≡ None }
     ensures given { IfSome result (IsGiven job_reading stretches.old) }
     ensures log { stretches.new.log ≡ stretches.old.log }
+    ensures rest { (stretches.new.step ≡ stretches.old.step) × (stretches.new.count ≡ stretches.old.count) × (stretches.new.parts ≡ stretches.old.parts) × (stretches.new.fault ≡ stretches.old.fault) }
     ensures same { IsSameRun stretches.old stretches.new }
 {
     if stretches.has_ended() {
@@ -345,6 +346,8 @@ fn close_and_give<'t, 'p, 'j>(
     ensures whole { OnOk result (covers true stretches.old.count 0 stretches.old.parts ≡ true) }
     ensures missing { result ≡ Err reason.Internal → (covers true stretches.old.count 0 stretches.old.parts ≡ false) × (stretches.new ≡ stretches.old) }
     ensures memory { result ≡ Err reason.Memory → covers true stretches.old.count 0 stretches.old.parts ≡ true }
+    ensures full { result ≢ Err reason.Full }
+    ensures reopened { IfOk result (λ r. Reopens r.0 stretches.old.step stretches.old.parts stretches.new) }
     ensures given { IfOk result (λ r. IfSome r.1 (IsGivenAfter job_reading stretches.old.log)) }
     ensures log { WasBefore stretches.old.log stretches.new.log }
     ensures same { IsSameRun stretches.old stretches.new }

@@ -10,10 +10,11 @@ use job_stream::StreamFault;
 use thiserror::Error;
 use worker_pool::Refused;
 
-/// Why a run on workers that is written superstep by superstep doesn't end (own). All workers that were started have been joined.
+/// The error of a run on workers whose report is written superstep by superstep (own). All workers that were started have been
+/// joined.
 #[derive(Clone, Copy, Debug, PartialEq, Eq, Error)]
 pub enum Unstreamed {
-    /// As on one thread.
+    /// An error that one thread can also have.
     #[error(transparent)]
     Fault(StreamFault),
     /// The worker of this number, counted from 0, couldn't be started. Nothing was written.
@@ -29,7 +30,9 @@ pub(crate) fn why_unstreamed(refused: Refused, written: u32) -> Unstreamed
 {
     match refused {
         Refused::NotStarted(k) if written == 0 => Unstreamed::NotStarted(k),
-        Refused::NotStarted(_) | Refused::Internal => Unstreamed::Fault(StreamFault::Internal),
+        Refused::NotStarted(_) | Refused::Internal | Refused::Full => {
+            Unstreamed::Fault(StreamFault::Internal)
+        }
         Refused::Memory => Unstreamed::Fault(StreamFault::Memory),
     }
 }

@@ -1,5 +1,5 @@
-//! A job on worker threads whose report is written superstep by superstep: each superstep's lines as the next one begins, the arrays
-//! and the last line at the end. The bytes are those of the report's text.
+//! A job on worker threads whose report is written superstep by superstep: the lines of each superstep as the next one begins,
+//! then the arrays and the last line. The bytes are those of the report's text.
 //!
 //! The worker that takes the first stretch of a superstep writes the lines of the one before, with no lock of the pool held, and
 //! then runs its tasks. So at most one superstep's lines wait: a superstep isn't closed before each of its stretches is back.

@@ -1,9 +1,10 @@
 //! A run of a job on worker threads.
-ghost use Rattle.std.specs.Prelude.{◌≡◌, ◌≤◌, ℕ, List, Option, IfOk, IfErr};
+ghost use Rattle.std.specs.Prelude.{◌≡◌, ◌≤◌, ℕ, List, Option, IfOk, IfErr, length};
 ghost use Rattle.std.specs.Io.KnownBytes.{Appends};
 ghost use Rattle.advance_rule.specs.Stored.{Answers};
 ghost use Rattle.advance_rule.specs.Plan.{end_ends_at};
 ghost use Rattle.step_parts.specs.Program.{program_of};
+ghost use Rattle.program_stretches.specs.Parts.{AreFresh, tasks_in};
 ghost use Rattle.program_stretches.specs.Closing.{HasLeft};
 ghost use Rattle.job_stream.specs.Running.{IsRunOf, job_reading};
 ghost use Rattle.job_stream.specs.Streamed.{lines_of};
@@ -41,10 +42,10 @@ struct Setup<'a, F: Fn(u32, u32) -> bool + Drop, G: Gate, S: Starter> {
     starter: &'a S,
 }
 
-/// Runs `job` on `workers` threads that synchronize at a tree of phasers of this `shape`, for at most `limit` supersteps, and writes
-/// its report's text: each superstep's lines as the next one begins, the arrays and the last line at the end. Returns how the job
-/// ended (own). The bytes are those that [`stream_alone`](job_stream::stream_alone) writes. `gate` is called round each segment, and
-/// `starter` before each worker is started. Pass `&OpenGate` and `&AllStart` for none.
+/// Runs `job` on `workers` threads that synchronize at a tree of phasers of this `shape`, for at most `limit` supersteps, and
+/// writes the text of its report: the lines of each superstep as the next one begins, then the arrays and the last line. Returns
+/// how the job ended (own). The bytes are those that [`stream_alone`](job_stream::stream_alone) writes. `gate` is called before
+/// and after each segment, and `starter` before each worker is started. Pass `&OpenGate` and `&AllStart` for none.
 ///
 /// Returns after joining all workers that were started. Termination is not part of the contract.
 pub fn stream_within<R: Threads + Wait + Sync, W: CountedWrite + Send, G: Gate + Sync, S: Starter>(
@@ -135,6 +136,7 @@ fn stream_begun<
 ) -> Result<JobStatus, Unstreamed>
     requires log { stretches.name ≡ log.now }
     requires run { IsRunOf job.now limit stretches.log }
+    requires fresh { AreFresh 0 stretches.parts × (stretches.count ≡ length (tasks_in stretches.parts)) }
     requires workers { (1 ≤ setup.workers) × (setup.workers ≤ 64) }
     requires plan { IsJobPlan setup.advance.plan }
     requires rule { Answers (F.pre setup.advance.closure) (F.post setup.advance.closure) (end_ends_at setup.advance.plan) }
@@ -181,6 +183,7 @@ fn stream_lent<
 ) -> Lent<'w, W>
     requires log { stretches.name ≡ log.now }
     requires run { IsRunOf job.now limit stretches.log }
+    requires fresh { AreFresh 0 stretches.parts × (stretches.count ≡ length (tasks_in stretches.parts)) }
     requires workers { (1 ≤ setup.workers) × (setup.workers ≤ 64) }
     requires plan { IsJobPlan setup.advance.plan }
     requires rule { Answers (F.pre setup.advance.closure) (F.post setup.advance.closure) (end_ends_at setup.advance.plan) }

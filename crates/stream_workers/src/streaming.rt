@@ -1,8 +1,8 @@
 //! What a run is of.
 use std::marker::Brand;
 
-/// What a run is of: a job, its limit of supersteps, and the writer: which reference it is, and what it held and how often it had
-/// failed when the run began. Each run picks these.
+/// Identifies a run in contracts: its job, its limit, and its writer (the reference, and what it held and how often it had failed
+/// when the run began). Each run picks a type for it.
 pub trait Streaming {
     ghost use Rattle.std.specs.Prelude.{ℕ, List, Option};
     ghost use Rattle.task_code.specs.JobValue.{JobValue};

@@ -1,11 +1,12 @@
 -- What is known of stretches that are out, as they go and come.
 use Rattle.std.specs.Prelude.{◌==◌, if◌then◌else◌, IfSome}
-use Rattle.std.proofs.Common.{◌≡◌, ◌≢◌, ℕ, Bool, true, false, List, [], ◌∷◌, Option, Some, refl, sym, ap, ◌∙◌, subst, arith, ⊎_elim}
+use Rattle.std.specs.Option.{option_map}
+use Rattle.std.proofs.Common.{◌≡◌, ◌≢◌, ℕ, Bool, true, false, List, [], ◌∷◌, Option, Some, None, refl, sym, ap, ◌∙◌, subst, arith, ⊎_elim}
 use Rattle.pass_list.specs.declared.rule.Ticket.{Ticket}
 use Rattle.pass_list.specs.Passed.{IsOut, without, ticket}
 use Rattle.worker_pool.specs.HandedOut.{Each, AreApart, AreOut}
 
-not_both : (b : Bool) → b ≡ true → b ≡ false → ⊥
+pub not_both : (b : Bool) → b ≡ true → b ≡ false → ⊥
 not_both b t f = absurd (apart (sym t ∙ f))
   where
     apart : true ≡ false → ⊥
@@ -15,11 +16,11 @@ pub each_here : (P : Ticket → Type 0) (ts : List Ticket) (t : Ticket) → Each
 each_here P [] t h k = absurd k
 each_here P (u ∷ ts) t h k = ⊎_elim (λ e. subst P e h.0) (λ l. each_here P ts t h.1 l) k
 
-each_if : (P : Ticket → Type 0) (b : Bool) (u : Ticket) (rest : List Ticket) → (b ≡ false → P u) → Each P rest → Each P (if b then rest else u ∷ rest)
+pub each_if : (P : Ticket → Type 0) (b : Bool) (u : Ticket) (rest : List Ticket) → (b ≡ false → P u) → Each P rest → Each P (if b then rest else u ∷ rest)
 each_if P true u rest h k = k
 each_if P false u rest h k = (h refl, k)
 
-each_without : (P : Ticket → Type 0) (key : ℕ) (ts : List Ticket) → Each P ts → Each P (without key ts)
+pub each_without : (P : Ticket → Type 0) (key : ℕ) (ts : List Ticket) → Each P ts → Each P (without key ts)
 each_without P key [] h = tt
 each_without P key (u ∷ ts) h = each_if P (key == u.key) u (without key ts) (λ _. h.0) (each_without P key ts h.1)
 
@@ -35,7 +36,7 @@ each_both : (P Q R : Ticket → Type 0) (ts : List Ticket) → ((t : Ticket) →
 each_both P Q R [] f h k = tt
 each_both P Q R (t ∷ ts) f h k = (f t h.0 k.0, each_both P Q R ts f h.1 k.1)
 
-same_key : (a b : ℕ) → a ≡ b → (a == b) ≡ false → ⊥
+pub same_key : (a b : ℕ) → a ≡ b → (a == b) ≡ false → ⊥
 same_key a b e n = grind arith
 
 -- the others have other numbers
@@ -75,10 +76,36 @@ none_out was now step step' (t ∷ ts) h n = absurd (not_both (was t.number) h.0
 pub new_list : (out : ℕ → Bool) (step : ℕ) (ts : List Ticket) → ts ≡ [] → AreOut out step ts
 new_list out step ts e = subst (λ (us : List Ticket). AreOut out step us) (sym e) (tt, tt)
 
--- what a pass tells that comes back
-pub struck : (held : Option Ticket) (t : Ticket) (ts us : List Ticket) → held ≡ Some t → IfSome held (λ u. IsOut u ts × (us ≡ without u.key ts)) → IsOut t ts × (us ≡ without t.key ts)
-struck held t ts us e h = subst (λ (o : Option Ticket). IfSome o (λ u. IsOut u ts × (us ≡ without u.key ts))) e h
+-- the ticket of a pass that comes back
+pub record Struck (step number : ℕ) (ts us : List Ticket) : Type 0 where
+  pub t : Ticket
+  pub there : IsOut t ts
+  pub rest : us ≡ without t.key ts
+  pub of_step : t.step ≡ step
+  pub of_number : t.number ≡ number
+
+pub struck : (held : Option Ticket) (step number : ℕ) (ts us : List Ticket) → option_map {U = ℕ × ℕ} (λ t. (t.step, t.number)) held ≡ Some (step, number)
+    → IfSome held (λ u. IsOut u ts × (us ≡ without u.key ts)) → Struck step number ts us
+struck None step number ts us e h = absurd (none_some (step, number) e)
+  where
+    none_some : (y : ℕ × ℕ) → None ≡ Some y → ⊥
+    none_some y x = cc
+struck (Some t) step number ts us e h = record {
+  t = t;
+  there = h.0;
+  rest = h.1;
+  of_step = ap (λ (o : Option (ℕ × ℕ)). (value o).0) e;
+  of_number = ap (λ (o : Option (ℕ × ℕ)). (value o).1) e;
+}
+  where
+    value : Option (ℕ × ℕ) → ℕ × ℕ
+    value None = (0, 0)
+    value (Some x) = x
 
 -- what is said of one that is there
 pub there : {X : Type 0} (o : Option X) (x : X) (A : Type 0) → o ≡ Some x → IfSome o (λ y. A) → A
 there o x A e h = subst (λ (p : Option _). IfSome p (λ y. A)) e h
+
+-- what is said of one that is there, whatever it is
+pub there_of : {X : Type 0} (o : Option X) (x : X) (P : X → Type 0) → o ≡ Some x → IfSome o P → P x
+there_of o x P e h = subst (λ (p : Option _). IfSome p P) e h

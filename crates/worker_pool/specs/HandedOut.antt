@@ -1,30 +1,42 @@
--- What is known of stretches that are out (own).
-use Rattle.std.specs.Prelude.{◌≡◌, ◌≢◌, ℕ, Bool, true, List, [], ◌∷◌, Some}
+-- What holds for stretches that are out, and for their passes (own).
+use Rattle.std.specs.Prelude.{◌≡◌, ◌≢◌, ℕ, Bool, true, List, [], ◌∷◌, Option, Some}
+use Rattle.std.specs.Option.{option_map}
 use Rattle.atomic_table.specs.Seated.{TableId}
 use Rattle.pass_list.specs.declared.rule.Ticket.{Ticket}
-use Rattle.pass_list.specs.Passed.{PassValue, ticket}
+use Rattle.pass_list.specs.Passed.{PassValue}
+use Rattle.worker_pool.specs.declared.queue.Lists.{Lists}
 
--- each of these tickets is so
-abbrev pub Each : (Ticket → Type 0) → List Ticket → Type 0
+-- each item has this property
+abbrev pub Each : {A : Type 0} → (A → Type 0) → List A → Type 0
 Each P [] = Unit {0}
-Each P (t ∷ ts) = P t × Each P ts
+Each P (x ∷ xs) = P x × Each P xs
 
--- no two of these have a number in common
+-- no two tickets have the same number
 abbrev pub AreApart : List Ticket → Type 0
 AreApart [] = Unit {0}
 AreApart (t ∷ ts) = Each (λ u. u.number ≢ t.number) ts × AreApart ts
 
--- these are for the stretches of this superstep that are out
+-- each ticket is for a different stretch of this superstep that is out
 abbrev pub AreOut : (ℕ → Bool) → ℕ → List Ticket → Type 0
 AreOut out step ts = Each (λ t. (t.step ≡ step) × (out t.number ≡ true)) ts × AreApart ts
 
--- a pass of this list, for the stretch of this superstep and number
-pub record IsFor (list : TableId) (step number : ℕ) (pass : PassValue) : Type 0 where
-  pub key : ℕ
-  pub named : pass.name ≡ list
-  pub held : pass.held ≡ Some (ticket key step number)
+-- no pass of these lists is out
+abbrev pub AreNew : Lists → Type 0
+AreNew l = (l.stretches.out ≡ []) × (l.groups.out ≡ []) × (l.stops.out ≡ [])
 
--- it is still of this engine, and has this number and superstep
+-- the lists have these names
+abbrev pub AreNamed : TableId → TableId → TableId → Lists → Type 0
+AreNamed passes groups stops l = (l.stretches.name ≡ passes) × (l.groups.name ≡ groups) × (l.stops.name ≡ stops)
+
+-- the superstep and the number that a pass is for
+abbrev pub what_for : PassValue → Option (ℕ × ℕ)
+what_for pass = option_map (λ t. (t.step, t.number)) pass.held
+
+-- a pass of this list, for the stretch or the group of this superstep and number
+abbrev pub IsFor : TableId → ℕ → ℕ → PassValue → Type 0
+IsFor list step number pass = (pass.name ≡ list) × (what_for pass ≡ Some (step, number))
+
+-- a stretch still has the mark of its engine, its number and its superstep
 pub record IsSame (mark : TableId) (number step : ℕ) (mark' : TableId) (number' step' : ℕ) : Type 0 where
   pub mark_is : mark' ≡ mark
   pub number_is : number' ≡ number

@@ -1,5 +1,5 @@
--- The stretches of a program, as workers see any engine (own).
-use Rattle.std.specs.Prelude.{◌≡◌, ℕ, if◌then◌else◌, Bool, true, false, List, length, map, Option, Some, None, slice_get}
+-- The stretches of a program as an engine (own).
+use Rattle.std.specs.Prelude.{◌≡◌, ℕ, if◌then◌else◌, Bool, true, false, List, [], length, map, Option, Some, None, slice_get}
 use Rattle.atomic_table.specs.Seated.{TableId}
 use Rattle.phase_records.specs.ReportValue.{ReportValue}
 use Rattle.program_stretches.specs.declared.fault.Outcome as outcomes
@@ -7,14 +7,14 @@ use Rattle.program_stretches.specs.declared.fault.Outcome.TheVariants as outcome
 use Rattle.program_stretches.specs.PartValue.{PartValue}
 use Rattle.program_stretches.specs.Parts.{Reading}
 use Rattle.program_stretches.specs.StretchesValue.{StretchesValue, StretchValue}
-use Rattle.program_stretches.specs.Closing.{IsClosed, HasLeft}
+use Rattle.program_stretches.specs.Closing.{IsClosed, IsReopened, HasLeft}
 use Rattle.snapshot_log.specs.Agreed.{LogValue}
 use Rattle.program_stretches.specs.Opening.{OpeningValue}
 use Rattle.worker_pool.specs.declared.engine.Closed as closings
 use Rattle.worker_pool.specs.declared.engine.Closed.TheVariants as closed
 
 module _ {Q S T : Type 0} where
-  -- what the run gives: a run that began with the first opening of the log by this name, but for what its first `given` supersteps
+  -- the outcome of a run that began with the first opening of the log of this name, without what its first `given` supersteps
   -- printed and recorded
   abbrev pub Gives : (Q → Reading S T) → TableId → LogValue (OpeningValue Q S) → ℕ → ReportValue → List S → Type 0
   Gives m id w given outcome living = (w.name ≡ id) × HasLeft m w.log given outcome living
@@ -24,18 +24,25 @@ closed_by outcome.Landed = closed.Landed
 closed_by o = closed.Ended
 
 module _ {Q S T : Type 0} where
-  -- how closing a superstep leaves the run
+  -- how closing a superstep changes the run
   abbrev pub IsClosedBy : (Q → Reading S T) → StretchesValue Q S → StretchesValue Q S → closings.Closed → Type 0
   IsClosedBy m old new closed = (outcome : outcomes.Outcome) × (IsClosed m old new outcome × (closed ≡ closed_by outcome))
 
--- a stretch that was taken
+module _ {Q S : Type 0} where
+  -- The stretches after closing the superstep of this number, in which the stretches `ran` have run: those of the next superstep,
+  -- or none after a fault.
+  abbrev pub Reopens : closings.Closed → ℕ → List (Option (PartValue S)) → StretchesValue Q S → Type 0
+  Reopens closed.Landed step ran v = IsReopened outcome.Landed step ran v × (v.fault ≡ None)
+  Reopens closed.Ended step ran v = (v.parts ≡ []) × ((f : ℕ × List ℕ) × (v.fault ≡ Some f))
+
+-- whether the stretch is out
 abbrev pub out_at : {S : Type 0} → Option (Option (PartValue S)) → Bool
 out_at None = false
 out_at (Some None) = true
 out_at (Some (Some part)) = false
 
 module _ {Q S : Type 0} where
-  -- how many of its tasks have run
+  -- how many tasks of the stretch have run
   abbrev pub done_of : StretchValue Q S → ℕ
   done_of s = if s.part.done then length s.part.tasks else 0
 
@@ -43,7 +50,7 @@ module _ {Q S : Type 0} where
   abbrev pub next_of : (S → List ℕ) → StretchValue Q S → Option (List ℕ)
   next_of path s = if s.part.done then None else slice_get (map path s.part.tasks) 0
 
-  -- its tasks have run up to this one, which is the last
+  -- all tasks of the stretch have run; `end` is their number
   pub record HasRunTo (end : ℕ) (old new : StretchValue Q S) : Type 0 where
     pub same : new ≡ record old { part = new.part }
     pub done : done_of new ≡ end

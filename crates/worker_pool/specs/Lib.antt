@@ -6,3 +6,7 @@ pub mod Changes
 pub mod Leaving
 pub mod HandedOut
 pub mod Grouping
+pub mod AtRest
+pub mod EngineReading
+pub mod Steady
+pub mod QueueState

@@ -1,7 +1,6 @@
 -- An engine as workers share it, and what came first of all that refused the run (own).
-use Rattle.std.specs.Prelude.{◌≡◌, ◌⊎◌, ◌==◌, ◌||◌, ◌&&◌, ℕ, Bool, not, List, [], ◌∷◌, ◌++◌, length, Option, Some, is_some}
+use Rattle.std.specs.Prelude.{◌==◌, ◌||◌, ◌&&◌, ℕ, Bool, not, List, length, Option, Some, is_some}
 use Rattle.std.specs.Option.{unwrap_or}
-use Rattle.worker_pool.specs.Grouping.{numbers_from}
 use Rattle.worker_pool.specs.declared.fault.Refused.{Refused}
 
 pub record QueueValue (E : Type 0) : Type 0 where
@@ -9,8 +8,6 @@ pub record QueueValue (E : Type 0) : Type 0 where
   pub first : Option Refused
   -- the numbers of the groups that are ready
   pub ready : List ℕ
-  -- the live tasks were cut anew when the last superstep was closed
-  pub cut : Bool
 
 abbrev pub with_engine : {E : Type 0} → QueueValue E → E → QueueValue E
 with_engine b engine = record b { engine = engine }
@@ -18,14 +15,6 @@ with_engine b engine = record b { engine = engine }
 -- the first refusal stays
 abbrev pub refused_by : {E : Type 0} → QueueValue E → Refused → QueueValue E
 refused_by b refused = record b { first = Some (unwrap_or b.first refused) }
-
--- after a cut none is ready but all of the new ones
-abbrev pub AreAsCut : ℕ → List ℕ → List ℕ → Type 0
-AreAsCut count old new = (new ≡ old) ⊎ (new ≡ numbers_from 0 count)
-
--- otherwise this one at most
-abbrev pub AreWith : ℕ → List ℕ → List ℕ → Type 0
-AreWith number old new = (new ≡ old) ⊎ (new ≡ old ++ number ∷ [])
 
 -- workers stop: the engine has ended, or the run is refused
 abbrev pub is_over : {E : Type 0} → (E → Bool) → QueueValue E → Bool

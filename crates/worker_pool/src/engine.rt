@@ -11,7 +11,7 @@ pub trait Stretch: Drop {
     ghost use Rattle.programs.specs.Changes.{change_of};
     ghost use Rattle.atomic_table.specs.Seated.{TableId};
 
-    /// What it is of: the mark of its engine.
+    /// The mark of its engine.
     ghost mark: { Self → TableId };
 
     /// Its number among the stretches of its superstep.
@@ -38,30 +38,30 @@ pub trait Stretch: Drop {
     /// Whether one of its tasks has faulted.
     ghost faulted: { Self → Bool };
 
-    /// The same tasks live on, as far as segments were run.
+    /// Every task whose segment was run lives on, and none of them spawned a task.
     ghost stays: { Self → Type 0 };
 
     /// Of each task whose segment was run: whether it goes on, and the paths of the tasks that it spawned.
     ghost told: { Self → List (Bool × List (List ℕ)) };
 
-    /// Its number among the stretches of its superstep, from 0, in path order.
+    /// Returns its number among the stretches of its superstep, counted from 0 in path order.
     fn number(&self) -> usize
         ensures { result ≡ number self.now };
 
-    /// How many tasks it has.
+    /// Returns the number of its tasks.
     fn len(&self) -> usize
         ensures { result ≡ len self.now };
 
-    /// Its superstep, from 0.
+    /// Returns its superstep, counted from 0.
     fn step(&self) -> u32
         ensures { result ≡ step self.now };
 
-    /// Whether all its tasks have done their segments.
+    /// Returns true if all its tasks have done their segments.
     fn is_finished(&self) -> bool
         ensures all { result ≡ finished self.now }
         ensures left { finished self.now ≡ false → 0 < len self.now → done self.now < len self.now };
 
-    /// The path of the task whose segment is next; `None` if all are done. It takes no memory.
+    /// Returns the path of the task whose segment is next, or `None` if all are done. Doesn't allocate.
     fn next_path(&self) -> Option<Path>
         ensures { option_map (λ p. p.items) result ≡ next self.now };
 
@@ -88,15 +88,15 @@ pub trait Stretch: Drop {
         ensures number { number self.new ≡ number self.old }
         ensures step { step self.new ≡ step self.old };
 
-    /// Whether one of its tasks has faulted.
+    /// Returns true if one of its tasks has faulted.
     fn has_faulted(&self) -> bool
         ensures { result ≡ faulted self.now };
 
-    /// Whether the same tasks live on, as far as segments were run.
+    /// Returns true if every task whose segment was run lives on, and none of them spawned a task.
     fn all_stay(&self) -> bool
         ensures { IsTrue result ↔ stays self.now };
 
-    /// What each of its tasks did to the list of tasks. There are none after a fault.
+    /// Returns what each of its tasks did to the list of tasks. There are none after a fault.
     fn changes(&self, alloc: Global) -> Result<Vec<Change>, AllocError>
         ensures { IfOk result (λ changes. map change_of changes.items ≡ told self.now) };
 }
@@ -110,20 +110,22 @@ pub enum Closed {
     Ended,
 }
 
-/// A run of supersteps as workers share it: what its supersteps left so far, and the stretches of live tasks of the next one
-/// (own). [`run_engine`](crate::run_engine) runs it.
+/// A run of supersteps that workers share: the results so far, and the stretches of live tasks for the next superstep (own).
+/// [`run_engine`](crate::run_engine) runs it.
 ///
 /// A run returns only what its engine allows, whatever the engine does. But it fails or waits for ever if the engine breaks
 /// one of these rules, which no clause states:
 ///
-/// * The stretches are numbered from 0, in path order, and all of them are there when the run begins.
-/// * If no task faulted, left or came in a superstep, the next one has the same stretches, by number and by task.
+/// * The stretches are numbered from 0 in path order.
+/// * If no task faulted, left or came in a superstep, the stretches of the next one have the same tasks.
 /// * A run ends by a fault in [`Engine::close`], with no task left, or at its limit.
 pub trait Engine: Drop {
-    ghost use Rattle.std.specs.Prelude.{◌≡◌, ◌≢◌, ◌<◌, ◌+◌, ◌⊎◌, ℕ, Bool, true, false, Err, is_some, IfOk, IfSome, OnOk, OnErr, MatchOption};
+    ghost use Rattle.std.specs.Prelude.{◌≡◌, ◌≢◌, ◌<◌, ◌+◌, ◌⊎◌, ℕ, Bool, true, false, Ok, Err, is_some, IfOk, IfSome, OnOk, OnErr, MatchOption};
     ghost use Rattle.worker_pool.specs.declared.fault.Reason.TheVariants as reason;
     ghost use Rattle.atomic_table.specs.Seated.{TableId};
     ghost use Rattle.worker_pool.specs.declared.engine.Closed.{Closed};
+    ghost use Rattle.worker_pool.specs.declared.engine.Closed.TheVariants as closed;
+    ghost use Rattle.worker_pool.specs.AtRest.{IsAtRest};
 
     /// A stretch while it is out.
     type Stretch: Stretch;
@@ -131,7 +133,7 @@ pub trait Engine: Drop {
     /// What a run leaves.
     type Outcome;
 
-    /// What the run is of: an atomic table that nobody else has. No method changes it.
+    /// The mark of the engine: the id of an atomic table that no other engine has. No method changes it.
     ghost mark: { Self → TableId };
 
     /// What a run of this mark may leave.
@@ -152,13 +154,16 @@ pub trait Engine: Drop {
     /// Whether the stretch of this number is out.
     ghost out: { Self → ℕ → Bool };
 
+    /// No task of a stretch that is back has stopped or spawned another.
+    ghost stays: { Self → Type 0 };
+
     /// How many supersteps were taken.
     ghost step: { Self → ℕ };
 
     /// Whether the run has ended.
     ghost ended: { Self → Bool };
 
-    /// Whether what the run leaves can be had: it has ended, and for some engines no stretch is out.
+    /// Whether the run can return its outcome: it has ended and, for some engines, no stretch is out.
     ghost leaves: { Self → Bool };
 
     /// How handing out the stretch of this number leaves it.
@@ -179,27 +184,27 @@ pub trait Engine: Drop {
     /// How a failed call to close a superstep leaves it.
     ghost keeps: { Self → Self → Type 0 };
 
-    /// How many tasks live. It takes no memory.
+    /// Returns the number of live tasks. Doesn't allocate.
     fn count(&self) -> usize
         ensures { result ≡ count self.now };
 
-    /// How many stretches the live tasks are cut into. It takes no memory.
+    /// Returns the number of stretches of live tasks. Doesn't allocate.
     fn len(&self) -> usize
         ensures { result ≡ len self.now };
 
-    /// How many tasks the stretch of this number has; none if it is out. It takes no memory.
+    /// Returns the number of tasks in the stretch of this number, or 0 if it is out. Doesn't allocate.
     fn length(&self, number: usize) -> usize
         ensures { result ≡ size self.now number };
 
-    /// Whether the stretch of this number isn't out, and its tasks haven't done their segments. It takes no memory.
+    /// Returns true if the stretch of this number isn't out, and its tasks haven't done their segments. Doesn't allocate.
     fn is_ready(&self, number: usize) -> bool
         ensures { result ≡ ready self.now number };
 
-    /// How many supersteps were taken. It takes no memory.
+    /// Returns the number of supersteps taken so far. Doesn't allocate.
     fn step(&self) -> u32
         ensures { result ≡ step self.now };
 
-    /// Whether the run has ended. It takes no memory.
+    /// Returns true if the run has ended. Doesn't allocate.
     fn has_ended(&self) -> bool
         ensures { result ≡ ended self.now };
 
@@ -211,8 +216,13 @@ pub trait Engine: Drop {
         ensures stretch { IfOk result (λ taken. IfSome taken (λ stretch. (Self.Stretch.mark stretch ≡ mark self.old)
             × (Self.Stretch.number stretch ≡ number) × (Self.Stretch.step stretch ≡ step self.old))) }
         ensures out { IfOk result (λ taken. IfSome taken (λ stretch. (out self.old number ≡ false) × (out self.new number ≡ true))) }
+        ensures gone { IfOk result (λ taken. IfSome taken (λ stretch. (number < len self.old) × (ready self.new number ≡ false))) }
         ensures others { (k : ℕ) → out self.old k ≡ true → out self.new k ≡ true }
+        ensures rest { (k : ℕ) → k ≢ number → ready self.new k ≡ ready self.old k }
+        ensures stays { stays self.old → stays self.new }
+        ensures len { len self.new ≡ len self.old }
         ensures step { step self.new ≡ step self.old }
+        ensures ended { ended self.new ≡ ended self.old }
         ensures mark { mark self.new ≡ mark self.old }
         ensures unchanged { OnErr result (self.new ≡ self.old) }
         ensures ready { OnErr result (ready self.old number ≡ true) };
@@ -225,24 +235,36 @@ pub trait Engine: Drop {
         requires out { out self.old (Self.Stretch.number stretch) ≡ true }
         ensures taken { accepts self.old stretch }
         ensures added { self.new ≡ with_stretch self.old stretch }
+        ensures gone { (Self.Stretch.number stretch < len self.old) × (ready self.old (Self.Stretch.number stretch) ≡ false) }
         ensures others { (k : ℕ) → out self.old k ≡ true → k ≢ Self.Stretch.number stretch → out self.new k ≡ true }
+        ensures rest { (k : ℕ) → ready self.new k ≡ ready self.old k }
+        ensures stays { stays self.old → Self.Stretch.stays stretch → stays self.new }
+        ensures len { len self.new ≡ len self.old }
         ensures step { step self.new ≡ step self.old }
+        ensures ended { ended self.new ≡ ended self.old }
         ensures mark { mark self.new ≡ mark self.old };
 
-    /// Takes one superstep, once each stretch is back. Fails with `Internal` if one is out, and with `Memory`, after which the run is
-    /// given up.
+    /// Closes the superstep after every stretch is back. Fails with `Internal` if a stretch is still out, and with `Memory` if
+    /// memory runs out; then the run can't continue.
     fn close(&mut self, alloc: Global) -> Result<Closed, Reason>
         requires running { ended self.old ≡ false }
         ensures whole { OnOk result (whole self.old ≡ true) }
         ensures missing { result ≡ Err reason.Internal → (whole self.old ≡ false) × (self.new ≡ self.old) }
         ensures memory { result ≡ Err reason.Memory → whole self.old ≡ true }
+        ensures full { result ≢ Err reason.Full }
         ensures refused { OnErr result ((self.new ≡ self.old) ⊎ (whole self.old ≡ true)) }
-        ensures back { whole self.old ≡ true → (k : ℕ) → out self.old k ≡ false }
+        ensures back { whole self.old ≡ true → (k : ℕ) → (out self.old k ≡ false) × (ready self.old k ≡ false) }
         ensures closed { IfOk result (λ closed. closes self.old self.new closed) }
+        ensures none_out { OnOk result ((k : ℕ) → out self.new k ≡ false) }
+        ensures next { result ≡ Ok closed.Landed → (step self.new ≡ step self.old + 1) × stays self.new
+            × IsAtRest (ready self.new) (size self.new) (len self.new) (count self.new) }
+        ensures same { result ≡ Ok closed.Landed → stays self.old → len self.new ≡ len self.old }
+        ensures ends { result ≡ Ok closed.Ended → ended self.new ≡ true }
+        ensures left { OnOk result (ended self.new ≡ true → leaves self.new ≡ true) }
         ensures mark { mark self.new ≡ mark self.old }
         ensures kept { OnErr result (keeps self.old self.new) };
 
-    /// Returns what the run leaves, or `None` if that can't be had.
+    /// Returns the outcome of the run, or `None` if the run hasn't ended or, for some engines, a stretch is still out.
     fn into_outcome(self, alloc: Global) -> Result<Option<Self::Outcome>, AllocError>
         ensures given { IfOk result (λ outcome. IfSome outcome (gives (mark self))) }
         ensures some { IfOk result (λ outcome. is_some outcome ≡ leaves self) };

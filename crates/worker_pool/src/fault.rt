@@ -20,6 +20,10 @@ pub enum Refused {
     /// An internal error: a bug in this crate. That it never comes is tested, not proved.
     #[error("internal")]
     Internal,
+    /// The tree has no room for another task: the run begins with more than 65536, or a tier has the 65535 parties that it can have. A
+    /// caller may run fewer tasks, or choose a tree with more leaves.
+    #[error("the tree is full")]
+    Full,
 }
 
 impl Refused {
@@ -31,6 +35,7 @@ impl Refused {
             Refused::Memory => 1,
             Refused::NotStarted(_) => 2,
             Refused::Internal => 3,
+            Refused::Full => 4,
         }
     }
 }
@@ -47,9 +52,12 @@ pub enum Reason {
     /// It ran out of memory.
     #[error("out of memory")]
     Memory,
-    /// The engine, the queue or the tree refused what it never refuses.
+    /// The engine or the tree failed in a way that should be impossible.
     #[error("internal")]
     Internal,
+    /// The tree has no room for another task.
+    #[error("the tree is full")]
+    Full,
 }
 
 impl Reason {
@@ -61,6 +69,7 @@ impl Reason {
         match self {
             Reason::Memory => Refused::Memory,
             Reason::Internal => Refused::Internal,
+            Reason::Full => Refused::Full,
         }
     }
 }

@@ -1,12 +1,12 @@
 //! Participants, grouped by the stretch of their tasks.
-ghost use Rattle.std.specs.Prelude.{◌≡◌, ◌∷◌, ◌++◌, [], ℕ, IfOk, OnOk, OnErr, IsPermutation, map, length};
+ghost use Rattle.std.specs.Prelude.{◌≡◌, ◌≤◌, ◌∷◌, ◌++◌, [], IfOk, OnOk, OnErr, IsPermutation, map, length, sum_by};
+ghost use Rattle.worker_pool.specs.AtRest.{tasks_below};
 ghost use Rattle.worker_pool.specs.Grouping.{numbers_from, in_turn};
 
 use crate::engine::Engine;
-use crate::fault::Reason;
 use crate::participant::{Group, Participant};
 use crate::queue::Running;
-use std::alloc::AllocError;
+use std::alloc::{AllocError, Global};
 use std::cmp::Ordering;
 use std::collections::VecDeque;
 use superstep_memory::path::is_before;
@@ -21,7 +21,7 @@ fn by_number<J: Running>(one: &Group<J>, other: &Group<J>) -> Ordering {
     one.number.cmp(&other.number)
 }
 
-// Whether participants are in path order.
+// Returns true if the participants are in path order.
 fn are_in_order<J: Running>(participants: &[Participant<J>]) -> bool {
     for (one, next) in participants.iter().zip(participants.iter().skip(1)) {
         if is_before(next.path.as_slice(), one.path.as_slice()) {
@@ -31,8 +31,8 @@ fn are_in_order<J: Running>(participants: &[Participant<J>]) -> bool {
     true
 }
 
-// Puts participants in path order. They mostly are: only a spawned task whose spawner has earlier ones that still live isn't in its
-// place.
+// Sorts participants by path. Mostly they are sorted already: only a spawned task whose spawner has spawned earlier tasks that
+// still live is out of place.
 fn in_path_order<J: Running>(participants: &mut Vec<Participant<J>>)
     ensures { IsPermutation participants.old.items participants.new.items }
 {
@@ -44,29 +44,61 @@ fn in_path_order<J: Running>(participants: &mut Vec<Participant<J>>)
     ));
 }
 
-/// The participants of all groups, in path order. Takes all groups.
-pub(crate) fn participants_of<J: Running>(
-    groups: &mut Vec<Group<J>>,
-    count: usize,
-) -> Result<Vec<Participant<J>>, AllocError> {
-    let mut participants = Vec::with_capacity(*groups.allocator(), count)?;
-    groups.sort_unstable_by(|one: &Group<J>, other: &Group<J>| by_number(one, other));
-    for group in groups.iter_mut() {
-        participants.append(&mut group.participants)?;
-    }
-    groups.clear();
-    in_path_order(&mut participants);
-    Ok(participants)
+/// Groups that are back from the tree and whose tasks were cut anew. Their participants have yet to be grouped. Its type keeps
+/// that they have at least `count` participants.
+#[derive(Drop)]
+pub(crate) struct Coming<J: Running> {
+    groups: Vec<Group<J>>,
+    pub(crate) count: usize,
+    ghost own: { count ≤ sum_by (λ g. length g.participants.items) groups.items },
 }
 
-/// Appends a group to a list.
-pub(crate) fn list_group<J: Running>(
-    groups: &mut Vec<Group<J>>,
-    group: Group<J>,
-) -> Result<(), AllocError> {
-    match groups.push(group) {
-        Ok(()) => Ok(()),
-        Err(_) => Err(AllocError),
+impl<J: Running> Coming<J> {
+    /// Creates an empty collection of groups.
+    pub(crate) fn new(alloc: Global) -> Self {
+        Coming {
+            groups: Vec::new(alloc),
+            count: 0,
+        }
+    }
+
+    /// Adds a group.
+    pub(crate) fn add(&mut self, group: Group<J>) -> Result<(), AllocError> {
+        let count = group.participants.len();
+        match self.groups.push(group) {
+            Ok(()) => {
+                self.count = self.count.saturating_add(count);
+                Ok(())
+            }
+            Err(_) => Err(AllocError),
+        }
+    }
+
+    /// Adds all groups of a list.
+    pub(crate) fn add_all(&mut self, groups: &mut VecDeque<Group<J>>) -> Result<(), AllocError> {
+        while let Some(group) = groups.pop_front() {
+            self.add(group)?;
+        }
+        Ok(())
+    }
+
+    /// Returns the participants of all groups, in path order, and removes the groups.
+    pub(crate) fn take(&mut self) -> Result<Vec<Participant<J>>, AllocError>
+        ensures { IfOk result (λ participants. self.old.count ≤ length participants.items) }
+    {
+        let mut participants = Vec::with_capacity(*self.groups.allocator(), self.count)?;
+        self.count = 0;
+        self.groups
+            .sort_unstable_by(|one: &Group<J>, other: &Group<J>| by_number(other, one));
+        while let Some(group) = self.groups.pop() {
+            let Group {
+                participants: mut more,
+                ..
+            } = group;
+            participants.append(&mut more)?;
+        }
+        in_path_order(&mut participants);
+        Ok(participants)
     }
 }
 
@@ -97,12 +129,13 @@ fn push_first<J: Running>(
     }
 }
 
-/// Groups participants, which are in path order, by the stretches of their tasks. No worker holds a stretch. Takes all
-/// participants that have a stretch, from the end on.
+/// Groups participants by the stretches of their tasks. The participants are in path order, and no worker holds a stretch.
+/// Removes those that it groups from the end of the list.
 pub(crate) fn groups_of<E: Engine, J: Running>(
     engine: &E,
     participants: &mut Vec<Participant<J>>,
-) -> Result<VecDeque<Group<J>>, Reason>
+) -> Result<VecDeque<Group<J>>, AllocError>
+    requires enough { tasks_below (E.size engine.now) (E.len engine.now) ≤ length participants.old.items }
     ensures order { IfOk result (λ groups. participants.new.items ++ in_turn (λ g. g.participants.items) groups.items ≡ participants.old.items) }
     ensures numbers { IfOk result (λ groups. map (λ g. g.number) groups.items ≡ numbers_from 0 (E.len engine.now)) }
     ensures sizes { IfOk result (λ groups. map (λ g. length g.participants.items) groups.items ≡ map (E.size engine.now) (numbers_from 0 (E.len engine.now))) }
@@ -111,9 +144,7 @@ pub(crate) fn groups_of<E: Engine, J: Running>(
     let count = engine.len();
     for behind in 0..count {
         let number = count - 1 - behind;
-        let Some(at) = participants.len().checked_sub(engine.length(number)) else {
-            return Err(Reason::Internal);
-        };
+        let at = participants.len() - engine.length(number);
         let group = participants.split_off(at)?;
         push_first(
             &mut groups,

@@ -1,25 +1,27 @@
 //! A stretch that a worker holds.
-ghost use Rattle.std.specs.Prelude.{◌≡◌, ◌+◌, ◌<◌, ◌≤◌, true, false, nat_le, IfOk, OnOk};
+ghost use Rattle.std.specs.Prelude.{◌≡◌, ◌+◌, ◌<◌, ◌≤◌, true, false, nat_le, IfOk, IfErr, OnOk};
 ghost use Rattle.worker_pool.specs.Changes.{Tells};
 ghost use Rattle.worker_pool.specs.HandedOut.{IsSame};
+ghost use Rattle.worker_pool.specs.declared.fault.Reason.TheVariants as reason;
 
 use crate::engine::Stretch;
 use crate::fault::Reason;
 use crate::hooks::Gate;
+use crate::participant::HeldGroup;
 use crate::queue::Running;
 use pass_list::list::Pass;
 use programs::deeds::Change;
 use std::alloc::{AllocError, Global};
-use std::marker::{Model, PhantomData};
+use std::marker::Model;
 use std::sync::Wait;
 
-/// A stretch that a worker holds, with the pass by which it comes back. Its type keeps that it is of the engine that runs, and that
-/// the pass is for it.
+/// A stretch that a worker holds, with the pass by which it comes back, and the group of its participants. Its type keeps that it is of
+/// the engine that runs, and that the pass is for it. Only delivering it gives the group, so no task arrives at the tree before.
 #[derive(Drop)]
 pub(crate) struct HeldStretch<S: Stretch, J: Running> {
     stretch: S,
     pass: Pass,
-    of: PhantomData<J>,
+    group: HeldGroup<J>,
 }
 
 impl<S: Stretch, J: Running> Model for HeldStretch<S, J> {
@@ -133,12 +135,13 @@ fn do_all<S: Stretch, R: Wait, G: Gate>(
 }
 
 impl<S: Stretch, J: Running> HeldStretch<S, J> {
-    ghost use Rattle.std.specs.Prelude.{◌≡◌, true, IfOk, OnOk};
+    ghost use Rattle.std.specs.Prelude.{◌≡◌, true, IfOk, IfErr, OnOk};
+    ghost use Rattle.worker_pool.specs.declared.fault.Reason.TheVariants as reason;
     ghost use Rattle.worker_pool.specs.Changes.{Tells};
     ghost use Rattle.worker_pool.specs.HandedOut.{IsFor};
 
-    /// Holds a stretch of the engine that runs, with its pass.
-    pub(crate) fn new(stretch: S, pass: Pass) -> Self
+    /// Holds a stretch of the engine that runs, with its pass and its group.
+    pub(crate) fn new(stretch: S, pass: Pass, group: HeldGroup<J>) -> Self
         requires mark { S.mark stretch ≡ J.mark }
         requires pass { IsFor J.passes (S.step stretch) (S.number stretch) pass }
         ensures { result ≡ stretch }
@@ -146,15 +149,8 @@ impl<S: Stretch, J: Running> HeldStretch<S, J> {
         HeldStretch {
             stretch,
             pass,
-            of: PhantomData,
+            group,
         }
-    }
-
-    /// Its superstep, counted from 0.
-    pub(crate) fn step(&self) -> u32
-        ensures { result ≡ S.step self.now }
-    {
-        self.stretch.step()
     }
 
     /// Runs its segments, with no lock held, after a call of the gate; if the gate isn't open, between two more calls of it. Returns how its
@@ -167,6 +163,7 @@ impl<S: Stretch, J: Running> HeldStretch<S, J> {
     ) -> Result<Changes, Reason>
         ensures finished { OnOk result (S.finished self.new ≡ true) }
         ensures told { IfOk result (Tells (S.stays self.new) (S.faulted self.new) (S.told self.new)) }
+        ensures memory { IfErr result (λ fault. fault ≡ reason.Memory) }
     {
         gate.stretch(rt, self.stretch.step(), self.stretch.len());
         match do_all(rt, alloc, gate, &mut self.stretch) {
@@ -175,8 +172,8 @@ impl<S: Stretch, J: Running> HeldStretch<S, J> {
         }
     }
 
-    /// The stretch and its pass.
-    pub(crate) fn into_parts(self) -> (S, Pass)
+    /// The stretch, its pass and its group.
+    pub(crate) fn into_parts(self) -> (S, Pass, HeldGroup<J>)
         ensures stretch { result.0 ≡ self }
         ensures mark { S.mark result.0 ≡ J.mark }
         ensures pass { IsFor J.passes (S.step result.0) (S.number result.0) result.1 }
@@ -184,15 +181,16 @@ impl<S: Stretch, J: Running> HeldStretch<S, J> {
         let HeldStretch {
             stretch,
             pass,
-            of: _,
+            group,
         } = self;
-        (stretch, pass)
+        (stretch, pass, group)
     }
 }
 
 // Returns how the tasks of a stretch changed the list of live tasks.
 fn changes_of<S: Stretch>(alloc: Global, stretch: &S) -> Result<Changes, Reason>
-    ensures { IfOk result (Tells (S.stays stretch.now) (S.faulted stretch.now) (S.told stretch.now)) }
+    ensures told { IfOk result (Tells (S.stays stretch.now) (S.faulted stretch.now) (S.told stretch.now)) }
+    ensures memory { IfErr result (λ fault. fault ≡ reason.Memory) }
 {
     if stretch.all_stay() && !stretch.has_faulted() {
         return Ok(Changes::Same);

@@ -1,8 +1,9 @@
-//! Hooks of a run: a gate round each segment, and a starter that says which workers may be started.
+//! Hooks of a run: a gate before and after each segment, and a starter that says which workers may be started.
 use std::sync::Wait;
 use superstep_memory::path::Path;
 
-/// A hook round the segment of each task, and before each stretch (own). It isn't a barrier; for that see `CyclicGate` of the crate `cyclic_gate`.
+/// A hook that runs before and after the segment of each task, and before each stretch (own). It is not a barrier; for that see
+/// `CyclicGate` of the crate `cyclic_gate`.
 ///
 /// The worker that runs the segment calls `enter` before it and `leave` after it, with no lock held. It calls `leave` for
 /// one task before it calls `enter` for another, and holds no other task meanwhile. So two tasks on two workers may wait
@@ -13,8 +14,8 @@ pub trait Gate {
         false
     }
 
-    /// Called before the first segment of each stretch, also if the gate is open, with the superstep, counted from 0, and how many
-    /// tasks the stretch has. Does nothing, unless the gate says more.
+    /// Called before the first segment of each stretch, even if the gate is open. `_step` is the superstep, counted from 0, and
+    /// `_tasks` the number of tasks in the stretch. The default does nothing.
     fn stretch<R: Wait>(&self, _rt: &R, _step: u32, _tasks: usize) {}
 
     /// Called before the segment of the task with this path, in this superstep, counted from 0.

@@ -23,9 +23,9 @@ use tier_shape::Shape;
 /// Runs `job` on `workers` threads that synchronize at a tree of phasers of this shape. The report is the one that a
 /// single thread produces within the same limit (own).
 ///
-/// The limit of supersteps is that of `advance`'s plan: its last phase, plus one. The closure of `advance` is called
-/// once a superstep, after the last arrival, with the phase and the number of parties at the root. `gate` is called
-/// round each segment, and `starter` before each worker is started.
+/// The limit of supersteps is that of `advance`'s plan: its last phase, plus one. The closure of `advance` is called once a
+/// superstep, after the last arrival, with the phase and the number of parties at the root. `gate` is called before and after
+/// each segment, and `starter` before each worker is started.
 ///
 /// Returns after joining all workers that were started. Termination is not part of the contract.
 ///

@@ -34,6 +34,6 @@ pub use fault::{Reason, Refused};
 pub use hooks::{AllStart, Gate, OpenGate, Starter};
 pub use job::run_job;
 pub use program::run_program;
-pub use program_engine::{Run, Taken};
+pub use program_engine::{Run, Taken, close_stretches};
 pub use run::{limit_in, run_engine, stretches_wanted};
 pub use within::run_within;

@@ -1,7 +1,9 @@
 //! Tasks as parties of the tree.
-ghost use Rattle.std.specs.Prelude.{◌≡◌};
+ghost use Rattle.std.specs.Prelude.{◌≡◌, true, is_some};
+ghost use Rattle.worker_pool.specs.HandedOut.{IsFor};
 
 use crate::queue::Running;
+use pass_list::list::Pass;
 use std::marker::PhantomData;
 use superstep_memory::path::Path;
 use tier_table::tokens::{Crew, Door};
@@ -17,7 +19,7 @@ pub(crate) struct Participant<J: Running> {
 }
 
 impl<J: Running> Participant<J> {
-    /// Makes the participant of a task with this path and crew.
+    /// Creates the participant of a task with this path and crew.
     pub(crate) fn new(path: Path, crew: Crew) -> Self
         requires { crew.tree ≡ J.tree }
         ensures crew { result.crew ≡ crew }
@@ -31,15 +33,55 @@ impl<J: Running> Participant<J> {
     }
 }
 
-/// The participants of the tasks of one stretch, in their order, with the number of that stretch.
+/// The participants of the tasks of one stretch, in the order of the tasks, with the number of that stretch.
 #[derive(Drop)]
 pub(crate) struct Group<J: Running> {
     pub(crate) number: usize,
     pub(crate) participants: Vec<Participant<J>>,
 }
 
-/// The token of a worker, without members, by which it can end the tree. Its type keeps that it is of the tree of the
-/// run.
+/// A group that a worker holds, the superstep in which the worker got it, and the pass with which it is handed back. Its type
+/// keeps that the pass is for this group and superstep.
+#[derive(Drop)]
+pub(crate) struct HeldGroup<J: Running> {
+    pub(crate) group: Group<J>,
+    pub(crate) step: u32,
+    pub(crate) pass: Pass,
+    ghost own: { IsFor J.groups step group.number pass },
+}
+
+impl<J: Running> HeldGroup<J> {
+    /// Creates a held group from a group, its superstep and its pass.
+    pub(crate) fn new(group: Group<J>, step: u32, pass: Pass) -> Self
+        requires { IsFor J.groups step group.number pass }
+        ensures { result.group ≡ group }
+    {
+        HeldGroup { group, step, pass }
+    }
+
+    /// Returns the group and its pass.
+    pub(crate) fn into_parts(self) -> (Group<J>, Pass)
+        ensures group { result.0 ≡ self.group }
+        ensures pass { IsFor J.groups self.step self.group.number result.1 }
+    {
+        let HeldGroup {
+            group,
+            step: _,
+            pass,
+        } = self;
+        (group, pass)
+    }
+}
+
+/// The pass of a worker that has stopped. A worker gets it when it sees that workers must stop.
+#[derive(Drop)]
+pub(crate) struct Stopped<J: Running> {
+    pub(crate) pass: Pass,
+    pub(crate) of: PhantomData<J>,
+    ghost own: { (pass.name ≡ J.stops) × (is_some pass.held ≡ true) },
+}
+
+/// The token of a worker, without members, with which it can end the tree. Its type keeps that it is of the tree of the run.
 #[derive(Drop)]
 pub(crate) struct OwnToken<J: Running> {
     pub(crate) door: Door,
@@ -48,7 +90,7 @@ pub(crate) struct OwnToken<J: Running> {
 }
 
 impl<J: Running> OwnToken<J> {
-    /// Makes the token of a worker.
+    /// Creates the token of a worker.
     pub(crate) fn new(door: Door) -> Self
         requires { door.tree ≡ J.tree }
     {

@@ -1,8 +1,9 @@
 //! Runs of programs on worker threads.
-ghost use Rattle.std.specs.Prelude.{◌≡◌, ◌≤◌, ◌<◌, ◌^◌, ◌∷◌, [], ℕ, IfOk, IfErr, length, map};
+ghost use Rattle.std.specs.Prelude.{◌≡◌, ◌≤◌, ◌<◌, ◌^◌, ◌∷◌, [], IfOk, IfErr, length, map};
 ghost use Rattle.advance_rule.specs.Stored.{Answers};
 ghost use Rattle.advance_rule.specs.Plan.{end_ends_at};
 ghost use Rattle.program_stretches.specs.Opening.{OpeningValue, live_of};
+ghost use Rattle.program_stretches.specs.Parts.{AreFresh, tasks_in};
 ghost use Rattle.programs.specs.Meaning.{children};
 ghost use Rattle.programs.specs.History.{HasRun};
 ghost use Rattle.worker_pool.specs.JobPlan.{limit_of, IsJobPlan};
@@ -15,7 +16,7 @@ use crate::run::{limit_in, run_engine, stretches_wanted};
 use advance_rule::StoredAdvance;
 use program_stretches::{Left, Opened, Stretches};
 use programs::alone::Ran;
-use programs::program::{OnPath, TaskLoop};
+use programs::program::TaskLoop;
 use snapshot_log::log::Log;
 use std::alloc::Global;
 use std::sync::Wait;
@@ -23,14 +24,14 @@ use std::thread::Threads;
 use superstep_memory::arrays::Arrays;
 use tier_shape::Shape;
 
-/// Runs a program that begins with these arrays and tasks on `workers` threads, which synchronize at a tree of phasers of this
-/// shape. What it leaves is what one thread may leave: each superstep's tasks by path, each on the arrays as the superstep began. At
-/// most `most` tasks may live at once.
+/// Runs `program` from these arrays and tasks on `workers` threads that synchronize at a tree of phasers of the given `shape`.
+/// The result is one that a single thread may produce: each superstep's tasks in path order, each on the arrays as they were when
+/// the superstep began. At most `most` tasks may live at once.
 ///
 /// The limit of supersteps is that of `advance`'s plan: its last phase, plus one. The closure of `advance` is called once a
-/// superstep, after the last arrival, with the phase and the number of parties at the root. `gate` is called round each segment, and
-/// `starter` before each worker is started. A task is a party of a tier, so over 65535 live tasks may find no room: the run then
-/// fails with `Internal`.
+/// superstep, after the last arrival, with the phase and the number of parties at the root. `gate` is called before and after
+/// each segment, and `starter` before each worker is started. A task is a party of a tier, so over 65535 live tasks may find no
+/// room: the run then fails with `Full`.
 ///
 /// Returns after joining all workers that were started. Termination is not part of the contract.
 pub fn run_program<
@@ -103,6 +104,8 @@ fn run_stretches<
 where
     P::Task: Send,
     requires log { stretches.name ≡ log.now }
+    requires fresh { AreFresh 0 stretches.parts × (stretches.count ≡ length (tasks_in stretches.parts)) }
+    requires given { stretches.given ≡ 0 }
     requires workers { (1 ≤ workers) × (workers ≤ 64) }
     requires plan { IsJobPlan advance.plan }
     requires rule { Answers (F.pre advance.closure) (F.post advance.closure) (end_ends_at advance.plan) }
@@ -124,28 +127,16 @@ where
         Ok(left) => {
             let Left {
                 ran,
-                given,
                 mut writer,
+                ..
             } = left;
             writer.compare(log, first);
             writer.give_up();
-            whole(ran, given)
+            Ok(ran)
         }
         Err(refused) => {
             first.give_up();
             Err(refused)
         }
-    }
-}
-
-// What a run leaves, if it gave nothing away.
-fn whole<T: OnPath>(ran: Ran<T>, given: u32) -> Result<Ran<T>, Refused>
-    ensures all { IfOk result (λ whole. (whole ≡ ran) × (given ≡ 0)) }
-    ensures internal { (workers : ℕ) → IfErr result (IsOfWorkers workers) }
-{
-    if given == 0 {
-        Ok(ran)
-    } else {
-        Err(Refused::Internal)
     }
 }

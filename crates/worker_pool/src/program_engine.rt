@@ -1,4 +1,11 @@
 //! The stretches of a program as an engine.
+ghost use Rattle.std.specs.Prelude.{◌≡◌, ◌≢◌, None, Err, true, false, IfOk, OnOk};
+ghost use Rattle.program_stretches.specs.Parts.{reading_of, covers};
+ghost use Rattle.program_stretches.specs.StretchesValue.{status_in};
+ghost use Rattle.program_stretches.specs.Closing.{IsSameRun};
+ghost use Rattle.worker_pool.specs.Leaving.{IsClosedBy, Reopens};
+ghost use Rattle.worker_pool.specs.declared.fault.Reason.TheVariants as reason;
+
 use crate::engine;
 use crate::engine::{Closed, Engine};
 use crate::fault::{Reason, reason_of_closing};
@@ -111,13 +118,18 @@ impl<'t, 'p, P: Program> Model for Run<'t, 'p, P> {
     ghost Value = { StretchesValue P P.Task };
 
     ghost view = { λ r. r.stretches };
+
+    ghost use Rattle.std.specs.Prelude.{◌≡◌};
+
+    ghost invariant = { λ r. r.stretches.given ≡ 0 };
 }
 
 impl<'t, 'p, P: Program> Run<'t, 'p, P> {
     ghost use Rattle.std.specs.Prelude.{◌≡◌};
 
-    /// A run of these stretches.
+    /// Creates an engine that runs these stretches, which have given nothing away.
     pub fn new(stretches: Stretches<'t, 'p, P>) -> Self
+        requires { stretches.given ≡ 0 }
         ensures { result ≡ stretches.entry }
     {
         Run { stretches }
@@ -125,10 +137,10 @@ impl<'t, 'p, P: Program> Run<'t, 'p, P> {
 }
 
 impl<'t, 'p, P: TaskLoop> Engine for Run<'t, 'p, P> {
-    ghost use Rattle.std.specs.Prelude.{Some, true, is_some, length, slice_get};
+    ghost use Rattle.std.specs.Prelude.{◌≡◌, Some, true, is_some, length, slice_get};
     ghost use Rattle.program_stretches.specs.Parts.{reading_of, covers};
     ghost use Rattle.program_stretches.specs.StretchesValue.{status_in, can_leave, ready_at, tasks_at, with_slot};
-    ghost use Rattle.program_stretches.specs.Closing.{IsTaken, Accepts, IsSameRun};
+    ghost use Rattle.program_stretches.specs.Closing.{IsTaken, Accepts, IsSameRun, AllStay};
     ghost use Rattle.worker_pool.specs.Leaving.{Gives, IsClosedBy, out_at};
 
     type Stretch = Taken<'p, P>;
@@ -137,7 +149,7 @@ impl<'t, 'p, P: TaskLoop> Engine for Run<'t, 'p, P> {
 
     ghost mark = { λ v. v.name };
 
-    ghost gives = { λ mark left. Gives (reading_of P.frame P.may P.meant P.Task.path_of) mark left.writer left.given left.ran.report left.ran.tasks.items };
+    ghost gives = { λ mark left. (left.given ≡ 0) × Gives (reading_of P.frame P.may P.meant P.Task.path_of) mark left.writer left.given left.ran.report left.ran.tasks.items };
 
     ghost count = { λ v. v.count };
 
@@ -148,6 +160,8 @@ impl<'t, 'p, P: TaskLoop> Engine for Run<'t, 'p, P> {
     ghost ready = { λ v number. ready_at (slice_get v.parts number) };
 
     ghost out = { λ v number. out_at (slice_get v.parts number) };
+
+    ghost stays = { λ v. AllStay v.parts };
 
     ghost step = { λ v. v.step };
 
@@ -206,14 +220,32 @@ impl<'t, 'p, P: TaskLoop> Engine for Run<'t, 'p, P> {
     }
 
     fn close(&mut self, alloc: Global) -> Result<Closed, Reason> {
-        match self.stretches.close(alloc) {
-            Ok(Outcome::Landed) => Ok(Closed::Landed),
-            Ok(Outcome::Faulted | Outcome::TooMany | Outcome::Overflowed) => Ok(Closed::Ended),
-            Err(fault) => Err(reason_of_closing(fault)),
-        }
+        close_stretches(alloc, &mut self.stretches)
     }
 
     fn into_outcome(self, alloc: Global) -> Result<Option<Left<'p, P>>, AllocError> {
         self.stretches.into_left(alloc)
+    }
+}
+
+/// Closes a superstep of the stretches of a program, as an engine does.
+pub fn close_stretches<P: Program>(
+    alloc: Global,
+    stretches: &mut Stretches<'_, '_, P>,
+) -> Result<Closed, Reason>
+    requires running { status_in stretches.old ≡ None }
+    ensures whole { OnOk result (covers true stretches.old.count 0 stretches.old.parts ≡ true) }
+    ensures missing { result ≡ Err reason.Internal → (covers true stretches.old.count 0 stretches.old.parts ≡ false) × (stretches.new ≡ stretches.old) }
+    ensures memory { result ≡ Err reason.Memory → covers true stretches.old.count 0 stretches.old.parts ≡ true }
+    ensures full { result ≢ Err reason.Full }
+    ensures closed { IfOk result (λ closed. IsClosedBy (reading_of P.frame P.may P.meant P.Task.path_of) stretches.old stretches.new closed) }
+    ensures reopened { IfOk result (λ closed. Reopens closed stretches.old.step stretches.old.parts stretches.new) }
+    ensures same { IsSameRun stretches.old stretches.new }
+    ensures given { stretches.new.given ≡ stretches.old.given }
+{
+    match stretches.close(alloc) {
+        Ok(Outcome::Landed) => Ok(Closed::Landed),
+        Ok(Outcome::Faulted | Outcome::TooMany | Outcome::Overflowed) => Ok(Closed::Ended),
+        Err(fault) => Err(reason_of_closing(fault)),
     }
 }

@@ -1,11 +1,14 @@
 //! Runs an engine on worker threads.
-ghost use Rattle.std.specs.Prelude.{◌≡◌, ◌≤◌, ◌<◌, ◌++◌, ◌∷◌, [], false, IfOk, IfErr, OnOk, map, length};
+ghost use Rattle.std.specs.Prelude.{◌≡◌, ◌≤◌, ◌<◌, ◌⊎◌, ◌++◌, ◌∷◌, [], false, IfOk, IfErr, OnOk, map, length};
 ghost use Rattle.advance_rule.specs.Stored.{Answers};
 ghost use Rattle.advance_rule.specs.Action.{AnswersAction};
 ghost use Rattle.advance_rule.specs.Plan.{end_ends_at};
 ghost use Rattle.tier_shape.specs.Leaves.{leaves_of};
 ghost use Rattle.tier_shape.specs.Preferred.{leaf_at};
 ghost use Rattle.tier_table.specs.Ruled.{IsNew};
+ghost use Rattle.worker_pool.specs.AtRest.{IsAtRest, CanBegin};
+ghost use Rattle.worker_pool.specs.Grouping.{numbers_from};
+ghost use Rattle.worker_pool.specs.HandedOut.{AreNew, AreNamed};
 ghost use Rattle.worker_pool.specs.JobPlan.{limit_of, IsJobPlan};
 ghost use Rattle.worker_pool.specs.Refusals.{IsOfWorkers};
 ghost use Rattle.programs.specs.Meaning.{children};
@@ -15,14 +18,13 @@ use crate::fault::{Reason, Refused};
 use crate::groups::groups_of;
 use crate::hooks::{Gate, Starter};
 use crate::leaves::{Leaves, leaves_in};
-use crate::participant::{Group, OwnToken, Participant};
-use crate::queue::{Queue, Running};
+use crate::participant::{Group, OwnToken, Participant, Stopped};
+use crate::queue::{Lists, Queue, Running};
 use crate::shared::Shared;
 use crate::start::{Setup, start_all};
 use crate::tree::WorkerTree;
 use advance_rule::{EndPlan, StoredAction, StoredAdvance};
 use cyclic_gate::CyclicGate;
-use pass_list::list::PassList;
 use smallvec::SmallVec;
 use std::alloc::{AllocError, Global};
 use std::collections::VecDeque;
@@ -46,13 +48,13 @@ const MOST_STARTS: usize = 65536;
 // microseconds.
 const MOST_SPINS: u32 = 2000;
 
-// The tree at which workers meet, its first token, and its leaves; and the list of the passes for stretches.
+// The tree at which workers meet, its first token, and its leaves; and the lists of passes.
 #[derive(Drop)]
 struct Opening<F: Fn(u32, u32) -> bool> {
     tree: Tree<F>,
     door: Door,
     leaves: Vec<u16>,
-    passes: PassList,
+    lists: Lists,
 }
 
 // The barrier's action: it does nothing and never fails.
@@ -123,27 +125,31 @@ fn registered<E: Engine, J: Running, R: Wait, F: Fn(u32, u32) -> bool>(
     engine: &E,
 ) -> Result<VecDeque<Group<J>>, Reason>
     requires few { E.count engine.now ≤ 65536 }
+    requires rest { IsAtRest (E.ready engine.now) (E.size engine.now) (E.len engine.now) (E.count engine.now) }
+    ensures numbers { IfOk result (λ groups. map (λ g. g.number) groups.items ≡ numbers_from 0 (E.len engine.now)) }
 {
     let mut participants = Vec::new(alloc);
     register_all(rt, alloc, tree, own, engine, &mut participants)?;
-    groups_of(engine, &mut participants)
+    Ok(groups_of(engine, &mut participants)?)
 }
 
 // What the workers share.
 fn shared_by<E: Engine, J: Running, F: Fn(u32, u32) -> bool>(
     alloc: Global,
     engine: E,
-    passes: PassList,
+    lists: Lists,
     tree: WorkerTree<J, F>,
     groups: VecDeque<Group<J>>,
     spins: u32,
 ) -> Shared<E, J, F>
     requires mark { E.mark engine ≡ J.mark }
-    requires passes { (passes.name ≡ J.passes) × (passes.out ≡ []) }
+    requires lists { AreNew lists × AreNamed J.passes J.groups J.stops lists }
+    requires begins { CanBegin (E.ready engine) (E.out engine) (E.size engine) (E.len engine) (E.count engine) (E.stays engine) (E.ended engine) (E.leaves engine) }
+    requires groups { (groups.items ≡ []) ⊎ (map (λ g. g.number) groups.items ≡ numbers_from 0 (E.len engine)) }
     ensures { result.tree ≡ tree }
 {
     Shared {
-        queue: Mutex::new(Queue::new(alloc, engine, passes, groups)),
+        queue: Mutex::new(Queue::new(alloc, engine, lists, groups)),
         changed: Condvar::new(),
         wakeups: AtomicU64::new(0),
         passing: AtomicBool::new(false),
@@ -165,7 +171,7 @@ fn run_at<
     rt: &R,
     alloc: Global,
     engine: E,
-    passes: PassList,
+    lists: Lists,
     tree: WorkerTree<J, F>,
     door: Door,
     barrier: &CyclicGate<A>,
@@ -175,8 +181,9 @@ where
     E::Stretch: Send,
     requires mark { E.mark engine ≡ J.mark }
     requires few { E.count engine ≤ 65536 }
-    requires passes { (passes.name ≡ J.passes) × (passes.out ≡ []) }
-    requires workers { setup.workers ≡ J.workers }
+    requires begins { CanBegin (E.ready engine) (E.out engine) (E.size engine) (E.len engine) (E.count engine) (E.stays engine) (E.ended engine) (E.leaves engine) }
+    requires lists { AreNew lists × AreNamed J.passes J.groups J.stops lists }
+    requires workers { (setup.workers ≡ J.workers) × (1 ≤ setup.workers) }
     requires tree { door.tree ≡ J.tree }
     requires rule { Answers (F.pre tree.phaser.rule.closure) (F.post tree.phaser.rule.closure) (end_ends_at tree.phaser.rule.plan) }
     requires action { AnswersAction (A.pre barrier.now.action.closure) (A.post barrier.now.action.closure) barrier.now.action.plan }
@@ -189,9 +196,9 @@ where
         Err(reason) => (VecDeque::new(alloc), Some(reason)),
     };
     let spins = spins_of(rt, setup.workers);
-    let shared = shared_by(alloc, engine, passes, tree, groups, spins);
-    start_registered(rt, alloc, &shared, &mut own, barrier, setup, fault);
-    shared.conclude(alloc)
+    let shared = shared_by(alloc, engine, lists, tree, groups, spins);
+    let stopped = start_registered(rt, alloc, &shared, &mut own, barrier, setup, fault);
+    shared.conclude(alloc, stopped)
 }
 
 // Starts the workers if the start tasks were registered. Otherwise notes why not.
@@ -211,10 +218,10 @@ fn start_registered<
     barrier: &CyclicGate<A>,
     setup: Setup<'_, G, S>,
     fault: Option<Reason>,
-)
+) -> Stopped<J>
 where
     E::Stretch: Send,
-    requires workers { setup.workers ≡ J.workers }
+    requires workers { (setup.workers ≡ J.workers) × (1 ≤ setup.workers) }
     requires rule { Answers (F.pre shared.now.tree.phaser.rule.closure) (F.post shared.now.tree.phaser.rule.closure) (end_ends_at shared.now.tree.phaser.rule.plan) }
     requires action { AnswersAction (A.pre barrier.now.action.closure) (A.post barrier.now.action.closure) barrier.now.action.plan }
 {
@@ -258,8 +265,9 @@ where
     E::Stretch: Send,
     requires mark { E.mark engine ≡ J.mark }
     requires few { E.count engine ≤ 65536 }
+    requires begins { CanBegin (E.ready engine) (E.out engine) (E.size engine) (E.len engine) (E.count engine) (E.stays engine) (E.ended engine) (E.leaves engine) }
     requires workers { (setup.workers ≡ J.workers) × (1 ≤ setup.workers) × (setup.workers ≤ 64) }
-    requires passes { (opening.passes.name ≡ J.passes) × (opening.passes.out ≡ []) }
+    requires lists { AreNew opening.lists × AreNamed J.passes J.groups J.stops opening.lists }
     requires tree { (opening.tree.tree ≡ J.tree) × (opening.door.tree ≡ J.tree) }
     requires leaves { (opening.leaves.items ≡ leaves_of J.tree.key.shape) × (0 < length opening.leaves.items) }
     requires rule { Answers (F.pre opening.tree.rule.closure) (F.post opening.tree.rule.closure) (end_ends_at opening.tree.rule.plan) }
@@ -270,24 +278,26 @@ where
         tree,
         door,
         leaves,
-        passes,
+        lists,
     } = opening;
     let tree = WorkerTree::<J, F>::new(tree, Leaves::new(leaves));
     let action = StoredAction::new(do_nothing, None);
     let barrier = barrier_for(alloc, setup.workers, action);
-    run_at(rt, alloc, engine, passes, tree, door, &barrier, setup)
+    run_at(rt, alloc, engine, lists, tree, door, &barrier, setup)
 }
 
 /// Runs `engine` on `workers` threads that synchronize at a tree of phasers of this `shape`, superstep by superstep
 /// (own). Returns what the run leaves.
 ///
-/// The closure of `advance` is called once a superstep, after the last arrival, with the phase and the number of parties
-/// at the root. Its plan mustn't end the tree before the engine ends, or the run fails with `Internal`. `gate` is called
-/// round each segment, and `starter` before each worker is started. The engine should cut its live tasks into
+/// The closure of `advance` is called once a superstep, after the last arrival, with the phase and the number of parties at the
+/// root. Its plan mustn't end the tree before the engine ends, or the run fails with `Internal`. `gate` is called before and
+/// after each segment, and `starter` before each worker is started. The engine should cut its live tasks into
 /// [`stretches_wanted`] stretches. If the gate isn't open, a stretch of more than one task fails the run with `Memory`.
 ///
 /// The paths of the start tasks are [0], [1], and so on, in the order of the engine. With more than 65536 of them the run
-/// fails with `Internal`.
+/// fails with `Full`.
+///
+/// When the run begins, all stretches are there and none has run.
 ///
 /// Returns after joining all workers that were started. Termination is not part of the contract.
 pub fn run_engine<
@@ -309,6 +319,7 @@ pub fn run_engine<
 where
     E::Stretch: Send,
     requires workers { (1 ≤ workers) × (workers ≤ 64) }
+    requires begins { CanBegin (E.ready engine) (E.out engine) (E.size engine) (E.len engine) (E.count engine) (E.stays engine) (E.ended engine) (E.leaves engine) }
     requires plan { IsJobPlan advance.plan }
     requires rule { Answers (F.pre advance.closure) (F.post advance.closure) (end_ends_at advance.plan) }
     ensures outcome { IfOk result (E.gives (E.mark engine)) }
@@ -320,7 +331,7 @@ where
         starter,
     };
     if engine.count() > MOST_STARTS {
-        return Err(Refused::Internal);
+        return Err(Refused::Full);
     }
     match opening_of(alloc, shape, advance) {
         Ok(opening) => run_shared::<E, Brand, R, F, G, S>(rt, alloc, engine, opening, setup),
@@ -337,16 +348,16 @@ fn opening_of<F: Fn(u32, u32) -> bool + Drop>(
     requires plan { IsJobPlan advance.plan }
     ensures tree { IfOk result (λ o. IsNew shape 0 advance o.tree o.door) }
     ensures leaves { IfOk result (λ o. (o.leaves.items ≡ leaves_of shape) × (0 < length o.leaves.items)) }
-    ensures passes { IfOk result (λ o. o.passes.out ≡ []) }
+    ensures lists { IfOk result (λ o. AreNew o.lists) }
 {
     let leaves = leaves_in(alloc, &shape)?;
-    let passes = PassList::new(alloc)?;
+    let lists = Lists::new(alloc)?;
     let (tree, door) = Tree::new(alloc, shape, 0, advance)?;
     Ok(Opening {
         tree,
         door,
         leaves,
-        passes,
+        lists,
     })
 }
 
@@ -371,7 +382,7 @@ fn spins_of<R: Threads>(rt: &R, workers: u32) -> u32 {
     }
 }
 
-/// The limit of supersteps that a plan means.
+/// Returns the limit of supersteps of a plan: its last phase plus one.
 pub fn limit_in(plan: EndPlan) -> u32
     requires { IsJobPlan plan }
     ensures limit { result ≡ limit_of plan }

@@ -5,11 +5,11 @@ ghost use Rattle.worker_pool.specs.declared.fault.Reason.TheVariants as reason;
 use crate::engine::Engine;
 use crate::fault::{Reason, Refused};
 use crate::hand::{Changes, HeldStretch};
-use crate::participant::{Group, OwnToken, Participant};
+use crate::participant::{HeldGroup, OwnToken, Participant, Stopped};
 use crate::queue::{HandedBack, Next, Queue, Running};
 use crate::tree::WorkerTree;
 use programs::deeds::Change;
-use std::alloc::Global;
+use std::alloc::{AllocError, Global};
 use std::collections::VecDeque;
 use std::hint::spin_loop;
 use std::mem;
@@ -60,10 +60,11 @@ impl<E: Engine, J: Running, F: Fn(u32, u32) -> bool> Shared<E, J, F> {
     ghost use Rattle.worker_pool.specs.declared.fault.Reason.TheVariants as reason;
     ghost use Rattle.advance_rule.specs.Stored.{Answers};
     ghost use Rattle.advance_rule.specs.Plan.{end_ends_at};
+    ghost use Rattle.worker_pool.specs.Changes.{Tells};
     ghost use Rattle.worker_pool.specs.Refusals.{IsOfWorkers};
 
-    /// Returns what a worker does next. Waits until a stretch is ready or workers stop.
-    pub(crate) fn next<R: Wait>(&self, rt: &R) -> Result<Next<E, J>, Reason> {
+    /// Returns what a worker does next. Waits until a stretch is ready or workers stop. Fails only if memory runs out.
+    pub(crate) fn next<R: Wait>(&self, rt: &R) -> Result<Next<E, J>, AllocError> {
         let queue = self.queue.lock(rt);
         let queue = if queue.is_idle() {
             self.spin(rt, queue)
@@ -109,17 +110,18 @@ impl<E: Engine, J: Running, F: Fn(u32, u32) -> bool> Shared<E, J, F> {
         self.changed.notify_all();
     }
 
-    /// Delivers a stretch whose segments have run.
+    /// Delivers a stretch whose segments have run. Returns the group of its participants.
     pub(crate) fn deliver<R: Wait>(
         &self,
         rt: &R,
         held: HeldStretch<E::Stretch, J>,
         changes: &Changes,
-    )
-        requires { E.Stretch.finished held ≡ true }
+    ) -> HeldGroup<J>
+        requires finished { E.Stretch.finished held ≡ true }
+        requires told { Tells (E.Stretch.stays held) (E.Stretch.faulted held) (E.Stretch.told held) changes.now }
     {
         let stay = matches!(changes, Changes::Same);
-        self.queue.lock(rt).deliver(held, stay);
+        self.queue.lock(rt).deliver(held, stay)
     }
 
     // Registers a spawned task, and arrives for it. There is room for it in `spawned`.
@@ -292,19 +294,18 @@ impl<E: Engine, J: Running, F: Fn(u32, u32) -> bool> Shared<E, J, F> {
         rt: &R,
         alloc: Global,
         own: &mut OwnToken<J>,
-        step: u32,
-        mut group: Group<J>,
+        mut held: HeldGroup<J>,
         changes: Changes,
     ) -> Result<(), Reason>
         requires rule { Answers (F.pre self.now.tree.phaser.rule.closure) (F.post self.now.tree.phaser.rule.closure) (end_ends_at self.now.tree.phaser.rule.plan) }
     {
         let alone = self.back_off();
-        let passed = self.pass_group(rt, alloc, &mut group.participants, changes);
+        let passed = self.pass_group(rt, alloc, &mut held.group.participants, changes);
         if alone {
             self.passing.store(false, Ordering::SeqCst);
         }
         let led = passed?;
-        let handed_back = self.queue.lock(rt).hand_back(alloc, step, group, led)?;
+        let handed_back = self.queue.lock(rt).hand_back(alloc, held, led)?;
         match handed_back {
             HandedBack::Unchanged => {}
             HandedBack::Ready => self.wake_all(),
@@ -317,14 +318,20 @@ impl<E: Engine, J: Running, F: Fn(u32, u32) -> bool> Shared<E, J, F> {
     }
 
     /// Notes why a worker can't go on, and stops all workers.
-    pub(crate) fn give_up<R: Wait>(&self, rt: &R, own: &mut OwnToken<J>, reason: Reason) {
-        self.queue.lock(rt).note(reason);
+    pub(crate) fn give_up<R: Wait>(
+        &self,
+        rt: &R,
+        own: &mut OwnToken<J>,
+        reason: Reason,
+    ) -> Stopped<J> {
+        let stopped = self.queue.lock(rt).note(reason);
         self.wake_all();
         self.tree.force(rt, own);
+        stopped
     }
 
-    /// Returns what the run leaves, or why it leaves nothing, once all workers have stopped.
-    pub(crate) fn conclude(self, alloc: Global) -> Result<E::Outcome, Refused>
+    /// Returns what the run leaves, or why it leaves nothing, once all workers have stopped. `stopped` is that of one of them.
+    pub(crate) fn conclude(self, alloc: Global, stopped: Stopped<J>) -> Result<E::Outcome, Refused>
         ensures outcome { IfOk result (E.gives J.mark) }
         ensures started { IfErr result (IsOfWorkers J.workers) }
     {
@@ -336,6 +343,6 @@ impl<E: Engine, J: Running, F: Fn(u32, u32) -> bool> Shared<E, J, F> {
             spins: _,
             tree: _,
         } = self;
-        queue.into_inner().conclude(alloc)
+        queue.into_inner().conclude(alloc, stopped)
     }
 }

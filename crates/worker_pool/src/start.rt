@@ -1,5 +1,5 @@
 //! Starts the workers, which wait for each other at a barrier before any of them takes a task.
-ghost use Rattle.std.specs.Prelude.{◌≡◌, ◌<◌, ℕ, IfErr, OnOk, length, vec_capacity};
+ghost use Rattle.std.specs.Prelude.{◌≡◌, ◌<◌, ◌≤◌, ◌⊎◌, ℕ, IfErr, IsSome, OnOk, vec_len, vec_capacity};
 ghost use Rattle.std.specs.Thread.{IsSync};
 ghost use Rattle.advance_rule.specs.Action.{AnswersAction};
 ghost use Rattle.advance_rule.specs.Stored.{Answers};
@@ -9,7 +9,7 @@ ghost use Rattle.worker_pool.specs.Refusals.{IsOfWorkers};
 use crate::engine::Engine;
 use crate::fault::Refused;
 use crate::hooks::{Gate, Starter};
-use crate::participant::OwnToken;
+use crate::participant::{OwnToken, Stopped};
 use crate::queue::Running;
 use crate::shared::Shared;
 use crate::work::work;
@@ -19,7 +19,7 @@ use std::sync::Wait;
 use std::thread;
 use std::thread::{JoinHandle, Threads};
 
-/// How a run is set up: the number of workers, the gate round each segment, and who may be started.
+/// How a run is set up: the number of workers, the gate before and after each segment, and which workers may be started.
 #[derive(Drop)]
 pub(crate) struct Setup<'a, G: Gate, S: Starter> {
     pub(crate) workers: u32,
@@ -33,16 +33,17 @@ fn call_off<E: Engine, J: Running, R: Wait, F: Fn(u32, u32) -> bool, A: Fn(u64) 
     shared: &Shared<E, J, F>,
     barrier: &CyclicGate<A>,
     refused: Refused,
-)
+) -> Stopped<J>
     requires refused { IsOfWorkers J.workers refused }
     requires action { AnswersAction (A.pre barrier.now.action.closure) (A.post barrier.now.action.closure) barrier.now.action.plan }
 {
-    shared.queue.lock(rt).refuse(refused);
+    let stopped = shared.queue.lock(rt).refuse(refused);
     barrier.break_off(rt);
+    stopped
 }
 
 // What a started worker does: it waits for the others at the barrier, then works. If it runs out of memory there, it
-// stops the others.
+// stops the others. If the barrier is broken, a worker has noted why before, and this one stops as soon as it sees the note.
 fn wait_and_work<
     E: Engine,
     J: Running,
@@ -58,25 +59,25 @@ fn wait_and_work<
     barrier: &CyclicGate<A>,
     k: u32,
     mut own: OwnToken<J>,
-)
+) -> Stopped<J>
     requires rule { Answers (F.pre shared.now.tree.phaser.rule.closure) (F.post shared.now.tree.phaser.rule.closure) (end_ends_at shared.now.tree.phaser.rule.plan) }
     requires action { AnswersAction (A.pre barrier.now.action.closure) (A.post barrier.now.action.closure) barrier.now.action.plan }
 {
     match barrier.await_turn(rt, k) {
-        Ok(_) => work(rt, alloc, shared, gate, &mut own),
         Err(GateFault::Memory) => call_off(rt, shared, barrier, Refused::Memory),
-        Err(_) => {}
+        Ok(_) | Err(_) => work(rt, alloc, shared, gate, &mut own),
     }
 }
 
 // Makes room for the handle of a worker's thread, unless the worker may not be started.
-fn may_start<S: Starter>(
+fn may_start<S: Starter, J: Running>(
     starter: &S,
     k: u32,
-    started: &mut Vec<JoinHandle<()>>,
+    started: &mut Vec<JoinHandle<Stopped<J>>>,
 ) -> Result<(), Refused>
     ensures refused { (workers : ℕ) → k < workers → IfErr result (IsOfWorkers workers) }
-    ensures room { OnOk result (length started.new.items < vec_capacity started.new) }
+    ensures room { OnOk result (vec_len started.new < vec_capacity started.new) }
+    ensures same { vec_len started.new ≡ vec_len started.old }
 {
     if !starter.may_start(k) {
         return Err(Refused::NotStarted(k));
@@ -87,10 +88,20 @@ fn may_start<S: Starter>(
     }
 }
 
-// Joins the threads that were started.
-fn join_all<R: Threads + Wait>(rt: &R, started: Vec<JoinHandle<()>>) {
-    for thread in started {
-        thread.join(rt);
+// Joins the threads that were started. Returns what one of them has, or what there was before.
+fn join_all<R: Threads + Wait, J: Running>(
+    rt: &R,
+    mut started: Vec<JoinHandle<Stopped<J>>>,
+    mut stopped: Option<Stopped<J>>,
+) -> Stopped<J>
+    requires { IsSome stopped ⊎ (0 < vec_len started) }
+{
+    while let Some(thread) = started.pop() {
+        stopped = Some(thread.join(rt));
+    }
+    match stopped {
+        Some(stopped) => stopped,
+        None => unreachable!(),
     }
 }
 
@@ -111,10 +122,10 @@ pub(crate) fn start_all<
     own: &mut OwnToken<J>,
     barrier: &CyclicGate<A>,
     setup: Setup<'_, G, S>,
-)
+) -> Stopped<J>
 where
     E::Stretch: Send,
-    requires workers { setup.workers ≡ J.workers }
+    requires workers { (setup.workers ≡ J.workers) × (1 ≤ setup.workers) }
     requires rule { Answers (F.pre shared.now.tree.phaser.rule.closure) (F.post shared.now.tree.phaser.rule.closure) (end_ends_at shared.now.tree.phaser.rule.plan) }
     requires action { AnswersAction (A.pre barrier.now.action.closure) (A.post barrier.now.action.closure) barrier.now.action.plan }
 {
@@ -126,26 +137,27 @@ where
     thread::scope(
         thread::scope_env(),
         rt,
-        move |scope|
-            requires { (workers ≡ J.workers) × Answers (F.pre shared.now.tree.phaser.rule.closure) (F.post shared.now.tree.phaser.rule.closure) (end_ends_at shared.now.tree.phaser.rule.plan)
+        move |scope| -> Stopped<J>
+            requires { (workers ≡ J.workers) × (1 ≤ workers) × Answers (F.pre shared.now.tree.phaser.rule.closure) (F.post shared.now.tree.phaser.rule.closure) (end_ends_at shared.now.tree.phaser.rule.plan)
                 × AnswersAction (A.pre barrier.now.action.closure) (A.post barrier.now.action.closure) barrier.now.action.plan }
         {
             let mut started = Vec::new(alloc);
+            let mut stopped = None;
             for k in 0..workers {
                 if let Err(refused) = may_start(starter, k, &mut started) {
-                    call_off(rt, shared, barrier, refused);
+                    stopped = Some(call_off(rt, shared, barrier, refused));
                     break;
                 }
                 let own = shared.tree.own_token(own);
                 match scope.spawn(move || wait_and_work(rt, alloc, shared, gate, barrier, k, own)) {
                     Ok(thread) => started.push_reserved(thread),
                     Err(_) => {
-                        call_off(rt, shared, barrier, Refused::NotStarted(k));
+                        stopped = Some(call_off(rt, shared, barrier, Refused::NotStarted(k)));
                         break;
                     }
                 }
             }
-            join_all(rt, started);
+            join_all(rt, started, stopped)
         },
     )
 }

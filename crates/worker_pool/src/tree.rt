@@ -27,8 +27,10 @@ pub(crate) struct WorkerTree<J: Running, F: Fn(u32, u32) -> bool> {
 enum Entry {
     // The member has joined.
     In(Crew),
-    // The tier is held, full or busy; another tier may do.
+    // The tier is held or busy; another tier may do.
     Off(Door),
+    // The tier has no room; another tier may have.
+    Full(Door),
     // The tree has ended.
     Over,
 }
@@ -41,6 +43,7 @@ impl<J: Running, F: Fn(u32, u32) -> bool> WorkerTree<J, F> {
     ghost use Rattle.tier_table.specs.Openings.{asked_tier};
     ghost use Rattle.tier_shape.specs.Preferred.{leaf_at};
     ghost use Rattle.worker_pool.specs.Entries.{IsOf, IsAtLeaf};
+    ghost use Rattle.worker_pool.specs.Refusals.{IsOfTree};
     ghost use Rattle.worker_pool.specs.declared.fault.Reason.TheVariants as reason;
     ghost use Rattle.tier_table.specs.Arrives.{HasPassed};
     ghost use Rattle.tier_steps.specs.declared.view.Passage.TheVariants.{Arrival};
@@ -67,7 +70,7 @@ impl<J: Running, F: Fn(u32, u32) -> bool> WorkerTree<J, F> {
             match self.phaser.resume_opening(opening, TRIES) {
                 Opened::Joined(crew, _phase) => return Entry::In(crew),
                 Opened::Held(door, _phase, _cause) => return Entry::Off(door),
-                Opened::Full(door, _count) => return Entry::Off(door),
+                Opened::Full(door, _count) => return Entry::Full(door),
                 Opened::Ended(_door, _shown) => return Entry::Over,
                 Opened::Owing(rest) => opening = rest,
             }
@@ -84,7 +87,7 @@ impl<J: Running, F: Fn(u32, u32) -> bool> WorkerTree<J, F> {
         match self.phaser.register(door, tier, 1, TRIES) {
             Registered::Joined(crew, _phase) => Entry::In(crew),
             Registered::Held(door, _phase, _cause) => Entry::Off(door),
-            Registered::Full(door, _count) => Entry::Off(door),
+            Registered::Full(door, _count) => Entry::Full(door),
             Registered::Busy(door) => Entry::Off(door),
             Registered::Ended(_door, _shown) => Entry::Over,
             Registered::Owing(opening) => self.open(rt, opening),
@@ -97,13 +100,13 @@ impl<J: Running, F: Fn(u32, u32) -> bool> WorkerTree<J, F> {
         requires unarrived { crew.old.view.arrived < crew.old.view.size }
         ensures same { (crew.new.tree ≡ J.tree) × (crew.new.view.arrived < crew.new.view.size) × (crew.new.view.tier ≡ crew.old.view.tier) }
         ensures joined { IfOk result (λ child. (child.tree ≡ J.tree) × (child.view.tier ≡ crew.old.view.tier)) }
-        ensures internal { IfErr result (λ fault. fault ≡ reason.Internal) }
+        ensures refused { IfErr result IsOfTree }
     {
         for _ in rt.forever() {
             match self.phaser.join_here(crew, door, 1, TRIES) {
                 Registered::Joined(child, _phase) => return Ok(child),
                 Registered::Busy(rest) => door = rest,
-                Registered::Full(_door, _count) => return Err(Reason::Internal),
+                Registered::Full(_door, _count) => return Err(Reason::Full),
                 Registered::Ended(_door, _shown) => return Err(Reason::Internal),
                 Registered::Held(..) | Registered::Owing(_) => unreachable!(),
             }
@@ -111,7 +114,7 @@ impl<J: Running, F: Fn(u32, u32) -> bool> WorkerTree<J, F> {
         unreachable!()
     }
 
-    /// Registers the start task with this number, at the leaf with this number modulo the number of leaves. Nothing refuses
+    /// Registers the start task with this number, at the leaf with this number modulo the number of leaves. Only a full leaf refuses
     /// it, since no task has arrived yet.
     pub(crate) fn register_start<R: Wait>(
         &self,
@@ -122,11 +125,12 @@ impl<J: Running, F: Fn(u32, u32) -> bool> WorkerTree<J, F> {
     ) -> Result<Participant<J>, Reason>
         ensures leaf { IfOk result (λ participant. participant.crew.view.tier ≡ leaf_at (leaves_of J.tree.key.shape) number) }
         ensures path { IfOk result (λ participant. participant.path ≡ path) }
-        ensures internal { IfErr result (λ fault. fault ≡ reason.Internal) }
+        ensures refused { IfErr result IsOfTree }
     {
         let fresh = self.phaser.split(&mut own.door);
         match self.register(rt, fresh, self.leaves.tier(number)) {
             Entry::In(crew) => Ok(Participant::new(path, crew)),
+            Entry::Full(_) => Err(Reason::Full),
             Entry::Off(_) | Entry::Over => Err(Reason::Internal),
         }
     }
@@ -144,7 +148,7 @@ impl<J: Running, F: Fn(u32, u32) -> bool> WorkerTree<J, F> {
         ensures same { (crew.new.tree ≡ J.tree) × (crew.new.view.arrived < crew.new.view.size) × (crew.new.view.tier ≡ crew.old.view.tier) }
         ensures leaf { IfOk result (λ participant. IsAtLeaf (leaves_of J.tree.key.shape) crew.old.view.tier path.items participant.crew.view.tier) }
         ensures path { IfOk result (λ participant. participant.path ≡ path) }
-        ensures internal { IfErr result (λ fault. fault ≡ reason.Internal) }
+        ensures refused { IfErr result IsOfTree }
     {
         let fresh = self.phaser.split_crew(crew);
         let tier = self.leaves.preferred(crew.tier(), path.as_slice());
@@ -154,7 +158,7 @@ impl<J: Running, F: Fn(u32, u32) -> bool> WorkerTree<J, F> {
         }
         match self.register(rt, fresh, tier) {
             Entry::In(child) => Ok(Participant::new(path, child)),
-            Entry::Off(door) => {
+            Entry::Off(door) | Entry::Full(door) => {
                 let child = self.join_here(rt, crew, door)?;
                 Ok(Participant::new(path, child))
             }

@@ -6,7 +6,7 @@ use crate::engine::Engine;
 use crate::fault::Reason;
 use crate::hand::HeldStretch;
 use crate::hooks::Gate;
-use crate::participant::{Group, OwnToken};
+use crate::participant::{OwnToken, Stopped};
 use crate::queue::{Next, Running};
 use crate::shared::Shared;
 use std::alloc::Global;
@@ -19,34 +19,35 @@ pub(crate) fn work<E: Engine, J: Running, R: Wait, F: Fn(u32, u32) -> bool, G: G
     shared: &Shared<E, J, F>,
     gate: &G,
     own: &mut OwnToken<J>,
-)
+) -> Stopped<J>
     requires rule { Answers (F.pre shared.now.tree.phaser.rule.closure) (F.post shared.now.tree.phaser.rule.closure) (end_ends_at shared.now.tree.phaser.rule.plan) }
 {
     for _ in rt.forever() {
         match do_next(rt, alloc, shared, gate, own) {
-            Ok(true) => {}
-            Ok(false) => return,
+            Ok(None) => {}
+            Ok(Some(stopped)) => return stopped,
             Err(reason) => return shared.give_up(rt, own, reason),
         }
     }
+    unreachable!()
 }
 
-// Runs the next stretch. Returns false if workers stop.
+// Runs the next stretch, or stops if workers stop.
 fn do_next<E: Engine, J: Running, R: Wait, F: Fn(u32, u32) -> bool, G: Gate>(
     rt: &R,
     alloc: Global,
     shared: &Shared<E, J, F>,
     gate: &G,
     own: &mut OwnToken<J>,
-) -> Result<bool, Reason>
+) -> Result<Option<Stopped<J>>, Reason>
     requires rule { Answers (F.pre shared.now.tree.phaser.rule.closure) (F.post shared.now.tree.phaser.rule.closure) (end_ends_at shared.now.tree.phaser.rule.plan) }
 {
     match shared.next(rt)? {
-        Next::Run(held, group) => {
-            do_stretch(rt, alloc, shared, gate, own, held, group)?;
-            Ok(true)
+        Next::Run(held) => {
+            do_stretch(rt, alloc, shared, gate, own, held)?;
+            Ok(None)
         }
-        Next::Stop => Ok(false),
+        Next::Stop(stopped) => Ok(Some(stopped)),
     }
 }
 
@@ -58,12 +59,10 @@ fn do_stretch<E: Engine, J: Running, R: Wait, F: Fn(u32, u32) -> bool, G: Gate>(
     gate: &G,
     own: &mut OwnToken<J>,
     mut held: HeldStretch<E::Stretch, J>,
-    group: Group<J>,
 ) -> Result<(), Reason>
     requires rule { Answers (F.pre shared.now.tree.phaser.rule.closure) (F.post shared.now.tree.phaser.rule.closure) (end_ends_at shared.now.tree.phaser.rule.plan) }
 {
-    let step = held.step();
     let changes = held.run(rt, alloc, gate)?;
-    shared.deliver(rt, held, &changes);
-    shared.pass_all(rt, alloc, own, step, group, changes)
+    let group = shared.deliver(rt, held, &changes);
+    shared.pass_all(rt, alloc, own, group, changes)
 }

@@ -71,4 +71,5 @@ fn refusals_have_their_numbers(rt: HostRuntime) {
     assert!(rt; Refused::Memory.number() == 1);
     assert!(rt; Refused::NotStarted(5).number() == 2);
     assert!(rt; Refused::Internal.number() == 3);
+    assert!(rt; Refused::Full.number() == 4);
 }

@@ -8,6 +8,8 @@ use Rattle.program_stretches.specs.Opening.{live_of}
 use Rattle.program_stretches.specs.StretchesValue.{StretchesValue}
 use Rattle.program_stretches.specs.Closing.{EndsBy}
 use Rattle.program_stretches.proofs.Closed.{fit, ends_many, closed_end, have_same, tasks_on, deeds_on, prints_on, covers_on}
+use Rattle.program_stretches.proofs.Reopening.{if_ok, none_moved, reopened_from}
+use Rattle.program_stretches.proofs.stretches.Stretches.go_on.Goals.{else-left-eq0-via-then-left-eq0+else-spawned-eq0, else-left-eq0-via-else-left-eq0}
 use Rattle.program_stretches.proofs.stretches.Stretches.go_on.Goals as goal
 
 counted_there : (o : Option ℕ) (A : Type 0) (F : ℕ → Type 0) → MatchOption o A F → {x : ℕ} → o ≡ Some x → F x
@@ -267,3 +269,24 @@ move_on-requires-clause-told g c =
     let fits = made.1 in
     (λ i. record { phase = (c.self.view_is i).step; parties = (count ∙ sym all) i + spawned i; left = told i; spawned = spawned i })
     ∙ ap (told_in c.args.self.now.step) (sym deeds)
+
+pub move_on-requires-clause-moves : goal.move_on-requires-clause-moves
+move_on-requires-clause-moves g c = λ stay.
+    let kept = c.join_adds.new.parts.items in
+    let none = none_moved kept stay in
+    let deeds = sym (deeds_on kept) ∙ ap deeds_in c.in_ok-join_adds.ensures.rest ∙ deeds_on c.args.parts.items in
+    let left = c.count_left-left.ensures ∙ ap left_in (ap deeds_in c.deref.ensures.value ∙ sym deeds) ∙ none.0 in
+    let made = counted_there c.count_spawned.result _ _ c.count_spawned.ensures c.in-Some.is in
+    let spawned = made.0 ∙ ap spawned_in (ap deeds_in c.deref-2.ensures.value ∙ sym deeds) ∙ none.1 in
+    elim c.else-left-eq0.branch [
+      | else-left-eq0-via-then-left-eq0+else-spawned-eq0 w ↦ w.if-spawned-eq0.false spawned
+      | else-left-eq0-via-else-left-eq0 w ↦ w.if-left-eq0.false left
+    ]
+
+pub returns-then-spawned-eq0-clause-reopened : goal.returns-then-spawned-eq0-clause-reopened
+returns-then-spawned-eq0-clause-reopened g c =
+    if_ok c.stay.result _ _ c.stay.ensures.reopened (λ o h. reopened_from o c.args.self.now.step c.join_adds.new.parts.items c.args.parts.items _ c.in_ok-join_adds.ensures.rest h)
+
+pub returns-else-left-eq0-clause-reopened : goal.returns-else-left-eq0-clause-reopened
+returns-else-left-eq0-clause-reopened g c =
+    if_ok c.move_on.result _ _ c.move_on.ensures.reopened (λ o h. reopened_from o c.args.self.now.step c.join_adds.new.parts.items c.args.parts.items _ c.in_ok-join_adds.ensures.rest h)

@@ -1,7 +1,8 @@
-use Rattle.std.proofs.Common.{◌∷◌, ◌∙◌, List, [], ap, sym, refl, subst, arith, length, map}
+use Rattle.std.proofs.Common.{◌∷◌, ◌∙◌, List, [], Option, ap, sym, refl, subst, arith, length, map}
 use Rattle.std.specs.Arc.{arc_value}
 use Rattle.programs.specs.Meaning.{children}
-use Rattle.program_stretches.specs.Parts.{reading_of, AreFresh}
+use Rattle.program_stretches.specs.PartValue.{PartValue}
+use Rattle.program_stretches.specs.Parts.{reading_of, AreFresh, tasks_in}
 use Rattle.program_stretches.specs.Opening.{OpeningValue}
 use Rattle.program_stretches.proofs.Course.{course_begun}
 use Rattle.program_stretches.proofs.stretches.Stretches.new.Goals as goal
@@ -43,5 +44,9 @@ returns g c =
       of_tasks = ready.tasks;
       at_most = refl;
       to_limit = refl;
+      counted =
+          let parts = ap (λ (x : OpeningValue g.row.P.Denot g.row.P-Task.Denot). x.parts) (c.parts.view_is ∙ c.note.ensures.same) in
+          ready.count ∙ ap length (sym ready.tasks) ∙ ap (λ (ss : List (Option (PartValue g.row.P-Task.Denot))). length (tasks_in ss)) (sym parts);
+      nothing_given = refl;
       ready = subst (AreFresh 0) (sym (ap (λ (x : OpeningValue g.row.P.Denot g.row.P-Task.Denot). x.parts) (c.parts.view_is ∙ c.note.ensures.same))) ready.fresh;
     }

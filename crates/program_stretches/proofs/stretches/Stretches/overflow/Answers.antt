@@ -31,8 +31,8 @@ unreachable-requires g c =
     let none : None ≡ Some e.cause = sym c.in-None.is ∙ e.is in
     cc
 
-pub returns : goal.returns
-returns g c =
+pub returns-clause-closed : goal.returns-clause-closed
+returns-clause-closed g c =
     let m = reading_of g.P.Program.frame g.P.Program.may g.P.Program.meant g.P.Task.OnPath.path_of in
     let o = c.requires.run in
     let h = o.run in

@@ -11,6 +11,7 @@ use Rattle.program_stretches.specs.StretchesValue.{StretchesValue, IsAfter, IsCo
 use Rattle.program_stretches.specs.StretchesView.{stretches_of}
 use Rattle.program_stretches.specs.Closing.{opened_with}
 use Rattle.program_stretches.proofs.Closed.{fit, after_landed, closed_landed, landed_with, tasks_renewed, fresh_renewed}
+use Rattle.program_stretches.proofs.Reopening.{renewed_again}
 use Rattle.program_stretches.proofs.stretches.Stretches.stay.Goals as goal
 
 pub invariant_of-self-in-None : goal.invariant_of-self-in-None
@@ -101,3 +102,25 @@ returns-in_ok-reopen-in-None-clause-closed g c =
     closed_landed m a law c.requires.running (c.args.puts.now ++ puts_in c.args.parts.items) us ds after h c.requires.few c.args.told c.requires.told none us is_next
     c.renew_all.new.parts.items (subst (AreFresh 0) (sym parts) (fresh_renewed true c.args.self.now.count 0 c.args.parts.items c.requires.covered)) (ap tasks_in parts ∙ tasks_renewed c.args.parts.items) c.reopen.new.self
     (c.in_ok-reopen-in-None.ensures.opened ∙ ap (λ (x : StretchesValue g.row.P.Denot g.row.P-Task.Denot). opened_with x c.renew_all.new.parts.items) same)
+
+pub returns-in_ok-reopen-in-None-clause-reopened : goal.returns-in_ok-reopen-in-None-clause-reopened
+returns-in_ok-reopen-in-None-clause-reopened g c =
+    let m = reading_of g.P.Program.frame g.P.Program.may g.P.Program.meant g.P.Task.OnPath.path_of in
+    let a = c.args.self.now in
+    let v = stretches_of c.self.inside in
+    let law = g.met.P.Program.keeps_paths a.program in
+    let h = c.requires.run in
+    let us = tasks_in c.args.parts.items in
+    let ds = deeds_in c.args.parts.items in
+    let after = prints_in c.args.parts.items in
+    let f = fit m a law c.requires.running h.opening h.begun (c.args.puts.now ++ puts_in c.args.parts.items) us ds after h.did in
+    let count : v.count ≡ length us = ap (λ (x : StretchesValue g.row.P.Denot g.row.P-Task.Denot). x.count) c.self.view_is ∙ sym f.all ∙ sym f.same in
+    let parts = c.renew_all.ensures ∙ ap (map renewed) c.give_all_prints.ensures.rest in
+    let is = c.in_ok-reopen-in-None.ensures.opened in
+    let there = ap (λ (x : StretchesValue g.row.P.Denot g.row.P-Task.Denot). x.parts) is ∙ parts in
+    let tasks = ap tasks_in there ∙ tasks_renewed c.args.parts.items in (
+      subst (AreFresh 0) (sym there) (fresh_renewed true c.args.self.now.count 0 c.args.parts.items c.requires.covered),
+      ap (λ (x : StretchesValue g.row.P.Denot g.row.P-Task.Denot). x.count) is ∙ count ∙ ap length (sym tasks),
+      λ stay. there ∙ renewed_again c.args.parts.items,
+      ap (λ (x : StretchesValue g.row.P.Denot g.row.P-Task.Denot). x.step) is ∙ ap (λ (x : StretchesValue g.row.P.Denot g.row.P-Task.Denot). x.step + 1) c.self.view_is,
+    )

@@ -1,10 +1,22 @@
-use Rattle.std.proofs.Common.{◌≡◌, true, sym, subst, slice_get}
+use Rattle.std.proofs.Common.{◌≡◌, ◌∙◌, true, sym, ap, subst, slice_get}
+use Rattle.program_stretches.specs.StretchesValue.{ready_at}
+use Rattle.program_stretches.specs.Closing.{AllStay}
 use Rattle.worker_pool.specs.Leaving.{out_at}
-use Rattle.worker_pool.proofs.Slots.{others_out}
+use Rattle.worker_pool.proofs.Slots.{asked, asked_others, asked_rest, asked_stays}
 use Rattle.stream_workers.specs.Handed.{HandingValue}
 use Rattle.stream_workers.proofs.engine.HandingEngine.take.Goals as goal
 
 pub returns-in-Some-clause-others : goal.returns-in-Some-clause-others
 returns-in-Some-clause-others g c = λ k e.
-    others_out _ _ _ c.args.number _ _ (λ x h. h.left) c.take.ensures.taken c.take.ensures.unchanged k
+    asked_others _ _ c.args.number (asked _ _ _ c.args.number _ _ (λ x h. h.left) c.take.ensures.taken c.take.ensures.unchanged) k
     (subst (λ (v : HandingValue). out_at (slice_get v.stretches.parts k) ≡ true) (sym c.self.view_is) e)
+
+pub returns-in-Some-clause-rest : goal.returns-in-Some-clause-rest
+returns-in-Some-clause-rest g c = λ k n.
+    asked_rest _ _ c.args.number (asked _ _ _ c.args.number _ _ (λ x h. h.left) c.take.ensures.taken c.take.ensures.unchanged) k n
+    ∙ ap (λ (v : HandingValue). ready_at (slice_get v.stretches.parts k)) c.self.view_is
+
+pub returns-in-Some-clause-stays : goal.returns-in-Some-clause-stays
+returns-in-Some-clause-stays g c = λ stay.
+    asked_stays _ _ c.args.number (asked _ _ _ c.args.number _ _ (λ x h. h.left) c.take.ensures.taken c.take.ensures.unchanged)
+    (subst (λ (v : HandingValue). AllStay v.stretches.parts) (sym c.self.view_is) stay)

@@ -1,0 +1,16 @@
+use Rattle.std.proofs.Common.{◌∙◌, sym, ap, subst, length, slice_get, is_some}
+use Rattle.job_program.specs.declared.job.JobProgram.{JobProgram}
+use Rattle.task_lang.specs.TaskValue.{TaskValue}
+use Rattle.program_stretches.specs.StretchesValue.{StretchesValue, ready_at, tasks_at, status_in, can_leave}
+use Rattle.program_stretches.specs.Closing.{AllStay}
+use Rattle.worker_pool.specs.AtRest.{CanBegin}
+use Rattle.worker_pool.specs.Leaving.{out_at}
+use Rattle.worker_pool.proofs.Reopened.{begins}
+use Rattle.stream_workers.specs.Handed.{HandingValue}
+use Rattle.stream_workers.proofs.run.stream_lent.Goals as goal
+
+pub run_engine-left-requires-clause-begins : goal.run_engine-left-requires-clause-begins
+run_engine-left-requires-clause-begins g c = λ lifetimes bounds.
+    subst
+    (λ (v : StretchesValue JobProgram TaskValue). CanBegin (λ k. ready_at (slice_get v.parts k)) (λ k. out_at (slice_get v.parts k)) (λ k. length (tasks_at (slice_get v.parts k))) (length v.parts) v.count (AllStay v.parts) (is_some (status_in v)) (can_leave v))
+    (sym (ap (λ (h : HandingValue). h.stretches) c.new-engine.ensures ∙ c.snapshot-first.ensures.same)) (begins c.args.stretches c.requires.fresh.0 c.requires.fresh.1)
