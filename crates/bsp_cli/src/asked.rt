@@ -41,21 +41,21 @@ pub enum Asked {
     Upgrade,
     /// Runs a job.
     Run {
-        /// Returns the number of workers.
+        /// The number of worker threads, 1 to 64.
         workers: u32,
         /// The largest number of supersteps.
         limit: u32,
     },
     /// Runs a job, and writes its report as JSON.
     RunJson {
-        /// Returns the number of workers.
+        /// The number of worker threads, 1 to 64.
         workers: u32,
         /// The largest number of supersteps.
         limit: u32,
     },
     /// Runs a job, and writes its report superstep by superstep.
     RunStream {
-        /// Returns the number of workers.
+        /// The number of worker threads, 1 to 64.
         workers: u32,
         /// The largest number of supersteps.
         limit: u32,
@@ -64,7 +64,7 @@ pub enum Asked {
     Explain(Topic),
     /// Draws a job.
     Draw {
-        /// Returns the number of workers.
+        /// The number of worker threads, 1 to 64.
         workers: u32,
         /// The largest number of supersteps.
         limit: u32,
@@ -185,7 +185,7 @@ fn width_option<'a>(alloc: Global) -> Arg<'a>
     Arg::new(alloc, "width")
         .long("width")
         .value_name("NAME=N")
-        .help("Draws an array in rows of N cells; commas between several")
+        .help("Draws array NAME in rows of N cells; separate several with commas")
         .action(ArgAction::Set)
 }
 
@@ -253,7 +253,7 @@ fn stream_option<'a>(alloc: Global) -> Arg<'a>
 {
     Arg::new(alloc, "stream")
         .long("stream")
-        .help("Prints each superstep's lines when it is closed; not with --json")
+        .help("Prints each superstep as soon as it has ended; not with --json")
         .action(ArgAction::SetTrue)
 }
 

@@ -146,6 +146,11 @@ fn do_asked<T: Threads + Wait + Sync, R: CountedRead, W: CountedWrite + Send, P:
     ensures read_failures { ReadCause (R.failures reader.old) (R.failures reader.new) result }
     ensures write_failures { WriteCause (W.failures writer.old) (W.failures writer.new) result }
 {
+    let progress = if request.progress {
+        Some(progress)
+    } else {
+        None
+    };
     match request.asked {
         Asked::Trace => {
             trace(alloc, reader, writer)?;
@@ -168,27 +173,12 @@ fn do_asked<T: Threads + Wait + Sync, R: CountedRead, W: CountedWrite + Send, P:
             Ok(0)
         }
         Asked::Run { workers, limit } => {
-            let progress = if request.progress {
-                Some(progress)
-            } else {
-                None
-            };
             run_status(run_bytes(rt, alloc, reader, writer, shape, workers, limit, progress))
         }
         Asked::RunJson { workers, limit } => {
-            let progress = if request.progress {
-                Some(progress)
-            } else {
-                None
-            };
             run_status(run_json_bytes(rt, alloc, reader, writer, shape, workers, limit, progress))
         }
         Asked::RunStream { workers, limit } => {
-            let progress = if request.progress {
-                Some(progress)
-            } else {
-                None
-            };
             run_status(stream_bytes(rt, alloc, reader, writer, shape, workers, limit, progress))
         }
         Asked::Draw { workers, limit } => {
@@ -269,8 +259,8 @@ fn is_memory(error: &Error) -> bool
 }
 
 /// Returns the file that a command line names for [`run`] to read: the caller opens it and hands it over as the
-/// reader. Returns `None` if standard input is to be read. So it does if the command line or the text of its tree is
-/// refused: then nothing is read.
+/// reader. Returns `None` if standard input is to be read, and also if the command line or the text of `--tree` is
+/// refused; then nothing is read.
 pub fn file_named<'a, S: AsStr>(
     alloc: Global,
     words: &'a [S],

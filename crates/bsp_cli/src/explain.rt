@@ -171,7 +171,8 @@ A text that gets it:
     sync
     end
 
-Count the lines end from the body's line on, and add the one that is missing.
+From the body's line on, count body, if and while on one side and end on the
+other, and add the missing end.
 ";
 
 const BAD_NESTING: &str = "code 11 BadNesting: an else that fits no if
@@ -438,8 +439,8 @@ Put the line phaser 1 on top, or another of the three.
 
 const TRACE_UNKNOWN_LINE: &str = "trace code 4 UnknownLine: a line whose first word is no command
 
-A line after the first begins with a command: each of the three kinds of trace
-has commands of its own, as bsp trace --help lists them.
+A line after the first begins with a command. Each of the three kinds of trace
+has different commands; bsp trace --help lists them.
 
 A trace that gets it:
 
@@ -451,7 +452,7 @@ Write one of the commands.
 
 const TRACE_BAD_NAME: &str = "trace code 5 BadName: no code of a trace
 
-Only the text of a job gets it, as bsp explain 5 says.
+Only the text of a job gets this code; bsp explain 5 describes it.
 ";
 
 const TRACE_BAD_NUMBER: &str = "trace code 6 BadNumber: not a number, or one out of its range
@@ -475,27 +476,27 @@ A trace that gets it:
     phaser 1
     arrive twice
 
-Write one command per line, and a comment on a line of its own.
+Write one command per line, and put each comment on a separate line.
 ";
 
 const TRACE_TWICE: &str = "trace code 8 Twice: no code of a trace
 
-Only the text of a job gets it, as bsp explain 8 says.
+Only the text of a job gets this code; bsp explain 8 describes it.
 ";
 
 const TRACE_UNKNOWN_NAME: &str = "trace code 9 UnknownName: no code of a trace
 
-Only the text of a job gets it, as bsp explain 9 says.
+Only the text of a job gets this code; bsp explain 9 describes it.
 ";
 
 const TRACE_UNCLOSED: &str = "trace code 10 Unclosed: no code of a trace
 
-Only the text of a job gets it, as bsp explain 10 says.
+Only the text of a job gets this code; bsp explain 10 describes it.
 ";
 
 const TRACE_BAD_NESTING: &str = "trace code 11 BadNesting: no code of a trace
 
-Only the text of a job gets it, as bsp explain 11 says.
+Only the text of a job gets this code; bsp explain 11 describes it.
 ";
 
 const TRACE_TOO_MANY: &str =

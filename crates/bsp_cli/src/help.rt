@@ -2,9 +2,9 @@
 
 /// Reasons and two worked examples, at the end of the program's help.
 pub(crate) const EXAMPLES: &str =
-    "With --why anywhere in a command line, or if standard error is a terminal, the reason follows
-the line of a command line or a text that is refused. So it does after a fault and at the limit;
-the job is then run again, on one thread.
+    "With --why anywhere in the command line, or if standard error is a terminal, bsp also prints
+there why the command line or the text was refused, why a fault ended the job, or why the limit
+was reached. For the last two it runs the job again, on one thread.
 
 Two tasks swap their cells, on four threads:
 
@@ -105,16 +105,16 @@ macro_rules! job_help {
 Then, one per line:
   array NAME LENGTH [VALUE ..]  an array; values left out are 0
   body NAME [LOCAL ..]          a body begins, and a line end ends it; bsp 2 lists its locals
-  start NAME N                  a task of that body, with the argument N
+  start NAME N                  starts a task of that body, with the argument N
 In a body:
   let NAME = EXPR               sets a local
-  put ARRAY[INDEX] = EXPR       a value for that cell, as the superstep ends
-  add ARRAY[INDEX] = EXPR       a value to add to that cell then; bsp 2 only
+  put ARRAY[INDEX] = EXPR       sets the cell when the superstep ends
+  add ARRAY[INDEX] = EXPR       adds to the cell when the superstep ends; bsp 2 only
   print EXPR                    prints a value
-  spawn NAME EXPR               a task of that body, from the next superstep on
+  spawn NAME EXPR               starts a task of that body in the next superstep
   sync, stop                    waits for the superstep's end; ends the task
-  if EXPR, else, end            one branch or the other
-  while EXPR, end               as long as EXPR isn't 0
+  if EXPR, else, end            runs one branch or the other
+  while EXPR, end               repeats while EXPR isn't 0
 EXPR is a value, or two with one of + - * / % < <= == != between; a value is a number,
 a local, arg, step or ARRAY[INDEX]. A line that begins with # is a comment.",
             $ends,
@@ -152,9 +152,10 @@ Statuses, and the line on standard error:
   8  read or write failed
 
 With --all, standard output lists the faulty lines of a refused text, at most 20, each as
-line L code C NAME. The first is the one on standard error. A faulty line is left out when
-the lines after it are looked at, but it still opens or closes its if or while. The list
-ends after a fault of the whole text (codes 1, 3, 10), or of a line that opens a body.
+line L code C NAME. The first is the one on standard error. The lines after a faulty line
+are checked as if it weren't there, except that it still opens or closes its if or while.
+The list ends after a fault of the whole text (codes 1, 3, 10), or of a line that opens a
+body.
 
 ",
     "A job in its canonical form:
@@ -281,8 +282,9 @@ The report as a JSON object, for other programs:
 
   $ bsp run --json -f examples/swap.job > swap.json
 
-Each superstep's lines when it is closed, so that a long run keeps only its arrays, its tasks
-and one superstep in memory; if it ends with 6 or 9, whole supersteps may have been printed:
+The lines of each superstep as soon as it has ended, so that a long run keeps only its arrays,
+its tasks and one superstep in memory; after status 6 or 9, complete supersteps may have been
+printed:
 
   $ bsp run --stream -f examples/swap.job > swap.txt"
 );

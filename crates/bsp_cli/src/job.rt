@@ -193,7 +193,7 @@ pub(crate) fn run_status(ended: Result<JobStatus, RunFault>) -> Result<u8, RunFa
     Ok(end_status(&ended?))
 }
 
-// What a job leaves within this limit of supersteps that workers share, with this gate round each segment.
+// What a job leaves within this limit of supersteps that workers share, with this gate before and after each segment.
 fn share<T: Threads + Wait + Sync, G: Gate + Sync>(
     rt: &T,
     alloc: Global,
@@ -263,7 +263,8 @@ pub(crate) fn fault_of(refused: Refused) -> RunFault
     match refused {
         Refused::Memory => RunFault::Memory,
         Refused::NotStarted(k) => RunFault::NotStarted(k),
-        Refused::Internal => RunFault::Internal,
+        // A job has at most 4096 tasks, for which each tier has room.
+        Refused::Internal | Refused::Full => RunFault::Internal,
     }
 }
 

@@ -5,7 +5,7 @@ ghost use Rattle.bsp_cli.specs.Texts.{Says};
 use crate::command_line::{file_named, run_telling};
 use crate::end_why::job_end_reason;
 use crate::fault::{RunFault, refuse, tell};
-use crate::progress::Teller;
+use crate::progress::{Seen, Teller, seen_by, stop, ticker_for};
 use crate::status::{COMMAND_LINE_REFUSED, LIMIT_REACHED, OUT_OF_MEMORY, TASK_FAULT, TEXT_REFUSED};
 use crate::why::{WHY, reason_of, text_reason};
 use devices::{CountedWrite, Reader};
@@ -27,7 +27,7 @@ fn stopped<E: CountedWrite>(errors: &mut E, kind: io::ErrorKind) -> u8
     refuse(errors)
 }
 
-// Standard input. If it is a terminal, the first read says on standard error that it waits for a text.
+// Standard input. If it is a terminal, the first read prints to standard error that it waits for a text.
 #[derive(Drop)]
 struct Standard<'a, T: Eprint, S: Read + Drop> {
     rt: &'a T,
@@ -153,14 +153,38 @@ fn tell_why<T: AllocGlobal + Eprint>(
     }
 }
 
+// The words of the command line of this process.
+fn words_of<T: env::Env + AllocGlobal>(rt: &T) -> Result<Vec<String>, io::ErrorKind> {
+    match env::args(rt) {
+        Ok(words) => match words.collect::<Vec<String>>(rt.alloc()) {
+            Ok(words) => Ok(words),
+            Err(_) => Err(io::ErrorKind::OutOfMemory),
+        },
+        Err(error) => Err(error.kind()),
+    }
+}
+
 /// Does what the command line of this process asks for, as [`run_telling`] does. Reads the file that the command line names,
 /// or else standard input, prints to `writer`, and reports to `errors` what went wrong. Returns the status that the process
 /// ends with. Words that aren't text are refused; the reads of a file that can't be opened fail. If `terminal` is true,
-/// standard input is a terminal, and a first read of it says on standard error what it waits for. If `reasons` is true, or a
-/// word is `--why`, standard error gets the reason after the line of a refused command line or text; so it does if a fault
-/// ended a job or it reached its limit, and the job is then run again, on this thread.
+/// standard input is a terminal, and a first read of it prints to standard error that it waits for input. If `reasons` is
+/// true, or a word is `--why`, the reason for a refused command line or text follows the line on standard error. The reason
+/// for a fault, or for reaching the limit, is printed there too; to find it, the job is run again on this thread.
+/// If a word is `--progress`, another thread prints progress to standard error once a second. If it can't be started, progress is
+/// only printed when a superstep begins.
 pub fn run_program<
-    T: env::Env + AllocGlobal + Files + Input + Clock + Eprint + Threads + Wait + Sync,
+    T: env::Env
+        + AllocGlobal
+        + Files
+        + Input
+        + Clock
+        + Eprint
+        + Threads
+        + Wait
+        + Copy
+        + Send
+        + Sync
+        + 'static,
     W: CountedWrite + Send,
     E: CountedWrite,
 >(rt: &T, terminal: bool, reasons: bool, writer: &mut W, errors: &mut E) -> u8
@@ -169,12 +193,9 @@ pub fn run_program<
     ensures command_line_refused { result ≡ COMMAND_LINE_REFUSED → writer.new ≡ writer.old }
     ensures says { Says result (E.contents errors.old) (E.contents errors.new) (E.failures errors.old) (E.failures errors.new) }
 {
-    let words = match env::args(rt) {
+    let words = match words_of(rt) {
         Ok(words) => words,
-        Err(error) => return stopped(errors, error.kind()),
-    };
-    let Ok(words) = words.collect::<Vec<String>>(rt.alloc()) else {
-        return stopped(errors, io::ErrorKind::OutOfMemory);
+        Err(error) => return stopped(errors, error),
     };
     let Ok(asked) = without_why(rt.alloc(), &words) else {
         return stopped(errors, io::ErrorKind::OutOfMemory);
@@ -195,7 +216,9 @@ pub fn run_program<
         text: &mut text,
         keeps: &mut keeps,
     });
-    let teller = Teller::new(rt);
+    let ticker = ticker_for(rt, rt.alloc(), &asked);
+    let here = Seen::new();
+    let teller = Teller::new(rt, seen_by(&ticker, &here));
     let status = run_telling(
         rt,
         rt.alloc(),
@@ -206,6 +229,7 @@ pub fn run_program<
         &teller,
     );
     drop(reader);
+    stop(rt, ticker);
     if asks && status == COMMAND_LINE_REFUSED {
         tell_reason(rt, &asked);
     }

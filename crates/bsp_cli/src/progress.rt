@@ -1,7 +1,10 @@
 //! Progress of a job while it runs. No contract depends on it: progress changes nothing else.
+use std::alloc::{AllocError, Global};
 use std::rt::Clock;
-use std::sync::{Mutex, Wait};
-use std::time::Instant;
+use std::sync::{Arc, Condvar, CondvarTimeouts, Mutex, Wait};
+use std::thread;
+use std::thread::{JoinHandle, Threads};
+use std::time::{Duration, Instant};
 use step_core::{NoWatch, Watch};
 use superstep_memory::arrays::Arrays;
 use superstep_memory::path::Path;
@@ -49,23 +52,18 @@ impl Progress for NoProgress {
     fn end<R: Wait>(&self, _rt: &R) {}
 }
 
-// The current superstep, the number of tasks known to be in it, when the job began, and the second of the last report.
+// The word that asks for progress.
+const PROGRESS: &str = "--progress";
+
+// The current superstep, the number of tasks known to be in it, when the job began, the second of the last report, and
+// whether the job has left its report.
 #[derive(Clone, Copy)]
 struct ProgressState {
     step: u32,
     tasks: u32,
     began: Option<Instant>,
     told: u64,
-}
-
-// Returns the state before any superstep.
-fn nothing_seen<T: Clock>(rt: &T) -> ProgressState {
-    ProgressState {
-        step: 0,
-        tasks: 0,
-        began: Instant::now(rt).ok(),
-        told: 0,
-    }
+    over: bool,
 }
 
 // Returns the number of seconds that the job has run.
@@ -85,6 +83,19 @@ fn tell<T: Eprint>(rt: &T, seen: ProgressState, seconds: u64) {
     let _ = eprintln!(rt; "superstep {step}, {tasks} tasks, {seconds} s");
 }
 
+// Reports the superstep that was seen, if a second has passed since the last report. Returns the state after that.
+fn tell_if_due<T: Clock + Eprint>(rt: &T, seen: ProgressState) -> ProgressState {
+    let passed = seconds(rt, seen);
+    if passed <= seen.told {
+        return seen;
+    }
+    tell(rt, seen, passed);
+    ProgressState {
+        told: passed,
+        ..seen
+    }
+}
+
 // Returns the state after `tasks` more tasks of this superstep. If it is a new superstep and a second has passed, reports
 // the one before.
 fn seen_after<T: Clock + Eprint>(
@@ -96,76 +107,162 @@ fn seen_after<T: Clock + Eprint>(
     if step == seen.step {
         return ProgressState {
             tasks: seen.tasks.saturating_add(tasks),
+            began: seen.began.or_else(|| Instant::now(rt).ok()),
             ..seen
         };
-    }
-    let passed = seconds(rt, seen);
-    if passed > seen.told {
-        tell(rt, seen, passed);
     }
     ProgressState {
         step,
         tasks,
-        told: seen.told.max(passed),
-        ..seen
+        ..tell_if_due(rt, seen)
     }
 }
 
-// Reports the superstep that was seen last, if there was one.
-fn tell_last<T: Clock + Eprint>(rt: &T, seen: ProgressState) {
-    if seen.tasks > 0 {
-        tell(rt, seen, seconds(rt, seen));
-    }
-}
-
-/// Reports a job on one thread to standard error. When a superstep begins and a second has passed, prints
-/// `superstep S, T tasks, R s` of the superstep before.
+/// What is known of a job that runs.
 #[derive(Drop)]
-pub(crate) struct AloneTeller<'a, T: Clock + Eprint> {
-    rt: &'a T,
-    seen: ProgressState,
+pub(crate) struct Seen {
+    state: Mutex<ProgressState>,
+    over: Condvar,
 }
 
-impl<T: Clock + Eprint> Watch for AloneTeller<'_, T> {
-    fn superstep(&mut self, step: u32, _arrays: &Arrays, tasks: usize) {
+impl Seen {
+    /// No superstep has begun.
+    pub(crate) fn new() -> Self {
+        Seen {
+            state: Mutex::new(ProgressState {
+                step: 0,
+                tasks: 0,
+                began: None,
+                told: 0,
+                over: false,
+            }),
+            over: Condvar::new(),
+        }
+    }
+
+    // Sees `tasks` more tasks of this superstep.
+    fn see<T: Clock + Eprint + Wait>(&self, rt: &T, step: u32, tasks: usize) {
         let tasks = u32::try_from(tasks).unwrap_or(u32::MAX);
-        self.seen = seen_after(self.rt, self.seen, step, tasks);
+        let mut state = self.state.lock(rt);
+        *state = seen_after(rt, *state, step, tasks);
     }
-}
 
-impl<T: Clock + Eprint> WatchEnd for AloneTeller<'_, T> {
-    fn end(self) {
-        tell_last(self.rt, self.seen);
+    // The job has left its report: reports the superstep that was seen last, if there was one.
+    fn end<T: Clock + Eprint + Wait>(&self, rt: &T) {
+        let mut state = self.state.lock(rt);
+        state.over = true;
+        if state.tasks > 0 {
+            tell(rt, *state, seconds(rt, *state));
+        }
     }
-}
 
-/// Reports a job on workers to standard error. When a superstep begins and a second has passed, prints
-/// `superstep S, T tasks, R s` of the superstep before.
-#[derive(Drop)]
-pub(crate) struct Teller<'a, T: Clock + Eprint> {
-    rt: &'a T,
-    seen: Mutex<ProgressState>,
-}
-
-impl<'a, T: Clock + Eprint> Teller<'a, T> {
-    /// Returns a reporter that has reported nothing.
-    pub(crate) fn new(rt: &'a T) -> Self {
-        Teller {
-            rt,
-            seen: Mutex::new(nothing_seen(rt)),
+    // Reports once a second the superstep that lasts, until the job has left its report.
+    fn tick<T: Clock + Eprint + Wait>(&self, rt: &T) {
+        let mut state = self.state.lock(rt);
+        for _ in rt.forever() {
+            if state.over {
+                return;
+            }
+            state = self.over.wait_timeout(rt, state, Duration::from_secs(1)).0;
+            if !state.over {
+                *state = tell_if_due(rt, *state);
+            }
         }
     }
 }
 
-impl<T: Clock + Eprint> Gate for Teller<'_, T> {
+/// A thread that reports the superstep that lasts, once a second.
+#[derive(Drop)]
+pub(crate) struct Ticker {
+    seen: Arc<Seen, Global>,
+    thread: JoinHandle<()>,
+}
+
+impl Ticker {
+    // Starts the thread. Fails if there is no memory for it.
+    fn start<T: Clock + Eprint + Threads + Wait + Copy + Send + 'static>(
+        rt: &T,
+        alloc: Global,
+    ) -> Result<Ticker, AllocError> {
+        let seen = Arc::new(alloc, Seen::new())?;
+        let theirs = Arc::try_clone(&seen)?;
+        let host = *rt;
+        let thread = thread::spawn(rt, move || theirs.tick(&host))?;
+        Ok(Ticker { seen, thread })
+    }
+
+    // Ends the thread.
+    fn stop<T: Threads + Wait>(self, rt: &T) {
+        let Ticker { seen, thread } = self;
+        seen.state.lock(rt).over = true;
+        seen.over.notify_all();
+        thread.join(rt);
+    }
+}
+
+/// Starts a thread that ticks if a word asks for progress. Without the memory for it there is none.
+pub(crate) fn ticker_for<T: Clock + Eprint + Threads + Wait + Copy + Send + 'static>(
+    rt: &T,
+    alloc: Global,
+    words: &[&str],
+) -> Option<Ticker> {
+    if words.iter().any(|word| *word == PROGRESS) {
+        Ticker::start(rt, alloc).ok()
+    } else {
+        None
+    }
+}
+
+/// Returns what is known to the thread, or if there is none, what is known here.
+pub(crate) fn seen_by<'a>(ticker: &'a Option<Ticker>, here: &'a Seen) -> &'a Seen {
+    match ticker {
+        Some(ticker) => &ticker.seen,
+        None => here,
+    }
+}
+
+/// Ends the thread, if there is one.
+pub(crate) fn stop<T: Threads + Wait>(rt: &T, ticker: Option<Ticker>) {
+    if let Some(ticker) = ticker {
+        ticker.stop(rt);
+    }
+}
+
+/// Reports a job to standard error: when a superstep begins and a second has passed, prints
+/// `superstep S, T tasks, R s` of the superstep before, and at the end of the last one. A [`Ticker`] prints it while a
+/// superstep lasts.
+#[derive(Drop)]
+pub(crate) struct Teller<'a, T: Clock + Eprint + Wait> {
+    rt: &'a T,
+    seen: &'a Seen,
+}
+
+impl<'a, T: Clock + Eprint + Wait> Teller<'a, T> {
+    /// Returns a reporter of what is known here.
+    pub(crate) fn new(rt: &'a T, seen: &'a Seen) -> Self {
+        Teller { rt, seen }
+    }
+}
+
+impl<T: Clock + Eprint + Wait> Watch for Teller<'_, T> {
+    fn superstep(&mut self, step: u32, _arrays: &Arrays, tasks: usize) {
+        self.seen.see(self.rt, step, tasks);
+    }
+}
+
+impl<T: Clock + Eprint + Wait> WatchEnd for Teller<'_, T> {
+    fn end(self) {
+        self.seen.end(self.rt);
+    }
+}
+
+impl<T: Clock + Eprint + Wait> Gate for Teller<'_, T> {
     fn is_open(&self) -> bool {
         true
     }
 
-    fn stretch<R: Wait>(&self, rt: &R, step: u32, tasks: usize) {
-        let tasks = u32::try_from(tasks).unwrap_or(u32::MAX);
-        let mut seen = self.seen.lock(rt);
-        *seen = seen_after(self.rt, *seen, step, tasks);
+    fn stretch<R: Wait>(&self, _rt: &R, step: u32, tasks: usize) {
+        self.seen.see(self.rt, step, tasks);
     }
 
     fn enter<R: Wait>(&self, _rt: &R, _path: &Path, _step: u32) {}
@@ -173,18 +270,14 @@ impl<T: Clock + Eprint> Gate for Teller<'_, T> {
     fn leave<R: Wait>(&self, _rt: &R, _path: &Path, _step: u32) {}
 }
 
-impl<'a, T: Clock + Eprint> Progress for Teller<'a, T> {
-    type Alone = AloneTeller<'a, T>;
+impl<'a, T: Clock + Eprint + Wait> Progress for Teller<'a, T> {
+    type Alone = Teller<'a, T>;
 
-    fn alone(&self) -> AloneTeller<'a, T> {
-        AloneTeller {
-            rt: self.rt,
-            seen: nothing_seen(self.rt),
-        }
+    fn alone(&self) -> Teller<'a, T> {
+        Teller::new(self.rt, self.seen)
     }
 
-    fn end<R: Wait>(&self, rt: &R) {
-        let seen = *self.seen.lock(rt);
-        tell_last(self.rt, seen);
+    fn end<R: Wait>(&self, _rt: &R) {
+        self.seen.end(self.rt);
     }
 }

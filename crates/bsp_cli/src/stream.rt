@@ -32,7 +32,7 @@ fn fault_alone(fault: StreamFault) -> RunFault
     }
 }
 
-// Runs a job on this thread, and writes each superstep's lines when it is closed.
+// Runs a job on this thread, and writes the lines of each superstep as soon as it is closed.
 fn stream_here<W: CountedWrite>(
     alloc: Global,
     job: &Job,
@@ -61,7 +61,8 @@ fn fault_shared(unstreamed: Unstreamed) -> RunFault
     }
 }
 
-// Runs a job on workers with this gate round each segment, and writes each superstep's lines as the next one begins.
+// Runs a job on workers with this gate before and after each segment, and writes the lines of each superstep as the next one
+// begins.
 fn stream_shared<T: Threads + Wait + Sync, W: CountedWrite + Send, G: Gate + Sync>(
     rt: &T,
     alloc: Global,
@@ -113,8 +114,8 @@ fn stream_job<T: Threads + Wait + Sync, W: CountedWrite + Send, P: Progress + Sy
 }
 
 /// Reads a job to the reader's end, runs it within this limit of supersteps on `workers` threads that meet at a tree of this
-/// shape, and writes its report: each superstep's lines when it is closed, the arrays and the last line at the end. The bytes are
-/// those that [`run_bytes`](crate::run_bytes) writes. `progress` is called for each segment.
+/// shape, and writes its report: the lines of each superstep as soon as it has ended, then the arrays and the last line. The
+/// bytes are those that [`run_bytes`](crate::run_bytes) writes. `progress` is called for each segment.
 pub fn stream_bytes<
     T: Threads + Wait + Sync,
     R: CountedRead,

@@ -1,2 +1,4 @@
 pub mod ReportProofs
 pub mod ReportLawProofs
+pub mod TakenProofs
+pub mod LinesTaken

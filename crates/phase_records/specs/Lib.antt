@@ -5,4 +5,5 @@ pub mod StatusSeen
 pub mod ReportValue
 pub mod ReportText
 pub mod Written
+pub mod Taken
 pub mod ReportLaws

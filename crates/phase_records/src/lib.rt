@@ -2,10 +2,12 @@
 //!
 //! # Where things are
 //!
-//! * `record.rt`: what a job leaves; `report.rt`: its text (`specs/ReportText.antt`).
+//! * `record.rt`: what a job leaves; `report.rt`: its text (`specs/ReportText.antt`); `pieces.rt`: where a text goes, piece
+//!   by piece (`specs/Taken.antt`).
 #![tactic(auto)]
 
 mod laws;
+mod pieces;
 mod record;
 mod report;
 

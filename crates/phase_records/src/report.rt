@@ -1,13 +1,15 @@
 //! The text of a report.
-ghost use Rattle.std.specs.Prelude.{◌≡◌, ◌++◌, OnOk, IfOk};
+ghost use Rattle.std.specs.Prelude.{◌≡◌, ◌++◌, [], IfOk};
 ghost use Rattle.std.specs.List.{flat_map};
 ghost use Rattle.phase_records.specs.Written.{WritesText, WriteCause};
+ghost use Rattle.phase_records.specs.Taken.{Took};
 ghost use Rattle.phase_records.specs.StatusSeen.{status_seen};
 ghost use Rattle.phase_records.specs.ReportText.{path_text, shown_path, print_line, record_line, cell_text, array_line, status_line};
 ghost use Rattle.phase_records.specs.ReportText.{front_of, rest_of, steps_text, report_text};
 
+use crate::pieces::{Pieces, Sink, Whole};
 use crate::record::{JobStatus, PhaseRecord, Print, Report};
-use devices::{CountedWrite, write_all};
+use devices::CountedWrite;
 use itoa::{Buffer, Integer};
 use std::alloc::{AllocError, Global};
 use superstep_memory::arrays::Arrays;
@@ -24,161 +26,171 @@ pub enum WriteFault {
     Memory,
 }
 
+// The size of the buffer through which a report is written.
+const BUFFER_BYTES: usize = 65536;
+
 // Appends the text of a number.
-fn push_number<I: Integer>(out: &mut Vec<u8>, n: I) -> Result<(), AllocError>
-    ensures { OnOk result (out.new.items ≡ out.old.items ++ I.text n) }
+fn push_number<S: Sink, I: Integer>(out: &mut S, n: I)
+    ensures { Took (S.seen out.old) (S.seen out.new) (I.text n) }
 {
-    out.extend_from_slice(Buffer::new().format(n).as_bytes())
+    out.put(Buffer::new().format(n).as_bytes())
 }
 
 // Appends a name and a number.
-fn push_field<I: Integer>(out: &mut Vec<u8>, name: &[u8], n: I) -> Result<(), AllocError>
-    ensures { OnOk result (out.new.items ≡ out.old.items ++ name.now ++ I.text n) }
+fn push_field<S: Sink, I: Integer>(out: &mut S, name: &[u8], n: I)
+    ensures { Took (S.seen out.old) (S.seen out.new) (name.now ++ I.text n) }
 {
-    out.extend_from_slice(name)?;
+    out.put(name);
     push_number(out, n)
 }
 
 // Appends the numbers of a path, with points between them.
-fn push_path(out: &mut Vec<u8>, path: &[u16]) -> Result<(), AllocError>
-    ensures { OnOk result (out.new.items ≡ out.old.items ++ path_text path.now) }
+fn push_path<S: Sink>(out: &mut S, path: &[u16])
+    ensures { Took (S.seen out.old) (S.seen out.new) (path_text path.now) }
 {
     let Some((first, mut rest)) = path.split_first() else {
-        return Ok(());
+        return;
     };
-    push_number(out, *first)?;
+    push_number(out, *first);
     while let Some((number, after)) = rest.split_first() {
-        push_field(out, b".", *number)?;
+        push_field(out, b".", *number);
         rest = after;
     }
-    Ok(())
 }
 
 // Appends a name and the numbers of a path.
-fn push_path_behind(out: &mut Vec<u8>, name: &[u8], path: &[u16]) -> Result<(), AllocError>
-    ensures { OnOk result (out.new.items ≡ out.old.items ++ name.now ++ path_text path.now) }
+fn push_path_behind<S: Sink>(out: &mut S, name: &[u8], path: &[u16])
+    ensures { Took (S.seen out.old) (S.seen out.new) (name.now ++ path_text path.now) }
 {
-    out.extend_from_slice(name)?;
+    out.put(name);
     push_path(out, path)
 }
 
 // Appends the line of a print.
-fn push_print(out: &mut Vec<u8>, print: &Print) -> Result<(), AllocError>
-    ensures { OnOk result (out.new.items ≡ out.old.items ++ print_line print.now) }
+fn push_print<S: Sink>(out: &mut S, print: &Print)
+    ensures { Took (S.seen out.old) (S.seen out.new) (print_line print.now) }
 {
-    push_field(out, b"print ", print.step)?;
-    push_path_behind(out, b" ", print.path.as_slice())?;
-    push_field(out, b" ", print.value)?;
-    out.extend_from_slice(b"\n")
+    push_field(out, b"print ", print.step);
+    push_path_behind(out, b" ", print.path.as_slice());
+    push_cell(out, print.value);
+    out.put(b"\n")
 }
 
 // Appends the lines of the first prints that are of this superstep. Returns the other prints.
-fn push_prints<'a>(
-    out: &mut Vec<u8>,
-    prints: &'a [Print],
-    step: u32,
-) -> Result<&'a [Print], AllocError>
-    ensures lines { OnOk result (out.new.items ≡ out.old.items ++ flat_map print_line (front_of step prints.now)) }
-    ensures others { IfOk result (λ others. others.now ≡ rest_of step prints.now) }
+fn push_prints<'a, S: Sink>(out: &mut S, prints: &'a [Print], step: u32) -> &'a [Print]
+    ensures lines { Took (S.seen out.old) (S.seen out.new) (flat_map print_line (front_of step prints.now)) }
+    ensures others { result.now ≡ rest_of step prints.now }
 {
     let mut rest = prints;
     while let Some((print, after)) = rest.split_first() {
         if print.step != step {
             break;
         }
-        push_print(out, print)?;
+        push_print(out, print);
         rest = after;
     }
-    Ok(rest)
+    rest
 }
 
 // Appends the line of a record.
-fn push_record(out: &mut Vec<u8>, told: PhaseRecord) -> Result<(), AllocError>
-    ensures { OnOk result (out.new.items ≡ out.old.items ++ record_line told) }
+fn push_record<S: Sink>(out: &mut S, told: PhaseRecord)
+    ensures { Took (S.seen out.old) (S.seen out.new) (record_line told) }
 {
-    push_field(out, b"phase ", told.phase)?;
-    push_field(out, b" parties ", told.parties)?;
-    push_field(out, b" left ", told.left)?;
-    push_field(out, b" spawned ", told.spawned)?;
-    out.extend_from_slice(b"\n")
+    push_field(out, b"phase ", told.phase);
+    push_field(out, b" parties ", told.parties);
+    push_field(out, b" left ", told.left);
+    push_field(out, b" spawned ", told.spawned);
+    out.put(b"\n")
 }
 
 // Appends the lines of supersteps.
-fn push_steps(
-    out: &mut Vec<u8>,
-    mut prints: &[Print],
-    records: &[PhaseRecord],
-) -> Result<(), AllocError>
-    ensures { OnOk result (out.new.items ≡ out.old.items ++ steps_text prints.now records.now) }
+fn push_steps<S: Sink>(out: &mut S, mut prints: &[Print], records: &[PhaseRecord])
+    ensures { Took (S.seen out.old) (S.seen out.new) (steps_text prints.now records.now) }
 {
     let mut rest = records;
     while let Some((told, after)) = rest.split_first() {
-        prints = push_prints(out, prints, told.phase)?;
-        push_record(out, *told)?;
+        if out.has_failed() {
+            return;
+        }
+        prints = push_prints(out, prints, told.phase);
+        push_record(out, *told);
         rest = after;
     }
-    Ok(())
+}
+
+// Appends a cell of an array.
+fn push_cell<S: Sink>(out: &mut S, cell: i64)
+    ensures { Took (S.seen out.old) (S.seen out.new) (cell_text cell) }
+{
+    push_field(out, b" ", cell)
 }
 
 // Appends the cells of an array.
-fn push_cells(out: &mut Vec<u8>, cells: &[i64]) -> Result<(), AllocError>
-    ensures { OnOk result (out.new.items ≡ out.old.items ++ flat_map cell_text cells.now) }
+fn push_cells<S: Sink>(out: &mut S, cells: &[i64])
+    ensures { Took (S.seen out.old) (S.seen out.new) (flat_map cell_text cells.now) }
 {
     let mut rest = cells;
     while let Some((cell, after)) = rest.split_first() {
-        push_field(out, b" ", *cell)?;
+        push_cell(out, *cell);
         rest = after;
     }
-    Ok(())
 }
 
 // Appends the line of an array.
-fn push_array(out: &mut Vec<u8>, name: &str, cells: &[i64]) -> Result<(), AllocError>
-    ensures { OnOk result (out.new.items ≡ out.old.items ++ array_line (name.now, cells.now)) }
+fn push_array<S: Sink>(out: &mut S, name: &str, cells: &[i64])
+    ensures { Took (S.seen out.old) (S.seen out.new) (array_line (name.now, cells.now)) }
 {
-    out.extend_from_slice(b"array ")?;
-    out.extend_from_slice(name.as_bytes())?;
-    push_cells(out, cells)?;
-    out.extend_from_slice(b"\n")
+    out.put(b"array ");
+    out.put(name.as_bytes());
+    push_cells(out, cells);
+    out.put(b"\n")
 }
 
 // Appends the lines of arrays.
-fn push_arrays(out: &mut Vec<u8>, arrays: &Arrays) -> Result<(), AllocError>
-    ensures { OnOk result (out.new.items ≡ out.old.items ++ flat_map array_line arrays.now) }
+fn push_arrays<S: Sink>(out: &mut S, arrays: &Arrays)
+    ensures { Took (S.seen out.old) (S.seen out.new) (flat_map array_line arrays.now) }
 {
     for place in 0..arrays.len() {
         if let Some((name, cells)) = arrays.get(place) {
-            push_array(out, name, cells)?;
+            push_array(out, name, cells);
         }
     }
-    Ok(())
 }
 
 // Appends a path, or a dash if it has no numbers.
-fn push_shown_path(out: &mut Vec<u8>, path: &[u16]) -> Result<(), AllocError>
-    ensures { OnOk result (out.new.items ≡ out.old.items ++ shown_path path.now) }
+fn push_shown_path<S: Sink>(out: &mut S, path: &[u16])
+    ensures { Took (S.seen out.old) (S.seen out.new) (shown_path path.now) }
 {
     if path.is_empty() {
-        return out.extend_from_slice(b"-");
+        return out.put(b"-");
     }
     push_path(out, path)
 }
 
 // Appends the last line of a report.
-fn push_status(out: &mut Vec<u8>, status: &JobStatus) -> Result<(), AllocError>
-    ensures { OnOk result (out.new.items ≡ out.old.items ++ status_line (status_seen status.now)) }
+fn push_status<S: Sink>(out: &mut S, status: &JobStatus)
+    ensures { Took (S.seen out.old) (S.seen out.new) (status_line (status_seen status.now)) }
 {
     match status {
-        JobStatus::Ended(steps) => push_field(out, b"ended ", *steps)?,
+        JobStatus::Ended(steps) => push_field(out, b"ended ", *steps),
         JobStatus::Fault { code, step, path } => {
-            push_field(out, b"fault ", *code)?;
-            push_field(out, b" step ", *step)?;
-            out.extend_from_slice(b" path ")?;
-            push_shown_path(out, path.as_slice())?;
+            push_field(out, b"fault ", *code);
+            push_field(out, b" step ", *step);
+            out.put(b" path ");
+            push_shown_path(out, path.as_slice());
         }
-        JobStatus::Limit(steps) => push_field(out, b"limit ", *steps)?,
+        JobStatus::Limit(steps) => push_field(out, b"limit ", *steps),
     }
-    out.extend_from_slice(b"\n")
+    out.put(b"\n")
+}
+
+// Appends the text of a report.
+fn push_report<S: Sink>(out: &mut S, report: &Report)
+    ensures { Took (S.seen out.old) (S.seen out.new) (report_text report.now) }
+{
+    push_steps(out, &report.prints, &report.records);
+    push_arrays(out, &report.arrays);
+    push_status(out, &report.status)
 }
 
 /// The text of a report: for each superstep its prints and its record, then the arrays in declared order, then how the
@@ -186,11 +198,25 @@ fn push_status(out: &mut Vec<u8>, status: &JobStatus) -> Result<(), AllocError>
 pub fn text_of(alloc: Global, report: &Report) -> Result<Vec<u8>, AllocError>
     ensures { IfOk result (λ text. text.items ≡ report_text report.now) }
 {
-    let mut out = Vec::new(alloc);
-    push_steps(&mut out, &report.prints, &report.records)?;
-    push_arrays(&mut out, &report.arrays)?;
-    push_status(&mut out, &report.status)?;
-    Ok(out)
+    let mut out = Whole {
+        text: Vec::new(alloc),
+        failed: false,
+    };
+    push_report(&mut out, report);
+    if out.failed {
+        return Err(AllocError);
+    }
+    Ok(out.text)
+}
+
+// Writes the text of a report.
+fn write_pieces<'w, W: CountedWrite>(pieces: &mut Pieces<'w, W>, report: &Report)
+    ensures same_writer { pieces.new.writer.ghost_name ≡ pieces.old.writer.ghost_name }
+    ensures took { Took (⟦<Pieces<'w, W> as Sink>⟧.seen pieces.old) (⟦<Pieces<'w, W> as Sink>⟧.seen pieces.new) (report_text report.now) }
+    ensures empty { pieces.new.buffer.now.items ≡ [] }
+{
+    push_report(pieces, report);
+    pieces.flush();
 }
 
 /// Writes the text of a report: for each superstep its prints and its record, then the arrays in declared order, then
@@ -203,12 +229,17 @@ pub fn write_report<W: CountedWrite>(
     ensures text { WritesText (W.contents writer.old) (W.contents writer.new) result (report_text report.now) }
     ensures failures { WriteCause (W.failures writer.old) (W.failures writer.new) result }
 {
-    let text = match text_of(alloc, report) {
-        Ok(text) => text,
-        Err(AllocError) => return Err(WriteFault::Memory),
+    let Ok(mut buffer) = Vec::with_capacity(alloc, BUFFER_BYTES) else {
+        return Err(WriteFault::Memory);
     };
-    match write_all(writer, &text) {
-        Ok(()) => Ok(()),
-        Err(_) => Err(WriteFault::Write),
+    let mut pieces = Pieces {
+        writer,
+        buffer: &mut buffer,
+        failed: false,
+    };
+    write_pieces(&mut pieces, report);
+    if pieces.failed {
+        return Err(WriteFault::Write);
     }
+    Ok(())
 }

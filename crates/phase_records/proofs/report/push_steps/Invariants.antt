@@ -1,9 +1,10 @@
-use Rattle.std.proofs.Common.{◌≡◌, ◌++◌, length}
+use Rattle.std.proofs.Common.{length}
 use Rattle.phase_records.specs.ReportText.{steps_text}
+use Rattle.phase_records.proofs.TakenProofs.{TookFront}
 use Rattle.phase_records.proofs.report.push_steps.Given as goal
 
 abbrev pub invariant-loop-told : goal.invariant-loop-told
-invariant-loop-told l = l.out.items ++ steps_text l.prints l.rest ≡ l.fn.out.items ++ steps_text l.fn.prints l.fn.records
+invariant-loop-told g l = TookFront (g.S.Sink.seen l.fn.out) (g.S.Sink.seen l.out) (steps_text l.fn.prints l.fn.records) (steps_text l.prints l.rest)
 
 abbrev pub decreases-loop-told : goal.decreases-loop-told
-decreases-loop-told l = length l.rest
+decreases-loop-told g l = length l.rest
