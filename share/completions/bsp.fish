@@ -17,7 +17,7 @@ complete -c bsp -n "__fish_seen_subcommand_from $jobs" -l tree -x -a 'flat 2x2 2
 complete -c bsp -n "__fish_seen_subcommand_from $jobs" -l limit -x -a '1000 1000000' -d 'the most supersteps'
 complete -c bsp -n '__fish_seen_subcommand_from run' -l progress -d 'tells how far the job has come'
 complete -c bsp -n '__fish_seen_subcommand_from run' -l json -d 'prints the report as JSON'
-complete -c bsp -n '__fish_seen_subcommand_from run' -l stream -d 'prints each superstep when it is closed'
+complete -c bsp -n '__fish_seen_subcommand_from run' -l stream -d 'prints each superstep as soon as it has ended'
 complete -c bsp -n '__fish_seen_subcommand_from draw' -l width -x -d 'an array in rows of so many cells, NAME=N'
 complete -c bsp -n '__fish_seen_subcommand_from draw' -l over-time -x -d 'arrays over supersteps'
 complete -c bsp -n '__fish_seen_subcommand_from draw' -l title -x -d 'the title'

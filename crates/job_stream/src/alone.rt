@@ -19,8 +19,8 @@ use std::alloc::{AllocError, Global};
 use task_code::job::Job;
 use task_lang::task::Task;
 
-/// Runs a job within this limit of supersteps on one thread, and writes its report's text: each superstep's lines when it is closed,
-/// the arrays and the last line at the end. Returns how the job ended.
+/// Runs `job` on one thread for at most `limit` supersteps and writes the text of its report: the lines of each superstep as soon
+/// as it is closed, then the arrays and the last line. Returns how the job ended.
 pub fn stream_alone<W: CountedWrite>(
     alloc: Global,
     job: &Job,
@@ -145,8 +145,8 @@ fn status_of(report: Report) -> JobStatus
     status
 }
 
-/// Writes what a run left after the lines of `written` supersteps, if these are what it gave away. Returns how it ended. `first` is of
-/// the run's log.
+/// Writes the rest of a report after the lines of the first `written` supersteps. Fails with `Internal` unless the run gave away
+/// exactly these. Returns how the run ended. `first` is a snapshot of the run's log.
 pub fn write_left<'t, 'p, 'j, W: CountedWrite>(
     alloc: Global,
     log: &'t Log<Opened<'p, JobProgram<'j>, Task>>,

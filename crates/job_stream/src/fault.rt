@@ -2,7 +2,7 @@
 use std::alloc::AllocError;
 use thiserror::Error;
 
-/// Why a run that is written superstep by superstep doesn't end (own).
+/// The error of a run whose report is written superstep by superstep (own).
 #[derive(Clone, Copy, Debug, PartialEq, Eq, Error)]
 pub enum StreamFault {
     /// The writer failed, and a beginning of the text was written. A caller reports it and writes no more.

@@ -1,5 +1,5 @@
-//! A job whose report is written superstep by superstep: each superstep's lines when it is closed, the arrays and the last line at
-//! the end. The bytes are those of the report's text.
+//! A job whose report is written superstep by superstep: the lines of each superstep as soon as it is closed, then the arrays and
+//! the last line. The bytes are those of the report's text.
 //!
 //! Arrays, tasks and one superstep are all that is kept in memory.
 //!

@@ -66,7 +66,8 @@ fn write_lines<W: CountedWrite>(
     }
 }
 
-/// Writes the lines of the supersteps that come next, after the first `written`. Returns how many are written now.
+/// Writes `lines`, given that the lines of the first `written` supersteps have been written. Returns the number of
+/// supersteps written in all. Fails with `Internal` if `lines` don't begin there, or go beyond the limit.
 pub fn pass_on<W: CountedWrite>(
     alloc: Global,
     job: &Job,
@@ -89,7 +90,7 @@ pub fn pass_on<W: CountedWrite>(
     }
 }
 
-/// The same of what a superstep gave away, if a fault hasn't ended the run in it.
+/// Does the same with the lines that a superstep gave away. There are none if a fault has ended the run in it.
 pub(crate) fn pass_taken<W: CountedWrite>(
     alloc: Global,
     job: &Job,

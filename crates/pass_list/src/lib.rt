@@ -1,8 +1,8 @@
-//! Passes for what is out, and the list of those that are.
+//! A list of what has been handed out, with a pass for each entry.
 //!
-//! Whoever gives something away that has to come back gives a pass with it. The list knows the ticket of each pass that is out. A
-//! pass that comes back proves that its ticket is in the list, whichever threads it has been on. So a fact that the list's owner
-//! keeps for each ticket holds of the one that comes back.
+//! Code that hands something out issues a pass with it. The list has a ticket for each pass that is out. A pass that comes back
+//! proves that its ticket is in the list, whichever threads it has been on. So what the owner of the list keeps for each ticket
+//! holds for that one.
 //!
 //! Tickets exist in contracts alone. What runs is one or two atomic steps on a word.
 //!

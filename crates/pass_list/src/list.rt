@@ -6,7 +6,8 @@ use atomic_table::{Seat, Table};
 use std::alloc::{AllocError, Global};
 use std::marker::Model;
 
-/// The passes of a list that are out (own). Contracts see it as their tickets, by the name that its passes have too.
+/// A list of the passes that are out (own). In contracts it is the list of their tickets, with a name that it shares with its
+/// passes.
 #[derive(Drop)]
 pub struct PassList {
     table: Table<u64, Known, (), Rule, Global>,
@@ -23,7 +24,7 @@ impl Model for PassList {
     ghost invariant = { λ l. IsList l.table.shared.table_id l.seat.table_id l.seat.id l.seat.me };
 }
 
-/// A pass (own). It takes no memory, and any thread may hold it.
+/// A pass (own). It doesn't allocate, and any thread may hold it.
 #[derive(Drop)]
 pub struct Pass {
     seat: Seat<u64, Known>,
@@ -65,7 +66,7 @@ impl PassList {
         }
     }
 
-    /// Takes a pass back. Its ticket was in the list, and isn't any more.
+    /// Takes a pass back and removes its ticket, which is proved to have been in the list.
     pub fn redeem(&mut self, pass: Pass)
         requires { pass.name ≡ self.old.name }
         ensures name { self.new.name ≡ self.old.name }

@@ -1,4 +1,4 @@
-//! A cyclic barrier at which threads wait, whose callers owe nothing.
+//! A cyclic barrier at which threads wait, whose calls have no preconditions.
 
 ghost use Rattle.std.specs.Prelude.{◌≡◌, ◌⊎◌, ◌↔◌, ◌<◌, ◌≤◌, ◌<ℤ◌, pos, None, false, IfOk, IfErr, MatchResult};
 ghost use Rattle.cyclic_gate.specs.Steps.{answer, Breaks};

@@ -135,9 +135,9 @@
 //!
 //! # What deadlocks
 //!
-//! * If a thread brings another member while its member has not arrived, both must be at one tier: use `bring`. A
-//!   `join` or `register` at another tier waits for the next phase if all parties there have arrived, and they wait for
-//!   the caller.
+//! * A thread with an unarrived member that registers another one by `join` or `register` at another tier: if all
+//!   parties there have arrived, the call waits for the next phase, which waits for this thread. Use `bring`, which stays
+//!   at one tier.
 //! * A thread that gives up without a word. A party that is dropped stays registered, and the others wait for it: call
 //!   `leave` first, or `force` the tree to end. At a barrier, call `break_off`.
 //! * A hook that calls its tree, or an action that calls its barrier.
@@ -154,7 +154,8 @@
 //! * [`phaser`]: [`PhaserOne`](phaser::PhaserOne), a single phaser as a value, with [`StoredCount`](phaser::StoredCount), the
 //!   closure that ends it.
 //!
-//! A clause of yours may cite those of the calls. A `Guest` or a `Party` is a `Holding` there, as the token that it keeps.
+//! Your contracts may cite the definitions that the calls use. There, a `Guest` or a `Party` is a `Holding`, like the token
+//! inside it.
 #![tactic(auto)]
 
 pub mod barrier;

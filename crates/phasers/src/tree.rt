@@ -1,4 +1,5 @@
-//! A tree of phasers whose callers owe nothing: the tree ends by its plan, and each token holds on to its tree.
+//! A tree of phasers whose calls have no preconditions but ranges of numbers: the tree ends as its plan says, and each
+//! token borrows its tree.
 
 ghost use Rattle.std.specs.Prelude.{◌≡◌, ◌<◌, ◌≤◌, ◌+◌, ℕ, None, Some, Ok, Err, length, IfOk, IfErr};
 ghost use Rattle.tier_calls.specs.Holding.{IsSat, split_once};

@@ -11,10 +11,11 @@ use superstep_memory::arrays::{Arrays, Put, PutKind};
 use superstep_memory::path::Path;
 use superstep_memory::puts::Puts;
 
-/// What a task reads in a superstep: the arrays as it began, where the task is, and which superstep it is.
+/// What a task reads in a superstep: the arrays as they were when the superstep began, the task's path, and the superstep's
+/// number.
 #[derive(Clone, Copy)]
 pub struct View<'a> {
-    /// The arrays as the superstep began.
+    /// The arrays as they were when the superstep began.
     pub arrays: &'a Arrays,
     /// The path of the task: the number of its start task, from 0, and then one number for each spawn on the way to it.
     pub path: &'a Path,
@@ -144,7 +145,7 @@ pub enum Ending {
     Fails(u8),
 }
 
-/// What tasks do (own). A program needs to implement `Kept` and `run` alone: no ghost item, no contract and no proof.
+/// What the tasks of a run do (own). Implement only `Kept` and `run`: no ghost item, contract or proof is needed.
 pub trait TaskBody {
     /// What a task keeps from one superstep to the next.
     type Kept: Drop;
@@ -152,8 +153,8 @@ pub trait TaskBody {
     /// When it can run: always, unless a body says otherwise.
     ghost ready: { Self → Type 0 } = { λ s. Unit {0} };
 
-    /// What a task may leave that is at this path and keeps this, by the arrays as the superstep began and its number: anything,
-    /// unless a body says more.
+    /// What a task may leave, given its path, the arrays as they were when the superstep began, the superstep's number, and what
+    /// the task keeps. By default, anything.
     ghost may: { Self → List ℕ → List (List ℕ × List ℤ) → ℕ → Self.Kept → Left Self.Kept → Type 0 } = { λ s path arrays step k o. Unit {0} };
 
     /// Does what a task does in one superstep: reads `view`, changes `kept`, writes to `out`.
@@ -169,9 +170,10 @@ pub trait TaskBody {
         ensures { IfOk result (λ e. may self.now view.now.path.now.items view.now.arrays.now view.now.step kept.old (left_so e kept.new out.new)) };
 }
 
-/// A body whose meaning somebody has written down (own): `may` allows that alone.
+/// A body whose result is written down as a function, `does` (own). Its `may` allows only that result.
 pub trait Exact: TaskBody {
-    /// What a task leaves that is at this path and keeps this, by the arrays as the superstep began and its number.
+    /// What a task leaves, given its path, the arrays as they were when the superstep began, the superstep's number, and what the
+    /// task keeps.
     ghost does: { Self → List ℕ → List (List ℕ × List ℤ) → ℕ → Self.Kept → Left Self.Kept };
 
     ghost exact: { (s : Self) (path : List ℕ) (arrays : List (List ℕ × List ℤ)) (step : ℕ) (k : Self.Kept) (o : Left Self.Kept) → Self.may s path arrays step k o → o ≡ does s path arrays step k };

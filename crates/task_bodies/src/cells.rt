@@ -1,4 +1,4 @@
-//! Kernels over cells side by side: cell by cell, and sums.
+//! Kernels over adjacent cells: cell by cell, and sums.
 ghost use Rattle.std.specs.Prelude.{◌≡◌, ◌+ℤ◌, None, Some, if◌then◌else◌};
 ghost use Rattle.superstep_memory.specs.declared.arrays.PutKind.TheVariants as PutKinds;
 ghost use Rattle.superstep_memory.specs.Landing.{is_over};
@@ -8,7 +8,7 @@ ghost use Rattle.task_bodies.specs.Kernels.{ends_in};
 use crate::body::{Ending, Out, TaskBody, View};
 use std::alloc::{AllocError, Global};
 
-/// Cells side by side, from the cell `first` to the one before the cell `end`.
+/// Adjacent cells: those from the cell `first` on, up to the one before the cell `end`.
 #[derive(Clone, Copy)]
 pub struct Cells {
     /// The first cell.
@@ -18,7 +18,7 @@ pub struct Cells {
 }
 
 /// In each superstep up to `last`, sets each cell of a span to what the closure returns for the cell of the same number in the
-/// array `from`. Both arrays may be the same. A span that has cells which `from` hasn't fails with number 16.
+/// array `from`. Both arrays may be the same. A task whose span has cells that don't exist in `from` fails with number 16.
 #[derive(Drop)]
 pub struct Map<F> {
     /// The place of the array that is read, in declared order.
@@ -31,9 +31,9 @@ pub struct Map<F> {
     pub f: F,
 }
 
-/// Adds what the closure returns for each cell of a span, and adds the sum to one cell. Then the task stops. So tasks with a span
-/// each add up an array. A span that has cells which the array hasn't fails with number 16, and a span whose sum, cell by cell,
-/// goes outside of 64 signed bits fails with number 17.
+/// Sums what the closure returns for each cell of a span, adds the sum to one cell, and stops. Tasks with one span each sum up an
+/// array. A task whose span has cells that don't exist fails with number 16, and a task whose sum doesn't fit 64 signed bits, at
+/// the end or on the way, fails with number 17.
 #[derive(Drop)]
 pub struct Reduce<F> {
     /// The place of the array that is read, in declared order.

@@ -39,8 +39,8 @@ pub struct Window {
 }
 
 /// A board is an array, row after row, each with `width` cells. In each superstep up to `last`, sets each cell of some rows to what
-/// the closure returns for the cell and its eight neighbours. Cells beyond the edges hold `beyond`. Rows that aren't all there, or
-/// none, fail with number 16.
+/// the closure returns for the cell and its eight neighbours. Cells beyond the edges hold `beyond`. A task that has no rows, or
+/// rows that don't exist, fails with number 16.
 #[derive(Drop)]
 pub struct Grid<F> {
     /// The place of the array, in declared order.

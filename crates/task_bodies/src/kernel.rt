@@ -7,17 +7,17 @@ pub use crate::cells::{Cells, Map, Reduce};
 pub use crate::grid::{BoardRows, Grid, Window};
 use std::alloc::{AllocError, Global};
 
-/// Cells side by side: the cell before the first of them, and the cell before the last.
+/// Adjacent cells: those after the cell `before`, up to and including the cell `end`.
 #[derive(Clone, Copy)]
 pub struct Span {
     /// The cell before the first.
     pub before: u32,
-    /// The cell before the last. It is at least `before`; if both are the same, the span has no cells.
+    /// The last cell. It is at least `before`; if both are the same, the span has no cells.
     pub end: u32,
 }
 
 /// In each superstep up to `last`, sets each cell of a span to what the closure returns for the cell before it, the
-/// cell, and the cell after it. A span fails with number 16 if a cell or neighbour of it doesn't exist.
+/// cell, and the cell after it. A task fails with number 16 if a cell of its span, or a neighbour of one, doesn't exist.
 #[derive(Drop)]
 pub struct Stencil<F> {
     /// The place of the array, in declared order.

@@ -14,7 +14,7 @@ use std::alloc::{AllocError, AllocFailed, Global};
 use superstep_memory::arrays::Arrays;
 use thiserror::Error;
 
-/// Why a run isn't begun or isn't ended.
+/// The error of a run that didn't start or didn't end.
 #[derive(Debug, Drop, Error)]
 pub enum RunFault {
     /// There are more start tasks than may live at once, or than 65535. Start fewer, and let these spawn the others.
@@ -41,8 +41,9 @@ impl<T: Drop> From<AllocFailed<T>> for RunFault {
     }
 }
 
-/// Runs tasks of this body on one thread, the start tasks with this kept: each superstep's tasks one after another, by path. At
-/// most `most` tasks live at once, and at most `limit` supersteps are taken.
+/// Runs `body` on one thread. Starts one task for each element of `tasks`, which is what the task keeps. In each superstep, the
+/// tasks run one after another, in path order. At most `most` tasks may live at once, and the run takes at most `limit`
+/// supersteps.
 ///
 /// The report has the arrays, the prints, a record for each superstep, and how the run ended: all tasks stopped, the limit was
 /// reached, or a fault, with the number of the fault, the superstep, and the path of the task. If the limit was reached, the tasks
@@ -65,8 +66,8 @@ pub fn run_bodies<B: TaskBody>(
     Ok(ran)
 }
 
-/// Runs tasks as [`run_bodies`] does. `watch` is called before each superstep, and may stop the run there, as a limit does: if the
-/// values no longer change, or if you only want to look on.
+/// Runs tasks as [`run_bodies`] does. Calls `watch` before each superstep. `watch` can stop the run there, as a limit does, for
+/// instance once the values no longer change, or it can only observe.
 pub fn run_bodies_watched<B: TaskBody, W: Watch>(
     alloc: Global,
     body: &B,

@@ -17,7 +17,7 @@ use thiserror::Error;
 use tier_shape::Shape;
 use worker_pool::{Gate, Refused, Starter, run_program};
 
-/// Why a run on workers isn't begun or isn't ended.
+/// The error of a run on workers that didn't start or didn't end.
 #[derive(Debug, Drop, Error)]
 pub enum WorkersFault {
     /// More than 65535 tasks may live at once, or there are more start tasks than may live at once. On workers each task is a party
@@ -29,10 +29,10 @@ pub enum WorkersFault {
     Refused(Refused),
 }
 
-/// Runs tasks of this body, the start tasks with this kept, on `workers` threads that synchronize at a tree of phasers of this
-/// shape, for at most `limit` supersteps. At most `most` tasks live at once. What the run leaves is what `run_bodies` of
-/// `task_bodies` may leave on one thread: the same supersteps, each task on the arrays as its superstep began, and puts that land by
-/// path. If the body's result depends on its arguments alone, both leave the same.
+/// Runs `body` on `workers` threads that synchronize at a tree of phasers of the given `shape`, for at most `limit` supersteps.
+/// Starts one task for each element of `tasks`, which is what the task keeps. At most `most` tasks may live at once. The result
+/// is one that `run_bodies` of `task_bodies` may return on one thread: each task runs on the arrays as they were when its
+/// superstep began, and puts land in path order. If what the body does depends only on its arguments, both return the same.
 ///
 /// `gate` is called before and after each segment, and `starter` before each worker is started. Pass `&OpenGate` and `&AllStart` for
 /// none. Returns after joining all workers. Termination is not part of the contract.
