@@ -5,19 +5,20 @@ ghost use Rattle.pass_list.specs.Passed.{IsKept, Issues as HasIssued, Redeems as
 use atomic_table::{Join, Play, Split, TableRule};
 use std::collections::LinkedList;
 
-/// What a pass is for: a step and a number. Each pass of a list has its key.
-pub struct Ticket {
+/// What a pass is for: a step and a number, and what was known when it was issued. Each pass of a list has its key.
+pub struct Ticket<T> {
     pub key: u64,
     pub step: u64,
     pub number: u64,
+    pub known: T,
 }
 
 /// What a seat knows. Only contracts use it: no value of this type is made.
-pub struct Known {
+pub struct Known<T> {
     /// The tickets of the passes that are out.
-    pub out: LinkedList<Ticket>,
+    pub out: LinkedList<Ticket<T>>,
     /// The ticket that it has.
-    pub held: Option<Ticket>,
+    pub held: Option<Ticket<T>>,
     /// The key of the next pass.
     pub next: u64,
 }
@@ -25,7 +26,7 @@ pub struct Known {
 /// The ticket of each seat is among those that the first seat knows.
 pub struct Rule;
 
-impl TableRule<u64, Known, ()> for Rule {
+impl<T> TableRule<T, Known<T>, ()> for Rule {
     ghost holds = { λ k s. IsKept s };
 
     ghost first = { λ k. record { out = []; held = None; next = 0 } };
@@ -34,21 +35,21 @@ impl TableRule<u64, Known, ()> for Rule {
 /// The first seat writes a ticket.
 pub struct Issues;
 
-impl Play<u64, Known> for Issues {
-    ghost then = { λ step me n next. HasIssued step.first step.second me next };
+impl<T> Play<T, Known<T>> for Issues {
+    ghost then = { λ step me n next. HasIssued step.first step.second step.said me next };
 }
 
 /// The first seat looks its ticket up, and strikes it out.
 pub struct Redeems;
 
-impl Play<u64, Known> for Redeems {
+impl<T> Play<T, Known<T>> for Redeems {
     ghost then = { λ step me n next. HasRedeemed me next };
 }
 
 /// Splits off a seat that has the ticket.
 pub struct Gives;
 
-impl Split<Known> for Gives {
+impl<T> Split<Known<T>> for Gives {
     ghost left = { with_none };
 
     ghost right = { passed_on };
@@ -57,7 +58,7 @@ impl Split<Known> for Gives {
 /// Takes the ticket of another seat.
 pub struct Receives;
 
-impl Join<Known> for Receives {
+impl<T> Join<Known<T>> for Receives {
     ghost both = { receiving };
 
     ghost spent = { record { out = []; held = None; next = 0 } };

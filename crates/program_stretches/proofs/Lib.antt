@@ -7,4 +7,5 @@ pub mod Course
 pub mod Closed
 pub mod Refusing
 pub mod InTurn
+pub mod EachDone
 pub mod Reopening

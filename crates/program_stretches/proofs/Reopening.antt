@@ -9,6 +9,8 @@ use Rattle.program_stretches.specs.Parts.{AreFresh, covers, of_slot, tasks_in, d
 use Rattle.program_stretches.specs.StretchesValue.{StretchesValue}
 use Rattle.program_stretches.specs.Closing.{AllStay, IsReopened}
 use Rattle.program_stretches.proofs.Along.{left_append, spawned_append}
+use Rattle.program_stretches.proofs.EachDone.{each_also, living_same}
+use Rattle.superstep_memory.specs.PathOrder.{in_path_order}
 
 pub if_ok : {X E : Type 0} (answer : Result X E) (F G : X → Type 0) → IfOk answer F → ((x : X) → F x → G x) → IfOk answer G
 if_ok (Ok x) F G h f = f x h
@@ -72,9 +74,16 @@ module _ {S : Type 0} where
   renewed_same ks ss e = sym (renewed_kept ks) ∙ ap (map renewed) e ∙ renewed_kept ss
 
 -- it is the same whether puts were moved away
-pub reopened_from : {Q S : Type 0} (o : Outcome) (step : ℕ) (ks ss : List (Option (PartValue S))) (v : StretchesValue Q S) → map without_puts ks ≡ map without_puts ss
-    → IsReopened o step ks v → IsReopened o step ss v
-reopened_from Landed step ks ss v e h = (h.0, h.1, λ stay. h.2 (stay_also ks ss e stay) ∙ renewed_same ks ss e, h.3)
-reopened_from Faulted step ks ss v e h = h
-reopened_from TooMany step ks ss v e h = h
-reopened_from Overflowed step ks ss v e h = h
+pub reopened_from : {Q S : Type 0} (path : S → List ℕ) (o : Outcome) (step : ℕ) (ks ss : List (Option (PartValue S))) (v : StretchesValue Q S) → map without_puts ks ≡ map without_puts ss
+    → IsReopened path o step ks v → IsReopened path o step ss v
+reopened_from path Landed step ks ss v e h = (
+  h.0,
+  h.1,
+  λ stay. h.2 (stay_also ks ss e stay) ∙ renewed_same ks ss e,
+  h.3,
+  each_also ss ks (sym e) h.4,
+  h.5 ∙ ap (in_path_order path) (living_same ks ss e),
+)
+reopened_from path Faulted step ks ss v e h = h
+reopened_from path TooMany step ks ss v e h = h
+reopened_from path Overflowed step ks ss v e h = h

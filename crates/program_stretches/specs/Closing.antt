@@ -1,6 +1,7 @@
 -- How stretches are handed out and taken back, and how a superstep is closed (own).
 use Rattle.std.specs.Prelude.{◌≡◌, ◌+◌, ℕ, ℤ, Bool, true, false, List, [], ◌∷◌, ◌++◌, length, map, Option, Some, None, slice_get}
 use Rattle.atomic_table.specs.Seated.{TableId}
+use Rattle.superstep_memory.specs.PathOrder.{in_path_order}
 use Rattle.phase_records.specs.ReportValue.{ReportValue}
 use Rattle.programs.specs.InPlace.{left_in, spawned_in}
 use Rattle.programs.specs.Superstep.{ended_by}
@@ -13,7 +14,7 @@ use Rattle.program_stretches.specs.declared.fault.Unclosed.TheVariants as unclos
 use Rattle.program_stretches.specs.declared.fault.Outcome.{Outcome}
 use Rattle.program_stretches.specs.declared.fault.Outcome.TheVariants.{Landed}
 use Rattle.program_stretches.specs.PartValue.{PartValue}
-use Rattle.program_stretches.specs.Parts.{Reading, AreFresh, covers, of_slot, tasks_in, renewed}
+use Rattle.program_stretches.specs.Parts.{Reading, AreFresh, EachDid, covers, of_slot, tasks_in, living_in, renewed}
 use Rattle.program_stretches.specs.Opening.{OpeningValue, live_of}
 use Rattle.program_stretches.specs.Did.{IsStep, IsStepTo}
 use Rattle.program_stretches.specs.StretchesValue.{StretchesValue, StretchValue, state_with, with_slot, IsAfter, IsCourse}
@@ -38,6 +39,7 @@ module _ {Q S : Type 0} where
     pub at_most : v.most ≡ most
     pub to_limit : v.limit ≡ limit
     pub ready : AreFresh 0 v.parts
+    pub whole : tasks_in v.parts ≡ tasks
     pub counted : v.count ≡ length (tasks_in v.parts)
     pub nothing_given : v.given ≡ 0
 
@@ -86,11 +88,14 @@ AllStay [] = Unit {0}
 AllStay (s ∷ ss) = (left_in (of_slot (λ part. part.deeds) s) ≡ 0) × (spawned_in (of_slot (λ part. part.deeds) s) ≡ 0) × AllStay ss
 
 module _ {Q S : Type 0} where
-  -- The stretches after the superstep of this number, in which the stretches `ran` have run: all live tasks are in them, and none
-  -- has run. If all tasks stay, each stretch has the same tasks as before. After a fault there are no stretches.
-  abbrev pub IsReopened : Outcome → ℕ → List (Option (PartValue S)) → StretchesValue Q S → Type 0
-  IsReopened Landed step ran v = AreFresh 0 v.parts × (v.count ≡ length (tasks_in v.parts)) × (AllStay ran → v.parts ≡ map renewed ran) × (v.step ≡ step + 1)
-  IsReopened o step ran v = v.parts ≡ []
+  -- The stretches after the superstep of this number, in which the stretches `ran` have run without a fault: all live tasks are in
+  -- them, in path order, and none has run. If all tasks stay, each stretch has the same tasks as before. After a fault there are no
+  -- stretches.
+  abbrev pub IsReopened : (S → List ℕ) → Outcome → ℕ → List (Option (PartValue S)) → StretchesValue Q S → Type 0
+  IsReopened path Landed step ran v =
+      AreFresh 0 v.parts × (v.count ≡ length (tasks_in v.parts)) × (AllStay ran → v.parts ≡ map renewed ran) × (v.step ≡ step + 1) × EachDid ran
+      × (tasks_in v.parts ≡ in_path_order path (living_in ran))
+  IsReopened path o step ran v = v.parts ≡ []
 
 module _ {Q S T : Type 0} where
   -- this fault ends the run in this superstep

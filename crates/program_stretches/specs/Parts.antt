@@ -5,6 +5,7 @@ use Rattle.phase_records.specs.PrintValue.{PrintValue}
 use Rattle.programs.specs.Meaning.{Segment, Frame}
 use Rattle.programs.specs.Superstep.{or_next}
 use Rattle.programs.specs.DeedValue.{DeedValue}
+use Rattle.programs.specs.InPlace.{living_with}
 use Rattle.programs.specs.Done.{HasDoneRange}
 use Rattle.program_stretches.specs.PartValue.{PartValue}
 
@@ -76,6 +77,16 @@ module _ {S : Type 0} where
 
   abbrev pub prints_in : List (Option (PartValue S)) → List PrintValue
   prints_in ss = in_turn (λ part. part.prints) ss
+
+  -- of their tasks those that go on, each with the tasks that it spawned
+  abbrev pub living_in : List (Option (PartValue S)) → List S
+  living_in ss = in_turn (λ part. living_with part.tasks part.deeds) ss
+
+  -- none of their tasks faulted, and each of them has a deed
+  abbrev pub EachDid : List (Option (PartValue S)) → Type 0
+  EachDid [] = Unit {0}
+  EachDid (None ∷ ss) = EachDid ss
+  EachDid (Some part ∷ ss) = (part.fault ≡ None) × (length part.tasks ≡ length part.deeds) × EachDid ss
 
   abbrev pub fault_of : Option (PartValue S) → Option (ℕ × List ℕ)
   fault_of None = None

@@ -1,7 +1,8 @@
 -- The supersteps of a program by stretches (own).
-use Rattle.std.specs.Prelude.{◌≡◌, ◌≤◌, ◌⊎◌, ℕ, zero, suc, ◌+◌, ℤ, nat_le, if◌then◌else◌, Bool, true, false, not, ◌||◌, List, [], ◌∷◌, ◌++◌, map, length, slice_set, Option, Some, None}
+use Rattle.std.specs.Prelude.{◌≡◌, ◌≤◌, ◌⊎◌, ℕ, zero, suc, ◌+◌, ℤ, nat_le, if◌then◌else◌, Bool, true, false, not, ◌||◌, List, [], ◌∷◌, ◌++◌, map, length, slice_set, Option, Some, None, is_some}
 use Rattle.superstep_memory.specs.declared.arrays.Put.{Put}
 use Rattle.superstep_memory.specs.Landing.{over_in}
+use Rattle.superstep_memory.specs.Paths.{is_rising}
 use Rattle.programs.specs.DeedValue.{DeedValue}
 use Rattle.atomic_table.specs.Seated.{TableId}
 use Rattle.phase_records.specs.PrintValue.{PrintValue}
@@ -9,6 +10,7 @@ use Rattle.phase_records.specs.declared.record.PhaseRecord.{PhaseRecord}
 use Rattle.phase_records.specs.Status.{Status, Ended, Fault, Limit}
 use Rattle.programs.specs.Meaning.{children}
 use Rattle.programs.specs.Superstep.{State}
+use Rattle.programs.specs.InPlace.{living_with}
 use Rattle.program_stretches.specs.PartValue.{PartValue}
 use Rattle.program_stretches.specs.Parts.{Reading, IsPartOf, AreOwn, covers}
 use Rattle.program_stretches.specs.Opening.{OpeningValue, live_of}
@@ -49,7 +51,7 @@ module _ {Q S T : Type 0} where
   abbrev pub state_with : StretchesValue Q S → List T → State T
   state_with v live = record { step = v.step; arrays = v.arrays; live = live; prints = v.prints; records = v.records; fault = v.fault }
 
-  -- a stretch of a superstep that began with this
+  -- a stretch of a superstep that began with this; the paths of the live tasks rise
   pub record IsStretch (m : Q → Reading S T) (ready : Q → Type 0) (v : StretchValue Q S) : Type 0 where
     pub opening : OpeningValue Q S
     pub older : List (OpeningValue Q S)
@@ -58,6 +60,7 @@ module _ {Q S T : Type 0} where
     pub program : v.program ≡ opening.program
     pub arrays : v.arrays ≡ opening.arrays
     pub is_ready : ready v.program
+    pub rising : is_rising (map (m v.program).path (live_of opening)) ≡ true
     pub part : IsPartOf (m v.program) v.arrays (live_of opening) v.step v.part
 
   -- the last opening is that of the next superstep, and the stretches are of its live tasks
@@ -135,6 +138,18 @@ module _ {S : Type 0} where
   tasks_at None = []
   tasks_at (Some None) = []
   tasks_at (Some (Some part)) = part.tasks
+
+  -- of the tasks of one that has run and is there those that go on, each with the tasks that it spawned
+  abbrev pub living_at : Option (Option (PartValue S)) → List S
+  living_at None = []
+  living_at (Some None) = []
+  living_at (Some (Some part)) = living_with part.tasks part.deeds
+
+  -- a task of one that is there has faulted
+  abbrev pub faulted_at : Option (Option (PartValue S)) → Bool
+  faulted_at None = false
+  faulted_at (Some None) = false
+  faulted_at (Some (Some part)) = is_some part.fault
 
 -- a run that ended at its limit
 abbrev pub is_at_limit : Status → Bool

@@ -35,9 +35,9 @@ impl<'p, P: Program> Model for Stretch<'p, P> {
 }
 
 impl<'p, P: Program> Stretch<'p, P> {
-    ghost use Rattle.std.specs.Prelude.{◌≡◌, ◌↔◌, IsTrue, IfOk, is_some, length, map, slice_get};
+    ghost use Rattle.std.specs.Prelude.{◌≡◌, ◌↔◌, true, None, IsTrue, IfOk, is_some, length, map, slice_get};
     ghost use Rattle.std.specs.Option.{option_map};
-    ghost use Rattle.programs.specs.InPlace.{left_in, spawned_in};
+    ghost use Rattle.programs.specs.InPlace.{left_in, spawned_in, living_with};
     ghost use Rattle.programs.specs.Changes.{change_of, change_in};
 
     /// Returns its number among the stretches of its superstep, counted from 0 in path order.
@@ -84,7 +84,9 @@ impl<'p, P: Program> Stretch<'p, P> {
 
     /// Returns true if every task that was run lives on, and none of them spawned a task.
     pub fn all_stay(&self) -> bool
-        ensures { IsTrue result ↔ ((left_in self.now.part.deeds ≡ 0) × (spawned_in self.now.part.deeds ≡ 0)) }
+        ensures stay { IsTrue result ↔ ((left_in self.now.part.deeds ≡ 0) × (spawned_in self.now.part.deeds ≡ 0)) }
+        ensures same { IsTrue result → self.now.part.done ≡ true → self.now.part.fault ≡ None
+            → living_with self.now.part.tasks self.now.part.deeds ≡ self.now.part.tasks }
     {
         self.part.all_stay()
     }
@@ -104,13 +106,14 @@ impl<'p, P: Program> Stretch<'p, P> {
 }
 
 impl<'p, P: TaskLoop> Stretch<'p, P> {
-    ghost use Rattle.std.specs.Prelude.{◌≡◌, true, false, OnOk, length};
+    ghost use Rattle.std.specs.Prelude.{◌≡◌, true, false, None, OnOk, length, map};
 
-    /// Runs its tasks, each in its place. Out of memory, the tasks are lost.
+    /// Runs its tasks, each in its place. Unless one faults, they keep their paths. Out of memory, the tasks are lost.
     pub fn run(&mut self, alloc: Global) -> Result<(), AllocError>
         requires { self.old.part.done ≡ false }
         ensures done { OnOk result (self.new.part.done ≡ true) }
         ensures count { OnOk result (length self.new.part.tasks ≡ length self.old.part.tasks) }
+        ensures paths { OnOk result (self.new.part.fault ≡ None → map P.Task.path_of self.new.part.tasks ≡ map P.Task.path_of self.old.part.tasks) }
         ensures same { self.new ≡ record self.old { part = self.new.part } }
         ensures place { self.new.part.first ≡ self.old.part.first }
     {

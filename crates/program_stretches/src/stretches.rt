@@ -80,7 +80,7 @@ impl<'t, 'p, P: Program> Stretches<'t, 'p, P> {
     ghost use Rattle.programs.specs.InPlace.{told_in, left_in, spawned_in};
     ghost use Rattle.std.specs.List.{list_all};
     ghost use Rattle.superstep_memory.specs.Landing.{is_set};
-    ghost use Rattle.program_stretches.specs.Parts.{reading_of, AreFresh, covers, tasks_in, puts_in, deeds_in, prints_in};
+    ghost use Rattle.program_stretches.specs.Parts.{reading_of, AreFresh, EachDid, covers, tasks_in, puts_in, deeds_in, prints_in};
     ghost use Rattle.program_stretches.specs.StretchesValue.{status_in, can_leave, ready_at, tasks_at, with_slot, IsAfter, HaveRun, OverflowsAt};
     ghost use Rattle.program_stretches.specs.Closing.{IsBegun, IsTaken, Refuses, Accepts, IsSameRun, NotClosed, IsClosed, EndsBy, HasLeft, IsGiven, IsReopened, AllStay, opened_with};
 
@@ -379,8 +379,9 @@ impl<'t, 'p, P: Program> Stretches<'t, 'p, P> {
         requires few { length (deeds_in parts.items) + spawned_in (deeds_in parts.items) ≤ self.old.most + left_in (deeds_in parts.items) }
         requires told { told ≡ told_in self.old.step (deeds_in parts.items) }
         requires stays { (told.left ≡ 0) × (told.spawned ≡ 0) }
+        requires each { EachDid parts.items }
         ensures closed { IfOk result (λ outcome. IsClosed (reading_of P.frame P.may P.meant P.Task.path_of) self.old self.new outcome) }
-        ensures reopened { IfOk result (λ outcome. IsReopened outcome self.old.step parts.items self.new) }
+        ensures reopened { IfOk result (λ outcome. IsReopened P.Task.path_of outcome self.old.step parts.items self.new) }
         ensures lost { OnErr result (self.new.parts ≡ []) }
         ensures same { IsSameRun self.old self.new }
         ensures given { self.new.given ≡ self.old.given }
@@ -420,8 +421,9 @@ impl<'t, 'p, P: Program> Stretches<'t, 'p, P> {
         requires few { length (deeds_in parts.items) + spawned_in (deeds_in parts.items) ≤ self.old.most + left_in (deeds_in parts.items) }
         requires told { told ≡ told_in self.old.step (deeds_in parts.items) }
         requires moves { AllStay parts.items → ⊥ }
+        requires each { EachDid parts.items }
         ensures closed { IfOk result (λ outcome. IsClosed (reading_of P.frame P.may P.meant P.Task.path_of) self.old self.new outcome) }
-        ensures reopened { IfOk result (λ outcome. IsReopened outcome self.old.step parts.items self.new) }
+        ensures reopened { IfOk result (λ outcome. IsReopened P.Task.path_of outcome self.old.step parts.items self.new) }
         ensures lost { OnErr result (self.new.parts ≡ []) }
         ensures same { IsSameRun self.old self.new }
         ensures given { self.new.given ≡ self.old.given }
@@ -462,8 +464,9 @@ impl<'t, 'p, P: Program> Stretches<'t, 'p, P> {
         requires run { HaveRun (reading_of P.frame P.may P.meant P.Task.path_of) self.old (puts_in parts.items) (tasks_in parts.items) (deeds_in parts.items) (prints_in parts.items) }
         requires covered { covers true self.old.count 0 parts.items ≡ true }
         requires no_puts { puts.old ≡ [] }
+        requires each { EachDid parts.items }
         ensures closed { IfOk result (λ outcome. IsClosed (reading_of P.frame P.may P.meant P.Task.path_of) self.old self.new outcome) }
-        ensures reopened { IfOk result (λ outcome. IsReopened outcome self.old.step parts.items self.new) }
+        ensures reopened { IfOk result (λ outcome. IsReopened P.Task.path_of outcome self.old.step parts.items self.new) }
         ensures lost { OnErr result (self.new.parts ≡ []) }
         ensures same { IsSameRun self.old self.new }
         ensures given { self.new.given ≡ self.old.given }
@@ -496,7 +499,7 @@ impl<'t, 'p, P: Program> Stretches<'t, 'p, P> {
         requires running { status_in self.old ≡ None }
         ensures whole { OnOk result (covers true self.old.count 0 self.old.parts ≡ true) }
         ensures closed { IfOk result (λ outcome. IsClosed (reading_of P.frame P.may P.meant P.Task.path_of) self.old self.new outcome) }
-        ensures reopened { IfOk result (λ outcome. IsReopened outcome self.old.step self.old.parts self.new) }
+        ensures reopened { IfOk result (λ outcome. IsReopened P.Task.path_of outcome self.old.step self.old.parts self.new) }
         ensures refused { IfErr result (λ fault. NotClosed fault self.old self.new) }
         ensures same { IsSameRun self.old self.new }
         ensures given { self.new.given ≡ self.old.given }

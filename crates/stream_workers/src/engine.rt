@@ -2,6 +2,7 @@
 ghost use Rattle.std.specs.Prelude.{◌≡◌, ◌≢◌, None, Err, true, false, IfOk, IfSome, OnOk};
 ghost use Rattle.worker_pool.specs.declared.fault.Reason.TheVariants as reason;
 ghost use Rattle.snapshot_log.specs.Agreed.{WasBefore};
+ghost use Rattle.step_parts.specs.SlotParts.{path_in};
 ghost use Rattle.program_stretches.specs.Parts.{covers};
 ghost use Rattle.program_stretches.specs.StretchesValue.{status_in};
 ghost use Rattle.program_stretches.specs.Closing.{IsSameRun, IsGiven};
@@ -71,6 +72,8 @@ impl<'p, 'j, 'o, 'w, R: Wait, W: CountedWrite, J: Streaming> engine::Stretch
     ghost step = { λ h. h.stretch.step };
 
     ghost len = { λ h. length h.stretch.part.tasks };
+
+    ghost paths = { λ h. map path_in h.stretch.part.tasks };
 
     ghost done = { λ h. done_of h.stretch };
 
@@ -190,9 +193,10 @@ impl<'t, 'p, 'j, 'o, 'w, R: Wait, W: CountedWrite, J: Streaming> Handing<
 
 impl<'t, 'p, 'j, 'o, 'w, R: Wait, W: CountedWrite, J: Streaming> Engine
     for Handing<'t, 'p, 'j, 'o, 'w, R, W, J> {
-    ghost use Rattle.std.specs.Prelude.{true, is_some, length, slice_get};
+    ghost use Rattle.std.specs.Prelude.{true, is_some, length, map, slice_get};
+    ghost use Rattle.step_parts.specs.SlotParts.{path_in};
     ghost use Rattle.program_stretches.specs.Parts.{covers};
-    ghost use Rattle.program_stretches.specs.StretchesValue.{status_in, can_leave, ready_at, tasks_at};
+    ghost use Rattle.program_stretches.specs.StretchesValue.{status_in, can_leave, ready_at, tasks_at, living_at, faulted_at};
     ghost use Rattle.program_stretches.specs.Closing.{IsTaken, Accepts, IsSameRun, AllStay};
     ghost use Rattle.job_stream.specs.Running.{job_reading};
     ghost use Rattle.worker_pool.specs.Leaving.{Gives, out_at};
@@ -210,7 +214,11 @@ impl<'t, 'p, 'j, 'o, 'w, R: Wait, W: CountedWrite, J: Streaming> Engine
 
     ghost len = { λ v. length v.stretches.parts };
 
-    ghost size = { λ v number. length (tasks_at (slice_get v.stretches.parts number)) };
+    ghost paths = { λ v number. map path_in (tasks_at (slice_get v.stretches.parts number)) };
+
+    ghost living = { λ v number. map path_in (living_at (slice_get v.stretches.parts number)) };
+
+    ghost faulted = { λ v number. faulted_at (slice_get v.stretches.parts number) };
 
     ghost ready = { λ v number. ready_at (slice_get v.stretches.parts number) };
 
@@ -309,7 +317,7 @@ fn close<'t, 'p, 'j>(
     ensures memory { result ≡ Err reason.Memory → covers true stretches.old.count 0 stretches.old.parts ≡ true }
     ensures full { result ≢ Err reason.Full }
     ensures landed { IfOk result (λ closed. closed ≡ Closed.Landed → stretches.new.fault ≡ None) }
-    ensures reopened { IfOk result (λ closed. Reopens closed stretches.old.step stretches.old.parts stretches.new) }
+    ensures reopened { IfOk result (λ closed. Reopens path_in closed stretches.old.step stretches.old.parts stretches.new) }
     ensures log { WasBefore stretches.old.log stretches.new.log }
     ensures same { IsSameRun stretches.old stretches.new }
 {
@@ -347,7 +355,7 @@ fn close_and_give<'t, 'p, 'j>(
     ensures missing { result ≡ Err reason.Internal → (covers true stretches.old.count 0 stretches.old.parts ≡ false) × (stretches.new ≡ stretches.old) }
     ensures memory { result ≡ Err reason.Memory → covers true stretches.old.count 0 stretches.old.parts ≡ true }
     ensures full { result ≢ Err reason.Full }
-    ensures reopened { IfOk result (λ r. Reopens r.0 stretches.old.step stretches.old.parts stretches.new) }
+    ensures reopened { IfOk result (λ r. Reopens path_in r.0 stretches.old.step stretches.old.parts stretches.new) }
     ensures given { IfOk result (λ r. IfSome r.1 (IsGivenAfter job_reading stretches.old.log)) }
     ensures log { WasBefore stretches.old.log stretches.new.log }
     ensures same { IsSameRun stretches.old stretches.new }

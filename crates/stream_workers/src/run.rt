@@ -1,9 +1,11 @@
 //! A run of a job on worker threads.
-ghost use Rattle.std.specs.Prelude.{◌≡◌, ◌≤◌, ℕ, List, Option, IfOk, IfErr, length};
+ghost use Rattle.std.specs.Prelude.{◌≡◌, ◌≤◌, ℕ, List, [], Option, IfOk, IfErr, length, map};
 ghost use Rattle.std.specs.Io.KnownBytes.{Appends};
 ghost use Rattle.advance_rule.specs.Stored.{Answers};
 ghost use Rattle.advance_rule.specs.Plan.{end_ends_at};
+ghost use Rattle.programs.specs.Meaning.{children};
 ghost use Rattle.step_parts.specs.Program.{program_of};
+ghost use Rattle.step_parts.specs.SlotParts.{path_in};
 ghost use Rattle.program_stretches.specs.Parts.{AreFresh, tasks_in};
 ghost use Rattle.program_stretches.specs.Closing.{HasLeft};
 ghost use Rattle.job_stream.specs.Running.{IsRunOf, job_reading};
@@ -137,6 +139,7 @@ fn stream_begun<
     requires log { stretches.name ≡ log.now }
     requires run { IsRunOf job.now limit stretches.log }
     requires fresh { AreFresh 0 stretches.parts × (stretches.count ≡ length (tasks_in stretches.parts)) }
+    requires paths { map path_in (tasks_in stretches.parts) ≡ children [] 0 stretches.count }
     requires workers { (1 ≤ setup.workers) × (setup.workers ≤ 64) }
     requires plan { IsJobPlan setup.advance.plan }
     requires rule { Answers (F.pre setup.advance.closure) (F.post setup.advance.closure) (end_ends_at setup.advance.plan) }
@@ -184,6 +187,7 @@ fn stream_lent<
     requires log { stretches.name ≡ log.now }
     requires run { IsRunOf job.now limit stretches.log }
     requires fresh { AreFresh 0 stretches.parts × (stretches.count ≡ length (tasks_in stretches.parts)) }
+    requires paths { map path_in (tasks_in stretches.parts) ≡ children [] 0 stretches.count }
     requires workers { (1 ≤ setup.workers) × (setup.workers ≤ 64) }
     requires plan { IsJobPlan setup.advance.plan }
     requires rule { Answers (F.pre setup.advance.closure) (F.post setup.advance.closure) (end_ends_at setup.advance.plan) }

@@ -1,8 +1,8 @@
 -- Participants cut into groups, and start tasks in their order.
-use Rattle.std.specs.Prelude.{take, drop, MatchOption, sum_by}
-use Rattle.std.proofs.Common.{◌≡◌, ℕ, zero, suc, ◌+◌, ◌-◌, ◌<◌, Option, Some, None, List, [], ◌∷◌, ◌++◌, length, refl, sym, ap, ◌∙◌, arith, append_assoc}
+use Rattle.std.specs.Prelude.{take, drop}
+use Rattle.std.proofs.Common.{◌≡◌, ℕ, zero, suc, ◌+◌, ◌-◌, ◌<◌, List, [], ◌∷◌, ◌++◌, map, length, refl, sym, ap, ◌∙◌, arith, append_assoc}
 use Rattle.programs.specs.Meaning.{children}
-use Rattle.worker_pool.specs.AtRest.{tasks_below}
+use Rattle.worker_pool.specs.Living.{all_below}
 use Rattle.worker_pool.specs.Grouping.{numbers_from}
 
 -- a last one more
@@ -31,36 +31,35 @@ one_start_more n =
     let same : 0 + n ≡ n = omega arith in
     sym (ap (λ (k : ℕ). children [] 0 k) longer ∙ children_more [] 0 n ∙ ap (λ (k : ℕ). children [] 0 n ++ (k ∷ []) ∷ []) same)
 
-module _ {A : Type 0} where
-  parts_whole : (at : ℕ) (ps : List A) → take at ps ++ drop at ps ≡ ps
-  parts_whole zero [] = refl
-  parts_whole zero (p ∷ ps) = refl
-  parts_whole (suc at) [] = refl
-  parts_whole (suc at) (p ∷ ps) = ap (λ qs. p ∷ qs) (parts_whole at ps)
-
-  -- a group cut off from the end
-  pub cut_off : (at : ℕ) (ps front back rest : List A) → front ≡ take at ps → back ≡ drop at ps → front ++ (back ++ rest) ≡ ps ++ rest
-  cut_off at ps front back rest e f =
-      sym (append_assoc front back rest) ∙ (λ i. (e i ++ f i) ++ rest) ∙ ap (λ qs. qs ++ rest) (parts_whole at ps)
-
 -- the tasks of the stretches up to this one
-pub last_of : (size : ℕ → ℕ) (count behind : ℕ) → behind < count → tasks_below size (count - behind) ≡ tasks_below size (count - 1 - behind) + size (count - 1 - behind)
-last_of size count behind lt = ap (tasks_below size) next
+pub last_of : (paths : ℕ → List (List ℕ)) (count behind : ℕ) → behind < count → all_below paths (count - behind) ≡ all_below paths (count - 1 - behind) ++ paths (count - 1 - behind)
+last_of paths count behind lt = ap (all_below paths) next
   where
     next : (count - behind) ≡ suc (count - 1 - behind)
     next = omega (arith, lt)
 
-pub before_last : (size : ℕ → ℕ) (count behind : ℕ) → tasks_below size (count - (behind + 1)) ≡ tasks_below size (count - 1 - behind)
-before_last size count behind = ap (tasks_below size) (let e : (count - (behind + 1)) ≡ (count - 1 - behind) = omega arith in e)
+pub before_last : (paths : ℕ → List (List ℕ)) (count behind : ℕ) → all_below paths (count - (behind + 1)) ≡ all_below paths (count - 1 - behind)
+before_last paths count behind = ap (all_below paths) (let e : (count - (behind + 1)) ≡ (count - 1 - behind) = omega arith in e)
+
+abbrev rest_of : {B : Type 0} → List B → List B
+rest_of [] = []
+rest_of (y ∷ ys) = ys
+
+abbrev first_of : {B : Type 0} → B → List B → B
+first_of d [] = d
+first_of d (y ∷ ys) = y
+
+not_cons : {B : Type 0} (x : B) (xs : List B) → [] ≡ x ∷ xs → ⊥
+not_cons x xs e = cc
+
+-- a list cut in two, as what its items have is
+pub cut_back : {A B : Type 0} (f : A → B) (xs : List A) (cs bs : List B) → map f xs ≡ cs ++ bs → (map f (take (length cs) xs) ≡ cs) × (map f (drop (length cs) xs) ≡ bs)
+cut_back f [] [] bs e = (refl, e)
+cut_back f (x ∷ xs) [] bs e = (refl, e)
+cut_back f [] (a ∷ cs) bs e = absurd (not_cons a (cs ++ bs) e)
+cut_back f (x ∷ xs) (a ∷ cs) bs e =
+    let h = cut_back f xs cs bs (ap rest_of e) in ((λ i. first_of (f x) (e i) ∷ h.0 i), h.1)
 
 pub count_children : (path : List ℕ) (begun n : ℕ) → length (children path begun n) ≡ n
 count_children path begun zero = refl
 count_children path begun (suc n) = ap suc (count_children path (suc begun) n)
-
-pub when_none : {A : Type 0} (o : Option A) (P : Type 0) (F : A → Type 0) → MatchOption o P F → o ≡ None → P
-when_none None P F h e = h
-when_none (Some x) P F h e = cc
-
-pub sum_none : {A : Type 0} (f : A → ℕ) (xs : List A) → length xs ≡ 0 → sum_by f xs ≡ 0
-sum_none f [] e = refl
-sum_none f (x ∷ xs) e = absurd (omega (arith, e))

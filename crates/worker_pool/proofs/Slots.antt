@@ -1,15 +1,19 @@
 -- Which stretches of a program are out, and which are ready.
 use Rattle.std.specs.Prelude.{slice_get, slice_set, ◌&&◌, ◌||◌, ◌==◌, not, is_some, IfOk, IfSome, OnErr, MatchOption}
-use Rattle.std.proofs.Common.{◌≡◌, ◌≢◌, ◌<◌, ◌⊎◌, inl, inr, ⊎_elim, ℕ, zero, suc, ◌+◌, Bool, true, false, List, [], ◌∷◌, length, Option, Some, None, Result, Ok, Err, refl, sym, ap, ◌∙◌, subst, arith, length-append}
+use Rattle.std.proofs.Common.{◌≡◌, ◌≢◌, ◌<◌, ◌⊎◌, inl, inr, ⊎_elim, ℕ, zero, suc, ◌+◌, Bool, true, false, List, [], ◌∷◌, map, length, Option, Some, None, Result, Ok, Err, refl, sym, ap, ◌∙◌, subst, arith}
+use Rattle.std.proofs.lemmas.List.{length-map}
 use Rattle.phase_records.specs.Status.{Status}
 use Rattle.programs.specs.InPlace.{left_in, spawned_in}
+use Rattle.programs.specs.Changes.{change_in}
 use Rattle.program_stretches.specs.PartValue.{PartValue}
-use Rattle.program_stretches.specs.Parts.{AreFresh, covers, is_done, of_slot, tasks_in}
-use Rattle.program_stretches.specs.StretchesValue.{StretchesValue, StretchValue, with_slot, ready_at, tasks_at, status_in, status_for, is_at_limit, left_after, can_leave}
+use Rattle.program_stretches.specs.Parts.{AreFresh, covers, is_done, tasks_in}
+use Rattle.program_stretches.specs.StretchesValue.{StretchesValue, StretchValue, with_slot, ready_at, tasks_at, living_at, faulted_at, status_in, status_for, is_at_limit, left_after, can_leave}
 use Rattle.program_stretches.specs.Closing.{AllStay, IsTaken, Accepts}
 use Rattle.program_stretches.proofs.Reopening.{fresh_covers}
-use Rattle.worker_pool.specs.AtRest.{tasks_below, IsAtRest}
+use Rattle.worker_pool.specs.AtRest.{IsAtRest}
 use Rattle.worker_pool.specs.Leaving.{out_at}
+use Rattle.worker_pool.specs.Living.{living_after}
+use Rattle.worker_pool.proofs.SlotPaths.{tasks_listed, living_told, other_slot, this_slot}
 
 not_false : false ≡ true → ⊥
 not_false e = cc
@@ -22,10 +26,6 @@ both_right : (a b : Bool) → (a && b) ≡ true → b ≡ true
 both_right true b e = e
 both_right false b e = absurd (not_false e)
 
-first_size : (size : ℕ → ℕ) (n : ℕ) → tasks_below size (suc n) ≡ size 0 + tasks_below (λ k. size (suc k)) n
-first_size size zero = omega arith
-first_size size (suc n) = let k = first_size size n in omega (arith, k)
-
 module _ {S : Type 0} where
   -- one more is out
   pub out_more : (ss : List (Option (PartValue S))) (n k : ℕ) → out_at (slice_get ss k) ≡ true → out_at (slice_get (slice_set ss n None) k) ≡ true
@@ -34,14 +34,6 @@ module _ {S : Type 0} where
   out_more (s ∷ ss) zero (suc k) e = e
   out_more (s ∷ ss) (suc n) zero e = e
   out_more (s ∷ ss) (suc n) (suc k) e = out_more ss n k e
-
-  -- others stay out
-  pub out_still : (ss : List (Option (PartValue S))) (n k : ℕ) (x : Option (PartValue S)) → k ≢ n → out_at (slice_get ss k) ≡ true → out_at (slice_get (slice_set ss n x) k) ≡ true
-  out_still [] n k x h e = e
-  out_still (s ∷ ss) zero zero x h e = absurd (h refl)
-  out_still (s ∷ ss) zero (suc k) x h e = e
-  out_still (s ∷ ss) (suc n) zero x h e = e
-  out_still (s ∷ ss) (suc n) (suc k) x h e = out_still ss n k x (λ same. h (ap suc same)) e
 
   -- if all are there, none is out
   pub none_out_of : (done : Bool) (end at : ℕ) (ss : List (Option (PartValue S))) → covers done end at ss ≡ true → (k : ℕ) → out_at (slice_get ss k) ≡ false
@@ -130,22 +122,12 @@ module _ {S : Type 0} where
   fresh_none_out at (Some part ∷ ss) h zero = refl
   fresh_none_out at (Some part ∷ ss) h (suc k) = fresh_none_out (at + length part.tasks) ss h.1 k
 
-  size_of : (s : Option (PartValue S)) → length (tasks_at (Some s)) ≡ length (of_slot (λ part. part.tasks) s)
-  size_of None = refl
-  size_of (Some part) = refl
-
-  all_sizes : (ss : List (Option (PartValue S))) → tasks_below (λ k. length (tasks_at (slice_get ss k))) (length ss) ≡ length (tasks_in ss)
-  all_sizes [] = refl
-  all_sizes (s ∷ ss) =
-      let f = first_size (λ k. length (tasks_at (slice_get (s ∷ ss) k))) (length ss) in
-      let a = all_sizes ss in
-      let b = size_of s in
-      let l = length-append (of_slot (λ part. part.tasks) s) (tasks_in ss) in
-      omega (arith, f, a, b, l)
-
-  pub at_rest : (count : ℕ) (ss : List (Option (PartValue S))) → AreFresh 0 ss → count ≡ length (tasks_in ss)
-      → IsAtRest (λ k. ready_at (slice_get ss k)) (λ k. length (tasks_at (slice_get ss k))) (length ss) count
-  at_rest count ss h e = record { each = fresh_ready 0 ss h; all = all_sizes ss ∙ sym e }
+  pub at_rest : (path : S → List ℕ) (count : ℕ) (ss : List (Option (PartValue S))) → AreFresh 0 ss → count ≡ length (tasks_in ss)
+      → IsAtRest (λ k. ready_at (slice_get ss k)) (λ k. map path (tasks_at (slice_get ss k))) (length ss) count
+  at_rest path count ss h e = record {
+    each = fresh_ready 0 ss h;
+    all = ap length (tasks_listed path ss) ∙ length-map (tasks_in ss) path ∙ sym e;
+  }
 
 -- ---- what a run that has ended leaves
 
@@ -185,6 +167,11 @@ module _ {Q S : Type 0} (old new : StretchesValue Q S) (number : ℕ) (a : (new 
       ⊎_elim (λ t. ap (λ (v : StretchesValue Q S). ready_at (slice_get v.parts k)) t ∙ ready_still old.parts number k None n)
       (λ s. ap (λ (v : StretchesValue Q S). ready_at (slice_get v.parts k)) s) a
 
+  pub asked_slot : (k : ℕ) → k ≢ number → slice_get new.parts k ≡ slice_get old.parts k
+  asked_slot k n =
+      ⊎_elim (λ t. ap (λ (v : StretchesValue Q S). slice_get v.parts k) t ∙ other_slot old.parts number k None n)
+      (λ s. ap (λ (v : StretchesValue Q S). slice_get v.parts k) s) a
+
   pub asked_stays : AllStay old.parts → AllStay new.parts
   asked_stays h =
       ⊎_elim (λ t. subst (λ (v : StretchesValue Q S). AllStay v.parts) (sym t) (stay_less old.parts number h))
@@ -220,11 +207,20 @@ module _ {Q S : Type 0} (v : StretchesValue Q S) (s : StretchValue Q S) (h : Acc
   pub back_gone : (s.number < length v.parts) × (ready_at (slice_get v.parts s.number) ≡ false)
   back_gone = (out_below v.parts s.number was_out, out_not_ready (slice_get v.parts s.number) was_out)
 
-  pub back_others : (k : ℕ) → out_at (slice_get v.parts k) ≡ true → k ≢ s.number → out_at (slice_get (slice_set v.parts s.number (Some s.part)) k) ≡ true
-  back_others k e n = out_still v.parts s.number k (Some s.part) n e
-
   pub back_rest : (k : ℕ) → ready_at (slice_get (slice_set v.parts s.number (Some s.part)) k) ≡ ready_at (slice_get v.parts k)
   back_rest = ready_after v.parts s.number s.part h.done was_out
+
+  pub back_slot : (k : ℕ) → k ≢ s.number → slice_get (slice_set v.parts s.number (Some s.part)) k ≡ slice_get v.parts k
+  back_slot k n = other_slot v.parts s.number k (Some s.part) n
+
+  pub back_here : slice_get (slice_set v.parts s.number (Some s.part)) s.number ≡ Some (Some s.part)
+  back_here = this_slot v.parts s.number (Some s.part) (out_below v.parts s.number was_out)
+
+  pub back_living : (path : S → List ℕ) → map path (living_at (slice_get (slice_set v.parts s.number (Some s.part)) s.number)) ≡ living_after (map path s.part.tasks) (map (change_in path) s.part.deeds)
+  back_living path = ap (λ (x : Option (Option (PartValue S))). map path (living_at x)) back_here ∙ sym (living_told path s.part.tasks s.part.deeds)
+
+  pub back_faulted : faulted_at (slice_get (slice_set v.parts s.number (Some s.part)) s.number) ≡ is_some s.part.fault
+  back_faulted = ap (λ (x : Option (Option (PartValue S))). faulted_at x) back_here
 
   pub back_stays : AllStay v.parts → (left_in s.part.deeds ≡ 0) × (spawned_in s.part.deeds ≡ 0) → AllStay (slice_set v.parts s.number (Some s.part))
   back_stays a b = stay_more v.parts s.number s.part b.0 b.1 a

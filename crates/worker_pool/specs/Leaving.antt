@@ -31,9 +31,9 @@ module _ {Q S T : Type 0} where
 module _ {Q S : Type 0} where
   -- The stretches after closing the superstep of this number, in which the stretches `ran` have run: those of the next superstep,
   -- or none after a fault.
-  abbrev pub Reopens : closings.Closed → ℕ → List (Option (PartValue S)) → StretchesValue Q S → Type 0
-  Reopens closed.Landed step ran v = IsReopened outcome.Landed step ran v × (v.fault ≡ None)
-  Reopens closed.Ended step ran v = (v.parts ≡ []) × ((f : ℕ × List ℕ) × (v.fault ≡ Some f))
+  abbrev pub Reopens : (S → List ℕ) → closings.Closed → ℕ → List (Option (PartValue S)) → StretchesValue Q S → Type 0
+  Reopens path closed.Landed step ran v = IsReopened path outcome.Landed step ran v × (v.fault ≡ None)
+  Reopens path closed.Ended step ran v = (v.parts ≡ []) × ((f : ℕ × List ℕ) × (v.fault ≡ Some f))
 
 -- whether the stretch is out
 abbrev pub out_at : {S : Type 0} → Option (Option (PartValue S)) → Bool

@@ -2,10 +2,14 @@ pub mod QueueValue
 pub mod Entries
 pub mod JobPlan
 pub mod Refusals
+pub mod Living
+pub mod Segments
+pub mod Sorted
 pub mod Changes
 pub mod Leaving
 pub mod HandedOut
 pub mod Grouping
+pub mod Groups
 pub mod AtRest
 pub mod EngineReading
 pub mod Steady

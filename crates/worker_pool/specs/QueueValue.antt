@@ -2,12 +2,14 @@
 use Rattle.std.specs.Prelude.{◌==◌, ◌||◌, ◌&&◌, ℕ, Bool, not, List, length, Option, Some, is_some}
 use Rattle.std.specs.Option.{unwrap_or}
 use Rattle.worker_pool.specs.declared.fault.Refused.{Refused}
+use Rattle.worker_pool.specs.Groups.{GroupValue}
 
 pub record QueueValue (E : Type 0) : Type 0 where
   pub engine : E
   pub first : Option Refused
-  -- the numbers of the groups that are ready
-  pub ready : List ℕ
+  pub ready : List GroupValue
+  -- whether the tasks were cut anew, and groups of the superstep before aren't back
+  pub awaits : Bool
 
 abbrev pub with_engine : {E : Type 0} → QueueValue E → E → QueueValue E
 with_engine b engine = record b { engine = engine }

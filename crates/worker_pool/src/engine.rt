@@ -9,6 +9,7 @@ pub trait Stretch: Drop {
     ghost use Rattle.std.specs.Prelude.{◌≡◌, ◌<◌, ◌+◌, ◌↔◌, ℕ, Bool, true, false, IsTrue, List, Option, IfOk, OnOk, map, nat_le};
     ghost use Rattle.std.specs.Option.{option_map};
     ghost use Rattle.programs.specs.Changes.{change_of};
+    ghost use Rattle.worker_pool.specs.Living.{living_after};
     ghost use Rattle.atomic_table.specs.Seated.{TableId};
 
     /// The mark of its engine.
@@ -22,6 +23,9 @@ pub trait Stretch: Drop {
 
     /// How many tasks it has.
     ghost len: { Self → ℕ };
+
+    /// The paths of its tasks, in their order.
+    ghost paths: { Self → List (List ℕ) };
 
     /// How many of its tasks have done their segments.
     ghost done: { Self → ℕ };
@@ -73,6 +77,7 @@ pub trait Stretch: Drop {
         ensures done { OnOk result (done self.new ≡ done self.old + 1) }
         ensures finished { OnOk result (finished self.new ≡ nat_le (len self.new) (done self.new)) }
         ensures len { OnOk result (len self.new ≡ len self.old) }
+        ensures paths { OnOk result (faulted self.new ≡ false → paths self.new ≡ paths self.old) }
         ensures mark { mark self.new ≡ mark self.old }
         ensures number { number self.new ≡ number self.old }
         ensures step { step self.new ≡ step self.old };
@@ -84,6 +89,7 @@ pub trait Stretch: Drop {
         ensures done { OnOk result (done self.new ≡ len self.old) }
         ensures finished { OnOk result (finished self.new ≡ true) }
         ensures len { OnOk result (len self.new ≡ len self.old) }
+        ensures paths { OnOk result (faulted self.new ≡ false → paths self.new ≡ paths self.old) }
         ensures mark { mark self.new ≡ mark self.old }
         ensures number { number self.new ≡ number self.old }
         ensures step { step self.new ≡ step self.old };
@@ -94,7 +100,8 @@ pub trait Stretch: Drop {
 
     /// Returns true if every task whose segment was run lives on, and none of them spawned a task.
     fn all_stay(&self) -> bool
-        ensures { IsTrue result ↔ stays self.now };
+        ensures stay { IsTrue result ↔ stays self.now }
+        ensures same { IsTrue result → finished self.now ≡ true → faulted self.now ≡ false → living_after (paths self.now) (told self.now) ≡ paths self.now };
 
     /// Returns what each of its tasks did to the list of tasks. There are none after a fault.
     fn changes(&self, alloc: Global) -> Result<Vec<Change>, AllocError>
@@ -114,18 +121,16 @@ pub enum Closed {
 /// [`run_engine`](crate::run_engine) runs it.
 ///
 /// A run returns only what its engine allows, whatever the engine does. But it fails or waits for ever if the engine breaks
-/// one of these rules, which no clause states:
-///
-/// * The stretches are numbered from 0 in path order.
-/// * If no task faulted, left or came in a superstep, the stretches of the next one have the same tasks.
-/// * A run ends by a fault in [`Engine::close`], with no task left, or at its limit.
+/// this rule, which no clause states: a run ends by a fault in [`Engine::close`], with no task left, or at its limit.
 pub trait Engine: Drop {
-    ghost use Rattle.std.specs.Prelude.{◌≡◌, ◌≢◌, ◌<◌, ◌+◌, ◌⊎◌, ℕ, Bool, true, false, Ok, Err, is_some, IfOk, IfSome, OnOk, OnErr, MatchOption};
+    ghost use Rattle.std.specs.Prelude.{◌≡◌, ◌≢◌, ◌<◌, ◌+◌, ◌⊎◌, ℕ, Bool, true, false, List, length, Ok, Err, is_some, IfOk, IfSome, OnOk, OnErr, MatchOption};
     ghost use Rattle.worker_pool.specs.declared.fault.Reason.TheVariants as reason;
     ghost use Rattle.atomic_table.specs.Seated.{TableId};
     ghost use Rattle.worker_pool.specs.declared.engine.Closed.{Closed};
     ghost use Rattle.worker_pool.specs.declared.engine.Closed.TheVariants as closed;
+    ghost use Rattle.superstep_memory.specs.PathOrder.{in_path_order};
     ghost use Rattle.worker_pool.specs.AtRest.{IsAtRest};
+    ghost use Rattle.worker_pool.specs.Living.{living_after, all_below};
 
     /// A stretch while it is out.
     type Stretch: Stretch;
@@ -145,8 +150,15 @@ pub trait Engine: Drop {
     /// How many stretches they are cut into.
     ghost len: { Self → ℕ };
 
-    /// How many tasks the stretch of this number has; none if it is out.
-    ghost size: { Self → ℕ → ℕ };
+    /// The paths of the tasks of the stretch of this number, in their order; none if it is out.
+    ghost paths: { Self → ℕ → List (List ℕ) };
+
+    /// The paths of the tasks that live after this superstep because of the stretch of this number, which has run and is back: of
+    /// those of its tasks that go on, each followed by those of the tasks that it spawned.
+    ghost living: { Self → ℕ → List (List ℕ) };
+
+    /// Whether a task of the stretch of this number, which is back, has faulted.
+    ghost faulted: { Self → ℕ → Bool };
 
     /// Whether the stretch of this number isn't out, and its tasks haven't done their segments.
     ghost ready: { Self → ℕ → Bool };
@@ -194,7 +206,7 @@ pub trait Engine: Drop {
 
     /// Returns the number of tasks in the stretch of this number, or 0 if it is out. Doesn't allocate.
     fn length(&self, number: usize) -> usize
-        ensures { result ≡ size self.now number };
+        ensures { result ≡ length (paths self.now number) };
 
     /// Returns true if the stretch of this number isn't out, and its tasks haven't done their segments. Doesn't allocate.
     fn is_ready(&self, number: usize) -> bool
@@ -214,11 +226,14 @@ pub trait Engine: Drop {
             ((ready self.old number ≡ false) × (self.new ≡ self.old))
             (λ stretch. lends self.old self.new number stretch)) }
         ensures stretch { IfOk result (λ taken. IfSome taken (λ stretch. (Self.Stretch.mark stretch ≡ mark self.old)
-            × (Self.Stretch.number stretch ≡ number) × (Self.Stretch.step stretch ≡ step self.old))) }
+            × (Self.Stretch.number stretch ≡ number) × (Self.Stretch.step stretch ≡ step self.old)
+            × (Self.Stretch.paths stretch ≡ paths self.old number))) }
         ensures out { IfOk result (λ taken. IfSome taken (λ stretch. (out self.old number ≡ false) × (out self.new number ≡ true))) }
         ensures gone { IfOk result (λ taken. IfSome taken (λ stretch. (number < len self.old) × (ready self.new number ≡ false))) }
         ensures others { (k : ℕ) → out self.old k ≡ true → out self.new k ≡ true }
+        ensures apart { (k : ℕ) → k ≢ number → out self.new k ≡ out self.old k }
         ensures rest { (k : ℕ) → k ≢ number → ready self.new k ≡ ready self.old k }
+        ensures tasks { (k : ℕ) → k ≢ number → (paths self.new k ≡ paths self.old k) × (living self.new k ≡ living self.old k) × (faulted self.new k ≡ faulted self.old k) }
         ensures stays { stays self.old → stays self.new }
         ensures len { len self.new ≡ len self.old }
         ensures step { step self.new ≡ step self.old }
@@ -236,8 +251,12 @@ pub trait Engine: Drop {
         ensures taken { accepts self.old stretch }
         ensures added { self.new ≡ with_stretch self.old stretch }
         ensures gone { (Self.Stretch.number stretch < len self.old) × (ready self.old (Self.Stretch.number stretch) ≡ false) }
-        ensures others { (k : ℕ) → out self.old k ≡ true → k ≢ Self.Stretch.number stretch → out self.new k ≡ true }
+        ensures others { (k : ℕ) → k ≢ Self.Stretch.number stretch → out self.new k ≡ out self.old k }
+        ensures back { out self.new (Self.Stretch.number stretch) ≡ false }
         ensures rest { (k : ℕ) → ready self.new k ≡ ready self.old k }
+        ensures living { living self.new (Self.Stretch.number stretch) ≡ living_after (Self.Stretch.paths stretch) (Self.Stretch.told stretch) }
+        ensures faulted { faulted self.new (Self.Stretch.number stretch) ≡ Self.Stretch.faulted stretch }
+        ensures tasks { (k : ℕ) → k ≢ Self.Stretch.number stretch → (paths self.new k ≡ paths self.old k) × (living self.new k ≡ living self.old k) × (faulted self.new k ≡ faulted self.old k) }
         ensures stays { stays self.old → Self.Stretch.stays stretch → stays self.new }
         ensures len { len self.new ≡ len self.old }
         ensures step { step self.new ≡ step self.old }
@@ -257,8 +276,10 @@ pub trait Engine: Drop {
         ensures closed { IfOk result (λ closed. closes self.old self.new closed) }
         ensures none_out { OnOk result ((k : ℕ) → out self.new k ≡ false) }
         ensures next { result ≡ Ok closed.Landed → (step self.new ≡ step self.old + 1) × stays self.new
-            × IsAtRest (ready self.new) (size self.new) (len self.new) (count self.new) }
-        ensures same { result ≡ Ok closed.Landed → stays self.old → len self.new ≡ len self.old }
+            × IsAtRest (ready self.new) (paths self.new) (len self.new) (count self.new) }
+        ensures calm { result ≡ Ok closed.Landed → (k : ℕ) → faulted self.old k ≡ false }
+        ensures same { result ≡ Ok closed.Landed → stays self.old → (len self.new ≡ len self.old) × ((k : ℕ) → k < len self.old → paths self.new k ≡ living self.old k) }
+        ensures living { result ≡ Ok closed.Landed → all_below (paths self.new) (len self.new) ≡ in_path_order (λ p. p) (all_below (living self.old) (len self.old)) }
         ensures ends { result ≡ Ok closed.Ended → ended self.new ≡ true }
         ensures left { OnOk result (ended self.new ≡ true → leaves self.new ≡ true) }
         ensures mark { mark self.new ≡ mark self.old }

@@ -1,7 +1,13 @@
 //! Participants, grouped by the stretch of their tasks.
-ghost use Rattle.std.specs.Prelude.{◌≡◌, ◌≤◌, ◌∷◌, ◌++◌, [], IfOk, OnOk, OnErr, IsPermutation, map, length, sum_by};
-ghost use Rattle.worker_pool.specs.AtRest.{tasks_below};
-ghost use Rattle.worker_pool.specs.Grouping.{numbers_from, in_turn};
+ghost use Rattle.std.specs.Prelude.{◌≡◌, ◌∷◌, ◌++◌, [], None, IfOk, OnOk, OnErr, map};
+ghost use Rattle.std.specs.Option.{option_map};
+ghost use Rattle.std.specs.Ordering.{nat_cmp};
+ghost use Rattle.std.specs.Cmp.Lexicographic.{slice_cmp};
+ghost use Rattle.superstep_memory.specs.PathOrder.{in_path_order};
+ghost use Rattle.worker_pool.specs.Grouping.{numbers_from};
+ghost use Rattle.worker_pool.specs.Groups.{group_of, groups_with, paths_in, empty_in};
+ghost use Rattle.worker_pool.specs.Living.{all_below};
+ghost use Rattle.worker_pool.specs.Sorted.{is_in_order};
 
 use crate::engine::Engine;
 use crate::participant::{Group, Participant};
@@ -9,24 +15,28 @@ use crate::queue::Running;
 use std::alloc::{AllocError, Global};
 use std::cmp::Ordering;
 use std::collections::VecDeque;
+use std::mem;
 use superstep_memory::path::is_before;
 
 // Compares two participants by path.
-fn by_path<J: Running>(one: &Participant<J>, other: &Participant<J>) -> Ordering {
+fn by_path<J: Running>(one: &Participant<J>, other: &Participant<J>) -> Ordering
+    ensures { result ≡ slice_cmp nat_cmp one.now.path.items other.now.path.items }
+{
     one.path.as_slice().cmp(&other.path.as_slice())
 }
 
-// Compares two groups by number.
-fn by_number<J: Running>(one: &Group<J>, other: &Group<J>) -> Ordering {
-    one.number.cmp(&other.number)
-}
-
-// Returns true if the participants are in path order.
-fn are_in_order<J: Running>(participants: &[Participant<J>]) -> bool {
-    for (one, next) in participants.iter().zip(participants.iter().skip(1)) {
-        if is_before(next.path.as_slice(), one.path.as_slice()) {
-            return false;
+// Returns true if no participant comes before the one in front of it, by path.
+fn are_in_order<J: Running>(participants: &[Participant<J>]) -> bool
+    ensures { result ≡ is_in_order (map (λ p. p.path.items) participants.now) }
+{
+    let mut rest = participants;
+    while let Some((one, after)) = rest.split_first() {
+        if let Some(next) = after.first() {
+            if is_before(next.path.as_slice(), one.path.as_slice()) {
+                return false;
+            }
         }
+        rest = after;
     }
     true
 }
@@ -34,7 +44,7 @@ fn are_in_order<J: Running>(participants: &[Participant<J>]) -> bool {
 // Sorts participants by path. Mostly they are sorted already: only a spawned task whose spawner has spawned earlier tasks that
 // still live is out of place.
 fn in_path_order<J: Running>(participants: &mut Vec<Participant<J>>)
-    ensures { IsPermutation participants.old.items participants.new.items }
+    ensures { map (λ p. p.path.items) participants.new.items ≡ in_path_order (λ p. p) (map (λ p. p.path.items) participants.old.items) }
 {
     if are_in_order(participants) {
         return;
@@ -44,59 +54,111 @@ fn in_path_order<J: Running>(participants: &mut Vec<Participant<J>>)
     ));
 }
 
-/// Groups that are back from the tree and whose tasks were cut anew. Their participants have yet to be grouped. Its type keeps
-/// that they have at least `count` participants.
+/// The groups of a superstep in which tasks came or left, as they come back: a place for each. Its type keeps that `missing` of them
+/// aren't back.
 #[derive(Drop)]
 pub(crate) struct Coming<J: Running> {
-    groups: Vec<Group<J>>,
-    pub(crate) count: usize,
-    ghost own: { count ≤ sum_by (λ g. length g.participants.items) groups.items },
+    pub(crate) places: Vec<Option<Group<J>>>,
+    pub(crate) missing: usize,
+    ghost own: { missing ≡ empty_in places.items },
+}
+
+// Moves the participants of all groups to the end of a list, in the order of the places.
+fn gather<J: Running>(
+    places: &mut Vec<Option<Group<J>>>,
+    participants: &mut Vec<Participant<J>>,
+) -> Result<(), AllocError>
+    ensures { OnOk result (map (λ p. p.path.items) participants.new.items
+        ≡ map (λ p. p.path.items) participants.old.items ++ paths_in (map (option_map (λ g. group_of g.number (map (λ p. p.path.items) g.participants.items))) places.old.items)) }
+{
+    let mut at = 0;
+    while at < places.len() {
+        if let Some(mut group) = mem::replace(&mut places[at], None) {
+            participants.append(&mut group.participants)?;
+        }
+        at += 1;
+    }
+    Ok(())
 }
 
 impl<J: Running> Coming<J> {
-    /// Creates an empty collection of groups.
+    ghost use Rattle.std.specs.Prelude.{◌≡◌, ◌<◌, [], None, Some, IfOk, OnOk, map, slice_get, slice_set};
+    ghost use Rattle.std.specs.Option.{option_map};
+    ghost use Rattle.superstep_memory.specs.PathOrder.{in_path_order};
+    ghost use Rattle.worker_pool.specs.Grouping.{numbers_from};
+    ghost use Rattle.worker_pool.specs.Groups.{group_of, places_for, paths_in};
+    ghost use Rattle.worker_pool.specs.HandedOut.{Each};
+    ghost use Rattle.worker_pool.specs.Steady.{AreDistinct};
+
+    /// Creates it without places.
     pub(crate) fn new(alloc: Global) -> Self {
         Coming {
-            groups: Vec::new(alloc),
-            count: 0,
+            places: Vec::new(alloc),
+            missing: 0,
         }
     }
 
-    /// Adds a group.
-    pub(crate) fn add(&mut self, group: Group<J>) -> Result<(), AllocError> {
-        let count = group.participants.len();
-        match self.groups.push(group) {
-            Ok(()) => {
-                self.count = self.count.saturating_add(count);
-                Ok(())
-            }
-            Err(_) => Err(AllocError),
-        }
+    // Removes all places.
+    fn clear(&mut self)
+        ensures { self.new.places.items ≡ [] }
+    {
+        self.places.clear();
+        self.missing = 0;
     }
 
-    /// Adds all groups of a list.
-    pub(crate) fn add_all(&mut self, groups: &mut VecDeque<Group<J>>) -> Result<(), AllocError> {
-        while let Some(group) = groups.pop_front() {
-            self.add(group)?;
+    // Makes `len` empty places. There are none yet.
+    fn make_places(&mut self, len: usize) -> Result<(), AllocError>
+        requires { self.old.places.items ≡ [] }
+        ensures { OnOk result (self.new.places.items ≡ map (λ k. None) (numbers_from 0 len)) }
+    {
+        self.places.reserve(len)?;
+        while self.places.len() < len {
+            self.places.push(None)?;
+            let count = self.places.len();
+            self.missing = count;
         }
         Ok(())
     }
 
-    /// Returns the participants of all groups, in path order, and removes the groups.
-    pub(crate) fn take(&mut self) -> Result<Vec<Participant<J>>, AllocError>
-        ensures { IfOk result (λ participants. self.old.count ≤ length participants.items) }
+    /// Makes `len` places, and puts these groups into theirs.
+    pub(crate) fn open(
+        &mut self,
+        len: usize,
+        mut groups: VecDeque<Group<J>>,
+    ) -> Result<(), AllocError>
+        requires within { Each (λ n. n < len) (map (λ g. g.number) groups.items) }
+        requires apart { AreDistinct (map (λ g. g.number) groups.items) }
+        ensures { OnOk result (map (option_map (λ g. group_of g.number (map (λ p. p.path.items) g.participants.items))) self.new.places.items
+            ≡ places_for len (map (λ g. group_of g.number (map (λ p. p.path.items) g.participants.items)) groups.items)) }
     {
-        let mut participants = Vec::with_capacity(*self.groups.allocator(), self.count)?;
-        self.count = 0;
-        self.groups
-            .sort_unstable_by(|one: &Group<J>, other: &Group<J>| by_number(other, one));
-        while let Some(group) = self.groups.pop() {
-            let Group {
-                participants: mut more,
-                ..
-            } = group;
-            participants.append(&mut more)?;
+        self.clear();
+        self.make_places(len)?;
+        while let Some(group) = groups.pop_front() {
+            self.put(group);
         }
+        Ok(())
+    }
+
+    /// Puts a group into its place, which is empty.
+    pub(crate) fn put(&mut self, group: Group<J>)
+        requires { slice_get self.old.places.items group.number ≡ Some None }
+        ensures { self.new.places.items ≡ slice_set self.old.places.items group.number (Some group) }
+    {
+        let number = group.number;
+        self.places[number] = Some(group);
+        self.missing -= 1;
+    }
+
+    // Returns the participants of all groups, in path order, and removes the places. There are `count` of them.
+    fn take(&mut self, count: usize) -> Result<Vec<Participant<J>>, AllocError>
+        ensures { IfOk result (λ participants. map (λ p. p.path.items) participants.items
+            ≡ in_path_order (λ p. p) (paths_in (map (option_map (λ g. group_of g.number (map (λ p. p.path.items) g.participants.items))) self.old.places.items))) }
+    {
+        let mut participants = Vec::with_capacity(*self.places.allocator(), count)?;
+        let gathered = gather(&mut self.places, &mut participants);
+        self.places.clear();
+        self.missing = 0;
+        gathered?;
         in_path_order(&mut participants);
         Ok(participants)
     }
@@ -129,16 +191,14 @@ fn push_first<J: Running>(
     }
 }
 
-/// Groups participants by the stretches of their tasks. The participants are in path order, and no worker holds a stretch.
-/// Removes those that it groups from the end of the list.
+/// Groups participants by the stretches of their tasks. The participants are those of all live tasks, in path order. No worker holds
+/// a stretch.
 pub(crate) fn groups_of<E: Engine, J: Running>(
     engine: &E,
     participants: &mut Vec<Participant<J>>,
 ) -> Result<VecDeque<Group<J>>, AllocError>
-    requires enough { tasks_below (E.size engine.now) (E.len engine.now) ≤ length participants.old.items }
-    ensures order { IfOk result (λ groups. participants.new.items ++ in_turn (λ g. g.participants.items) groups.items ≡ participants.old.items) }
-    ensures numbers { IfOk result (λ groups. map (λ g. g.number) groups.items ≡ numbers_from 0 (E.len engine.now)) }
-    ensures sizes { IfOk result (λ groups. map (λ g. length g.participants.items) groups.items ≡ map (E.size engine.now) (numbers_from 0 (E.len engine.now))) }
+    requires all { map (λ p. p.path.items) participants.old.items ≡ all_below (E.paths engine.now) (E.len engine.now) }
+    ensures { IfOk result (λ groups. map (λ g. group_of g.number (map (λ p. p.path.items) g.participants.items)) groups.items ≡ groups_with (E.paths engine.now) (E.len engine.now)) }
 {
     let mut groups = VecDeque::new(*participants.allocator());
     let count = engine.len();
@@ -155,4 +215,16 @@ pub(crate) fn groups_of<E: Engine, J: Running>(
         )?;
     }
     Ok(groups)
+}
+
+/// Groups the participants of the groups that have come back by the stretches of the live tasks. None is missing. Removes the places.
+pub(crate) fn regrouped<E: Engine, J: Running>(
+    engine: &E,
+    coming: &mut Coming<J>,
+) -> Result<VecDeque<Group<J>>, AllocError>
+    requires all { in_path_order (λ p. p) (paths_in (map (option_map (λ g. group_of g.number (map (λ p. p.path.items) g.participants.items))) coming.old.places.items)) ≡ all_below (E.paths engine.now) (E.len engine.now) }
+    ensures { IfOk result (λ groups. map (λ g. group_of g.number (map (λ p. p.path.items) g.participants.items)) groups.items ≡ groups_with (E.paths engine.now) (E.len engine.now)) }
+{
+    let mut participants = coming.take(engine.count())?;
+    groups_of(engine, &mut participants)
 }

@@ -6,7 +6,8 @@
 //! * `work`: the loop of one worker.
 //! * `shared`: what all workers share: the queue under a lock, and the tree without one.
 //! * `queue`, `groups`: which stretches are ready, and which participants are back from the tree.
-//! * `hand`: a stretch while a worker holds it. `participant`: a task's token on the tree.
+//! * `hand`: a stretch while a worker holds it. `participant`: a task's token on the tree. `led`: the sign that a token has advanced
+//!   the tree.
 //! * `tree`, `leaves`: the calls of the tree, and the leaves of its tasks.
 //! * `hooks`: what a caller hooks into a run. `fault`: why a run leaves nothing.
 //! * `specs/Leaving.antt`: what a run of a program leaves; `JobPlan.antt`: when the tree of a run ends.
@@ -19,6 +20,7 @@ mod hand;
 mod hooks;
 mod job;
 mod leaves;
+mod led;
 mod participant;
 mod program;
 mod program_engine;

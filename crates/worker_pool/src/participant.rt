@@ -2,9 +2,10 @@
 ghost use Rattle.std.specs.Prelude.{◌≡◌, true, is_some};
 ghost use Rattle.worker_pool.specs.HandedOut.{IsFor};
 
-use crate::queue::Running;
+use crate::hand::Changes;
+use crate::queue::{GroupList, Running};
 use pass_list::list::Pass;
-use std::marker::PhantomData;
+use std::marker::{Model, PhantomData};
 use superstep_memory::path::Path;
 use tier_table::tokens::{Crew, Door};
 
@@ -40,34 +41,61 @@ pub(crate) struct Group<J: Running> {
     pub(crate) participants: Vec<Participant<J>>,
 }
 
-/// A group that a worker holds, the superstep in which the worker got it, and the pass with which it is handed back. Its type
-/// keeps that the pass is for this group and superstep.
+/// A group whose stretch was delivered, and what the tasks did to the list of tasks. In contracts it is what the group leaves: the
+/// paths of the tasks that live on, unless one of them has faulted.
 #[derive(Drop)]
-pub(crate) struct HeldGroup<J: Running> {
+pub(crate) struct Leaving<J: Running> {
     pub(crate) group: Group<J>,
-    pub(crate) step: u32,
-    pub(crate) pass: Pass,
-    ghost own: { IsFor J.groups step group.number pass },
+    pub(crate) changes: Changes,
+    pub(crate) faulted: bool,
 }
 
-impl<J: Running> HeldGroup<J> {
+impl<J: Running> Model for Leaving<J> {
+    ghost use Rattle.std.specs.Prelude.{map};
+    ghost use Rattle.worker_pool.specs.Living.{LeftValue, living_by};
+
+    ghost Value = { LeftValue };
+
+    ghost view = { λ l. record { paths = living_by (map (λ p. p.path.items) l.group.participants.items) l.changes; faulted = l.faulted } };
+}
+
+/// A group whose stretch was delivered, the superstep of the stretch, and the pass with which the group is handed back. The pass
+/// knows what the group leaves. Its type keeps that the pass is for this group and superstep.
+#[derive(Drop)]
+pub(crate) struct HeldGroup<J: Running, L: GroupList> {
+    pub(crate) group: Group<J>,
+    pub(crate) step: u32,
+    pub(crate) pass: Pass<Leaving<J>>,
+    pub(crate) of: PhantomData<L>,
+    ghost own: { IsFor L.groups step group.number pass },
+}
+
+impl<J: Running, L: GroupList> HeldGroup<J, L> {
     /// Creates a held group from a group, its superstep and its pass.
-    pub(crate) fn new(group: Group<J>, step: u32, pass: Pass) -> Self
-        requires { IsFor J.groups step group.number pass }
-        ensures { result.group ≡ group }
+    pub(crate) fn new(group: Group<J>, step: u32, pass: Pass<Leaving<J>>) -> Self
+        requires { IsFor L.groups step group.number pass }
+        ensures group { result.group ≡ group }
+        ensures pass { result.pass ≡ pass }
     {
-        HeldGroup { group, step, pass }
+        HeldGroup {
+            group,
+            step,
+            pass,
+            of: PhantomData,
+        }
     }
 
     /// Returns the group and its pass.
-    pub(crate) fn into_parts(self) -> (Group<J>, Pass)
+    pub(crate) fn into_parts(self) -> (Group<J>, Pass<Leaving<J>>)
         ensures group { result.0 ≡ self.group }
-        ensures pass { IsFor J.groups self.step self.group.number result.1 }
+        ensures pass { result.1 ≡ self.pass }
+        ensures is_for { IsFor L.groups self.step self.group.number result.1 }
     {
         let HeldGroup {
             group,
             step: _,
             pass,
+            of: _,
         } = self;
         (group, pass)
     }
@@ -76,7 +104,7 @@ impl<J: Running> HeldGroup<J> {
 /// The pass of a worker that has stopped. A worker gets it when it sees that workers must stop.
 #[derive(Drop)]
 pub(crate) struct Stopped<J: Running> {
-    pub(crate) pass: Pass,
+    pub(crate) pass: Pass<()>,
     pub(crate) of: PhantomData<J>,
     ghost own: { (pass.name ≡ J.stops) × (is_some pass.held ≡ true) },
 }

@@ -105,6 +105,7 @@ where
     P::Task: Send,
     requires log { stretches.name ≡ log.now }
     requires fresh { AreFresh 0 stretches.parts × (stretches.count ≡ length (tasks_in stretches.parts)) }
+    requires paths { map P.Task.path_of (tasks_in stretches.parts) ≡ children [] 0 stretches.count }
     requires given { stretches.given ≡ 0 }
     requires workers { (1 ≤ workers) × (workers ≤ 64) }
     requires plan { IsJobPlan advance.plan }

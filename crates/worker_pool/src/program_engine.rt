@@ -44,6 +44,8 @@ impl<'p, P: TaskLoop> engine::Stretch for Taken<'p, P> {
 
     ghost len = { λ s. length s.part.tasks };
 
+    ghost paths = { λ s. map P.Task.path_of s.part.tasks };
+
     ghost done = { done_of };
 
     ghost finished = { λ s. s.part.done };
@@ -137,9 +139,9 @@ impl<'t, 'p, P: Program> Run<'t, 'p, P> {
 }
 
 impl<'t, 'p, P: TaskLoop> Engine for Run<'t, 'p, P> {
-    ghost use Rattle.std.specs.Prelude.{◌≡◌, Some, true, is_some, length, slice_get};
+    ghost use Rattle.std.specs.Prelude.{◌≡◌, Some, true, is_some, length, map, slice_get};
     ghost use Rattle.program_stretches.specs.Parts.{reading_of, covers};
-    ghost use Rattle.program_stretches.specs.StretchesValue.{status_in, can_leave, ready_at, tasks_at, with_slot};
+    ghost use Rattle.program_stretches.specs.StretchesValue.{status_in, can_leave, ready_at, tasks_at, living_at, faulted_at, with_slot};
     ghost use Rattle.program_stretches.specs.Closing.{IsTaken, Accepts, IsSameRun, AllStay};
     ghost use Rattle.worker_pool.specs.Leaving.{Gives, IsClosedBy, out_at};
 
@@ -155,7 +157,11 @@ impl<'t, 'p, P: TaskLoop> Engine for Run<'t, 'p, P> {
 
     ghost len = { λ v. length v.parts };
 
-    ghost size = { λ v number. length (tasks_at (slice_get v.parts number)) };
+    ghost paths = { λ v number. map P.Task.path_of (tasks_at (slice_get v.parts number)) };
+
+    ghost living = { λ v number. map P.Task.path_of (living_at (slice_get v.parts number)) };
+
+    ghost faulted = { λ v number. faulted_at (slice_get v.parts number) };
 
     ghost ready = { λ v number. ready_at (slice_get v.parts number) };
 
@@ -239,7 +245,7 @@ pub fn close_stretches<P: Program>(
     ensures memory { result ≡ Err reason.Memory → covers true stretches.old.count 0 stretches.old.parts ≡ true }
     ensures full { result ≢ Err reason.Full }
     ensures closed { IfOk result (λ closed. IsClosedBy (reading_of P.frame P.may P.meant P.Task.path_of) stretches.old stretches.new closed) }
-    ensures reopened { IfOk result (λ closed. Reopens closed stretches.old.step stretches.old.parts stretches.new) }
+    ensures reopened { IfOk result (λ closed. Reopens P.Task.path_of closed stretches.old.step stretches.old.parts stretches.new) }
     ensures same { IsSameRun stretches.old stretches.new }
     ensures given { stretches.new.given ≡ stretches.old.given }
 {

@@ -1,15 +1,15 @@
 //! The engine that the workers of a run share, and which of its stretches are ready.
-ghost use Rattle.std.specs.Prelude.{◌≡◌, ◌⊎◌, ◌+◌, [], ℕ, true, false, None, Err, IsTrue, IfOk, IfErr, OnOk, OnErr, map};
-ghost use Rattle.worker_pool.specs.HandedOut.{AreNew, AreNamed};
-ghost use Rattle.worker_pool.specs.Refusals.{IsOfWorkers};
+ghost use Rattle.std.specs.Prelude.{◌≡◌, [], true, false, None, Err, IfOk, IfErr};
+ghost use Rattle.worker_pool.specs.HandedOut.{AreNew};
 ghost use Rattle.worker_pool.specs.declared.fault.Reason.TheVariants as reason;
 ghost use Rattle.worker_pool.specs.declared.fault.Refused.TheVariants as refused;
 
-use crate::engine::{Closed, Engine};
+use crate::engine::{Closed, Engine, Stretch};
 use crate::fault::{Reason, Refused};
-use crate::groups::{Coming, groups_of, push_group};
-use crate::hand::HeldStretch;
-use crate::participant::{Group, HeldGroup, Stopped};
+use crate::groups::{Coming, push_group, regrouped};
+use crate::hand::{Changes, HeldStretch, RanStretch};
+use crate::led::Led;
+use crate::participant::{Group, HeldGroup, Leaving, Stopped};
 use pass_list::list::PassList;
 use std::alloc::{AllocError, Global};
 use std::collections::VecDeque;
@@ -17,7 +17,7 @@ use std::marker::{Brand, Model, PhantomData};
 use std::mem;
 
 /// Identifies a run in contracts: the mark of its engine, the number of workers, the tree at which they meet, and the lists of
-/// the passes for stretches, for groups, and for workers that have stopped. Each run picks a type for it.
+/// the passes for stretches, and for workers that have stopped. Each run picks a type for it.
 pub trait Running {
     ghost use Rattle.std.specs.Prelude.{ℕ};
     ghost use Rattle.tier_table.specs.Holding.{Named};
@@ -31,9 +31,14 @@ pub trait Running {
 
     ghost passes: { TableId };
 
-    ghost groups: { TableId };
-
     ghost stops: { TableId };
+}
+
+/// Identifies in contracts the list of the passes for groups of a run. Each run picks a type for it.
+pub trait GroupList {
+    ghost use Rattle.atomic_table.specs.Seated.{TableId};
+
+    ghost groups: { TableId };
 }
 
 impl Running for Brand {
@@ -50,58 +55,47 @@ impl Running for Brand {
 
     ghost passes = { record { words = 0; slots = 0; views_name = 0; atom = 0; block = 0; offset = 0; slot_names = [] } };
 
-    ghost groups = { record { words = 0; slots = 0; views_name = 0; atom = 0; block = 0; offset = 0; slot_names = [] } };
-
     ghost stops = { record { words = 0; slots = 0; views_name = 0; atom = 0; block = 0; offset = 0; slot_names = [] } };
+}
+
+impl GroupList for Brand {
+    ghost use Rattle.std.specs.Prelude.{[]};
+
+    ghost groups = { record { words = 0; slots = 0; views_name = 0; atom = 0; block = 0; offset = 0; slot_names = [] } };
 }
 
 /// The pass lists of a run.
 #[derive(Drop)]
-pub(crate) struct Lists {
+pub(crate) struct Lists<J: Running> {
     /// Passes for stretches that workers hold.
-    pub(crate) stretches: PassList,
-    /// Passes for groups that workers hold.
-    pub(crate) groups: PassList,
+    pub(crate) stretches: PassList<()>,
+    /// Passes for groups that workers hold. Each knows what its group leaves.
+    pub(crate) groups: PassList<Leaving<J>>,
     /// Passes for workers that have stopped.
-    pub(crate) stops: PassList,
-}
-
-impl Lists {
-    /// Creates lists without passes.
-    pub(crate) fn new(alloc: Global) -> Result<Lists, AllocError>
-        ensures { IfOk result AreNew }
-    {
-        Ok(Lists {
-            stretches: PassList::new(alloc)?,
-            groups: PassList::new(alloc)?,
-            stops: PassList::new(alloc)?,
-        })
-    }
+    pub(crate) stops: PassList<()>,
 }
 
 /// The engine of a run, the groups of its participants, and the first refusal. Its type keeps that the engine has the mark of the
 /// run, that a worker that couldn't be started is one of the run, and that each pass for a stretch is for one of this superstep
-/// that is out. Until workers must stop, it also keeps that each ready group has the number of a ready stretch, that no two of
-/// them have the same number, and that no worker has stopped.
+/// that is out. Until workers must stop, it also keeps that no worker has stopped, that each ready group has the paths of the tasks
+/// of its stretch, in their order, and that no group is lost.
 #[derive(Drop)]
-pub(crate) struct Queue<E: Engine, J: Running> {
+pub(crate) struct Queue<E: Engine, J: Running, L: GroupList> {
     engine: E,
-    lists: Lists,
+    lists: Lists<J>,
     // The groups of ready stretches. No worker holds them.
     ready: VecDeque<Group<J>>,
     // The groups of this superstep that are back from the tree. If all tasks stay, they become ready when it is closed.
     back: VecDeque<Group<J>>,
-    // After tasks came or left: the groups that are back from the tree and whose participants have yet to be grouped.
+    // After tasks came or left: a place for each group of the superstep before.
     coming: Coming<J>,
     // Whether a task came or left in a stretch of this superstep that was delivered.
     moves: bool,
-    // Whether the live tasks were cut anew when the last superstep was closed.
-    is_cut: bool,
-    // Whether they were cut anew, and not all of their participants are back.
+    // Whether tasks came or left in the superstep before, and not all of its groups are back.
     awaits: bool,
     // The first refusal of the run.
     first: Option<Refused>,
-    of: PhantomData<J>,
+    of: PhantomData<(J, L)>,
 }
 
 /// What a worker does next.
@@ -124,47 +118,66 @@ pub(crate) enum HandedBack {
     Ended,
 }
 
-impl<E: Engine, J: Running> Model for Queue<E, J> {
+impl<E: Engine, J: Running, L: GroupList> Model for Queue<E, J, L> {
     ghost use Rattle.std.specs.Prelude.{map};
+    ghost use Rattle.std.specs.Option.{option_map};
     ghost use Rattle.worker_pool.specs.EngineReading.{read_by};
+    ghost use Rattle.worker_pool.specs.Groups.{group_of};
     ghost use Rattle.worker_pool.specs.QueueValue.{QueueValue};
     ghost use Rattle.worker_pool.specs.QueueState.{IsQueue};
 
     ghost Value = { QueueValue E };
 
-    ghost view = { λ b. record { engine = b.engine; first = b.first; ready = map (λ g. g.number) b.ready.items } };
+    ghost view = { λ b. record {
+      engine = b.engine;
+      first = b.first;
+      ready = map (λ g. group_of g.number (map (λ p. p.path.items) g.participants.items)) b.ready.items;
+      awaits = b.awaits;
+    } };
 
-    ghost invariant = { λ b. IsQueue (read_by E.mark E.len E.count E.size E.ready E.out E.stays E.step E.ended E.leaves) J.mark J.workers J.passes J.groups J.stops
+    ghost invariant = { λ b. IsQueue
+        (read_by E.mark E.len E.count E.paths E.living E.faulted E.ready E.out E.stays E.step E.ended E.leaves)
+        J.mark J.workers J.passes L.groups J.stops
         (record {
           engine = b.engine;
           lists = b.lists;
-          ready = map (λ g. g.number) b.ready.items;
-          back = map (λ g. g.number) b.back.items;
+          ready = map (λ g. group_of g.number (map (λ p. p.path.items) g.participants.items)) b.ready.items;
+          back = map (λ g. group_of g.number (map (λ p. p.path.items) g.participants.items)) b.back.items;
           moves = b.moves;
-          cut = b.is_cut;
           awaits = b.awaits;
+          places = map (option_map (λ g. group_of g.number (map (λ p. p.path.items) g.participants.items))) b.coming.places.items;
           first = b.first;
         }) };
 }
 
-impl<E: Engine, J: Running> Queue<E, J> {
-    ghost use Rattle.std.specs.Prelude.{◌≡◌, ◌⊎◌, [], None, Err, true, false, IsTrue, IfOk, IfSome, IfErr, OnOk, OnErr, map};
+impl<E: Engine, J: Running, L: GroupList> Queue<E, J, L> {
+    ghost use Rattle.std.specs.Prelude.{◌≡◌, ◌≢◌, [], None, Some, Err, true, false, is_some, IsTrue, IfOk, IfSome, IfErr, OnOk, OnErr, map};
     ghost use Rattle.worker_pool.specs.QueueValue.{with_engine, refused_by, is_over, is_idle};
     ghost use Rattle.worker_pool.specs.AtRest.{CanBegin};
-    ghost use Rattle.worker_pool.specs.Grouping.{numbers_from};
-    ghost use Rattle.worker_pool.specs.HandedOut.{AreNew, AreNamed};
+    ghost use Rattle.worker_pool.specs.Groups.{group_of, groups_with};
+    ghost use Rattle.worker_pool.specs.Changes.{Tells};
+    ghost use Rattle.worker_pool.specs.HandedOut.{AreNew, AreNamed, AreLeft};
+    ghost use Rattle.worker_pool.specs.Living.{living_by};
     ghost use Rattle.worker_pool.specs.Refusals.{IsOfWorkers, refusal_of};
     ghost use Rattle.worker_pool.specs.declared.fault.Reason.TheVariants as reason;
     ghost use Rattle.worker_pool.specs.declared.fault.Refused.TheVariants as refused;
 
-    /// Creates a queue for this engine. None of its stretches is out or has run. `ready` is empty, or has the groups of all its
-    /// stretches, by number.
-    pub(crate) fn new(alloc: Global, engine: E, lists: Lists, ready: VecDeque<Group<J>>) -> Self
+    /// Creates a queue for this engine. None of its stretches is out or has run. `ready` has the groups of all its stretches, by
+    /// number, unless the run is refused from the start.
+    pub(crate) fn new(
+        alloc: Global,
+        engine: E,
+        lists: Lists<J>,
+        ready: VecDeque<Group<J>>,
+        first: Option<Refused>,
+    ) -> Self
         requires mark { E.mark engine ≡ J.mark }
-        requires lists { AreNew lists × AreNamed J.passes J.groups J.stops lists }
-        requires begins { CanBegin (E.ready engine) (E.out engine) (E.size engine) (E.len engine) (E.count engine) (E.stays engine) (E.ended engine) (E.leaves engine) }
-        requires groups { (ready.items ≡ []) ⊎ (map (λ g. g.number) ready.items ≡ numbers_from 0 (E.len engine)) }
-        ensures { result ≡ record { engine = engine; first = None; ready = map (λ g. g.number) ready.items } }
+        requires lists { AreNew lists × AreNamed J.passes L.groups J.stops lists }
+        requires begins { CanBegin (E.ready engine) (E.out engine) (E.paths engine) (E.len engine) (E.count engine) (E.stays engine) (E.ended engine) (E.leaves engine) }
+        requires groups { first ≡ None → map (λ g. group_of g.number (map (λ p. p.path.items) g.participants.items)) ready.items ≡ groups_with (E.paths engine) (E.len engine) }
+        requires refused { IfSome first (IsOfWorkers J.workers) }
+        ensures engine { result.engine ≡ engine }
+        ensures first { result.first ≡ first }
     {
         Queue {
             engine,
@@ -173,9 +186,8 @@ impl<E: Engine, J: Running> Queue<E, J> {
             back: VecDeque::new(alloc),
             coming: Coming::new(alloc),
             moves: false,
-            is_cut: false,
             awaits: false,
-            first: None,
+            first,
             of: PhantomData,
         }
     }
@@ -199,7 +211,7 @@ impl<E: Engine, J: Running> Queue<E, J> {
         requires over { is_over E.ended self.old ≡ true }
         ensures { self.new ≡ self.old }
     {
-        let pass = self.lists.stops.issue(0, 0);
+        let pass = self.lists.stops.issue(0, 0, &());
         Stopped {
             pass,
             of: PhantomData,
@@ -207,10 +219,11 @@ impl<E: Engine, J: Running> Queue<E, J> {
     }
 
     /// Hands out the first ready stretch, or returns `Stop` if workers must stop. The caller ensures that the worker needn't
-    /// wait. Fails only if memory runs out.
+    /// wait. Fails only if memory runs out; then workers must stop.
     pub(crate) fn next(&mut self) -> Result<Next<E, J>, AllocError>
         requires idle { is_idle E.ended self.old ≡ false }
         ensures running { OnErr result (is_over E.ended self.old ≡ false) }
+        ensures refused { OnErr result (self.new.first ≡ Some refused.Memory) }
     {
         if self.is_over() {
             return Ok(Next::Stop(self.stop()));
@@ -219,30 +232,48 @@ impl<E: Engine, J: Running> Queue<E, J> {
             unreachable!()
         };
         let step = self.engine.step();
-        match self.engine.take(group.number)? {
-            Some(stretch) => {
-                let pass = self.lists.stretches.issue(step, group.number);
-                let own = self.lists.groups.issue(step, group.number);
-                let group = HeldGroup::new(group, step, own);
+        match self.engine.take(group.number) {
+            Ok(Some(stretch)) => {
+                let pass = self.lists.stretches.issue(step, group.number, &());
                 Ok(Next::Run(HeldStretch::new(stretch, pass, group)))
             }
-            None => unreachable!(),
+            Ok(None) => unreachable!(),
+            Err(fault) => {
+                self.first = Some(Refused::Memory);
+                Err(fault)
+            }
         }
     }
 
-    /// Takes back a stretch whose segments have run. If `stay` is true, each task goes on and none was spawned. Returns the group of its
-    /// participants.
-    pub(crate) fn deliver(&mut self, held: HeldStretch<E::Stretch, J>, stay: bool) -> HeldGroup<J>
-        requires finished { E.Stretch.finished held ≡ true }
-        requires stay { IsTrue stay → E.Stretch.stays held }
-        ensures taken { E.accepts self.old.engine held }
-        ensures added { self.new ≡ with_engine self.old (E.with_stretch self.old.engine held) }
+    /// Takes back a stretch whose segments have run. Returns the group of its participants, and the changes.
+    pub(crate) fn deliver(
+        &mut self,
+        ran: RanStretch<E::Stretch, J>,
+        changes: Changes,
+    ) -> (HeldGroup<J, L>, Changes)
+        requires told { Tells (E.Stretch.stays ran) (E.Stretch.faulted ran) (E.Stretch.paths ran) (E.Stretch.told ran) changes }
+        ensures taken { E.accepts self.old.engine ran }
+        ensures added { self.new ≡ with_engine self.old (E.with_stretch self.old.engine ran) }
+        ensures changes { result.1 ≡ changes }
+        ensures left { AreLeft result.0.pass (living_by (map (λ p. p.path.items) result.0.group.participants.items) changes) }
     {
-        let (stretch, pass, group) = held.into_parts();
+        let (stretch, pass, group) = ran.into_parts();
         self.lists.stretches.redeem(pass);
+        let step = stretch.step();
+        let stay = changes.is_same();
+        let leaving = Leaving {
+            group,
+            changes,
+            faulted: stretch.has_faulted(),
+        };
+        let own = self
+            .lists
+            .groups
+            .issue(step, leaving.group.number, &leaving);
         self.engine.accept(stretch);
         self.moves = self.moves | !stay;
-        group
+        let Leaving { group, changes, .. } = leaving;
+        (HeldGroup::new(group, step, own), changes)
     }
 
     /// Notes why the run is refused, unless something was noted before. From now on, workers must stop.
@@ -263,73 +294,83 @@ impl<E: Engine, J: Running> Queue<E, J> {
         self.refuse(reason.refusal())
     }
 
-    // If the tasks were cut anew and all participants are back, groups the participants by stretch and makes the groups ready.
-    // Returns true if it did.
+    // If groups are awaited and all are back, cuts their participants into groups for the stretches, and makes these ready. Returns
+    // true if it did. If memory runs out, refuses the run.
     fn pair_up(&mut self) -> Result<bool, AllocError>
         requires running { is_over E.ended self.old ≡ false }
-        ensures { self.new ≡ record self.old { ready = self.new.ready } }
+        requires awaits { self.old.awaits ≡ true }
+        ensures done { OnOk result (self.new ≡ record self.old { ready = self.new.ready; awaits = self.new.awaits }) }
+        ensures failed { OnErr result (self.new ≡ record self.old { first = Some refused.Memory }) }
     {
-        if !self.awaits || self.coming.count < self.engine.count() {
+        if self.coming.missing > 0 {
             return Ok(false);
         }
-        let mut participants = self.coming.take()?;
-        self.ready = groups_of(&self.engine, &mut participants)?;
-        self.awaits = false;
-        Ok(true)
+        match regrouped(&self.engine, &mut self.coming) {
+            Ok(groups) => {
+                self.ready = groups;
+                self.awaits = false;
+                Ok(true)
+            }
+            Err(fault) => {
+                self.first = Some(Refused::Memory);
+                Err(fault)
+            }
+        }
     }
 
-    // Takes back a group of this superstep.
-    fn take_back(&mut self, held: HeldGroup<J>) -> Result<(), AllocError>
+    // Takes back a group of this superstep. If memory runs out, refuses the run.
+    fn take_back(&mut self, held: HeldGroup<J, L>) -> Result<(), AllocError>
         requires running { is_over E.ended self.old ≡ false }
         requires now { held.step ≡ E.step self.old.engine }
-        ensures { self.new ≡ self.old }
+        requires passed { AreLeft held.pass (map (λ p. p.path.items) held.group.participants.items) }
+        ensures done { OnOk result (self.new ≡ self.old) }
+        ensures failed { OnErr result (self.new ≡ record self.old { first = Some refused.Memory }) }
+        ensures settled { self.old.awaits ≡ false }
     {
         let (group, pass) = held.into_parts();
         self.lists.groups.redeem(pass);
-        push_group(&mut self.back, group)
+        match push_group(&mut self.back, group) {
+            Ok(()) => Ok(()),
+            Err(fault) => {
+                self.first = Some(Refused::Memory);
+                Err(fault)
+            }
+        }
     }
 
-    // Takes back a group whose superstep has been closed in the meantime. A group whose tasks have all left may come back even
-    // later, since nothing waits for it. Returns true if a stretch became ready.
-    fn take_back_late(&mut self, held: HeldGroup<J>) -> Result<bool, AllocError>
+    // Takes back a group whose superstep has been closed in the meantime. Returns true if a stretch became ready. If memory runs
+    // out, refuses the run.
+    fn take_back_late(&mut self, held: HeldGroup<J, L>) -> Result<bool, AllocError>
         requires running { is_over E.ended self.old ≡ false }
-        ensures { self.new ≡ record self.old { ready = self.new.ready } }
+        requires late { held.step ≢ E.step self.old.engine }
+        requires passed { AreLeft held.pass (map (λ p. p.path.items) held.group.participants.items) }
+        ensures done { OnOk result (self.new ≡ record self.old { ready = self.new.ready; awaits = self.new.awaits }) }
+        ensures failed { OnErr result (self.new ≡ record self.old { first = Some refused.Memory; ready = self.new.ready }) }
     {
-        let step = held.step;
         let (group, pass) = held.into_parts();
         self.lists.groups.redeem(pass);
-        if group.participants.is_empty() {
-            return Ok(false);
-        }
         if self.awaits {
-            self.coming.add(group)?;
+            self.coming.put(group);
             return self.pair_up();
         }
-        if self.is_cut || !is_next(step, self.engine.step()) {
-            return Ok(false);
+        match push_group(&mut self.ready, group) {
+            Ok(()) => Ok(true),
+            Err(fault) => {
+                self.first = Some(Refused::Memory);
+                Err(fault)
+            }
         }
-        push_group(&mut self.ready, group)?;
-        Ok(true)
-    }
-
-    // Adds the groups of the superstep that was just closed, whose tasks were cut anew, to those that are coming. Groups their
-    // participants if all are back.
-    fn collect(&mut self, mut groups: VecDeque<Group<J>>) -> Result<(), AllocError>
-        requires running { is_over E.ended self.old ≡ false }
-        ensures { self.new ≡ record self.old { ready = self.new.ready } }
-    {
-        self.coming.add_all(&mut groups)?;
-        let _paired = self.pair_up()?;
-        Ok(())
     }
 
     // Closes the superstep, and makes the next one's stretches ready as far as their participants are back.
     fn close(&mut self, alloc: Global) -> Result<HandedBack, Reason>
         requires running { is_over E.ended self.old ≡ false }
+        requires settled { self.old.awaits ≡ false }
         ensures whole { OnOk result (E.whole self.old.engine ≡ true) }
         ensures internal { result ≡ Err reason.Internal → E.whole self.old.engine ≡ false }
         ensures memory { result ≡ Err reason.Memory → E.whole self.old.engine ≡ true }
     {
+        let len = self.engine.len();
         match self.engine.close(alloc) {
             Ok(Closed::Landed) => {}
             Ok(Closed::Ended) => return Ok(HandedBack::Ended),
@@ -341,17 +382,20 @@ impl<E: Engine, J: Running> Queue<E, J> {
         if self.engine.has_ended() {
             return Ok(HandedBack::Ready);
         }
-        self.is_cut = self.moves;
-        self.awaits = self.moves;
-        self.moves = false;
-        if !self.is_cut {
+        if !self.moves {
             // No group was ready before.
             mem::swap(&mut self.ready, &mut self.back);
             return Ok(HandedBack::Ready);
         }
         let groups = mem::replace(&mut self.back, VecDeque::new(alloc));
-        match self.collect(groups) {
-            Ok(()) => Ok(HandedBack::Ready),
+        self.moves = false;
+        self.awaits = true;
+        if self.coming.open(len, groups).is_err() {
+            self.first = Some(Refused::Memory);
+            return Err(Reason::Memory);
+        }
+        match self.pair_up() {
+            Ok(_paired) => Ok(HandedBack::Ready),
             Err(_) => Err(Reason::Memory),
         }
     }
@@ -362,12 +406,13 @@ impl<E: Engine, J: Running> Queue<E, J> {
     pub(crate) fn hand_back(
         &mut self,
         alloc: Global,
-        held: HeldGroup<J>,
-        led: bool,
+        held: HeldGroup<J, L>,
+        led: Option<Led<J>>,
     ) -> Result<HandedBack, Reason>
-        ensures unled { led ≡ false → self.new ≡ record self.old { ready = self.new.ready } }
+        requires passed { AreLeft held.pass (map (λ p. p.path.items) held.group.participants.items) }
+        ensures unled { led ≡ None → self.new.engine ≡ self.old.engine }
         ensures over { is_over E.ended self.old ≡ true → self.new ≡ self.old }
-        ensures internal { result ≡ Err reason.Internal → (led ≡ true) × (E.whole self.old.engine ≡ false) }
+        ensures internal { result ≡ Err reason.Internal → (is_some led ≡ true) × (E.whole self.old.engine ≡ false) }
     {
         if self.is_over() {
             return Ok(HandedBack::Unchanged);
@@ -376,7 +421,7 @@ impl<E: Engine, J: Running> Queue<E, J> {
             return after_late(self.take_back_late(held));
         }
         match self.take_back(held) {
-            Ok(()) if led => self.close(alloc),
+            Ok(()) if led.is_some() => self.close(alloc),
             Ok(()) => Ok(HandedBack::Unchanged),
             Err(_) => Err(Reason::Memory),
         }
@@ -403,13 +448,6 @@ impl<E: Engine, J: Running> Queue<E, J> {
             None => outcome_by(alloc, engine),
         }
     }
-}
-
-// Whether a superstep comes right after another.
-fn is_next(step: u32, next: u32) -> bool
-    ensures { IsTrue result → step + 1 ≡ next }
-{
-    step < next && next - step == 1
 }
 
 // Returns the effect of handing back a late group; `ready` is the result of `take_back_late`.

@@ -1,16 +1,18 @@
 //! Runs an engine on worker threads.
-ghost use Rattle.std.specs.Prelude.{◌≡◌, ◌≤◌, ◌<◌, ◌⊎◌, ◌++◌, ◌∷◌, [], false, IfOk, IfErr, OnOk, map, length};
+ghost use Rattle.std.specs.Prelude.{◌≡◌, ◌≤◌, ◌<◌, ◌++◌, ◌∷◌, [], None, false, IfOk, IfErr, OnOk, map, length};
+ghost use Rattle.std.specs.Option.{option_map};
 ghost use Rattle.advance_rule.specs.Stored.{Answers};
 ghost use Rattle.advance_rule.specs.Action.{AnswersAction};
 ghost use Rattle.advance_rule.specs.Plan.{end_ends_at};
 ghost use Rattle.tier_shape.specs.Leaves.{leaves_of};
 ghost use Rattle.tier_shape.specs.Preferred.{leaf_at};
 ghost use Rattle.tier_table.specs.Ruled.{IsNew};
-ghost use Rattle.worker_pool.specs.AtRest.{IsAtRest, CanBegin};
-ghost use Rattle.worker_pool.specs.Grouping.{numbers_from};
+ghost use Rattle.worker_pool.specs.AtRest.{CanBegin};
+ghost use Rattle.worker_pool.specs.Groups.{group_of, groups_with};
 ghost use Rattle.worker_pool.specs.HandedOut.{AreNew, AreNamed};
 ghost use Rattle.worker_pool.specs.JobPlan.{limit_of, IsJobPlan};
-ghost use Rattle.worker_pool.specs.Refusals.{IsOfWorkers};
+ghost use Rattle.worker_pool.specs.Living.{all_below};
+ghost use Rattle.worker_pool.specs.Refusals.{IsOfWorkers, refusal_of};
 ghost use Rattle.programs.specs.Meaning.{children};
 
 use crate::engine::Engine;
@@ -19,12 +21,13 @@ use crate::groups::groups_of;
 use crate::hooks::{Gate, Starter};
 use crate::leaves::{Leaves, leaves_in};
 use crate::participant::{Group, OwnToken, Participant, Stopped};
-use crate::queue::{Lists, Queue, Running};
+use crate::queue::{GroupList, Lists, Queue, Running};
 use crate::shared::Shared;
 use crate::start::{Setup, start_all};
 use crate::tree::WorkerTree;
 use advance_rule::{EndPlan, StoredAction, StoredAdvance};
 use cyclic_gate::CyclicGate;
+use pass_list::list::PassList;
 use smallvec::SmallVec;
 use std::alloc::{AllocError, Global};
 use std::collections::VecDeque;
@@ -48,13 +51,15 @@ const MOST_STARTS: usize = 65536;
 // microseconds.
 const MOST_SPINS: u32 = 2000;
 
-// The tree at which workers meet, its first token, and its leaves; and the lists of passes.
+// The tree at which workers meet, its first token, and its leaves; and the lists of the passes for stretches, and for workers that
+// have stopped.
 #[derive(Drop)]
 struct Opening<F: Fn(u32, u32) -> bool> {
     tree: Tree<F>,
     door: Door,
     leaves: Vec<u16>,
-    lists: Lists,
+    stretches: PassList<()>,
+    stops: PassList<()>,
 }
 
 // The barrier's action: it does nothing and never fails.
@@ -125,31 +130,42 @@ fn registered<E: Engine, J: Running, R: Wait, F: Fn(u32, u32) -> bool>(
     engine: &E,
 ) -> Result<VecDeque<Group<J>>, Reason>
     requires few { E.count engine.now ≤ 65536 }
-    requires rest { IsAtRest (E.ready engine.now) (E.size engine.now) (E.len engine.now) (E.count engine.now) }
-    ensures numbers { IfOk result (λ groups. map (λ g. g.number) groups.items ≡ numbers_from 0 (E.len engine.now)) }
+    requires numbered { all_below (E.paths engine.now) (E.len engine.now) ≡ children [] 0 (E.count engine.now) }
+    ensures { IfOk result (λ groups. map (λ g. group_of g.number (map (λ p. p.path.items) g.participants.items)) groups.items ≡ groups_with (E.paths engine.now) (E.len engine.now)) }
 {
     let mut participants = Vec::new(alloc);
     register_all(rt, alloc, tree, own, engine, &mut participants)?;
     Ok(groups_of(engine, &mut participants)?)
 }
 
+// The refusal of a run whose start tasks weren't registered, for this reason.
+fn refusal_for(fault: Option<Reason>) -> Option<Refused>
+    ensures { result ≡ option_map refusal_of fault }
+{
+    match fault {
+        Some(reason) => Some(reason.refusal()),
+        None => None,
+    }
+}
+
 // What the workers share.
-fn shared_by<E: Engine, J: Running, F: Fn(u32, u32) -> bool>(
+fn shared_by<E: Engine, J: Running, L: GroupList, F: Fn(u32, u32) -> bool>(
     alloc: Global,
     engine: E,
-    lists: Lists,
+    lists: Lists<J>,
     tree: WorkerTree<J, F>,
     groups: VecDeque<Group<J>>,
+    fault: Option<Reason>,
     spins: u32,
-) -> Shared<E, J, F>
+) -> Shared<E, J, L, F>
     requires mark { E.mark engine ≡ J.mark }
-    requires lists { AreNew lists × AreNamed J.passes J.groups J.stops lists }
-    requires begins { CanBegin (E.ready engine) (E.out engine) (E.size engine) (E.len engine) (E.count engine) (E.stays engine) (E.ended engine) (E.leaves engine) }
-    requires groups { (groups.items ≡ []) ⊎ (map (λ g. g.number) groups.items ≡ numbers_from 0 (E.len engine)) }
+    requires lists { AreNew lists × AreNamed J.passes L.groups J.stops lists }
+    requires begins { CanBegin (E.ready engine) (E.out engine) (E.paths engine) (E.len engine) (E.count engine) (E.stays engine) (E.ended engine) (E.leaves engine) }
+    requires groups { fault ≡ None → map (λ g. group_of g.number (map (λ p. p.path.items) g.participants.items)) groups.items ≡ groups_with (E.paths engine) (E.len engine) }
     ensures { result.tree ≡ tree }
 {
     Shared {
-        queue: Mutex::new(Queue::new(alloc, engine, lists, groups)),
+        queue: Mutex::new(Queue::new(alloc, engine, lists, groups, refusal_for(fault))),
         changed: Condvar::new(),
         wakeups: AtomicU64::new(0),
         passing: AtomicBool::new(false),
@@ -162,6 +178,7 @@ fn shared_by<E: Engine, J: Running, F: Fn(u32, u32) -> bool>(
 fn run_at<
     E: Engine + Send,
     J: Running + Send + Sync,
+    L: GroupList + Send + Sync,
     R: Threads + Wait + Sync,
     F: Fn(u32, u32) -> bool + Sync + Drop,
     A: Fn(u64) -> bool + Sync,
@@ -171,7 +188,7 @@ fn run_at<
     rt: &R,
     alloc: Global,
     engine: E,
-    lists: Lists,
+    lists: Lists<J>,
     tree: WorkerTree<J, F>,
     door: Door,
     barrier: &CyclicGate<A>,
@@ -181,8 +198,8 @@ where
     E::Stretch: Send,
     requires mark { E.mark engine ≡ J.mark }
     requires few { E.count engine ≤ 65536 }
-    requires begins { CanBegin (E.ready engine) (E.out engine) (E.size engine) (E.len engine) (E.count engine) (E.stays engine) (E.ended engine) (E.leaves engine) }
-    requires lists { AreNew lists × AreNamed J.passes J.groups J.stops lists }
+    requires begins { CanBegin (E.ready engine) (E.out engine) (E.paths engine) (E.len engine) (E.count engine) (E.stays engine) (E.ended engine) (E.leaves engine) }
+    requires lists { AreNew lists × AreNamed J.passes L.groups J.stops lists }
     requires workers { (setup.workers ≡ J.workers) × (1 ≤ setup.workers) }
     requires tree { door.tree ≡ J.tree }
     requires rule { Answers (F.pre tree.phaser.rule.closure) (F.post tree.phaser.rule.closure) (end_ends_at tree.phaser.rule.plan) }
@@ -196,7 +213,7 @@ where
         Err(reason) => (VecDeque::new(alloc), Some(reason)),
     };
     let spins = spins_of(rt, setup.workers);
-    let shared = shared_by(alloc, engine, lists, tree, groups, spins);
+    let shared: Shared<E, J, L, F> = shared_by(alloc, engine, lists, tree, groups, fault, spins);
     let stopped = start_registered(rt, alloc, &shared, &mut own, barrier, setup, fault);
     shared.conclude(alloc, stopped)
 }
@@ -205,6 +222,7 @@ where
 fn start_registered<
     E: Engine + Send,
     J: Running + Send + Sync,
+    L: GroupList + Send + Sync,
     R: Threads + Wait + Sync,
     F: Fn(u32, u32) -> bool + Sync,
     A: Fn(u64) -> bool + Sync,
@@ -213,7 +231,7 @@ fn start_registered<
 >(
     rt: &R,
     alloc: Global,
-    shared: &Shared<E, J, F>,
+    shared: &Shared<E, J, L, F>,
     own: &mut OwnToken<J>,
     barrier: &CyclicGate<A>,
     setup: Setup<'_, G, S>,
@@ -265,9 +283,10 @@ where
     E::Stretch: Send,
     requires mark { E.mark engine ≡ J.mark }
     requires few { E.count engine ≤ 65536 }
-    requires begins { CanBegin (E.ready engine) (E.out engine) (E.size engine) (E.len engine) (E.count engine) (E.stays engine) (E.ended engine) (E.leaves engine) }
+    requires begins { CanBegin (E.ready engine) (E.out engine) (E.paths engine) (E.len engine) (E.count engine) (E.stays engine) (E.ended engine) (E.leaves engine) }
     requires workers { (setup.workers ≡ J.workers) × (1 ≤ setup.workers) × (setup.workers ≤ 64) }
-    requires lists { AreNew opening.lists × AreNamed J.passes J.groups J.stops opening.lists }
+    requires stretches { (opening.stretches.out ≡ []) × (opening.stretches.name ≡ J.passes) }
+    requires stops { (opening.stops.out ≡ []) × (opening.stops.name ≡ J.stops) }
     requires tree { (opening.tree.tree ≡ J.tree) × (opening.door.tree ≡ J.tree) }
     requires leaves { (opening.leaves.items ≡ leaves_of J.tree.key.shape) × (0 < length opening.leaves.items) }
     requires rule { Answers (F.pre opening.tree.rule.closure) (F.post opening.tree.rule.closure) (end_ends_at opening.tree.rule.plan) }
@@ -278,12 +297,21 @@ where
         tree,
         door,
         leaves,
-        lists,
+        stretches,
+        stops,
     } = opening;
+    let Ok(groups) = PassList::new(alloc) else {
+        return Err(Refused::Memory);
+    };
+    let lists = Lists {
+        stretches,
+        groups,
+        stops,
+    };
     let tree = WorkerTree::<J, F>::new(tree, Leaves::new(leaves));
     let action = StoredAction::new(do_nothing, None);
     let barrier = barrier_for(alloc, setup.workers, action);
-    run_at(rt, alloc, engine, lists, tree, door, &barrier, setup)
+    run_at::<E, J, Brand, R, F, _, G, S>(rt, alloc, engine, lists, tree, door, &barrier, setup)
 }
 
 /// Runs `engine` on `workers` threads that synchronize at a tree of phasers of this `shape`, superstep by superstep
@@ -319,7 +347,7 @@ pub fn run_engine<
 where
     E::Stretch: Send,
     requires workers { (1 ≤ workers) × (workers ≤ 64) }
-    requires begins { CanBegin (E.ready engine) (E.out engine) (E.size engine) (E.len engine) (E.count engine) (E.stays engine) (E.ended engine) (E.leaves engine) }
+    requires begins { CanBegin (E.ready engine) (E.out engine) (E.paths engine) (E.len engine) (E.count engine) (E.stays engine) (E.ended engine) (E.leaves engine) }
     requires plan { IsJobPlan advance.plan }
     requires rule { Answers (F.pre advance.closure) (F.post advance.closure) (end_ends_at advance.plan) }
     ensures outcome { IfOk result (E.gives (E.mark engine)) }
@@ -348,16 +376,18 @@ fn opening_of<F: Fn(u32, u32) -> bool + Drop>(
     requires plan { IsJobPlan advance.plan }
     ensures tree { IfOk result (λ o. IsNew shape 0 advance o.tree o.door) }
     ensures leaves { IfOk result (λ o. (o.leaves.items ≡ leaves_of shape) × (0 < length o.leaves.items)) }
-    ensures lists { IfOk result (λ o. AreNew o.lists) }
+    ensures passes { IfOk result (λ o. (o.stretches.out ≡ []) × (o.stops.out ≡ [])) }
 {
     let leaves = leaves_in(alloc, &shape)?;
-    let lists = Lists::new(alloc)?;
+    let stretches = PassList::new(alloc)?;
+    let stops = PassList::new(alloc)?;
     let (tree, door) = Tree::new(alloc, shape, 0, advance)?;
     Ok(Opening {
         tree,
         door,
         leaves,
-        lists,
+        stretches,
+        stops,
     })
 }
 

@@ -4,9 +4,10 @@ ghost use Rattle.worker_pool.specs.declared.fault.Reason.TheVariants as reason;
 
 use crate::engine::Engine;
 use crate::fault::{Reason, Refused};
-use crate::hand::{Changes, HeldStretch};
+use crate::hand::{Changes, RanStretch};
+use crate::led::Led;
 use crate::participant::{HeldGroup, OwnToken, Participant, Stopped};
-use crate::queue::{HandedBack, Next, Queue, Running};
+use crate::queue::{GroupList, HandedBack, Next, Queue, Running};
 use crate::tree::WorkerTree;
 use programs::deeds::Change;
 use std::alloc::{AllocError, Global};
@@ -20,8 +21,8 @@ use superstep_memory::path::Path;
 /// The queue under a lock, and the tree without one. No call of the tree is made while the lock is held. A worker that
 /// waits for a ready stretch first spins, then sleeps until the queue has changed.
 #[derive(Drop)]
-pub(crate) struct Shared<E: Engine, J: Running, F: Fn(u32, u32) -> bool> {
-    pub(crate) queue: Mutex<Queue<E, J>>,
+pub(crate) struct Shared<E: Engine, J: Running, L: GroupList, F: Fn(u32, u32) -> bool> {
+    pub(crate) queue: Mutex<Queue<E, J, L>>,
     pub(crate) changed: Condvar,
     // Counts wake-ups: stretches became ready, or workers must stop. It wraps around.
     pub(crate) wakeups: AtomicU64,
@@ -55,12 +56,16 @@ fn room_for(changes: &[Change]) -> usize {
     room
 }
 
-impl<E: Engine, J: Running, F: Fn(u32, u32) -> bool> Shared<E, J, F> {
-    ghost use Rattle.std.specs.Prelude.{◌≡◌, ◌<◌, ◌++◌, ◌∷◌, [], true, IfOk, IfErr, OnOk, map};
+impl<E: Engine, J: Running, L: GroupList, F: Fn(u32, u32) -> bool> Shared<E, J, L, F> {
+    ghost use Rattle.std.specs.Prelude.{◌≡◌, ◌<◌, ◌++◌, ◌∷◌, [], true, false, Some, is_some, IfOk, IfErr, OnOk, map};
     ghost use Rattle.worker_pool.specs.declared.fault.Reason.TheVariants as reason;
     ghost use Rattle.advance_rule.specs.Stored.{Answers};
     ghost use Rattle.advance_rule.specs.Plan.{end_ends_at};
     ghost use Rattle.worker_pool.specs.Changes.{Tells};
+    ghost use Rattle.worker_pool.specs.HandedOut.{AreLeft};
+    ghost use Rattle.worker_pool.specs.Living.{living_after, living_by};
+    ghost use Rattle.programs.specs.Changes.{change_of};
+    ghost use Rattle.programs.specs.InPlace.{kept};
     ghost use Rattle.worker_pool.specs.Refusals.{IsOfWorkers};
 
     /// Returns what a worker does next. Waits until a stretch is ready or workers stop. Fails only if memory runs out.
@@ -79,8 +84,8 @@ impl<E: Engine, J: Running, F: Fn(u32, u32) -> bool> Shared<E, J, F> {
     fn spin<'a, R: Wait>(
         &'a self,
         rt: &R,
-        queue: MutexGuard<'a, Queue<E, J>>,
-    ) -> MutexGuard<'a, Queue<E, J>> {
+        queue: MutexGuard<'a, Queue<E, J, L>>,
+    ) -> MutexGuard<'a, Queue<E, J, L>> {
         let seen = self.wakeups.load(Ordering::SeqCst);
         drop(queue);
         for _ in 0..self.spins {
@@ -110,18 +115,17 @@ impl<E: Engine, J: Running, F: Fn(u32, u32) -> bool> Shared<E, J, F> {
         self.changed.notify_all();
     }
 
-    /// Delivers a stretch whose segments have run. Returns the group of its participants.
+    /// Delivers a stretch whose segments have run. Returns the group of its participants, and the changes.
     pub(crate) fn deliver<R: Wait>(
         &self,
         rt: &R,
-        held: HeldStretch<E::Stretch, J>,
-        changes: &Changes,
-    ) -> HeldGroup<J>
-        requires finished { E.Stretch.finished held ≡ true }
-        requires told { Tells (E.Stretch.stays held) (E.Stretch.faulted held) (E.Stretch.told held) changes.now }
+        ran: RanStretch<E::Stretch, J>,
+        changes: Changes,
+    ) -> (HeldGroup<J, L>, Changes)
+        requires told { Tells (E.Stretch.stays ran) (E.Stretch.faulted ran) (E.Stretch.paths ran) (E.Stretch.told ran) changes }
+        ensures { AreLeft result.0.pass (living_by (map (λ p. p.path.items) result.0.group.participants.items) result.1) }
     {
-        let stay = matches!(changes, Changes::Same);
-        self.queue.lock(rt).deliver(held, stay)
+        self.queue.lock(rt).deliver(ran, changes)
     }
 
     // Registers a spawned task, and arrives for it. There is room for it in `spawned`.
@@ -136,6 +140,7 @@ impl<E: Engine, J: Running, F: Fn(u32, u32) -> bool> Shared<E, J, F> {
         requires unarrived { participant.old.crew.view.arrived < participant.old.crew.view.size }
         ensures same { participant.new.crew.view.arrived < participant.new.crew.view.size }
         ensures path { participant.new.path ≡ participant.old.path }
+        ensures listed { OnOk result (map (λ p. p.path.items) spawned.new.items ≡ map (λ p. p.path.items) spawned.old.items ++ path.items ∷ []) }
     {
         let mut child = self.tree.register_spawned(rt, &mut participant.crew, path)?;
         let _led = self.tree.arrive(rt, &mut child.crew)?;
@@ -151,6 +156,8 @@ impl<E: Engine, J: Running, F: Fn(u32, u32) -> bool> Shared<E, J, F> {
         spawned: &mut Vec<Participant<J>>,
     ) -> Result<(), Reason>
         requires rule { Answers (F.pre self.now.tree.phaser.rule.closure) (F.post self.now.tree.phaser.rule.closure) (end_ends_at self.now.tree.phaser.rule.plan) }
+        ensures path { participant.new.path ≡ participant.old.path }
+        ensures listed { OnOk result (map (λ p. p.path.items) spawned.new.items ≡ map (λ p. p.path.items) spawned.old.items ++ map (λ p. p.items) paths.items) }
     {
         if paths.is_empty() {
             return Ok(());
@@ -163,8 +170,8 @@ impl<E: Engine, J: Running, F: Fn(u32, u32) -> bool> Shared<E, J, F> {
         Ok(())
     }
 
-    // Leaves for a task that has stopped. Returns true if that advanced the tree.
-    fn leave<R: Wait>(&self, rt: &R, participant: Participant<J>) -> Result<bool, Reason>
+    // Leaves for a task that has stopped. Returns the sign if that advanced the tree.
+    fn leave<R: Wait>(&self, rt: &R, participant: Participant<J>) -> Result<Option<Led<J>>, Reason>
         requires rule { Answers (F.pre self.now.tree.phaser.rule.closure) (F.post self.now.tree.phaser.rule.closure) (end_ends_at self.now.tree.phaser.rule.plan) }
     {
         let Participant {
@@ -175,15 +182,16 @@ impl<E: Engine, J: Running, F: Fn(u32, u32) -> bool> Shared<E, J, F> {
         self.tree.leave(rt, crew)
     }
 
-    // Arrives for a task that stays alive, or leaves for one that has stopped. Returns true if that advanced the tree.
+    // Arrives for a task that stays alive, or leaves for one that has stopped. Returns the sign if that advanced the tree.
     fn go_on<R: Wait>(
         &self,
         rt: &R,
         mut participant: Participant<J>,
         stays: bool,
         passed: &mut Vec<Participant<J>>,
-    ) -> Result<bool, Reason>
+    ) -> Result<Option<Led<J>>, Reason>
         requires rule { Answers (F.pre self.now.tree.phaser.rule.closure) (F.post self.now.tree.phaser.rule.closure) (end_ends_at self.now.tree.phaser.rule.plan) }
+        ensures passed { OnOk result (map (λ p. p.path.items) passed.new.items ≡ map (λ p. p.path.items) passed.old.items ++ kept stays participant.path.items) }
     {
         if !stays {
             return self.leave(rt, participant);
@@ -194,7 +202,7 @@ impl<E: Engine, J: Running, F: Fn(u32, u32) -> bool> Shared<E, J, F> {
     }
 
     // Brings a task's spawned tasks in, then arrives or leaves for it. What stays alive is appended in this order: the task, its
-    // spawned tasks. Returns true if that advanced the tree. `spawned` is empty working space.
+    // spawned tasks. Returns the sign if that advanced the tree. `spawned` is empty working space.
     fn pass<R: Wait>(
         &self,
         rt: &R,
@@ -202,8 +210,12 @@ impl<E: Engine, J: Running, F: Fn(u32, u32) -> bool> Shared<E, J, F> {
         change: Change,
         spawned: &mut Vec<Participant<J>>,
         passed: &mut Vec<Participant<J>>,
-    ) -> Result<bool, Reason>
+    ) -> Result<Option<Led<J>>, Reason>
         requires rule { Answers (F.pre self.now.tree.phaser.rule.closure) (F.post self.now.tree.phaser.rule.closure) (end_ends_at self.now.tree.phaser.rule.plan) }
+        requires room { spawned.old.items ≡ [] }
+        ensures room { OnOk result (spawned.new.items ≡ []) }
+        ensures passed { OnOk result (map (λ p. p.path.items) passed.new.items
+            ≡ map (λ p. p.path.items) passed.old.items ++ (kept change.synced participant.path.items ++ map (λ p. p.items) change.spawned.items)) }
     {
         let Change {
             synced,
@@ -216,46 +228,53 @@ impl<E: Engine, J: Running, F: Fn(u32, u32) -> bool> Shared<E, J, F> {
         Ok(led)
     }
 
-    // Arrives for a task that stays alive. Returns true if that advanced the tree.
-    fn arrive_one<R: Wait>(&self, rt: &R, participant: &mut Participant<J>) -> Result<bool, Reason>
+    // Arrives for a task that stays alive. Returns the sign if that advanced the tree.
+    fn arrive_one<R: Wait>(
+        &self,
+        rt: &R,
+        participant: &mut Participant<J>,
+    ) -> Result<Option<Led<J>>, Reason>
         requires rule { Answers (F.pre self.now.tree.phaser.rule.closure) (F.post self.now.tree.phaser.rule.closure) (end_ends_at self.now.tree.phaser.rule.plan) }
         ensures same { participant.new.path ≡ participant.old.path }
+        ensures led { IfOk result (λ led. is_some led ≡ participant.new.crew.view.led) }
         ensures internal { IfErr result (λ fault. fault ≡ reason.Internal) }
     {
         self.tree.arrive(rt, &mut participant.crew)
     }
 
-    // Arrives for each task of a group. All of them stay alive. Returns true if one of them advanced the tree.
+    // Arrives for each task of a group. All of them stay alive. Returns the sign if one of them advanced the tree.
     fn arrive_each<R: Wait>(
         &self,
         rt: &R,
         participants: &mut Vec<Participant<J>>,
-    ) -> Result<bool, Reason>
+    ) -> Result<Option<Led<J>>, Reason>
         requires rule { Answers (F.pre self.now.tree.phaser.rule.closure) (F.post self.now.tree.phaser.rule.closure) (end_ends_at self.now.tree.phaser.rule.plan) }
         ensures same { OnOk result (map (λ participant. participant.path) participants.new.items ≡ map (λ participant. participant.path) participants.old.items) }
         ensures internal { IfErr result (λ fault. fault ≡ reason.Internal) }
     {
-        let mut led = false;
+        let mut led = None;
         let mut place = 0;
         while place < participants.len() {
-            led = self.arrive_one(rt, &mut participants[place])? || led;
+            led = self.arrive_one(rt, &mut participants[place])?.or(led);
             place += 1;
         }
         Ok(led)
     }
 
-    // Arrives or leaves for each task of a group, by what it did; after a fault tasks leave. Returns true if one of them
-    // advanced the tree.
+    // Arrives or leaves for each task of a group, by what it did. A task without a change leaves, as after a fault. Returns the sign if
+    // one of them advanced the tree.
     fn pass_each<R: Wait>(
         &self,
         rt: &R,
         alloc: Global,
         participants: &mut Vec<Participant<J>>,
         changes: Vec<Change>,
-    ) -> Result<bool, Reason>
+    ) -> Result<Option<Led<J>>, Reason>
         requires rule { Answers (F.pre self.now.tree.phaser.rule.closure) (F.post self.now.tree.phaser.rule.closure) (end_ends_at self.now.tree.phaser.rule.plan) }
+        ensures living { OnOk result (map (λ p. p.path.items) participants.new.items
+            ≡ living_after (map (λ p. p.path.items) participants.old.items) (map change_of changes.items)) }
     {
-        let mut led = false;
+        let mut led = None;
         let mut passed = Vec::with_capacity(alloc, room_for(&changes))?;
         let mut changes = VecDeque::from_vec(changes);
         let mut spawned = Vec::new(alloc);
@@ -264,21 +283,22 @@ impl<E: Engine, J: Running, F: Fn(u32, u32) -> bool> Shared<E, J, F> {
                 Some(change) => self.pass(rt, participant, change, &mut spawned, &mut passed)?,
                 None => self.leave(rt, participant)?,
             };
-            led = one_led || led;
+            led = one_led.or(led);
         }
         *participants = passed;
         Ok(led)
     }
 
-    // Arrives or leaves for the tasks of a group. Returns true if one of them advanced the tree.
+    // Arrives or leaves for the tasks of a group. Returns the sign if one of them advanced the tree.
     fn pass_group<R: Wait>(
         &self,
         rt: &R,
         alloc: Global,
         participants: &mut Vec<Participant<J>>,
         changes: Changes,
-    ) -> Result<bool, Reason>
+    ) -> Result<Option<Led<J>>, Reason>
         requires rule { Answers (F.pre self.now.tree.phaser.rule.closure) (F.post self.now.tree.phaser.rule.closure) (end_ends_at self.now.tree.phaser.rule.plan) }
+        ensures living { OnOk result (map (λ p. p.path.items) participants.new.items ≡ living_by (map (λ p. p.path.items) participants.old.items) changes) }
     {
         match changes {
             Changes::Same => self.arrive_each(rt, participants),
@@ -294,9 +314,10 @@ impl<E: Engine, J: Running, F: Fn(u32, u32) -> bool> Shared<E, J, F> {
         rt: &R,
         alloc: Global,
         own: &mut OwnToken<J>,
-        mut held: HeldGroup<J>,
+        mut held: HeldGroup<J, L>,
         changes: Changes,
     ) -> Result<(), Reason>
+        requires changes { AreLeft held.pass (living_by (map (λ p. p.path.items) held.group.participants.items) changes) }
         requires rule { Answers (F.pre self.now.tree.phaser.rule.closure) (F.post self.now.tree.phaser.rule.closure) (end_ends_at self.now.tree.phaser.rule.plan) }
     {
         let alone = self.back_off();

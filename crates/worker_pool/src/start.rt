@@ -10,7 +10,7 @@ use crate::engine::Engine;
 use crate::fault::Refused;
 use crate::hooks::{Gate, Starter};
 use crate::participant::{OwnToken, Stopped};
-use crate::queue::Running;
+use crate::queue::{GroupList, Running};
 use crate::shared::Shared;
 use crate::work::work;
 use cyclic_gate::{CyclicGate, GateFault};
@@ -28,12 +28,14 @@ pub(crate) struct Setup<'a, G: Gate, S: Starter> {
 }
 
 // Notes why the run is refused before all workers have reached the barrier, and stops those that wait there.
-fn call_off<E: Engine, J: Running, R: Wait, F: Fn(u32, u32) -> bool, A: Fn(u64) -> bool>(
-    rt: &R,
-    shared: &Shared<E, J, F>,
-    barrier: &CyclicGate<A>,
-    refused: Refused,
-) -> Stopped<J>
+fn call_off<
+    E: Engine,
+    J: Running,
+    L: GroupList,
+    R: Wait,
+    F: Fn(u32, u32) -> bool,
+    A: Fn(u64) -> bool,
+>(rt: &R, shared: &Shared<E, J, L, F>, barrier: &CyclicGate<A>, refused: Refused) -> Stopped<J>
     requires refused { IsOfWorkers J.workers refused }
     requires action { AnswersAction (A.pre barrier.now.action.closure) (A.post barrier.now.action.closure) barrier.now.action.plan }
 {
@@ -47,6 +49,7 @@ fn call_off<E: Engine, J: Running, R: Wait, F: Fn(u32, u32) -> bool, A: Fn(u64) 
 fn wait_and_work<
     E: Engine,
     J: Running,
+    L: GroupList,
     R: Wait,
     F: Fn(u32, u32) -> bool,
     A: Fn(u64) -> bool,
@@ -54,7 +57,7 @@ fn wait_and_work<
 >(
     rt: &R,
     alloc: Global,
-    shared: &Shared<E, J, F>,
+    shared: &Shared<E, J, L, F>,
     gate: &G,
     barrier: &CyclicGate<A>,
     k: u32,
@@ -110,6 +113,7 @@ fn join_all<R: Threads + Wait, J: Running>(
 pub(crate) fn start_all<
     E: Engine + Send,
     J: Running + Send + Sync,
+    L: GroupList + Send + Sync,
     R: Threads + Wait + Sync,
     F: Fn(u32, u32) -> bool + Sync,
     A: Fn(u64) -> bool + Sync,
@@ -118,7 +122,7 @@ pub(crate) fn start_all<
 >(
     rt: &R,
     alloc: Global,
-    shared: &Shared<E, J, F>,
+    shared: &Shared<E, J, L, F>,
     own: &mut OwnToken<J>,
     barrier: &CyclicGate<A>,
     setup: Setup<'_, G, S>,

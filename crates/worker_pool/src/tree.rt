@@ -3,6 +3,7 @@ ghost use Rattle.std.specs.Prelude.{◌≡◌};
 
 use crate::fault::Reason;
 use crate::leaves::Leaves;
+use crate::led::Led;
 use crate::participant::{OwnToken, Participant};
 use crate::queue::Running;
 use std::sync::Wait;
@@ -180,29 +181,29 @@ impl<J: Running, F: Fn(u32, u32) -> bool> WorkerTree<J, F> {
         Ok(())
     }
 
-    /// Arrives for the member of a crew. Returns true if this arrival advanced the tree.
-    pub(crate) fn arrive<R: Wait>(&self, rt: &R, crew: &mut Crew) -> Result<bool, Reason>
+    /// Arrives for the member of a crew. Returns the sign if this arrival advanced the tree.
+    pub(crate) fn arrive<R: Wait>(&self, rt: &R, crew: &mut Crew) -> Result<Option<Led<J>>, Reason>
         requires own { crew.old.tree ≡ J.tree }
         requires rule { Answers (F.pre self.now.phaser.rule.closure) (F.post self.now.phaser.rule.closure) (end_ends_at self.now.phaser.rule.plan) }
         ensures same { crew.new.tree ≡ J.tree }
-        ensures passed { IfOk result (λ led. (led ≡ crew.new.view.led) × HasPassed Arrival crew.old.view crew.new.view) }
+        ensures passed { IfOk result (λ led. (is_some led ≡ crew.new.view.led) × HasPassed Arrival crew.old.view crew.new.view) }
         ensures internal { IfErr result (λ fault. fault ≡ reason.Internal) }
     {
         match self.phaser.arrive_in_place(rt, crew) {
-            ArrivedInPlace::Done { phase: _, led } => Ok(led),
+            ArrivedInPlace::Done { phase: _, led } => Ok(Led::of_arrival(crew, led)),
             ArrivedInPlace::AlreadyArrived(_phase) => Err(Reason::Internal),
             ArrivedInPlace::Ended(_shown) => Err(Reason::Internal),
         }
     }
 
-    /// Leaves for the only member of a crew. Returns true if that advanced the tree.
-    pub(crate) fn leave<R: Wait>(&self, rt: &R, crew: Crew) -> Result<bool, Reason>
+    /// Leaves for the only member of a crew. Returns the sign if that advanced the tree.
+    pub(crate) fn leave<R: Wait>(&self, rt: &R, crew: Crew) -> Result<Option<Led<J>>, Reason>
         requires own { crew.tree ≡ J.tree }
         requires rule { Answers (F.pre self.now.phaser.rule.closure) (F.post self.now.phaser.rule.closure) (end_ends_at self.now.phaser.rule.plan) }
         ensures internal { IfErr result (λ fault. fault ≡ reason.Internal) }
     {
         match self.phaser.leave_wait(rt, crew) {
-            ArrivedAtLast::Left(_door, _phase, led) => Ok(led),
+            ArrivedAtLast::Left(door, _phase, led) => Ok(Led::of_departure(&door, led)),
             ArrivedAtLast::Done(_crew, _phase, _led) => Err(Reason::Internal),
             ArrivedAtLast::AlreadyArrived(_crew, _phase) => Err(Reason::Internal),
             ArrivedAtLast::Ended(_crew, _shown) => Err(Reason::Internal),

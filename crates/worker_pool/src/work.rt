@@ -7,16 +7,16 @@ use crate::fault::Reason;
 use crate::hand::HeldStretch;
 use crate::hooks::Gate;
 use crate::participant::{OwnToken, Stopped};
-use crate::queue::{Next, Running};
+use crate::queue::{GroupList, Next, Running};
 use crate::shared::Shared;
 use std::alloc::Global;
 use std::sync::Wait;
 
 /// Runs stretches until workers stop. `own` is the token of the worker, by which it can end the tree.
-pub(crate) fn work<E: Engine, J: Running, R: Wait, F: Fn(u32, u32) -> bool, G: Gate>(
+pub(crate) fn work<E: Engine, J: Running, L: GroupList, R: Wait, F: Fn(u32, u32) -> bool, G: Gate>(
     rt: &R,
     alloc: Global,
-    shared: &Shared<E, J, F>,
+    shared: &Shared<E, J, L, F>,
     gate: &G,
     own: &mut OwnToken<J>,
 ) -> Stopped<J>
@@ -33,10 +33,10 @@ pub(crate) fn work<E: Engine, J: Running, R: Wait, F: Fn(u32, u32) -> bool, G: G
 }
 
 // Runs the next stretch, or stops if workers stop.
-fn do_next<E: Engine, J: Running, R: Wait, F: Fn(u32, u32) -> bool, G: Gate>(
+fn do_next<E: Engine, J: Running, L: GroupList, R: Wait, F: Fn(u32, u32) -> bool, G: Gate>(
     rt: &R,
     alloc: Global,
-    shared: &Shared<E, J, F>,
+    shared: &Shared<E, J, L, F>,
     gate: &G,
     own: &mut OwnToken<J>,
 ) -> Result<Option<Stopped<J>>, Reason>
@@ -52,17 +52,17 @@ fn do_next<E: Engine, J: Running, R: Wait, F: Fn(u32, u32) -> bool, G: Gate>(
 }
 
 // Runs the segments of a stretch, delivers it, and then synchronizes its tasks.
-fn do_stretch<E: Engine, J: Running, R: Wait, F: Fn(u32, u32) -> bool, G: Gate>(
+fn do_stretch<E: Engine, J: Running, L: GroupList, R: Wait, F: Fn(u32, u32) -> bool, G: Gate>(
     rt: &R,
     alloc: Global,
-    shared: &Shared<E, J, F>,
+    shared: &Shared<E, J, L, F>,
     gate: &G,
     own: &mut OwnToken<J>,
-    mut held: HeldStretch<E::Stretch, J>,
+    held: HeldStretch<E::Stretch, J>,
 ) -> Result<(), Reason>
     requires rule { Answers (F.pre shared.now.tree.phaser.rule.closure) (F.post shared.now.tree.phaser.rule.closure) (end_ends_at shared.now.tree.phaser.rule.plan) }
 {
-    let changes = held.run(rt, alloc, gate)?;
-    let group = shared.deliver(rt, held, &changes);
+    let (ran, changes) = held.run(rt, alloc, gate)?;
+    let (group, changes) = shared.deliver(rt, ran, changes);
     shared.pass_all(rt, alloc, own, group, changes)
 }

@@ -1,12 +1,11 @@
-use Rattle.std.proofs.Common.{◌≡◌, ◌≤◌, ◌-◌, ◌++◌, map, length}
-use Rattle.worker_pool.specs.AtRest.{tasks_below}
-use Rattle.worker_pool.specs.Grouping.{numbers_from, in_turn}
+use Rattle.std.proofs.Common.{◌≡◌, ◌≤◌, ◌-◌, map}
+use Rattle.worker_pool.specs.Grouping.{numbers_from}
+use Rattle.worker_pool.specs.Groups.{group_of}
+use Rattle.worker_pool.specs.Living.{all_below}
 use Rattle.worker_pool.proofs.groups.groups_of.Given as goal
 
 abbrev pub invariant-loop-behind : goal.invariant-loop-behind
 invariant-loop-behind g l =
     (l.behind ≤ l.count) × (l.count ≡ g.E.Engine.len l.fn.engine)
-    × (l.participants.items ++ in_turn (λ gr. gr.participants.items) l.groups.items ≡ l.fn.participants.items)
-    × (map (λ gr. gr.number) l.groups.items ≡ numbers_from (l.count - l.behind) l.behind)
-    × (map (λ gr. length gr.participants.items) l.groups.items ≡ map (g.E.Engine.size l.fn.engine) (numbers_from (l.count - l.behind) l.behind))
-    × (tasks_below (g.E.Engine.size l.fn.engine) (l.count - l.behind) ≤ length l.participants.items)
+    × (map (λ p. p.path.items) l.participants.items ≡ all_below (g.E.Engine.paths l.fn.engine) (l.count - l.behind))
+    × (map (λ gr. group_of gr.number (map (λ p. p.path.items) gr.participants.items)) l.groups.items ≡ map (λ k. group_of k (g.E.Engine.paths l.fn.engine k)) (numbers_from (l.count - l.behind) l.behind))

@@ -33,5 +33,5 @@ returns-in-Ok-clause-ran g c =
 pub run_engine-requires-clause-begins : goal.run_engine-requires-clause-begins
 run_engine-requires-clause-begins g c = λ lifetimes bounds.
     subst
-    (λ (v : StretchesValue g.row.P.Denot g.row.P-Task.Denot). CanBegin (λ k. ready_at (slice_get v.parts k)) (λ k. out_at (slice_get v.parts k)) (λ k. length (tasks_at (slice_get v.parts k))) (length v.parts) v.count (AllStay v.parts) (is_some (status_in v)) (can_leave v))
-    (sym (c.new.ensures ∙ c.snapshot-first.ensures.same)) (begins c.args.stretches c.requires.fresh.0 c.requires.fresh.1)
+    (λ (v : StretchesValue g.row.P.Denot g.row.P-Task.Denot). CanBegin (λ k. ready_at (slice_get v.parts k)) (λ k. out_at (slice_get v.parts k)) (λ k. map g.P.Task.OnPath.path_of (tasks_at (slice_get v.parts k))) (length v.parts) v.count (AllStay v.parts) (is_some (status_in v)) (can_leave v))
+    (sym (c.new.ensures ∙ c.snapshot-first.ensures.same)) (begins g.P.Task.OnPath.path_of c.args.stretches c.requires.fresh.0 c.requires.fresh.1 c.requires.paths)

@@ -10,6 +10,7 @@ use Rattle.program_stretches.specs.Closing.{EndsBy}
 use Rattle.program_stretches.proofs.Closed.{fit, ends_many, closed_end, have_same, tasks_on, deeds_on, prints_on, covers_on}
 use Rattle.program_stretches.proofs.Reopening.{if_ok, none_moved, reopened_from}
 use Rattle.program_stretches.proofs.stretches.Stretches.go_on.Goals.{else-left-eq0-via-then-left-eq0+else-spawned-eq0, else-left-eq0-via-else-left-eq0}
+use Rattle.program_stretches.proofs.EachDone.{each_also}
 use Rattle.program_stretches.proofs.stretches.Stretches.go_on.Goals as goal
 
 counted_there : (o : Option ℕ) (A : Type 0) (F : ℕ → Type 0) → MatchOption o A F → {x : ℕ} → o ≡ Some x → F x
@@ -285,8 +286,14 @@ move_on-requires-clause-moves g c = λ stay.
 
 pub returns-then-spawned-eq0-clause-reopened : goal.returns-then-spawned-eq0-clause-reopened
 returns-then-spawned-eq0-clause-reopened g c =
-    if_ok c.stay.result _ _ c.stay.ensures.reopened (λ o h. reopened_from o c.args.self.now.step c.join_adds.new.parts.items c.args.parts.items _ c.in_ok-join_adds.ensures.rest h)
+    if_ok c.stay.result _ _ c.stay.ensures.reopened (λ o h. reopened_from g.P.Task.OnPath.path_of o c.args.self.now.step c.join_adds.new.parts.items c.args.parts.items _ c.in_ok-join_adds.ensures.rest h)
 
 pub returns-else-left-eq0-clause-reopened : goal.returns-else-left-eq0-clause-reopened
 returns-else-left-eq0-clause-reopened g c =
-    if_ok c.move_on.result _ _ c.move_on.ensures.reopened (λ o h. reopened_from o c.args.self.now.step c.join_adds.new.parts.items c.args.parts.items _ c.in_ok-join_adds.ensures.rest h)
+    if_ok c.move_on.result _ _ c.move_on.ensures.reopened (λ o h. reopened_from g.P.Task.OnPath.path_of o c.args.self.now.step c.join_adds.new.parts.items c.args.parts.items _ c.in_ok-join_adds.ensures.rest h)
+
+pub stay-requires-clause-each : goal.stay-requires-clause-each
+stay-requires-clause-each g c = each_also c.join_adds.new.parts.items c.args.parts.items c.in_ok-join_adds.ensures.rest c.requires.each
+
+pub move_on-requires-clause-each : goal.move_on-requires-clause-each
+move_on-requires-clause-each g c = each_also c.join_adds.new.parts.items c.args.parts.items c.in_ok-join_adds.ensures.rest c.requires.each

@@ -4,11 +4,12 @@ use Rattle.superstep_memory.specs.PathOrder.{in_path_order}
 use Rattle.phase_records.specs.declared.record.PhaseRecord.{PhaseRecord}
 use Rattle.programs.specs.InPlace.{living_with}
 use Rattle.programs.proofs.InPlace.{few_left}
-use Rattle.program_stretches.specs.Parts.{reading_of, tasks_in, puts_in, deeds_in, prints_in}
+use Rattle.program_stretches.specs.Parts.{reading_of, AreFresh, tasks_in, puts_in, deeds_in, prints_in}
 use Rattle.program_stretches.specs.StretchesValue.{StretchesValue, IsAfter, IsCourse, status_in}
 use Rattle.program_stretches.specs.StretchesView.{stretches_of}
 use Rattle.program_stretches.specs.Closing.{opened_with}
 use Rattle.program_stretches.proofs.Closed.{fit, after_landed, closed_landed, landed_with, below_limit}
+use Rattle.program_stretches.proofs.EachDone.{living_joined}
 use Rattle.program_stretches.proofs.stretches.Stretches.move_on.Goals as goal
 
 pub overflow_sub-count : goal.overflow_sub-count
@@ -115,3 +116,19 @@ returns-clause-closed g c =
     closed_landed m a law c.requires.running (c.args.puts.now ++ puts_in c.args.parts.items) (tasks_in c.args.parts.items) ds after c.requires.run c.requires.few c.args.told c.requires.told none next is_next
     c.cut.new.parts.items c.cut.ensures.fresh c.cut.ensures.tasks c.reopen.new.self
     (c.in_ok-reopen-in-None.ensures.opened ∙ ap (λ (x : StretchesValue g.row.P.Denot g.row.P-Task.Denot). opened_with x c.cut.new.parts.items) same)
+
+pub returns-clause-reopened : goal.returns-clause-reopened
+returns-clause-reopened g c =
+    let next = c.regroup.new.tasks.items in
+    let is_next = c.regroup.ensures ∙ (λ i. in_path_order g.P.Task.OnPath.path_of (living_with (c.in_ok-gather.ensures.tasks i) (c.in_ok-gather.ensures.deeds i))) in
+    let count : c.len-self-inside.result ≡ length next = omega (arith, c.len-self-inside.ensures, c.regroup.new.tasks.ok.0) in
+    let is = c.in_ok-reopen-in-None.ensures.opened in
+    let there = ap (λ (x : StretchesValue g.row.P.Denot g.row.P-Task.Denot). x.parts) is in
+    let tasks = ap tasks_in there ∙ c.cut.ensures.tasks in (
+      subst (AreFresh 0) (sym there) c.cut.ensures.fresh,
+      ap (λ (x : StretchesValue g.row.P.Denot g.row.P-Task.Denot). x.count) is ∙ count ∙ ap length (sym tasks),
+      λ stay. absurd (c.requires.moves stay),
+      ap (λ (x : StretchesValue g.row.P.Denot g.row.P-Task.Denot). x.step) is ∙ ap (λ (x : StretchesValue g.row.P.Denot g.row.P-Task.Denot). x.step + 1) c.self.view_is,
+      c.requires.each,
+      tasks ∙ is_next ∙ ap (in_path_order g.P.Task.OnPath.path_of) (living_joined c.args.parts.items c.requires.each),
+    )

@@ -48,5 +48,7 @@ returns g c =
           let parts = ap (λ (x : OpeningValue g.row.P.Denot g.row.P-Task.Denot). x.parts) (c.parts.view_is ∙ c.note.ensures.same) in
           ready.count ∙ ap length (sym ready.tasks) ∙ ap (λ (ss : List (Option (PartValue g.row.P-Task.Denot))). length (tasks_in ss)) (sym parts);
       nothing_given = refl;
+      whole =
+          ap tasks_in (ap (λ (x : OpeningValue g.row.P.Denot g.row.P-Task.Denot). x.parts) (c.parts.view_is ∙ c.note.ensures.same)) ∙ ready.tasks;
       ready = subst (AreFresh 0) (sym (ap (λ (x : OpeningValue g.row.P.Denot g.row.P-Task.Denot). x.parts) (c.parts.view_is ∙ c.note.ensures.same))) ready.fresh;
     }

@@ -12,6 +12,7 @@ use Rattle.program_stretches.specs.StretchesView.{stretches_of}
 use Rattle.program_stretches.specs.Closing.{opened_with}
 use Rattle.program_stretches.proofs.Closed.{fit, after_landed, closed_landed, landed_with, tasks_renewed, fresh_renewed}
 use Rattle.program_stretches.proofs.Reopening.{renewed_again}
+use Rattle.program_stretches.proofs.EachDone.{living_joined}
 use Rattle.program_stretches.proofs.stretches.Stretches.stay.Goals as goal
 
 pub invariant_of-self-in-None : goal.invariant_of-self-in-None
@@ -118,9 +119,13 @@ returns-in_ok-reopen-in-None-clause-reopened g c =
     let parts = c.renew_all.ensures ∙ ap (map renewed) c.give_all_prints.ensures.rest in
     let is = c.in_ok-reopen-in-None.ensures.opened in
     let there = ap (λ (x : StretchesValue g.row.P.Denot g.row.P-Task.Denot). x.parts) is ∙ parts in
-    let tasks = ap tasks_in there ∙ tasks_renewed c.args.parts.items in (
+    let tasks = ap tasks_in there ∙ tasks_renewed c.args.parts.items in
+    let stays = all_stay us ds f.same (sym (ap (λ (r : PhaseRecord). r.left) c.requires.told) ∙ c.requires.stays.0) (sym (ap (λ (r : PhaseRecord). r.spawned) c.requires.told) ∙ c.requires.stays.1) in
+    let is_next : us ≡ in_path_order g.P.Task.OnPath.path_of (living_with us ds) = sym (ap (in_path_order g.P.Task.OnPath.path_of) stays ∙ rising_stays g.P.Task.OnPath.path_of us f.rising) in (
       subst (AreFresh 0) (sym there) (fresh_renewed true c.args.self.now.count 0 c.args.parts.items c.requires.covered),
       ap (λ (x : StretchesValue g.row.P.Denot g.row.P-Task.Denot). x.count) is ∙ count ∙ ap length (sym tasks),
       λ stay. there ∙ renewed_again c.args.parts.items,
       ap (λ (x : StretchesValue g.row.P.Denot g.row.P-Task.Denot). x.step) is ∙ ap (λ (x : StretchesValue g.row.P.Denot g.row.P-Task.Denot). x.step + 1) c.self.view_is,
+      c.requires.each,
+      tasks ∙ is_next ∙ ap (in_path_order g.P.Task.OnPath.path_of) (living_joined c.args.parts.items c.requires.each),
     )

@@ -9,6 +9,7 @@ use Rattle.program_stretches.specs.StretchesValue.{StretchesValue, ready_at, wit
 use Rattle.program_stretches.specs.StretchesView.{stretches_of}
 use Rattle.program_stretches.proofs.Owning.{ready_part, own_get}
 use Rattle.program_stretches.proofs.Course.{is_open, course_slot}
+use Rattle.program_stretches.proofs.EachDone.{live_rise}
 use Rattle.program_stretches.proofs.stretches.Stretches.take.Goals as goal
 
 abbrev done_in : {S : Type 0} → Option (PartValue S) → Bool
@@ -31,6 +32,9 @@ invariant_of-result g c =
       program = o.program;
       arrays = c.in_ok-arrays.ensures ∙ o.arrays;
       is_ready = c.self.invariant.is_ready;
+      rising =
+          let h = c.self.invariant.course in
+          live_rise m v (g.met.P.Program.keeps_paths v.program) h.live h.after (live_of o.opening) o.lives;
       part =
           subst (λ (a : List (List ℕ × List ℤ)). IsPartOf (m v.program) a (live_of o.opening) v.step c.in-Some.part) (sym c.in_ok-arrays.ensures)
           (own_get (m v.program) v.arrays (live_of o.opening) v.step v.parts c.args.number c.in-Some.part o.own (r.there ∙ ap (λ (x : Option (PartValue g.row.P-Task.Denot)). Some x) (sym same)));

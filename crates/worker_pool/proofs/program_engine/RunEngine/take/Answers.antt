@@ -2,7 +2,8 @@ use Rattle.std.proofs.Common.{◌≡◌, ◌<◌, ◌∙◌, true, false, length
 use Rattle.program_stretches.specs.StretchesValue.{StretchesValue, ready_at}
 use Rattle.program_stretches.specs.Closing.{AllStay}
 use Rattle.worker_pool.specs.Leaving.{out_at}
-use Rattle.worker_pool.proofs.Slots.{asked, asked_others, asked_rest, asked_stays, taken_gone, gone_if, none_gone, there_taken}
+use Rattle.worker_pool.proofs.SlotPaths.{read_same}
+use Rattle.worker_pool.proofs.Slots.{asked, asked_others, asked_rest, asked_slot, asked_stays, taken_gone, gone_if, none_gone, there_taken}
 use Rattle.worker_pool.proofs.program_engine.RunEngine.take.Goals.{in-Some, in-None}
 use Rattle.worker_pool.proofs.program_engine.RunEngine.take.Goals as goal
 
@@ -15,6 +16,12 @@ pub returns-clause-rest : goal.returns-clause-rest
 returns-clause-rest g c = λ k n.
     asked_rest _ _ c.args.number (asked _ _ _ c.args.number _ _ (λ x h. h.left) c.take.ensures.taken c.take.ensures.unchanged) k n
     ∙ ap (λ (v : StretchesValue g.row.P.Denot g.row.P-Task.Denot). ready_at (slice_get v.parts k)) c.self.view_is
+
+pub returns-clause-tasks : goal.returns-clause-tasks
+returns-clause-tasks g c = λ k n.
+    read_same g.P.Task.OnPath.path_of
+    (asked_slot _ _ c.args.number (asked _ _ _ c.args.number _ _ (λ x h. h.left) c.take.ensures.taken c.take.ensures.unchanged) k n
+    ∙ ap (λ (v : StretchesValue g.row.P.Denot g.row.P-Task.Denot). slice_get v.parts k) c.self.view_is)
 
 pub returns-clause-stays : goal.returns-clause-stays
 returns-clause-stays g c = λ stay.

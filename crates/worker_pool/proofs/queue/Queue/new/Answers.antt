@@ -1,22 +1,13 @@
-use Rattle.std.proofs.Common.{map, ap}
-use Rattle.worker_pool.proofs.HandedOut.{new_list}
-use Rattle.worker_pool.proofs.Steady.{begun, in_their_order}
+use Rattle.std.proofs.Common.{ap, map, [], refl}
+use Rattle.std.specs.Option.{option_map}
+use Rattle.worker_pool.specs.EngineReading.{EngineReading, read_by}
+use Rattle.worker_pool.specs.Groups.{group_of}
+use Rattle.worker_pool.specs.QueueState.{QueueState}
+use Rattle.worker_pool.proofs.Queueing.{begun}
 use Rattle.worker_pool.proofs.queue.Queue.new.Goals as goal
 
 pub invariant_of-result : goal.invariant_of-result
 invariant_of-result g c =
-    let b = c.requires.begins in
-    let l = c.requires.lists in
-    record {
-      of_mark = c.requires.mark;
-      of_workers = tt;
-      named = l.1;
-      are_out = new_list _ _ _ l.0.0;
-      leaves = λ first ended. (b.left ended, b.none_out);
-      goes_on = λ going. record {
-        steady = begun _ _ _ _ _ _ b.rest (in_their_order _ _ _ c.requires.groups) _ l.0.1 _ (ap (map (λ gr. gr.number)) c.new.ensures.items);
-        nobody = l.0.2;
-        stays = λ e. b.nobody_moved;
-        waits = λ e. cc;
-      };
-    }
+    let r : EngineReading g.row.E.Denot = read_by g.E.Engine.mark g.E.Engine.len g.E.Engine.count g.E.Engine.paths g.E.Engine.living g.E.Engine.faulted g.E.Engine.ready g.E.Engine.out g.E.Engine.stays g.E.Engine.step g.E.Engine.ended g.E.Engine.leaves in
+    let q : QueueState g.row.E.Denot g.row.J.Denot = record { engine = c.args.engine; lists = c.args.lists; ready = map (λ gr. group_of gr.number (map (λ p. p.path.items) gr.participants.items)) c.args.ready.items; back = map (λ gr. group_of gr.number (map (λ p. p.path.items) gr.participants.items)) c.new.result.items; moves = Rattle.std.proofs.Common.false; awaits = Rattle.std.proofs.Common.false; places = map (option_map (λ gr. group_of gr.number (map (λ p. p.path.items) gr.participants.items))) c.new-2.result.places.items; first = c.args.first } in
+    begun r g.J.Running.mark g.J.Running.workers g.J.Running.passes g.L.GroupList.groups g.J.Running.stops q c.requires.mark c.requires.refused c.requires.lists.1 c.requires.lists.0 c.requires.begins c.requires.groups (ap (map (λ gr. group_of gr.number (map (λ p. p.path.items) gr.participants.items))) c.new.ensures.items) refl

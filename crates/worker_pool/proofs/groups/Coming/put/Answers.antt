@@ -1,0 +1,15 @@
+use Rattle.std.proofs.Common.{◌≡◌, ◌∙◌, ◌-◌, Some, sym, ap, arith}
+use Rattle.std.specs.Prelude.{slice_set}
+use Rattle.worker_pool.specs.Groups.{empty_in}
+use Rattle.worker_pool.proofs.Places.{one_fewer}
+use Rattle.worker_pool.proofs.groups.Coming.put.Goals as goal
+
+pub overflow_sub-self : goal.overflow_sub-self
+overflow_sub-self g c = let n = one_fewer c.args.self.now.places.items c.args.group.number c.args.group c.requires in omega (arith, n, c.args.self.now.own)
+
+pub invariant_of-self : goal.invariant_of-self
+invariant_of-self g c =
+    let n = one_fewer c.args.self.now.places.items c.args.group.number c.args.group c.requires in
+    let own = c.args.self.now.own in
+    let fewer : (c.args.self.now.missing - 1) ≡ empty_in (slice_set c.args.self.now.places.items c.args.group.number (Some c.args.group)) = omega (arith, n, own) in
+    record { own = fewer }
