@@ -1,5 +1,5 @@
-//! Tasks written in Rattle, on worker threads: heat in a rod, the game of life, a shop whose customers come and go, a
-//! search in a graph, and its ranks. Each run leaves on workers what it leaves on one thread.
+//! Tasks written in Rattle, on worker threads: heat in a rod, also until a cell of it is warm, the game of life, a shop whose
+//! customers come and go, a search in a graph, and its ranks. Each run leaves on workers what it leaves on one thread.
 #![tactic(auto)]
 
 ghost use Rattle.std.specs.Prelude.{◌≤◌};
@@ -7,7 +7,7 @@ ghost use Rattle.std.specs.Prelude.{◌≤◌};
 use example_tasks::life::next;
 use example_tasks::queue::Shop;
 use example_tasks::rank::Ranks;
-use example_tasks::rod::Rod;
+use example_tasks::rod::{Rod, UntilWarm};
 use example_tasks::search::Graph;
 use example_tasks::start::{self, Start};
 use std::alloc::Global;
@@ -16,12 +16,12 @@ use std::thread::Threads;
 use superstep_memory::arrays::Arrays;
 use task_bodies::body::TaskBody;
 use task_bodies::kernel::{Grid, Window};
-use task_bodies::run::run_bodies;
-use task_workers::{AllStart, OpenGate, run_bodies_on_workers};
+use task_bodies::run::{run_bodies, run_bodies_watched};
+use task_workers::{AllStart, OpenGate, run_bodies_on_workers, run_bodies_watched_on_workers};
 use tier_shape::Shape;
 
 // How many runs are compared.
-const RUNS: usize = 5;
+const RUNS: usize = 6;
 
 // A number by all cells of one array.
 fn array_number(before: i64, cells: &[i64]) -> i64 {
@@ -82,6 +82,62 @@ where
     Ok(number_of(&ran.report.arrays))
 }
 
+// Stops the rod as soon as its cell 20 is warm.
+fn until_warm() -> UntilWarm {
+    UntilWarm {
+        cell: 20,
+        least: 1_000_000_000,
+    }
+}
+
+// What the rod leaves that is stopped, and after how many supersteps.
+fn warm_alone(alloc: Global) -> anyhow::Result<i64> {
+    let start = start::rod(alloc)?;
+    let ran = run_bodies_watched(
+        alloc,
+        &Rod { last: 999 },
+        start.arrays,
+        start.tasks,
+        1000,
+        1000,
+        &mut until_warm(),
+    )?;
+    Ok(array_number(
+        number_of(&ran.report.arrays),
+        &[ran.report.records.len() as i64],
+    ))
+}
+
+fn warm_on_workers<R: Threads + Wait + Sync>(
+    rt: &R,
+    alloc: Global,
+    workers: u32,
+    widths: &str,
+) -> anyhow::Result<i64>
+    requires { (1 ≤ workers) × (workers ≤ 64) }
+{
+    let start = start::rod(alloc)?;
+    let shape = Shape::from_widths(alloc, widths)?;
+    let ran = run_bodies_watched_on_workers(
+        rt,
+        alloc,
+        &Rod { last: 999 },
+        start.arrays,
+        start.tasks,
+        1000,
+        1000,
+        shape,
+        workers,
+        &OpenGate,
+        &AllStart,
+        &mut until_warm(),
+    )?;
+    Ok(array_number(
+        number_of(&ran.report.arrays),
+        &[ran.report.records.len() as i64],
+    ))
+}
+
 fn life_alone(alloc: Global) -> anyhow::Result<i64> {
     let life = Grid {
         array: 0,
@@ -122,11 +178,12 @@ fn ranks() -> Ranks {
 // What all runs leave on one thread.
 fn all_alone(alloc: Global) -> anyhow::Result<[i64; RUNS]> {
     let rod = alone(alloc, &Rod { last: 199 }, start::rod(alloc)?)?;
+    let warm = warm_alone(alloc)?;
     let life = life_alone(alloc)?;
     let shop = alone(alloc, &Shop { open: 199 }, start::shop(alloc)?)?;
     let search = alone(alloc, &Graph { nodes: 100_000 }, start::graph(alloc)?)?;
     let ranks = alone(alloc, &ranks(), start::ranks(alloc)?)?;
-    Ok([rod, life, shop, search, ranks])
+    Ok([rod, warm, life, shop, search, ranks])
 }
 
 // What they leave on this number of workers at a tree of these widths.
@@ -146,6 +203,7 @@ fn all_on_workers<R: Threads + Wait + Sync>(
         workers,
         widths,
     )?;
+    let warm = warm_on_workers(rt, alloc, workers, widths)?;
     let life = life_on_workers(rt, alloc, workers, widths)?;
     let shop = on_workers(
         rt,
@@ -158,7 +216,7 @@ fn all_on_workers<R: Threads + Wait + Sync>(
     let graph = Graph { nodes: 100_000 };
     let search = on_workers(rt, alloc, &graph, start::graph(alloc)?, workers, widths)?;
     let ranks = on_workers(rt, alloc, &ranks(), start::ranks(alloc)?, workers, widths)?;
-    Ok([rod, life, shop, search, ranks])
+    Ok([rod, warm, life, shop, search, ranks])
 }
 
 // Whether this number of workers at a tree of these widths leave what one thread left.

@@ -1,6 +1,6 @@
 -- A superstep whose stretches have all run is closed.
-use Rattle.std.proofs.Common.{◌≡◌, ◌==◌, ℕ, zero, suc, ◌+◌, ◌≤◌, ◌<◌, Bool, true, false, nat_le, List, [], ◌∷◌, ◌++◌, map, length, Option, Some, None, refl, sym, ap, ◌∙◌, subst, ⊎_elim, inl, inr, drop, arith}
-use Rattle.std.specs.Prelude.{ℤ, ◌&&◌, ◌⊎◌, not, if◌then◌else◌}
+use Rattle.std.proofs.Common.{◌≡◌, ◌==◌, ℕ, zero, suc, ◌+◌, ◌≤◌, ◌<◌, Bool, true, false, nat_le, List, [], ◌∷◌, ◌++◌, map, length, Option, Some, None, get_or, refl, sym, ap, ◌∙◌, subst, ⊎_elim, inl, inr, drop, arith}
+use Rattle.std.specs.Prelude.{ℤ, ◌&&◌, ◌⊎◌, not, if◌then◌else◌, Result, Ok, Err, IfOk, IfSome, is_some}
 use Rattle.std.specs.Option.{option_map}
 use Rattle.std.proofs.lemmas.List.{length-map}
 use Rattle.superstep_memory.specs.declared.arrays.Put.{Put}
@@ -11,24 +11,26 @@ use Rattle.phase_records.specs.PrintValue.{PrintValue}
 use Rattle.phase_records.specs.declared.record.PhaseRecord.{PhaseRecord}
 use Rattle.phase_records.specs.Status.{Status, Ended, Fault, Limit}
 use Rattle.phase_records.specs.ReportValue.{ReportValue}
-use Rattle.programs.specs.History.{living_after}
-use Rattle.program_stretches.specs.Reached.{HasRunOn}
+use Rattle.programs.specs.History.{IsEntered, says_by, living_after}
+use Rattle.programs.proofs.Histories.{so_far_shorter}
+use Rattle.std.proofs.lemmas.Bool.Decides.{nat_tests}
+use Rattle.program_stretches.specs.Reached.{IsReached, HasRunOn, with_earlier}
 use Rattle.superstep_memory.proofs.InOrder.{count_in_order}
 use Rattle.programs.specs.Meaning.{children}
 use Rattle.programs.specs.DeedValue.{DeedValue}
 use Rattle.programs.specs.Superstep.{State, ended_by}
-use Rattle.programs.specs.Supersteps.{status}
+use Rattle.programs.specs.Supersteps.{so_far, status, status_of}
 use Rattle.programs.specs.InPlace.{living_with, left_in, spawned_in, told_in, told_at, maker}
 use Rattle.programs.proofs.Reached.{starts_read}
 use Rattle.program_stretches.specs.declared.fault.Outcome.{Outcome}
 use Rattle.program_stretches.specs.declared.fault.Outcome.TheVariants.{Landed, Faulted, TooMany, Overflowed}
 use Rattle.program_stretches.specs.Parts.{Reading, HasDone, AreOwn, AreFresh, fresh_part, covers, is_done, fault_in, tasks_in, puts_in, deeds_in, prints_in, without_puts, without_prints, renewed}
-use Rattle.program_stretches.specs.Opening.{OpeningValue, live_of}
+use Rattle.program_stretches.specs.Opening.{OpeningValue, live_of, states_by, AllOpen}
 use Rattle.program_stretches.specs.Did.{DidAll, IsStepTo}
 use Rattle.program_stretches.specs.StretchesValue.{StretchesValue, state_with, status_for, status_in, is_at_limit, IsAfter, IsOpen, IsCourse, HaveRun}
-use Rattle.program_stretches.specs.Closing.{EndsAs, IsClosed, HasLeft, opened_with}
+use Rattle.program_stretches.specs.Closing.{EndsAs, IsClosed, CountsAs, HasLeftTo, HasLeft, opened_with}
 use Rattle.program_stretches.proofs.Taken.{has_run, faulted, fits, many, over, goes_on}
-use Rattle.program_stretches.proofs.Course.{status_is, after_next}
+use Rattle.program_stretches.proofs.Course.{status_is, unfaulted, same_states, after_next}
 use Rattle.program_stretches.proofs.Whole.{both, at_number, drop_more, drop_end, HaveDid, have_did}
 use Rattle.program_stretches.specs.PartValue.{PartValue}
 
@@ -134,16 +136,9 @@ module _ {Q S T : Type 0} (m : Q → Reading S T) (v : StretchesValue Q S) (law 
         live = map (m v.program).meant (sym is_next i);
         prints = v.prints ++ after;
         records = v.records ++ told ∷ [];
-        fault = unfaulted (sym run) i;
+        fault = sym (unfaulted m v run) i;
       })
       (goes m v law run h.opening h.begun puts us ds after h.did told le is_told none)
-    where
-      by : (o : Option (ℕ × List ℕ)) → None ≡ status_for v.limit v.step o v.count → None ≡ o
-      by None e = refl
-      by (Some f) e = cc
-
-      unfaulted : None ≡ status_in v → None ≡ v.fault
-      unfaulted e = by v.fault e
 
   pub after_landed : IsAfter m (landed_with v puts told after (length next)) (map (m v.program).meant next)
   after_landed =
@@ -151,7 +146,7 @@ module _ {Q S T : Type 0} (m : Q → Reading S T) (v : StretchesValue Q S) (law 
       let living = f.living in
       let n = ap length is_next ∙ count_in_order (m v.program).path (living_with us ds) in
       let l = length-map next (m v.program).meant in
-      after_next m v (landed_with v puts told after (length next)) (map (m v.program).meant (live_of h.opening)) (map (m v.program).meant next) law h.begun run step_landed.step refl refl refl refl refl (sym l)
+      after_next m v (landed_with v puts told after (length next)) (map (m v.program).meant (live_of h.opening)) (map (m v.program).meant next) law h.begun run h.count step_landed.step refl refl refl refl refl (sym l)
       (omega (arith, l, n, living, le))
 
   pub closed_landed : (parts : List (Option (PartValue S))) → AreFresh 0 parts → tasks_in parts ≡ next → (w : StretchesValue Q S) → w ≡ opened_with (landed_with v puts told after (length next)) parts → IsClosed m v w Landed
@@ -162,13 +157,9 @@ module _ {Q S T : Type 0} (m : Q → Reading S T) (v : StretchesValue Q S) (law 
         log = h.is;
         live = map (m v.program).meant next;
         step = step_landed;
-        leaves = (by v.fault (sym run), fresh, ap (map (m v.program).meant) (sym tasks));
+        leaves = (unfaulted m v run, fresh, ap (map (m v.program).meant) (sym tasks));
         same = record { named = refl; program = refl; most = refl; limit = refl };
       })
-    where
-      by : (o : Option (ℕ × List ℕ)) → None ≡ status_for v.limit v.step o v.count → o ≡ None
-      by None e = refl
-      by (Some f) e = cc
 
 -- a run that goes on is below its limit
 pub below_limit : {Q S : Type 0} (v : StretchesValue Q S) → status_in v ≡ None → v.step < v.limit
@@ -245,6 +236,8 @@ module _ {Q S T : Type 0} (m : Q → Reading S T) where
   after_with v ps live h = record {
     begun = record { first = h.begun.first; since = h.begun.since; is = h.begun.is; program = h.begun.program; most = h.begun.most; limit = h.begun.limit; paths = h.begun.paths };
     reached = h.reached;
+    all_open = h.all_open;
+    as_long = h.as_long;
     count = h.count;
     few = h.few;
   }
@@ -261,8 +254,8 @@ module _ {Q S T : Type 0} (m : Q → Reading S T) where
   }
 
   -- stretches that cover the live tasks are those of an opened superstep
-  pub open_whole : (v : StretchesValue Q S) (h : IsCourse m v) → covers true v.count 0 v.parts ≡ true → status_in v ≡ None → IsOpen m v h.live
-  open_whole v h c run = ⊎_elim none (λ o. o) h.opened
+  pub open_whole : (done : Bool) (v : StretchesValue Q S) (h : IsCourse m v) → covers done v.count 0 v.parts ≡ true → status_in v ≡ None → IsOpen m v h.live
+  open_whole done v h c run = ⊎_elim none (λ o. o) h.opened
     where
       by : (f : Option (ℕ × List ℕ)) (n : ℕ) → (0 == n) ≡ true → status_for v.limit v.step f n ≡ None → ⊥
       by (Some f) n e r = cc
@@ -270,11 +263,11 @@ module _ {Q S T : Type 0} (m : Q → Reading S T) where
       by None (suc n) e r = let k = at_number 0 (suc n) e in absurd (omega (arith, k))
 
       none : v.parts ≡ [] → IsOpen m v h.live
-      none e = absurd (by v.fault v.count (sym (ap (λ (ss : List (Option (PartValue S))). covers true v.count 0 ss) e) ∙ c) run)
+      none e = absurd (by v.fault v.count (sym (ap (λ (ss : List (Option (PartValue S))). covers done v.count 0 ss) e) ∙ c) run)
 
   module _ (v : StretchesValue Q S) (h : IsCourse m v) (c : covers true v.count 0 v.parts ≡ true) (run : status_in v ≡ None) where
     abbrev pub open_now : IsOpen m v h.live
-    open_now = open_whole v h c run
+    open_now = open_whole true v h c run
 
     pub begun_now : IsAfter m v (map (m v.program).meant (live_of open_now.opening))
     begun_now = subst (IsAfter m v) open_now.lives h.after
@@ -325,6 +318,23 @@ module _ {S T : Type 0} (r : Reading S T) (arrays : List (List ℕ × List ℤ))
       not_done true e = cc
       not_done false e = refl
 
+-- what is said of an answer that is there
+pub left_when : {L E : Type 0} (answer : Result (Option L) E) (F G : L → Type 0) (b : Bool) → IfOk answer (λ o. IfSome o F) → IfOk answer (λ o. is_some o ≡ b) → ((l : L) → F l → b ≡ true → G l) → IfOk answer (λ o. IfSome o G)
+left_when (Ok (Some l)) F G b h s k = k l h (sym s)
+left_when (Ok None) F G b h s k = tt
+left_when (Err e) F G b h s k = tt
+
+pub nothing_if : {A : Type 0} (o : Option A) → is_some o ≡ false → o ≡ None
+nothing_if None e = refl
+nothing_if (Some x) e = cc
+
+same : {A : Type 0} (a b : A) → Some a ≡ Some b → a ≡ b
+same {A} a b e = ap value e
+  where
+    value : Option A → A
+    value None = a
+    value (Some x) = x
+
 module _ {Q S T : Type 0} (m : Q → Reading S T) (v : StretchesValue Q S) (h : IsCourse m v) where
   -- the tasks that still live are those of the stretches
   pub living_is : (s : Status) → status_in v ≡ Some s → (tasks : List S) → tasks ≡ (if is_at_limit s then tasks_in v.parts else []) → (is_at_limit s ≡ true → covers false v.count 0 v.parts ≡ true)
@@ -358,20 +368,105 @@ module _ {Q S T : Type 0} (m : Q → Reading S T) (v : StretchesValue Q S) (h : 
           let k = h.after.count ∙ ap length o.lives ∙ l in
           o.lives ∙ ap (map (m v.program).meant) (sym (live_still (m v.program) v.arrays (live_of o.opening) v.step v.count 0 v.parts o.own (c refl) k) ∙ sym t)
 
-  -- what it leaves
+  -- what it leaves, taken to this limit
+  record LeftBy (r : Reading S T) (most limit : ℕ) (first : OpeningValue Q S) (outcome : ReportValue) (tasks : List S) : Type 0 where
+    run : HasRunOn r.frame r.may most first.arrays (map r.meant (live_of first)) limit v.given outcome (map r.meant tasks)
+    all_open : AllOpen r.meant v.log (states_by r most run.run.history first limit)
+    as_long : length run.run.history ≤ length v.log
+    counted : CountsAs outcome.status (length run.run.history)
+
+  -- a run without a fault has taken as many supersteps as its status says
+  counts : (s : Status) (n : ℕ) → status_in v ≡ Some s → (v.fault ≡ None → n ≡ v.step) → CountsAs s n
+  counts s n e taken = by v.fault v.count s e taken
+    where
+      late : (b : Bool) (s : Status) → (if b then Some (Limit v.step) else None) ≡ Some s → s ≡ Limit v.step
+      late true s e = sym (same (Limit v.step) s e)
+      late false s e = cc
+
+      by : (f : Option (ℕ × List ℕ)) (count : ℕ) (s : Status) → status_for v.limit v.step f count ≡ Some s → (f ≡ None → n ≡ v.step) → CountsAs s n
+      by (Some f) count s e taken = subst (λ (x : Status). CountsAs x n) (same (Fault f.0 v.step f.1) s e) tt
+      by None zero s e taken = subst (λ (x : Status). CountsAs x n) (same (Ended v.step) s e) (taken refl)
+      by None (suc m) s e taken = subst (λ (x : Status). CountsAs x n) (sym (late (nat_le v.limit v.step) s e)) (taken refl)
+
   pub has_left : (law : (t : S) → (m v.program).frame.path ((m v.program).meant t) ≡ (m v.program).path t) (s : Status) → status_in v ≡ Some s → (tasks : List S)
       → tasks ≡ (if is_at_limit s then tasks_in v.parts else []) → (is_at_limit s ≡ true → covers false v.count 0 v.parts ≡ true)
       → (outcome : ReportValue) → outcome ≡ record { prints = v.prints; records = v.records; arrays = v.arrays; status = s } → HasLeft m v.log v.given outcome tasks
   has_left law s e tasks t c outcome is =
       let b = h.after.begun in
+      let left : LeftBy (m v.program) v.most v.limit b.first outcome tasks =
       record {
-        first = b.first;
-        since = b.since;
-        begun = b.is;
         run =
-            subst (λ (n : ℕ). HasRunOn (m b.first.program).frame (m b.first.program).may b.first.most b.first.arrays (map (m b.first.program).meant (live_of b.first)) n v.given outcome (map (m b.first.program).meant tasks)) b.limit
-            (subst (λ (n : ℕ). HasRunOn (m b.first.program).frame (m b.first.program).may n b.first.arrays (map (m b.first.program).meant (live_of b.first)) v.limit v.given outcome (map (m b.first.program).meant tasks)) b.most
-            (subst (λ (q : Q). HasRunOn (m q).frame (m q).may v.most b.first.arrays (map (m q).meant (live_of b.first)) v.limit v.given outcome (map (m q).meant tasks)) b.program
-            (has_run (m v.program) law v.most b.first.arrays (map (m v.program).meant (live_of b.first)) v.limit v.given (state_with v h.live) h.after.reached s (status_is m v h.live h.after.count ∙ e) outcome is
-            (map (m v.program).meant tasks) (living_is s e tasks t c))));
-      }
+            has_run (m v.program) law v.most b.first.arrays (map (m v.program).meant (live_of b.first)) v.limit v.given (state_with v h.live) h.after.reached s (status_is m v h.live h.after.count ∙ e) outcome is
+            (map (m v.program).meant tasks) (living_is s e tasks t c);
+        all_open = h.after.all_open;
+        as_long = h.after.as_long;
+        counted = subst (λ (x : ReportValue). CountsAs x.status (length h.after.reached.history)) (sym is) (counts s (length h.after.reached.history) e h.after.reached.count);
+      } in
+      let from =
+      subst (λ (n : ℕ). LeftBy (m b.first.program) b.first.most n b.first outcome tasks) b.limit
+      (subst (λ (n : ℕ). LeftBy (m b.first.program) n v.limit b.first outcome tasks) b.most
+      (subst (λ (q : Q). LeftBy (m q) v.most v.limit b.first outcome tasks) b.program left)) in
+      record { first = b.first; since = b.since; begun = b.is; within = omega arith; run = from.run; all_open = from.all_open; as_long = from.as_long; counted = from.counted }
+
+  module _ (run : status_in v ≡ None) (c : covers false v.count 0 v.parts ≡ true) where
+    -- it is stopped where it is, while tasks live
+    late : status v.step (state_with v h.live) ≡ Some (Limit v.step)
+    late = by v.fault h.live (status_is m v h.live h.after.count ∙ run)
+      where
+        no_less : (n : ℕ) → (if nat_le n n then Some (Limit n) else None) ≡ Some (Limit n)
+        no_less n = test (nat_le n n) refl
+          where
+            test : (b : Bool) → nat_le n n ≡ b → (if b then Some (Limit n) else None) ≡ Some (Limit n)
+            test true e = refl
+            test false e = absurd (let k : n < n = grind (arith, nat_tests) in omega (arith, k))
+
+        by : (f : Option (ℕ × List ℕ)) (live : List T) → status_of v.limit v.step f live ≡ None → status_of v.step v.step f live ≡ Some (Limit v.step)
+        by (Some f) live e = cc
+        by None [] e = cc
+        by None (x ∷ live) e = no_less v.step
+
+    pub still_live : (tasks : List S) → tasks ≡ tasks_in v.parts → h.live ≡ map (m v.program).meant tasks
+    still_live tasks t =
+        let o = open_whole m false v h c run in
+        let l = length-map (live_of o.opening) (m v.program).meant in
+        let k = h.after.count ∙ ap length o.lives ∙ l in
+        o.lives ∙ ap (map (m v.program).meant) (sym (live_still (m v.program) v.arrays (live_of o.opening) v.step v.count 0 v.parts o.own c k) ∙ sym t)
+
+    -- what it leaves then: that of a run with a lower limit
+    pub has_stopped : (law : (t : S) → (m v.program).frame.path ((m v.program).meant t) ≡ (m v.program).path t) (tasks : List S) → tasks ≡ tasks_in v.parts
+        → (outcome : ReportValue) → outcome ≡ record { prints = v.prints; records = v.records; arrays = v.arrays; status = Limit v.step } → HasLeftTo m (λ o. v.step) v.log v.given outcome tasks
+    has_stopped law tasks t outcome is =
+        let b = h.after.begun in
+        let r = h.after.reached in
+        let live = map (m v.program).meant (live_of b.first) in
+        let below = below_limit v run in
+        let k = r.count (unfaulted m v run) in
+        let long = (open_whole m false v h c run).count in
+        let says = says_by (m v.program).frame v.most r.history in
+        let as_before : (n : ℕ) → n ≤ v.step → so_far says b.first.arrays live v.step n ≡ so_far says b.first.arrays live v.limit n =
+        λ n le. so_far_shorter (m v.program).frame v.most says b.first.arrays live v.limit v.step n (omega (arith, below)) le in
+        let within = r.within in
+        let shorter : IsReached (m v.program).frame (m v.program).may v.most b.first.arrays live v.step v.given (state_with v h.live) =
+        record {
+          history = r.history;
+          entered = λ n lt. subst (λ (x : State T). IsEntered (m v.program).frame (m v.program).may x (get_or r.history n [])) (sym (as_before n (omega (arith, lt, k)))) (r.entered n lt);
+          within = within;
+          count = r.count;
+          state =
+              ap (λ (x : State T). with_earlier x (state_with v h.live)) (as_before v.given (omega (arith, within, k))) ∙ r.state
+              ∙ sym (as_before (length r.history) (omega (arith, k)));
+        } in
+        let left : LeftBy (m v.program) v.most v.step b.first outcome tasks =
+        record {
+          run = has_run (m v.program) law v.most b.first.arrays live v.step v.given (state_with v h.live) shorter (Limit v.step) late outcome is (map (m v.program).meant tasks) (still_live tasks t);
+          all_open =
+              same_states (m v.program).meant v.log (states_by (m v.program) v.most r.history b.first v.limit) (states_by (m v.program) v.most r.history b.first v.step)
+              (λ n lt. as_before n (omega (arith, lt, long))) h.after.all_open;
+          as_long = h.after.as_long;
+          counted = subst (λ (x : ReportValue). CountsAs x.status (length r.history)) (sym is) k;
+        } in
+        let from =
+        subst (λ (n : ℕ). LeftBy (m b.first.program) n v.step b.first outcome tasks) b.most
+        (subst (λ (q : Q). LeftBy (m q) v.most v.step b.first outcome tasks) b.program left) in
+        let limit = b.limit in
+        record { first = b.first; since = b.since; begun = b.is; within = omega (arith, below, limit); run = from.run; all_open = from.all_open; as_long = from.as_long; counted = from.counted }

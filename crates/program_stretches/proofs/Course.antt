@@ -1,18 +1,27 @@
 -- A run by stretches, from one call to the next.
-use Rattle.std.proofs.Common.{◌≡◌, ℕ, zero, suc, ◌+◌, ◌≤◌, List, [], ◌∷◌, ◌++◌, length, map, Option, Some, None, refl, sym, ap, ◌∙◌, subst, inl, inr, ⊎_elim, append-nil, slice_get, arith, length-append}
+use Rattle.std.proofs.Common.{◌≡◌, ℕ, zero, suc, ◌+◌, ◌≤◌, ◌<◌, List, [], ◌∷◌, ◌++◌, length, map, Option, Some, None, refl, sym, ap, ◌∙◌, subst, inl, inr, ⊎_elim, append-nil, slice_get, arith, length-append}
 use Rattle.std.proofs.lemmas.List.{length-map}
 use Rattle.programs.specs.Meaning.{children}
 use Rattle.programs.specs.Supersteps.{so_far, status, status_of}
 use Rattle.programs.specs.History.{says_by}
 use Rattle.programs.specs.Superstep.{State}
+use Rattle.programs.proofs.Histories.{so_far_more}
 use Rattle.program_stretches.specs.PartValue.{PartValue}
 use Rattle.program_stretches.specs.Parts.{Reading, IsPartOf, IsOwn, AreOwn, AreFresh}
-use Rattle.program_stretches.specs.Opening.{OpeningValue, live_of}
+use Rattle.program_stretches.specs.Opening.{OpeningValue, live_of, states_by, Opens, AllOpen}
 use Rattle.program_stretches.specs.Reached.{IsReached, with_earlier}
 use Rattle.program_stretches.specs.Did.{IsStep}
 use Rattle.program_stretches.specs.StretchesValue.{StretchesValue, StretchValue, state_with, status_for, status_in, with_slot, IsAfter, IsOpen, IsStretch, IsCourse}
 use Rattle.program_stretches.proofs.Owning.{fresh_own, own_set, some_there}
 use Rattle.program_stretches.proofs.Taken.{reached_next}
+
+-- the openings are those of any run with the same states
+pub same_states : {Q S T : Type 0} (meant : S → T) (log : List (OpeningValue Q S)) (states next : ℕ → State T) → ((n : ℕ) → n < length log → next n ≡ states n) → AllOpen meant log states → AllOpen meant log next
+same_states meant [] states next same h = tt
+same_states meant (o ∷ older) states next same h = (
+  subst (Opens meant o (length older)) (sym (same (length older) (omega arith))) h.0,
+  same_states meant older states next (λ n lt. same n (omega (arith, lt))) h.1,
+)
 
 module _ {Q S T : Type 0} (m : Q → Reading S T) where
   -- before the first superstep
@@ -34,6 +43,8 @@ module _ {Q S T : Type 0} (m : Q → Reading S T) where
             count = λ none. sym es;
             state = λ i. with_earlier (so_far (says_by (m q).frame v.most []) o.arrays live v.limit (eg i)) (record { step = es i; arrays = arrays i; live = live; prints = ep i; records = er i; fault = ef i });
           };
+          all_open = subst (λ (os : List (OpeningValue Q S)). AllOpen (m q).meant os (states_by (m q) v.most [] o v.limit)) (sym log) (record { step = refl; arrays = refl; live = refl }, tt);
+          as_long = omega arith;
           count = count ∙ sym l;
           few = omega (arith, l, few);
         };
@@ -60,35 +71,46 @@ module _ {Q S T : Type 0} (m : Q → Reading S T) where
   pub status_is : (v : StretchesValue Q S) (live : List T) → v.count ≡ length live → status v.limit (state_with v live) ≡ status_in v
   status_is v live e = status_same v.limit v.step v.fault v.count live e
 
+  -- a run that goes on has no fault
+  pub unfaulted : (v : StretchesValue Q S) → status_in v ≡ None → v.fault ≡ None
+  unfaulted v run = by v.fault run
+    where
+      by : (f : Option (ℕ × List ℕ)) → status_for v.limit v.step f v.count ≡ None → f ≡ None
+      by None e = refl
+      by (Some f) e = cc
+
   -- one superstep more
-  pub after_next : (v w : StretchesValue Q S) (live next : List T) → ((t : S) → (m v.program).frame.path ((m v.program).meant t) ≡ (m v.program).path t) → (h : IsAfter m v live) → status_in v ≡ None
+  pub after_next : (v w : StretchesValue Q S) (live next : List T) → ((t : S) → (m v.program).frame.path ((m v.program).meant t) ≡ (m v.program).path t) → (h : IsAfter m v live) → status_in v ≡ None → length v.log ≡ v.step + 1
       → IsStep (m v.program).frame (m v.program).may v.most (state_with v live) (state_with w next)
       → w.log ≡ v.log → w.program ≡ v.program → w.most ≡ v.most → w.limit ≡ v.limit → w.given ≡ v.given → w.count ≡ length next → length next ≤ w.most → IsAfter m w next
-  after_next v w live next law h run s log program most limit given count few = record {
-    begun = record {
-      first = h.begun.first;
-      since = h.begun.since;
-      is = log ∙ h.begun.is;
-      program = program ∙ h.begun.program;
-      most = most ∙ h.begun.most;
-      limit = limit ∙ h.begun.limit;
-      paths = subst (λ (q : Q). map (m q).path (live_of h.begun.first) ≡ children [] 0 (length (live_of h.begun.first))) (sym program) h.begun.paths;
-    };
-    reached =
-        subst (λ (q : Q). IsReached (m q).frame (m q).may w.most h.begun.first.arrays (map (m q).meant (live_of h.begun.first)) w.limit w.given (state_with w next)) (sym program)
-        (subst (λ (n : ℕ). IsReached (m v.program).frame (m v.program).may n h.begun.first.arrays (map (m v.program).meant (live_of h.begun.first)) w.limit w.given (state_with w next)) (sym most)
-        (subst (λ (n : ℕ). IsReached (m v.program).frame (m v.program).may v.most h.begun.first.arrays (map (m v.program).meant (live_of h.begun.first)) n w.given (state_with w next)) (sym limit)
-        (subst (λ (n : ℕ). IsReached (m v.program).frame (m v.program).may v.most h.begun.first.arrays (map (m v.program).meant (live_of h.begun.first)) v.limit n (state_with w next)) (sym given)
-        (reached_next (m v.program) law v.most h.begun.first.arrays (map (m v.program).meant (live_of h.begun.first)) v.limit v.given (state_with v live) (state_with w next) h.reached (status_is v live h.count ∙ run) s))));
-    count = count;
-    few = few;
-  }
+  after_next v w live next law h run long s log program most limit given count few =
+      let first = h.begun.first in
+      let r = h.reached in
+      let k = r.count (unfaulted v run) in
+      let es = s.entries in
+      let l = length-append r.history (es ∷ []) in
+      subst (λ (x : StretchesValue Q S). IsAfter m x next)
+      (λ i. record w { log = sym log i; program = sym program i; most = sym most i; limit = sym limit i; given = sym given i })
+      (record {
+        begun = record { first = first; since = h.begun.since; is = h.begun.is; program = h.begun.program; most = h.begun.most; limit = h.begun.limit; paths = h.begun.paths };
+        reached = reached_next (m v.program) law v.most first.arrays (map (m v.program).meant (live_of first)) v.limit v.given (state_with v live) (state_with w next) r (status_is v live h.count ∙ run) s;
+        all_open =
+            same_states (m v.program).meant v.log (states_by (m v.program) v.most r.history first v.limit) (states_by (m v.program) v.most (r.history ++ es ∷ []) first v.limit)
+            (λ n lt. so_far_more (m v.program).frame v.most r.history (es ∷ []) first.arrays (map (m v.program).meant (live_of first)) v.limit n (omega (arith, lt, k, long))) h.all_open;
+        as_long = omega (arith, l, k, long);
+        count = count;
+        few = subst (λ (n : ℕ). length next ≤ n) most few;
+      })
 
   -- the next superstep is opened
-  pub course_opened : (v w : StretchesValue Q S) (o : OpeningValue Q S) → (h : IsAfter m v (map (m v.program).meant (live_of o))) → length v.log ≡ v.step → AreFresh 0 o.parts → o.program ≡ v.program → o.arrays ≡ v.arrays
+  pub course_opened : (v w : StretchesValue Q S) (o : OpeningValue Q S) → (h : IsAfter m v (map (m v.program).meant (live_of o))) → v.fault ≡ None → length v.log ≡ v.step → AreFresh 0 o.parts → o.program ≡ v.program → o.arrays ≡ v.arrays
       → w ≡ record v { log = o ∷ v.log; parts = o.parts } → IsCourse m w
-  course_opened v w o h count fresh program arrays is =
+  course_opened v w o h calm count fresh program arrays is =
       let q = v.program in
+      let r = h.reached in
+      let k = r.count calm in
+      let states = states_by (m q) v.most r.history h.begun.first v.limit in
+      let now : states (length v.log) ≡ with_earlier (states v.given) (state_with v (map (m q).meant (live_of o))) = ap states (count ∙ sym k) ∙ sym r.state in
       let opened : StretchesValue Q S = record v { log = o ∷ v.log; parts = o.parts } in
       subst (IsCourse m) (sym is) (record {
         live = map (m q).meant (live_of o);
@@ -102,7 +124,9 @@ module _ {Q S T : Type 0} (m : Q → Reading S T) where
             limit = h.begun.limit;
             paths = h.begun.paths;
           };
-          reached = h.reached;
+          reached = r;
+          all_open = (record { step = ap (λ (x : State T). x.step) now ∙ sym count; arrays = ap (λ (x : State T). x.arrays) now ∙ sym arrays; live = ap (λ (x : State T). x.live) now }, h.all_open);
+          as_long = omega (arith, k, count);
           count = h.count;
           few = h.few;
         };
@@ -143,6 +167,8 @@ module _ {Q S T : Type 0} (m : Q → Reading S T) where
                 ap (λ (n : ℕ). with_earlier (so_far says b.first.arrays tasks v.limit n) bare) (sym k)
                 ∙ (λ i. record { step = (e i).step; arrays = (e i).arrays; live = (e i).live; prints = append-nil last.prints i; records = append-nil last.records i; fault = (e i).fault });
           };
+          all_open = h.after.all_open;
+          as_long = h.after.as_long;
           count = h.after.count;
           few = h.after.few;
         };
@@ -179,6 +205,8 @@ module _ {Q S T : Type 0} (m : Q → Reading S T) where
     after = record {
       begun = record { first = h.after.begun.first; since = h.after.begun.since; is = h.after.begun.is; program = h.after.begun.program; most = h.after.begun.most; limit = h.after.begun.limit; paths = h.after.begun.paths };
       reached = h.after.reached;
+      all_open = h.after.all_open;
+      as_long = h.after.as_long;
       count = h.after.count;
       few = h.after.few;
     };

@@ -44,12 +44,12 @@ closed_later s early st ss None = λ i. record {
   fault = None;
 }
 
-superstep_later : {T : Type 0} (s : Says T) (early st : State T) → superstep s (with_earlier early st) ≡ with_earlier early (superstep s st)
+pub superstep_later : {T : Type 0} (s : Says T) (early st : State T) → superstep s (with_earlier early st) ≡ with_earlier early (superstep s st)
 superstep_later s early st =
     closed_later s early st (segments s st.arrays st.step st.live) (fault_in s st.arrays (segments s st.arrays st.step st.live))
 
 -- a superstep without a fault goes on to the next step
-moved : {T : Type 0} (s : Says T) (st next : State T) → superstep s st ≡ next → next.fault ≡ None → next.step ≡ st.step + 1
+pub moved : {T : Type 0} (s : Says T) (st next : State T) → superstep s st ≡ next → next.fault ≡ None → next.step ≡ st.step + 1
 moved {T} s st next e none = ap (λ (x : State T). x.step) (sym e) ∙ by (fault_in s st.arrays ss) (ap (λ (x : State T). x.fault) e ∙ none)
   where
     ss : List (List ℕ × Segment T)
@@ -64,7 +64,7 @@ module _ {S T : Type 0} (r : Reading S T) (law : (t : S) → r.frame.path (r.mea
   Reached st = IsReached r.frame r.may most arrays tasks limit given st
 
   -- one superstep more
-  pub reached_next : (st next : State T) (h : Reached st) → status limit st ≡ None → IsStep r.frame r.may most st next → Reached next
+  abbrev pub reached_next : (st next : State T) (h : Reached st) → status limit st ≡ None → IsStep r.frame r.may most st next → Reached next
   reached_next st next h run s =
       let es = s.entries in
       let says = says_by r.frame most h.history in
@@ -101,7 +101,7 @@ module _ {S T : Type 0} (r : Reading S T) (law : (t : S) → r.frame.path (r.mea
       }
 
   -- a run that has ended
-  pub has_run : (st : State T) (h : Reached st) (s : Status) → status limit st ≡ Some s → (outcome : ReportValue) → outcome ≡ record { prints = st.prints; records = st.records; arrays = st.arrays; status = s }
+  abbrev pub has_run : (st : State T) (h : Reached st) (s : Status) → status limit st ≡ Some s → (outcome : ReportValue) → outcome ≡ record { prints = st.prints; records = st.records; arrays = st.arrays; status = s }
       → (living : List T) → living_after s st.live ≡ living → HasRunOn r.frame r.may most arrays tasks limit given outcome living
   has_run st h s e outcome is living l =
       let says = says_by r.frame most h.history in

@@ -1,8 +1,9 @@
 -- How stretches are handed out and taken back, and how a superstep is closed (own).
-use Rattle.std.specs.Prelude.{◌≡◌, ◌+◌, ℕ, ℤ, Bool, true, false, List, [], ◌∷◌, ◌++◌, length, map, Option, Some, None, slice_get}
+use Rattle.std.specs.Prelude.{◌≡◌, ◌≤◌, ◌+◌, if◌then◌else◌, ℕ, ℤ, Bool, true, false, List, [], ◌∷◌, ◌++◌, length, map, Option, Some, None, slice_get}
 use Rattle.atomic_table.specs.Seated.{TableId}
 use Rattle.superstep_memory.specs.PathOrder.{in_path_order}
 use Rattle.phase_records.specs.ReportValue.{ReportValue}
+use Rattle.phase_records.specs.Status.{Status, Ended, Fault, Limit}
 use Rattle.programs.specs.InPlace.{left_in, spawned_in}
 use Rattle.programs.specs.Superstep.{ended_by}
 use Rattle.program_stretches.specs.Reached.{HasRunOn}
@@ -15,9 +16,9 @@ use Rattle.program_stretches.specs.declared.fault.Outcome.{Outcome}
 use Rattle.program_stretches.specs.declared.fault.Outcome.TheVariants.{Landed}
 use Rattle.program_stretches.specs.PartValue.{PartValue}
 use Rattle.program_stretches.specs.Parts.{Reading, AreFresh, EachDid, covers, of_slot, tasks_in, living_in, renewed}
-use Rattle.program_stretches.specs.Opening.{OpeningValue, live_of}
+use Rattle.program_stretches.specs.Opening.{OpeningValue, live_of, states_by, AllOpen}
 use Rattle.program_stretches.specs.Did.{IsStep, IsStepTo}
-use Rattle.program_stretches.specs.StretchesValue.{StretchesValue, StretchValue, state_with, with_slot, IsAfter, IsCourse}
+use Rattle.program_stretches.specs.StretchesValue.{StretchesValue, StretchValue, is_at_limit, state_with, with_slot, IsAfter, IsCourse}
 
 -- whether there is such a stretch and it isn't out
 abbrev pub is_there : {S : Type 0} → Option (Option (PartValue S)) → Bool
@@ -38,6 +39,9 @@ module _ {Q S : Type 0} where
     pub of_tasks : live_of opening ≡ tasks
     pub at_most : v.most ≡ most
     pub to_limit : v.limit ≡ limit
+    pub with_arrays : v.arrays ≡ arrays
+    pub at_start : v.step ≡ 0
+    pub calm : v.fault ≡ None
     pub ready : AreFresh 0 v.parts
     pub whole : tasks_in v.parts ≡ tasks
     pub counted : v.count ≡ length (tasks_in v.parts)
@@ -78,9 +82,26 @@ module _ {Q S : Type 0} where
   NotClosed unclosed.Missing old new = (covers true old.count 0 old.parts ≡ false) × (new ≡ old)
   NotClosed (unclosed.Memory e) old new = (covers true old.count 0 old.parts ≡ true) × (new.parts ≡ [])
 
+  -- what a run leaves that has ended so: its tasks only if they still live
+  pub record IsLeftAs (v : StretchesValue Q S) (s : Status) (name : TableId) (log : List (OpeningValue Q S)) (given : ℕ) (outcome : ReportValue) (living : List S) : Type 0 where
+    pub named : name ≡ v.name
+    pub logged : log ≡ v.log
+    pub gave : given ≡ v.given
+    pub report : outcome ≡ record { prints = v.prints; records = v.records; arrays = v.arrays; status = s }
+    pub tasks : living ≡ (if is_at_limit s then tasks_in v.parts else [])
+
+  -- the next superstep, with these stretches
+  abbrev pub opening_with : StretchesValue Q S → List (Option (PartValue S)) → OpeningValue Q S
+  opening_with v parts = record { program = v.program; most = v.most; limit = v.limit; arrays = v.arrays; parts = parts }
+
   -- the run after the next superstep was opened with these stretches
   abbrev pub opened_with : StretchesValue Q S → List (Option (PartValue S)) → StretchesValue Q S
-  opened_with v parts = record v { log = record { program = v.program; most = v.most; limit = v.limit; arrays = v.arrays; parts = parts } ∷ v.log; parts = parts }
+  opened_with v parts = record v { log = opening_with v parts ∷ v.log; parts = parts }
+
+  -- How closing a superstep changes the log: it gets the opening of the next one, if the run wasn't ended by a fault.
+  abbrev pub Logs : Outcome → StretchesValue Q S → StretchesValue Q S → Type 0
+  Logs Landed old new = (length old.log ≡ new.step) × (new.log ≡ opening_with new new.parts ∷ old.log)
+  Logs o old new = new.log ≡ old.log
 
 -- no task of a stretch that isn't out has stopped or spawned another
 abbrev pub AllStay : {S : Type 0} → List (Option (PartValue S)) → Type 0
@@ -97,11 +118,18 @@ module _ {Q S : Type 0} where
       × (tasks_in v.parts ≡ in_path_order path (living_in ran))
   IsReopened path o step ran v = v.parts ≡ []
 
+-- so many supersteps, if no fault ended it
+abbrev pub CountsAs : Status → ℕ → Type 0
+CountsAs (Fault code step path) n = Unit {0}
+CountsAs (Ended steps) n = n ≡ steps
+CountsAs (Limit steps) n = n ≡ steps
+
 module _ {Q S T : Type 0} where
   -- this fault ends the run in this superstep
   pub record EndsBy (m : Q → Reading S T) (v : StretchesValue Q S) (f : ℕ × List ℕ) : Type 0 where
     pub live : List T
     pub begun : IsAfter m v live
+    pub count : length v.log ≡ v.step + 1
     pub step : IsStep (m v.program).frame (m v.program).may v.most (state_with v live) (ended_by (state_with v live) f)
 
   -- what a superstep with this outcome leaves
@@ -119,13 +147,21 @@ module _ {Q S T : Type 0} where
     pub leaves : EndsAs m outcome new live
     pub same : IsSameRun old new
 
-  -- This is the result of a run that began with the first opening of this log, without what its first `given` supersteps printed
-  -- and recorded.
-  pub record HasLeft (m : Q → Reading S T) (log : List (OpeningValue Q S)) (given : ℕ) (outcome : ReportValue) (living : List S) : Type 0 where
+  -- This is the result of a run that began with the first opening of this log and was taken to a limit that may be lower than its
+  -- own, without what its first `given` supersteps printed and recorded. The openings are those of its supersteps.
+  pub record HasLeftTo (m : Q → Reading S T) (limit : OpeningValue Q S → ℕ) (log : List (OpeningValue Q S)) (given : ℕ) (outcome : ReportValue) (living : List S) : Type 0 where
     pub first : OpeningValue Q S
     pub since : List (OpeningValue Q S)
     pub begun : log ≡ since ++ first ∷ []
-    pub run : HasRunOn (m first.program).frame (m first.program).may first.most first.arrays (map (m first.program).meant (live_of first)) first.limit given outcome (map (m first.program).meant living)
+    pub within : limit first ≤ first.limit
+    pub run : HasRunOn (m first.program).frame (m first.program).may first.most first.arrays (map (m first.program).meant (live_of first)) (limit first) given outcome (map (m first.program).meant living)
+    pub all_open : AllOpen (m first.program).meant log (states_by (m first.program) first.most run.run.history first (limit first))
+    pub as_long : length run.run.history ≤ length log
+    pub counted : CountsAs outcome.status (length run.run.history)
+
+  -- the same, taken to its own limit
+  abbrev pub HasLeft : (Q → Reading S T) → List (OpeningValue Q S) → ℕ → ReportValue → List S → Type 0
+  HasLeft m log given outcome living = HasLeftTo m (λ o. o.limit) log given outcome living
 
   -- The lines that `give` returns: what supersteps have printed and recorded since the last call.
   pub record IsGiven (m : Q → Reading S T) (v : StretchesValue Q S) (lines : LinesValue) : Type 0 where

@@ -1,5 +1,5 @@
 -- The supersteps of a program by stretches (own).
-use Rattle.std.specs.Prelude.{◌≡◌, ◌≤◌, ◌⊎◌, ℕ, zero, suc, ◌+◌, ℤ, nat_le, if◌then◌else◌, Bool, true, false, not, ◌||◌, List, [], ◌∷◌, ◌++◌, map, length, slice_set, Option, Some, None, is_some}
+use Rattle.std.specs.Prelude.{◌≡◌, ◌≤◌, ◌⊎◌, ℕ, zero, suc, ◌+◌, ℤ, nat_le, if◌then◌else◌, Bool, true, false, not, ◌||◌, ◌&&◌, List, [], ◌∷◌, ◌++◌, map, length, slice_set, Option, Some, None, is_some}
 use Rattle.superstep_memory.specs.declared.arrays.Put.{Put}
 use Rattle.superstep_memory.specs.Landing.{over_in}
 use Rattle.superstep_memory.specs.Paths.{is_rising}
@@ -13,7 +13,7 @@ use Rattle.programs.specs.Superstep.{State}
 use Rattle.programs.specs.InPlace.{living_with}
 use Rattle.program_stretches.specs.PartValue.{PartValue}
 use Rattle.program_stretches.specs.Parts.{Reading, IsPartOf, AreOwn, covers}
-use Rattle.program_stretches.specs.Opening.{OpeningValue, live_of}
+use Rattle.program_stretches.specs.Opening.{OpeningValue, live_of, states_by, AllOpen}
 use Rattle.program_stretches.specs.Reached.{IsReached}
 use Rattle.program_stretches.specs.Did.{DidAll}
 
@@ -84,10 +84,12 @@ module _ {Q S T : Type 0} where
     pub limit : v.limit ≡ first.limit
     pub paths : map (m v.program).path (live_of first) ≡ children [] 0 (length (live_of first))
 
-  -- it is the run after some of its supersteps, in which these tasks live
+  -- It is the run after some of its supersteps, in which these tasks live. The openings are those of its supersteps.
   pub record IsAfter (m : Q → Reading S T) (v : StretchesValue Q S) (live : List T) : Type 0 where
     pub begun : HasBegun m v
     pub reached : IsReached (m v.program).frame (m v.program).may v.most begun.first.arrays (map (m v.program).meant (live_of begun.first)) v.limit v.given (state_with v live)
+    pub all_open : AllOpen (m v.program).meant v.log (states_by (m v.program) v.most reached.history begun.first v.limit)
+    pub as_long : length reached.history ≤ length v.log
     pub count : v.count ≡ length live
     pub few : length live ≤ v.most
 
@@ -163,3 +165,7 @@ left_after v (Some s) = not (is_at_limit s) || covers false v.count 0 v.parts
 
 abbrev pub can_leave : {Q S : Type 0} → StretchesValue Q S → Bool
 can_leave v = left_after v (status_in v)
+
+-- It can be stopped: it hasn't ended, and no stretch is out or has run.
+abbrev pub can_stop : {Q S : Type 0} → StretchesValue Q S → Bool
+can_stop v = not (is_some (status_in v)) && covers false v.count 0 v.parts

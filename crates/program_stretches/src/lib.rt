@@ -5,7 +5,7 @@
 //!
 //! * `part.rt`: a stretch and what its tasks did; `stretch.rt`: one that was taken; `parts.rt`: several together;
 //!   `hand_over.rt`: what they hand over in the end; `landing.rt`: how puts land; `cut.rt`: new stretches;
-//!   `opened.rt`: a superstep as it begins; `lines.rt`: what supersteps printed; `stretches.rt`: the whole.
+//!   `ready.rt`: what a run begins with; `opened.rt`: a superstep as it begins; `lines.rt`: what supersteps printed; `stretches.rt`: the whole.
 //! * `specs/StretchesValue.antt`: the supersteps; `Closing.antt`: how they are taken, taken back and closed;
 //!   `Reached.antt`: the history so far.
 #![tactic(auto)]
@@ -19,6 +19,7 @@ mod lines;
 mod opened;
 mod part;
 mod parts;
+mod ready;
 mod stretch;
 mod stretches;
 

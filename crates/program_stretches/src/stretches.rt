@@ -17,6 +17,7 @@ use crate::lines::Lines;
 use crate::opened::Opened;
 use crate::part::{Part, blame_again};
 use crate::parts::{count_left, count_prints, count_spawned, cover, find_fault};
+use crate::ready::{Ready, get_ready};
 use crate::stretch::Stretch;
 use phase_records::{JobStatus, PhaseRecord, Print, Report};
 use programs::alone::Ran;
@@ -73,7 +74,7 @@ impl<'t, 'p, P: Program> Model for Stretches<'t, 'p, P> {
 impl<'t, 'p, P: Program> Stretches<'t, 'p, P> {
     ghost use Rattle.std.specs.Prelude.{◌≡◌, ◌≤◌, ◌<◌, ◌+◌, ◌^◌, ◌++◌, ◌∷◌, [], None, Some, true, false, IsTrue, IfOk, IfSome, OnOk, IfErr, OnErr, MatchOption, is_some, not, ◌||◌, length, map, slice_get};
     ghost use Rattle.std.specs.Option.{option_map};
-    ghost use Rattle.phase_records.specs.Status.{IsShort};
+    ghost use Rattle.phase_records.specs.Status.{IsShort, Limit};
     ghost use Rattle.phase_records.specs.StatusSeen.{status_seen};
     ghost use Rattle.programs.specs.Meaning.{children};
     ghost use Rattle.snapshot_log.specs.Agreed.{WasBefore};
@@ -81,8 +82,8 @@ impl<'t, 'p, P: Program> Stretches<'t, 'p, P> {
     ghost use Rattle.std.specs.List.{list_all};
     ghost use Rattle.superstep_memory.specs.Landing.{is_set};
     ghost use Rattle.program_stretches.specs.Parts.{reading_of, AreFresh, EachDid, covers, tasks_in, puts_in, deeds_in, prints_in};
-    ghost use Rattle.program_stretches.specs.StretchesValue.{status_in, can_leave, ready_at, tasks_at, with_slot, IsAfter, HaveRun, OverflowsAt};
-    ghost use Rattle.program_stretches.specs.Closing.{IsBegun, IsTaken, Refuses, Accepts, IsSameRun, NotClosed, IsClosed, EndsBy, HasLeft, IsGiven, IsReopened, AllStay, opened_with};
+    ghost use Rattle.program_stretches.specs.StretchesValue.{status_in, left_after, can_leave, can_stop, ready_at, tasks_at, with_slot, IsAfter, IsCourse, HaveRun, OverflowsAt};
+    ghost use Rattle.program_stretches.specs.Closing.{IsBegun, IsTaken, Refuses, Accepts, IsSameRun, NotClosed, IsClosed, EndsBy, IsLeftAs, HasLeft, HasLeftTo, IsGiven, IsReopened, AllStay, Logs, opened_with};
 
     /// Creates a run of `program` that begins with these arrays and tasks, with a new log. At most `most` tasks may live at once,
     /// and the run takes at most `limit` supersteps. Whenever tasks come or leave, the live ones are cut into about `pieces`
@@ -329,6 +330,7 @@ impl<'t, 'p, P: Program> Stretches<'t, 'p, P> {
         requires few { length deeds.now + spawned_in deeds.now ≤ self.old.most + left_in deeds.now }
         ensures closed { IsClosed (reading_of P.frame P.may P.meant P.Task.path_of) self.old self.new result }
         ensures over { result ≡ Outcome.Overflowed }
+        ensures log { self.new.log ≡ self.old.log }
         ensures none { self.new.parts ≡ [] }
         ensures given { self.new.given ≡ self.old.given }
     {
@@ -344,6 +346,7 @@ impl<'t, 'p, P: Program> Stretches<'t, 'p, P> {
     // Opens the next superstep with these stretches. If memory runs out, there are none.
     fn reopen(&mut self, parts: Vec<Option<Part<P::Task>>>) -> Result<(), AllocError>
         requires none { self.old.parts ≡ [] }
+        requires calm { self.old.fault ≡ None }
         requires count { length self.old.log ≡ self.old.step }
         requires fresh { AreFresh 0 parts.items }
         requires after { IsAfter (reading_of P.frame P.may P.meant P.Task.path_of) self.old (map (P.meant self.old.program) (tasks_in parts.items)) }
@@ -382,6 +385,8 @@ impl<'t, 'p, P: Program> Stretches<'t, 'p, P> {
         requires each { EachDid parts.items }
         ensures closed { IfOk result (λ outcome. IsClosed (reading_of P.frame P.may P.meant P.Task.path_of) self.old self.new outcome) }
         ensures reopened { IfOk result (λ outcome. IsReopened P.Task.path_of outcome self.old.step parts.items self.new) }
+        ensures logs { IfOk result (λ outcome. Logs outcome self.old self.new) }
+        ensures unlogged { OnErr result (self.new.log ≡ self.old.log) }
         ensures lost { OnErr result (self.new.parts ≡ []) }
         ensures same { IsSameRun self.old self.new }
         ensures given { self.new.given ≡ self.old.given }
@@ -424,6 +429,8 @@ impl<'t, 'p, P: Program> Stretches<'t, 'p, P> {
         requires each { EachDid parts.items }
         ensures closed { IfOk result (λ outcome. IsClosed (reading_of P.frame P.may P.meant P.Task.path_of) self.old self.new outcome) }
         ensures reopened { IfOk result (λ outcome. IsReopened P.Task.path_of outcome self.old.step parts.items self.new) }
+        ensures logs { IfOk result (λ outcome. Logs outcome self.old self.new) }
+        ensures unlogged { OnErr result (self.new.log ≡ self.old.log) }
         ensures lost { OnErr result (self.new.parts ≡ []) }
         ensures same { IsSameRun self.old self.new }
         ensures given { self.new.given ≡ self.old.given }
@@ -467,6 +474,8 @@ impl<'t, 'p, P: Program> Stretches<'t, 'p, P> {
         requires each { EachDid parts.items }
         ensures closed { IfOk result (λ outcome. IsClosed (reading_of P.frame P.may P.meant P.Task.path_of) self.old self.new outcome) }
         ensures reopened { IfOk result (λ outcome. IsReopened P.Task.path_of outcome self.old.step parts.items self.new) }
+        ensures logs { IfOk result (λ outcome. Logs outcome self.old self.new) }
+        ensures unlogged { OnErr result (self.new.log ≡ self.old.log) }
         ensures lost { OnErr result (self.new.parts ≡ []) }
         ensures same { IsSameRun self.old self.new }
         ensures given { self.new.given ≡ self.old.given }
@@ -500,6 +509,8 @@ impl<'t, 'p, P: Program> Stretches<'t, 'p, P> {
         ensures whole { OnOk result (covers true self.old.count 0 self.old.parts ≡ true) }
         ensures closed { IfOk result (λ outcome. IsClosed (reading_of P.frame P.may P.meant P.Task.path_of) self.old self.new outcome) }
         ensures reopened { IfOk result (λ outcome. IsReopened P.Task.path_of outcome self.old.step self.old.parts self.new) }
+        ensures logs { IfOk result (λ outcome. Logs outcome self.old self.new) }
+        ensures unlogged { OnErr result (self.new.log ≡ self.old.log) }
         ensures refused { IfErr result (λ fault. NotClosed fault self.old self.new) }
         ensures same { IsSameRun self.old self.new }
         ensures given { self.new.given ≡ self.old.given }
@@ -554,18 +565,14 @@ impl<'t, 'p, P: Program> Stretches<'t, 'p, P> {
         writer.give_up();
     }
 
-    /// Returns the result of a run that has ended, without what `give` returned, and the writer of its log. Returns `None` if the
-    /// run hasn't ended, or if it has reached the limit while a stretch is out or has run.
-    pub fn into_left(self, alloc: Global) -> Result<Option<Left<'p, P>>, AllocError>
-        ensures left { IfOk result (λ left. IfSome left (λ l. (l.writer.name ≡ self.entry.name)
-            × HasLeft (reading_of P.frame P.may P.meant P.Task.path_of) l.writer.log l.given l.ran.report l.ran.tasks.items)) }
-        ensures given { IfOk result (λ left. IfSome left (λ l. l.given ≡ self.entry.given)) }
-        ensures some { IfOk result (λ left. is_some left ≡ can_leave self.entry) }
+    // Returns what a run leaves that has ended so, and the writer of its log. Returns `None` if it ended at a limit and a stretch is
+    // out or has run.
+    fn leave(self, alloc: Global, status: JobStatus) -> Result<Option<Left<'p, P>>, AllocError>
+        requires short { IsShort (status_seen status) }
+        ensures left { IfOk result (λ left. IfSome left (λ l. IsLeftAs self.entry (status_seen status) l.writer.name l.writer.log l.given l.ran.report l.ran.tasks.items)) }
+        ensures some { IfOk result (λ left. is_some left ≡ left_after self.entry (Some (status_seen status))) }
+        ensures course { IsCourse (reading_of P.frame P.may P.meant P.Task.path_of) self.entry }
     {
-        let Some(status) = self.status() else {
-            self.give_up();
-            return Ok(None);
-        };
         let lives = is_limit(&status);
         if !self.is_at_rest(lives) {
             self.give_up();
@@ -596,6 +603,43 @@ impl<'t, 'p, P: Program> Stretches<'t, 'p, P> {
                 Err(fault)
             }
         }
+    }
+
+    /// Returns the result of a run that has ended, without what `give` returned, and the writer of its log. Returns `None` if the
+    /// run hasn't ended, or if it has reached the limit while a stretch is out or has run.
+    pub fn into_left(self, alloc: Global) -> Result<Option<Left<'p, P>>, AllocError>
+        ensures left { IfOk result (λ left. IfSome left (λ l. (l.writer.name ≡ self.entry.name)
+            × HasLeft (reading_of P.frame P.may P.meant P.Task.path_of) l.writer.log l.given l.ran.report l.ran.tasks.items)) }
+        ensures log { IfOk result (λ left. IfSome left (λ l. l.writer.log ≡ self.entry.log)) }
+        ensures given { IfOk result (λ left. IfSome left (λ l. l.given ≡ self.entry.given)) }
+        ensures status { IfOk result (λ left. IfSome left (λ l. Some l.ran.report.status ≡ status_in self.entry)) }
+        ensures some { IfOk result (λ left. is_some left ≡ can_leave self.entry) }
+    {
+        let Some(status) = self.status() else {
+            self.give_up();
+            return Ok(None);
+        };
+        self.leave(alloc, status)
+    }
+
+    /// Stops a run that hasn't ended, as at a limit of the supersteps that it has taken. Returns the result, without what `give`
+    /// returned, and the writer of its log. Returns `None` if the run has ended, or if a stretch is out or has run.
+    pub fn stop(self, alloc: Global) -> Result<Option<Left<'p, P>>, AllocError>
+        ensures left { IfOk result (λ left. IfSome left (λ l. (l.writer.name ≡ self.entry.name)
+            × HasLeftTo (reading_of P.frame P.may P.meant P.Task.path_of) (λ o. self.entry.step) l.writer.log l.given l.ran.report l.ran.tasks.items)) }
+        ensures log { IfOk result (λ left. IfSome left (λ l. l.writer.log ≡ self.entry.log)) }
+        ensures given { IfOk result (λ left. IfSome left (λ l. l.given ≡ self.entry.given)) }
+        ensures arrays { IfOk result (λ left. IfSome left (λ l. l.ran.report.arrays ≡ self.entry.arrays)) }
+        ensures status { IfOk result (λ left. IfSome left (λ l. l.ran.report.status ≡ Limit self.entry.step)) }
+        ensures count { IfOk result (λ left. IfSome left (λ l. length l.ran.tasks.items ≡ self.entry.count)) }
+        ensures some { IfOk result (λ left. is_some left ≡ can_stop self.entry) }
+    {
+        if self.has_ended() {
+            self.give_up();
+            return Ok(None);
+        }
+        let status = JobStatus::Limit(self.step);
+        self.leave(alloc, status)
     }
 }
 
@@ -708,50 +752,5 @@ fn regroup<T: OnPath>(deeds: &mut Deeds<T>, tasks: &mut Vec<T>, room: &mut Vec<T
     match deeds.regroup(tasks, room, count) {
         Ok(()) => {}
         Err(_) => unreachable!(),
-    }
-}
-
-// What a run begins with: the arrays, for two that share them, and the stretches of `count` tasks.
-#[derive(Drop)]
-struct Ready<T> {
-    arrays: Arc<Arrays>,
-    shared: Arc<Arrays>,
-    count: usize,
-    parts: Vec<Option<Part<T>>>,
-}
-
-// Shares the arrays, and cuts the tasks into about `pieces` stretches.
-fn get_ready<T: OnPath>(
-    alloc: Global,
-    arrays: Arrays,
-    tasks: Vec<T>,
-    pieces: usize,
-) -> Result<Ready<T>, AllocError>
-    requires { 1 ≤ pieces }
-    ensures arrays { IfOk result (λ r. (arc_value r.arrays ≡ arrays) × (arc_value r.shared ≡ arrays)) }
-    ensures count { IfOk result (λ r. r.count ≡ length tasks.items) }
-    ensures fresh { IfOk result (λ r. AreFresh 0 r.parts.items) }
-    ensures tasks { IfOk result (λ r. tasks_in r.parts.items ≡ tasks.items) }
-{
-    let mut parts = Vec::with_capacity(alloc, 1)?;
-    let arrays = share(alloc, arrays)?;
-    let shared = Arc::try_clone(&arrays)?;
-    let count = tasks.len();
-    cut(alloc, tasks, pieces, &mut parts);
-    Ok(Ready {
-        arrays,
-        shared,
-        count,
-        parts,
-    })
-}
-
-// Arrays that several may share.
-fn share(alloc: Global, arrays: Arrays) -> Result<Arc<Arrays>, AllocError>
-    ensures { IfOk result (λ shared. arc_value shared ≡ arrays) }
-{
-    match Arc::new(alloc, arrays) {
-        Ok(shared) => Ok(shared),
-        Err(_) => Err(AllocError),
     }
 }

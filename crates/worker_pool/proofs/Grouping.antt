@@ -1,6 +1,6 @@
 -- Participants cut into groups, and start tasks in their order.
 use Rattle.std.specs.Prelude.{take, drop}
-use Rattle.std.proofs.Common.{◌≡◌, ℕ, zero, suc, ◌+◌, ◌-◌, ◌<◌, List, [], ◌∷◌, ◌++◌, map, length, refl, sym, ap, ◌∙◌, arith, append_assoc}
+use Rattle.std.proofs.Common.{◌≡◌, ℕ, zero, suc, ◌+◌, ◌-◌, ◌<◌, List, [], ◌∷◌, ◌++◌, map, length, refl, sym, ap, ◌∙◌, arith}
 use Rattle.programs.specs.Meaning.{children}
 use Rattle.worker_pool.specs.Living.{all_below}
 use Rattle.worker_pool.specs.Grouping.{numbers_from}
@@ -59,7 +59,3 @@ cut_back f (x ∷ xs) [] bs e = (refl, e)
 cut_back f [] (a ∷ cs) bs e = absurd (not_cons a (cs ++ bs) e)
 cut_back f (x ∷ xs) (a ∷ cs) bs e =
     let h = cut_back f xs cs bs (ap rest_of e) in ((λ i. first_of (f x) (e i) ∷ h.0 i), h.1)
-
-pub count_children : (path : List ℕ) (begun n : ℕ) → length (children path begun n) ≡ n
-count_children path begun zero = refl
-count_children path begun (suc n) = ap suc (count_children path (suc begun) n)

@@ -3,8 +3,9 @@ use Rattle.std.specs.Prelude.{◌==◌, if◌then◌else◌, IfSome}
 use Rattle.std.specs.Option.{option_map}
 use Rattle.std.proofs.Common.{◌≡◌, ◌≢◌, ◌⊎◌, inl, inr, ℕ, Bool, true, false, List, [], ◌∷◌, Option, Some, None, refl, sym, ap, ◌∙◌, subst, arith, ⊎_elim}
 use Rattle.pass_list.specs.declared.rule.Ticket.{Ticket}
-use Rattle.pass_list.specs.Passed.{IsOut, without, ticket}
-use Rattle.worker_pool.specs.HandedOut.{Each, OneIs, AreApart, AreOut}
+use Rattle.pass_list.specs.Passed.{PassValue, IsOut, without, ticket}
+use Rattle.worker_pool.specs.HandedOut.{Each, OneIs, AreApart, AreOut, AreLeft}
+use Rattle.worker_pool.specs.Living.{LeftValue}
 
 pub not_both : (b : Bool) → b ≡ true → b ≡ false → ⊥
 not_both b t f = absurd (apart (sym t ∙ f))
@@ -79,9 +80,6 @@ module _ {T : Type 0} where
   none_out was now step step' [] h n = (tt, tt)
   none_out was now step step' (t ∷ ts) h n = absurd (not_both (was t.number) h.0.0.1 (n t.number))
 
-  pub new_list : (out : ℕ → Bool) (step : ℕ) (ts : List (Ticket T)) → ts ≡ [] → AreOut out step ts
-  new_list out step ts e = subst (λ (us : List (Ticket T)). AreOut out step us) (sym e) (tt, tt)
-
   -- the ticket of a pass that comes back
   pub record Struck (held : Option (Ticket T)) (step number : ℕ) (ts us : List (Ticket T)) : Type 0 where
     pub t : Ticket T
@@ -135,3 +133,7 @@ there o x A e h = subst (λ (p : Option _). IfSome p (λ y. A)) e h
 -- what is said of one that is there, whatever it is
 pub there_of : {X : Type 0} (o : Option X) (x : X) (P : X → Type 0) → o ≡ Some x → IfSome o P → P x
 there_of o x P e h = subst (λ (p : Option _). IfSome p P) e h
+
+-- what a pass that comes back knows of the paths that its group leaves
+pub known_left : {pass held : PassValue LeftValue} {t : Ticket LeftValue} {paths : List (List ℕ)} → pass ≡ held → AreLeft held paths → pass.held ≡ Some t → t.known.faulted ≡ false → paths ≡ t.known.paths
+known_left {pass} {held} {t} {paths} same left is = there_of pass.held t (λ u. u.known.faulted ≡ false → paths ≡ u.known.paths) is (subst (λ (p : PassValue LeftValue). AreLeft p paths) (sym same) left)

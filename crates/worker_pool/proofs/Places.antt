@@ -2,9 +2,9 @@
 use Rattle.std.specs.Prelude.{◌==◌, if◌then◌else◌, slice_get, slice_set}
 use Rattle.std.proofs.Common.{◌≡◌, ◌≢◌, ◌<◌, ◌≤◌, ◌+◌, ◌⊎◌, ◌++◌, ℕ, zero, suc, Bool, true, false, Option, Some, None, List, [], ◌∷◌, refl, sym, ap, ◌∙◌, subst, arith, inl, inr, ⊎_elim, map, length, append_assoc, append-nil, length-append}
 use Rattle.std.proofs.lemmas.List.{length-map, map-append}
-use Rattle.std.specs.Option.{unwrap_or, option_map}
+use Rattle.std.specs.Option.{unwrap_or}
 use Rattle.worker_pool.specs.Grouping.{numbers_from}
-use Rattle.worker_pool.specs.Groups.{GroupValue, numbers_of, group_at, places_for, paths_at, paths_in, empty_in}
+use Rattle.worker_pool.specs.Groups.{GroupValue, numbers_of, group_at, places_for, paths_in, empty_in}
 use Rattle.worker_pool.specs.HandedOut.{Each, OneIs}
 use Rattle.worker_pool.specs.Living.{all_below}
 use Rattle.worker_pool.specs.Steady.{IsApart, AreDistinct}
@@ -282,37 +282,6 @@ pub free_first : (len : ℕ) (ns : List ℕ) → Each (λ n. n < len) ns → Eac
 free_first len [] h = tt
 free_first len (n ∷ ns) h = (number_at empty_place 0 len n h.0, free_first len ns h.1)
 
--- ---- places as values
-
-module _ {A : Type 0} (f : A → GroupValue) where
-  pub seen_empty : (ns : List ℕ) → map (option_map f) (map (λ k. None) ns) ≡ map (λ k. None) ns
-  seen_empty [] = refl
-  seen_empty (n ∷ ns) = ap (λ xs. None ∷ xs) (seen_empty ns)
-
-  pub seen_set : (ps : List (Option A)) (n : ℕ) (x : A) → map (option_map f) (slice_set ps n (Some x)) ≡ slice_set (map (option_map f) ps) n (Some (f x))
-  seen_set [] n x = refl
-  seen_set (p ∷ ps) zero x = refl
-  seen_set (p ∷ ps) (suc n) x = ap (λ xs. option_map f p ∷ xs) (seen_set ps n x)
-
-  none_of : (o : Option A) → option_map f o ≡ None → o ≡ None
-  none_of None e = refl
-  none_of (Some x) e = absurd (none_some (f x) (sym e))
-
-  pub unseen : (ps : List (Option A)) (n : ℕ) → slice_get (map (option_map f) ps) n ≡ Some None → slice_get ps n ≡ Some None
-  unseen [] n e = absurd (none_some None e)
-  unseen (p ∷ ps) zero e = ap (λ o. Some o) (none_of p (some_same (option_map f p) None e))
-  unseen (p ∷ ps) (suc n) e = unseen ps n e
-
-  pub seen_count : (ps : List (Option A)) → empty_in (map (option_map f) ps) ≡ empty_in ps
-  seen_count [] = refl
-  seen_count (None ∷ ps) = ap suc (seen_count ps)
-  seen_count (Some x ∷ ps) = seen_count ps
-
--- the numbers of groups as values
-pub seen_numbers : {A : Type 0} (f : A → GroupValue) (number : A → ℕ) (xs : List A) → ((x : A) → (f x).number ≡ number x) → numbers_of (map f xs) ≡ map number xs
-seen_numbers f number [] h = refl
-seen_numbers f number (x ∷ xs) h = (λ i. h x i ∷ seen_numbers f number xs h i)
-
 -- places that are all empty
 count_empty : (A : Type 0) (ns : List ℕ) → empty_in (map {B = Option A} (λ k. None) ns) ≡ length ns
 count_empty A [] = refl
@@ -328,9 +297,3 @@ one_fewer (None ∷ ps) zero x e = refl
 one_fewer (Some y ∷ ps) zero x e = absurd (none_some y (sym (some_same (Some y) None e)))
 one_fewer (None ∷ ps) (suc n) x e = ap suc (one_fewer ps n x e)
 one_fewer (Some y ∷ ps) (suc n) x e = one_fewer ps n x e
-
--- one place more
-pub one_empty : {A : Type 0} (ps : List (Option A)) → empty_in (ps ++ None ∷ []) ≡ suc (empty_in ps)
-one_empty [] = refl
-one_empty (None ∷ ps) = ap suc (one_empty ps)
-one_empty (Some y ∷ ps) = one_empty ps

@@ -1,23 +1,23 @@
 -- The queue as groups go and come, and as supersteps are closed.
 use Rattle.std.specs.Prelude.{◌||◌, is_some, is_err, slice_set, slice_get, IfSome, OnOk}
-use Rattle.std.proofs.Common.{◌≡◌, ◌≢◌, ◌<◌, ◌+◌, ◌++◌, ◌∷◌, ◌∙◌, ℕ, suc, Bool, true, false, List, [], Option, Some, None, Result, Ok, Err, refl, sym, ap, subst, arith}
+use Rattle.std.proofs.Common.{◌≡◌, ◌≢◌, ◌<◌, ◌++◌, ◌∷◌, ◌∙◌, ℕ, Bool, true, false, List, [], Option, Some, None, Result, Ok, Err, refl, sym, ap, subst}
 use Rattle.atomic_table.specs.Seated.{TableId}
 use Rattle.pass_list.specs.declared.rule.Ticket.{Ticket}
-use Rattle.pass_list.specs.Passed.{PassesValue, ticket, without}
+use Rattle.pass_list.specs.Passed.{PassesValue, ticket}
 use Rattle.worker_pool.specs.declared.fault.Refused.{Refused}
 use Rattle.worker_pool.specs.declared.fault.Refused.TheVariants as refused
-use Rattle.worker_pool.specs.AtRest.{IsAtRest, CanBegin}
+use Rattle.worker_pool.specs.AtRest.{CanBegin}
 use Rattle.worker_pool.specs.EngineReading.{EngineReading}
 use Rattle.worker_pool.specs.Groups.{GroupValue, group_of, groups_with, numbers_of, places_for, paths_in}
 use Rattle.worker_pool.specs.HandedOut.{Each, AreOut}
 use Rattle.superstep_memory.specs.PathOrder.{in_path_order}
 use Rattle.worker_pool.specs.Living.{LeftValue, all_below}
 use Rattle.worker_pool.proofs.Places.{full_paths}
-use Rattle.worker_pool.specs.QueueState.{QueueState, IsQueue, GoesOn, Waits}
+use Rattle.worker_pool.specs.QueueState.{QueueState, IsQueue}
 use Rattle.worker_pool.specs.Refusals.{IsOfWorkers}
 use Rattle.worker_pool.specs.Steady.{AreDistinct, IsBack, IsSteady, IsAwaiting}
 use Rattle.worker_pool.proofs.HandedOut.{Struck, one_more, one_less, found, none_out, not_both}
-use Rattle.worker_pool.proofs.Steady.{Lent, CameBack, Landed, handed_out, delivered, group_back, late_back, awaited_back, none_awaited, is_awaited, none_ready, opened_again, opened_anew, next_step, all_paired, none_held, not_empty, still_runs}
+use Rattle.worker_pool.proofs.Steady.{Lent, CameBack, Landed, handed_out, delivered, group_back, late_back, awaited_back, none_awaited, is_awaited, none_ready, opened_again, opened_anew, all_paired, none_held, not_empty, still_runs}
 
 not_false : true ≡ false → ⊥
 not_false e = cc
@@ -34,17 +34,14 @@ some_none x e = cc
 stops_when : (first : Option Refused) (x : Refused) (ended : Bool) → first ≡ Some x → (is_some first || ended) ≡ false → ⊥
 stops_when first x ended e going = not_false (sym (ap (λ (o : Option Refused). is_some o || ended) e) ∙ going)
 
-module _ {E J : Type 0} (r : EngineReading E) (mark : TableId) (workers : ℕ) (passes groups stops : TableId) where
-  abbrev Is : QueueState E J → Type 0
-  Is q = IsQueue r mark workers passes groups stops q
+-- workers needn't stop
+abbrev Runs : {E J : Type 0} → EngineReading E → QueueState E J → Type 0
+Runs r q = (is_some q.first || r.ended q.engine) ≡ false
 
-  -- workers needn't stop
-  abbrev pub Runs : QueueState E J → Type 0
-  Runs q = (is_some q.first || r.ended q.engine) ≡ false
-
+module _ {E J : Type 0} {r : EngineReading E} {mark : TableId} {workers : ℕ} {passes groups stops : TableId} where
   -- The run is refused since memory has run out. Nothing is kept of its groups any more.
   run_out : (now : QueueState E J) → now.first ≡ Some refused.Memory → r.mark now.engine ≡ mark → (now.lists.stretches.name ≡ passes) × (now.lists.groups.name ≡ groups) × (now.lists.stops.name ≡ stops)
-      → AreOut (r.out now.engine) (r.step now.engine) now.lists.stretches.out → Is now
+      → AreOut (r.out now.engine) (r.step now.engine) now.lists.stretches.out → IsQueue r mark workers passes groups stops now
   run_out now first marked named out = record {
     of_mark = marked;
     of_workers = subst (λ (o : Option Refused). IfSome o (IsOfWorkers workers)) (sym first) tt;
@@ -54,23 +51,42 @@ module _ {E J : Type 0} (r : EngineReading E) (mark : TableId) (workers : ℕ) (
     goes_on = λ going. absurd (stops_when now.first refused.Memory (r.ended now.engine) first going);
   }
 
-  -- what holds while a run goes on and groups aren't awaited
-  steady_of : (q : QueueState E J) → Is q → Runs q → q.awaits ≡ false → IsSteady r q.engine q.ready q.back q.lists.groups.out
-  steady_of q h going a = (h.goes_on going).steady a
-
-  -- nothing is awaited if a group is ready
-  pub none_waits : (q : QueueState E J) → Is q → Runs q → (g : GroupValue) (gs : List GroupValue) → q.ready ≡ g ∷ gs → q.awaits ≡ false
-  none_waits q h going g gs is = from q.awaits refl
+  -- a run that begins
+  pub begun : {q : QueueState E J} → r.mark q.engine ≡ mark → IfSome q.first (IsOfWorkers workers) → (q.lists.stretches.name ≡ passes) × (q.lists.groups.name ≡ groups) × (q.lists.stops.name ≡ stops)
+      → (q.lists.stretches.out ≡ []) × (q.lists.groups.out ≡ []) × (q.lists.stops.out ≡ []) → CanBegin (r.ready q.engine) (r.out q.engine) (r.paths q.engine) (r.len q.engine) (r.count q.engine) (r.stays q.engine) (r.ended q.engine) (r.leaves q.engine)
+      → (q.first ≡ None → q.ready ≡ groups_with (r.paths q.engine) (r.len q.engine)) → q.back ≡ [] → q.awaits ≡ false → IsQueue r mark workers passes groups stops q
+  begun {q} of_mark of_workers named new b all back awaits = record {
+    of_mark = of_mark;
+    of_workers = of_workers;
+    named = named;
+    are_out = subst (AreOut (r.out q.engine) (r.step q.engine)) (sym new.0) (tt, tt);
+    leaves = λ first ended. (b.left ended, b.none_out);
+    goes_on = λ going. record {
+      nobody = new.2;
+      stays = λ _. b.nobody_moved;
+      steady = λ _.
+          subst (λ (x : List GroupValue). IsSteady r q.engine x q.back q.lists.groups.out) (sym (all (none_of q.first going)))
+          (subst (λ (x : List GroupValue). IsSteady r q.engine (groups_with (r.paths q.engine) (r.len q.engine)) x q.lists.groups.out) (sym back)
+          (subst (λ ts. IsSteady r q.engine (groups_with (r.paths q.engine) (r.len q.engine)) [] ts) (sym new.1)
+          (all_paired r q.engine (r.count q.engine) b.rest)));
+      waits = λ a. absurd (not_both q.awaits a awaits);
+    };
+  }
     where
-      from : (b : Bool) → q.awaits ≡ b → q.awaits ≡ false
-      from true e = absurd (not_empty g gs (sym is ∙ ((h.goes_on going).waits e).none_ready))
-      from false e = e
+      none_of : (o : Option Refused) → (is_some o || r.ended q.engine) ≡ false → o ≡ None
+      none_of None e = refl
+      none_of (Some x) e = absurd (not_false e)
+
+-- what stays true of a queue, as it changes
+module _ {E J : Type 0} {r : EngineReading E} {mark : TableId} {workers : ℕ} {passes groups stops : TableId} {q : QueueState E J} (h : IsQueue r mark workers passes groups stops q) where
+  abbrev Is : QueueState E J → Type 0
+  Is now = IsQueue r mark workers passes groups stops now
 
   -- a stretch is handed out
-  pub lent : (q : QueueState E J) → Is q → Runs q → (g : GroupValue) (gs : List GroupValue) → q.ready ≡ g ∷ gs → (e : E) → Lent r q.engine g.number e → (at key : ℕ) → at ≡ r.step q.engine
+  pub lent : Runs r q → (g : GroupValue) (gs : List GroupValue) → q.ready ≡ g ∷ gs → (e : E) → Lent r q.engine g.number e → (at key : ℕ) → at ≡ r.step q.engine
       → (s : PassesValue (Unit {0})) → s ≡ record q.lists.stretches { out = ticket key at g.number tt ∷ q.lists.stretches.out }
       → Is (record q { engine = e; lists = record { stretches = s; groups = q.lists.groups; stops = q.lists.stops }; ready = gs })
-  lent q h going g gs is e l at key here s es =
+  lent going g gs is e l at key here s es =
       subst (λ (x : PassesValue (Unit {0})). Is (record q { engine = e; lists = record { stretches = x; groups = q.lists.groups; stops = q.lists.stops }; ready = gs })) (sym es) (record {
         of_mark = l.of_mark ∙ h.of_mark;
         of_workers = h.of_workers;
@@ -88,11 +104,11 @@ module _ {E J : Type 0} (r : EngineReading E) (mark : TableId) (workers : ℕ) (
       })
 
   -- a stretch has come back, and a worker holds its group
-  pub came_back : (q : QueueState E J) → Is q → (e : E) (at n key : ℕ) (known : LeftValue) → (s : PassesValue (Unit {0})) → (held : Option (Ticket (Unit {0}))) → (t : Struck held at n q.lists.stretches.out s.out) → s.name ≡ q.lists.stretches.name
+  pub came_back : (e : E) {at n : ℕ} (key : ℕ) (known : LeftValue) → (s : PassesValue (Unit {0})) → {held : Option (Ticket (Unit {0}))} → (t : Struck held at n q.lists.stretches.out s.out) → s.name ≡ q.lists.stretches.name
       → (g : PassesValue LeftValue) → g ≡ record q.lists.groups { out = ticket key at n known ∷ q.lists.groups.out } → CameBack r q.engine n known e → r.ended e ≡ r.ended q.engine → r.mark e ≡ r.mark q.engine
       → (moves : Bool) → (moves ≡ false → (q.moves ≡ false) × (r.stays q.engine → r.stays e))
       → Is (record q { engine = e; lists = record { stretches = s; groups = g; stops = q.lists.stops }; moves = moves })
-  came_back q h e at n key known s held t name g eg l ended marked moves stay =
+  came_back e {at} {n} key known s {held} t name g eg l ended marked moves stay =
       subst (λ (x : PassesValue LeftValue). Is (record q { engine = e; lists = record { stretches = s; groups = x; stops = q.lists.stops }; moves = moves })) (sym eg) (record {
         of_mark = marked ∙ h.of_mark;
         of_workers = h.of_workers;
@@ -112,8 +128,8 @@ module _ {E J : Type 0} (r : EngineReading E) (mark : TableId) (workers : ℕ) (
       here : at ≡ r.step q.engine
       here = sym t.of_step ∙ (found (r.out q.engine) (r.step q.engine) q.lists.stretches.out t.t h.are_out t.there).0
 
-  module _ (q : QueueState E J) (h : Is q) (going : Runs q) (at n : ℕ) (g : PassesValue LeftValue) (held : Option (Ticket LeftValue)) (t : Struck held at n q.lists.groups.out g.out) (name : g.name ≡ q.lists.groups.name)
-      (paths : List (List ℕ)) (same : t.t.known.faulted ≡ false → paths ≡ t.t.known.paths) where
+  module _ (going : Runs r q) {at n : ℕ} (g : PassesValue LeftValue) {held : Option (Ticket LeftValue)} (t : Struck held at n q.lists.groups.out g.out) (name : g.name ≡ q.lists.groups.name)
+      {paths : List (List ℕ)} (same : t.t.known.faulted ≡ false → paths ≡ t.t.known.paths) where
     -- a group of this superstep isn't awaited
     pub not_awaited : at ≡ r.step q.engine → q.awaits ≡ false
     not_awaited here = from q.awaits refl
@@ -202,13 +218,13 @@ module _ {E J : Type 0} (r : EngineReading E) (mark : TableId) (workers : ℕ) (
     }
 
   -- the participants of all awaited groups are those of the live tasks
-  pub all_back : (q : QueueState E J) → Is q → Runs q → q.awaits ≡ true → ((k : ℕ) → slice_get q.places k ≡ Some None → ⊥) → in_path_order (λ p. p) (paths_in q.places) ≡ all_below (r.paths q.engine) (r.len q.engine)
-  all_back q h going a full = let w = ((h.goes_on going).waits a).awaiting in ap (in_path_order (λ p. p)) (full_paths q.places w.expected full w.there) ∙ w.all
+  pub all_back : Runs r q → q.awaits ≡ true → ((k : ℕ) → slice_get q.places k ≡ Some None → ⊥) → in_path_order (λ p. p) (paths_in q.places) ≡ all_below (r.paths q.engine) (r.len q.engine)
+  all_back going a full = let w = ((h.goes_on going).waits a).awaiting in ap (in_path_order (λ p. p)) (full_paths q.places w.expected full w.there) ∙ w.all
 
   -- all stretches have their groups
-  pub paired : (q : QueueState E J) → Is q → Runs q → q.awaits ≡ true → ((k : ℕ) → slice_get q.places k ≡ Some None → ⊥) → (ready : List GroupValue) → ready ≡ groups_with (r.paths q.engine) (r.len q.engine)
+  pub paired : Runs r q → q.awaits ≡ true → ((k : ℕ) → slice_get q.places k ≡ Some None → ⊥) → (ready : List GroupValue) → ready ≡ groups_with (r.paths q.engine) (r.len q.engine)
       → (places : List (Option GroupValue)) → Is (record q { ready = ready; awaits = false; places = places })
-  paired q h going a full ready e places = record {
+  paired going a full ready e places = record {
     of_mark = h.of_mark;
     of_workers = h.of_workers;
     named = h.named;
@@ -229,7 +245,7 @@ module _ {E J : Type 0} (r : EngineReading E) (mark : TableId) (workers : ℕ) (
         };
   }
 
-  module _ (q : QueueState E J) (h : Is q) (going : Runs q) (settled : q.awaits ≡ false) (e : E) (l : Landed r q.engine e) where
+  module _ (going : Runs r q) (settled : q.awaits ≡ false) (e : E) (l : Landed r q.engine e) where
     steady_before : IsSteady r q.engine q.ready q.back q.lists.groups.out
     steady_before = (h.goes_on going).steady settled
 
@@ -298,29 +314,3 @@ module _ {E J : Type 0} (r : EngineReading E) (mark : TableId) (workers : ℕ) (
             };
           };
     }
-
-  -- a run that begins
-  pub begun : (q : QueueState E J) → r.mark q.engine ≡ mark → IfSome q.first (IsOfWorkers workers) → (q.lists.stretches.name ≡ passes) × (q.lists.groups.name ≡ groups) × (q.lists.stops.name ≡ stops)
-      → (q.lists.stretches.out ≡ []) × (q.lists.groups.out ≡ []) × (q.lists.stops.out ≡ []) → CanBegin (r.ready q.engine) (r.out q.engine) (r.paths q.engine) (r.len q.engine) (r.count q.engine) (r.stays q.engine) (r.ended q.engine) (r.leaves q.engine)
-      → (q.first ≡ None → q.ready ≡ groups_with (r.paths q.engine) (r.len q.engine)) → q.back ≡ [] → q.awaits ≡ false → Is q
-  begun q of_mark of_workers named new b all back awaits = record {
-    of_mark = of_mark;
-    of_workers = of_workers;
-    named = named;
-    are_out = subst (AreOut (r.out q.engine) (r.step q.engine)) (sym new.0) (tt, tt);
-    leaves = λ first ended. (b.left ended, b.none_out);
-    goes_on = λ going. record {
-      nobody = new.2;
-      stays = λ _. b.nobody_moved;
-      steady = λ _.
-          subst (λ (x : List GroupValue). IsSteady r q.engine x q.back q.lists.groups.out) (sym (all (none_of q.first going)))
-          (subst (λ (x : List GroupValue). IsSteady r q.engine (groups_with (r.paths q.engine) (r.len q.engine)) x q.lists.groups.out) (sym back)
-          (subst (λ ts. IsSteady r q.engine (groups_with (r.paths q.engine) (r.len q.engine)) [] ts) (sym new.1)
-          (all_paired r q.engine (r.count q.engine) b.rest)));
-      waits = λ a. absurd (not_both q.awaits a awaits);
-    };
-  }
-    where
-      none_of : (o : Option Refused) → (is_some o || r.ended q.engine) ≡ false → o ≡ None
-      none_of None e = refl
-      none_of (Some x) e = absurd (not_false e)

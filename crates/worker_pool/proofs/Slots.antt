@@ -190,6 +190,14 @@ taken_gone old new number s h = (
   ap (λ (v : StretchesValue _ _). ready_at (slice_get v.parts number)) h.left ∙ taken_not_ready old.parts number,
 )
 
+-- and it is out then, and wasn't before
+pub taken_out : {Q S : Type 0} (old new : StretchesValue Q S) (number : ℕ) (s : StretchValue Q S) → IsTaken old new number s → (out_at (slice_get old.parts number) ≡ false) × (out_at (slice_get new.parts number) ≡ true)
+taken_out old new number s h = (
+  ap (λ (x : Option (Option (PartValue _))). out_at x) h.there,
+  ap (λ (v : StretchesValue _ _). out_at (slice_get v.parts number)) h.left
+      ∙ ap (λ (x : Option (Option (PartValue _))). out_at x) (this_slot old.parts number None (taken_gone old new number s h).0),
+)
+
 -- what is known of one that was asked for, if it is there
 pub there_taken : {X : Type 0} (o : Option X) (x : X) (A : Type 0) (T : X → Type 0) → o ≡ Some x → MatchOption o A T → T x
 there_taken o x A T e h = subst (λ (p : Option _). MatchOption p A T) e h

@@ -8,7 +8,7 @@ use Rattle.std.specs.declared.cmp.Ordering.TheVariants.{Less, Equal, Greater}
 use Rattle.std.proofs.lemmas.List.Sorted.{IsPermutation-keeps, IsPermutation-map}
 use Rattle.std.proofs.Common.{◌≡◌, ℕ, zero, suc, ◌+◌, Bool, true, false, List, [], ◌∷◌, swap, length, arith, refl, sym, ap, ◌∙◌}
 use Rattle.superstep_memory.specs.Paths.{is_less, path_lt}
-use Rattle.superstep_memory.specs.PathOrder.{put_in, put_all, in_path_order}
+use Rattle.superstep_memory.specs.PathOrder.{put_in, in_path_order}
 use Rattle.superstep_memory.proofs.PathOrder.{lt_trans, lt_total, lt_asym}
 use Rattle.worker_pool.specs.Sorted.{is_in_order}
 

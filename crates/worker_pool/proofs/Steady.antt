@@ -1,18 +1,18 @@
 -- The groups of a run that goes on, as they go and come.
-use Rattle.std.specs.Prelude.{◌==◌, ◌||◌, not, if◌then◌else◌, is_some, IsTrue, OnOk, OnErr, slice_get, slice_set}
-use Rattle.std.proofs.lemmas.List.{map-append, length-map}
-use Rattle.std.proofs.Common.{◌≡◌, ◌≢◌, ◌<◌, ◌+◌, ◌⊎◌, ◌++◌, ℕ, zero, suc, Bool, true, false, Option, Some, None, Result, Ok, Err, List, [], ◌∷◌, refl, sym, ap, ◌∙◌, subst, arith, inl, inr, ⊎_elim, map, length}
+use Rattle.std.specs.Prelude.{◌==◌, ◌||◌, not, if◌then◌else◌, is_some, IsTrue, slice_get, slice_set}
+use Rattle.std.proofs.lemmas.List.{map-append}
+use Rattle.std.proofs.Common.{◌≡◌, ◌≢◌, ◌<◌, ◌+◌, ◌⊎◌, ◌++◌, ℕ, suc, Bool, true, false, Option, Some, None, List, [], ◌∷◌, refl, sym, ap, ◌∙◌, subst, arith, inl, inr, ⊎_elim, map}
 use Rattle.superstep_memory.specs.PathOrder.{in_path_order}
 use Rattle.pass_list.specs.declared.rule.Ticket.{Ticket}
 use Rattle.pass_list.specs.Passed.{IsOut, without, ticket}
 use Rattle.worker_pool.specs.AtRest.{IsAtRest}
 use Rattle.worker_pool.specs.EngineReading.{EngineReading}
 use Rattle.worker_pool.specs.Grouping.{numbers_from}
-use Rattle.worker_pool.specs.Groups.{GroupValue, group_of, groups_with, numbers_of, places_for, group_at, paths_in}
+use Rattle.worker_pool.specs.Groups.{GroupValue, group_of, groups_with, numbers_of, places_for}
 use Rattle.worker_pool.specs.HandedOut.{Each, OneIs}
 use Rattle.worker_pool.specs.Living.{LeftValue, all_below}
 use Rattle.worker_pool.specs.Steady.{IsApart, AreDistinct, AreUnlike, IsReady, HasRun, IsBack, IsOfThis, IsOfLast, IsSteady, IsAwaited, IsAwaiting}
-use Rattle.worker_pool.proofs.HandedOut.{each_here, each_if, each_without, not_both, same_key, one_of, one_left, one_map}
+use Rattle.worker_pool.proofs.HandedOut.{each_here, each_if, each_without, not_both, same_key, one_left, one_map}
 use Rattle.worker_pool.proofs.Places.{each_map, each_two, each_last, each_one, distinct_last, numbers_all, numbers_distinct, numbers_one, numbers_with, place_of, apart_place, in_place, one_last, one_here, set_here, set_else, set_length, same_or_not}
 
 -- ---- tickets
@@ -431,6 +431,13 @@ module _ {E : Type 0} (r : EngineReading E) (e : E) where
   pub none_held : (places : List (Option GroupValue)) (out : List (Ticket LeftValue)) → IsAwaiting r e places out → ((k : ℕ) → slice_get places k ≡ Some None → ⊥) → out ≡ []
   none_held places [] h full = refl
   none_held places (t ∷ ts) h full = absurd (full t.number h.held.0.waits)
+
+-- the same, of an engine that is known
+pub landed_by : {E : Type 0} {r : EngineReading E} {e e' : E} → r.mark e' ≡ r.mark e → ((k : ℕ) → (r.out e k ≡ false) × (r.ready e k ≡ false))
+    → (r.step e' ≡ r.step e + 1) × r.stays e' × IsAtRest (r.ready e') (r.paths e') (r.len e') (r.count e') → ((k : ℕ) → r.faulted e k ≡ false)
+    → (r.stays e → (r.len e' ≡ r.len e) × ((k : ℕ) → k < r.len e → r.paths e' k ≡ r.living e k)) → all_below (r.paths e') (r.len e') ≡ in_path_order (λ p. p) (all_below (r.living e) (r.len e))
+    → r.ended e' ≡ false → Landed r e e'
+landed_by of_mark whole next calm same living runs = record { of_mark = of_mark; whole = whole; next = next; calm = calm; same = same; living = living; runs = runs }
 
 -- neither has this moved, nor that
 pub neither : (a b : Bool) → (a || not b) ≡ false → (a ≡ false) × IsTrue b

@@ -7,7 +7,7 @@ use Rattle.program_stretches.specs.declared.fault.Outcome.TheVariants as outcome
 use Rattle.program_stretches.specs.PartValue.{PartValue}
 use Rattle.program_stretches.specs.Parts.{Reading}
 use Rattle.program_stretches.specs.StretchesValue.{StretchesValue, StretchValue}
-use Rattle.program_stretches.specs.Closing.{IsClosed, IsReopened, HasLeft}
+use Rattle.program_stretches.specs.Closing.{IsClosed, IsReopened, HasLeft, Logs}
 use Rattle.snapshot_log.specs.Agreed.{LogValue}
 use Rattle.program_stretches.specs.Opening.{OpeningValue}
 use Rattle.worker_pool.specs.declared.engine.Closed as closings
@@ -34,6 +34,12 @@ module _ {Q S : Type 0} where
   abbrev pub Reopens : (S → List ℕ) → closings.Closed → ℕ → List (Option (PartValue S)) → StretchesValue Q S → Type 0
   Reopens path closed.Landed step ran v = IsReopened path outcome.Landed step ran v × (v.fault ≡ None)
   Reopens path closed.Ended step ran v = (v.parts ≡ []) × ((f : ℕ × List ℕ) × (v.fault ≡ Some f))
+
+module _ {Q S : Type 0} where
+  -- how closing a superstep changes the log
+  abbrev pub LogsBy : closings.Closed → StretchesValue Q S → StretchesValue Q S → Type 0
+  LogsBy closed.Landed old new = Logs outcome.Landed old new
+  LogsBy closed.Ended old new = new.log ≡ old.log
 
 -- whether the stretch is out
 abbrev pub out_at : {S : Type 0} → Option (Option (PartValue S)) → Bool

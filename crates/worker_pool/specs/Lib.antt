@@ -7,6 +7,7 @@ pub mod Segments
 pub mod Sorted
 pub mod Changes
 pub mod Leaving
+pub mod Watched
 pub mod HandedOut
 pub mod Grouping
 pub mod Groups
@@ -14,3 +15,4 @@ pub mod AtRest
 pub mod EngineReading
 pub mod Steady
 pub mod QueueState
+pub mod QueueView

@@ -1,5 +1,5 @@
 -- An engine as workers share it, and what came first of all that refused the run (own).
-use Rattle.std.specs.Prelude.{◌==◌, ◌||◌, ◌&&◌, ℕ, Bool, not, List, length, Option, Some, is_some}
+use Rattle.std.specs.Prelude.{◌==◌, ◌||◌, ◌&&◌, Bool, not, List, length, Option, Some, is_some}
 use Rattle.std.specs.Option.{unwrap_or}
 use Rattle.worker_pool.specs.declared.fault.Refused.{Refused}
 use Rattle.worker_pool.specs.Groups.{GroupValue}

@@ -1,5 +1,5 @@
 -- The segments that hooks hear of (own).
-use Rattle.std.specs.Prelude.{◌≡◌, ◌+◌, ℕ, Bool, List, Option, Some, Result, OnOk}
+use Rattle.std.specs.Prelude.{◌≡◌, ◌+◌, ℕ, List, Option, Some, Result, OnOk}
 
 -- The segment of this path and superstep was the next one of a stretch. It has run, which left the stretch as it is now, or memory
 -- ran out. A stretch is read by its next segment, its superstep, the number of its segments that have run, and how running changes it.

@@ -1,5 +1,5 @@
 -- What holds for the groups of a run that goes on (own).
-use Rattle.std.specs.Prelude.{◌≡◌, ◌≢◌, ◌<◌, ◌⊎◌, ℕ, suc, Bool, true, false, List, [], ◌∷◌, length, slice_get, Option, Some, None}
+use Rattle.std.specs.Prelude.{◌≡◌, ◌≢◌, ◌<◌, ◌⊎◌, ℕ, suc, true, false, List, [], ◌∷◌, length, slice_get, Option, Some, None}
 use Rattle.superstep_memory.specs.PathOrder.{in_path_order}
 use Rattle.pass_list.specs.declared.rule.Ticket.{Ticket}
 use Rattle.worker_pool.specs.AtRest.{IsAtRest}

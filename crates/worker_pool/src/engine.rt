@@ -113,7 +113,7 @@ pub trait Stretch: Drop {
 pub enum Closed {
     /// The superstep was taken, and the stretches of the next one can be handed out.
     Landed,
-    /// A fault has ended the run.
+    /// The run has ended in this superstep: by a fault, or because a watcher stopped it while tasks live.
     Ended,
 }
 
@@ -121,7 +121,7 @@ pub enum Closed {
 /// [`run_engine`](crate::run_engine) runs it.
 ///
 /// A run returns only what its engine allows, whatever the engine does. But it fails or waits for ever if the engine breaks
-/// this rule, which no clause states: a run ends by a fault in [`Engine::close`], with no task left, or at its limit.
+/// this rule, which no clause states: a run ends where [`Engine::close`] returns `Ended`, with no task left, or at its limit.
 pub trait Engine: Drop {
     ghost use Rattle.std.specs.Prelude.{◌≡◌, ◌≢◌, ◌<◌, ◌+◌, ◌⊎◌, ℕ, Bool, true, false, List, length, Ok, Err, is_some, IfOk, IfSome, OnOk, OnErr, MatchOption};
     ghost use Rattle.worker_pool.specs.declared.fault.Reason.TheVariants as reason;

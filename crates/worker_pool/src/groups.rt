@@ -1,11 +1,10 @@
 //! Participants, grouped by the stretch of their tasks.
-ghost use Rattle.std.specs.Prelude.{◌≡◌, ◌∷◌, ◌++◌, [], None, IfOk, OnOk, OnErr, map};
-ghost use Rattle.std.specs.Option.{option_map};
+ghost use Rattle.std.specs.Prelude.{◌≡◌, ◌≤◌, ◌-◌, ◌∷◌, ◌++◌, [], None, IfOk, OnOk, OnErr, map, length, take, drop};
 ghost use Rattle.std.specs.Ordering.{nat_cmp};
 ghost use Rattle.std.specs.Cmp.Lexicographic.{slice_cmp};
 ghost use Rattle.superstep_memory.specs.PathOrder.{in_path_order};
 ghost use Rattle.worker_pool.specs.Grouping.{numbers_from};
-ghost use Rattle.worker_pool.specs.Groups.{group_of, groups_with, paths_in, empty_in};
+ghost use Rattle.worker_pool.specs.Groups.{groups_with, paths_in, empty_in};
 ghost use Rattle.worker_pool.specs.Living.{all_below};
 ghost use Rattle.worker_pool.specs.Sorted.{is_in_order};
 
@@ -69,7 +68,7 @@ fn gather<J: Running>(
     participants: &mut Vec<Participant<J>>,
 ) -> Result<(), AllocError>
     ensures { OnOk result (map (λ p. p.path.items) participants.new.items
-        ≡ map (λ p. p.path.items) participants.old.items ++ paths_in (map (option_map (λ g. group_of g.number (map (λ p. p.path.items) g.participants.items))) places.old.items)) }
+        ≡ map (λ p. p.path.items) participants.old.items ++ paths_in places.old.items) }
 {
     let mut at = 0;
     while at < places.len() {
@@ -83,10 +82,9 @@ fn gather<J: Running>(
 
 impl<J: Running> Coming<J> {
     ghost use Rattle.std.specs.Prelude.{◌≡◌, ◌<◌, [], None, Some, IfOk, OnOk, map, slice_get, slice_set};
-    ghost use Rattle.std.specs.Option.{option_map};
     ghost use Rattle.superstep_memory.specs.PathOrder.{in_path_order};
     ghost use Rattle.worker_pool.specs.Grouping.{numbers_from};
-    ghost use Rattle.worker_pool.specs.Groups.{group_of, places_for, paths_in};
+    ghost use Rattle.worker_pool.specs.Groups.{numbers_of, places_for, paths_in};
     ghost use Rattle.worker_pool.specs.HandedOut.{Each};
     ghost use Rattle.worker_pool.specs.Steady.{AreDistinct};
 
@@ -126,10 +124,9 @@ impl<J: Running> Coming<J> {
         len: usize,
         mut groups: VecDeque<Group<J>>,
     ) -> Result<(), AllocError>
-        requires within { Each (λ n. n < len) (map (λ g. g.number) groups.items) }
-        requires apart { AreDistinct (map (λ g. g.number) groups.items) }
-        ensures { OnOk result (map (option_map (λ g. group_of g.number (map (λ p. p.path.items) g.participants.items))) self.new.places.items
-            ≡ places_for len (map (λ g. group_of g.number (map (λ p. p.path.items) g.participants.items)) groups.items)) }
+        requires within { Each (λ n. n < len) (numbers_of groups.items) }
+        requires apart { AreDistinct (numbers_of groups.items) }
+        ensures { OnOk result (self.new.places.items ≡ places_for len groups.items) }
     {
         self.clear();
         self.make_places(len)?;
@@ -152,7 +149,7 @@ impl<J: Running> Coming<J> {
     // Returns the participants of all groups, in path order, and removes the places. There are `count` of them.
     fn take(&mut self, count: usize) -> Result<Vec<Participant<J>>, AllocError>
         ensures { IfOk result (λ participants. map (λ p. p.path.items) participants.items
-            ≡ in_path_order (λ p. p) (paths_in (map (option_map (λ g. group_of g.number (map (λ p. p.path.items) g.participants.items))) self.old.places.items))) }
+            ≡ in_path_order (λ p. p) (paths_in self.old.places.items)) }
     {
         let mut participants = Vec::with_capacity(*self.places.allocator(), count)?;
         let gathered = gather(&mut self.places, &mut participants);
@@ -191,6 +188,20 @@ fn push_first<J: Running>(
     }
 }
 
+// Splits off the last `count` participants.
+fn split_last<J: Running>(
+    participants: &mut Vec<Participant<J>>,
+    count: usize,
+) -> Result<Vec<Participant<J>>, AllocError>
+    requires { count ≤ length participants.old.items }
+    ensures rest { OnOk result (participants.new.items ≡ take (length participants.old.items - count) participants.old.items) }
+    ensures last { IfOk result (λ last. last.items ≡ drop (length participants.old.items - count) participants.old.items) }
+{
+    let at = participants.len() - count;
+    let last = participants.split_off(at)?;
+    Ok(last)
+}
+
 /// Groups participants by the stretches of their tasks. The participants are those of all live tasks, in path order. No worker holds
 /// a stretch.
 pub(crate) fn groups_of<E: Engine, J: Running>(
@@ -198,14 +209,13 @@ pub(crate) fn groups_of<E: Engine, J: Running>(
     participants: &mut Vec<Participant<J>>,
 ) -> Result<VecDeque<Group<J>>, AllocError>
     requires all { map (λ p. p.path.items) participants.old.items ≡ all_below (E.paths engine.now) (E.len engine.now) }
-    ensures { IfOk result (λ groups. map (λ g. group_of g.number (map (λ p. p.path.items) g.participants.items)) groups.items ≡ groups_with (E.paths engine.now) (E.len engine.now)) }
+    ensures { IfOk result (λ groups. groups.items ≡ groups_with (E.paths engine.now) (E.len engine.now)) }
 {
     let mut groups = VecDeque::new(*participants.allocator());
     let count = engine.len();
     for behind in 0..count {
         let number = count - 1 - behind;
-        let at = participants.len() - engine.length(number);
-        let group = participants.split_off(at)?;
+        let group = split_last(participants, engine.length(number))?;
         push_first(
             &mut groups,
             Group {
@@ -222,8 +232,8 @@ pub(crate) fn regrouped<E: Engine, J: Running>(
     engine: &E,
     coming: &mut Coming<J>,
 ) -> Result<VecDeque<Group<J>>, AllocError>
-    requires all { in_path_order (λ p. p) (paths_in (map (option_map (λ g. group_of g.number (map (λ p. p.path.items) g.participants.items))) coming.old.places.items)) ≡ all_below (E.paths engine.now) (E.len engine.now) }
-    ensures { IfOk result (λ groups. map (λ g. group_of g.number (map (λ p. p.path.items) g.participants.items)) groups.items ≡ groups_with (E.paths engine.now) (E.len engine.now)) }
+    requires all { in_path_order (λ p. p) (paths_in coming.old.places.items) ≡ all_below (E.paths engine.now) (E.len engine.now) }
+    ensures { IfOk result (λ groups. groups.items ≡ groups_with (E.paths engine.now) (E.len engine.now)) }
 {
     let mut participants = coming.take(engine.count())?;
     groups_of(engine, &mut participants)

@@ -27,7 +27,7 @@ pub(crate) struct HeldStretch<S: Stretch, J: Running> {
 }
 
 impl<S: Stretch, J: Running> Model for HeldStretch<S, J> {
-    ghost use Rattle.std.specs.Prelude.{◌≡◌, map};
+    ghost use Rattle.std.specs.Prelude.{◌≡◌};
     ghost use Rattle.worker_pool.specs.HandedOut.{IsFor};
 
     ghost Value = { S };
@@ -35,7 +35,7 @@ impl<S: Stretch, J: Running> Model for HeldStretch<S, J> {
     ghost view = { λ l. l.stretch };
 
     ghost invariant = { λ l. (S.mark l.stretch ≡ J.mark) × IsFor J.passes (S.step l.stretch) (S.number l.stretch) l.pass
-        × (l.group.number ≡ S.number l.stretch) × (map (λ p. p.path.items) l.group.participants.items ≡ S.paths l.stretch) };
+        × (l.group.number ≡ S.number l.stretch) × (l.group.paths ≡ S.paths l.stretch) };
 }
 
 /// A stretch that a worker has run, with the pass by which it comes back, and the group of its participants. Its type keeps what
@@ -49,7 +49,7 @@ pub(crate) struct RanStretch<S: Stretch, J: Running> {
 }
 
 impl<S: Stretch, J: Running> Model for RanStretch<S, J> {
-    ghost use Rattle.std.specs.Prelude.{◌≡◌, true, false, map};
+    ghost use Rattle.std.specs.Prelude.{◌≡◌, true, false};
     ghost use Rattle.worker_pool.specs.HandedOut.{IsFor};
 
     ghost Value = { S };
@@ -57,7 +57,7 @@ impl<S: Stretch, J: Running> Model for RanStretch<S, J> {
     ghost view = { λ l. l.stretch };
 
     ghost invariant = { λ l. (S.mark l.stretch ≡ J.mark) × IsFor J.passes (S.step l.stretch) (S.number l.stretch) l.pass
-        × (l.group.number ≡ S.number l.stretch) × (S.faulted l.stretch ≡ false → map (λ p. p.path.items) l.group.participants.items ≡ S.paths l.stretch)
+        × (l.group.number ≡ S.number l.stretch) × (S.faulted l.stretch ≡ false → l.group.paths ≡ S.paths l.stretch)
         × (S.finished l.stretch ≡ true) };
 }
 
@@ -209,7 +209,7 @@ fn do_all<S: Stretch, R: Wait, G: Gate>(
 }
 
 impl<S: Stretch, J: Running> HeldStretch<S, J> {
-    ghost use Rattle.std.specs.Prelude.{◌≡◌, true, false, IfOk, IfErr, OnOk, map};
+    ghost use Rattle.std.specs.Prelude.{◌≡◌, true, false, IfOk, IfErr, OnOk};
     ghost use Rattle.worker_pool.specs.declared.fault.Reason.TheVariants as reason;
     ghost use Rattle.worker_pool.specs.Changes.{Tells};
     ghost use Rattle.worker_pool.specs.HandedOut.{IsFor, IsSame};
@@ -219,7 +219,7 @@ impl<S: Stretch, J: Running> HeldStretch<S, J> {
         requires mark { S.mark stretch ≡ J.mark }
         requires pass { IsFor J.passes (S.step stretch) (S.number stretch) pass }
         requires number { group.number ≡ S.number stretch }
-        requires paths { map (λ p. p.path.items) group.participants.items ≡ S.paths stretch }
+        requires paths { group.paths ≡ S.paths stretch }
         ensures { result ≡ stretch }
     {
         HeldStretch {
@@ -264,7 +264,7 @@ impl<S: Stretch, J: Running> HeldStretch<S, J> {
 }
 
 impl<S: Stretch, J: Running> RanStretch<S, J> {
-    ghost use Rattle.std.specs.Prelude.{◌≡◌, true, false, map};
+    ghost use Rattle.std.specs.Prelude.{◌≡◌, true, false};
     ghost use Rattle.worker_pool.specs.HandedOut.{IsFor};
 
     /// The stretch, its pass and its group.
@@ -274,7 +274,7 @@ impl<S: Stretch, J: Running> RanStretch<S, J> {
         ensures mark { S.mark result.0 ≡ J.mark }
         ensures pass { IsFor J.passes (S.step result.0) (S.number result.0) result.1 }
         ensures number { result.2.number ≡ S.number result.0 }
-        ensures paths { S.faulted result.0 ≡ false → map (λ p. p.path.items) result.2.participants.items ≡ S.paths result.0 }
+        ensures paths { S.faulted result.0 ≡ false → result.2.paths ≡ S.paths result.0 }
     {
         let RanStretch {
             stretch,

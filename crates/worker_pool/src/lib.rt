@@ -10,7 +10,8 @@
 //!   the tree.
 //! * `tree`, `leaves`: the calls of the tree, and the leaves of its tasks.
 //! * `hooks`: what a caller hooks into a run. `fault`: why a run leaves nothing.
-//! * `specs/Leaving.antt`: what a run of a program leaves; `JobPlan.antt`: when the tree of a run ends.
+//! * `specs/Leaving.antt`: what a run of a program leaves; `Watched.antt`: the same with a watcher; `JobPlan.antt`: when the tree
+//!   of a run ends.
 #![tactic(auto)]
 
 pub mod engine;
@@ -35,7 +36,7 @@ mod work;
 pub use fault::{Reason, Refused};
 pub use hooks::{AllStart, Gate, OpenGate, Starter};
 pub use job::run_job;
-pub use program::run_program;
+pub use program::{run_program, run_program_watched};
 pub use program_engine::{Run, Taken, close_stretches};
 pub use run::{limit_in, run_engine, stretches_wanted};
 pub use within::run_within;

@@ -34,11 +34,21 @@ impl<J: Running> Participant<J> {
     }
 }
 
-/// The participants of the tasks of one stretch, in the order of the tasks, with the number of that stretch.
+/// The participants of the tasks of one stretch, in the order of the tasks, with the number of that stretch. In contracts it is
+/// that number and the paths of the tasks.
 #[derive(Drop)]
 pub(crate) struct Group<J: Running> {
     pub(crate) number: usize,
     pub(crate) participants: Vec<Participant<J>>,
+}
+
+impl<J: Running> Model for Group<J> {
+    ghost use Rattle.std.specs.Prelude.{map};
+    ghost use Rattle.worker_pool.specs.Groups.{GroupValue, group_of};
+
+    ghost Value = { GroupValue };
+
+    ghost view = { λ g. group_of g.number (map (λ p. p.path.items) g.participants.items) };
 }
 
 /// A group whose stretch was delivered, and what the tasks did to the list of tasks. In contracts it is what the group leaves: the
@@ -51,12 +61,11 @@ pub(crate) struct Leaving<J: Running> {
 }
 
 impl<J: Running> Model for Leaving<J> {
-    ghost use Rattle.std.specs.Prelude.{map};
     ghost use Rattle.worker_pool.specs.Living.{LeftValue, living_by};
 
     ghost Value = { LeftValue };
 
-    ghost view = { λ l. record { paths = living_by (map (λ p. p.path.items) l.group.participants.items) l.changes; faulted = l.faulted } };
+    ghost view = { λ l. record { paths = living_by l.group.paths l.changes; faulted = l.faulted } };
 }
 
 /// A group whose stretch was delivered, the superstep of the stretch, and the pass with which the group is handed back. The pass

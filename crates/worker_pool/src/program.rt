@@ -5,9 +5,10 @@ ghost use Rattle.advance_rule.specs.Plan.{end_ends_at};
 ghost use Rattle.program_stretches.specs.Opening.{OpeningValue, live_of};
 ghost use Rattle.program_stretches.specs.Parts.{AreFresh, tasks_in};
 ghost use Rattle.programs.specs.Meaning.{children};
-ghost use Rattle.programs.specs.History.{HasRun};
+ghost use Rattle.programs.specs.History.{HasRun, HasRunTo};
 ghost use Rattle.worker_pool.specs.JobPlan.{limit_of, IsJobPlan};
 ghost use Rattle.worker_pool.specs.Refusals.{IsOfWorkers};
+ghost use Rattle.worker_pool.specs.Watched.{IsOpened};
 
 use crate::fault::Refused;
 use crate::hooks::{Gate, Starter};
@@ -17,6 +18,7 @@ use advance_rule::StoredAdvance;
 use program_stretches::{Left, Opened, Stretches};
 use programs::alone::Ran;
 use programs::program::TaskLoop;
+use programs::watch::{NoWatch, Watch};
 use snapshot_log::log::Log;
 use std::alloc::Global;
 use std::sync::Wait;
@@ -66,6 +68,59 @@ where
         HasRun (P.frame p) (P.may p) most arrays (map (P.meant p) tasks.items) (limit_of advance.plan) ran.report (map (P.meant p) ran.tasks.items)) }
     ensures started { IfErr result (IsOfWorkers workers) }
 {
+    let ran = run_program_watched(
+        rt,
+        alloc,
+        program,
+        arrays,
+        tasks,
+        most,
+        shape,
+        workers,
+        advance,
+        gate,
+        starter,
+        &mut NoWatch,
+    )?;
+    Ok(ran)
+}
+
+/// Runs `program` as [`run_program`] does. `watch` is called before each superstep and can stop the run there, as a limit does. At
+/// most one thread calls it at a time, and no segment runs meanwhile.
+pub fn run_program_watched<
+    P: TaskLoop + Sync,
+    R: Threads + Wait + Sync,
+    F: Fn(u32, u32) -> bool + Sync + Drop,
+    G: Gate + Sync,
+    S: Starter,
+    W: Watch + Send,
+>(
+    rt: &R,
+    alloc: Global,
+    program: &P,
+    arrays: Arrays,
+    tasks: Vec<P::Task>,
+    most: u32,
+    shape: Shape,
+    workers: u32,
+    advance: StoredAdvance<F>,
+    gate: &G,
+    starter: &S,
+    watch: &mut W,
+) -> Result<Ran<P::Task>, Refused>
+where
+    P::Task: Send,
+    requires ready { P.ready program.now }
+    requires most { most < 2 ^ 31 }
+    requires few { length tasks.items ≤ most }
+    requires paths { map P.Task.path_of tasks.items ≡ children [] 0 (length tasks.items) }
+    requires workers { (1 ≤ workers) × (workers ≤ 64) }
+    requires plan { IsJobPlan advance.plan }
+    requires rule { Answers (F.pre advance.closure) (F.post advance.closure) (end_ends_at advance.plan) }
+    ensures ran { IfOk result (λ ran. let p = program.now in
+        HasRunTo W.stops W.goes (P.frame p) (P.may p) most arrays (map (P.meant p) tasks.items) (limit_of advance.plan) ran.report (map (P.meant p) ran.tasks.items)) }
+    ensures started { IfErr result (IsOfWorkers workers) }
+{
     let Ok((log, start)) = Log::new(alloc) else {
         return Err(Refused::Memory);
     };
@@ -75,13 +130,13 @@ where
         alloc, &log, start, program, arrays, tasks, most, limit, pieces,
     ) {
         Ok(stretches) => run_stretches(
-            rt, alloc, &log, stretches, shape, workers, advance, gate, starter,
+            rt, alloc, &log, stretches, shape, workers, advance, gate, starter, watch,
         ),
         Err(_) => Err(Refused::Memory),
     }
 }
 
-// Runs these stretches, whose log has the one opening of the first superstep.
+// Runs these stretches, whose log has the one opening of the first superstep, with a watcher.
 fn run_stretches<
     't,
     'p,
@@ -90,6 +145,7 @@ fn run_stretches<
     F: Fn(u32, u32) -> bool + Sync + Drop,
     G: Gate + Sync,
     S: Starter,
+    W: Watch + Send,
 >(
     rt: &R,
     alloc: Global,
@@ -100,6 +156,7 @@ fn run_stretches<
     advance: StoredAdvance<F>,
     gate: &G,
     starter: &S,
+    watch: &mut W,
 ) -> Result<Ran<P::Task>, Refused>
 where
     P::Task: Send,
@@ -107,18 +164,19 @@ where
     requires fresh { AreFresh 0 stretches.parts × (stretches.count ≡ length (tasks_in stretches.parts)) }
     requires paths { map P.Task.path_of (tasks_in stretches.parts) ≡ children [] 0 stretches.count }
     requires given { stretches.given ≡ 0 }
+    requires opened { IsOpened stretches [] }
     requires workers { (1 ≤ workers) × (workers ≤ 64) }
     requires plan { IsJobPlan advance.plan }
     requires rule { Answers (F.pre advance.closure) (F.post advance.closure) (end_ends_at advance.plan) }
     ensures ran { IfOk result (λ ran. (o : OpeningValue P P.Task) → stretches.entry.log ≡ o ∷ []
-        → HasRun (P.frame o.program) (P.may o.program) o.most o.arrays (map (P.meant o.program) (live_of o)) o.limit ran.report (map (P.meant o.program) ran.tasks.items)) }
+        → HasRunTo W.stops W.goes (P.frame o.program) (P.may o.program) o.most o.arrays (map (P.meant o.program) (live_of o)) o.limit ran.report (map (P.meant o.program) ran.tasks.items)) }
     ensures started { IfErr result (IsOfWorkers workers) }
 {
     let first = stretches.snapshot();
     match run_engine(
         rt,
         alloc,
-        Run::new(stretches),
+        Run::new(stretches, watch),
         shape,
         workers,
         advance,

@@ -1,9 +1,9 @@
-//! The stretches of a program as an engine.
-ghost use Rattle.std.specs.Prelude.{◌≡◌, ◌≢◌, None, Err, true, false, IfOk, OnOk};
+//! The stretches of a program as an engine, with a watcher.
+ghost use Rattle.std.specs.Prelude.{◌≡◌, ◌≢◌, None, Err, true, false, IfOk, OnOk, OnErr};
 ghost use Rattle.program_stretches.specs.Parts.{reading_of, covers};
 ghost use Rattle.program_stretches.specs.StretchesValue.{status_in};
 ghost use Rattle.program_stretches.specs.Closing.{IsSameRun};
-ghost use Rattle.worker_pool.specs.Leaving.{IsClosedBy, Reopens};
+ghost use Rattle.worker_pool.specs.Leaving.{IsClosedBy, Reopens, LogsBy};
 ghost use Rattle.worker_pool.specs.declared.fault.Reason.TheVariants as reason;
 
 use crate::engine;
@@ -12,6 +12,7 @@ use crate::fault::{Reason, reason_of_closing};
 use program_stretches::{Left, Outcome, Stretch, Stretches};
 use programs::deeds::Change;
 use programs::program::{Program, TaskLoop};
+use programs::watch::Watch;
 use std::alloc::{AllocError, Global};
 use std::marker::Model;
 use superstep_memory::path::Path;
@@ -108,84 +109,108 @@ impl<'p, P: TaskLoop> engine::Stretch for Taken<'p, P> {
     }
 }
 
-/// A run of a program as workers share it.
+/// A run of a program as workers share it, and its watcher. Its type keeps that the watcher let each superstep of the run begin,
+/// and stopped the run if it is stopped.
 #[derive(Drop)]
-pub struct Run<'t, 'p, P: Program> {
+pub struct Run<'t, 'p, 'w, P: Program, W: Watch> {
     stretches: Stretches<'t, 'p, P>,
+    watch: &'w mut W,
+    stopped: bool,
 }
 
-impl<'t, 'p, P: Program> Model for Run<'t, 'p, P> {
-    ghost use Rattle.program_stretches.specs.StretchesValue.{StretchesValue};
-
-    ghost Value = { StretchesValue P P.Task };
-
-    ghost view = { λ r. r.stretches };
-
+impl<'t, 'p, 'w, P: Program, W: Watch> Model for Run<'t, 'p, 'w, P, W> {
     ghost use Rattle.std.specs.Prelude.{◌≡◌};
+    ghost use Rattle.worker_pool.specs.Watched.{RunValue, IsWatched};
 
-    ghost invariant = { λ r. r.stretches.given ≡ 0 };
+    ghost Value = { RunValue P P.Task };
+
+    ghost view = { λ r. record { stretches = r.stretches; stopped = r.stopped } };
+
+    ghost invariant = { λ r. (r.stretches.given ≡ 0) × IsWatched W.stops W.goes r.stretches r.stopped };
 }
 
-impl<'t, 'p, P: Program> Run<'t, 'p, P> {
-    ghost use Rattle.std.specs.Prelude.{◌≡◌};
+// Asks the watcher of a run whether the next superstep begins. Returns true if it stops the run. A run that has ended isn't stopped.
+fn halts<P: Program, W: Watch>(stretches: &Stretches<'_, '_, P>, watch: &mut W) -> bool
+    ensures stops { result ≡ true → (status_in stretches.now ≡ None) × W.stops stretches.now.step stretches.now.arrays stretches.now.count }
+    ensures goes { result ≡ false → status_in stretches.now ≡ None → W.goes stretches.now.step stretches.now.arrays stretches.now.count }
+{
+    if stretches.has_ended() {
+        return false;
+    }
+    !watch.goes_on(stretches.step(), stretches.arrays(), stretches.count())
+}
 
-    /// Creates an engine that runs these stretches, which have given nothing away.
-    pub fn new(stretches: Stretches<'t, 'p, P>) -> Self
-        requires { stretches.given ≡ 0 }
-        ensures { result ≡ stretches.entry }
+impl<'t, 'p, 'w, P: Program, W: Watch> Run<'t, 'p, 'w, P, W> {
+    ghost use Rattle.std.specs.Prelude.{◌≡◌, [], None, true};
+    ghost use Rattle.program_stretches.specs.StretchesValue.{status_in};
+    ghost use Rattle.worker_pool.specs.Watched.{IsOpened};
+
+    /// Creates an engine that runs these stretches, which are before their first superstep. Calls the watcher unless the run has
+    /// ended.
+    pub fn new(stretches: Stretches<'t, 'p, P>, watch: &'w mut W) -> Self
+        requires given { stretches.given ≡ 0 }
+        requires opened { IsOpened stretches [] }
+        ensures stretches { result.stretches ≡ stretches.entry }
+        ensures stopped { result.stopped ≡ true → status_in stretches.entry ≡ None }
     {
-        Run { stretches }
+        let stopped = halts(&stretches, watch);
+        Run {
+            stretches,
+            watch,
+            stopped,
+        }
     }
 }
 
-impl<'t, 'p, P: TaskLoop> Engine for Run<'t, 'p, P> {
-    ghost use Rattle.std.specs.Prelude.{◌≡◌, Some, true, is_some, length, map, slice_get};
+impl<'t, 'p, 'w, P: TaskLoop, W: Watch> Engine for Run<'t, 'p, 'w, P, W> {
+    ghost use Rattle.std.specs.Prelude.{◌≡◌, Some, true, length, map, slice_get};
     ghost use Rattle.program_stretches.specs.Parts.{reading_of, covers};
-    ghost use Rattle.program_stretches.specs.StretchesValue.{status_in, can_leave, ready_at, tasks_at, living_at, faulted_at, with_slot};
+    ghost use Rattle.program_stretches.specs.StretchesValue.{ready_at, tasks_at, living_at, faulted_at, with_slot};
     ghost use Rattle.program_stretches.specs.Closing.{IsTaken, Accepts, IsSameRun, AllStay};
-    ghost use Rattle.worker_pool.specs.Leaving.{Gives, IsClosedBy, out_at};
+    ghost use Rattle.worker_pool.specs.Leaving.{out_at};
+    ghost use Rattle.worker_pool.specs.Watched.{has_ended_in, can_leave_in, ClosesBy, GivesWatched};
 
     type Stretch = Taken<'p, P>;
 
     type Outcome = Left<'p, P>;
 
-    ghost mark = { λ v. v.name };
+    ghost mark = { λ v. v.stretches.name };
 
-    ghost gives = { λ mark left. (left.given ≡ 0) × Gives (reading_of P.frame P.may P.meant P.Task.path_of) mark left.writer left.given left.ran.report left.ran.tasks.items };
+    ghost gives = { λ mark left. GivesWatched W.stops W.goes (reading_of P.frame P.may P.meant P.Task.path_of) mark left.writer left.ran.report left.ran.tasks.items };
 
-    ghost count = { λ v. v.count };
+    ghost count = { λ v. v.stretches.count };
 
-    ghost len = { λ v. length v.parts };
+    ghost len = { λ v. length v.stretches.parts };
 
-    ghost paths = { λ v number. map P.Task.path_of (tasks_at (slice_get v.parts number)) };
+    ghost paths = { λ v number. map P.Task.path_of (tasks_at (slice_get v.stretches.parts number)) };
 
-    ghost living = { λ v number. map P.Task.path_of (living_at (slice_get v.parts number)) };
+    ghost living = { λ v number. map P.Task.path_of (living_at (slice_get v.stretches.parts number)) };
 
-    ghost faulted = { λ v number. faulted_at (slice_get v.parts number) };
+    ghost faulted = { λ v number. faulted_at (slice_get v.stretches.parts number) };
 
-    ghost ready = { λ v number. ready_at (slice_get v.parts number) };
+    ghost ready = { λ v number. ready_at (slice_get v.stretches.parts number) };
 
-    ghost out = { λ v number. out_at (slice_get v.parts number) };
+    ghost out = { λ v number. out_at (slice_get v.stretches.parts number) };
 
-    ghost stays = { λ v. AllStay v.parts };
+    ghost stays = { λ v. AllStay v.stretches.parts };
 
-    ghost step = { λ v. v.step };
+    ghost step = { λ v. v.stretches.step };
 
-    ghost ended = { λ v. is_some (status_in v) };
+    ghost ended = { has_ended_in };
 
-    ghost leaves = { can_leave };
+    ghost leaves = { can_leave_in };
 
-    ghost lends = { IsTaken };
+    ghost lends = { λ old new number s. (new.stopped ≡ old.stopped) × IsTaken old.stretches new.stretches number s };
 
-    ghost accepts = { Accepts };
+    ghost accepts = { λ v s. Accepts v.stretches s };
 
-    ghost with_stretch = { λ v s. with_slot v s.number (Some s.part) };
+    ghost with_stretch = { λ v s. record v { stretches = with_slot v.stretches s.number (Some s.part) } };
 
-    ghost whole = { λ v. covers true v.count 0 v.parts };
+    ghost whole = { λ v. covers true v.stretches.count 0 v.stretches.parts };
 
-    ghost closes = { λ old new closed. IsClosedBy (reading_of P.frame P.may P.meant P.Task.path_of) old new closed };
+    ghost closes = { λ old new closed. ClosesBy (reading_of P.frame P.may P.meant P.Task.path_of) old new closed };
 
-    ghost keeps = { IsSameRun };
+    ghost keeps = { λ old new. (new.stopped ≡ old.stopped) × IsSameRun old.stretches new.stretches };
 
     fn count(&self) -> usize {
         self.stretches.count()
@@ -208,7 +233,7 @@ impl<'t, 'p, P: TaskLoop> Engine for Run<'t, 'p, P> {
     }
 
     fn has_ended(&self) -> bool {
-        self.stretches.has_ended()
+        self.stretches.has_ended() || self.stopped
     }
 
     fn take(&mut self, number: usize) -> Result<Option<Taken<'p, P>>, AllocError> {
@@ -226,11 +251,30 @@ impl<'t, 'p, P: TaskLoop> Engine for Run<'t, 'p, P> {
     }
 
     fn close(&mut self, alloc: Global) -> Result<Closed, Reason> {
-        close_stretches(alloc, &mut self.stretches)
+        match close_stretches(alloc, &mut self.stretches)? {
+            Closed::Landed => {
+                self.stopped = halts(&self.stretches, self.watch);
+                Ok(if self.stopped {
+                    Closed::Ended
+                } else {
+                    Closed::Landed
+                })
+            }
+            Closed::Ended => Ok(Closed::Ended),
+        }
     }
 
     fn into_outcome(self, alloc: Global) -> Result<Option<Left<'p, P>>, AllocError> {
-        self.stretches.into_left(alloc)
+        let Run {
+            stretches,
+            watch: _,
+            stopped,
+        } = self;
+        if stopped {
+            stretches.stop(alloc)
+        } else {
+            stretches.into_left(alloc)
+        }
     }
 }
 
@@ -246,6 +290,8 @@ pub fn close_stretches<P: Program>(
     ensures full { result ≢ Err reason.Full }
     ensures closed { IfOk result (λ closed. IsClosedBy (reading_of P.frame P.may P.meant P.Task.path_of) stretches.old stretches.new closed) }
     ensures reopened { IfOk result (λ closed. Reopens P.Task.path_of closed stretches.old.step stretches.old.parts stretches.new) }
+    ensures logs { IfOk result (λ closed. LogsBy closed stretches.old stretches.new) }
+    ensures unlogged { OnErr result (stretches.new.log ≡ stretches.old.log) }
     ensures same { IsSameRun stretches.old stretches.new }
     ensures given { stretches.new.given ≡ stretches.old.given }
 {

@@ -112,49 +112,32 @@ pub(crate) enum Next<E: Engine, J: Running> {
 pub(crate) enum HandedBack {
     /// No stretch became ready.
     Unchanged,
-    /// Stretches became ready, or the run has ended without a fault.
+    /// Stretches became ready, or the run has ended with no task left or at its limit.
     Ready,
-    /// A fault has ended the run; the tree must be ended too.
+    /// A fault or a watcher has ended the run; the tree must be ended too.
     Ended,
 }
 
 impl<E: Engine, J: Running, L: GroupList> Model for Queue<E, J, L> {
-    ghost use Rattle.std.specs.Prelude.{map};
-    ghost use Rattle.std.specs.Option.{option_map};
     ghost use Rattle.worker_pool.specs.EngineReading.{read_by};
-    ghost use Rattle.worker_pool.specs.Groups.{group_of};
-    ghost use Rattle.worker_pool.specs.QueueValue.{QueueValue};
     ghost use Rattle.worker_pool.specs.QueueState.{IsQueue};
+    ghost use Rattle.worker_pool.specs.QueueValue.{QueueValue};
+    ghost use Rattle.worker_pool.specs.QueueView.{queue_of, queue_value};
 
     ghost Value = { QueueValue E };
 
-    ghost view = { λ b. record {
-      engine = b.engine;
-      first = b.first;
-      ready = map (λ g. group_of g.number (map (λ p. p.path.items) g.participants.items)) b.ready.items;
-      awaits = b.awaits;
-    } };
+    ghost view = { queue_value };
 
-    ghost invariant = { λ b. IsQueue
+    ghost invariant = { λ i. IsQueue
         (read_by E.mark E.len E.count E.paths E.living E.faulted E.ready E.out E.stays E.step E.ended E.leaves)
-        J.mark J.workers J.passes L.groups J.stops
-        (record {
-          engine = b.engine;
-          lists = b.lists;
-          ready = map (λ g. group_of g.number (map (λ p. p.path.items) g.participants.items)) b.ready.items;
-          back = map (λ g. group_of g.number (map (λ p. p.path.items) g.participants.items)) b.back.items;
-          moves = b.moves;
-          awaits = b.awaits;
-          places = map (option_map (λ g. group_of g.number (map (λ p. p.path.items) g.participants.items))) b.coming.places.items;
-          first = b.first;
-        }) };
+        J.mark J.workers J.passes L.groups J.stops (queue_of i) };
 }
 
 impl<E: Engine, J: Running, L: GroupList> Queue<E, J, L> {
-    ghost use Rattle.std.specs.Prelude.{◌≡◌, ◌≢◌, [], None, Some, Err, true, false, is_some, IsTrue, IfOk, IfSome, IfErr, OnOk, OnErr, map};
+    ghost use Rattle.std.specs.Prelude.{◌≡◌, ◌≢◌, [], None, Some, Err, true, false, is_some, IsTrue, IfOk, IfSome, IfErr, OnOk, OnErr};
     ghost use Rattle.worker_pool.specs.QueueValue.{with_engine, refused_by, is_over, is_idle};
     ghost use Rattle.worker_pool.specs.AtRest.{CanBegin};
-    ghost use Rattle.worker_pool.specs.Groups.{group_of, groups_with};
+    ghost use Rattle.worker_pool.specs.Groups.{groups_with};
     ghost use Rattle.worker_pool.specs.Changes.{Tells};
     ghost use Rattle.worker_pool.specs.HandedOut.{AreNew, AreNamed, AreLeft};
     ghost use Rattle.worker_pool.specs.Living.{living_by};
@@ -174,7 +157,7 @@ impl<E: Engine, J: Running, L: GroupList> Queue<E, J, L> {
         requires mark { E.mark engine ≡ J.mark }
         requires lists { AreNew lists × AreNamed J.passes L.groups J.stops lists }
         requires begins { CanBegin (E.ready engine) (E.out engine) (E.paths engine) (E.len engine) (E.count engine) (E.stays engine) (E.ended engine) (E.leaves engine) }
-        requires groups { first ≡ None → map (λ g. group_of g.number (map (λ p. p.path.items) g.participants.items)) ready.items ≡ groups_with (E.paths engine) (E.len engine) }
+        requires groups { first ≡ None → ready.items ≡ groups_with (E.paths engine) (E.len engine) }
         requires refused { IfSome first (IsOfWorkers J.workers) }
         ensures engine { result.engine ≡ engine }
         ensures first { result.first ≡ first }
@@ -255,21 +238,19 @@ impl<E: Engine, J: Running, L: GroupList> Queue<E, J, L> {
         ensures taken { E.accepts self.old.engine ran }
         ensures added { self.new ≡ with_engine self.old (E.with_stretch self.old.engine ran) }
         ensures changes { result.1 ≡ changes }
-        ensures left { AreLeft result.0.pass (living_by (map (λ p. p.path.items) result.0.group.participants.items) changes) }
+        ensures left { AreLeft result.0.pass (living_by result.0.group.paths changes) }
     {
         let (stretch, pass, group) = ran.into_parts();
         self.lists.stretches.redeem(pass);
         let step = stretch.step();
+        let number = group.number;
         let stay = changes.is_same();
         let leaving = Leaving {
             group,
             changes,
             faulted: stretch.has_faulted(),
         };
-        let own = self
-            .lists
-            .groups
-            .issue(step, leaving.group.number, &leaving);
+        let own = self.lists.groups.issue(step, number, &leaving);
         self.engine.accept(stretch);
         self.moves = self.moves | !stay;
         let Leaving { group, changes, .. } = leaving;
@@ -322,7 +303,7 @@ impl<E: Engine, J: Running, L: GroupList> Queue<E, J, L> {
     fn take_back(&mut self, held: HeldGroup<J, L>) -> Result<(), AllocError>
         requires running { is_over E.ended self.old ≡ false }
         requires now { held.step ≡ E.step self.old.engine }
-        requires passed { AreLeft held.pass (map (λ p. p.path.items) held.group.participants.items) }
+        requires passed { AreLeft held.pass held.group.paths }
         ensures done { OnOk result (self.new ≡ self.old) }
         ensures failed { OnErr result (self.new ≡ record self.old { first = Some refused.Memory }) }
         ensures settled { self.old.awaits ≡ false }
@@ -343,7 +324,7 @@ impl<E: Engine, J: Running, L: GroupList> Queue<E, J, L> {
     fn take_back_late(&mut self, held: HeldGroup<J, L>) -> Result<bool, AllocError>
         requires running { is_over E.ended self.old ≡ false }
         requires late { held.step ≢ E.step self.old.engine }
-        requires passed { AreLeft held.pass (map (λ p. p.path.items) held.group.participants.items) }
+        requires passed { AreLeft held.pass held.group.paths }
         ensures done { OnOk result (self.new ≡ record self.old { ready = self.new.ready; awaits = self.new.awaits }) }
         ensures failed { OnErr result (self.new ≡ record self.old { first = Some refused.Memory; ready = self.new.ready }) }
     {
@@ -409,7 +390,7 @@ impl<E: Engine, J: Running, L: GroupList> Queue<E, J, L> {
         held: HeldGroup<J, L>,
         led: Option<Led<J>>,
     ) -> Result<HandedBack, Reason>
-        requires passed { AreLeft held.pass (map (λ p. p.path.items) held.group.participants.items) }
+        requires passed { AreLeft held.pass held.group.paths }
         ensures unled { led ≡ None → self.new.engine ≡ self.old.engine }
         ensures over { is_over E.ended self.old ≡ true → self.new ≡ self.old }
         ensures internal { result ≡ Err reason.Internal → (is_some led ≡ true) × (E.whole self.old.engine ≡ false) }

@@ -8,7 +8,7 @@ ghost use Rattle.tier_shape.specs.Leaves.{leaves_of};
 ghost use Rattle.tier_shape.specs.Preferred.{leaf_at};
 ghost use Rattle.tier_table.specs.Ruled.{IsNew};
 ghost use Rattle.worker_pool.specs.AtRest.{CanBegin};
-ghost use Rattle.worker_pool.specs.Groups.{group_of, groups_with};
+ghost use Rattle.worker_pool.specs.Groups.{groups_with};
 ghost use Rattle.worker_pool.specs.HandedOut.{AreNew, AreNamed};
 ghost use Rattle.worker_pool.specs.JobPlan.{limit_of, IsJobPlan};
 ghost use Rattle.worker_pool.specs.Living.{all_below};
@@ -131,7 +131,7 @@ fn registered<E: Engine, J: Running, R: Wait, F: Fn(u32, u32) -> bool>(
 ) -> Result<VecDeque<Group<J>>, Reason>
     requires few { E.count engine.now ≤ 65536 }
     requires numbered { all_below (E.paths engine.now) (E.len engine.now) ≡ children [] 0 (E.count engine.now) }
-    ensures { IfOk result (λ groups. map (λ g. group_of g.number (map (λ p. p.path.items) g.participants.items)) groups.items ≡ groups_with (E.paths engine.now) (E.len engine.now)) }
+    ensures { IfOk result (λ groups. groups.items ≡ groups_with (E.paths engine.now) (E.len engine.now)) }
 {
     let mut participants = Vec::new(alloc);
     register_all(rt, alloc, tree, own, engine, &mut participants)?;
@@ -161,7 +161,7 @@ fn shared_by<E: Engine, J: Running, L: GroupList, F: Fn(u32, u32) -> bool>(
     requires mark { E.mark engine ≡ J.mark }
     requires lists { AreNew lists × AreNamed J.passes L.groups J.stops lists }
     requires begins { CanBegin (E.ready engine) (E.out engine) (E.paths engine) (E.len engine) (E.count engine) (E.stays engine) (E.ended engine) (E.leaves engine) }
-    requires groups { fault ≡ None → map (λ g. group_of g.number (map (λ p. p.path.items) g.participants.items)) groups.items ≡ groups_with (E.paths engine) (E.len engine) }
+    requires groups { fault ≡ None → groups.items ≡ groups_with (E.paths engine) (E.len engine) }
     ensures { result.tree ≡ tree }
 {
     Shared {
@@ -322,10 +322,8 @@ where
 /// after each segment, and `starter` before each worker is started. The engine should cut its live tasks into
 /// [`stretches_wanted`] stretches. If the gate isn't open, a stretch of more than one task fails the run with `Memory`.
 ///
-/// The paths of the start tasks are [0], [1], and so on, in the order of the engine. With more than 65536 of them the run
-/// fails with `Full`.
-///
-/// When the run begins, all stretches are there and none has run.
+/// Before the run, all stretches must be there, none may have run, and the paths of the start tasks must be [0], [1], and so on,
+/// in the order of the engine. With more than 65536 of them the run fails with `Full`.
 ///
 /// Returns after joining all workers that were started. Termination is not part of the contract.
 pub fn run_engine<

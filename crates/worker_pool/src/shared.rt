@@ -123,7 +123,7 @@ impl<E: Engine, J: Running, L: GroupList, F: Fn(u32, u32) -> bool> Shared<E, J, 
         changes: Changes,
     ) -> (HeldGroup<J, L>, Changes)
         requires told { Tells (E.Stretch.stays ran) (E.Stretch.faulted ran) (E.Stretch.paths ran) (E.Stretch.told ran) changes }
-        ensures { AreLeft result.0.pass (living_by (map (λ p. p.path.items) result.0.group.participants.items) result.1) }
+        ensures { AreLeft result.0.pass (living_by result.0.group.paths result.1) }
     {
         self.queue.lock(rt).deliver(ran, changes)
     }
@@ -317,7 +317,7 @@ impl<E: Engine, J: Running, L: GroupList, F: Fn(u32, u32) -> bool> Shared<E, J, 
         mut held: HeldGroup<J, L>,
         changes: Changes,
     ) -> Result<(), Reason>
-        requires changes { AreLeft held.pass (living_by (map (λ p. p.path.items) held.group.participants.items) changes) }
+        requires changes { AreLeft held.pass (living_by held.group.paths changes) }
         requires rule { Answers (F.pre self.now.tree.phaser.rule.closure) (F.post self.now.tree.phaser.rule.closure) (end_ends_at self.now.tree.phaser.rule.plan) }
     {
         let alone = self.back_off();

@@ -8,4 +8,4 @@ abbrev pub invariant-loop-behind : goal.invariant-loop-behind
 invariant-loop-behind g l =
     (l.behind ≤ l.count) × (l.count ≡ g.E.Engine.len l.fn.engine)
     × (map (λ p. p.path.items) l.participants.items ≡ all_below (g.E.Engine.paths l.fn.engine) (l.count - l.behind))
-    × (map (λ gr. group_of gr.number (map (λ p. p.path.items) gr.participants.items)) l.groups.items ≡ map (λ k. group_of k (g.E.Engine.paths l.fn.engine k)) (numbers_from (l.count - l.behind) l.behind))
+    × (l.groups.items ≡ map (λ k. group_of k (g.E.Engine.paths l.fn.engine k)) (numbers_from (l.count - l.behind) l.behind))

@@ -1,23 +1,5 @@
-use Rattle.std.proofs.Common.{◌≡◌, ◌∙◌, ℕ, List, Result, Ok, Err, map, ap, subst}
-use Rattle.std.specs.Prelude.{ℤ, IfOk}
-use Rattle.programs.specs.History.{HasRun}
-use Rattle.program_stretches.specs.Opening.{live_of}
-use Rattle.worker_pool.specs.JobPlan.{limit_of}
+use Rattle.programs.proofs.Reached.{never_stopped}
 use Rattle.worker_pool.proofs.program.run_program.Goals as goal
 
-if_ok : {X E : Type 0} (answer : Result X E) (F G : X → Type 0) → IfOk answer F → ((x : X) → F x → G x) → IfOk answer G
-if_ok (Ok x) F G h f = f x h
-if_ok (Err e) F G h f = h
-
-pub returns-in-Ok-new-clause-ran : goal.returns-in-Ok-new-clause-ran
-returns-in-Ok-new-clause-ran g c =
-    let b = c.in-Ok-new.ensures in
-    let limit : b.opening.limit ≡ limit_of c.args.advance.plan = b.of_limit ∙ c.limit_in-limit.ensures.limit ∙ ap limit_of c.plan.ensures in
-    if_ok c.run_stretches.result _ _ c.run_stretches.ensures.ran
-    (λ ran h.
-    subst (λ (q : g.row.P.Denot). HasRun (g.P.Program.frame q) (g.P.Program.may q) c.args.most c.args.arrays (map (g.P.Program.meant q) c.args.tasks.items) (limit_of c.args.advance.plan) ran.report (map (g.P.Program.meant q) ran.tasks.items)) b.of_program
-    (subst (λ (n : ℕ). HasRun (g.P.Program.frame b.opening.program) (g.P.Program.may b.opening.program) n c.args.arrays (map (g.P.Program.meant b.opening.program) c.args.tasks.items) (limit_of c.args.advance.plan) ran.report (map (g.P.Program.meant b.opening.program) ran.tasks.items)) b.of_most
-    (subst (λ (xs : List (List ℕ × List ℤ)). HasRun (g.P.Program.frame b.opening.program) (g.P.Program.may b.opening.program) b.opening.most xs (map (g.P.Program.meant b.opening.program) c.args.tasks.items) (limit_of c.args.advance.plan) ran.report (map (g.P.Program.meant b.opening.program) ran.tasks.items)) b.of_arrays
-    (subst (λ (ts : List g.row.P-Task.Denot). HasRun (g.P.Program.frame b.opening.program) (g.P.Program.may b.opening.program) b.opening.most b.opening.arrays (map (g.P.Program.meant b.opening.program) ts) (limit_of c.args.advance.plan) ran.report (map (g.P.Program.meant b.opening.program) ran.tasks.items)) b.of_tasks
-    (subst (λ (n : ℕ). HasRun (g.P.Program.frame b.opening.program) (g.P.Program.may b.opening.program) b.opening.most b.opening.arrays (map (g.P.Program.meant b.opening.program) (live_of b.opening)) n ran.report (map (g.P.Program.meant b.opening.program) ran.tasks.items)) limit
-    (h b.opening b.log))))))
+pub returns-clause-ran : goal.returns-clause-ran
+returns-clause-ran g c = never_stopped _ _ _ _ _ _ _ _ _ c.in_ok-ran.ensures.ran

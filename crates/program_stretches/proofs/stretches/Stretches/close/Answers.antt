@@ -23,7 +23,7 @@ end-requires-clause-ends g c =
     let found : fault_in v.parts ≡ Some c.in-Some.blame = sym (c.find_fault.ensures ∙ ap fault_in (c.deref-2.ensures.value ∙ parts)) ∙ c.in-Some.is in
     let o = open_now m v h covered run in
     subst (λ (ps : List (Option (PartValue g.row.P-Task.Denot))). EndsBy m (record v { parts = ps }) c.in-Some.blame) (sym gone)
-    (record { live = map (m v.program).meant (live_of o.opening); begun = after_with m v [] _ (begun_now m v h covered run); step = (fault_now m v h covered run law c.in-Some.blame found).step })
+    (record { live = map (m v.program).meant (live_of o.opening); begun = after_with m v [] _ (begun_now m v h covered run); count = o.count; step = (fault_now m v h covered run law c.in-Some.blame found).step })
 
 pub returns-in-Some-clause-closed : goal.returns-in-Some-clause-closed
 returns-in-Some-clause-closed g c =

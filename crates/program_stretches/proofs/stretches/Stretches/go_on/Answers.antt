@@ -85,7 +85,7 @@ end-requires-clause-ends g c =
     let over = not_counted c.count_spawned.result _ _ c.count_spawned.ensures c.in_default.is in
     let s = ap spawned_in (ap deeds_in c.deref-2.ensures.value) in
     let step = ends_many m a law c.requires.running h.opening h.begun _ _ _ _ h.did (omega (arith, e, n, over, s, left, all, count, few, most)) in
-    subst (EndsBy m a) (sym c.too_many.ensures) (record { live = map (m a.program).meant (live_of h.opening); begun = h.begun; step = step.step })
+    subst (EndsBy m a) (sym c.too_many.ensures) (record { live = map (m a.program).meant (live_of h.opening); begun = h.begun; count = h.count; step = step.step })
 
 pub returns-in_default-clause-closed : goal.returns-in_default-clause-closed
 returns-in_default-clause-closed g c =

@@ -44,6 +44,9 @@ returns g c =
       of_tasks = ready.tasks;
       at_most = refl;
       to_limit = refl;
+      with_arrays = ready.arrays.0;
+      at_start = refl;
+      calm = refl;
       counted =
           let parts = ap (λ (x : OpeningValue g.row.P.Denot g.row.P-Task.Denot). x.parts) (c.parts.view_is ∙ c.note.ensures.same) in
           ready.count ∙ ap length (sym ready.tasks) ∙ ap (λ (ss : List (Option (PartValue g.row.P-Task.Denot))). length (tasks_in ss)) (sym parts);

@@ -20,7 +20,7 @@ end-requires-clause-ends g c =
     let h = o.run in
     let e = ends_over m c.args.self.now (g.met.P.Program.keeps_paths c.args.self.now.program) c.requires.running h.opening h.begun o.puts c.args.tasks.now c.args.deeds.now c.args.prints.now h.did c.args.place c.blame_at.result c.requires.few o.over c.blame_at.ensures in
     let same = some_same e.cause c.in-Some.blame (sym e.is ∙ c.in-Some.is) in
-    subst (EndsBy m c.args.self.now) same (record { live = map (m c.args.self.now.program).meant (live_of h.opening); begun = h.begun; step = e.step.step })
+    subst (EndsBy m c.args.self.now) same (record { live = map (m c.args.self.now.program).meant (live_of h.opening); begun = h.begun; count = h.count; step = e.step.step })
 
 pub unreachable-requires : goal.unreachable-requires
 unreachable-requires g c =

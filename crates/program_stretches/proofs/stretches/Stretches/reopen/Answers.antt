@@ -18,9 +18,10 @@ invariant_of-self g c =
     let noted = c.note.ensures.noted in
     let parts = ap (λ (x : OpeningValue g.row.P.Denot g.row.P-Task.Denot). x.parts) (c.parts.view_is ∙ c.note.ensures.same) in
     let begun = subst (λ (x : StretchesValue g.row.P.Denot g.row.P-Task.Denot). IsAfter m x (map (m x.program).meant (live_of o))) (sym c.self.view_is) c.requires.after in
+    let calm = ap (λ (x : StretchesValue g.row.P.Denot g.row.P-Task.Denot). x.fault) c.self.view_is ∙ c.requires.calm in
     let count = (λ i. length (c.self.view_is i).log) ∙ c.requires.count ∙ sym (ap (λ (x : StretchesValue g.row.P.Denot g.row.P-Task.Denot). x.step) c.self.view_is) in
     record {
-      course = course_opened m v _ o begun count c.requires.fresh refl c.in_ok-arrays.ensures
+      course = course_opened m v _ o begun calm count c.requires.fresh refl c.in_ok-arrays.ensures
           (λ i. record v { name = (noted i).name; log = (noted i).log; parts = parts i });
       same = h.same ∙ sym (ap (λ (w : LogValue (OpeningValue g.row.P.Denot g.row.P-Task.Denot)). w.name) noted);
       is_ready = h.is_ready;

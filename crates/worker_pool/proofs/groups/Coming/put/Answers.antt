@@ -1,5 +1,5 @@
-use Rattle.std.proofs.Common.{◌≡◌, ◌∙◌, ◌-◌, Some, sym, ap, arith}
-use Rattle.std.specs.Prelude.{slice_set}
+use Rattle.std.proofs.Common.{◌≡◌, ◌∙◌, ◌-◌, Some, ap, arith}
+use Rattle.std.specs.Prelude.{slice_get, slice_set}
 use Rattle.worker_pool.specs.Groups.{empty_in}
 use Rattle.worker_pool.proofs.Places.{one_fewer}
 use Rattle.worker_pool.proofs.groups.Coming.put.Goals as goal
@@ -9,7 +9,9 @@ overflow_sub-self g c = let n = one_fewer c.args.self.now.places.items c.args.gr
 
 pub invariant_of-self : goal.invariant_of-self
 invariant_of-self g c =
-    let n = one_fewer c.args.self.now.places.items c.args.group.number c.args.group c.requires in
+    let places = c.args.self.now.places.items in
+    let number = c.group.inside.number in
+    let n = one_fewer places number c.args.group (ap (λ v. slice_get places v.number) c.group.view_is ∙ c.requires) in
     let own = c.args.self.now.own in
-    let fewer : (c.args.self.now.missing - 1) ≡ empty_in (slice_set c.args.self.now.places.items c.args.group.number (Some c.args.group)) = omega (arith, n, own) in
+    let fewer : (c.args.self.now.missing - 1) ≡ empty_in (slice_set places number (Some c.args.group)) = omega (arith, n, own) in
     record { own = fewer }

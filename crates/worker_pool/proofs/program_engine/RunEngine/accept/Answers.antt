@@ -1,10 +1,12 @@
-use Rattle.std.proofs.Common.{◌≡◌, ◌∙◌, false, map, sym, ap, subst, slice_get}
+use Rattle.std.proofs.Common.{◌≡◌, ◌∙◌, false, Some, map, sym, ap, subst, slice_get}
 use Rattle.std.specs.Prelude.{is_some}
 use Rattle.programs.specs.Changes.{change_in}
 use Rattle.programs.specs.InPlace.{left_in, spawned_in}
 use Rattle.program_stretches.specs.StretchesValue.{StretchesValue, StretchValue, ready_at, living_at, faulted_at}
 use Rattle.program_stretches.specs.Closing.{AllStay}
 use Rattle.worker_pool.specs.Leaving.{out_at}
+use Rattle.worker_pool.specs.Watched.{RunValue, IsWatched}
+use Rattle.worker_pool.proofs.Watched.{watched_slot}
 use Rattle.worker_pool.specs.Living.{living_after}
 use Rattle.worker_pool.proofs.SlotPaths.{read_same}
 use Rattle.worker_pool.proofs.Slots.{back_rest, back_slot, back_here, back_living, back_faulted, back_stays}
@@ -16,7 +18,7 @@ returns-clause-others g c = λ k n.
     let s = c.stretch.inside.stretch in
     ap (λ (x : StretchesValue g.row.P.Denot g.row.P-Task.Denot). out_at (slice_get x.parts k)) c.in-Ok.ensures.added
     ∙ ap out_at (back_slot v s c.in-Ok.ensures.accepted k (λ same. n (same ∙ ap (λ (x : StretchValue g.row.P.Denot g.row.P-Task.Denot). x.number) c.stretch.view_is)))
-    ∙ ap (λ (x : StretchesValue g.row.P.Denot g.row.P-Task.Denot). out_at (slice_get x.parts k)) c.self.view_is
+    ∙ ap (λ (x : RunValue g.row.P.Denot g.row.P-Task.Denot). out_at (slice_get x.stretches.parts k)) c.self.view_is
 
 pub returns-clause-back : goal.returns-clause-back
 returns-clause-back g c =
@@ -30,7 +32,7 @@ returns-clause-rest g c = λ k.
     let v = c.self.inside.stretches in
     let s = c.stretch.inside.stretch in
     ap (λ (x : StretchesValue g.row.P.Denot g.row.P-Task.Denot). ready_at (slice_get x.parts k)) c.in-Ok.ensures.added
-    ∙ back_rest v s c.in-Ok.ensures.accepted k ∙ ap (λ (x : StretchesValue g.row.P.Denot g.row.P-Task.Denot). ready_at (slice_get x.parts k)) c.self.view_is
+    ∙ back_rest v s c.in-Ok.ensures.accepted k ∙ ap (λ (x : RunValue g.row.P.Denot g.row.P-Task.Denot). ready_at (slice_get x.stretches.parts k)) c.self.view_is
 
 pub returns-clause-living : goal.returns-clause-living
 returns-clause-living g c =
@@ -54,12 +56,21 @@ returns-clause-tasks g c = λ k n.
     read_same g.P.Task.OnPath.path_of
     (ap (λ (x : StretchesValue g.row.P.Denot g.row.P-Task.Denot). slice_get x.parts k) c.in-Ok.ensures.added
     ∙ back_slot v s c.in-Ok.ensures.accepted k (λ same. n (same ∙ ap (λ (x : StretchValue g.row.P.Denot g.row.P-Task.Denot). x.number) c.stretch.view_is))
-    ∙ ap (λ (x : StretchesValue g.row.P.Denot g.row.P-Task.Denot). slice_get x.parts k) c.self.view_is)
+    ∙ ap (λ (x : RunValue g.row.P.Denot g.row.P-Task.Denot). slice_get x.stretches.parts k) c.self.view_is)
 
 pub returns-clause-stays : goal.returns-clause-stays
 returns-clause-stays g c = λ stay b.
     let v = c.self.inside.stretches in
     let s = c.stretch.inside.stretch in
     subst (λ (x : StretchesValue g.row.P.Denot g.row.P-Task.Denot). AllStay x.parts) (sym c.in-Ok.ensures.added)
-    (back_stays v s c.in-Ok.ensures.accepted (subst (λ (x : StretchesValue g.row.P.Denot g.row.P-Task.Denot). AllStay x.parts) (sym c.self.view_is) stay)
+    (back_stays v s c.in-Ok.ensures.accepted (subst (λ (x : RunValue g.row.P.Denot g.row.P-Task.Denot). AllStay x.stretches.parts) (sym c.self.view_is) stay)
     (ap (λ (x : StretchValue g.row.P.Denot g.row.P-Task.Denot). left_in x.part.deeds) c.stretch.view_is ∙ b.0, ap (λ (x : StretchValue g.row.P.Denot g.row.P-Task.Denot). spawned_in x.part.deeds) c.stretch.view_is ∙ b.1))
+
+pub invariant_of-self : goal.invariant_of-self
+invariant_of-self g c =
+    let v = c.self.inside.stretches in
+    let s = c.stretch.inside.stretch in (
+      ap (λ (x : StretchesValue g.row.P.Denot g.row.P-Task.Denot). x.given) c.in-Ok.ensures.added ∙ c.self.invariant.0,
+      subst (λ (x : StretchesValue g.row.P.Denot g.row.P-Task.Denot). IsWatched g.W.Watch.stops g.W.Watch.goes x c.self.inside.stopped) (sym c.in-Ok.ensures.added)
+          (watched_slot g.W.Watch.stops g.W.Watch.goes v c.self.inside.stopped s.number (Some s.part) c.self.invariant.1),
+    )

@@ -1,15 +1,11 @@
-use Rattle.std.proofs.Common.{◌≡◌, ◌∙◌, ◌∷◌, true, sym, ap, map, subst}
-use Rattle.std.specs.Option.{option_map}
-use Rattle.worker_pool.specs.EngineReading.{EngineReading, read_by}
-use Rattle.worker_pool.specs.Groups.{group_of}
-use Rattle.worker_pool.specs.QueueState.{QueueState}
+use Rattle.std.proofs.Common.{◌∙◌, ◌∷◌, sym, ap, subst}
+use Rattle.pass_list.specs.Passed.{ticket}
 use Rattle.worker_pool.specs.Changes.{Tells}
 use Rattle.worker_pool.specs.Living.{LeftValue, living_by}
-use Rattle.pass_list.specs.Passed.{ticket}
-use Rattle.worker_pool.proofs.HandedOut.{found, struck, not_both}
-use Rattle.worker_pool.proofs.Steady.{CameBack, neither}
-use Rattle.worker_pool.proofs.Queueing.{came_back}
+use Rattle.worker_pool.proofs.HandedOut.{found, struck}
 use Rattle.worker_pool.proofs.Living.{living_known, stays_told}
+use Rattle.worker_pool.proofs.Queueing.{came_back}
+use Rattle.worker_pool.proofs.Steady.{neither}
 use Rattle.worker_pool.proofs.queue.Queue.deliver.Goals as goal
 
 pub accept-requires-clause-step : goal.accept-requires-clause-step
@@ -24,18 +20,18 @@ accept-requires-clause-out g c =
 
 pub invariant_of-self : goal.invariant_of-self
 invariant_of-self g c =
-    let r : EngineReading g.row.E.Denot = read_by g.E.Engine.mark g.E.Engine.len g.E.Engine.count g.E.Engine.paths g.E.Engine.living g.E.Engine.faulted g.E.Engine.ready g.E.Engine.out g.E.Engine.stays g.E.Engine.step g.E.Engine.ended g.E.Engine.leaves in
-    let i = c.self.inside in
-    let q : QueueState g.row.E.Denot g.row.J.Denot = record { engine = i.engine; lists = i.lists; ready = map (λ gr. group_of gr.number (map (λ p. p.path.items) gr.participants.items)) i.ready.items; back = map (λ gr. group_of gr.number (map (λ p. p.path.items) gr.participants.items)) i.back.items; moves = i.moves; awaits = i.awaits; places = map (option_map (λ gr. group_of gr.number (map (λ p. p.path.items) gr.participants.items))) i.coming.places.items; first = i.first } in
+    let lists = c.self.inside.lists in
     let a = c.accept.ensures in
     let s = c.into_parts-stretch.result.0 in
-    let n = g.E.Stretch.Stretch.number s in
     let t = struck _ _ _ _ _ c.into_parts-stretch.ensures.pass.1 c.redeem.ensures.out c.redeem.ensures.others in
     let l = c.issue-own.ensures.listed in
-    let known : LeftValue = record { paths = living_by (map (λ p. p.path.items) c.into_parts-stretch.result.2.participants.items) c.args.changes; faulted = c.has_faulted.result } in
+    let number = ap (λ v. v.number) c.group.view_is ∙ c.into_parts-stretch.ensures.number in
+    let known : LeftValue = record { paths = living_by c.into_parts-stretch.result.2.paths c.args.changes; faulted = c.has_faulted.result } in
     let told = subst (λ x. Tells (g.E.Stretch.Stretch.stays x) (g.E.Stretch.Stretch.faulted x) (g.E.Stretch.Stretch.paths x) (g.E.Stretch.Stretch.told x) c.args.changes) (sym c.into_parts-stretch.ensures.stretch) c.requires.told in
-    let back : CameBack r i.engine n known c.accept.new.self = record {
-      was_out = ap (g.E.Engine.out i.engine) (sym t.of_number) ∙ (found _ _ _ _ c.self.invariant.are_out t.there).1;
+    came_back c.self.invariant c.accept.new.self l.0 known c.redeem.new.self t c.redeem.ensures.name c.issue-own.new.self
+    (l.1.0 ∙ (λ j. record lists.groups { out = ticket l.0 (c.step-step.ensures j) (number j) known ∷ lists.groups.out }))
+    (record {
+      was_out = ap (g.E.Engine.out c.self.inside.engine) (sym t.of_number) ∙ (found _ _ _ _ c.self.invariant.are_out t.there).1;
       back = a.back;
       gone = a.gone;
       others = a.others;
@@ -45,7 +41,5 @@ invariant_of-self g c =
       tasks = a.tasks;
       len = a.len;
       step = a.step;
-    } in
-    came_back r g.J.Running.mark g.J.Running.workers g.J.Running.passes g.L.GroupList.groups g.J.Running.stops q c.self.invariant c.accept.new.self _ n l.0 known c.redeem.new.self _ t c.redeem.ensures.name c.issue-own.new.self
-    (l.1.0 ∙ (λ j. record i.lists.groups { out = ticket l.0 (c.step-step.ensures j) (c.into_parts-stretch.ensures.number j) known ∷ i.lists.groups.out })) back a.ended a.mark _
-    (λ m. let f = neither i.moves c.is_same-stay.result m in (f.0, λ k. a.stays k (stays_told (g.E.Stretch.Stretch.stays s) (g.E.Stretch.Stretch.faulted s) (g.E.Stretch.Stretch.paths s) (g.E.Stretch.Stretch.told s) c.args.changes told (sym c.is_same-stay.ensures ∙ f.1))))
+    }) a.ended a.mark _
+    (λ m. let f = neither c.self.inside.moves c.is_same-stay.result m in (f.0, λ k. a.stays k (stays_told (g.E.Stretch.Stretch.stays s) (g.E.Stretch.Stretch.faulted s) (g.E.Stretch.Stretch.paths s) (g.E.Stretch.Stretch.told s) c.args.changes told (sym c.is_same-stay.ensures ∙ f.1))))

@@ -1,43 +1,31 @@
-use Rattle.std.proofs.Common.{◌∙◌, ◌++◌, ◌∷◌, [], Some, map, sym, ap, subst}
-use Rattle.std.proofs.lemmas.List.{map-append}
-use Rattle.worker_pool.specs.QueueValue.{is_over}
+use Rattle.std.proofs.Common.{◌∙◌, ◌++◌, ◌∷◌, [], Some, ap}
 use Rattle.std.specs.Prelude.{slice_get, slice_set}
-use Rattle.std.specs.Option.{option_map}
-use Rattle.worker_pool.specs.EngineReading.{EngineReading, read_by}
-use Rattle.worker_pool.specs.Groups.{group_of}
-use Rattle.worker_pool.specs.QueueState.{QueueState}
-use Rattle.worker_pool.specs.HandedOut.{AreLeft}
-use Rattle.worker_pool.proofs.HandedOut.{struck, there_of}
-use Rattle.worker_pool.proofs.Places.{unseen, seen_set}
+use Rattle.worker_pool.specs.QueueValue.{is_over}
+use Rattle.worker_pool.proofs.HandedOut.{struck, known_left}
 use Rattle.worker_pool.proofs.Queueing.{late_ready, place_waits, put_back}
 use Rattle.worker_pool.proofs.queue.Queue.take_back_late.Goals as goal
 
 pub put-requires : goal.put-requires
 put-requires g c =
-    let r : EngineReading g.row.E.Denot = read_by g.E.Engine.mark g.E.Engine.len g.E.Engine.count g.E.Engine.paths g.E.Engine.living g.E.Engine.faulted g.E.Engine.ready g.E.Engine.out g.E.Engine.stays g.E.Engine.step g.E.Engine.ended g.E.Engine.leaves in
-    let i = c.self.inside in
-    let q : QueueState g.row.E.Denot g.row.J.Denot = record { engine = i.engine; lists = i.lists; ready = map (λ gr. group_of gr.number (map (λ p. p.path.items) gr.participants.items)) i.ready.items; back = map (λ gr. group_of gr.number (map (λ p. p.path.items) gr.participants.items)) i.back.items; moves = i.moves; awaits = i.awaits; places = map (option_map (λ gr. group_of gr.number (map (λ p. p.path.items) gr.participants.items))) i.coming.places.items; first = i.first } in
+    let going = ap (is_over g.E.Engine.ended) c.self.view_is ∙ c.requires.running in
     let t = struck _ _ _ _ _ c.into_parts-group.ensures.is_for.1 c.redeem.ensures.out c.redeem.ensures.others in
-    let same = there_of _ _ _ t.is (subst (λ p. AreLeft p (map (λ p. p.path.items) c.args.held.group.participants.items)) (sym c.into_parts-group.ensures.pass) c.requires.passed) in
-    let w = place_waits r g.J.Running.mark g.J.Running.workers g.J.Running.passes g.L.GroupList.groups g.J.Running.stops q c.self.invariant (ap (is_over g.E.Engine.ended) c.self.view_is ∙ c.requires.running) c.args.held.step c.args.held.group.number c.redeem.new.self _ t c.redeem.ensures.name _ same c.if-self.true in
-    ap (λ x. slice_get i.coming.places.items x.number) c.into_parts-group.ensures.group ∙ unseen (λ gr. group_of gr.number (map (λ p. p.path.items) gr.participants.items)) i.coming.places.items c.args.held.group.number w
+    let same = known_left c.into_parts-group.ensures.pass c.requires.passed t.is in
+    ap (λ x. slice_get c.self.inside.coming.places.items x.number) c.into_parts-group.ensures.group
+    ∙ place_waits c.self.invariant going c.redeem.new.self t c.redeem.ensures.name same c.if-self.true
 
 pub invariant_of-self : goal.invariant_of-self
 invariant_of-self g c =
-    let r : EngineReading g.row.E.Denot = read_by g.E.Engine.mark g.E.Engine.len g.E.Engine.count g.E.Engine.paths g.E.Engine.living g.E.Engine.faulted g.E.Engine.ready g.E.Engine.out g.E.Engine.stays g.E.Engine.step g.E.Engine.ended g.E.Engine.leaves in
-    let i = c.self.inside in
-    let q : QueueState g.row.E.Denot g.row.J.Denot = record { engine = i.engine; lists = i.lists; ready = map (λ gr. group_of gr.number (map (λ p. p.path.items) gr.participants.items)) i.ready.items; back = map (λ gr. group_of gr.number (map (λ p. p.path.items) gr.participants.items)) i.back.items; moves = i.moves; awaits = i.awaits; places = map (option_map (λ gr. group_of gr.number (map (λ p. p.path.items) gr.participants.items))) i.coming.places.items; first = i.first } in
+    let going = ap (is_over g.E.Engine.ended) c.self.view_is ∙ c.requires.running in
     let t = struck _ _ _ _ _ c.into_parts-group.ensures.is_for.1 c.redeem.ensures.out c.redeem.ensures.others in
-    let same = there_of _ _ _ t.is (subst (λ p. AreLeft p (map (λ p. p.path.items) c.args.held.group.participants.items)) (sym c.into_parts-group.ensures.pass) c.requires.passed) in
-    put_back r g.J.Running.mark g.J.Running.workers g.J.Running.passes g.L.GroupList.groups g.J.Running.stops q c.self.invariant (ap (is_over g.E.Engine.ended) c.self.view_is ∙ c.requires.running) c.args.held.step c.args.held.group.number c.redeem.new.self _ t c.redeem.ensures.name _ same c.if-self.true (map (option_map (λ gr. group_of gr.number (map (λ p. p.path.items) gr.participants.items))) c.put.new.self.places.items)
-    (ap (map (option_map (λ gr. group_of gr.number (map (λ p. p.path.items) gr.participants.items)))) c.put.ensures ∙ seen_set (λ gr. group_of gr.number (map (λ p. p.path.items) gr.participants.items)) i.coming.places.items c.into_parts-group.result.0.number c.into_parts-group.result.0 ∙ ap (λ x. slice_set q.places x.number (Some (group_of x.number (map (λ p. p.path.items) x.participants.items)))) c.into_parts-group.ensures.group)
+    let same = known_left c.into_parts-group.ensures.pass c.requires.passed t.is in
+    put_back c.self.invariant going c.redeem.new.self t c.redeem.ensures.name same c.if-self.true c.put.new.self.places.items
+    (c.put.ensures ∙ ap (λ x. slice_set c.self.inside.coming.places.items x.number (Some x)) c.into_parts-group.ensures.group)
 
 pub invariant_of-self-in-Ok : goal.invariant_of-self-in-Ok
 invariant_of-self-in-Ok g c =
-    let r : EngineReading g.row.E.Denot = read_by g.E.Engine.mark g.E.Engine.len g.E.Engine.count g.E.Engine.paths g.E.Engine.living g.E.Engine.faulted g.E.Engine.ready g.E.Engine.out g.E.Engine.stays g.E.Engine.step g.E.Engine.ended g.E.Engine.leaves in
-    let i = c.self.inside in
-    let q : QueueState g.row.E.Denot g.row.J.Denot = record { engine = i.engine; lists = i.lists; ready = map (λ gr. group_of gr.number (map (λ p. p.path.items) gr.participants.items)) i.ready.items; back = map (λ gr. group_of gr.number (map (λ p. p.path.items) gr.participants.items)) i.back.items; moves = i.moves; awaits = i.awaits; places = map (option_map (λ gr. group_of gr.number (map (λ p. p.path.items) gr.participants.items))) i.coming.places.items; first = i.first } in
+    let going = ap (is_over g.E.Engine.ended) c.self.view_is ∙ c.requires.running in
     let t = struck _ _ _ _ _ c.into_parts-group.ensures.is_for.1 c.redeem.ensures.out c.redeem.ensures.others in
-    let same = there_of _ _ _ t.is (subst (λ p. AreLeft p (map (λ p. p.path.items) c.args.held.group.participants.items)) (sym c.into_parts-group.ensures.pass) c.requires.passed) in
-    late_ready r g.J.Running.mark g.J.Running.workers g.J.Running.passes g.L.GroupList.groups g.J.Running.stops q c.self.invariant (ap (is_over g.E.Engine.ended) c.self.view_is ∙ c.requires.running) c.args.held.step c.args.held.group.number c.redeem.new.self _ t c.redeem.ensures.name _ same (λ e. c.requires.late (e ∙ ap (λ v. g.E.Engine.step v.engine) c.self.view_is)) c.if-self.false (map (λ gr. group_of gr.number (map (λ p. p.path.items) gr.participants.items)) c.push_group.new.groups.items)
-    (ap (map (λ gr. group_of gr.number (map (λ p. p.path.items) gr.participants.items))) c.in-Ok.ensures.pushed ∙ map-append (λ gr. group_of gr.number (map (λ p. p.path.items) gr.participants.items)) i.ready.items (c.into_parts-group.result.0 ∷ []) ∙ ap (λ x. map (λ gr. group_of gr.number (map (λ p. p.path.items) gr.participants.items)) i.ready.items ++ group_of x.number (map (λ p. p.path.items) x.participants.items) ∷ []) c.into_parts-group.ensures.group)
+    let same = known_left c.into_parts-group.ensures.pass c.requires.passed t.is in
+    late_ready c.self.invariant going c.redeem.new.self t c.redeem.ensures.name same
+    (λ e. c.requires.late (e ∙ ap (λ v. g.E.Engine.step v.engine) c.self.view_is)) c.if-self.false c.push_group.new.groups.items
+    (c.in-Ok.ensures.pushed ∙ ap (λ x. c.self.inside.ready.items ++ x ∷ []) c.into_parts-group.ensures.group)
