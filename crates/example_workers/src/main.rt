@@ -1,5 +1,5 @@
 //! Tasks written in Rattle, on worker threads: heat in a rod, also until a cell of it is warm, the game of life, a shop whose
-//! customers come and go, a search in a graph, and its ranks. Each run leaves on workers what it leaves on one thread.
+//! customers come and go, also until a watcher has counted to a number, a search in a graph, and its ranks. Each run leaves on workers what it leaves on one thread.
 #![tactic(auto)]
 
 ghost use Rattle.std.specs.Prelude.{◌≤◌};
@@ -17,11 +17,16 @@ use superstep_memory::arrays::Arrays;
 use task_bodies::body::TaskBody;
 use task_bodies::kernel::{Grid, Window};
 use task_bodies::run::{run_bodies, run_bodies_watched};
-use task_workers::{AllStart, OpenGate, run_bodies_on_workers, run_bodies_watched_on_workers};
+use task_workers::{
+    AllStart, OpenGate, Watch, run_bodies_on_workers, run_bodies_watched_on_workers,
+};
 use tier_shape::Shape;
 
 // How many runs are compared.
-const RUNS: usize = 6;
+const RUNS: usize = 7;
+
+// How many supersteps of the shop begin before a watcher stops it.
+const COUNTED: u32 = 37;
 
 // A number by all cells of one array.
 fn array_number(before: i64, cells: &[i64]) -> i64 {
@@ -138,6 +143,48 @@ fn warm_on_workers<R: Threads + Wait + Sync>(
     ))
 }
 
+// Lets this many supersteps begin.
+#[derive(Clone, Copy)]
+struct Countdown {
+    left: u32,
+}
+
+impl Watch for Countdown {
+    fn goes_on(&mut self, _step: u32, _arrays: &Arrays, _tasks: usize) -> bool {
+        let goes = self.left > 0;
+        self.left = self.left.saturating_sub(1);
+        goes
+    }
+}
+
+// After how many supersteps a watcher stops the shop that lets `COUNTED` begin: fewer if it is called too often.
+fn counted_on_workers<R: Threads + Wait + Sync>(
+    rt: &R,
+    alloc: Global,
+    workers: u32,
+    widths: &str,
+) -> anyhow::Result<i64>
+    requires { (1 ≤ workers) × (workers ≤ 64) }
+{
+    let start = start::shop(alloc)?;
+    let shape = Shape::from_widths(alloc, widths)?;
+    let ran = run_bodies_watched_on_workers(
+        rt,
+        alloc,
+        &Shop { open: 199 },
+        start.arrays,
+        start.tasks,
+        1000,
+        1000,
+        shape,
+        workers,
+        &OpenGate,
+        &AllStart,
+        &mut Countdown { left: COUNTED },
+    )?;
+    Ok(ran.report.records.len() as i64)
+}
+
 fn life_alone(alloc: Global) -> anyhow::Result<i64> {
     let life = Grid {
         array: 0,
@@ -183,7 +230,7 @@ fn all_alone(alloc: Global) -> anyhow::Result<[i64; RUNS]> {
     let shop = alone(alloc, &Shop { open: 199 }, start::shop(alloc)?)?;
     let search = alone(alloc, &Graph { nodes: 100_000 }, start::graph(alloc)?)?;
     let ranks = alone(alloc, &ranks(), start::ranks(alloc)?)?;
-    Ok([rod, warm, life, shop, search, ranks])
+    Ok([rod, warm, i64::from(COUNTED), life, shop, search, ranks])
 }
 
 // What they leave on this number of workers at a tree of these widths.
@@ -204,6 +251,7 @@ fn all_on_workers<R: Threads + Wait + Sync>(
         widths,
     )?;
     let warm = warm_on_workers(rt, alloc, workers, widths)?;
+    let counted = counted_on_workers(rt, alloc, workers, widths)?;
     let life = life_on_workers(rt, alloc, workers, widths)?;
     let shop = on_workers(
         rt,
@@ -216,7 +264,7 @@ fn all_on_workers<R: Threads + Wait + Sync>(
     let graph = Graph { nodes: 100_000 };
     let search = on_workers(rt, alloc, &graph, start::graph(alloc)?, workers, widths)?;
     let ranks = on_workers(rt, alloc, &ranks(), start::ranks(alloc)?, workers, widths)?;
-    Ok([rod, warm, life, shop, search, ranks])
+    Ok([rod, warm, counted, life, shop, search, ranks])
 }
 
 // Whether this number of workers at a tree of these widths leave what one thread left.

@@ -9,7 +9,7 @@ use Rattle.programs.proofs.Histories.{so_far_more}
 use Rattle.program_stretches.specs.PartValue.{PartValue}
 use Rattle.program_stretches.specs.Parts.{Reading, IsPartOf, IsOwn, AreOwn, AreFresh}
 use Rattle.program_stretches.specs.Opening.{OpeningValue, live_of, states_by, Opens, AllOpen}
-use Rattle.program_stretches.specs.Reached.{IsReached, with_earlier}
+use Rattle.program_stretches.specs.Reached.{with_earlier}
 use Rattle.program_stretches.specs.Did.{IsStep}
 use Rattle.program_stretches.specs.StretchesValue.{StretchesValue, StretchValue, state_with, status_for, status_in, with_slot, IsAfter, IsOpen, IsStretch, IsCourse}
 use Rattle.program_stretches.proofs.Owning.{fresh_own, own_set, some_there}

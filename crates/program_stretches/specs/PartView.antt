@@ -4,11 +4,11 @@ use Rattle.program_stretches.specs.PartValue.{PartValue}
 
 abbrev pub part_of : {S : Type 0} → Inside S → PartValue S
 part_of i = record {
-  first = i.first;
-  tasks = i.tasks.items;
-  done = i.done;
-  puts = i.work.puts;
-  deeds = i.deeds;
-  prints = i.prints.items;
-  fault = i.fault;
+  first = i.state.value.first;
+  tasks = i.state.value.tasks.items;
+  done = i.state.value.done;
+  puts = i.state.value.work.puts;
+  deeds = i.state.value.deeds;
+  prints = i.state.value.prints.items;
+  fault = i.state.value.fault;
 }

@@ -1,7 +1,7 @@
 //! Live tasks cut into stretches.
 ghost use Rattle.std.specs.Prelude.{◌≡◌, ◌≤◌, ◌<◌, ◌++◌, [], length, reverse};
 ghost use Rattle.std.specs.Vec.{vec_len, vec_capacity};
-ghost use Rattle.program_stretches.specs.Parts.{AreFresh, tasks_in};
+ghost use Rattle.program_stretches.specs.Parts.{AreFresh, fresh_part, tasks_in};
 
 use crate::part::Part;
 use programs::program::OnPath;
@@ -36,23 +36,28 @@ fn cut_off<T: OnPath>(
         let Ok(()) = parts.reserve(2) else {
             return;
         };
+        let Ok(part) = Part::new(alloc) else {
+            return;
+        };
         let at = (rest.len() - 1) / size * size;
         match rest.split_off(at) {
-            Ok(behind) => parts.push_reserved(Some(Part::new(alloc, at, behind))),
+            Ok(behind) => parts.push_reserved(Some(part.with_tasks(at, behind))),
             Err(_) => return,
         }
     }
 }
 
-/// Cuts live tasks into about `pieces` stretches. There is room for one. If there is no memory for more, that one has
-/// all the tasks that are left.
+/// Cuts live tasks into about `pieces` stretches. There is room for one, which is `first`. If there is no memory for more,
+/// that one has all the tasks that are left.
 pub(crate) fn cut<T: OnPath>(
     alloc: Global,
     tasks: Vec<T>,
     pieces: usize,
+    first: Part<T>,
     parts: &mut Vec<Option<Part<T>>>,
 )
     requires pieces { 1 ≤ pieces }
+    requires first { first ≡ fresh_part 0 [] }
     requires none_yet { parts.old.items ≡ [] }
     requires room { vec_len parts.old < vec_capacity parts.old }
     ensures fresh { AreFresh 0 parts.new.items }
@@ -61,6 +66,6 @@ pub(crate) fn cut<T: OnPath>(
     let size = size_for(tasks.len(), pieces);
     let mut rest = tasks;
     cut_off(alloc, &mut rest, size, parts);
-    parts.push_reserved(Some(Part::new(alloc, 0, rest)));
+    parts.push_reserved(Some(first.with_tasks(0, rest)));
     parts.reverse();
 }

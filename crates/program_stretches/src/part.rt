@@ -13,9 +13,9 @@ use superstep_memory::arrays::Arrays;
 use superstep_memory::path::Path;
 use superstep_memory::puts::Puts;
 
-/// Consecutive live tasks of a superstep, and what they did in it, each in its place.
+// What a stretch of live tasks has.
 #[derive(Drop)]
-pub struct Part<T> {
+struct State<T> {
     // The place of its first task among the live ones.
     first: usize,
     tasks: Vec<T>,
@@ -26,6 +26,13 @@ pub struct Part<T> {
     deeds: Deeds<T>,
     prints: Vec<Print>,
     fault: Option<Blame>,
+}
+
+/// Consecutive live tasks of a superstep, and what they did in it, each in its place. It moves with a stretch, so it is a
+/// box.
+#[derive(Drop)]
+pub struct Part<T> {
+    state: Box<State<T>>,
 }
 
 impl<T> Model for Part<T> {
@@ -58,52 +65,66 @@ impl<T: OnPath> Part<T> {
     ghost use Rattle.programs.specs.Changes.{change_of, change_in};
     ghost use Rattle.program_stretches.specs.Parts.{fresh_part};
 
-    /// These tasks before their segments. The first has this place among the live ones.
-    pub(crate) fn new(alloc: Global, first: usize, tasks: Vec<T>) -> Self
+    /// No tasks yet.
+    pub(crate) fn new(alloc: Global) -> Result<Self, AllocError>
+        ensures { IfOk result (λ part. part ≡ fresh_part 0 []) }
+    {
+        let state = Box::new(
+            alloc,
+            State {
+                first: 0,
+                tasks: Vec::new(alloc),
+                done: false,
+                work: Work {
+                    puts: Puts::new(alloc),
+                    own: Puts::new(alloc),
+                    prints: Vec::new(alloc),
+                    spawns: Vec::new(alloc),
+                },
+                deeds: Deeds::new(alloc),
+                prints: Vec::new(alloc),
+                fault: None,
+            },
+        )?;
+        Ok(Part { state })
+    }
+
+    /// These tasks before their segments, in place of none. The first has this place among the live ones.
+    pub(crate) fn with_tasks(mut self, first: usize, tasks: Vec<T>) -> Self
+        requires { self ≡ fresh_part 0 [] }
         ensures { result ≡ fresh_part first tasks.items }
     {
-        Part {
-            first,
-            tasks,
-            done: false,
-            work: Work {
-                puts: Puts::new(alloc),
-                own: Puts::new(alloc),
-                prints: Vec::new(alloc),
-                spawns: Vec::new(alloc),
-            },
-            deeds: Deeds::new(alloc),
-            prints: Vec::new(alloc),
-            fault: None,
-        }
+        self.state.first = first;
+        self.state.tasks = tasks;
+        self
     }
 
     /// How many tasks it has.
     pub(crate) fn len(&self) -> usize
         ensures { result ≡ length self.now.tasks }
     {
-        self.tasks.len()
+        self.state.tasks.len()
     }
 
     /// The place of its first task among the live ones.
     pub(crate) fn first(&self) -> usize
         ensures { result ≡ self.now.first }
     {
-        self.first
+        self.state.first
     }
 
     /// Whether its tasks have run.
     pub(crate) fn is_done(&self) -> bool
         ensures { result ≡ self.now.done }
     {
-        self.done
+        self.state.done
     }
 
     /// The path of its first task, if it has one.
     pub(crate) fn first_path(&self) -> Option<Path>
         ensures { option_map (λ p. p.items) result ≡ slice_get (map T.path_of self.now.tasks) 0 }
     {
-        match self.tasks.first() {
+        match self.state.tasks.first() {
             Some(task) => Some(task_path(task)),
             None => None,
         }
@@ -113,7 +134,7 @@ impl<T: OnPath> Part<T> {
     pub(crate) fn fault(&self) -> Option<Blame>
         ensures { result ≡ self.now.fault }
     {
-        match &self.fault {
+        match &self.state.fault {
             Some(blame) => Some(blame_again(blame)),
             None => None,
         }
@@ -123,49 +144,49 @@ impl<T: OnPath> Part<T> {
     pub(crate) fn has_faulted(&self) -> bool
         ensures { result ≡ is_some self.now.fault }
     {
-        self.fault.is_some()
+        self.state.fault.is_some()
     }
 
     /// How many values it printed.
     pub(crate) fn print_count(&self) -> usize
         ensures { result ≡ length self.now.prints }
     {
-        self.prints.len()
+        self.state.prints.len()
     }
 
     /// How many of its tasks stopped.
     pub(crate) fn left(&self) -> usize
         ensures { result ≡ left_in self.now.deeds }
     {
-        self.deeds.left()
+        self.state.deeds.left()
     }
 
     /// How many tasks its tasks spawned.
     pub(crate) fn spawned(&self) -> usize
         ensures { result ≡ spawned_in self.now.deeds }
     {
-        self.deeds.spawned()
+        self.state.deeds.spawned()
     }
 
     /// Whether the same tasks live on.
     pub(crate) fn all_stay(&self) -> bool
         ensures { IsTrue result ↔ ((left_in self.now.deeds ≡ 0) × (spawned_in self.now.deeds ≡ 0)) }
     {
-        self.deeds.all_stay()
+        self.state.deeds.all_stay()
     }
 
     /// What each of its tasks did to the list of tasks, up to the first fault.
     pub(crate) fn changes(&self, alloc: Global) -> Result<Vec<Change>, AllocError>
         ensures { IfOk result (λ changes. map change_of changes.items ≡ map (change_in T.path_of) self.now.deeds) }
     {
-        self.deeds.changes(alloc)
+        self.state.deeds.changes(alloc)
     }
 
     /// Whether none of its puts adds.
     pub(crate) fn are_sets(&self) -> bool
         ensures { result ≡ list_all is_set self.now.puts }
     {
-        self.work.puts.are_sets()
+        self.state.work.puts.are_sets()
     }
 
     /// Lands its puts. None of them adds.
@@ -173,7 +194,7 @@ impl<T: OnPath> Part<T> {
         requires { IsTrue (list_all is_set self.now.puts) }
         ensures { arrays.new ≡ landed self.now.puts arrays.old }
     {
-        self.work.puts.land_sets(arrays);
+        self.state.work.puts.land_sets(arrays);
     }
 
     /// Moves its puts to the end of others.
@@ -181,7 +202,7 @@ impl<T: OnPath> Part<T> {
         ensures given { OnOk result (puts.new ≡ puts.old ++ self.old.puts) }
         ensures rest { OnOk result (self.new ≡ record self.old { puts = [] }) }
     {
-        puts.append(&mut self.work.puts)
+        puts.append(&mut self.state.work.puts)
     }
 
     /// Moves its tasks and deeds to the end of others.
@@ -194,8 +215,8 @@ impl<T: OnPath> Part<T> {
         ensures deeds { OnOk result (deeds.new ≡ deeds.old ++ self.old.deeds) }
         ensures rest { OnOk result (self.new ≡ record self.old { tasks = []; deeds = [] }) }
     {
-        deeds.append(&mut self.deeds)?;
-        tasks.append(&mut self.tasks)?;
+        deeds.append(&mut self.state.deeds)?;
+        tasks.append(&mut self.state.tasks)?;
         Ok(())
     }
 
@@ -206,7 +227,7 @@ impl<T: OnPath> Part<T> {
         ensures room { vec_capacity prints.old ≤ vec_capacity prints.new }
         ensures rest { self.new ≡ record self.old { prints = [] } }
     {
-        match prints.append(&mut self.prints) {
+        match prints.append(&mut self.state.prints) {
             Ok(()) => {}
             Err(_) => unreachable!(),
         }
@@ -216,11 +237,11 @@ impl<T: OnPath> Part<T> {
     pub(crate) fn renew(&mut self)
         ensures { self.new ≡ fresh_part self.old.first self.old.tasks }
     {
-        self.done = false;
-        self.work.puts.clear();
-        self.deeds.clear();
-        self.prints.clear();
-        self.fault = None;
+        self.state.done = false;
+        self.state.work.puts.clear();
+        self.state.deeds.clear();
+        self.state.prints.clear();
+        self.state.fault = None;
     }
 }
 
@@ -239,28 +260,29 @@ pub(crate) fn run_part<P: TaskLoop>(
     ensures place { part.new.first ≡ part.old.first }
     ensures lost { OnErr result (part.new ≡ fresh_part part.old.first []) }
 {
-    part.work.puts.clear();
-    part.deeds.clear();
-    part.prints.clear();
-    let end = part.tasks.len();
+    let state = &mut *part.state;
+    state.work.puts.clear();
+    state.deeds.clear();
+    state.prints.clear();
+    let end = state.tasks.len();
     match program.segments(
         alloc,
         arrays,
         step,
-        &mut part.tasks,
+        &mut state.tasks,
         0,
         end,
-        &mut part.work,
-        &mut part.deeds,
-        &mut part.prints,
+        &mut state.work,
+        &mut state.deeds,
+        &mut state.prints,
     ) {
         Ok(fault) => {
-            part.done = true;
-            part.fault = fault;
+            state.done = true;
+            state.fault = fault;
             Ok(())
         }
         Err(fault) => {
-            part.tasks.clear();
+            state.tasks.clear();
             part.renew();
             Err(fault)
         }

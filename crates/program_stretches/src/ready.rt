@@ -33,10 +33,11 @@ pub(crate) fn get_ready<T: OnPath>(
     ensures tasks { IfOk result (λ r. tasks_in r.parts.items ≡ tasks.items) }
 {
     let mut parts = Vec::with_capacity(alloc, 1)?;
+    let first = Part::new(alloc)?;
     let arrays = share(alloc, arrays)?;
     let shared = Arc::try_clone(&arrays)?;
     let count = tasks.len();
-    cut(alloc, tasks, pieces, &mut parts);
+    cut(alloc, tasks, pieces, first, &mut parts);
     Ok(Ready {
         arrays,
         shared,

@@ -438,6 +438,7 @@ impl<'t, 'p, P: Program> Stretches<'t, 'p, P> {
         let count = (told.parties - told.left) as usize;
         let mut room = Vec::with_capacity(alloc, count)?;
         let mut next = Vec::with_capacity(alloc, 1)?;
+        let first = Part::new(alloc)?;
         let mut tasks = Vec::new(alloc);
         let mut deeds = Deeds::new(alloc);
         let mut prints = Vec::new(alloc);
@@ -452,7 +453,7 @@ impl<'t, 'p, P: Program> Stretches<'t, 'p, P> {
                 self.records.push_reserved(told);
                 self.step += 1;
                 self.count = tasks.len();
-                cut(alloc, tasks, self.pieces, &mut next);
+                cut(alloc, tasks, self.pieces, first, &mut next);
                 self.reopen(next)?;
                 Ok(Outcome::Landed)
             }

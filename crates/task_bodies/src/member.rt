@@ -1,12 +1,12 @@
 //! Tasks that run a body.
-ghost use Rattle.std.specs.Prelude.{◌≡◌, ◌≤◌, ◌<◌, ◌+◌, ◌++◌, ◌∷◌, [], IfOk, length};
+ghost use Rattle.std.specs.Prelude.{◌≡◌, ◌≤◌, ◌<◌, ◌+◌, [], IfOk, length};
 ghost use Rattle.task_bodies.specs.Bodies.{numbered};
 
 use programs::program::OnPath;
 use smallvec::SmallVec;
 use std::alloc::{AllocError, Global};
 use std::marker::Model;
-use superstep_memory::path::Path;
+use superstep_memory::path::{Path, child_of};
 
 /// A task between two supersteps: its path, how many tasks it has spawned, and what it keeps.
 #[derive(Drop)]
@@ -46,16 +46,6 @@ impl<K: Drop> Member<K> {
     }
 }
 
-// The path of the task of this number that a task spawns.
-fn child_path(path: &Path, number: u16) -> Result<Path, AllocError>
-    requires { length path.now.items ≤ 7 }
-    ensures { IfOk result (λ p. p.items ≡ path.now.items ++ number ∷ []) }
-{
-    let mut child = SmallVec::from_slice(*path.allocator(), path.as_slice())?;
-    child.push(number)?;
-    Ok(child)
-}
-
 /// Numbers the tasks that a task spawns.
 pub(crate) fn number<K: Drop>(
     path: &Path,
@@ -71,7 +61,7 @@ pub(crate) fn number<K: Drop>(
     spawns.reverse();
     let mut next = begun;
     while let Some(kept) = spawns.pop() {
-        let own = child_path(path, next)?;
+        let own = child_of(path, next);
         out.push(Member {
             path: own,
             begun: 0,

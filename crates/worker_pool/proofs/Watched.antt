@@ -17,12 +17,9 @@ use Rattle.program_stretches.specs.Closing.{AllStay, CountsAs, HasLeftTo, HasLef
 use Rattle.program_stretches.proofs.Reopening.{fresh_covers}
 use Rattle.worker_pool.specs.AtRest.{CanBegin}
 use Rattle.worker_pool.specs.Leaving.{out_at}
+use Rattle.worker_pool.proofs.HandedOut.{not_both}
 use Rattle.worker_pool.proofs.Reopened.{begins}
 use Rattle.worker_pool.specs.Watched.{RunValue, AllWent, AllWentBefore, IsOpened, IsWatched, HasLeftWatched, has_ended_in, can_leave_in}
-
-not_both : (b : Bool) → b ≡ true → b ≡ false → ⊥
-not_both true e k = cc
-not_both false e k = cc
 
 -- what is said of an answer that is there
 pub both_left : {L E : Type 0} (r : Result (Option L) E) (F G : L → Type 0) → IfOk r (λ o. IfSome o F) → IfOk r (λ o. IfSome o G) → IfOk r (λ o. IfSome o (λ l. F l × G l))

@@ -42,7 +42,7 @@ use tier_table::tokens::Door;
 use tier_table::tree::Tree;
 
 // About how many stretches each worker gets in a superstep.
-const STRETCHES_EACH: usize = 8;
+const STRETCHES_EACH: usize = 4;
 
 // The most start tasks: the path of each is a number of 16 bits.
 const MOST_STARTS: usize = 65536;

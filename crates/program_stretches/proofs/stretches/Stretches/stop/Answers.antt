@@ -1,4 +1,4 @@
-use Rattle.std.proofs.Common.{◌≡◌, ◌∙◌, None, length, map, ap, sym, subst}
+use Rattle.std.proofs.Common.{◌≡◌, ◌∙◌, None, length, ap, sym, subst}
 use Rattle.std.proofs.lemmas.List.{length-map}
 use Rattle.phase_records.specs.Status.{Limit}
 use Rattle.program_stretches.specs.Parts.{reading_of}

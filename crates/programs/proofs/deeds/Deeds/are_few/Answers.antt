@@ -1,4 +1,4 @@
-use Rattle.std.proofs.Common.{◌≡◌, arith, ◌∙◌, sym, ap, length, refl}
+use Rattle.std.proofs.Common.{◌≡◌, arith, sym, refl}
 use Rattle.programs.specs.InPlace.{left_in}
 use Rattle.programs.proofs.InPlace.{few_left}
 use Rattle.programs.proofs.Listed.{counts, few_stopped}

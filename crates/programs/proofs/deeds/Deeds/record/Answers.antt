@@ -1,4 +1,4 @@
-use Rattle.std.proofs.Common.{◌≡◌, arith, ◌∙◌, sym, ap, length, ◌+◌}
+use Rattle.std.proofs.Common.{◌≡◌, arith, sym, length, ◌+◌}
 use Rattle.programs.specs.InPlace.{left_in, spawned_in}
 use Rattle.programs.proofs.Listed.{counts, few_stopped}
 use Rattle.programs.proofs.deeds.Deeds.record.Goals as goal

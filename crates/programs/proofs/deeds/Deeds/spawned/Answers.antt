@@ -1,4 +1,4 @@
-use Rattle.std.proofs.Common.{◌≡◌, arith, ◌∙◌, sym, ap}
+use Rattle.std.proofs.Common.{arith, sym}
 use Rattle.programs.proofs.Listed.{counts}
 use Rattle.programs.proofs.deeds.Deeds.spawned.Goals as goal
 
