@@ -1,5 +1,5 @@
 -- A superstep whose stretches have all run is closed.
-use Rattle.std.proofs.Common.{◌≡◌, ◌==◌, ℕ, zero, suc, ◌+◌, ◌≤◌, ◌<◌, Bool, true, false, nat_le, List, [], ◌∷◌, ◌++◌, map, length, Option, Some, None, get_or, refl, sym, ap, ◌∙◌, subst, ⊎_elim, inl, inr, drop, arith}
+use Rattle.std.proofs.Common.{◌≡◌, ◌==◌, ℕ, zero, suc, ◌+◌, ◌-◌, ◌≤◌, ◌<◌, Bool, true, false, nat_le, List, [], ◌∷◌, ◌++◌, map, length, Option, Some, None, get_or, refl, sym, ap, ◌∙◌, subst, ⊎_elim, inl, inr, drop, arith}
 use Rattle.std.specs.Prelude.{ℤ, ◌&&◌, ◌⊎◌, not, if◌then◌else◌, Result, Ok, Err, IfOk, IfSome, is_some}
 use Rattle.std.specs.Option.{option_map}
 use Rattle.std.proofs.lemmas.List.{length-map}
@@ -119,6 +119,18 @@ module _ {Q S T : Type 0} (m : Q → Reading S T) (v : StretchesValue Q S) (law 
         same = record { named = refl; program = refl; most = refl; limit = refl };
       })
 
+-- how many tasks live after a superstep, by its record
+pub moved_count : {Q S T : Type 0} (m : Q → Reading S T) (v : StretchesValue Q S) (law : (t : S) → (m v.program).frame.path ((m v.program).meant t) ≡ (m v.program).path t) (run : status_in v ≡ None)
+    (puts : List Put) (us : List S) (ds : List (DeedValue S)) (after : List PrintValue) (h : HaveRun m v puts us ds after) (told : PhaseRecord) → told ≡ told_in v.step ds
+    → told.parties - told.left ≡ length (in_path_order (m v.program).path (living_with us ds))
+moved_count m v law run puts us ds after h told is_told =
+    let f = fit m v law run h.opening h.begun puts us ds after h.did in
+    let living = f.living in
+    let n = count_in_order (m v.program).path (living_with us ds) in
+    let e = ap (λ (r : PhaseRecord). r.left) is_told in
+    let p = ap (λ (r : PhaseRecord). r.parties) is_told in
+    omega (arith, living, n, e, p)
+
 -- the run after a superstep whose puts have landed, before the next is opened
 abbrev pub landed_with : {Q S : Type 0} → StretchesValue Q S → List Put → PhaseRecord → List PrintValue → ℕ → StretchesValue Q S
 landed_with v puts told after count = record v { step = v.step + 1; arrays = landed puts v.arrays; count = count; prints = v.prints ++ after; records = v.records ++ told ∷ [] }
@@ -187,12 +199,12 @@ module _ {S : Type 0} where
   deeds_stay (None ∷ ss) = deeds_stay ss
   deeds_stay (Some part ∷ ss) = ap (λ (ts : List (DeedValue S)). part.deeds ++ ts) (deeds_stay ss)
 
-  pub tasks_renewed : (ss : List (Option (PartValue S))) → tasks_in (map renewed (map without_prints ss)) ≡ tasks_in ss
+  pub tasks_renewed : (ss : List (Option (PartValue S))) → tasks_in (map renewed ss) ≡ tasks_in ss
   tasks_renewed [] = refl
   tasks_renewed (None ∷ ss) = tasks_renewed ss
   tasks_renewed (Some part ∷ ss) = ap (λ (ts : List S). part.tasks ++ ts) (tasks_renewed ss)
 
-  pub fresh_renewed : (done : Bool) (end at : ℕ) (ss : List (Option (PartValue S))) → covers done end at ss ≡ true → AreFresh at (map renewed (map without_prints ss))
+  pub fresh_renewed : (done : Bool) (end at : ℕ) (ss : List (Option (PartValue S))) → covers done end at ss ≡ true → AreFresh at (map renewed ss)
   fresh_renewed done end at [] h = tt
   fresh_renewed done end at (None ∷ ss) h = cc
   fresh_renewed done end at (Some part ∷ ss) h =

@@ -124,8 +124,8 @@ fn renew<T: OnPath>(slot: &mut Option<Part<T>>)
     }
 }
 
-/// Gets all stretches ready for the next superstep, in which the same tasks live.
-pub(crate) fn renew_all<T: OnPath>(parts: &mut Vec<Option<Part<T>>>)
+// Gets all stretches ready for the next superstep, in which the same tasks live.
+fn renew_all<T: OnPath>(parts: &mut Vec<Option<Part<T>>>)
     ensures { parts.new.items ≡ map renewed parts.old.items }
 {
     let mut place = 0;
@@ -133,4 +133,15 @@ pub(crate) fn renew_all<T: OnPath>(parts: &mut Vec<Option<Part<T>>>)
         renew(&mut parts[place]);
         place += 1;
     }
+}
+
+/// Moves the prints of all stretches to the end of others, which have room for them, and gets the stretches ready for the next
+/// superstep, in which the same tasks live.
+pub(crate) fn print_and_renew<T: OnPath>(parts: &mut Vec<Option<Part<T>>>, prints: &mut Vec<Print>)
+    requires room { vec_len prints.old + length (prints_in parts.old.items) ≤ vec_capacity prints.old }
+    ensures given { prints.new.items ≡ prints.old.items ++ prints_in parts.old.items }
+    ensures renewed { parts.new.items ≡ map renewed parts.old.items }
+{
+    give_all_prints(parts, prints);
+    renew_all(parts);
 }

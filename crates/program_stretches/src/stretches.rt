@@ -1,22 +1,19 @@
 //! The supersteps of a program, run stretch by stretch.
-ghost use Rattle.std.specs.Prelude.{◌≡◌, ◌≤◌, ◌<◌, ◌+◌, ◌++◌, if◌then◌else◌, [], IfOk, OnOk, length};
+ghost use Rattle.std.specs.Prelude.{◌≡◌, if◌then◌else◌, [], IfOk};
 ghost use Rattle.phase_records.specs.Status.{IsShort};
 ghost use Rattle.phase_records.specs.StatusSeen.{status_seen};
 ghost use Rattle.program_stretches.specs.StretchesValue.{is_at_limit};
-ghost use Rattle.std.specs.Vec.{vec_len, vec_capacity};
-ghost use Rattle.superstep_memory.specs.PathOrder.{in_path_order};
-ghost use Rattle.programs.specs.InPlace.{living_with};
-ghost use Rattle.program_stretches.specs.Parts.{AreFresh, tasks_in, puts_in, deeds_in, prints_in};
+ghost use Rattle.program_stretches.specs.Parts.{tasks_in};
 ghost use Rattle.std.specs.Arc.{arc_value};
 
-use crate::cut::cut;
 use crate::fault::{Outcome, Unclosed, Unwanted};
-use crate::hand_over::{give_all_prints, give_all_tasks, join_adds, renew_all};
+use crate::hand_over::{give_all_tasks, join_adds, print_and_renew};
 use crate::landing::land_shared;
 use crate::lines::Lines;
+use crate::moving::{append_reserved, gather, make_room, room_for};
 use crate::opened::Opened;
 use crate::part::{Part, blame_again};
-use crate::parts::{count_left, count_prints, count_spawned, cover, find_fault};
+use crate::parts::{count_left, count_spawned, cover, find_fault};
 use crate::ready::{Ready, get_ready};
 use crate::stretch::Stretch;
 use phase_records::{JobStatus, PhaseRecord, Print, Report};
@@ -394,15 +391,11 @@ impl<'t, 'p, P: Program> Stretches<'t, 'p, P> {
         make_room(&parts, &mut self.prints, &mut self.records)?;
         match land_shared(alloc, &mut self.arrays, puts, &parts, &mut self.olds)? {
             Some(place) => {
-                let mut tasks = Vec::new(alloc);
-                let mut deeds = Deeds::new(alloc);
-                let mut prints = Vec::new(alloc);
-                gather(&mut parts, &mut tasks, &mut deeds, &mut prints)?;
-                Ok(self.overflow(&tasks, &deeds, &prints, place))
+                let all = gather(alloc, &mut parts)?;
+                Ok(self.overflow(&all.tasks, &all.deeds, &all.prints, place))
             }
             None => {
-                give_all_prints(&mut parts, &mut self.prints);
-                renew_all(&mut parts);
+                print_and_renew(&mut parts, &mut self.prints);
                 self.records.push_reserved(told);
                 self.step += 1;
                 self.reopen(parts)?;
@@ -436,24 +429,19 @@ impl<'t, 'p, P: Program> Stretches<'t, 'p, P> {
         ensures given { self.new.given ≡ self.old.given }
     {
         let count = (told.parties - told.left) as usize;
-        let mut room = Vec::with_capacity(alloc, count)?;
-        let mut next = Vec::with_capacity(alloc, 1)?;
-        let first = Part::new(alloc)?;
-        let mut tasks = Vec::new(alloc);
-        let mut deeds = Deeds::new(alloc);
-        let mut prints = Vec::new(alloc);
-        gather(&mut parts, &mut tasks, &mut deeds, &mut prints)?;
-        self.prints.reserve(prints.len())?;
-        self.records.reserve(1)?;
+        make_room(&parts, &mut self.prints, &mut self.records)?;
+        let room = room_for(alloc, count)?;
+        let mut gathered = gather(alloc, &mut parts)?;
         match land_shared(alloc, &mut self.arrays, puts, &parts, &mut self.olds)? {
-            Some(place) => Ok(self.overflow(&tasks, &deeds, &prints, place)),
+            Some(place) => {
+                Ok(self.overflow(&gathered.tasks, &gathered.deeds, &gathered.prints, place))
+            }
             None => {
-                append_reserved(&mut self.prints, &mut prints);
-                regroup(&mut deeds, &mut tasks, &mut room, count);
+                append_reserved(&mut self.prints, &mut gathered.prints);
+                let next = room.cut_next(alloc, gathered, count, self.pieces);
                 self.records.push_reserved(told);
                 self.step += 1;
-                self.count = tasks.len();
-                cut(alloc, tasks, self.pieces, first, &mut next);
+                self.count = count;
                 self.reopen(next)?;
                 Ok(Outcome::Landed)
             }
@@ -690,68 +678,4 @@ fn finish<T: OnPath>(
         give_all_tasks(parts, &mut tasks, &mut deeds)?;
     }
     Ok((arrays, tasks))
-}
-
-// Makes room for what stretches printed, and for a record.
-fn make_room<T: OnPath>(
-    parts: &[Option<Part<T>>],
-    prints: &mut Vec<Print>,
-    records: &mut Vec<PhaseRecord>,
-) -> Result<(), AllocError>
-    ensures prints { prints.new.items ≡ prints.old.items }
-    ensures records { records.new.items ≡ records.old.items }
-    ensures room { OnOk result (vec_len prints.new + length (prints_in parts.now) ≤ vec_capacity prints.new) }
-    ensures one { OnOk result (vec_len records.new < vec_capacity records.new) }
-{
-    let Some(count) = count_prints(parts) else {
-        return Err(AllocError);
-    };
-    prints.reserve(count)?;
-    records.reserve(1)?;
-    Ok(())
-}
-
-// Moves the tasks of all stretches, what they did, and what they printed into lists.
-fn gather<T: OnPath>(
-    parts: &mut Vec<Option<Part<T>>>,
-    tasks: &mut Vec<T>,
-    deeds: &mut Deeds<T>,
-    prints: &mut Vec<Print>,
-) -> Result<(), AllocError>
-    requires none { (tasks.old.items ≡ []) × (deeds.old ≡ []) × (prints.old.items ≡ []) }
-    ensures tasks { OnOk result (tasks.new.items ≡ tasks_in parts.old.items) }
-    ensures deeds { OnOk result (deeds.new ≡ deeds_in parts.old.items) }
-    ensures prints { OnOk result (prints.new.items ≡ prints_in parts.old.items) }
-    ensures puts { OnOk result (puts_in parts.new.items ≡ puts_in parts.old.items) }
-{
-    let Some(count) = count_prints(parts) else {
-        return Err(AllocError);
-    };
-    prints.reserve(count)?;
-    give_all_prints(parts, prints);
-    give_all_tasks(parts, tasks, deeds)
-}
-
-// Appends prints to others, which have room for them.
-fn append_reserved(prints: &mut Vec<Print>, more: &mut Vec<Print>)
-    requires { vec_len prints.old + length more.old.items ≤ vec_capacity prints.old }
-    ensures { prints.new.items ≡ prints.old.items ++ more.old.items }
-{
-    match prints.append(more) {
-        Ok(()) => {}
-        Err(_) => unreachable!(),
-    }
-}
-
-// Puts the next live tasks, `count` of them, in place of the tasks. There is room for them.
-fn regroup<T: OnPath>(deeds: &mut Deeds<T>, tasks: &mut Vec<T>, room: &mut Vec<T>, count: usize)
-    requires same { length tasks.old.items ≡ length deeds.old }
-    requires count { length (living_with tasks.old.items deeds.old) ≤ count }
-    requires room { count ≤ vec_capacity room.old }
-    ensures { tasks.new.items ≡ in_path_order T.path_of (living_with tasks.old.items deeds.old) }
-{
-    match deeds.regroup(tasks, room, count) {
-        Ok(()) => {}
-        Err(_) => unreachable!(),
-    }
 }

@@ -1,4 +1,4 @@
-use Rattle.std.proofs.Common.{◌≡◌, ◌+◌, ◌++◌, ◌∷◌, ◌∙◌, [], List, length, map, ap, sym, subst, inl, arith}
+use Rattle.std.proofs.Common.{◌≡◌, ◌+◌, ◌-◌, ◌++◌, ◌∷◌, ◌∙◌, [], List, length, map, ap, sym, subst, inl, refl, arith}
 use Rattle.superstep_memory.specs.Landing.{landed, over_in}
 use Rattle.superstep_memory.specs.PathOrder.{in_path_order}
 use Rattle.phase_records.specs.declared.record.PhaseRecord.{PhaseRecord}
@@ -8,7 +8,7 @@ use Rattle.program_stretches.specs.Parts.{reading_of, AreFresh, tasks_in, puts_i
 use Rattle.program_stretches.specs.StretchesValue.{StretchesValue, IsAfter, IsCourse, status_in}
 use Rattle.program_stretches.specs.StretchesView.{stretches_of}
 use Rattle.program_stretches.specs.Closing.{opened_with}
-use Rattle.program_stretches.proofs.Closed.{fit, after_landed, closed_landed, landed_with, below_limit}
+use Rattle.program_stretches.proofs.Closed.{fit, after_landed, closed_landed, landed_with, below_limit, moved_count}
 use Rattle.program_stretches.proofs.EachDone.{living_joined}
 use Rattle.program_stretches.proofs.stretches.Stretches.move_on.Goals as goal
 
@@ -19,23 +19,23 @@ overflow_sub-count g c =
     let l = few_left (deeds_in c.args.parts.items) in
     omega (arith, e, f, l)
 
-pub regroup-requires-clause-same : goal.regroup-requires-clause-same
-regroup-requires-clause-same g c =
+pub cut_next-next-requires-clause-same : goal.cut_next-next-requires-clause-same
+cut_next-next-requires-clause-same g c =
     let m = reading_of g.P.Program.frame g.P.Program.may g.P.Program.meant g.P.Task.OnPath.path_of in
     let h = c.requires.run in
     let f = fit m c.args.self.now (g.met.P.Program.keeps_paths c.args.self.now.program) c.requires.running h.opening h.begun _ _ _ _ h.did in
-    ap length c.in_ok-gather.ensures.tasks ∙ f.same ∙ sym (ap length c.in_ok-gather.ensures.deeds)
+    ap length c.in_ok-gathered.ensures.tasks ∙ f.same ∙ sym (ap length c.in_ok-gathered.ensures.deeds)
 
-pub regroup-requires-clause-count : goal.regroup-requires-clause-count
-regroup-requires-clause-count g c =
+pub cut_next-next-requires-clause-count : goal.cut_next-next-requires-clause-count
+cut_next-next-requires-clause-count g c =
     let m = reading_of g.P.Program.frame g.P.Program.may g.P.Program.meant g.P.Task.OnPath.path_of in
     let h = c.requires.run in
     let f = fit m c.args.self.now (g.met.P.Program.keeps_paths c.args.self.now.program) c.requires.running h.opening h.begun _ _ _ _ h.did in
     let living = f.living in
     let e = ap (λ (r : PhaseRecord). r.left) c.requires.told in
     let p = ap (λ (r : PhaseRecord). r.parties) c.requires.told in
-    let n : length (living_with c.gather.new.tasks.items c.gather.new.deeds) ≡ length (living_with (tasks_in c.args.parts.items) (deeds_in c.args.parts.items)) =
-    (λ i. length (living_with (c.in_ok-gather.ensures.tasks i) (c.in_ok-gather.ensures.deeds i))) in
+    let n : length (living_with c.in_ok-gathered.gathered.tasks.items c.in_ok-gathered.gathered.deeds) ≡ length (living_with (tasks_in c.args.parts.items) (deeds_in c.args.parts.items)) =
+    (λ i. length (living_with (c.in_ok-gathered.ensures.tasks i) (c.in_ok-gathered.ensures.deeds i))) in
     omega (arith, living, e, p, n)
 
 pub overflow_add-self : goal.overflow_add-self
@@ -50,17 +50,18 @@ invariant_of-self-in-None g c =
     let a = c.args.self.now in
     let v = stretches_of c.self.inside in
     let law = g.met.P.Program.keeps_paths a.program in
+    let h = c.requires.run in
+    let us = tasks_in c.args.parts.items in
     let ds = deeds_in c.args.parts.items in
     let after = prints_in c.args.parts.items in
-    let next = c.regroup.new.tasks.items in
-    let is_next = c.regroup.ensures ∙ (λ i. in_path_order g.P.Task.OnPath.path_of (living_with (c.in_ok-gather.ensures.tasks i) (c.in_ok-gather.ensures.deeds i))) in
-    let none = sym c.in-None.is ∙ c.in_ok-place.ensures.place ∙ (λ i. over_in ((c.self.view_is i).arrays) [] 0 (c.args.puts.now ++ ((ap puts_in c.deref.ensures.value ∙ c.in_ok-gather.ensures.puts) i))) in
-    let begun = after_landed m a law c.requires.running (c.args.puts.now ++ puts_in c.args.parts.items) (tasks_in c.args.parts.items) ds after c.requires.run c.requires.few c.args.told c.requires.told none next is_next in
-    let prints = c.append_reserved.ensures ∙ (λ i. c.in_ok-reserve.ensures.items i ++ c.in_ok-gather.ensures.prints i) in
-    let records = c.push_reserved.ensures.items ∙ ap (λ (rs : List PhaseRecord). rs ++ c.args.told ∷ []) c.in_ok-reserve-2.ensures.items in
-    let arrays = c.in_ok-place.ensures.lands c.in-None.is ∙ (λ i. landed (c.args.puts.now ++ ((ap puts_in c.deref.ensures.value ∙ c.in_ok-gather.ensures.puts) i)) v.arrays) in
-    let count : c.len-self-inside.result ≡ length next = omega (arith, c.len-self-inside.ensures, c.regroup.new.tasks.ok.0) in
-    let same : stretches_of (record c.self.inside { step = c.self.inside.step + 1; arrays = c.land_shared.new.arrays; count = c.len-self-inside.result; prints = c.append_reserved.new.prints; records = c.push_reserved.new.self }) ≡ landed_with a (c.args.puts.now ++ puts_in c.args.parts.items) c.args.told after (length next) =
+    let next = in_path_order g.P.Task.OnPath.path_of (living_with us ds) in
+    let count = moved_count m a law c.requires.running (c.args.puts.now ++ puts_in c.args.parts.items) us ds after h c.args.told c.requires.told in
+    let none = sym c.in-None.is ∙ c.in_ok-place.ensures.place ∙ (λ i. over_in ((c.self.view_is i).arrays) [] 0 (c.args.puts.now ++ ((ap puts_in c.deref-2.ensures.value ∙ c.in_ok-gathered.ensures.puts) i))) in
+    let begun = after_landed m a law c.requires.running (c.args.puts.now ++ puts_in c.args.parts.items) us ds after h c.requires.few c.args.told c.requires.told none next refl in
+    let prints = c.append_reserved.ensures ∙ (λ i. c.in_ok-make_room.ensures.prints i ++ c.in_ok-gathered.ensures.prints i) in
+    let records = c.push_reserved.ensures.items ∙ ap (λ (rs : List PhaseRecord). rs ++ c.args.told ∷ []) c.in_ok-make_room.ensures.records in
+    let arrays = c.in_ok-place.ensures.lands c.in-None.is ∙ (λ i. landed (c.args.puts.now ++ ((ap puts_in c.deref-2.ensures.value ∙ c.in_ok-gathered.ensures.puts) i)) v.arrays) in
+    let same : stretches_of (record c.self.inside { step = c.self.inside.step + 1; arrays = c.land_shared.new.arrays; count = c.args.told.parties - c.args.told.left; prints = c.append_reserved.new.prints; records = c.push_reserved.new.self }) ≡ landed_with a (c.args.puts.now ++ puts_in c.args.parts.items) c.args.told after (length next) =
     (λ i. record v { step = v.step + 1; arrays = arrays i; count = count i; prints = prints i; records = records i })
     ∙ (λ i. landed_with (c.self.view_is i) (c.args.puts.now ++ puts_in c.args.parts.items) c.args.told after (length next)) in
     record {
@@ -78,20 +79,22 @@ reopen-requires-clause-after g c =
     let a = c.args.self.now in
     let v = stretches_of c.self.inside in
     let law = g.met.P.Program.keeps_paths a.program in
+    let h = c.requires.run in
+    let us = tasks_in c.args.parts.items in
     let ds = deeds_in c.args.parts.items in
     let after = prints_in c.args.parts.items in
-    let next = c.regroup.new.tasks.items in
-    let is_next = c.regroup.ensures ∙ (λ i. in_path_order g.P.Task.OnPath.path_of (living_with (c.in_ok-gather.ensures.tasks i) (c.in_ok-gather.ensures.deeds i))) in
-    let none = sym c.in-None.is ∙ c.in_ok-place.ensures.place ∙ (λ i. over_in ((c.self.view_is i).arrays) [] 0 (c.args.puts.now ++ ((ap puts_in c.deref.ensures.value ∙ c.in_ok-gather.ensures.puts) i))) in
-    let begun = after_landed m a law c.requires.running (c.args.puts.now ++ puts_in c.args.parts.items) (tasks_in c.args.parts.items) ds after c.requires.run c.requires.few c.args.told c.requires.told none next is_next in
-    let prints = c.append_reserved.ensures ∙ (λ i. c.in_ok-reserve.ensures.items i ++ c.in_ok-gather.ensures.prints i) in
-    let records = c.push_reserved.ensures.items ∙ ap (λ (rs : List PhaseRecord). rs ++ c.args.told ∷ []) c.in_ok-reserve-2.ensures.items in
-    let arrays = c.in_ok-place.ensures.lands c.in-None.is ∙ (λ i. landed (c.args.puts.now ++ ((ap puts_in c.deref.ensures.value ∙ c.in_ok-gather.ensures.puts) i)) v.arrays) in
-    let count : c.len-self-inside.result ≡ length next = omega (arith, c.len-self-inside.ensures, c.regroup.new.tasks.ok.0) in
-    let same : stretches_of (record c.self.inside { step = c.self.inside.step + 1; arrays = c.land_shared.new.arrays; count = c.len-self-inside.result; prints = c.append_reserved.new.prints; records = c.push_reserved.new.self }) ≡ landed_with a (c.args.puts.now ++ puts_in c.args.parts.items) c.args.told after (length next) =
+    let next = in_path_order g.P.Task.OnPath.path_of (living_with us ds) in
+    let count = moved_count m a law c.requires.running (c.args.puts.now ++ puts_in c.args.parts.items) us ds after h c.args.told c.requires.told in
+    let none = sym c.in-None.is ∙ c.in_ok-place.ensures.place ∙ (λ i. over_in ((c.self.view_is i).arrays) [] 0 (c.args.puts.now ++ ((ap puts_in c.deref-2.ensures.value ∙ c.in_ok-gathered.ensures.puts) i))) in
+    let begun = after_landed m a law c.requires.running (c.args.puts.now ++ puts_in c.args.parts.items) us ds after h c.requires.few c.args.told c.requires.told none next refl in
+    let prints = c.append_reserved.ensures ∙ (λ i. c.in_ok-make_room.ensures.prints i ++ c.in_ok-gathered.ensures.prints i) in
+    let records = c.push_reserved.ensures.items ∙ ap (λ (rs : List PhaseRecord). rs ++ c.args.told ∷ []) c.in_ok-make_room.ensures.records in
+    let arrays = c.in_ok-place.ensures.lands c.in-None.is ∙ (λ i. landed (c.args.puts.now ++ ((ap puts_in c.deref-2.ensures.value ∙ c.in_ok-gathered.ensures.puts) i)) v.arrays) in
+    let same : stretches_of (record c.self.inside { step = c.self.inside.step + 1; arrays = c.land_shared.new.arrays; count = c.args.told.parties - c.args.told.left; prints = c.append_reserved.new.prints; records = c.push_reserved.new.self }) ≡ landed_with a (c.args.puts.now ++ puts_in c.args.parts.items) c.args.told after (length next) =
     (λ i. record v { step = v.step + 1; arrays = arrays i; count = count i; prints = prints i; records = records i })
     ∙ (λ i. landed_with (c.self.view_is i) (c.args.puts.now ++ puts_in c.args.parts.items) c.args.told after (length next)) in
-    subst (λ (ts : List g.row.P-Task.Denot). IsAfter m (stretches_of (record c.self.inside { step = c.self.inside.step + 1; arrays = c.land_shared.new.arrays; count = c.len-self-inside.result; prints = c.append_reserved.new.prints; records = c.push_reserved.new.self })) (map (m v.program).meant ts)) (sym c.cut.ensures.tasks)
+    let tasks = c.cut_next-next.ensures.tasks ∙ (λ i. in_path_order g.P.Task.OnPath.path_of (living_with (c.in_ok-gathered.ensures.tasks i) (c.in_ok-gathered.ensures.deeds i))) in
+    subst (λ (ts : List g.row.P-Task.Denot). IsAfter m (stretches_of (record c.self.inside { step = c.self.inside.step + 1; arrays = c.land_shared.new.arrays; count = c.args.told.parties - c.args.told.left; prints = c.append_reserved.new.prints; records = c.push_reserved.new.self })) (map (m v.program).meant ts)) (sym tasks)
     (subst (λ (x : StretchesValue g.row.P.Denot g.row.P-Task.Denot). IsAfter m x (map (m x.program).meant next)) (sym same) begun)
 
 pub returns-clause-closed : goal.returns-clause-closed
@@ -100,35 +103,41 @@ returns-clause-closed g c =
     let a = c.args.self.now in
     let v = stretches_of c.self.inside in
     let law = g.met.P.Program.keeps_paths a.program in
+    let h = c.requires.run in
+    let us = tasks_in c.args.parts.items in
     let ds = deeds_in c.args.parts.items in
     let after = prints_in c.args.parts.items in
-    let next = c.regroup.new.tasks.items in
-    let is_next = c.regroup.ensures ∙ (λ i. in_path_order g.P.Task.OnPath.path_of (living_with (c.in_ok-gather.ensures.tasks i) (c.in_ok-gather.ensures.deeds i))) in
-    let none = sym c.in-None.is ∙ c.in_ok-place.ensures.place ∙ (λ i. over_in ((c.self.view_is i).arrays) [] 0 (c.args.puts.now ++ ((ap puts_in c.deref.ensures.value ∙ c.in_ok-gather.ensures.puts) i))) in
-    let begun = after_landed m a law c.requires.running (c.args.puts.now ++ puts_in c.args.parts.items) (tasks_in c.args.parts.items) ds after c.requires.run c.requires.few c.args.told c.requires.told none next is_next in
-    let prints = c.append_reserved.ensures ∙ (λ i. c.in_ok-reserve.ensures.items i ++ c.in_ok-gather.ensures.prints i) in
-    let records = c.push_reserved.ensures.items ∙ ap (λ (rs : List PhaseRecord). rs ++ c.args.told ∷ []) c.in_ok-reserve-2.ensures.items in
-    let arrays = c.in_ok-place.ensures.lands c.in-None.is ∙ (λ i. landed (c.args.puts.now ++ ((ap puts_in c.deref.ensures.value ∙ c.in_ok-gather.ensures.puts) i)) v.arrays) in
-    let count : c.len-self-inside.result ≡ length next = omega (arith, c.len-self-inside.ensures, c.regroup.new.tasks.ok.0) in
-    let same : stretches_of (record c.self.inside { step = c.self.inside.step + 1; arrays = c.land_shared.new.arrays; count = c.len-self-inside.result; prints = c.append_reserved.new.prints; records = c.push_reserved.new.self }) ≡ landed_with a (c.args.puts.now ++ puts_in c.args.parts.items) c.args.told after (length next) =
+    let next = in_path_order g.P.Task.OnPath.path_of (living_with us ds) in
+    let count = moved_count m a law c.requires.running (c.args.puts.now ++ puts_in c.args.parts.items) us ds after h c.args.told c.requires.told in
+    let none = sym c.in-None.is ∙ c.in_ok-place.ensures.place ∙ (λ i. over_in ((c.self.view_is i).arrays) [] 0 (c.args.puts.now ++ ((ap puts_in c.deref-2.ensures.value ∙ c.in_ok-gathered.ensures.puts) i))) in
+    let begun = after_landed m a law c.requires.running (c.args.puts.now ++ puts_in c.args.parts.items) us ds after h c.requires.few c.args.told c.requires.told none next refl in
+    let prints = c.append_reserved.ensures ∙ (λ i. c.in_ok-make_room.ensures.prints i ++ c.in_ok-gathered.ensures.prints i) in
+    let records = c.push_reserved.ensures.items ∙ ap (λ (rs : List PhaseRecord). rs ++ c.args.told ∷ []) c.in_ok-make_room.ensures.records in
+    let arrays = c.in_ok-place.ensures.lands c.in-None.is ∙ (λ i. landed (c.args.puts.now ++ ((ap puts_in c.deref-2.ensures.value ∙ c.in_ok-gathered.ensures.puts) i)) v.arrays) in
+    let same : stretches_of (record c.self.inside { step = c.self.inside.step + 1; arrays = c.land_shared.new.arrays; count = c.args.told.parties - c.args.told.left; prints = c.append_reserved.new.prints; records = c.push_reserved.new.self }) ≡ landed_with a (c.args.puts.now ++ puts_in c.args.parts.items) c.args.told after (length next) =
     (λ i. record v { step = v.step + 1; arrays = arrays i; count = count i; prints = prints i; records = records i })
     ∙ (λ i. landed_with (c.self.view_is i) (c.args.puts.now ++ puts_in c.args.parts.items) c.args.told after (length next)) in
-    closed_landed m a law c.requires.running (c.args.puts.now ++ puts_in c.args.parts.items) (tasks_in c.args.parts.items) ds after c.requires.run c.requires.few c.args.told c.requires.told none next is_next
-    c.cut.new.parts.items c.cut.ensures.fresh c.cut.ensures.tasks c.reopen.new.self
-    (c.in_ok-reopen-in-None.ensures.opened ∙ ap (λ (x : StretchesValue g.row.P.Denot g.row.P-Task.Denot). opened_with x c.cut.new.parts.items) same)
+    let tasks = c.cut_next-next.ensures.tasks ∙ (λ i. in_path_order g.P.Task.OnPath.path_of (living_with (c.in_ok-gathered.ensures.tasks i) (c.in_ok-gathered.ensures.deeds i))) in
+    closed_landed m a law c.requires.running (c.args.puts.now ++ puts_in c.args.parts.items) us ds after h c.requires.few c.args.told c.requires.told none next refl
+    c.cut_next-next.result.items c.cut_next-next.ensures.fresh tasks c.reopen.new.self
+    (c.in_ok-reopen-in-None.ensures.opened ∙ ap (λ (x : StretchesValue g.row.P.Denot g.row.P-Task.Denot). opened_with x c.cut_next-next.result.items) same)
 
 pub returns-clause-reopened : goal.returns-clause-reopened
 returns-clause-reopened g c =
-    let next = c.regroup.new.tasks.items in
-    let is_next = c.regroup.ensures ∙ (λ i. in_path_order g.P.Task.OnPath.path_of (living_with (c.in_ok-gather.ensures.tasks i) (c.in_ok-gather.ensures.deeds i))) in
-    let count : c.len-self-inside.result ≡ length next = omega (arith, c.len-self-inside.ensures, c.regroup.new.tasks.ok.0) in
+    let m = reading_of g.P.Program.frame g.P.Program.may g.P.Program.meant g.P.Task.OnPath.path_of in
+    let a = c.args.self.now in
+    let law = g.met.P.Program.keeps_paths a.program in
+    let us = tasks_in c.args.parts.items in
+    let ds = deeds_in c.args.parts.items in
+    let count = moved_count m a law c.requires.running (c.args.puts.now ++ puts_in c.args.parts.items) us ds (prints_in c.args.parts.items) c.requires.run c.args.told c.requires.told in
     let is = c.in_ok-reopen-in-None.ensures.opened in
     let there = ap (λ (x : StretchesValue g.row.P.Denot g.row.P-Task.Denot). x.parts) is in
-    let tasks = ap tasks_in there ∙ c.cut.ensures.tasks in (
-      subst (AreFresh 0) (sym there) c.cut.ensures.fresh,
-      ap (λ (x : StretchesValue g.row.P.Denot g.row.P-Task.Denot). x.count) is ∙ count ∙ ap length (sym tasks),
+    let tasks = c.cut_next-next.ensures.tasks ∙ (λ i. in_path_order g.P.Task.OnPath.path_of (living_with (c.in_ok-gathered.ensures.tasks i) (c.in_ok-gathered.ensures.deeds i))) in
+    let all = ap tasks_in there ∙ tasks in (
+      subst (AreFresh 0) (sym there) c.cut_next-next.ensures.fresh,
+      ap (λ (x : StretchesValue g.row.P.Denot g.row.P-Task.Denot). x.count) is ∙ count ∙ ap length (sym all),
       λ stay. absurd (c.requires.moves stay),
       ap (λ (x : StretchesValue g.row.P.Denot g.row.P-Task.Denot). x.step) is ∙ ap (λ (x : StretchesValue g.row.P.Denot g.row.P-Task.Denot). x.step + 1) c.self.view_is,
       c.requires.each,
-      tasks ∙ is_next ∙ ap (in_path_order g.P.Task.OnPath.path_of) (living_joined c.args.parts.items c.requires.each),
+      all ∙ ap (in_path_order g.P.Task.OnPath.path_of) (living_joined c.args.parts.items c.requires.each),
     )
