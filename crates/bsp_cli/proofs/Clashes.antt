@@ -1,6 +1,5 @@
 -- Words that ask for two forms of a report.
-use Rattle.std.proofs.Common.{◌≡◌, ℕ, inl, inr, true, false, List, [], ◌∷◌, Result, Ok, Err, sym, ap, ap₂, subst}
-use Rattle.std.specs.Prelude.{IfErr}
+use Rattle.std.proofs.Common.{◌≡◌, ℕ, inl, inr, true, false, List, [], ◌∷◌, sym, ap, ap₂, subst}
 use Rattle.clap.specs.Faults.{fault_of}
 use Rattle.clap.specs.Kinds.{HasKind, Kinds, or_else}
 use Rattle.clap.specs.Words.{subcommand_of}
@@ -27,8 +26,3 @@ either (k ∷ ks) next e h = h
 -- what the parser refuses is refused
 pub fault_refuses : (words : List (List ℕ)) (e : Error) → HasKind (fault_of program words) e → HasKind (refused_by words) e
 fault_refuses words e h = either (fault_of program words) (clash_kinds (clashes_by (subcommand_of program words))) e h
-
--- an error is also of another kind
-pub err_more : {X E : Type 0} (r : Result X E) (F G : E → Type 0) → ((e : E) → F e → G e) → IfErr r F → IfErr r G
-err_more (Ok x) F G f h = h
-err_more (Err e) F G f h = f e h

@@ -1,4 +1,5 @@
 mod Clashes
+mod Decimals
 mod Faulted
 mod Limits
 mod Listings

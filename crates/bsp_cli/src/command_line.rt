@@ -43,7 +43,7 @@ fn parse<'a, S: AsStr>(alloc: Global, words: &'a [S]) -> Result<Request<'a>, Err
     match command.try_get_matches_from(words) {
         Ok(matches) => {
             if clashes(&matches) {
-                return refuse_clash(alloc);
+                return Err(refuse_clash(alloc));
             }
             Ok(asked_for(&matches))
         }

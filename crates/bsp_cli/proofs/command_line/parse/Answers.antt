@@ -1,7 +1,7 @@
 use Rattle.std.proofs.Common.{◌≡◌, ◌∙◌, [], ap, false, map, subst, sym, true}
 use Rattle.clap.specs.Words.{App, HasKind, fault_of, is_simple, is_simple_and_free, subcommand_of}
 use Rattle.bsp_cli.specs.CommandLine.{asked_by, clashes_by, file_by, look_by, program, refused_by, tree_by}
-use Rattle.bsp_cli.proofs.Clashes.{clash_refuses, err_more, fault_refuses, taken}
+use Rattle.bsp_cli.proofs.Clashes.{clash_refuses, fault_refuses, taken}
 use Rattle.bsp_cli.proofs.Parsed.{free-program, simple-program}
 use Rattle.bsp_cli.proofs.command_line.parse.Goals as goal
 
@@ -47,7 +47,7 @@ returns-then-clashes-clause-err g c =
     let fault : fault_of program words ≡ [] = ap (λ (a : App). fault_of a words) (sym is_program) ∙ c.in-Ok.ensures.kinds (ap is_simple_and_free is_program ∙ free-program) in
     let rows = matches.1 ∙ ap (λ (a : App). subcommand_of a words) is_program in
     let clash : clashes_by (subcommand_of program words) ≡ true = sym (ap clashes_by rows) ∙ sym c.clashes.ensures ∙ c.if-clashes.true in
-    err_more c.refuse_clash.result _ _ (λ e h. clash_refuses words e fault clash h) c.refuse_clash.ensures.err
+    clash_refuses words c.refuse_clash.result fault clash c.refuse_clash.ensures
 
 pub returns-in-Err-clause-err : goal.returns-in-Err-clause-err
 returns-in-Err-clause-err g c =
