@@ -159,11 +159,7 @@
 #![tactic(auto)]
 
 pub mod barrier;
-#[cfg(test)]
-mod examples;
 pub mod phaser;
 mod shared;
-#[cfg(test)]
-mod tests;
 pub mod tree;
 mod trying;

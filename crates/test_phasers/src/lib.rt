@@ -15,6 +15,8 @@ mod machine;
 #[cfg(test)]
 mod makers;
 #[cfg(test)]
+mod parties;
+#[cfg(test)]
 mod shared;
 #[cfg(test)]
 mod table;

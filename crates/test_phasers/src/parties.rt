@@ -1,6 +1,6 @@
-//! What no clause says: threads meet, and a hook runs once at each advance.
-use crate::barrier::{Barrier, GateFault, NoAction};
-use crate::tree::{
+//! The calls of the crate `phasers`, and what no clause says: threads meet, and a hook runs once at each advance.
+use phasers::barrier::{Barrier, GateFault, NoAction};
+use phasers::tree::{
     ArrivedInPlace, Departed, EndPlan, Forced, Joined, Met, OnAdvance, Owed, Party, PhaserTree,
     Polled, Settled, Shape,
 };
