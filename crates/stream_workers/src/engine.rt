@@ -1,13 +1,13 @@
 //! The stretches of a job as an engine, with the lines of its last superstep.
 ghost use Rattle.std.specs.Prelude.{◌≡◌, ◌≢◌, None, Err, true, false, IfOk, IfSome, OnOk};
-ghost use Rattle.worker_pool.specs.declared.fault.Reason.TheVariants as reason;
+ghost use Rattle.stretch_queue.specs.declared.fault.Reason.TheVariants as reason;
 ghost use Rattle.snapshot_log.specs.Agreed.{WasBefore};
 ghost use Rattle.step_parts.specs.SlotParts.{path_in};
 ghost use Rattle.program_stretches.specs.Parts.{covers};
 ghost use Rattle.program_stretches.specs.StretchesValue.{status_in};
 ghost use Rattle.program_stretches.specs.Closing.{IsSameRun, IsGiven};
 ghost use Rattle.job_stream.specs.Running.{IsGivenAfter, job_reading};
-ghost use Rattle.worker_pool.specs.Leaving.{Reopens};
+ghost use Rattle.stretch_queue.specs.Leaving.{Reopens};
 
 use crate::outlet::Outlet;
 use crate::streaming::Streaming;
@@ -63,7 +63,7 @@ impl<'p, 'j, 'o, 'w, R: Wait, W: CountedWrite, J: Streaming> engine::Stretch
     ghost use Rattle.programs.specs.InPlace.{left_in, spawned_in};
     ghost use Rattle.programs.specs.Changes.{change_in};
     ghost use Rattle.step_parts.specs.SlotParts.{path_in};
-    ghost use Rattle.worker_pool.specs.Leaving.{done_of, next_of, HasRunTo};
+    ghost use Rattle.stretch_queue.specs.Leaving.{done_of, next_of, HasRunTo};
 
     ghost mark = { λ h. h.stretch.name };
 
@@ -199,7 +199,7 @@ impl<'t, 'p, 'j, 'o, 'w, R: Wait, W: CountedWrite, J: Streaming> Engine
     ghost use Rattle.program_stretches.specs.StretchesValue.{status_in, can_leave, ready_at, tasks_at, living_at, faulted_at};
     ghost use Rattle.program_stretches.specs.Closing.{IsTaken, Accepts, IsSameRun, AllStay};
     ghost use Rattle.job_stream.specs.Running.{job_reading};
-    ghost use Rattle.worker_pool.specs.Leaving.{Gives, out_at};
+    ghost use Rattle.stretch_queue.specs.Leaving.{Gives, out_at};
     ghost use Rattle.stream_workers.specs.Handed.{with_handed};
 
     type Stretch = Handed<'p, 'j, 'o, 'w, R, W, J>;

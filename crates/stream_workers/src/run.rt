@@ -11,7 +11,7 @@ ghost use Rattle.program_stretches.specs.Closing.{HasLeft};
 ghost use Rattle.job_stream.specs.Running.{IsRunOf, job_reading};
 ghost use Rattle.job_stream.specs.Streamed.{lines_of};
 ghost use Rattle.worker_pool.specs.JobPlan.{IsJobPlan};
-ghost use Rattle.worker_pool.specs.Refusals.{IsOfWorkers};
+ghost use Rattle.stretch_queue.specs.Refusals.{IsOfWorkers};
 ghost use Rattle.stream_workers.specs.Written.{StreamsOn, CauseOn};
 
 use crate::engine::Handing;

@@ -5,10 +5,8 @@ ghost use Rattle.advance_rule.specs.Plan.{end_ends_at};
 ghost use Rattle.step_parts.specs.Program.{program_of};
 ghost use Rattle.step_parts.specs.JobMeaning.{report_of};
 ghost use Rattle.worker_pool.specs.JobPlan.{limit_of, IsJobPlan};
-ghost use Rattle.worker_pool.specs.Refusals.{IsOfWorkers};
+ghost use Rattle.stretch_queue.specs.Refusals.{IsOfWorkers};
 
-use crate::fault::Refused;
-use crate::hooks::{Gate, Starter};
 use crate::program::run_program;
 use advance_rule::StoredAdvance;
 use job_program::{Beginning, JobProgram, MOST_TASKS, begin};
@@ -17,6 +15,8 @@ use programs::alone::Ran;
 use std::alloc::Global;
 use std::sync::Wait;
 use std::thread::Threads;
+use stretch_queue::fault::Refused;
+use stretch_queue::hooks::{Gate, Starter};
 use task_code::job::Job;
 use tier_shape::Shape;
 

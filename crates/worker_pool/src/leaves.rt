@@ -2,9 +2,9 @@
 ghost use Rattle.std.specs.Prelude.{◌≡◌, ◌<◌, IfOk, length};
 ghost use Rattle.tier_shape.specs.Leaves.{leaves_of};
 
-use crate::queue::Running;
 use std::alloc::{AllocError, Global};
 use std::marker::PhantomData;
+use stretch_queue::queue::Running;
 use tier_shape::Shape;
 use tier_shape::leaves::{leaf_at, preferred};
 

@@ -7,12 +7,9 @@ ghost use Rattle.program_stretches.specs.Parts.{AreFresh, tasks_in};
 ghost use Rattle.programs.specs.Meaning.{children};
 ghost use Rattle.programs.specs.History.{HasRun, HasRunTo};
 ghost use Rattle.worker_pool.specs.JobPlan.{limit_of, IsJobPlan};
-ghost use Rattle.worker_pool.specs.Refusals.{IsOfWorkers};
-ghost use Rattle.worker_pool.specs.Watched.{IsOpened};
+ghost use Rattle.stretch_queue.specs.Refusals.{IsOfWorkers};
+ghost use Rattle.stretch_queue.specs.Watched.{IsOpened};
 
-use crate::fault::Refused;
-use crate::hooks::{Gate, Starter};
-use crate::program_engine::Run;
 use crate::run::{limit_in, run_engine, stretches_wanted};
 use advance_rule::StoredAdvance;
 use program_stretches::{Left, Opened, Stretches};
@@ -23,6 +20,9 @@ use snapshot_log::log::Log;
 use std::alloc::Global;
 use std::sync::Wait;
 use std::thread::Threads;
+use stretch_queue::fault::Refused;
+use stretch_queue::hooks::{Gate, Starter};
+use stretch_queue::program_engine::Run;
 use superstep_memory::arrays::Arrays;
 use tier_shape::Shape;
 

@@ -1,13 +1,7 @@
 //! What the workers of a run share.
 ghost use Rattle.std.specs.Prelude.{◌≡◌, ◌++◌, ◌∷◌, [], IfErr, OnOk};
-ghost use Rattle.worker_pool.specs.declared.fault.Reason.TheVariants as reason;
+ghost use Rattle.stretch_queue.specs.declared.fault.Reason.TheVariants as reason;
 
-use crate::engine::Engine;
-use crate::fault::{Reason, Refused};
-use crate::hand::{Changes, RanStretch};
-use crate::led::Led;
-use crate::participant::{HeldGroup, OwnToken, Participant, Stopped};
-use crate::queue::{GroupList, HandedBack, Next, Queue, Running};
 use crate::tree::WorkerTree;
 use programs::deeds::Change;
 use std::alloc::{AllocError, Global};
@@ -16,6 +10,12 @@ use std::hint::spin_loop;
 use std::mem;
 use std::sync::atomic::{AtomicBool, AtomicU64, Ordering};
 use std::sync::{Condvar, Mutex, MutexGuard, Wait};
+use stretch_queue::engine::Engine;
+use stretch_queue::fault::{Reason, Refused};
+use stretch_queue::hand::{Changes, RanStretch};
+use stretch_queue::led::Led;
+use stretch_queue::participant::{HeldGroup, OwnToken, Participant, Stopped};
+use stretch_queue::queue::{GroupList, HandedBack, Next, Queue, Running};
 use superstep_memory::path::Path;
 
 /// The queue under a lock, and the tree without one. No call of the tree is made while the lock is held. A worker that
@@ -58,15 +58,15 @@ fn room_for(changes: &[Change]) -> usize {
 
 impl<E: Engine, J: Running, L: GroupList, F: Fn(u32, u32) -> bool> Shared<E, J, L, F> {
     ghost use Rattle.std.specs.Prelude.{◌≡◌, ◌<◌, ◌++◌, ◌∷◌, [], true, false, Some, is_some, IfOk, IfErr, OnOk, map};
-    ghost use Rattle.worker_pool.specs.declared.fault.Reason.TheVariants as reason;
+    ghost use Rattle.stretch_queue.specs.declared.fault.Reason.TheVariants as reason;
     ghost use Rattle.advance_rule.specs.Stored.{Answers};
     ghost use Rattle.advance_rule.specs.Plan.{end_ends_at};
-    ghost use Rattle.worker_pool.specs.Changes.{Tells};
-    ghost use Rattle.worker_pool.specs.HandedOut.{AreLeft};
-    ghost use Rattle.worker_pool.specs.Living.{living_after, living_by};
+    ghost use Rattle.stretch_queue.specs.Changes.{Tells};
+    ghost use Rattle.stretch_queue.specs.HandedOut.{AreLeft};
+    ghost use Rattle.stretch_queue.specs.Living.{living_after, living_by};
     ghost use Rattle.programs.specs.Changes.{change_of};
     ghost use Rattle.programs.specs.InPlace.{kept};
-    ghost use Rattle.worker_pool.specs.Refusals.{IsOfWorkers};
+    ghost use Rattle.stretch_queue.specs.Refusals.{IsOfWorkers};
 
     /// Returns what a worker does next. Waits until a stretch is ready or workers stop. Fails only if memory runs out.
     pub(crate) fn next<R: Wait>(&self, rt: &R) -> Result<Next<E, J>, AllocError> {
@@ -174,11 +174,7 @@ impl<E: Engine, J: Running, L: GroupList, F: Fn(u32, u32) -> bool> Shared<E, J, 
     fn leave<R: Wait>(&self, rt: &R, participant: Participant<J>) -> Result<Option<Led<J>>, Reason>
         requires rule { Answers (F.pre self.now.tree.phaser.rule.closure) (F.post self.now.tree.phaser.rule.closure) (end_ends_at self.now.tree.phaser.rule.plan) }
     {
-        let Participant {
-            path: _,
-            crew,
-            of: _,
-        } = participant;
+        let Participant { crew, .. } = participant;
         self.tree.leave(rt, crew)
     }
 

@@ -4,13 +4,8 @@ ghost use Rattle.std.specs.Thread.{IsSync};
 ghost use Rattle.advance_rule.specs.Action.{AnswersAction};
 ghost use Rattle.advance_rule.specs.Stored.{Answers};
 ghost use Rattle.advance_rule.specs.Plan.{end_ends_at};
-ghost use Rattle.worker_pool.specs.Refusals.{IsOfWorkers};
+ghost use Rattle.stretch_queue.specs.Refusals.{IsOfWorkers};
 
-use crate::engine::Engine;
-use crate::fault::Refused;
-use crate::hooks::{Gate, Starter};
-use crate::participant::{OwnToken, Stopped};
-use crate::queue::{GroupList, Running};
 use crate::shared::Shared;
 use crate::work::work;
 use cyclic_gate::{CyclicGate, GateFault};
@@ -18,6 +13,11 @@ use std::alloc::Global;
 use std::sync::Wait;
 use std::thread;
 use std::thread::{JoinHandle, Threads};
+use stretch_queue::engine::Engine;
+use stretch_queue::fault::Refused;
+use stretch_queue::hooks::{Gate, Starter};
+use stretch_queue::participant::{OwnToken, Stopped};
+use stretch_queue::queue::{GroupList, Running};
 
 /// How a run is set up: the number of workers, the gate before and after each segment, and which workers may be started.
 #[derive(Drop)]

@@ -1,12 +1,12 @@
 //! The tree at which workers synchronize. Each call is repeated until it has an answer that lasts.
 ghost use Rattle.std.specs.Prelude.{◌≡◌};
 
-use crate::fault::Reason;
 use crate::leaves::Leaves;
-use crate::led::Led;
-use crate::participant::{OwnToken, Participant};
-use crate::queue::Running;
 use std::sync::Wait;
+use stretch_queue::fault::Reason;
+use stretch_queue::led::Led;
+use stretch_queue::participant::{OwnToken, Participant};
+use stretch_queue::queue::Running;
 use superstep_memory::path::Path;
 use tier_table::TRIES;
 use tier_table::forcing::Forced;
@@ -44,8 +44,8 @@ impl<J: Running, F: Fn(u32, u32) -> bool> WorkerTree<J, F> {
     ghost use Rattle.tier_table.specs.Openings.{asked_tier};
     ghost use Rattle.tier_shape.specs.Preferred.{leaf_at};
     ghost use Rattle.worker_pool.specs.Entries.{IsOf, IsAtLeaf};
-    ghost use Rattle.worker_pool.specs.Refusals.{IsOfTree};
-    ghost use Rattle.worker_pool.specs.declared.fault.Reason.TheVariants as reason;
+    ghost use Rattle.stretch_queue.specs.Refusals.{IsOfTree};
+    ghost use Rattle.stretch_queue.specs.declared.fault.Reason.TheVariants as reason;
     ghost use Rattle.tier_table.specs.Arrives.{HasPassed};
     ghost use Rattle.tier_steps.specs.declared.view.Passage.TheVariants.{Arrival};
 

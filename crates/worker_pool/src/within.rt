@@ -2,16 +2,16 @@
 ghost use Rattle.std.specs.Prelude.{◌≡◌, ◌≤◌, Some, IfOk, IfErr};
 ghost use Rattle.step_parts.specs.Program.{program_of};
 ghost use Rattle.step_parts.specs.JobMeaning.{report_of};
-ghost use Rattle.worker_pool.specs.Refusals.{IsOfWorkers};
+ghost use Rattle.stretch_queue.specs.Refusals.{IsOfWorkers};
 
-use crate::fault::Refused;
-use crate::hooks::{Gate, Starter};
 use crate::job::run_job;
 use advance_rule::{EndPlan, StoredAdvance};
 use phase_records::Report;
 use std::alloc::Global;
 use std::sync::Wait;
 use std::thread::Threads;
+use stretch_queue::fault::Refused;
+use stretch_queue::hooks::{Gate, Starter};
 use task_code::job::Job;
 use tier_shape::Shape;
 

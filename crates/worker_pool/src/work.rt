@@ -2,15 +2,15 @@
 ghost use Rattle.advance_rule.specs.Stored.{Answers};
 ghost use Rattle.advance_rule.specs.Plan.{end_ends_at};
 
-use crate::engine::Engine;
-use crate::fault::Reason;
-use crate::hand::HeldStretch;
-use crate::hooks::Gate;
-use crate::participant::{OwnToken, Stopped};
-use crate::queue::{GroupList, Next, Running};
 use crate::shared::Shared;
 use std::alloc::Global;
 use std::sync::Wait;
+use stretch_queue::engine::Engine;
+use stretch_queue::fault::Reason;
+use stretch_queue::hand::HeldStretch;
+use stretch_queue::hooks::Gate;
+use stretch_queue::participant::{OwnToken, Stopped};
+use stretch_queue::queue::{GroupList, Next, Running};
 
 /// Runs stretches until workers stop. `own` is the token of the worker, by which it can end the tree.
 pub(crate) fn work<E: Engine, J: Running, L: GroupList, R: Wait, F: Fn(u32, u32) -> bool, G: Gate>(

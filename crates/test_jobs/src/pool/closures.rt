@@ -9,7 +9,7 @@ use task_code::job::Job;
 use worker_pool::{AllStart, OpenGate};
 
 // What the closure gets in a run with two workers, added up; nothing if the run is refused.
-fn told<R: Threads + Wait + Sync>(rt: &R, alloc: Global, job: &Job, widths: &str) -> u64 {
+fn sum_in<R: Threads + Wait + Sync>(rt: &R, alloc: Global, job: &Job, widths: &str) -> u64 {
     let sum = AtomicU64::new(0);
     match left_by(
         rt, alloc, job, widths, 2, 1000000, &OpenGate, &AllStart, &sum,
@@ -33,7 +33,7 @@ start p 0
 // Each job, a tree, and what the closure gets in two supersteps: a number of parties at the root in the first, and none
 // in the second. On one tier all nine tasks are parties of the root; on three levels its two children are. On two
 // leaves the second start task is at the second leaf, and so is the first task that one at the first leaf spawns.
-const TOLD: [(&str, &str, u64); 4] = [
+const SUMS: [(&str, &str, u64); 4] = [
     (SPAWNS, "flat", 2001009),
     (SPAWNS, "2x3", 2001002),
     (SWAP, "2", 2001002),
@@ -41,7 +41,7 @@ const TOLD: [(&str, &str, u64); 4] = [
 ];
 
 // Whether it gets this in a run of the job of this text.
-fn is_told<R: Threads + Wait + Sync>(
+fn has_sum<R: Threads + Wait + Sync>(
     rt: &R,
     alloc: Global,
     text: &str,
@@ -49,14 +49,14 @@ fn is_told<R: Threads + Wait + Sync>(
     want: u64,
 ) -> bool {
     match job_of(alloc, text) {
-        Ok(job) => told(rt, alloc, &job, widths) == want,
+        Ok(job) => sum_in(rt, alloc, &job, widths) == want,
         Err(_) => false,
     }
 }
 
 #[test]
-fn the_closure_is_told_phases_and_parties_of_the_root(rt: HostRuntime) {
-    for (text, widths, want) in &TOLD {
-        assert!(rt; is_told(&rt, rt.alloc(), text, widths, *want));
+fn the_closure_gets_phases_and_parties_of_the_root(rt: HostRuntime) {
+    for (text, widths, want) in &SUMS {
+        assert!(rt; has_sum(&rt, rt.alloc(), text, widths, *want));
     }
 }

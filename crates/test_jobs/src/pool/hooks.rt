@@ -80,7 +80,7 @@ fn are_all(list: &[u64]) -> bool {
 }
 
 // Whether `workers` workers call their gate for each segment, before it and after it.
-fn tell_all<R: Threads + Wait + Sync>(rt: &R, alloc: Global, job: &Job, workers: u32) -> bool {
+fn sees_all_with<R: Threads + Wait + Sync>(rt: &R, alloc: Global, job: &Job, workers: u32) -> bool {
     let gate = Notes {
         entered: Mutex::new(Vec::new(alloc)),
         left: Mutex::new(Vec::new(alloc)),
@@ -93,9 +93,9 @@ fn tell_all<R: Threads + Wait + Sync>(rt: &R, alloc: Global, job: &Job, workers:
 }
 
 // Whether one worker does, and three.
-fn is_told<R: Threads + Wait + Sync>(rt: &R, alloc: Global) -> bool {
+fn sees_all<R: Threads + Wait + Sync>(rt: &R, alloc: Global) -> bool {
     match job_of(alloc, SPAWNS_LATER) {
-        Ok(job) => tell_all(rt, alloc, &job, 1) && tell_all(rt, alloc, &job, 3),
+        Ok(job) => sees_all_with(rt, alloc, &job, 1) && sees_all_with(rt, alloc, &job, 3),
         Err(_) => false,
     }
 }
@@ -146,11 +146,11 @@ fn are_counted<R: Threads + Wait + Sync>(rt: &R, alloc: Global) -> bool {
 }
 
 #[test]
-fn an_open_gate_is_told_of_each_stretch(rt: HostRuntime) {
+fn an_open_gate_sees_each_stretch(rt: HostRuntime) {
     assert!(rt; are_counted(&rt, rt.alloc()));
 }
 
 #[test]
-fn a_gate_is_told_of_each_segment(rt: HostRuntime) {
-    assert!(rt; is_told(&rt, rt.alloc()));
+fn a_gate_sees_each_segment(rt: HostRuntime) {
+    assert!(rt; sees_all(&rt, rt.alloc()));
 }

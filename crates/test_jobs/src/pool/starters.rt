@@ -30,7 +30,7 @@ fn is_refused(ran: &Result<Report, Refused>, but: u32) -> bool {
 }
 
 // Whether a run of eight workers ends as it should if the worker of this number can't be started.
-fn is_sent_home<R: Threads + Wait + Sync>(
+fn ends_as_it_should<R: Threads + Wait + Sync>(
     rt: &R,
     alloc: Global,
     job: &Job,
@@ -43,10 +43,10 @@ fn is_sent_home<R: Threads + Wait + Sync>(
 }
 
 // Whether no task runs unless all workers are started, and then two do, twice.
-fn all_sent_home<R: Threads + Wait + Sync>(rt: &R, alloc: Global, job: &Job) -> bool {
+fn all_end_as_they_should<R: Threads + Wait + Sync>(rt: &R, alloc: Global, job: &Job) -> bool {
     let gate = holding(u16::MAX, u16::MAX);
     for but in 0..9 {
-        if count_entered(&gate) != 0 || !is_sent_home(rt, alloc, job, &gate, but) {
+        if count_entered(&gate) != 0 || !ends_as_it_should(rt, alloc, job, &gate, but) {
             return false;
         }
     }
@@ -54,16 +54,16 @@ fn all_sent_home<R: Threads + Wait + Sync>(rt: &R, alloc: Global, job: &Job) -> 
 }
 
 // Whether workers of a swap do.
-fn swaps_sent_home<R: Threads + Wait + Sync>(rt: &R, alloc: Global) -> bool {
+fn swaps_end_as_they_should<R: Threads + Wait + Sync>(rt: &R, alloc: Global) -> bool {
     match job_of(alloc, SWAP) {
-        Ok(job) => all_sent_home(rt, alloc, &job),
+        Ok(job) => all_end_as_they_should(rt, alloc, &job),
         Err(_) => false,
     }
 }
 
 #[test]
-fn a_worker_that_is_not_started_sends_all_home(rt: HostRuntime) {
-    assert!(rt; swaps_sent_home(&rt, rt.alloc()));
+fn if_a_worker_is_not_started_all_stop(rt: HostRuntime) {
+    assert!(rt; swaps_end_as_they_should(&rt, rt.alloc()));
 }
 
 #[test]

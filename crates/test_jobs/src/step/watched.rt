@@ -56,14 +56,14 @@ impl Watch for Notes {
 // Whether these calls were made, and no others.
 fn are(notes: &Notes, want: &[(u32, usize)]) -> bool {
     let mut same = notes.count == want.len();
-    for (call, told) in notes.calls.iter().zip(want) {
-        same = same && call.0 == told.0 && call.1 == told.1;
+    for (call, wanted) in notes.calls.iter().zip(want) {
+        same = same && call.0 == wanted.0 && call.1 == wanted.1;
     }
     same
 }
 
 // Whether a run of this job within three supersteps makes these calls.
-fn is_told(alloc: Global, job: &Job, want: &[(u32, usize)]) -> bool {
+fn makes_calls(alloc: Global, job: &Job, want: &[(u32, usize)]) -> bool {
     let mut notes = Notes {
         calls: [(0, 0); 8],
         count: 0,
@@ -75,17 +75,17 @@ fn is_told(alloc: Global, job: &Job, want: &[(u32, usize)]) -> bool {
 }
 
 // Whether a run of the job of this text does.
-fn tells(alloc: Global, text: &str, want: &[(u32, usize)]) -> bool {
+fn text_makes_calls(alloc: Global, text: &str, want: &[(u32, usize)]) -> bool {
     match job_of(alloc, text) {
-        Ok(job) => is_told(alloc, &job, want),
+        Ok(job) => makes_calls(alloc, &job, want),
         Err(_) => false,
     }
 }
 
 #[test]
-fn each_superstep_is_told_once(rt: HostRuntime) {
-    assert!(rt; tells(rt.alloc(), SPAWNS, &[(0, 1), (1, 3)]));
-    assert!(rt; tells(rt.alloc(), FAULTS, &[(0, 1), (1, 1)]));
-    assert!(rt; tells(rt.alloc(), FOREVER, &[(0, 2), (1, 2), (2, 2)]));
-    assert!(rt; tells(rt.alloc(), "bsp 1\n", &[]));
+fn each_superstep_is_watched_once(rt: HostRuntime) {
+    assert!(rt; text_makes_calls(rt.alloc(), SPAWNS, &[(0, 1), (1, 3)]));
+    assert!(rt; text_makes_calls(rt.alloc(), FAULTS, &[(0, 1), (1, 1)]));
+    assert!(rt; text_makes_calls(rt.alloc(), FOREVER, &[(0, 2), (1, 2), (2, 2)]));
+    assert!(rt; text_makes_calls(rt.alloc(), "bsp 1\n", &[]));
 }

@@ -4,9 +4,9 @@ use Rattle.task_lang.specs.TaskValue.{TaskValue}
 use Rattle.step_parts.specs.SlotParts.{path_in}
 use Rattle.program_stretches.specs.StretchesValue.{StretchesValue, ready_at, tasks_at, status_in, can_leave}
 use Rattle.program_stretches.specs.Closing.{AllStay}
-use Rattle.worker_pool.specs.AtRest.{CanBegin}
-use Rattle.worker_pool.specs.Leaving.{out_at}
-use Rattle.worker_pool.proofs.Reopened.{begins}
+use Rattle.stretch_queue.specs.AtRest.{CanBegin}
+use Rattle.stretch_queue.specs.Leaving.{out_at}
+use Rattle.stretch_queue.proofs.Reopened.{begins}
 use Rattle.stream_workers.specs.Handed.{HandingValue}
 use Rattle.stream_workers.proofs.run.stream_lent.Goals as goal
 

@@ -5,8 +5,8 @@ use Rattle.program_stretches.specs.Opening.{OpeningValue, live_of}
 use Rattle.program_stretches.specs.Parts.{reading_of, AreFresh, tasks_in}
 use Rattle.program_stretches.specs.StretchesValue.{StretchesValue, status_in}
 use Rattle.program_stretches.proofs.Course.{last_same}
-use Rattle.worker_pool.specs.Watched.{HasLeftWatched, IsOpened}
-use Rattle.worker_pool.proofs.Watched.{begins_watched}
+use Rattle.stretch_queue.specs.Watched.{HasLeftWatched, IsOpened}
+use Rattle.stretch_queue.proofs.Watched.{begins_watched}
 use Rattle.worker_pool.proofs.program.run_stretches.Goals as goal
 
 pub returns-in-Ok-clause-ran : goal.returns-in-Ok-clause-ran

@@ -4,7 +4,7 @@ use Rattle.job_program.specs.declared.job.JobProgram.{JobProgram}
 use Rattle.task_lang.specs.TaskValue.{TaskValue}
 use Rattle.step_parts.specs.SlotParts.{path_in}
 use Rattle.program_stretches.specs.StretchesValue.{StretchValue}
-use Rattle.worker_pool.proofs.SlotPaths.{if_calm}
+use Rattle.stretch_queue.proofs.SlotPaths.{if_calm}
 use Rattle.stream_workers.specs.Handed.{HandedValue}
 use Rattle.stream_workers.proofs.engine.HandedStretch.do_next.Goals as goal
 

@@ -7,10 +7,10 @@ use Rattle.programs.specs.InPlace.{left_in, spawned_in}
 use Rattle.step_parts.specs.SlotParts.{path_in}
 use Rattle.program_stretches.specs.StretchesValue.{StretchesValue, ready_at, living_at, faulted_at}
 use Rattle.program_stretches.specs.Closing.{AllStay}
-use Rattle.worker_pool.specs.Leaving.{out_at}
-use Rattle.worker_pool.specs.Living.{living_after}
-use Rattle.worker_pool.proofs.SlotPaths.{read_same}
-use Rattle.worker_pool.proofs.Slots.{back_rest, back_slot, back_here, back_living, back_faulted, back_stays}
+use Rattle.stretch_queue.specs.Leaving.{out_at}
+use Rattle.stretch_queue.specs.Living.{living_after}
+use Rattle.stretch_queue.proofs.SlotPaths.{read_same}
+use Rattle.stretch_queue.proofs.Slots.{back_rest, back_slot, back_here, back_living, back_faulted, back_stays}
 use Rattle.stream_workers.specs.Handed.{HandingValue, HandedValue}
 use Rattle.stream_workers.proofs.engine.HandingEngine.accept.Goals as goal
 

@@ -2,9 +2,9 @@ use Rattle.std.proofs.Common.{◌≡◌, ◌∙◌, true, sym, ap, subst, slice_
 use Rattle.step_parts.specs.SlotParts.{path_in}
 use Rattle.program_stretches.specs.StretchesValue.{ready_at}
 use Rattle.program_stretches.specs.Closing.{AllStay}
-use Rattle.worker_pool.specs.Leaving.{out_at}
-use Rattle.worker_pool.proofs.SlotPaths.{read_same}
-use Rattle.worker_pool.proofs.Slots.{asked, asked_others, asked_rest, asked_slot, asked_stays}
+use Rattle.stretch_queue.specs.Leaving.{out_at}
+use Rattle.stretch_queue.proofs.SlotPaths.{read_same}
+use Rattle.stretch_queue.proofs.Slots.{asked, asked_others, asked_rest, asked_slot, asked_stays}
 use Rattle.stream_workers.specs.Handed.{HandingValue}
 use Rattle.stream_workers.proofs.engine.HandingEngine.take.Goals as goal
 

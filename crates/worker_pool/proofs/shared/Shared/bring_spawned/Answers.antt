@@ -1,6 +1,6 @@
 use Rattle.std.proofs.Common.{ap}
 use Rattle.std.proofs.lemmas.Result.{on_ok_weaker}
-use Rattle.worker_pool.proofs.Living.{listed}
+use Rattle.stretch_queue.proofs.Living.{listed}
 use Rattle.worker_pool.proofs.shared.Shared.bring_spawned.Goals as goal
 
 pub returns-clause-listed : goal.returns-clause-listed

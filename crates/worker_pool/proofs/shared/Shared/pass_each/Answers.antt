@@ -1,5 +1,5 @@
 use Rattle.std.proofs.Common.{◌≡◌, ◌∙◌, ap, map, length, arith}
-use Rattle.worker_pool.proofs.Living.{passed_one, left_one, passed_all}
+use Rattle.stretch_queue.proofs.Living.{passed_one, left_one, passed_all}
 use Rattle.worker_pool.proofs.shared.Shared.pass_each.Goals as goal
 use Rattle.worker_pool.proofs.shared.Shared.pass_each.Goals.{in-Some-pop_front+in_ok-one_led-in-Some-pop_front, in-None-pop_front+in_ok-one_led-in-None-pop_front}
 

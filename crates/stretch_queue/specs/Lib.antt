@@ -1,0 +1,16 @@
+pub mod QueueValue
+pub mod Refusals
+pub mod Living
+pub mod Segments
+pub mod Sorted
+pub mod Changes
+pub mod Leaving
+pub mod Watched
+pub mod HandedOut
+pub mod Grouping
+pub mod Groups
+pub mod AtRest
+pub mod EngineReading
+pub mod Steady
+pub mod QueueState
+pub mod QueueView

@@ -1,7 +1,0 @@
-use Rattle.std.proofs.Common.{refl}
-use Rattle.worker_pool.proofs.Queueing.{begun}
-use Rattle.worker_pool.proofs.queue.Queue.new.Goals as goal
-
-pub invariant_of-result : goal.invariant_of-result
-invariant_of-result g c =
-    begun c.requires.mark c.requires.refused c.requires.lists.1 c.requires.lists.0 c.requires.begins c.requires.groups c.new.ensures.items refl
