@@ -10,8 +10,8 @@ use Rattle.phase_records.specs.StatusSeen.{status_seen}
 use Rattle.phase_records.specs.declared.record.JobStatus.{JobStatus}
 use Rattle.task_code.specs.BodyValue.{BodyValue}
 use Rattle.task_code.specs.JobValue.{JobValue}
-use Rattle.task_lang.specs.Meaning.{Plan}
-use Rattle.task_lang.specs.Views.{plans}
+use Rattle.task_actions.specs.Meaning.{Plan}
+use Rattle.task_actions.specs.Views.{plans}
 use Rattle.job_reader.specs.Trees.{body_tree, job_tree}
 use Rattle.job_reader.specs.Reading.{job_in}
 use Rattle.step_core.specs.Program.{Program, program_of}

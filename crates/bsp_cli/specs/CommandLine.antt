@@ -28,14 +28,6 @@ numbers_rule name numbers = record (new_rule name) {
 abbrev pub number_rule : List ℕ → ℕ → Rule
 number_rule name most = record (numbers_rule name (parser.Signed (pos 1) (pos most))) { long = Some name }
 
--- `--tree WIDTHS`, any text
-abbrev pub tree_rule : Rule
-tree_rule = record (new_rule (codes "tree")) {
-  long = Some (codes "tree");
-  value_names = 1;
-  action = Some Set;
-}
-
 -- an option with any text
 abbrev pub text_rule : List ℕ → Rule
 text_rule name = record (new_rule name) {
@@ -44,14 +36,20 @@ text_rule name = record (new_rule name) {
   action = Some Set;
 }
 
+-- an option without a value
+abbrev pub flag_rule : List ℕ → Rule
+flag_rule name = record (new_rule name) {
+  long = Some name;
+  action = Some SetTrue;
+}
+
+-- `--tree WIDTHS`, any text
+abbrev pub tree_rule : Rule
+tree_rule = text_rule (codes "tree")
+
 -- `-f FILE`, or `--file FILE`, any text
 abbrev pub file_rule : Rule
-file_rule = record (new_rule (codes "file")) {
-  long = Some (codes "file");
-  short = Some 102;
-  value_names = 1;
-  action = Some Set;
-}
+file_rule = record (text_rule (codes "file")) { short = Some 102 }
 
 -- a subcommand that reads a text
 abbrev pub text_app : List ℕ → App
@@ -59,10 +57,7 @@ text_app name = with_rule (new_app name) file_rule
 
 -- `--all`
 abbrev pub all_rule : Rule
-all_rule = record (new_rule (codes "all")) {
-  long = Some (codes "all");
-  action = Some SetTrue;
-}
+all_rule = flag_rule (codes "all")
 
 abbrev pub check_app : App
 check_app = with_rule (text_app (codes "check")) all_rule
@@ -74,24 +69,15 @@ job_app name =
 
 -- `--progress`
 abbrev pub progress_rule : Rule
-progress_rule = record (new_rule (codes "progress")) {
-  long = Some (codes "progress");
-  action = Some SetTrue;
-}
+progress_rule = flag_rule (codes "progress")
 
 -- `--json`
 abbrev pub json_rule : Rule
-json_rule = record (new_rule (codes "json")) {
-  long = Some (codes "json");
-  action = Some SetTrue;
-}
+json_rule = flag_rule (codes "json")
 
 -- `--stream`
 abbrev pub stream_rule : Rule
-stream_rule = record (new_rule (codes "stream")) {
-  long = Some (codes "stream");
-  action = Some SetTrue;
-}
+stream_rule = flag_rule (codes "stream")
 
 abbrev pub run_app : App
 run_app = with_rule (with_rule (with_rule (job_app (codes "run")) progress_rule) json_rule) stream_rule

@@ -1,9 +1,9 @@
 //! What a command line asks for.
 ghost use Rattle.std.specs.Prelude.{◌≡◌, ◌≤◌, [], false, true, codes, option_map, None, IfOk, IfErr};
-ghost use Rattle.clap.specs.Words.{app_of, first_of, found_of, kind_of, new_app, one_of, rows_of, rule_of, subcommand_rows_of};
+ghost use Rattle.clap.specs.Words.{App, Rule, app_of, with_rule, with_subcommand, first_of, found_of, kind_of, new_app, one_of, rows_of, rule_of, subcommand_rows_of};
 ghost use Rattle.clap.specs.declared.builder.command.Command.TheViews.{out-Command as fields_of};
 ghost use Rattle.clap.specs.declared.error.kind.ErrorKind.TheVariants as kinds;
-ghost use Rattle.bsp_cli.specs.CommandLine.{all_rule, asked_by, bare, check_app, check_by, chosen, clashes_by, code_rule, explain_app, file_by, file_in, file_rule, draw_app, flag_in, is_set, job_app, json_rule, limit_in, look_by, look_in, no_look, number_from, number_rule, numbers_rule, program, progress_rule, run_app, run_by, stream_rule, text_app, text_rule, title_or, topic_in, tree_by, tree_in, tree_rule, unless_hyphen, workers_in};
+ghost use Rattle.bsp_cli.specs.CommandLine.{all_rule, asked_by, bare, check_app, check_by, chosen, clashes_by, code_rule, explain_app, file_by, flag_rule, file_in, file_rule, draw_app, flag_in, is_set, job_app, json_rule, limit_in, look_by, look_in, no_look, number_from, number_rule, numbers_rule, program, progress_rule, run_app, run_by, stream_rule, text_app, text_rule, title_or, topic_in, tree_by, tree_in, tree_rule, unless_hyphen, workers_in};
 ghost use Rattle.bsp_cli.specs.Ends.{IsAsked, IsTopic};
 ghost use Rattle.bsp_cli.specs.Topics.{topic_by};
 ghost use Rattle.std.specs.Option.{unwrap_or};
@@ -150,18 +150,37 @@ fn limit_option<'a>(alloc: Global) -> Arg<'a>
     number_argument(alloc, "limit", "N", help, numbers).long("limit")
 }
 
+// Makes an option with any text.
+fn text_option<'a>(alloc: Global, name: &'a str, value: &'a str, help: &'a str) -> Arg<'a>
+    ensures rule { rule_of result ≡ text_rule name.entry.now }
+    ensures local { result.global ≡ false }
+{
+    Arg::new(alloc, name)
+        .long(name)
+        .value_name(value)
+        .help(help)
+        .action(ArgAction::Set)
+}
+
+// Makes an option without a value.
+fn flag<'a>(alloc: Global, name: &'a str, help: &'a str) -> Arg<'a>
+    ensures rule { rule_of result ≡ flag_rule name.entry.now }
+    ensures local { result.global ≡ false }
+{
+    Arg::new(alloc, name)
+        .long(name)
+        .help(help)
+        .action(ArgAction::SetTrue)
+}
+
 // Makes the option `--tree`.
 fn tree_option<'a>(alloc: Global) -> Arg<'a>
     ensures rule { rule_of result ≡ tree_rule }
     ensures local { result.global ≡ false }
 {
-    Arg::new(alloc, "tree")
-        .long("tree")
-        .value_name("WIDTHS")
-        .help(
-            "Tree at which workers meet: flat, or widths from the root such as 2x3 [default: flat]",
-        )
-        .action(ArgAction::Set)
+    let help =
+        "Tree at which workers meet: flat, or widths from the root such as 2x3 [default: flat]";
+    text_option(alloc, "tree", "WIDTHS", help)
 }
 
 // Makes the option `--file`.
@@ -169,12 +188,8 @@ fn file_option<'a>(alloc: Global) -> Arg<'a>
     ensures rule { rule_of result ≡ file_rule }
     ensures local { result.global ≡ false }
 {
-    Arg::new(alloc, "file")
-        .short('f')
-        .long("file")
-        .value_name("FILE")
-        .help("File to read; - is standard input [default: -]")
-        .action(ArgAction::Set)
+    let help = "File to read; - is standard input [default: -]";
+    text_option(alloc, "file", "FILE", help).short('f')
 }
 
 // Makes the option `--width`.
@@ -182,11 +197,8 @@ fn width_option<'a>(alloc: Global) -> Arg<'a>
     ensures rule { rule_of result ≡ text_rule (codes "width") }
     ensures local { result.global ≡ false }
 {
-    Arg::new(alloc, "width")
-        .long("width")
-        .value_name("NAME=N")
-        .help("Draws array NAME in rows of N cells; separate several with commas")
-        .action(ArgAction::Set)
+    let help = "Draws array NAME in rows of N cells; separate several with commas";
+    text_option(alloc, "width", "NAME=N", help)
 }
 
 // Makes the option `--over-time`.
@@ -194,11 +206,8 @@ fn over_time_option<'a>(alloc: Global) -> Arg<'a>
     ensures rule { rule_of result ≡ text_rule (codes "over-time") }
     ensures local { result.global ≡ false }
 {
-    Arg::new(alloc, "over-time")
-        .long("over-time")
-        .value_name("NAME[,NAME]")
-        .help("Also draws these arrays over supersteps")
-        .action(ArgAction::Set)
+    let help = "Also draws these arrays over supersteps";
+    text_option(alloc, "over-time", "NAME[,NAME]", help)
 }
 
 // Makes the option `--title`.
@@ -206,11 +215,8 @@ fn title_option<'a>(alloc: Global) -> Arg<'a>
     ensures rule { rule_of result ≡ text_rule (codes "title") }
     ensures local { result.global ≡ false }
 {
-    Arg::new(alloc, "title")
-        .long("title")
-        .value_name("TEXT")
-        .help("Title of the picture [default: the file]")
-        .action(ArgAction::Set)
+    let help = "Title of the picture [default: the file]";
+    text_option(alloc, "title", "TEXT", help)
 }
 
 // Makes the option `--progress`.
@@ -218,10 +224,8 @@ fn progress_option<'a>(alloc: Global) -> Arg<'a>
     ensures rule { rule_of result ≡ progress_rule }
     ensures local { result.global ≡ false }
 {
-    Arg::new(alloc, "progress")
-        .long("progress")
-        .help("Prints progress to standard error about once a second")
-        .action(ArgAction::SetTrue)
+    let help = "Prints progress to standard error about once a second";
+    flag(alloc, "progress", help)
 }
 
 // Makes the option `--all`.
@@ -229,10 +233,8 @@ fn all_option<'a>(alloc: Global) -> Arg<'a>
     ensures rule { rule_of result ≡ all_rule }
     ensures local { result.global ≡ false }
 {
-    Arg::new(alloc, "all")
-        .long("all")
-        .help("Lists the faulty lines, at most 20, on standard output")
-        .action(ArgAction::SetTrue)
+    let help = "Lists the faulty lines, at most 20, on standard output";
+    flag(alloc, "all", help)
 }
 
 // Makes the option `--json`.
@@ -240,10 +242,8 @@ fn json_option<'a>(alloc: Global) -> Arg<'a>
     ensures rule { rule_of result ≡ json_rule }
     ensures local { result.global ≡ false }
 {
-    Arg::new(alloc, "json")
-        .long("json")
-        .help("Prints the report as one JSON object, for other programs to read")
-        .action(ArgAction::SetTrue)
+    let help = "Prints the report as one JSON object, for other programs to read";
+    flag(alloc, "json", help)
 }
 
 // Makes the option `--stream`.
@@ -251,10 +251,8 @@ fn stream_option<'a>(alloc: Global) -> Arg<'a>
     ensures rule { rule_of result ≡ stream_rule }
     ensures local { result.global ≡ false }
 {
-    Arg::new(alloc, "stream")
-        .long("stream")
-        .help("Prints each superstep as soon as it has ended; not with --json")
-        .action(ArgAction::SetTrue)
+    let help = "Prints each superstep as soon as it has ended; not with --json";
+    flag(alloc, "stream", help)
 }
 
 // Makes the argument for the code of a refusal.
@@ -287,6 +285,40 @@ fn trace_option<'a>(alloc: Global) -> Arg<'a>
     number_argument(alloc, "trace", "CODE", help, numbers).long("trace")
 }
 
+// Adds an argument to a command, unless making the command failed.
+fn with_argument<'a>(
+    command: Result<Command<'a>, Error>,
+    argument: Arg<'a>,
+) -> Result<Command<'a>, Error>
+    requires { argument.global ≡ false }
+    ensures app { (before : App) (rule : Rule) → IfOk command.entry (λ c. app_of c ≡ before)
+        → rule_of argument.entry ≡ rule → IfOk result (λ c. app_of c ≡ with_rule before rule) }
+    ensures local { IfOk command.entry (λ c. (fields_of c).has_globals ≡ false)
+        → IfOk result (λ c. (fields_of c).has_globals ≡ false) }
+    ensures memory { IfErr command.entry (λ e. kind_of e ≡ kinds.OutOfMemory)
+        → IfErr result (λ e. kind_of e ≡ kinds.OutOfMemory) }
+{
+    let with_argument = command?.arg(argument)?;
+    Ok(with_argument)
+}
+
+// Adds a subcommand to a command, unless making one of them failed.
+fn with_subcommand<'a>(
+    command: Result<Command<'a>, Error>,
+    subcommand: Result<Command<'a>, Error>,
+) -> Result<Command<'a>, Error>
+    requires { IfOk subcommand (λ c. (fields_of c).has_globals ≡ false) }
+    ensures app { (before added : App) → IfOk command.entry (λ c. app_of c ≡ before)
+        → IfOk subcommand.entry (λ c. app_of c ≡ added)
+        → IfOk result (λ c. app_of c ≡ with_subcommand before added.top) }
+    ensures memory { IfErr command.entry (λ e. kind_of e ≡ kinds.OutOfMemory)
+        → IfErr subcommand.entry (λ e. kind_of e ≡ kinds.OutOfMemory)
+        → IfErr result (λ e. kind_of e ≡ kinds.OutOfMemory) }
+{
+    let with_subcommand = command?.subcommand(subcommand?)?;
+    Ok(with_subcommand)
+}
+
 // Makes a subcommand that reads a text, without its options.
 fn bare_text<'a>(alloc: Global, name: &'a str, about: &'a str, lines: &'a str) -> Command<'a>
     ensures app { app_of result ≡ new_app name.entry.now }
@@ -308,8 +340,7 @@ fn text_command<'a>(
     ensures local { IfOk result (λ c. (fields_of c).has_globals ≡ false) }
     ensures memory { IfErr result (λ e. kind_of e ≡ kinds.OutOfMemory) }
 {
-    let with_file = bare_text(alloc, name, about, lines).arg(file_option(alloc))?;
-    Ok(with_file)
+    with_argument(Ok(bare_text(alloc, name, about, lines)), file_option(alloc))
 }
 
 // Makes a subcommand that runs a job, with its options.
@@ -323,11 +354,10 @@ fn job_command<'a>(
     ensures local { IfOk result (λ c. (fields_of c).has_globals ≡ false) }
     ensures memory { IfErr result (λ e. kind_of e ≡ kinds.OutOfMemory) }
 {
-    let with_file = text_command(alloc, name, about, lines)?;
-    let with_workers = with_file.arg(workers_option(alloc))?;
-    let with_tree = with_workers.arg(tree_option(alloc))?;
-    let with_limit = with_tree.arg(limit_option(alloc))?;
-    Ok(with_limit)
+    let with_file = text_command(alloc, name, about, lines);
+    let with_workers = with_argument(with_file, workers_option(alloc));
+    let with_tree = with_argument(with_workers, tree_option(alloc));
+    with_argument(with_tree, limit_option(alloc))
 }
 
 // Makes the subcommand `run`.
@@ -338,11 +368,10 @@ fn run_command<'a>(alloc: Global) -> Result<Command<'a>, Error>
 {
     let about =
         "Runs a job, and prints its supersteps with what they print, its arrays, and how it ended";
-    let bare = job_command(alloc, "run", about, RUN_LINES)?;
-    let with_progress = bare.arg(progress_option(alloc))?;
-    let with_json = with_progress.arg(json_option(alloc))?;
-    let with_stream = with_json.arg(stream_option(alloc))?;
-    Ok(with_stream)
+    let bare = job_command(alloc, "run", about, RUN_LINES);
+    let with_progress = with_argument(bare, progress_option(alloc));
+    let with_json = with_argument(with_progress, json_option(alloc));
+    with_argument(with_json, stream_option(alloc))
 }
 
 // Makes the subcommand `draw`.
@@ -352,11 +381,10 @@ fn draw_command<'a>(alloc: Global) -> Result<Command<'a>, Error>
     ensures memory { IfErr result (λ e. kind_of e ≡ kinds.OutOfMemory) }
 {
     let about = "Runs a job, and prints a picture of its supersteps and arrays, an SVG file";
-    let bare = job_command(alloc, "draw", about, DRAW_LINES)?;
-    let with_width = bare.arg(width_option(alloc))?;
-    let with_time = with_width.arg(over_time_option(alloc))?;
-    let with_title = with_time.arg(title_option(alloc))?;
-    Ok(with_title)
+    let bare = job_command(alloc, "draw", about, DRAW_LINES);
+    let with_width = with_argument(bare, width_option(alloc));
+    let with_time = with_argument(with_width, over_time_option(alloc));
+    with_argument(with_time, title_option(alloc))
 }
 
 // Makes the subcommand `trace`.
@@ -377,9 +405,8 @@ fn check_command<'a>(alloc: Global) -> Result<Command<'a>, Error>
     ensures memory { IfErr result (λ e. kind_of e ≡ kinds.OutOfMemory) }
 {
     let about = "Checks the text of a job, and prints it in canonical form";
-    let bare = text_command(alloc, "check", about, CHECK_LINES)?;
-    let with_all = bare.arg(all_option(alloc))?;
-    Ok(with_all)
+    let bare = text_command(alloc, "check", about, CHECK_LINES);
+    with_argument(bare, all_option(alloc))
 }
 
 // Makes the subcommand `upgrade`.
@@ -408,10 +435,9 @@ fn explain_command<'a>(alloc: Global) -> Result<Command<'a>, Error>
     ensures local { IfOk result (λ c. (fields_of c).has_globals ≡ false) }
     ensures memory { IfErr result (λ e. kind_of e ≡ kinds.OutOfMemory) }
 {
-    let with_code = bare_explain(alloc).arg(code_argument(alloc))?;
-    let with_fault = with_code.arg(fault_option(alloc))?;
-    let with_trace = with_fault.arg(trace_option(alloc))?;
-    Ok(with_trace)
+    let with_code = with_argument(Ok(bare_explain(alloc)), code_argument(alloc));
+    let with_fault = with_argument(with_code, fault_option(alloc));
+    with_argument(with_fault, trace_option(alloc))
 }
 
 // Makes the program's command line without its subcommands.
@@ -430,13 +456,12 @@ pub(crate) fn parser<'a>(alloc: Global) -> Result<Command<'a>, Error>
     ensures app { IfOk result (λ c. app_of c ≡ program) }
     ensures memory { IfErr result (λ e. kind_of e ≡ kinds.OutOfMemory) }
 {
-    let with_trace = bare_program(alloc).subcommand(trace_command(alloc)?)?;
-    let with_check = with_trace.subcommand(check_command(alloc)?)?;
-    let with_upgrade = with_check.subcommand(upgrade_command(alloc)?)?;
-    let with_run = with_upgrade.subcommand(run_command(alloc)?)?;
-    let with_draw = with_run.subcommand(draw_command(alloc)?)?;
-    let with_explain = with_draw.subcommand(explain_command(alloc)?)?;
-    Ok(with_explain)
+    let with_trace = with_subcommand(Ok(bare_program(alloc)), trace_command(alloc));
+    let with_check = with_subcommand(with_trace, check_command(alloc));
+    let with_upgrade = with_subcommand(with_check, upgrade_command(alloc));
+    let with_run = with_subcommand(with_upgrade, run_command(alloc));
+    let with_draw = with_subcommand(with_run, draw_command(alloc));
+    with_subcommand(with_draw, explain_command(alloc))
 }
 
 // Returns the number that was read if it is one of 1 to `most`, and else the usual one.

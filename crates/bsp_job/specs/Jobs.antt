@@ -3,7 +3,7 @@ use Rattle.std.specs.Prelude.{◌≡◌, ◌≢◌, ◌⊎◌, ℕ, ℤ, pos, Li
 use Rattle.phase_records.specs.Status.{Status, Ended, Fault, Limit}
 use Rattle.phase_records.specs.ReportValue.{ReportValue}
 use Rattle.phase_records.specs.ReportText.{report_text}
-use Rattle.task_lang.specs.Meaning.{Plan}
+use Rattle.task_actions.specs.Meaning.{Plan}
 use Rattle.text_lines.specs.Refusals.{code_number}
 use Rattle.text_lines.specs.declared.refusal.Refusal.{Refusal}
 use Rattle.job_reader.specs.Trees.{BodyTree, JobTree}

@@ -3,9 +3,9 @@ use Rattle.std.proofs.Common.{◌≡◌, ℕ, List, map, length, Some, sym, ap, 
 use Rattle.std.specs.Prelude.{ℤ}
 use Rattle.phase_records.specs.ReportValue.{ReportValue}
 use Rattle.task_code.specs.JobValue.{JobValue}
-use Rattle.task_lang.specs.TaskValue.{TaskValue}
-use Rattle.task_lang.specs.Views.{plans, task_of}
-use Rattle.task_lang.specs.Meaning as job
+use Rattle.task_actions.specs.TaskValue.{TaskValue}
+use Rattle.task_actions.specs.Views.{plans, task_of}
+use Rattle.task_actions.specs.Meaning as job
 use Rattle.step_parts.specs.Program.{Program, program_of}
 use Rattle.step_parts.specs.Superstep.{State}
 use Rattle.step_parts.specs.JobMeaning.{so_far, start_tasks, status}

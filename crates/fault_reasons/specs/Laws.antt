@@ -4,7 +4,7 @@ use Rattle.step_parts.specs.OrderValue.{is_synced}
 use Rattle.task_code.specs.Reading.{IsMatched, tree_of}
 use Rattle.task_code.specs.Tree.{rest_at}
 use Rattle.task_code.specs.declared.code.Line.{Line}
-use Rattle.task_lang.specs.Meaning.{Doing, Segment, Setting, Stopped, faulted, run}
+use Rattle.task_actions.specs.Meaning.{Doing, Segment, Setting, Stopped, faulted, run}
 use Rattle.fault_reasons.specs.Done.{Done}
 use Rattle.fault_reasons.specs.Walk.{walked}
 use Rattle.fault_reasons.specs.declared.walk.End.{End}

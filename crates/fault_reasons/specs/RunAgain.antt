@@ -5,8 +5,8 @@ use Rattle.programs.specs.History.{living_after}
 use Rattle.step_parts.specs.JobMeaning.{report_of, so_far}
 use Rattle.step_parts.specs.Program.{program_of}
 use Rattle.task_code.specs.JobValue.{JobValue}
-use Rattle.task_lang.specs.TaskValue.{TaskValue}
-use Rattle.task_lang.specs.Views.{plans, task_of}
+use Rattle.task_actions.specs.TaskValue.{TaskValue}
+use Rattle.task_actions.specs.Views.{plans, task_of}
 
 -- what the job leaves within this limit, and the tasks that then live: none after a fault
 pub record HasRunAgain (j : JobValue) (limit : ℕ) (left : ReportValue) (tasks : List TaskValue) : Type 0 where

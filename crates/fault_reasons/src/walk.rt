@@ -1,8 +1,8 @@
 //! Where a segment ends, and what it did up to there: line by line, by what each line says.
 ghost use Rattle.std.specs.Prelude.{◌≡◌, ◌≤◌, Some, IfOk, length, slice_get};
 ghost use Rattle.task_code.specs.Reading.{IsMatched};
-ghost use Rattle.task_lang.specs.Meaning.{value_of as value_in};
-ghost use Rattle.task_lang.specs.Views.{setting};
+ghost use Rattle.task_actions.specs.Meaning.{value_of as value_in};
+ghost use Rattle.task_actions.specs.Views.{setting};
 ghost use Rattle.fault_reasons.specs.Walk.{acted, costing, free_to as free_to_of, moved, moved_at, spent as spent_at, statement_count, tested, walked, with_local, with_put, with_spawn};
 
 use crate::values::{index_value, value_of};

@@ -4,8 +4,8 @@ use Rattle.std.specs.Prelude.{if◌then◌else◌}
 use Rattle.std.proofs.lemmas.Bool.{ltb-true, ltb-false}
 use Rattle.std.specs.Option.{option_map}
 use Rattle.superstep_memory.specs.Landing.{first_over}
-use Rattle.task_lang.specs.FaultCode.{code_of}
-use Rattle.task_lang.specs.Meaning.{Task, After, Synced, Stopped, Faulted, Segment, segment_of}
+use Rattle.task_actions.specs.FaultCode.{code_of}
+use Rattle.task_actions.specs.Meaning.{Task, After, Synced, Stopped, Faulted, Segment, segment_of}
 use Rattle.step_core.specs.Program.{Program}
 use Rattle.step_core.specs.Superstep.{State, segments, first_fault, too_many, overflow, fault_eight, or_next, or_later, closed, next_live, log_of}
 use Rattle.job_laws.specs.Reports.{HasNoFault, NoneFaults, IsFirstFault, IsTooMany, IsOverflow, FaultsTellTheFirst}

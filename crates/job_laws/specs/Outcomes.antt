@@ -7,7 +7,7 @@ use Rattle.task_code.specs.declared.code.Index.TheVariants.{Number}
 use Rattle.task_code.specs.declared.code.Expr.TheVariants.{One}
 use Rattle.task_code.specs.declared.code.Action.TheVariants.{Put, Spawn, Sync}
 use Rattle.task_code.specs.Tree.{Done, Do}
-use Rattle.task_lang.specs.Meaning.{Task, Segment, segment_of, started}
+use Rattle.task_actions.specs.Meaning.{Task, Segment, segment_of, started}
 use Rattle.task_lang.specs.Laws.{children}
 use Rattle.step_core.specs.Program.{Program, program_of}
 use Rattle.step_core.specs.Superstep.{segments, first_fault, next_live, log_of}

@@ -9,12 +9,12 @@ use Rattle.superstep_memory.specs.PathOrder.{in_path_order}
 use Rattle.phase_records.specs.PrintValue.{PrintValue}
 use Rattle.phase_records.specs.Status.{Status}
 use Rattle.phase_records.specs.ReportValue.{ReportValue}
-use Rattle.task_lang.specs.TaskValue.{TaskValue}
-use Rattle.task_lang.specs.Views.{task_of}
-use Rattle.task_lang.specs.Meaning as job
+use Rattle.task_actions.specs.TaskValue.{TaskValue}
+use Rattle.task_actions.specs.Views.{task_of}
+use Rattle.task_actions.specs.Meaning as job
 use Rattle.task_code.specs.declared.job.Start.{Start}
 use Rattle.task_code.specs.JobValue.{JobValue}
-use Rattle.task_lang.specs.Views.{plans}
+use Rattle.task_actions.specs.Views.{plans}
 use Rattle.step_parts.specs.SlotParts.{path_in}
 use Rattle.step_parts.specs.Program.{Program, program_of}
 use Rattle.step_parts.specs.Superstep as jb

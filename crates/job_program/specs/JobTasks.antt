@@ -1,7 +1,7 @@
 -- What tasks of a job mean, as tasks of any program (own).
 use Rattle.std.specs.Prelude.{◌≡◌, ℕ, ℤ, List}
-use Rattle.task_lang.specs.FaultCode.{code_of}
-use Rattle.task_lang.specs.Meaning as job
+use Rattle.task_actions.specs.FaultCode.{code_of}
+use Rattle.task_actions.specs.Meaning as job
 use Rattle.programs.specs.Meaning.{After, Synced, Stopped, Faulted, Segment, Frame, Says}
 use Rattle.programs.specs.History.{says_of}
 

@@ -12,7 +12,6 @@ pub mod ToldOuter
 pub mod ToldText
 pub mod ToldNames
 pub mod ToldWhole
-pub mod JobLemmas
 pub mod NotedNames
 pub mod ReadWords
 pub mod MentionsSaid
@@ -22,7 +21,6 @@ pub mod KeptLines
 pub mod BodyHeads
 pub mod Headers
 pub mod Known
-pub mod Upgraded
 pub mod LocalsBehind
 pub mod LegalBodies
 pub mod ReadJobs

@@ -7,10 +7,11 @@ use Rattle.task_code.specs.Limits.{is_of_first}
 use Rattle.task_code.specs.declared.code.Line.{Line}
 use Rattle.task_code.specs.Tree.{Block, Done, Do, If, IfElse, While, flat}
 use Rattle.task_code.specs.declared.job.Start.{Start}
-use Rattle.job_words.specs.Words.{Word, Words, name_at, noted}
+use Rattle.job_words.specs.Words.{Word, Words, name_at}
+pub use Rattle.job_words.specs.Words.{locals_behind}
 use Rattle.job_words.specs.Exprs.{Names, expr_words}
 use Rattle.job_words.specs.Lines.{action_words, end_words, line_fits, mentions_of}
-use Rattle.job_reader.specs.Trees.{BodyTree, JobTree, array_names, body_names}
+use Rattle.job_trees.specs.Trees.{BodyTree, JobTree, array_names, body_names}
 
 -- the lines of statements
 abbrev pub block_lines : Names → Block → List Words
@@ -60,10 +61,6 @@ module _ (format : ℕ) where
   items_lines arrays bodies (AnArray name given cells ∷ is) = array_words name (length cells) given ∷ items_lines (arrays ++ name ∷ []) bodies is
   items_lines arrays bodies (ABody b ∷ is) = body_lines format arrays bodies b ++ items_lines arrays bodies is
   items_lines arrays bodies (AStart s ∷ is) = start_words bodies s ∷ items_lines arrays bodies is
-
--- the locals of a body after words that mention locals: in format 1 each new one is noted, in format 2 all are listed
-abbrev pub locals_behind : ℕ → List Word → List Word → List Word
-locals_behind format locals words = if format == 1 then noted locals words else locals
 
 -- the locals of a body whose first line lists these, after its lines
 abbrev pub locals_by : ℕ → List Word → List Words → List Word

@@ -1,13 +1,13 @@
+pub use Rattle.job_trees.specs.Legal
+pub use Rattle.job_trees.specs.Trees
+pub use Rattle.job_trees.specs.Upgrade
 pub mod Limits
 pub mod Above
 pub mod Gives
 pub mod Grammar
 pub mod Kept
 pub mod Laws
-pub mod Legal
 pub mod Reading
 pub mod Relates
-pub mod Trees
 pub mod Writing
-pub mod Upgrade
 pub mod Begins

@@ -122,10 +122,7 @@ impl<'a> OpenBody<'a> {
             → IsInside (spec.mentioning format o keyword (lent words.entry.now)) self.new) }
         ensures few { OnOk result (length self.new.locals.items ≤ length self.old.locals.items + 3) }
     {
-        if format == 1 {
-            note_behind(&mut self.locals, keyword, words)?;
-        }
-        Ok(())
+        note_behind(&mut self.locals, format, keyword, words)
     }
 
     /// Reads a line from its keyword and the words after it. The locals are those after the line.

@@ -3,8 +3,7 @@
 //! # Where things are
 //!
 //! * `outer.rt`: lines outside bodies; `inside.rt`: lines of an open body; `state.rt` and `so_far.rt`: what has
-//!   been read; `read.rt`: the one pass; `push.rt` and `write.rt`: the canonical text; `upgrades.rt`: a job in
-//!   format 2.
+//!   been read; `read.rt`: the one pass; `push.rt` and `write.rt`: the canonical text.
 //! * `specs/Reading.antt`: what a text says; `Grammar.antt`: which lines are a job's; `Kept.antt`: what the job so
 //!   far and its open body keep.
 #![tactic(auto)]
@@ -18,12 +17,11 @@ mod push;
 mod read;
 mod so_far;
 mod state;
-mod upgrades;
 mod write;
 
 pub use fault::ReadJobFault;
+pub use job_trees::upgrade;
 pub use laws::{each_text_is_read_or_refused, read_texts_are_jobs};
 pub use read::read_job;
 pub use text_lines::{Code, Refusal};
-pub use upgrades::upgrade;
 pub use write::{canonical, write_job};

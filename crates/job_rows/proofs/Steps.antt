@@ -11,8 +11,8 @@ use Rattle.step_core.specs.Superstep.{State, superstep}
 use Rattle.step_core.specs.Taking.{with_delivery}
 use Rattle.step_core.proofs.Rounds.{tasks_stay}
 use Rattle.task_code.specs.JobValue.{JobValue}
-use Rattle.task_lang.specs.Meaning.{Task}
-use Rattle.task_lang.specs.Views.{plans}
+use Rattle.task_actions.specs.Meaning.{Task}
+use Rattle.task_actions.specs.Views.{plans}
 use Rattle.job_view.specs.Look.{named}
 use Rattle.job_rows.specs.Rows.{cells_or_none, rows}
 use Rattle.job_rows.specs.Steps.{IsAfter, IsLater, IsSame, next}

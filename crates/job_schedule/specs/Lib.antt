@@ -1,5 +1,3 @@
-pub mod ParticipantValue
-pub mod Moves
 pub mod AnswerValue
 pub mod World
 pub mod Parts

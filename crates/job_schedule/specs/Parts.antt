@@ -8,14 +8,14 @@ use Rattle.step_core.specs.JobMeaning.{status, unless_ended}
 use Rattle.step_core.specs.RoundValue.{RoundValue, AllFresh, state_of, status_in}
 use Rattle.step_core.specs.OrderValue.{DeliveryValue}
 use Rattle.step_core.specs.Taking.{Takes as IsTakenBy, IsFor, is_done, is_live, with_delivery}
-use Rattle.task_lang.specs.Meaning.{Segment}
+use Rattle.task_actions.specs.Meaning.{Segment}
 use Rattle.step_core.specs.Superstep.{segments}
 use Rattle.job_schedule.specs.declared.schedule.Schedule.{Schedule}
-use Rattle.job_schedule.specs.declared.stage.Mode.TheVariants.{Runs}
-use Rattle.job_schedule.specs.declared.stage.Stage.TheVariants.{Taken, Waits}
-use Rattle.job_schedule.specs.ParticipantValue.{all_over, is_delivered, participant_at}
-use Rattle.job_schedule.specs.declared.stage.Move.{Move}
-use Rattle.job_schedule.specs.declared.stage.Move.TheVariants.{Takes, Delivers, Calls, Advances, Closes, Ends}
+use Rattle.job_participants.specs.declared.stage.Mode.TheVariants.{Runs}
+use Rattle.job_participants.specs.declared.stage.Stage.TheVariants.{Taken, Waits}
+use Rattle.job_participants.specs.ParticipantValue.{all_over, is_delivered, participant_at}
+use Rattle.job_participants.specs.declared.stage.Move.{Move}
+use Rattle.job_participants.specs.declared.stage.Move.TheVariants.{Takes, Delivers, Calls, Advances, Closes, Ends}
 use Rattle.job_schedule.specs.declared.step.JobStep.{JobStep}
 use Rattle.job_schedule.specs.World.{World, deed_in, initial_world, reached}
 

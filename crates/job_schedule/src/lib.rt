@@ -5,10 +5,9 @@
 //!
 //! # Where things are
 //!
-//! * `stage.rt` and `participant.rt`: the participants, and which move a step makes (`asked`,
-//!   `specs/Moves.antt`); `hands.rt`: which task each worker has; `next.rt`: the next participants in path order;
-//!   `step.rt`: steps and answers; `rounds.rt`: what the round takes; `schedule.rt`: the world in code and its
-//!   moves; `drive.rt`: a list of steps; `laws.rt`: the laws.
+//! * `hands.rt`: which task each worker has; `next.rt`: the next participants in path order; `step.rt`: steps and
+//!   answers; `rounds.rt`: what the round takes; `schedule.rt`: the world in code and its moves; `drive.rt`: a list of
+//!   steps; `laws.rt`: the laws. The participants and moves are those of `job_participants`.
 //! * `proofs/Jobs.antt`: that the job of a world is that of its supersteps so far; `Closing.antt`: who closes a
 //!   round; `Ending.antt`: what comes after the end; `Kept.antt`: which segments the round has by the stages of the
 //!   participants; `Deeds.antt`: that what is delivered for a path is what its task does.
@@ -18,8 +17,8 @@ pub mod drive;
 mod hands;
 pub mod laws;
 mod next;
-pub mod participant;
 mod rounds;
 mod schedule;
-pub mod stage;
 pub mod step;
+
+pub use job_participants::{participant, stage};

@@ -5,9 +5,9 @@ use Rattle.snapshot_log.specs.Agreed.{WasBefore}
 use Rattle.phase_records.specs.ReportValue.{ReportValue}
 use Rattle.phase_records.specs.Status.{Status}
 use Rattle.task_code.specs.JobValue.{JobValue}
-use Rattle.task_lang.specs.TaskValue.{TaskValue}
-use Rattle.task_lang.specs.Views.{plans, task_of}
-use Rattle.task_lang.specs.Meaning as job
+use Rattle.task_actions.specs.TaskValue.{TaskValue}
+use Rattle.task_actions.specs.Views.{plans, task_of}
+use Rattle.task_actions.specs.Meaning as job
 use Rattle.step_parts.specs.Program.{Program, program_of}
 use Rattle.step_parts.specs.JobMeaning as jm
 use Rattle.programs.specs.Superstep as gn

@@ -10,7 +10,7 @@ use Rattle.phase_records.specs.ReportValue.{ReportValue}
 use Rattle.phase_records.specs.Status.{Status}
 use Rattle.phase_records.specs.ReportText.{print_line, record_line, array_line, status_line, front_of, rest_of, steps_text, report_text}
 use Rattle.phase_records.specs.ReportLaws.{AreFrom, AreWithin}
-use Rattle.task_lang.specs.Meaning.{Segment}
+use Rattle.task_actions.specs.Meaning.{Segment}
 use Rattle.step_parts.specs.Program.{Program}
 use Rattle.step_parts.specs.Superstep.{State, superstep, segments, fault_in, closed, prints_of, print_of, record_of}
 use Rattle.step_parts.specs.JobMeaning.{so_far, status, unless_ended, told, report_of}

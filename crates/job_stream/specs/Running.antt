@@ -2,15 +2,15 @@
 use Rattle.std.specs.Prelude.{◌≡◌, ℕ, List, [], ◌∷◌, ◌++◌, map, None}
 use Rattle.snapshot_log.specs.Agreed.{WasBefore}
 use Rattle.task_code.specs.JobValue.{JobValue}
-use Rattle.task_lang.specs.TaskValue.{TaskValue}
-use Rattle.task_lang.specs.Views.{plans, task_of}
+use Rattle.task_actions.specs.TaskValue.{TaskValue}
+use Rattle.task_actions.specs.Views.{plans, task_of}
 use Rattle.step_parts.specs.JobMeaning.{start_tasks}
 use Rattle.step_parts.specs.SlotParts.{path_in}
-use Rattle.task_lang.specs.Meaning.{Task}
+use Rattle.task_actions.specs.Meaning.{Task}
 use Rattle.job_program.specs.declared.job.JobProgram.{JobProgram}
 use Rattle.job_program.specs.JobTasks.{job_frame, JobMay}
 use Rattle.program_stretches.specs.Opening.{OpeningValue, live_of}
-use Rattle.program_stretches.specs.Parts.{Reading, reading_of}
+use Rattle.stretch_parts.specs.Parts.{Reading, reading_of}
 use Rattle.program_stretches.specs.LinesValue.{LinesValue}
 use Rattle.program_stretches.specs.StretchesValue.{StretchesValue}
 use Rattle.program_stretches.specs.Closing.{IsGiven}

@@ -1,7 +1,7 @@
 //! One superstep of a run, taken by one thread.
 ghost use Rattle.std.specs.Prelude.{◌≡◌, None, false, IfOk, IfErr, IfSome, OnOk};
 ghost use Rattle.snapshot_log.specs.Agreed.{WasBefore};
-ghost use Rattle.program_stretches.specs.Parts.{reading_of};
+ghost use Rattle.stretch_parts.specs.Parts.{reading_of};
 ghost use Rattle.program_stretches.specs.Closing.{IsGiven};
 ghost use Rattle.job_stream.specs.Running.{IsGivenAfter};
 ghost use Rattle.job_stream.specs.Streamed.{IsNoWrite};

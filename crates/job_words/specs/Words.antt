@@ -1,5 +1,5 @@
 -- Names, numbers and indices as words (own).
-use Rattle.std.specs.Prelude.{ℕ, ◌+◌, ◌||◌, if◌then◌else◌, List, [], ◌∷◌, ◌++◌, codes, Option, Some, None, Result, Ok, Err, slice_get, unwrap_or, ℤ}
+use Rattle.std.specs.Prelude.{ℕ, ◌+◌, ◌==◌, ◌||◌, if◌then◌else◌, List, [], ◌∷◌, ◌++◌, codes, Option, Some, None, Result, Ok, Err, slice_get, unwrap_or, ℤ}
 use Rattle.std.specs.Fmt.{signed_decimal}
 use Rattle.std.specs.Str.{bytes_eq}
 use Rattle.text_lines.specs.declared.refusal.Code.{Code}
@@ -69,3 +69,7 @@ in_index w = if begins_number w || bytes_eq w (codes "arg") || bytes_eq w (codes
 abbrev pub noted : List Word → List Word → List Word
 noted locals [] = locals
 noted locals (w ∷ ws) = noted (if is_among locals w then locals else locals ++ w ∷ []) ws
+
+-- the locals of a body after words that mention locals: in format 1 each new one is noted, in format 2 all are listed
+abbrev pub locals_behind : ℕ → List Word → List Word → List Word
+locals_behind format locals words = if format == 1 then noted locals words else locals

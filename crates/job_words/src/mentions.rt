@@ -122,9 +122,9 @@ fn note_spawn<'a>(locals: &mut Vec<&'a [u8]>, line: &[&'a [u8]]) -> Result<(), A
     note_expr(locals, rest)
 }
 
-/// Notes the locals that the words after a keyword mention: adds each new one at the end.
+// Notes the locals that the words after a keyword mention.
 #[tactic(auto, unfolding(crate::specs::Lines::mentions_behind))]
-pub fn note_behind<'a>(
+fn note_words<'a>(
     locals: &mut Vec<&'a [u8]>,
     keyword: Option<Keyword>,
     line: &[&'a [u8]],
@@ -143,4 +143,22 @@ pub fn note_behind<'a>(
         Keyword::Print | Keyword::If | Keyword::While => note_expr(locals, line),
         Keyword::Sync | Keyword::Stop | Keyword::Else | Keyword::End => Ok(()),
     }
+}
+
+/// Notes the locals that the words after a keyword mention, in format 1: adds each new one at the end. In format 2 the first line of
+/// a body lists them all.
+pub fn note_behind<'a>(
+    locals: &mut Vec<&'a [u8]>,
+    format: u32,
+    keyword: Option<Keyword>,
+    line: &[&'a [u8]],
+) -> Result<(), AllocError>
+    ensures noted { OnOk result (lent locals.new.items
+        ≡ words.locals_behind format (lent locals.old.items) (lines.mentions_behind keyword (lent line.entry.now))) }
+    ensures few { OnOk result (length locals.new.items ≤ length locals.old.items + 3) }
+{
+    if format != 1 {
+        return Ok(());
+    }
+    note_words(locals, keyword, line)
 }

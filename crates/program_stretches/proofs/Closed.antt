@@ -24,15 +24,16 @@ use Rattle.programs.specs.InPlace.{living_with, left_in, spawned_in, told_in, to
 use Rattle.programs.proofs.Reached.{starts_read}
 use Rattle.program_stretches.specs.declared.fault.Outcome.{Outcome}
 use Rattle.program_stretches.specs.declared.fault.Outcome.TheVariants.{Landed, Faulted, TooMany, Overflowed}
-use Rattle.program_stretches.specs.Parts.{Reading, HasDone, AreOwn, AreFresh, fresh_part, covers, is_done, fault_in, tasks_in, puts_in, deeds_in, prints_in, without_puts, without_prints, renewed}
+use Rattle.stretch_parts.specs.Parts.{Reading, HasDone, AreOwn, AreFresh, fresh_part, covers, is_done, fault_in, tasks_in, puts_in, deeds_in, prints_in, without_puts, renewed}
 use Rattle.program_stretches.specs.Opening.{OpeningValue, live_of, states_by, AllOpen}
 use Rattle.program_stretches.specs.Did.{DidAll, IsStepTo}
 use Rattle.program_stretches.specs.StretchesValue.{StretchesValue, state_with, status_for, status_in, is_at_limit, IsAfter, IsOpen, IsCourse, HaveRun}
 use Rattle.program_stretches.specs.Closing.{EndsAs, IsClosed, CountsAs, HasLeftTo, HasLeft, opened_with}
 use Rattle.program_stretches.proofs.Taken.{has_run, faulted, fits, many, over, goes_on}
 use Rattle.program_stretches.proofs.Course.{status_is, unfaulted, same_states, after_next}
-use Rattle.program_stretches.proofs.Whole.{both, at_number, drop_more, drop_end, HaveDid, have_did}
-use Rattle.program_stretches.specs.PartValue.{PartValue}
+use Rattle.stretch_parts.proofs.Along.{both}
+use Rattle.program_stretches.proofs.Whole.{at_number, drop_more, drop_end, HaveDid, have_did}
+use Rattle.stretch_parts.specs.PartValue.{PartValue}
 
 module _ {Q S T : Type 0} (m : Q → Reading S T) (v : StretchesValue Q S) (law : (t : S) → (m v.program).frame.path ((m v.program).meant t) ≡ (m v.program).path t) (run : status_in v ≡ None) where
   -- the run as the superstep began
@@ -189,16 +190,6 @@ below_limit v run = by v.fault v.count run
 -- ---- what stretches keep when they hand over
 
 module _ {S : Type 0} where
-  pub tasks_stay : (ss : List (Option (PartValue S))) → tasks_in (map without_prints ss) ≡ tasks_in ss
-  tasks_stay [] = refl
-  tasks_stay (None ∷ ss) = tasks_stay ss
-  tasks_stay (Some part ∷ ss) = ap (λ (ts : List S). part.tasks ++ ts) (tasks_stay ss)
-
-  pub deeds_stay : (ss : List (Option (PartValue S))) → deeds_in (map without_prints ss) ≡ deeds_in ss
-  deeds_stay [] = refl
-  deeds_stay (None ∷ ss) = deeds_stay ss
-  deeds_stay (Some part ∷ ss) = ap (λ (ts : List (DeedValue S)). part.deeds ++ ts) (deeds_stay ss)
-
   pub tasks_renewed : (ss : List (Option (PartValue S))) → tasks_in (map renewed ss) ≡ tasks_in ss
   tasks_renewed [] = refl
   tasks_renewed (None ∷ ss) = tasks_renewed ss

@@ -13,12 +13,13 @@ use Rattle.programs.specs.History.{AreOf, says_in}
 use Rattle.programs.proofs.History.{agrees, entries_rise, rising_front}
 use Rattle.programs.proofs.InPlace.{all_stay, counted, paths_kept}
 use Rattle.programs.proofs.Reached.{starts_read}
-use Rattle.program_stretches.specs.PartValue.{PartValue}
-use Rattle.program_stretches.specs.Parts.{Reading, HasRun, HasDone, IsPartOf, AreOwn, EachDid, fresh_part, covers, fault_in, tasks_in, deeds_in, living_in, without_puts}
+use Rattle.stretch_parts.specs.PartValue.{PartValue}
+use Rattle.stretch_parts.specs.Parts.{Reading, HasRun, HasDone, IsPartOf, AreOwn, EachDid, fresh_part, covers, fault_in, tasks_in, deeds_in, living_in, without_puts}
 use Rattle.program_stretches.specs.Opening.{live_of}
 use Rattle.program_stretches.specs.Did.{DidAll}
 use Rattle.program_stretches.specs.StretchesValue.{StretchesValue, state_with, IsAfter}
-use Rattle.program_stretches.proofs.Whole.{both, ran_all}
+use Rattle.stretch_parts.proofs.Along.{both}
+use Rattle.program_stretches.proofs.Whole.{ran_all}
 use Rattle.program_stretches.proofs.Taken.{paths_rise}
 
 -- ---- the tasks of one stretch

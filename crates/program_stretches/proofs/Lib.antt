@@ -1,11 +1,8 @@
 pub mod Whole
 pub mod Taken
-pub mod Along
-pub mod Cutting
 pub mod Owning
 pub mod Course
 pub mod Closed
 pub mod Refusing
-pub mod InTurn
 pub mod EachDone
 pub mod Reopening

@@ -4,11 +4,11 @@ use Rattle.std.specs.Prelude.{◌&&◌, not, IfOk}
 use Rattle.programs.specs.InPlace.{left_in, spawned_in}
 use Rattle.program_stretches.specs.declared.fault.Outcome.{Outcome}
 use Rattle.program_stretches.specs.declared.fault.Outcome.TheVariants.{Landed, Faulted, TooMany, Overflowed}
-use Rattle.program_stretches.specs.PartValue.{PartValue}
-use Rattle.program_stretches.specs.Parts.{AreFresh, covers, of_slot, tasks_in, deeds_in, without_puts, without_prints, renewed}
+use Rattle.stretch_parts.specs.PartValue.{PartValue}
+use Rattle.stretch_parts.specs.Parts.{AreFresh, covers, of_slot, tasks_in, deeds_in, without_puts, renewed}
 use Rattle.program_stretches.specs.StretchesValue.{StretchesValue}
 use Rattle.program_stretches.specs.Closing.{AllStay, IsReopened}
-use Rattle.program_stretches.proofs.Along.{left_append, spawned_append}
+use Rattle.stretch_parts.proofs.Along.{left_append, spawned_append}
 use Rattle.program_stretches.proofs.EachDone.{each_also, living_same}
 use Rattle.superstep_memory.specs.PathOrder.{in_path_order}
 
@@ -45,11 +45,6 @@ module _ {S : Type 0} where
       let a = left_append (of_slot (λ part. part.deeds) s) (deeds_in ss) in
       let b = spawned_append (of_slot (λ part. part.deeds) s) (deeds_in ss) in
       (omega (arith, a, h.0, rest.0), omega (arith, b, h.1, rest.1))
-
-  pub renewed_again : (ss : List (Option (PartValue S))) → map renewed (map without_prints ss) ≡ map renewed ss
-  renewed_again [] = refl
-  renewed_again (None ∷ ss) = ap (λ (ts : List (Option (PartValue S))). None ∷ ts) (renewed_again ss)
-  renewed_again (Some part ∷ ss) = ap (λ (ts : List (Option (PartValue S))). renewed (Some part) ∷ ts) (renewed_again ss)
 
   renewed_kept : (ss : List (Option (PartValue S))) → map renewed (map without_puts ss) ≡ map renewed ss
   renewed_kept [] = refl

@@ -1,5 +1,5 @@
 -- What stretches have done that cover the live tasks.
-use Rattle.std.proofs.Common.{◌≡◌, ◌==◌, ℕ, zero, suc, ◌+◌, Bool, true, false, List, [], ◌∷◌, ◌++◌, map, length, drop, Option, Some, None, refl, sym, ap, ◌∙◌, subst, arith, append_assoc, append-nil, length-append}
+use Rattle.std.proofs.Common.{◌≡◌, ◌==◌, ℕ, zero, suc, ◌+◌, true, List, [], ◌∷◌, ◌++◌, map, length, drop, Option, Some, None, refl, sym, ap, ◌∙◌, subst, arith, append_assoc, append-nil, length-append}
 use Rattle.std.specs.Prelude.{ℤ, ◌&&◌}
 use Rattle.std.proofs.lemmas.List.{map-append}
 use Rattle.superstep_memory.specs.declared.arrays.Put.{Put}
@@ -14,9 +14,10 @@ use Rattle.programs.specs.History.{Entry, AllAllowed, segments_in}
 use Rattle.programs.specs.Done.{Agrees}
 use Rattle.programs.proofs.InPlace.{none_done, come_all, no_fault}
 use Rattle.programs.proofs.Ranged.{first_none}
-use Rattle.program_stretches.specs.PartValue.{PartValue}
+use Rattle.stretch_parts.specs.PartValue.{PartValue}
 use Rattle.program_stretches.specs.Did.{DidAll}
-use Rattle.program_stretches.specs.Parts.{Reading, HasRun, HasDone, AreOwn, tasks_in, puts_in, deeds_in, prints_in, fault_in, covers}
+use Rattle.stretch_parts.proofs.Along.{both}
+use Rattle.stretch_parts.specs.Parts.{Reading, HasRun, HasDone, AreOwn, tasks_in, puts_in, deeds_in, prints_in, fault_in, covers}
 
 -- ---- lists one after another
 
@@ -136,10 +137,6 @@ module _ {S T : Type 0} (r : Reading S T) (arrays : List (List ℕ × List ℤ))
           ∙ first_none (segments_in r.frame h.entries) (segments_in r.frame k.entries) (h.calm refl) ∙ e
 
 -- ---- stretches that cover the live tasks
-
-pub both : (a b : Bool) → (a && b) ≡ true → (a ≡ true) × (b ≡ true)
-both true b h = (refl, h)
-both false b h = cc
 
 pub at_number : (a b : ℕ) → (a == b) ≡ true → a ≡ b
 at_number a b h = grind arith

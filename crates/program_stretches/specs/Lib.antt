@@ -1,6 +1,3 @@
-pub mod PartValue
-pub mod Parts
-pub mod PartView
 pub mod Reached
 pub mod Opening
 pub mod Did

@@ -3,25 +3,16 @@
 //!
 //! # Where things are
 //!
-//! * `part.rt`: a stretch and what its tasks did; `stretch.rt`: one that was taken; `parts.rt`: several together;
-//!   `hand_over.rt`: what they hand over in the end; `landing.rt`: how puts land; `cut.rt`: new stretches; `moving.rt`: what moves
-//!   if tasks come or leave; `ready.rt`: what a run begins with; `opened.rt`: a superstep as it begins; `lines.rt`: what supersteps
-//!   printed; `stretches.rt`: the whole.
+//! * `stretch.rt`: a stretch that was taken; `opened.rt`: a superstep as it begins; `lines.rt`: what supersteps printed;
+//!   `stretches.rt`: the whole. What its tasks did is a part of `stretch_parts`.
 //! * `specs/StretchesValue.antt`: the supersteps; `Closing.antt`: how they are taken, taken back and closed;
 //!   `Reached.antt`: the history so far.
 #![tactic(auto)]
 
-mod cut;
 mod fault;
-mod hand_over;
-mod landing;
 pub mod laws;
 mod lines;
-mod moving;
 mod opened;
-mod part;
-mod parts;
-mod ready;
 mod stretch;
 mod stretches;
 

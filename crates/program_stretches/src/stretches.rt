@@ -3,18 +3,12 @@ ghost use Rattle.std.specs.Prelude.{◌≡◌, if◌then◌else◌, [], IfOk};
 ghost use Rattle.phase_records.specs.Status.{IsShort};
 ghost use Rattle.phase_records.specs.StatusSeen.{status_seen};
 ghost use Rattle.program_stretches.specs.StretchesValue.{is_at_limit};
-ghost use Rattle.program_stretches.specs.Parts.{tasks_in};
+ghost use Rattle.stretch_parts.specs.Parts.{tasks_in};
 ghost use Rattle.std.specs.Arc.{arc_value};
 
 use crate::fault::{Outcome, Unclosed, Unwanted};
-use crate::hand_over::{give_all_tasks, join_adds, print_and_renew};
-use crate::landing::land_shared;
 use crate::lines::Lines;
-use crate::moving::{append_reserved, gather, make_room, room_for};
 use crate::opened::Opened;
-use crate::part::{Part, blame_again};
-use crate::parts::{count_left, count_spawned, cover, find_fault};
-use crate::ready::{Ready, get_ready};
 use crate::stretch::Stretch;
 use phase_records::{JobStatus, PhaseRecord, Print, Report};
 use programs::alone::Ran;
@@ -26,6 +20,12 @@ use std::alloc::{AllocError, Global};
 use std::marker::Model;
 use std::mem;
 use std::sync::Arc;
+use stretch_parts::hand_over::{give_all_tasks, join_adds, print_and_renew};
+use stretch_parts::landing::land_shared;
+use stretch_parts::moving::{append_reserved, gather, make_room, room_for};
+use stretch_parts::part::{Part, blame_again};
+use stretch_parts::parts::{count_left, count_spawned, cover, find_fault};
+use stretch_parts::ready::{Ready, get_ready};
 use superstep_memory::arrays::Arrays;
 use superstep_memory::puts::Puts;
 
@@ -57,7 +57,7 @@ pub struct Stretches<'t, 'p, P: Program> {
 }
 
 impl<'t, 'p, P: Program> Model for Stretches<'t, 'p, P> {
-    ghost use Rattle.program_stretches.specs.Parts.{reading_of};
+    ghost use Rattle.stretch_parts.specs.Parts.{reading_of};
     ghost use Rattle.program_stretches.specs.StretchesValue.{StretchesValue};
     ghost use Rattle.program_stretches.specs.StretchesView.{stretches_of, IsStretchesInside};
 
@@ -78,7 +78,7 @@ impl<'t, 'p, P: Program> Stretches<'t, 'p, P> {
     ghost use Rattle.programs.specs.InPlace.{told_in, left_in, spawned_in};
     ghost use Rattle.std.specs.List.{list_all};
     ghost use Rattle.superstep_memory.specs.Landing.{is_set};
-    ghost use Rattle.program_stretches.specs.Parts.{reading_of, AreFresh, EachDid, covers, tasks_in, puts_in, deeds_in, prints_in};
+    ghost use Rattle.stretch_parts.specs.Parts.{reading_of, AreFresh, EachDid, covers, tasks_in, puts_in, deeds_in, prints_in};
     ghost use Rattle.program_stretches.specs.StretchesValue.{status_in, left_after, can_leave, can_stop, ready_at, tasks_at, with_slot, IsAfter, IsCourse, HaveRun, OverflowsAt};
     ghost use Rattle.program_stretches.specs.Closing.{IsBegun, IsTaken, Refuses, Accepts, IsSameRun, NotClosed, IsClosed, EndsBy, IsLeftAs, HasLeft, HasLeftTo, IsGiven, IsReopened, AllStay, Logs, opened_with};
 

@@ -9,7 +9,7 @@ use Rattle.advance_rule.specs.Plan.{end_ends}
 use Rattle.flat_phaser.specs.Flat.{registered}
 use Rattle.phaser_word.specs.Phase.{next_phase_of}
 use Rattle.phase_records.specs.Status.{Limit as IsAtLimit}
-use Rattle.task_lang.specs.Meaning.{Task}
+use Rattle.task_actions.specs.Meaning.{Task}
 use Rattle.tier_steps.specs.declared.view.Passage.{Passage}
 use Rattle.tier_steps.specs.declared.view.Passage.TheVariants.{Arrival, Departure}
 use Rattle.tier_core.specs.declared.call.Answer.{Answer as TreeAnswer}
@@ -27,12 +27,12 @@ use Rattle.schedule_laws.specs.Roles.{Role, Out, Late, Polls, Here, Looks, Passe
 use Rattle.schedule_laws.specs.Cast.{role_at, IsCast, IsTurned, members_in, is_awaited, is_leading, is_settled, turned}
 use Rattle.schedule_laws.proofs.Playing.{nobody_leads, leaders_are_alone, leads_is_due, members_are_in_roles}
 use Rattle.schedule_laws.proofs.Casting.{advances_turn_the_cast}
-use Rattle.job_schedule.specs.declared.stage.Stage.{Stage}
-use Rattle.job_schedule.specs.declared.stage.Stage.TheVariants.{Waits, Taken, Polling, Joining, Arriving, Leaving, Over}
-use Rattle.job_schedule.specs.declared.stage.Move.TheVariants.{Advances}
-use Rattle.job_schedule.specs.declared.stage.Mode.TheVariants as mode
-use Rattle.job_schedule.specs.ParticipantValue.{ChildValue, ParticipantValue, no_participant, participant_at, child_at, is_over, all_over, waiting, own_participant, child_participant, living_participants}
-use Rattle.job_schedule.specs.Moves.{at_stage}
+use Rattle.job_participants.specs.declared.stage.Stage.{Stage}
+use Rattle.job_participants.specs.declared.stage.Stage.TheVariants.{Waits, Taken, Polling, Joining, Arriving, Leaving, Over}
+use Rattle.job_participants.specs.declared.stage.Move.TheVariants.{Advances}
+use Rattle.job_participants.specs.declared.stage.Mode.TheVariants as mode
+use Rattle.job_participants.specs.ParticipantValue.{ChildValue, ParticipantValue, no_participant, participant_at, child_at, is_over, all_over, waiting, own_participant, child_participant, living_participants}
+use Rattle.job_participants.specs.Moves.{at_stage}
 use Rattle.job_schedule.specs.World.{World, advanced_by, has_advanced, done_by}
 use Rattle.schedule_laws.specs.Working.{passage_if, IsOwnPassing, OwnFits, SitsAt, Sits, of_participant, of_all, AreShared, IsWorking, IsTurning}
 use Rattle.schedule_laws.proofs.Sharing.{own_in, known_in, others_own}

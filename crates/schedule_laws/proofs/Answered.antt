@@ -11,15 +11,15 @@ use Rattle.tier_core.specs.declared.call.Step.TheVariants.{Begin, Go, Finish}
 use Rattle.tier_core.specs.Run.{after, answer_to, may_finish, finish_at, plan_ends}
 use Rattle.step_core.specs.JobMeaning.{status, report_in}
 use Rattle.schedule_laws.specs.Roles.{Role}
-use Rattle.job_schedule.specs.declared.stage.Stage.{Stage}
-use Rattle.job_schedule.specs.declared.stage.Stage.TheVariants.{Waits, Taken, Polling, Joining, Arriving, Leaving, Over}
-use Rattle.job_schedule.specs.declared.stage.Mode.{Mode}
-use Rattle.job_schedule.specs.declared.stage.Mode.TheVariants as mode
-use Rattle.job_schedule.specs.declared.stage.Move.{Move}
-use Rattle.job_schedule.specs.declared.stage.Move.TheVariants.{Takes, Calls, Advances, Closes, Ends}
+use Rattle.job_participants.specs.declared.stage.Stage.{Stage}
+use Rattle.job_participants.specs.declared.stage.Stage.TheVariants.{Waits, Taken, Polling, Joining, Arriving, Leaving, Over}
+use Rattle.job_participants.specs.declared.stage.Mode.{Mode}
+use Rattle.job_participants.specs.declared.stage.Mode.TheVariants as mode
+use Rattle.job_participants.specs.declared.stage.Move.{Move}
+use Rattle.job_participants.specs.declared.stage.Move.TheVariants.{Takes, Calls, Advances, Closes, Ends}
 use Rattle.job_schedule.specs.AnswerValue.{AnswerValue, Stepped, Advanced, NotNow}
-use Rattle.job_schedule.specs.ParticipantValue.{ParticipantValue, participant_at, child_at, all_over}
-use Rattle.job_schedule.specs.Moves.{by_stage}
+use Rattle.job_participants.specs.ParticipantValue.{ParticipantValue, participant_at, child_at, all_over}
+use Rattle.job_participants.specs.Moves.{by_stage}
 use Rattle.job_schedule.specs.World.{World, called_by, advanced_by, next_job, done_by, kind_of, kind_for, if_asked, by_participant, by_hand, by_mode, move_of, worker_of, reached, initial_world}
 use Rattle.job_schedule.proofs.Ending.{Ready, force_done, reached_ready}
 use Rattle.schedule_laws.specs.Working.{IsWorking, IsKept}

@@ -7,7 +7,7 @@ use Rattle.tier_core.specs.declared.call.Played.TheVariants.{GoesOn, Done, Passe
 use Rattle.tier_core.proofs.Turns.{not_both}
 use Rattle.schedule_laws.specs.Roles.{Role, Out, Joins, Seeks, Settles, GivesBack, Polls, Ready, Here, Looks, Passes, Owes, Leads, Past}
 use Rattle.schedule_laws.specs.Cast.{Follows, is_on_its_way}
-use Rattle.job_schedule.specs.ParticipantValue.{ParticipantValue, is_done, is_refused, next_stage, sent_home, answered}
+use Rattle.job_participants.specs.ParticipantValue.{ParticipantValue, is_done, is_refused, next_stage, sent_home, answered}
 use Rattle.schedule_laws.specs.Working.{ComesTo}
 
 -- an answer that is done; that is refused; that is neither

@@ -16,7 +16,7 @@ use Rattle.tier_core.specs.Machine.{State as Tree}
 use Rattle.tier_core.specs.Run.{after, answer_to, may_finish}
 use Rattle.tier_core.proofs.Turns.{not_both}
 use Rattle.tier_laws.specs.Frame.{flat_of}
-use Rattle.task_lang.specs.Meaning.{Task, Segment, After, Synced, Stopped, Faulted}
+use Rattle.task_actions.specs.Meaning.{Task, Segment, After, Synced, Stopped, Faulted}
 use Rattle.step_core.specs.Program.{Program}
 use Rattle.step_core.specs.Superstep.{State, first_fault, or_later, left, spawned, stopped, live_paths}
 use Rattle.step_core.specs.JobMeaning.{status, report_in}
@@ -24,16 +24,16 @@ use Rattle.step_core.specs.OrderValue.{is_synced, spawned_paths}
 use Rattle.step_core.specs.Laws.{paths_on, synced_path}
 use Rattle.step_core.proofs.Apart.{live-paths-rise}
 use Rattle.schedule_laws.specs.Roles.{Role}
-use Rattle.job_schedule.specs.declared.stage.Stage.{Stage}
-use Rattle.job_schedule.specs.declared.stage.Stage.TheVariants.{Waits, Taken, Polling, Joining, Arriving, Leaving, Over}
-use Rattle.job_schedule.specs.declared.stage.Mode.{Mode}
-use Rattle.job_schedule.specs.declared.stage.Mode.TheVariants as mode
-use Rattle.job_schedule.specs.declared.stage.Move.{Move}
-use Rattle.job_schedule.specs.declared.stage.Move.TheVariants.{Takes, Calls, Closes, Ends}
+use Rattle.job_participants.specs.declared.stage.Stage.{Stage}
+use Rattle.job_participants.specs.declared.stage.Stage.TheVariants.{Waits, Taken, Polling, Joining, Arriving, Leaving, Over}
+use Rattle.job_participants.specs.declared.stage.Mode.{Mode}
+use Rattle.job_participants.specs.declared.stage.Mode.TheVariants as mode
+use Rattle.job_participants.specs.declared.stage.Move.{Move}
+use Rattle.job_participants.specs.declared.stage.Move.TheVariants.{Takes, Calls, Closes, Ends}
 use Rattle.job_schedule.specs.declared.step.JobStep.{JobStep}
 use Rattle.job_schedule.specs.AnswerValue.{Advanced, NotNow}
-use Rattle.job_schedule.specs.ParticipantValue.{ParticipantValue, participant_at, participant_path, all_over, is_delivered, child_at, own_participant, child_participant, living_participants}
-use Rattle.job_schedule.specs.Moves.{at_stage, by_stage}
+use Rattle.job_participants.specs.ParticipantValue.{ParticipantValue, participant_at, participant_path, all_over, is_delivered, child_at, own_participant, child_participant, living_participants}
+use Rattle.job_participants.specs.Moves.{at_stage, by_stage}
 use Rattle.job_schedule.specs.World.{World, called_by, ended_by, next_job, closed_as, done_by, kind_of, kind_for, if_asked, by_participant, by_hand, by_mode, move_of, worker_of, answer_of, reached, initial_world}
 use Rattle.job_schedule.specs.Laws.{IsStanding}
 use Rattle.job_schedule.proofs.Jobs.{IsOf, run_is_of, initial_is_of}

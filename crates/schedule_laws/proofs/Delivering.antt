@@ -7,17 +7,17 @@ use Rattle.std.proofs.lemmas.List.{get_or-set_same, get_or-set_other, length-set
 use Rattle.std.proofs.lemmas.List.Sums.{sum_by-cons, sum_by_push}
 use Rattle.tier_core.specs.Machine.{State as Tree, with_token}
 use Rattle.tier_core.proofs.Opening.{entry_before, entry_last}
-use Rattle.task_lang.specs.Meaning.{Segment}
+use Rattle.task_actions.specs.Meaning.{Segment}
 use Rattle.step_core.specs.OrderValue.{has_synced, spawned_paths}
 use Rattle.schedule_laws.specs.Roles.{Role, Out}
 use Rattle.schedule_laws.specs.Cast.{role_at}
 use Rattle.schedule_laws.proofs.Casting.{new_tokens_are_out}
-use Rattle.job_schedule.specs.declared.stage.Stage.{Stage}
-use Rattle.job_schedule.specs.declared.stage.Stage.TheVariants.{Waits, Taken, Polling}
-use Rattle.job_schedule.specs.declared.stage.Move.TheVariants.{Takes, Delivers}
-use Rattle.job_schedule.specs.ParticipantValue.{ChildValue, ParticipantValue, no_participant, no_child, participant_at, child_at}
+use Rattle.job_participants.specs.declared.stage.Stage.{Stage}
+use Rattle.job_participants.specs.declared.stage.Stage.TheVariants.{Waits, Taken, Polling}
+use Rattle.job_participants.specs.declared.stage.Move.TheVariants.{Takes, Delivers}
+use Rattle.job_participants.specs.ParticipantValue.{ChildValue, ParticipantValue, no_participant, no_child, participant_at, child_at}
 use Rattle.tier_shape.specs.Preferred.{preferred, number_in, last_number}
-use Rattle.job_schedule.specs.Moves.{at_stage}
+use Rattle.job_participants.specs.Moves.{at_stage}
 use Rattle.job_schedule.specs.World.{World, with_child, child_from, with_children, noted, deed_of, done_by}
 use Rattle.schedule_laws.specs.Working.{SitsAt, Sits, of_participant, of_all, IsWorking}
 use Rattle.schedule_laws.proofs.Sharing.{own_in}

@@ -28,11 +28,11 @@ use Rattle.phase_records.specs.Status.{Limit as IsAtLimit}
 use Rattle.step_core.specs.Program.{Program}
 use Rattle.step_core.specs.Superstep.{live_paths}
 use Rattle.step_core.specs.JobMeaning.{initial, start_tasks, status, status_of}
-use Rattle.task_lang.specs.Meaning.{Plan, Task}
+use Rattle.task_actions.specs.Meaning.{Plan, Task}
 use Rattle.task_code.specs.declared.job.Start.{Start}
 use Rattle.schedule_laws.specs.Roles.{Role, Out, Late, Plays}
 use Rattle.schedule_laws.specs.Cast.{role_at}
-use Rattle.job_schedule.specs.ParticipantValue.{ParticipantValue, no_participant, participant_at, waiting}
+use Rattle.job_participants.specs.ParticipantValue.{ParticipantValue, no_participant, participant_at, waiting}
 use Rattle.tier_shape.specs.Preferred.{leaf_at}
 use Rattle.job_schedule.specs.World.{World, gone, joined_at, plan_for, empty_world, with_start, with_starts, initial_world}
 use Rattle.schedule_laws.specs.Working.{Sits, of_participant, of_all, AreShared, IsBuilt, IsWorking, IsKept}

@@ -28,7 +28,7 @@ use Rattle.tier_laws.proofs.Stepping.{Gone, gone, fitting}
 use Rattle.tier_laws.proofs.Seeking.{joined_phase}
 use Rattle.tier_laws.proofs.Members.{joins_begin_with_a_look, settling_keeps_members, refused_size, still_going}
 use Rattle.schedule_laws.specs.Roles.{Role, Out, Joins, Seeks, Settles, GivesBack, Ready, Plays}
-use Rattle.job_schedule.specs.ParticipantValue.{is_refused}
+use Rattle.job_participants.specs.ParticipantValue.{is_refused}
 use Rattle.schedule_laws.proofs.Quiet.{core_after, Goes, known_after}
 
 pub joins_go : (s : State) (i home : ℕ) → IsCore s → (flat_of s).ended ≡ false → RootStays s (after s (Go i)) → Plays s i (Joins home)

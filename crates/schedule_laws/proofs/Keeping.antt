@@ -18,16 +18,16 @@ use Rattle.step_core.specs.JobMeaning.{status, told, report_in, unless_ended}
 use Rattle.step_core.specs.OrderValue.{has_synced, spawned_paths}
 use Rattle.schedule_laws.specs.Roles.{Role}
 use Rattle.schedule_laws.specs.Cast.{turned}
-use Rattle.job_schedule.specs.declared.stage.Stage.{Stage}
-use Rattle.job_schedule.specs.declared.stage.Stage.TheVariants.{Waits, Taken, Polling, Joining, Arriving, Leaving, Over}
-use Rattle.job_schedule.specs.declared.stage.Mode.{Mode}
-use Rattle.job_schedule.specs.declared.stage.Mode.TheVariants as mode
-use Rattle.job_schedule.specs.declared.stage.Move.{Move}
-use Rattle.job_schedule.specs.declared.stage.Move.TheVariants.{Takes, Delivers, Calls, Advances, Closes, Ends}
+use Rattle.job_participants.specs.declared.stage.Stage.{Stage}
+use Rattle.job_participants.specs.declared.stage.Stage.TheVariants.{Waits, Taken, Polling, Joining, Arriving, Leaving, Over}
+use Rattle.job_participants.specs.declared.stage.Mode.{Mode}
+use Rattle.job_participants.specs.declared.stage.Mode.TheVariants as mode
+use Rattle.job_participants.specs.declared.stage.Move.{Move}
+use Rattle.job_participants.specs.declared.stage.Move.TheVariants.{Takes, Delivers, Calls, Advances, Closes, Ends}
 use Rattle.job_schedule.specs.declared.step.JobStep.{JobStep}
 use Rattle.job_schedule.specs.AnswerValue.{NotNow}
-use Rattle.job_schedule.specs.ParticipantValue.{ParticipantValue, participant_at, participant_path, child_at, all_over}
-use Rattle.job_schedule.specs.Moves.{by_stage}
+use Rattle.job_participants.specs.ParticipantValue.{ParticipantValue, participant_at, participant_path, child_at, all_over}
+use Rattle.job_participants.specs.Moves.{by_stage}
 use Rattle.job_schedule.specs.World.{World, deed_of, child_from, with_children, noted, called_by, advanced_by, ended_by, next_job, mode_after, closed_as, done_by, kind_of, kind_for, if_asked, by_participant, by_hand, by_mode, move_of, worker_of, world_after, reached}
 use Rattle.schedule_laws.specs.Working.{IsWorking, IsKept}
 use Rattle.schedule_laws.proofs.Sharing.{no_participant_beyond}

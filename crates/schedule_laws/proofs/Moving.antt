@@ -21,10 +21,10 @@ use Rattle.tier_laws.specs.Calls.{call_by}
 use Rattle.schedule_laws.specs.Roles.{Role, Out, Joins, Seeks, Late, Polls, Ready, Here, Looks, Leads, Plays}
 use Rattle.schedule_laws.specs.Cast.{role_at, IsCast, is_awaited, is_leading}
 use Rattle.schedule_laws.proofs.Playing.{nobody_leads, home_within, leads_is_due}
-use Rattle.job_schedule.specs.declared.stage.Stage.{Stage}
-use Rattle.job_schedule.specs.declared.stage.Stage.TheVariants.{Waits, Taken, Polling, Joining, Arriving, Leaving, Over}
-use Rattle.job_schedule.specs.declared.stage.Move.TheVariants.{Calls}
-use Rattle.job_schedule.specs.ParticipantValue.{ChildValue, ParticipantValue, participant_at, child_at, answered, is_refused}
+use Rattle.job_participants.specs.declared.stage.Stage.{Stage}
+use Rattle.job_participants.specs.declared.stage.Stage.TheVariants.{Waits, Taken, Polling, Joining, Arriving, Leaving, Over}
+use Rattle.job_participants.specs.declared.stage.Move.TheVariants.{Calls}
+use Rattle.job_participants.specs.ParticipantValue.{ChildValue, ParticipantValue, participant_at, child_at, answered, is_refused}
 use Rattle.job_schedule.specs.World.{World, called_by, hand_after, done_by}
 use Rattle.schedule_laws.specs.Working.{passage_if, ComesTo, ArrivesAt, SitsAt, Sits, of_participant, IsWorking}
 use Rattle.schedule_laws.proofs.Sharing.{one, own_in, child_in, known_in, child_not_own, children_differ}

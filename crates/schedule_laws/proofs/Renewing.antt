@@ -10,15 +10,15 @@ use Rattle.phase_records.specs.Status.{Status}
 use Rattle.tier_steps.specs.declared.view.Passage.TheVariants.{Arrival}
 use Rattle.tier_core.proofs.Turns.{not_both}
 use Rattle.tier_laws.specs.Frame.{flat_of}
-use Rattle.task_lang.specs.Meaning.{Task, Segment}
+use Rattle.task_actions.specs.Meaning.{Task, Segment}
 use Rattle.step_core.specs.Program.{Program}
 use Rattle.step_core.specs.Superstep.{State, segments, fault_in, superstep, closed, next_live, live_paths}
 use Rattle.step_core.specs.JobMeaning.{status, status_of, told, report_in}
 use Rattle.schedule_laws.specs.Roles.{Role, Out, Late, Past}
 use Rattle.schedule_laws.specs.Cast.{role_at, turned}
-use Rattle.job_schedule.specs.declared.stage.Stage.{Stage}
-use Rattle.job_schedule.specs.declared.stage.Stage.TheVariants.{Waits, Taken, Polling, Joining, Arriving, Leaving, Over}
-use Rattle.job_schedule.specs.ParticipantValue.{ChildValue, ParticipantValue, participant_at, child_at, participant_path, is_over, all_over, waiting, own_participant, child_participant, living_participants, next_participants, freed}
+use Rattle.job_participants.specs.declared.stage.Stage.{Stage}
+use Rattle.job_participants.specs.declared.stage.Stage.TheVariants.{Waits, Taken, Polling, Joining, Arriving, Leaving, Over}
+use Rattle.job_participants.specs.ParticipantValue.{ChildValue, ParticipantValue, participant_at, child_at, participant_path, is_over, all_over, waiting, own_participant, child_participant, living_participants, next_participants, freed}
 use Rattle.job_schedule.specs.World.{World, next_job, renewed}
 use Rattle.job_schedule.proofs.Closing.{one_superstep}
 use Rattle.schedule_laws.specs.Working.{passage_if, SitsAt, Sits, of_participant, IsWorking, IsTurning}

@@ -23,9 +23,9 @@ use Rattle.tier_laws.proofs.Stepping.{fitting}
 use Rattle.schedule_laws.specs.Roles.{Role, Out, Joins, Seeks, Settles, GivesBack, Late, Polls, Ready, Here, Looks, Passes, Owes, Leads, Past, Plays}
 use Rattle.schedule_laws.specs.Cast.{role_at, members_in}
 use Rattle.schedule_laws.proofs.Playing.{size_of, sums_alike, home_within}
-use Rattle.job_schedule.specs.declared.stage.Stage.{Stage}
-use Rattle.job_schedule.specs.declared.stage.Stage.TheVariants.{Waits, Taken, Polling, Joining, Arriving, Leaving, Over}
-use Rattle.job_schedule.specs.ParticipantValue.{ChildValue, ParticipantValue, participant_at, child_at, is_delivered}
+use Rattle.job_participants.specs.declared.stage.Stage.{Stage}
+use Rattle.job_participants.specs.declared.stage.Stage.TheVariants.{Waits, Taken, Polling, Joining, Arriving, Leaving, Over}
+use Rattle.job_participants.specs.ParticipantValue.{ChildValue, ParticipantValue, participant_at, child_at, is_delivered}
 use Rattle.job_schedule.specs.World.{World}
 use Rattle.schedule_laws.specs.Working.{passage_if, ComesTo, ArrivesAt, SitsAt, of_participant, IsWorking}
 use Rattle.schedule_laws.proofs.Sharing.{own_in, known_in}

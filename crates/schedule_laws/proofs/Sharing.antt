@@ -4,7 +4,7 @@ use Rattle.std.specs.Prelude.{sum_by}
 use Rattle.std.specs.List.{AllByRecursion}
 use Rattle.std.proofs.lemmas.Bool.{eq-eqb, eqb-true, cases_eq, cases_lt}
 use Rattle.std.proofs.lemmas.List.Sums.{sum_by-cons}
-use Rattle.job_schedule.specs.ParticipantValue.{ChildValue, ParticipantValue, no_participant, no_child, participant_at, child_at}
+use Rattle.job_participants.specs.ParticipantValue.{ChildValue, ParticipantValue, no_participant, no_child, participant_at, child_at}
 use Rattle.schedule_laws.specs.Working.{of_participant, of_all, AreShared}
 
 -- no task is after the last

@@ -13,16 +13,16 @@ use Rattle.tier_core.specs.Machine.{State as Tree}
 use Rattle.tier_core.specs.Run.{after, answer_to}
 use Rattle.step_core.specs.JobMeaning.{status}
 use Rattle.schedule_laws.specs.Roles.{Role}
-use Rattle.job_schedule.specs.declared.stage.Stage.{Stage}
-use Rattle.job_schedule.specs.declared.stage.Stage.TheVariants.{Waits, Taken, Polling, Joining, Arriving, Leaving, Over}
-use Rattle.job_schedule.specs.declared.stage.Mode.{Mode}
-use Rattle.job_schedule.specs.declared.stage.Mode.TheVariants as mode
-use Rattle.job_schedule.specs.declared.stage.Move.{Move}
-use Rattle.job_schedule.specs.declared.stage.Move.TheVariants.{Takes, Calls, Closes, Ends}
+use Rattle.job_participants.specs.declared.stage.Stage.{Stage}
+use Rattle.job_participants.specs.declared.stage.Stage.TheVariants.{Waits, Taken, Polling, Joining, Arriving, Leaving, Over}
+use Rattle.job_participants.specs.declared.stage.Mode.{Mode}
+use Rattle.job_participants.specs.declared.stage.Mode.TheVariants as mode
+use Rattle.job_participants.specs.declared.stage.Move.{Move}
+use Rattle.job_participants.specs.declared.stage.Move.TheVariants.{Takes, Calls, Closes, Ends}
 use Rattle.job_schedule.specs.declared.step.JobStep.{JobStep}
 use Rattle.job_schedule.specs.AnswerValue.{Stepped, NotNow}
-use Rattle.job_schedule.specs.ParticipantValue.{ParticipantValue, participant_at, child_at, is_refused, all_over}
-use Rattle.job_schedule.specs.Moves.{by_stage}
+use Rattle.job_participants.specs.ParticipantValue.{ParticipantValue, participant_at, child_at, is_refused, all_over}
+use Rattle.job_participants.specs.Moves.{by_stage}
 use Rattle.job_schedule.specs.World.{World, called_by, done_by, kind_of, kind_for, if_asked, by_participant, by_hand, by_mode, move_of, worker_of, answer_of, reached, initial_world}
 use Rattle.schedule_laws.specs.Working.{IsWorking, IsKept}
 use Rattle.schedule_laws.specs.Laws.{SpawnsHaveRoomAtHome}

@@ -7,9 +7,9 @@ use Rattle.tier_steps.specs.declared.view.Passage.TheVariants.{Arrival}
 use Rattle.tier_core.specs.declared.call.Played.{Played}
 use Rattle.schedule_laws.specs.Roles.{Role, Out, Polls, Ready, Here, Past}
 use Rattle.schedule_laws.specs.Cast.{role_at}
-use Rattle.job_schedule.specs.declared.stage.Stage.{Stage}
-use Rattle.job_schedule.specs.declared.stage.Stage.TheVariants.{Waits, Taken, Polling, Joining, Arriving, Leaving, Over}
-use Rattle.job_schedule.specs.ParticipantValue.{ChildValue, ParticipantValue, no_child, child_at, is_done, is_refused, next_stage, sent_home, answered, arriving, joining}
+use Rattle.job_participants.specs.declared.stage.Stage.{Stage}
+use Rattle.job_participants.specs.declared.stage.Stage.TheVariants.{Waits, Taken, Polling, Joining, Arriving, Leaving, Over}
+use Rattle.job_participants.specs.ParticipantValue.{ChildValue, ParticipantValue, no_child, child_at, is_done, is_refused, next_stage, sent_home, answered, arriving, joining}
 use Rattle.schedule_laws.specs.Working.{passage_if, ComesTo, ArrivesAt, SitsAt, Sits, of_participant}
 use Rattle.schedule_laws.proofs.Turning.{sum_set_same}
 use Rattle.schedule_laws.proofs.Answering.{done_answer, refused_answer, kept_answer, goes_same, JoinEnds, PassEnds}

@@ -9,8 +9,8 @@ use Rattle.tier_core.specs.Machine.{State}
 use Rattle.tier_laws.specs.Frame.{flat_of}
 use Rattle.schedule_laws.specs.Roles.{Role, Out}
 use Rattle.schedule_laws.specs.Cast.{role_at, IsCast}
-use Rattle.job_schedule.specs.declared.stage.Stage.{Stage}
-use Rattle.job_schedule.specs.ParticipantValue.{ChildValue, ParticipantValue, no_participant, participant_at, child_at}
+use Rattle.job_participants.specs.declared.stage.Stage.{Stage}
+use Rattle.job_participants.specs.ParticipantValue.{ChildValue, ParticipantValue, no_participant, participant_at, child_at}
 use Rattle.job_schedule.specs.World.{World, with_participant}
 use Rattle.schedule_laws.specs.Working.{OwnFits, ChildFits, SitsAt, Sits, of_participant, AreShared, IsWorking}
 use Rattle.schedule_laws.proofs.Sharing.{one, others_own, others_child, free_not}

@@ -16,7 +16,7 @@ use Rattle.tier_laws.specs.Frame.{flat_of}
 use Rattle.tier_laws.specs.Plan.{flat_ends}
 use Rattle.tier_laws.specs.Calls.{answer_then, call_by}
 use Rattle.schedule_laws.specs.Roles.{Role, Out, Joins, Seeks, Settles, GivesBack, Late, Polls, Ready, Here, Looks, Passes, Owes, Leads, Past, Plays}
-use Rattle.job_schedule.specs.ParticipantValue.{is_refused}
+use Rattle.job_participants.specs.ParticipantValue.{is_refused}
 
 abbrev pub role_at : List Role → ℕ → Role
 role_at roles token = slice_index_or roles token Out

@@ -5,16 +5,16 @@ use Rattle.tier_shape.specs.Paths.{IsTiers}
 use Rattle.tier_core.specs.declared.call.Call.TheVariants as call
 use Rattle.tier_core.specs.declared.call.Played.{Played}
 use Rattle.tier_laws.specs.Frame.{flat_of}
-use Rattle.task_lang.specs.Meaning.{Segment}
+use Rattle.task_actions.specs.Meaning.{Segment}
 use Rattle.step_core.specs.Program.{Program}
 use Rattle.step_core.specs.Superstep.{segments, first_fault, record_of}
-use Rattle.job_schedule.specs.declared.stage.Mode.TheVariants as mode
+use Rattle.job_participants.specs.declared.stage.Mode.TheVariants as mode
 use Rattle.job_schedule.specs.declared.step.JobStep.{JobStep}
 use Rattle.job_schedule.specs.declared.step.JobStep.TheVariants.{Close}
-use Rattle.job_schedule.specs.ParticipantValue.{is_delivered, is_refused, participant_at}
+use Rattle.job_participants.specs.ParticipantValue.{is_delivered, is_refused, participant_at}
 use Rattle.job_schedule.specs.AnswerValue.{Advanced, Stepped, NotNow}
-use Rattle.job_schedule.specs.declared.stage.Move.{Move}
-use Rattle.job_schedule.specs.declared.stage.Move.TheVariants.{Calls, Closes}
+use Rattle.job_participants.specs.declared.stage.Move.{Move}
+use Rattle.job_participants.specs.declared.stage.Move.TheVariants.{Calls, Closes}
 use Rattle.job_schedule.specs.World.{World, initial_world, answer_of, move_of, kind_of, kind_for, worker_of, world_after, reached}
 use Rattle.schedule_laws.specs.Working.{IsKept}
 

@@ -7,11 +7,11 @@ use Rattle.tier_laws.specs.Frame.{flat_of}
 use Rattle.step_core.specs.JobMeaning.{status}
 use Rattle.schedule_laws.specs.Roles.{Role, Out, Joins, Seeks, Settles, GivesBack, Late, Polls, Ready, Here, Looks, Passes, Owes, Leads, Past}
 use Rattle.schedule_laws.specs.Cast.{role_at, IsCast, turned}
-use Rattle.job_schedule.specs.declared.stage.Mode.{Mode}
-use Rattle.job_schedule.specs.declared.stage.Mode.TheVariants as mode
-use Rattle.job_schedule.specs.declared.stage.Stage.{Stage}
-use Rattle.job_schedule.specs.declared.stage.Stage.TheVariants.{Waits, Taken, Polling, Joining, Arriving, Leaving, Over}
-use Rattle.job_schedule.specs.ParticipantValue.{ChildValue, ParticipantValue, child_at, participant_at, all_over, living_participants}
+use Rattle.job_participants.specs.declared.stage.Mode.{Mode}
+use Rattle.job_participants.specs.declared.stage.Mode.TheVariants as mode
+use Rattle.job_participants.specs.declared.stage.Stage.{Stage}
+use Rattle.job_participants.specs.declared.stage.Stage.TheVariants.{Waits, Taken, Polling, Joining, Arriving, Leaving, Over}
+use Rattle.job_participants.specs.ParticipantValue.{ChildValue, ParticipantValue, child_at, participant_at, all_over, living_participants}
 use Rattle.job_schedule.specs.World.{World, plan_for}
 
 -- a task that synced arrives, any other leaves

@@ -8,7 +8,7 @@ use Rattle.superstep_memory.specs.Paths.{path_lt, is_less, is_rising}
 use Rattle.superstep_memory.proofs.PathOrder.{lt_total, rising_all, rising_rest, rising_more}
 use Rattle.phase_records.specs.Status.{Status}
 use Rattle.task_code.specs.declared.job.Start.{Start}
-use Rattle.task_lang.specs.Meaning.{Plan, Task, After, Synced, Stopped, Faulted, Segment, segment_of}
+use Rattle.task_actions.specs.Meaning.{Plan, Task, After, Synced, Stopped, Faulted, Segment, segment_of}
 use Rattle.task_lang.specs.Laws.{children}
 use Rattle.task_lang.proofs.AllSegments.{numbers-its-spawns, stays-the-same-task}
 use Rattle.step_parts.specs.Program.{Program, program_of}

@@ -5,10 +5,10 @@ use Rattle.std.specs.Option.{option_map}
 use Rattle.superstep_memory.specs.Landing.{landed, joined}
 use Rattle.phase_records.specs.PrintValue.{PrintValue}
 use Rattle.phase_records.specs.declared.record.PhaseRecord.{PhaseRecord}
-use Rattle.task_lang.specs.TaskValue.{TaskValue}
-use Rattle.task_lang.specs.SegmentValue.{SegmentValue}
-use Rattle.task_lang.specs.Meaning.{Plan, Task, Segment, segment_of}
-use Rattle.task_lang.specs.Views.{plans, task_of, meant}
+use Rattle.task_actions.specs.TaskValue.{TaskValue}
+use Rattle.task_actions.specs.SegmentValue.{SegmentValue}
+use Rattle.task_actions.specs.Meaning.{Plan, Task, Segment, segment_of}
+use Rattle.task_actions.specs.Views.{plans, task_of, meant}
 use Rattle.task_lang.proofs.AllSegments.{numbers-its-spawns}
 use Rattle.step_parts.specs.Program.{Program, program_of}
 use Rattle.superstep_memory.specs.PathOrder.{in_path_order}

@@ -10,7 +10,7 @@ use Rattle.superstep_memory.specs.Landing.{joined, landed, is_to, is_set, sets}
 use Rattle.superstep_memory.specs.Logs.{paths}
 use Rattle.superstep_memory.specs.Laws.{has_put, has_set}
 use Rattle.superstep_memory.proofs.LandedLaws as landings
-use Rattle.task_lang.specs.Meaning.{Task, Segment}
+use Rattle.task_actions.specs.Meaning.{Task, Segment}
 use Rattle.task_lang.specs.Laws.{is_to_cell}
 use Rattle.task_lang.proofs.AllSegments.{puts-into-cells}
 use Rattle.step_parts.specs.Program.{Program}

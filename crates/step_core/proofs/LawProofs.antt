@@ -4,8 +4,8 @@ use Rattle.std.specs.Prelude.{if◌then◌else◌}
 use Rattle.std.proofs.lemmas.List.{append-nil}
 use Rattle.superstep_memory.specs.Paths.{path_lt}
 use Rattle.phase_records.specs.Status.{Status, Limit}
-use Rattle.task_lang.specs.Meaning.{Task, After, Synced, Stopped, Faulted, Segment, segment_of}
-use Rattle.task_lang.specs.Views.{plans}
+use Rattle.task_actions.specs.Meaning.{Task, After, Synced, Stopped, Faulted, Segment, segment_of}
+use Rattle.task_actions.specs.Views.{plans}
 use Rattle.step_parts.specs.Program.{Program, program_of}
 use Rattle.superstep_memory.specs.PathOrder.{put_in, in_path_order}
 use Rattle.step_parts.specs.Superstep.{

@@ -5,10 +5,10 @@ use Rattle.std.specs.Option.{option_map}
 use Rattle.step_parts.specs.SlotParts.{path_in, fresh_slot}
 use Rattle.std.proofs.lemmas.List.{length-set}
 use Rattle.task_code.specs.JobValue.{JobValue}
-use Rattle.task_lang.specs.TaskValue.{TaskValue}
-use Rattle.task_lang.specs.SegmentValue.{SegmentValue}
-use Rattle.task_lang.specs.Meaning.{Plan, Task, Segment, segment_of}
-use Rattle.task_lang.specs.Views.{plans, task_of, meant}
+use Rattle.task_actions.specs.TaskValue.{TaskValue}
+use Rattle.task_actions.specs.SegmentValue.{SegmentValue}
+use Rattle.task_actions.specs.Meaning.{Plan, Task, Segment, segment_of}
+use Rattle.task_actions.specs.Views.{plans, task_of, meant}
 use Rattle.step_parts.specs.Program.{program_of}
 use Rattle.step_parts.specs.Superstep.{State}
 use Rattle.step_parts.specs.JobMeaning.{state_at, status}

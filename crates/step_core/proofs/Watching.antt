@@ -4,9 +4,9 @@ use Rattle.std.specs.Prelude.{ℤ}
 use Rattle.std.proofs.lemmas.Bool.{ltb-true, ltb-false}
 use Rattle.phase_records.specs.ReportValue.{ReportValue}
 use Rattle.task_code.specs.JobValue.{JobValue}
-use Rattle.task_lang.specs.TaskValue.{TaskValue}
-use Rattle.task_lang.specs.Views.{plans, task_of}
-use Rattle.task_lang.specs.Meaning as job
+use Rattle.task_actions.specs.TaskValue.{TaskValue}
+use Rattle.task_actions.specs.Views.{plans, task_of}
+use Rattle.task_actions.specs.Meaning as job
 use Rattle.step_parts.specs.Program.{Program, program_of}
 use Rattle.step_parts.specs.JobMeaning.{so_far, status, start_tasks, report_of}
 use Rattle.step_parts.proofs.Runs.{going_on, ended_stays}

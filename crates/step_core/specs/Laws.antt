@@ -6,7 +6,7 @@ use Rattle.superstep_memory.specs.declared.arrays.Put.{Put}
 use Rattle.superstep_memory.specs.Cells.{cell_at}
 use Rattle.superstep_memory.specs.Paths.{path_lt, is_rising}
 use Rattle.superstep_memory.specs.Laws.{has_put}
-use Rattle.task_lang.specs.Meaning.{Task, Segment, segment_of}
+use Rattle.task_actions.specs.Meaning.{Task, Segment, segment_of}
 use Rattle.task_code.specs.JobValue.{JobValue}
 use Rattle.step_parts.specs.Program.{Program, program_of}
 use Rattle.step_parts.specs.Superstep.{State, superstep, segments, record_of, live_paths}

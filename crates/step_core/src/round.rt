@@ -1,7 +1,7 @@
 //! The supersteps of a job, taken one by one.
 ghost use Rattle.std.specs.Prelude.{◌≡◌, List};
 ghost use Rattle.std.specs.Option.{option_map};
-ghost use Rattle.task_lang.specs.Meaning.{Plan};
+ghost use Rattle.task_actions.specs.Meaning.{Plan};
 ghost use Rattle.step_parts.specs.Slots.{first_missing, missing_in, slots_of};
 ghost use Rattle.step_parts.specs.SlotParts.{path_of};
 

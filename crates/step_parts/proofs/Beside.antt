@@ -1,8 +1,8 @@
 -- Tasks beside what was delivered for them, by place.
 use Rattle.std.proofs.Common.{◌≡◌, ℕ, zero, suc, ◌<◌, ◌≤◌, List, [], ◌∷◌, ◌++◌, map, length, Option, None, Some, is_some, slice_get, slice_set, get_or, refl, sym, ap, ◌∙◌, arith}
 use Rattle.std.proofs.lemmas.List.{length-map}
-use Rattle.task_lang.specs.TaskValue.{TaskValue}
-use Rattle.task_lang.specs.SegmentValue.{SegmentValue}
+use Rattle.task_actions.specs.TaskValue.{TaskValue}
+use Rattle.task_actions.specs.SegmentValue.{SegmentValue}
 use Rattle.step_parts.specs.SlotValue.{SlotValue}
 use Rattle.step_parts.specs.Slots.{with_segment}
 use Rattle.step_parts.specs.SlotParts.{beside, living_by, living_in, living_of, no_segment, fresh_slot}

@@ -8,12 +8,12 @@ use Rattle.superstep_memory.specs.Landing.{landed, joined, is_set, over_in}
 use Rattle.superstep_memory.specs.Logs.{located}
 use Rattle.superstep_memory.proofs.Landed.{landed_append, landed_none}
 use Rattle.superstep_memory.proofs.Over.{first_located, at_log, over_inside, found_there, sets_fit}
-use Rattle.task_lang.specs.TaskValue.{TaskValue}
-use Rattle.task_lang.specs.SegmentValue.{SegmentValue}
-use Rattle.task_lang.specs.Meaning.{Plan, Task}
-use Rattle.task_lang.specs.Views.{task_of, after_of}
-use Rattle.task_lang.specs.declared.task.After as code
-use Rattle.task_lang.specs.declared.task.After.TheVariants as after
+use Rattle.task_actions.specs.TaskValue.{TaskValue}
+use Rattle.task_actions.specs.SegmentValue.{SegmentValue}
+use Rattle.task_actions.specs.Meaning.{Plan, Task}
+use Rattle.task_actions.specs.Views.{task_of, after_of}
+use Rattle.task_actions.specs.declared.task.After as code
+use Rattle.task_actions.specs.declared.task.After.TheVariants as after
 use Rattle.step_parts.specs.Superstep.{log_of, overflow, fault_eight, synced, living_on}
 use Rattle.step_parts.specs.SlotValue.{SlotValue}
 use Rattle.step_parts.specs.Slots.{slots_of, delivered}

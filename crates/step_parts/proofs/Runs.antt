@@ -2,7 +2,7 @@
 use Rattle.std.proofs.Common.{◌≡◌, ℕ, zero, suc, ◌+◌, ◌<◌, Bool, true, false, nat_le, List, [], ◌∷◌, Option, Some, None, refl, sym, ap, ◌∙◌, arith}
 use Rattle.std.specs.Prelude.{if◌then◌else◌}
 use Rattle.phase_records.specs.Status.{Status, Limit}
-use Rattle.task_lang.specs.Meaning.{Task, Segment}
+use Rattle.task_actions.specs.Meaning.{Task, Segment}
 use Rattle.step_parts.specs.Program.{Program}
 use Rattle.step_parts.specs.Superstep.{State, superstep, closed, segments, fault_in}
 use Rattle.step_parts.specs.JobMeaning.{state_at, so_far, status, status_of, unless_ended, told, report_of}

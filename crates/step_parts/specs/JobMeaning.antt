@@ -3,7 +3,7 @@ use Rattle.std.specs.Prelude.{ℕ, zero, suc, nat_le, if◌then◌else◌, List,
 use Rattle.phase_records.specs.Status.{Status, Ended, Fault, Limit}
 use Rattle.phase_records.specs.ReportValue.{ReportValue}
 use Rattle.task_code.specs.declared.job.Start.{Start}
-use Rattle.task_lang.specs.Meaning.{Plan, Task, started}
+use Rattle.task_actions.specs.Meaning.{Plan, Task, started}
 use Rattle.step_parts.specs.Program.{Program}
 use Rattle.step_parts.specs.Superstep.{State, superstep}
 

@@ -2,8 +2,8 @@
 use Rattle.std.specs.Prelude.{ℕ, ℤ, List}
 use Rattle.task_code.specs.declared.job.Start.{Start}
 use Rattle.task_code.specs.JobValue.{JobValue}
-use Rattle.task_lang.specs.Meaning.{Plan}
-use Rattle.task_lang.specs.Views.{plans}
+use Rattle.task_actions.specs.Meaning.{Plan}
+use Rattle.task_actions.specs.Views.{plans}
 
 -- the arrays as the job begins, what its bodies say, and its start lines
 pub record Program : Type 0 where

@@ -4,8 +4,8 @@ use Rattle.phase_records.specs.PrintValue.{PrintValue}
 use Rattle.phase_records.specs.declared.record.PhaseRecord.{PhaseRecord}
 use Rattle.phase_records.specs.Status.{Status}
 use Rattle.task_code.specs.JobValue.{JobValue}
-use Rattle.task_lang.specs.Meaning.{Plan, Task, Segment, segment_of}
-use Rattle.task_lang.specs.Views.{plans}
+use Rattle.task_actions.specs.Meaning.{Plan, Task, Segment, segment_of}
+use Rattle.task_actions.specs.Views.{plans}
 use Rattle.step_parts.specs.Program.{program_of}
 use Rattle.step_parts.specs.Superstep.{State}
 use Rattle.step_parts.specs.JobMeaning.{so_far, status}

@@ -2,10 +2,10 @@
 use Rattle.std.specs.Prelude.{◌≡◌, ℕ, ◌-◌, ◌≤◌, ◌<◌, nat_lt, if◌then◌else◌, slice_get, length, List, [], ◌∷◌, ◌++◌, Option, Some, None}
 use Rattle.smallvec.specs.SmallVec.{SmallVec}
 use Rattle.superstep_memory.specs.declared.arrays.Put.{Put}
-use Rattle.task_lang.specs.TaskValue.{TaskValue}
-use Rattle.task_lang.specs.SegmentValue.{SegmentValue}
-use Rattle.task_lang.specs.declared.task.After.{After}
-use Rattle.task_lang.specs.declared.task.After.TheVariants as after
+use Rattle.task_actions.specs.TaskValue.{TaskValue}
+use Rattle.task_actions.specs.SegmentValue.{SegmentValue}
+use Rattle.task_actions.specs.declared.task.After.{After}
+use Rattle.task_actions.specs.declared.task.After.TheVariants as after
 use Rattle.step_parts.specs.SlotValue.{SlotValue}
 
 abbrev pub puts_of : Option SegmentValue → List Put

@@ -1,7 +1,7 @@
 -- A live task as the code has it, and its segment once it was delivered.
 use Rattle.std.specs.Prelude.{Option}
-use Rattle.task_lang.specs.TaskValue.{TaskValue}
-use Rattle.task_lang.specs.SegmentValue.{SegmentValue}
+use Rattle.task_actions.specs.TaskValue.{TaskValue}
+use Rattle.task_actions.specs.SegmentValue.{SegmentValue}
 
 pub record SlotValue : Type 0 where
   pub task : TaskValue

@@ -3,9 +3,9 @@ use Rattle.std.specs.Prelude.{ℕ, zero, suc, ◌+◌, List, [], ◌∷◌, ◌+
 use Rattle.std.specs.Option.{option_map}
 use Rattle.phase_records.specs.PrintValue.{PrintValue}
 use Rattle.phase_records.specs.declared.record.PhaseRecord.{PhaseRecord}
-use Rattle.task_lang.specs.Meaning.{Plan, Task, Segment}
-use Rattle.task_lang.specs.Views.{task_of, meant}
-use Rattle.task_lang.specs.SegmentValue.{SegmentValue}
+use Rattle.task_actions.specs.Meaning.{Plan, Task, Segment}
+use Rattle.task_actions.specs.Views.{task_of, meant}
+use Rattle.task_actions.specs.SegmentValue.{SegmentValue}
 use Rattle.step_parts.specs.SlotValue.{SlotValue}
 use Rattle.step_parts.specs.FinishedValue.{FinishedValue}
 use Rattle.step_parts.specs.Superstep.{prints_of, record_of}

@@ -20,8 +20,8 @@ use Rattle.superstep_memory.specs.declared.arrays.Put.{Put}
 use Rattle.superstep_memory.specs.Landing.{joined, landed, first_over}
 use Rattle.phase_records.specs.PrintValue.{PrintValue}
 use Rattle.phase_records.specs.declared.record.PhaseRecord.{PhaseRecord}
-use Rattle.task_lang.specs.FaultCode.{code_of}
-use Rattle.task_lang.specs.Meaning.{Task, After, Synced, Stopped, Faulted, Segment, segment_of}
+use Rattle.task_actions.specs.FaultCode.{code_of}
+use Rattle.task_actions.specs.Meaning.{Task, After, Synced, Stopped, Faulted, Segment, segment_of}
 use Rattle.step_parts.specs.Program.{Program}
 use Rattle.superstep_memory.specs.PathOrder.{in_path_order}
 

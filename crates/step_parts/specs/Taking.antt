@@ -2,8 +2,8 @@
 use Rattle.std.specs.Prelude.{◌≡◌, ℕ, ℤ, is_some, ◌||◌, List, [], ◌∷◌, Bool, true, false, Option, Some, None, slice_get}
 use Rattle.std.specs.Option.{option_map}
 use Rattle.std.specs.Str.{bytes_eq}
-use Rattle.task_lang.specs.TaskValue.{TaskValue}
-use Rattle.task_lang.specs.Meaning.{Segment}
+use Rattle.task_actions.specs.TaskValue.{TaskValue}
+use Rattle.task_actions.specs.Meaning.{Segment}
 use Rattle.step_parts.specs.declared.fault.AcceptFault.{AcceptFault}
 use Rattle.step_parts.specs.declared.fault.AcceptFault.TheVariants as accept
 use Rattle.step_parts.specs.declared.fault.CloseFault.{CloseFault}

@@ -3,7 +3,7 @@ ghost use Rattle.std.specs.Prelude.{◌≡◌, ◌≤◌, ◌++◌, ◌∷◌, L
 ghost use Rattle.std.specs.Arc.{arc_value};
 ghost use Rattle.std.specs.Vec.{vec_capacity};
 ghost use Rattle.superstep_memory.specs.Landing.{landed, joined};
-ghost use Rattle.task_lang.specs.Meaning.{Plan};
+ghost use Rattle.task_actions.specs.Meaning.{Plan};
 ghost use Rattle.step_parts.specs.Superstep.{log_of, overflow};
 ghost use Rattle.step_parts.specs.Slots.{slots_of, delivered, told_by};
 ghost use Rattle.superstep_memory.specs.PathOrder.{in_path_order};
@@ -149,7 +149,7 @@ impl Live {
     ghost use Rattle.std.specs.Arc.{arc_value};
     ghost use Rattle.superstep_memory.specs.Landing.{landed, joined};
     ghost use Rattle.superstep_memory.specs.PathOrder.{in_path_order};
-    ghost use Rattle.task_lang.specs.Meaning.{Plan};
+    ghost use Rattle.task_actions.specs.Meaning.{Plan};
     ghost use Rattle.step_parts.specs.Superstep.{log_of, overflow};
     ghost use Rattle.step_parts.specs.Slots.{slots_of, delivered, told_by, with_segment};
     ghost use Rattle.step_parts.specs.SlotParts.{AllSmall, path_in, fresh_slot, living_in};

@@ -84,8 +84,8 @@ fn path_at(tasks: &[Task], place: usize) -> Option<&[u16]>
 
 impl<'j> Order<'j> {
     ghost use Rattle.std.specs.Prelude.{◌≡◌, ◌<◌, IfOk, length};
-    ghost use Rattle.task_lang.specs.Meaning.{segment_of};
-    ghost use Rattle.task_lang.specs.Views.{plans, meant};
+    ghost use Rattle.task_actions.specs.Meaning.{segment_of};
+    ghost use Rattle.task_actions.specs.Views.{plans, meant};
     ghost use Rattle.step_parts.specs.OrderValue.{order_among, ordered_task, IsOrder};
     ghost use Rattle.std.specs.Arc.{arc_value};
 
@@ -153,8 +153,8 @@ impl<'j> Order<'j> {
 impl<'j> Delivery<'j> {
     ghost use Rattle.std.specs.Prelude.{◌≡◌, ◌↔◌, IsTrue, IfOk, map, length, slice_get};
     ghost use Rattle.std.specs.Option.{option_map};
-    ghost use Rattle.task_lang.specs.Meaning.{segment_of};
-    ghost use Rattle.task_lang.specs.Views.{plans};
+    ghost use Rattle.task_actions.specs.Meaning.{segment_of};
+    ghost use Rattle.task_actions.specs.Views.{plans};
     ghost use Rattle.step_parts.specs.SlotParts.{path_of};
     ghost use Rattle.step_parts.specs.OrderValue.{IsDelivery, ordered_task, delivered_segment, has_synced, spawned_paths, now_of};
 

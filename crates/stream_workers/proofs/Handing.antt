@@ -2,7 +2,7 @@
 use Rattle.std.proofs.Common.{ℕ, List, Option, Some, None}
 use Rattle.std.specs.Prelude.{IfSome}
 use Rattle.task_code.specs.JobValue.{JobValue}
-use Rattle.task_lang.specs.TaskValue.{TaskValue}
+use Rattle.task_actions.specs.TaskValue.{TaskValue}
 use Rattle.job_program.specs.declared.job.JobProgram.{JobProgram}
 use Rattle.program_stretches.specs.Opening.{OpeningValue}
 use Rattle.program_stretches.specs.LinesValue.{LinesValue}

@@ -1,7 +1,7 @@
 -- The stretches of a job and the lines that are still to be written, as workers hold them (own).
 use Rattle.std.specs.Prelude.{◌≤◌, ℕ, Option, Some, IfSome}
 use Rattle.task_code.specs.JobValue.{JobValue}
-use Rattle.task_lang.specs.TaskValue.{TaskValue}
+use Rattle.task_actions.specs.TaskValue.{TaskValue}
 use Rattle.step_parts.specs.Program.{program_of}
 use Rattle.job_program.specs.declared.job.JobProgram.{JobProgram}
 use Rattle.program_stretches.specs.LinesValue.{LinesValue}

@@ -1,9 +1,9 @@
 //! The stretches of a job as an engine, with the lines of its last superstep.
 ghost use Rattle.std.specs.Prelude.{◌≡◌, ◌≢◌, None, Err, true, false, IfOk, IfSome, OnOk};
-ghost use Rattle.stretch_queue.specs.declared.fault.Reason.TheVariants as reason;
+ghost use Rattle.stretch_groups.specs.declared.fault.Reason.TheVariants as reason;
 ghost use Rattle.snapshot_log.specs.Agreed.{WasBefore};
 ghost use Rattle.step_parts.specs.SlotParts.{path_in};
-ghost use Rattle.program_stretches.specs.Parts.{covers};
+ghost use Rattle.stretch_parts.specs.Parts.{covers};
 ghost use Rattle.program_stretches.specs.StretchesValue.{status_in};
 ghost use Rattle.program_stretches.specs.Closing.{IsSameRun, IsGiven};
 ghost use Rattle.job_stream.specs.Running.{IsGivenAfter, job_reading};
@@ -195,7 +195,7 @@ impl<'t, 'p, 'j, 'o, 'w, R: Wait, W: CountedWrite, J: Streaming> Engine
     for Handing<'t, 'p, 'j, 'o, 'w, R, W, J> {
     ghost use Rattle.std.specs.Prelude.{true, is_some, length, map, slice_get};
     ghost use Rattle.step_parts.specs.SlotParts.{path_in};
-    ghost use Rattle.program_stretches.specs.Parts.{covers};
+    ghost use Rattle.stretch_parts.specs.Parts.{covers};
     ghost use Rattle.program_stretches.specs.StretchesValue.{status_in, can_leave, ready_at, tasks_at, living_at, faulted_at};
     ghost use Rattle.program_stretches.specs.Closing.{IsTaken, Accepts, IsSameRun, AllStay};
     ghost use Rattle.job_stream.specs.Running.{job_reading};

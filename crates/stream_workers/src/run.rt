@@ -6,12 +6,12 @@ ghost use Rattle.advance_rule.specs.Plan.{end_ends_at};
 ghost use Rattle.programs.specs.Meaning.{children};
 ghost use Rattle.step_parts.specs.Program.{program_of};
 ghost use Rattle.step_parts.specs.SlotParts.{path_in};
-ghost use Rattle.program_stretches.specs.Parts.{AreFresh, tasks_in};
+ghost use Rattle.stretch_parts.specs.Parts.{AreFresh, tasks_in};
 ghost use Rattle.program_stretches.specs.Closing.{HasLeft};
 ghost use Rattle.job_stream.specs.Running.{IsRunOf, job_reading};
 ghost use Rattle.job_stream.specs.Streamed.{lines_of};
 ghost use Rattle.worker_pool.specs.JobPlan.{IsJobPlan};
-ghost use Rattle.stretch_queue.specs.Refusals.{IsOfWorkers};
+ghost use Rattle.stretch_groups.specs.Refusals.{IsOfWorkers};
 ghost use Rattle.stream_workers.specs.Written.{StreamsOn, CauseOn};
 
 use crate::engine::Handing;

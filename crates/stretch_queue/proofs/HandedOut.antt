@@ -4,8 +4,8 @@ use Rattle.std.specs.Option.{option_map}
 use Rattle.std.proofs.Common.{◌≡◌, ◌≢◌, ◌⊎◌, inl, inr, ℕ, Bool, true, false, List, [], ◌∷◌, Option, Some, None, refl, sym, ap, ◌∙◌, subst, arith, ⊎_elim}
 use Rattle.pass_list.specs.declared.rule.Ticket.{Ticket}
 use Rattle.pass_list.specs.Passed.{PassValue, IsOut, without, ticket}
-use Rattle.stretch_queue.specs.HandedOut.{Each, OneIs, AreApart, AreOut, AreLeft}
-use Rattle.stretch_queue.specs.Living.{LeftValue}
+use Rattle.stretch_groups.specs.HandedOut.{Each, OneIs, AreApart, AreOut, AreLeft}
+use Rattle.stretch_groups.specs.Living.{LeftValue}
 
 pub not_both : (b : Bool) → b ≡ true → b ≡ false → ⊥
 not_both b t f = absurd (apart (sym t ∙ f))

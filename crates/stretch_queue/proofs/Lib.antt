@@ -1,11 +1,8 @@
 pub mod HandedOut
 pub mod SlotPaths
 pub mod Slots
-pub mod Grouping
-pub mod Places
 pub mod Steady
 pub mod Reopened
 pub mod Watched
 pub mod Queueing
 pub mod Living
-pub mod Sorted

@@ -5,10 +5,10 @@ use Rattle.std.proofs.lemmas.List.{map-append}
 use Rattle.programs.specs.Changes.{change_of}
 use Rattle.programs.specs.InPlace.{kept}
 use Rattle.programs.specs.declared.deeds.Change.{Change}
-use Rattle.stretch_queue.specs.declared.hand.Changes.{Changes}
-use Rattle.stretch_queue.specs.declared.hand.Changes.TheVariants.{Same, Each}
-use Rattle.stretch_queue.specs.Changes.{Tells, is_same}
-use Rattle.stretch_queue.specs.Living.{living_after, living_by}
+use Rattle.stretch_groups.specs.declared.hand.Changes.{Changes}
+use Rattle.stretch_groups.specs.declared.hand.Changes.TheVariants.{Same, Each}
+use Rattle.stretch_groups.specs.Changes.{Tells, is_same}
+use Rattle.stretch_groups.specs.Living.{living_after, living_by}
 
 module _ {A : Type 0} (path : A → List ℕ) where
   -- an item more at the end, by its path

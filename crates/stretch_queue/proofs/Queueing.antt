@@ -4,18 +4,18 @@ use Rattle.std.proofs.Common.{◌≡◌, ◌≢◌, ◌<◌, ◌++◌, ◌∷◌
 use Rattle.atomic_table.specs.Seated.{TableId}
 use Rattle.pass_list.specs.declared.rule.Ticket.{Ticket}
 use Rattle.pass_list.specs.Passed.{PassesValue, ticket}
-use Rattle.stretch_queue.specs.declared.fault.Refused.{Refused}
-use Rattle.stretch_queue.specs.declared.fault.Refused.TheVariants as refused
-use Rattle.stretch_queue.specs.AtRest.{CanBegin}
-use Rattle.stretch_queue.specs.EngineReading.{EngineReading}
-use Rattle.stretch_queue.specs.Groups.{GroupValue, group_of, groups_with, numbers_of, places_for, paths_in}
-use Rattle.stretch_queue.specs.HandedOut.{Each, AreOut}
+use Rattle.stretch_groups.specs.declared.fault.Refused.{Refused}
+use Rattle.stretch_groups.specs.declared.fault.Refused.TheVariants as refused
+use Rattle.stretch_groups.specs.AtRest.{CanBegin}
+use Rattle.stretch_groups.specs.EngineReading.{EngineReading}
+use Rattle.stretch_groups.specs.Groups.{GroupValue, group_of, groups_with, numbers_of, places_for, paths_in}
+use Rattle.stretch_groups.specs.HandedOut.{Each, AreOut}
 use Rattle.superstep_memory.specs.PathOrder.{in_path_order}
-use Rattle.stretch_queue.specs.Living.{LeftValue, all_below}
-use Rattle.stretch_queue.proofs.Places.{full_paths}
+use Rattle.stretch_groups.specs.Living.{LeftValue, all_below}
+use Rattle.stretch_groups.proofs.Places.{full_paths}
 use Rattle.stretch_queue.specs.QueueState.{QueueState, IsQueue}
-use Rattle.stretch_queue.specs.Refusals.{IsOfWorkers}
-use Rattle.stretch_queue.specs.Steady.{AreDistinct, IsBack, IsSteady, IsAwaiting}
+use Rattle.stretch_groups.specs.Refusals.{IsOfWorkers}
+use Rattle.stretch_groups.specs.Steady.{AreDistinct, IsBack, IsSteady, IsAwaiting}
 use Rattle.stretch_queue.proofs.HandedOut.{Struck, one_more, one_less, found, none_out, not_both}
 use Rattle.stretch_queue.proofs.Steady.{Lent, CameBack, Landed, handed_out, delivered, group_back, late_back, awaited_back, none_awaited, is_awaited, none_ready, opened_again, opened_anew, all_paired, none_held, not_empty, still_runs}
 

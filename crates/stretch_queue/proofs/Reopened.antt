@@ -6,19 +6,19 @@ use Rattle.superstep_memory.specs.PathOrder.{in_path_order}
 use Rattle.programs.specs.Meaning.{children}
 use Rattle.program_stretches.specs.declared.fault.Outcome as outcomes
 use Rattle.program_stretches.specs.declared.fault.Outcome.TheVariants as outcome
-use Rattle.program_stretches.specs.PartValue.{PartValue}
-use Rattle.program_stretches.specs.Parts.{Reading, AreFresh, tasks_in, living_in, renewed}
+use Rattle.stretch_parts.specs.PartValue.{PartValue}
+use Rattle.stretch_parts.specs.Parts.{Reading, AreFresh, tasks_in, living_in, renewed}
 use Rattle.program_stretches.specs.StretchesValue.{StretchesValue, ready_at, tasks_at, living_at, faulted_at, status_in, can_leave}
 use Rattle.program_stretches.specs.Closing.{AllStay, IsClosed, IsReopened}
 use Rattle.program_stretches.proofs.Reopening.{fresh_stay}
-use Rattle.stretch_queue.specs.declared.engine.Closed as closings
-use Rattle.stretch_queue.specs.declared.engine.Closed.TheVariants as closed
-use Rattle.stretch_queue.specs.declared.fault.Refused.{Refused}
-use Rattle.stretch_queue.specs.declared.fault.Refused.TheVariants as refused
-use Rattle.stretch_queue.specs.AtRest.{IsAtRest, CanBegin}
-use Rattle.stretch_queue.specs.Living.{all_below}
+use Rattle.stretch_groups.specs.declared.engine.Closed as closings
+use Rattle.stretch_groups.specs.declared.engine.Closed.TheVariants as closed
+use Rattle.stretch_groups.specs.declared.fault.Refused.{Refused}
+use Rattle.stretch_groups.specs.declared.fault.Refused.TheVariants as refused
+use Rattle.stretch_groups.specs.AtRest.{IsAtRest, CanBegin}
+use Rattle.stretch_groups.specs.Living.{all_below}
 use Rattle.stretch_queue.specs.Leaving.{Reopens, closed_by, out_at}
-use Rattle.stretch_queue.specs.Refusals.{IsOfWorkers}
+use Rattle.stretch_groups.specs.Refusals.{IsOfWorkers}
 use Rattle.stretch_queue.proofs.SlotPaths.{tasks_listed, living_listed, ordered, none_faulted, renewed_live}
 use Rattle.stretch_queue.proofs.Slots.{at_rest, fresh_none_out, fresh_leaves, fault_ends, fault_leaves}
 

@@ -8,11 +8,11 @@ use Rattle.programs.specs.Changes.{change_in}
 use Rattle.programs.specs.DeedValue.{DeedValue}
 use Rattle.programs.specs.InPlace.{kept, living_with}
 use Rattle.programs.proofs.InPlace.{all_stay}
-use Rattle.program_stretches.specs.PartValue.{PartValue}
-use Rattle.program_stretches.specs.Parts.{EachDid, of_slot, in_turn, tasks_in, living_in, renewed}
+use Rattle.stretch_parts.specs.PartValue.{PartValue}
+use Rattle.stretch_parts.specs.Parts.{EachDid, of_slot, in_turn, tasks_in, living_in, renewed}
 use Rattle.program_stretches.specs.StretchesValue.{tasks_at, living_at, faulted_at}
 use Rattle.program_stretches.specs.Closing.{AllStay}
-use Rattle.stretch_queue.specs.Living.{living_after, all_below}
+use Rattle.stretch_groups.specs.Living.{living_after, all_below}
 
 first_below : {A : Type 0} (f : ℕ → List A) (n : ℕ) → all_below f (suc n) ≡ f 0 ++ all_below (λ k. f (suc k)) n
 first_below f zero = sym (append-nil (f 0))

@@ -5,14 +5,14 @@ use Rattle.std.proofs.lemmas.List.{length-map}
 use Rattle.phase_records.specs.Status.{Status}
 use Rattle.programs.specs.InPlace.{left_in, spawned_in}
 use Rattle.programs.specs.Changes.{change_in}
-use Rattle.program_stretches.specs.PartValue.{PartValue}
-use Rattle.program_stretches.specs.Parts.{AreFresh, covers, is_done, tasks_in}
+use Rattle.stretch_parts.specs.PartValue.{PartValue}
+use Rattle.stretch_parts.specs.Parts.{AreFresh, covers, is_done, tasks_in}
 use Rattle.program_stretches.specs.StretchesValue.{StretchesValue, StretchValue, with_slot, ready_at, tasks_at, living_at, faulted_at, status_in, status_for, is_at_limit, left_after, can_leave}
 use Rattle.program_stretches.specs.Closing.{AllStay, IsTaken, Accepts}
 use Rattle.program_stretches.proofs.Reopening.{fresh_covers}
-use Rattle.stretch_queue.specs.AtRest.{IsAtRest}
+use Rattle.stretch_groups.specs.AtRest.{IsAtRest}
 use Rattle.stretch_queue.specs.Leaving.{out_at}
-use Rattle.stretch_queue.specs.Living.{living_after}
+use Rattle.stretch_groups.specs.Living.{living_after}
 use Rattle.stretch_queue.proofs.SlotPaths.{tasks_listed, living_told, other_slot, this_slot}
 
 not_false : false ≡ true → ⊥

@@ -5,15 +5,15 @@ use Rattle.std.proofs.Common.{◌≡◌, ◌≢◌, ◌<◌, ◌+◌, ◌⊎◌,
 use Rattle.superstep_memory.specs.PathOrder.{in_path_order}
 use Rattle.pass_list.specs.declared.rule.Ticket.{Ticket}
 use Rattle.pass_list.specs.Passed.{IsOut, without, ticket}
-use Rattle.stretch_queue.specs.AtRest.{IsAtRest}
-use Rattle.stretch_queue.specs.EngineReading.{EngineReading}
-use Rattle.stretch_queue.specs.Grouping.{numbers_from}
-use Rattle.stretch_queue.specs.Groups.{GroupValue, group_of, groups_with, numbers_of, places_for}
-use Rattle.stretch_queue.specs.HandedOut.{Each, OneIs}
-use Rattle.stretch_queue.specs.Living.{LeftValue, all_below}
-use Rattle.stretch_queue.specs.Steady.{IsApart, AreDistinct, AreUnlike, IsReady, HasRun, IsBack, IsOfThis, IsOfLast, IsSteady, IsAwaited, IsAwaiting}
+use Rattle.stretch_groups.specs.AtRest.{IsAtRest}
+use Rattle.stretch_groups.specs.EngineReading.{EngineReading}
+use Rattle.stretch_groups.specs.Grouping.{numbers_from}
+use Rattle.stretch_groups.specs.Groups.{GroupValue, group_of, groups_with, numbers_of, places_for}
+use Rattle.stretch_groups.specs.HandedOut.{Each, OneIs}
+use Rattle.stretch_groups.specs.Living.{LeftValue, all_below}
+use Rattle.stretch_groups.specs.Steady.{IsApart, AreDistinct, AreUnlike, IsReady, HasRun, IsBack, IsOfThis, IsOfLast, IsSteady, IsAwaited, IsAwaiting}
 use Rattle.stretch_queue.proofs.HandedOut.{each_here, each_if, each_without, not_both, same_key, one_left, one_map}
-use Rattle.stretch_queue.proofs.Places.{each_map, each_two, each_last, each_one, distinct_last, numbers_all, numbers_distinct, numbers_one, numbers_with, place_of, apart_place, in_place, one_last, one_here, set_here, set_else, set_length, same_or_not}
+use Rattle.stretch_groups.proofs.Places.{each_map, each_two, each_last, each_one, distinct_last, numbers_all, numbers_distinct, numbers_one, numbers_with, place_of, apart_place, in_place, one_last, one_here, set_here, set_else, set_length, same_or_not}
 
 -- ---- tickets
 

@@ -8,14 +8,14 @@ use Rattle.phase_records.specs.Status.{Status, Ended, Fault, Limit}
 use Rattle.programs.specs.Meaning.{children}
 use Rattle.programs.specs.Superstep.{State}
 use Rattle.programs.specs.History.{OfState, HasRunTo}
-use Rattle.program_stretches.specs.PartValue.{PartValue}
-use Rattle.program_stretches.specs.Parts.{Reading, AreFresh, covers, tasks_in}
+use Rattle.stretch_parts.specs.PartValue.{PartValue}
+use Rattle.stretch_parts.specs.Parts.{Reading, AreFresh, covers, tasks_in}
 use Rattle.program_stretches.specs.Opening.{OpeningValue, live_of, states_by, Opens, AllOpen}
 use Rattle.program_stretches.specs.Reached.{with_before}
 use Rattle.program_stretches.specs.StretchesValue.{StretchesValue, status_for, status_in, can_leave, ready_at, tasks_at, with_slot}
 use Rattle.program_stretches.specs.Closing.{AllStay, CountsAs, HasLeftTo, HasLeft}
 use Rattle.program_stretches.proofs.Reopening.{fresh_covers}
-use Rattle.stretch_queue.specs.AtRest.{CanBegin}
+use Rattle.stretch_groups.specs.AtRest.{CanBegin}
 use Rattle.stretch_queue.specs.Leaving.{out_at}
 use Rattle.stretch_queue.proofs.HandedOut.{not_both}
 use Rattle.stretch_queue.proofs.Reopened.{begins}

@@ -4,14 +4,14 @@ use Rattle.atomic_table.specs.Seated.{TableId}
 use Rattle.phase_records.specs.ReportValue.{ReportValue}
 use Rattle.program_stretches.specs.declared.fault.Outcome as outcomes
 use Rattle.program_stretches.specs.declared.fault.Outcome.TheVariants as outcome
-use Rattle.program_stretches.specs.PartValue.{PartValue}
-use Rattle.program_stretches.specs.Parts.{Reading}
+use Rattle.stretch_parts.specs.PartValue.{PartValue}
+use Rattle.stretch_parts.specs.Parts.{Reading}
 use Rattle.program_stretches.specs.StretchesValue.{StretchesValue, StretchValue}
 use Rattle.program_stretches.specs.Closing.{IsClosed, IsReopened, HasLeft, Logs}
 use Rattle.snapshot_log.specs.Agreed.{LogValue}
 use Rattle.program_stretches.specs.Opening.{OpeningValue}
-use Rattle.stretch_queue.specs.declared.engine.Closed as closings
-use Rattle.stretch_queue.specs.declared.engine.Closed.TheVariants as closed
+use Rattle.stretch_groups.specs.declared.engine.Closed as closings
+use Rattle.stretch_groups.specs.declared.engine.Closed.TheVariants as closed
 
 module _ {Q S T : Type 0} where
   -- the outcome of a run that began with the first opening of the log of this name, without what its first `given` supersteps

@@ -1,16 +1,6 @@
 pub mod QueueValue
-pub mod Refusals
-pub mod Living
-pub mod Segments
-pub mod Sorted
-pub mod Changes
 pub mod Leaving
 pub mod Watched
-pub mod HandedOut
-pub mod Grouping
-pub mod Groups
-pub mod AtRest
-pub mod EngineReading
-pub mod Steady
+pub mod PassLists
 pub mod QueueState
 pub mod QueueView

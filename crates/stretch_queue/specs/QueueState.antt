@@ -1,13 +1,14 @@
 -- The state of the queue, and what always holds for it (own).
 use Rattle.std.specs.Prelude.{◌≡◌, ◌||◌, ℕ, Bool, true, false, List, [], Option, None, IfSome, is_some}
 use Rattle.atomic_table.specs.Seated.{TableId}
-use Rattle.stretch_queue.specs.declared.fault.Refused.{Refused}
+use Rattle.stretch_groups.specs.declared.fault.Refused.{Refused}
 use Rattle.stretch_queue.specs.declared.queue.Lists.{Lists}
-use Rattle.stretch_queue.specs.EngineReading.{EngineReading}
-use Rattle.stretch_queue.specs.Groups.{GroupValue}
-use Rattle.stretch_queue.specs.HandedOut.{AreOut, AreNamed}
-use Rattle.stretch_queue.specs.Refusals.{IsOfWorkers}
-use Rattle.stretch_queue.specs.Steady.{IsSteady, IsAwaiting}
+use Rattle.stretch_groups.specs.EngineReading.{EngineReading}
+use Rattle.stretch_groups.specs.Groups.{GroupValue}
+use Rattle.stretch_groups.specs.HandedOut.{AreOut}
+use Rattle.stretch_groups.specs.Refusals.{IsOfWorkers}
+use Rattle.stretch_groups.specs.Steady.{IsSteady, IsAwaiting}
+use Rattle.stretch_queue.specs.PassLists.{AreNamed}
 
 -- The engine; the lists of passes; the ready groups, and those that are back; whether a task came or left in this superstep;
 -- whether groups of the superstep before are awaited, since the tasks were cut anew, and the places for them; and the first refusal.

@@ -1,8 +1,8 @@
 -- An engine as workers share it, and what came first of all that refused the run (own).
 use Rattle.std.specs.Prelude.{◌==◌, ◌||◌, ◌&&◌, Bool, not, List, length, Option, Some, is_some}
 use Rattle.std.specs.Option.{unwrap_or}
-use Rattle.stretch_queue.specs.declared.fault.Refused.{Refused}
-use Rattle.stretch_queue.specs.Groups.{GroupValue}
+use Rattle.stretch_groups.specs.declared.fault.Refused.{Refused}
+use Rattle.stretch_groups.specs.Groups.{GroupValue}
 
 pub record QueueValue (E : Type 0) : Type 0 where
   pub engine : E

@@ -5,12 +5,12 @@ use Rattle.snapshot_log.specs.Agreed.{LogValue}
 use Rattle.phase_records.specs.ReportValue.{ReportValue}
 use Rattle.programs.specs.History.{HasRunTo}
 use Rattle.program_stretches.specs.declared.fault.Outcome as outcomes
-use Rattle.program_stretches.specs.Parts.{Reading}
+use Rattle.stretch_parts.specs.Parts.{Reading}
 use Rattle.program_stretches.specs.Opening.{OpeningValue, live_of}
 use Rattle.program_stretches.specs.StretchesValue.{StretchesValue, status_in, can_leave, can_stop}
 use Rattle.program_stretches.specs.Closing.{IsClosed}
-use Rattle.stretch_queue.specs.declared.engine.Closed as closings
-use Rattle.stretch_queue.specs.declared.engine.Closed.TheVariants as closed
+use Rattle.stretch_groups.specs.declared.engine.Closed as closings
+use Rattle.stretch_groups.specs.declared.engine.Closed.TheVariants as closed
 use Rattle.stretch_queue.specs.Leaving.{closed_by}
 
 -- a run that workers share, and whether its watcher has stopped it

@@ -1,20 +1,20 @@
 //! The stretches of a program as an engine, with a watcher.
 ghost use Rattle.std.specs.Prelude.{◌≡◌, ◌≢◌, None, Err, true, false, IfOk, OnOk, OnErr};
-ghost use Rattle.program_stretches.specs.Parts.{reading_of, covers};
+ghost use Rattle.stretch_parts.specs.Parts.{reading_of, covers};
 ghost use Rattle.program_stretches.specs.StretchesValue.{status_in};
 ghost use Rattle.program_stretches.specs.Closing.{IsSameRun};
 ghost use Rattle.stretch_queue.specs.Leaving.{IsClosedBy, Reopens, LogsBy};
-ghost use Rattle.stretch_queue.specs.declared.fault.Reason.TheVariants as reason;
+ghost use Rattle.stretch_groups.specs.declared.fault.Reason.TheVariants as reason;
 
-use crate::engine;
-use crate::engine::{Closed, Engine};
-use crate::fault::{Reason, reason_of_closing};
 use program_stretches::{Left, Outcome, Stretch, Stretches};
 use programs::deeds::Change;
 use programs::program::{Program, TaskLoop};
 use programs::watch::Watch;
 use std::alloc::{AllocError, Global};
 use std::marker::Model;
+use stretch_groups::engine;
+use stretch_groups::engine::{Closed, Engine};
+use stretch_groups::fault::{Reason, reason_of_closing};
 use superstep_memory::path::Path;
 
 /// A stretch that a worker holds.
@@ -164,7 +164,7 @@ impl<'t, 'p, 'w, P: Program, W: Watch> Run<'t, 'p, 'w, P, W> {
 
 impl<'t, 'p, 'w, P: TaskLoop, W: Watch> Engine for Run<'t, 'p, 'w, P, W> {
     ghost use Rattle.std.specs.Prelude.{◌≡◌, Some, true, length, map, slice_get};
-    ghost use Rattle.program_stretches.specs.Parts.{reading_of, covers};
+    ghost use Rattle.stretch_parts.specs.Parts.{reading_of, covers};
     ghost use Rattle.program_stretches.specs.StretchesValue.{ready_at, tasks_at, living_at, faulted_at, with_slot};
     ghost use Rattle.program_stretches.specs.Closing.{IsTaken, Accepts, IsSameRun, AllStay};
     ghost use Rattle.stretch_queue.specs.Leaving.{out_at};

@@ -1,68 +1,21 @@
 //! The engine that the workers of a run share, and which of its stretches are ready.
 ghost use Rattle.std.specs.Prelude.{◌≡◌, [], true, false, None, Err, IfOk, IfErr};
-ghost use Rattle.stretch_queue.specs.HandedOut.{AreNew};
-ghost use Rattle.stretch_queue.specs.declared.fault.Reason.TheVariants as reason;
-ghost use Rattle.stretch_queue.specs.declared.fault.Refused.TheVariants as refused;
+ghost use Rattle.stretch_queue.specs.PassLists.{AreNew};
+ghost use Rattle.stretch_groups.specs.declared.fault.Reason.TheVariants as reason;
+ghost use Rattle.stretch_groups.specs.declared.fault.Refused.TheVariants as refused;
 
-use crate::engine::{Closed, Engine, Stretch};
-use crate::fault::{Reason, Refused};
-use crate::groups::{Coming, push_group, regrouped};
-use crate::hand::{Changes, HeldStretch, RanStretch};
-use crate::led::Led;
-use crate::participant::{Group, HeldGroup, Leaving, Stopped};
 use pass_list::list::PassList;
 use std::alloc::{AllocError, Global};
 use std::collections::VecDeque;
-use std::marker::{Brand, Model, PhantomData};
+use std::marker::{Model, PhantomData};
 use std::mem;
-
-/// Identifies a run in contracts: the mark of its engine, the number of workers, the tree at which they meet, and the lists of
-/// the passes for stretches, and for workers that have stopped. Each run picks a type for it.
-pub trait Running {
-    ghost use Rattle.std.specs.Prelude.{ℕ};
-    ghost use Rattle.tier_table.specs.Holding.{Named};
-    ghost use Rattle.atomic_table.specs.Seated.{TableId};
-
-    ghost mark: { TableId };
-
-    ghost workers: { ℕ };
-
-    ghost tree: { Named };
-
-    ghost passes: { TableId };
-
-    ghost stops: { TableId };
-}
-
-/// Identifies in contracts the list of the passes for groups of a run. Each run picks a type for it.
-pub trait GroupList {
-    ghost use Rattle.atomic_table.specs.Seated.{TableId};
-
-    ghost groups: { TableId };
-}
-
-impl Running for Brand {
-    ghost use Rattle.std.specs.Prelude.{[], false, None};
-
-    ghost mark = { record { words = 0; slots = 0; views_name = 0; atom = 0; block = 0; offset = 0; slot_names = [] } };
-
-    ghost workers = { 1 };
-
-    ghost tree = { record {
-      id = record { words = 0; slots = 0; views_name = 0; atom = 0; block = 0; offset = 0; slot_names = [] };
-      key = record { shape = []; phase = 0; plan = record { when_empty = false; at = None } };
-    } };
-
-    ghost passes = { record { words = 0; slots = 0; views_name = 0; atom = 0; block = 0; offset = 0; slot_names = [] } };
-
-    ghost stops = { record { words = 0; slots = 0; views_name = 0; atom = 0; block = 0; offset = 0; slot_names = [] } };
-}
-
-impl GroupList for Brand {
-    ghost use Rattle.std.specs.Prelude.{[]};
-
-    ghost groups = { record { words = 0; slots = 0; views_name = 0; atom = 0; block = 0; offset = 0; slot_names = [] } };
-}
+use stretch_groups::engine::{Closed, Engine, Stretch};
+use stretch_groups::fault::{Reason, Refused};
+use stretch_groups::groups::{Coming, push_group, regrouped};
+use stretch_groups::hand::{Changes, HeldStretch, RanStretch};
+use stretch_groups::led::Led;
+use stretch_groups::participant::{Group, HeldGroup, Leaving, Stopped};
+pub use stretch_groups::running::{GroupList, Running};
 
 /// The pass lists of a run.
 #[derive(Drop)]
@@ -119,7 +72,7 @@ pub enum HandedBack {
 }
 
 impl<E: Engine, J: Running, L: GroupList> Model for Queue<E, J, L> {
-    ghost use Rattle.stretch_queue.specs.EngineReading.{read_by};
+    ghost use Rattle.stretch_groups.specs.EngineReading.{read_by};
     ghost use Rattle.stretch_queue.specs.QueueState.{IsQueue};
     ghost use Rattle.stretch_queue.specs.QueueValue.{QueueValue};
     ghost use Rattle.stretch_queue.specs.QueueView.{queue_of, queue_value};
@@ -135,15 +88,16 @@ impl<E: Engine, J: Running, L: GroupList> Model for Queue<E, J, L> {
 
 impl<E: Engine, J: Running, L: GroupList> Queue<E, J, L> {
     ghost use Rattle.std.specs.Prelude.{◌≡◌, ◌≢◌, [], None, Some, Err, true, false, is_some, IsTrue, IfOk, IfSome, IfErr, OnOk, OnErr};
+    ghost use Rattle.stretch_queue.specs.PassLists.{AreNew, AreNamed};
     ghost use Rattle.stretch_queue.specs.QueueValue.{with_engine, refused_by, is_over, is_idle};
-    ghost use Rattle.stretch_queue.specs.AtRest.{CanBegin};
-    ghost use Rattle.stretch_queue.specs.Groups.{groups_with};
-    ghost use Rattle.stretch_queue.specs.Changes.{Tells};
-    ghost use Rattle.stretch_queue.specs.HandedOut.{AreNew, AreNamed, AreLeft};
-    ghost use Rattle.stretch_queue.specs.Living.{living_by};
-    ghost use Rattle.stretch_queue.specs.Refusals.{IsOfWorkers, refusal_of};
-    ghost use Rattle.stretch_queue.specs.declared.fault.Reason.TheVariants as reason;
-    ghost use Rattle.stretch_queue.specs.declared.fault.Refused.TheVariants as refused;
+    ghost use Rattle.stretch_groups.specs.AtRest.{CanBegin};
+    ghost use Rattle.stretch_groups.specs.Groups.{groups_with};
+    ghost use Rattle.stretch_groups.specs.Changes.{Tells};
+    ghost use Rattle.stretch_groups.specs.HandedOut.{AreLeft};
+    ghost use Rattle.stretch_groups.specs.Living.{living_by};
+    ghost use Rattle.stretch_groups.specs.Refusals.{IsOfWorkers, refusal_of};
+    ghost use Rattle.stretch_groups.specs.declared.fault.Reason.TheVariants as reason;
+    ghost use Rattle.stretch_groups.specs.declared.fault.Refused.TheVariants as refused;
 
     /// Creates a queue for this engine. None of its stretches is out or has run. `ready` has the groups of all its stretches, by
     /// number, unless the run is refused from the start.

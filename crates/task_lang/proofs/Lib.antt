@@ -1,5 +1,4 @@
 pub mod AllSegments
-pub mod Begins
 pub mod Behind
 pub mod Firsts
 pub mod Joined

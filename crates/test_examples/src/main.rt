@@ -27,26 +27,37 @@ const BY_FOUR: [&str; 6] = ["bsp", "run", "--workers", "4", "--tree", "2x2"];
 
 const BENCH: [&str; 3] = ["bench/many", "bench/ring", "bench/spawns"];
 
+// By three workers 40 times, and by four once.
+const BY_THREE: Sharing = Sharing {
+    words: &SHARED,
+    times: 40,
+};
+
+const ONCE_BY_FOUR: Sharing = Sharing {
+    words: &BY_FOUR,
+    times: 1,
+};
+
 const JOBS: [&str; 5] = ["breadth", "halves", "prefix", "sort", "swap"];
 
-// The jobs of the gallery, which one worker runs, and four.
+// The jobs of the gallery.
 const GALLERY: [&str; 16] = [
-    "bitonic",
-    "collatz",
-    "components",
-    "events",
-    "histogram",
-    "histogram2",
-    "jacobi",
-    "life",
-    "matrix",
-    "paths",
-    "queens",
-    "queens2",
-    "ranking",
-    "sieve",
-    "treesum",
-    "treesum2",
+    "gallery/bitonic",
+    "gallery/collatz",
+    "gallery/components",
+    "gallery/events",
+    "gallery/histogram",
+    "gallery/histogram2",
+    "gallery/jacobi",
+    "gallery/life",
+    "gallery/matrix",
+    "gallery/paths",
+    "gallery/queens",
+    "gallery/queens2",
+    "gallery/ranking",
+    "gallery/sieve",
+    "gallery/treesum",
+    "gallery/treesum2",
 ];
 
 // The words that draw a job on one worker, and on four.
@@ -255,20 +266,34 @@ fn run_traces<R: AllocGlobal + Files + Print + Threads + Wait + Sync>(rt: &R) ->
     Ok(())
 }
 
-// Whether a job prints what is stored each time that three workers run it.
-fn is_shared<R: Threads + Wait + Sync>(rt: &R, alloc: Global, text: &str, want: &str) -> bool {
-    for _ in 0..40 {
-        if !prints(rt, alloc, &SHARED, text, want) {
+// The words that run a job on several workers, and how often they do.
+#[derive(Clone, Copy)]
+struct Sharing {
+    words: &'static [&'static str],
+    times: u32,
+}
+
+// Whether a job prints what is stored each time that several workers run it.
+fn is_shared<R: Threads + Wait + Sync>(
+    rt: &R,
+    alloc: Global,
+    text: &str,
+    want: &str,
+    sharing: Sharing,
+) -> bool {
+    for _ in 0..sharing.times {
+        if !prints(rt, alloc, sharing.words, text, want) {
             return false;
         }
     }
     true
 }
 
-// Whether a job prints what is stored, on one worker and on three, and its text is taken.
+// Whether a job prints what is stored, on one worker and on several, and its text is taken; so too in format 2.
 fn is_job<R: AllocGlobal + Files + Threads + Wait + Sync>(
     rt: &R,
     name: &str,
+    sharing: Sharing,
 ) -> Result<bool, Error> {
     let alloc = rt.alloc();
     let text = stored(rt, name, "job")?;
@@ -276,15 +301,19 @@ fn is_job<R: AllocGlobal + Files + Threads + Wait + Sync>(
     Ok(
         is_taken(rt, alloc, text.as_str())
             && prints(rt, alloc, &ALONE, text.as_str(), want.as_str())
-            && is_shared(rt, alloc, text.as_str(), want.as_str())
+            && is_shared(rt, alloc, text.as_str(), want.as_str(), sharing)
             && stays(rt, alloc, text.as_str(), want.as_str())?,
     )
 }
 
-// Runs the jobs.
-fn run_jobs<R: AllocGlobal + Files + Print + Threads + Wait + Sync>(rt: &R) -> Result<(), Error> {
-    for name in JOBS {
-        let said = verdict(is_job(rt, name)?);
+// Runs jobs.
+fn run_jobs<R: AllocGlobal + Files + Print + Threads + Wait + Sync>(
+    rt: &R,
+    names: &[&'static str],
+    sharing: Sharing,
+) -> Result<(), Error> {
+    for name in names {
+        let said = verdict(is_job(rt, name, sharing)?);
         println!(rt; "{name}.job {said}")?;
     }
     Ok(())
@@ -313,34 +342,6 @@ fn run_bench<R: AllocGlobal + Files + Print + Threads + Wait + Sync>(rt: &R) -> 
             "leaves something else in format 2"
         };
         println!(rt; "{name}.job {said}")?;
-    }
-    Ok(())
-}
-
-// Whether a job of the gallery prints what is stored, on one worker and on four, and its text is taken; so too in format 2.
-fn is_of_gallery<R: AllocGlobal + Files + Threads + Wait + Sync>(
-    rt: &R,
-    name: &str,
-) -> Result<bool, Error> {
-    let alloc = rt.alloc();
-    let name = format!(in alloc; "gallery/{name}")?;
-    let text = stored(rt, name.as_str(), "job")?;
-    let want = stored(rt, name.as_str(), "out")?;
-    Ok(
-        is_taken(rt, alloc, text.as_str())
-            && prints(rt, alloc, &ALONE, text.as_str(), want.as_str())
-            && prints(rt, alloc, &BY_FOUR, text.as_str(), want.as_str())
-            && stays(rt, alloc, text.as_str(), want.as_str())?,
-    )
-}
-
-// Runs the jobs of the gallery.
-fn run_gallery<R: AllocGlobal + Files + Print + Threads + Wait + Sync>(
-    rt: &R,
-) -> Result<(), Error> {
-    for name in GALLERY {
-        let said = verdict(is_of_gallery(rt, name)?);
-        println!(rt; "gallery/{name}.job {said}")?;
     }
     Ok(())
 }
@@ -460,8 +461,8 @@ fn run_rows<R: AllocGlobal + Files + Print + Threads + Wait + Sync>(rt: &R) -> R
 
 fn main(rt: HostRuntime) -> Result<(), Error> {
     run_traces(&rt)?;
-    run_jobs(&rt)?;
-    run_gallery(&rt)?;
+    run_jobs(&rt, &JOBS, BY_THREE)?;
+    run_jobs(&rt, &GALLERY, ONCE_BY_FOUR)?;
     run_bench(&rt)?;
     draw_pictures(&rt)?;
     run_rows(&rt)

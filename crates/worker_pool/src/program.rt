@@ -3,11 +3,11 @@ ghost use Rattle.std.specs.Prelude.{◌≡◌, ◌≤◌, ◌<◌, ◌^◌, ◌�
 ghost use Rattle.advance_rule.specs.Stored.{Answers};
 ghost use Rattle.advance_rule.specs.Plan.{end_ends_at};
 ghost use Rattle.program_stretches.specs.Opening.{OpeningValue, live_of};
-ghost use Rattle.program_stretches.specs.Parts.{AreFresh, tasks_in};
+ghost use Rattle.stretch_parts.specs.Parts.{AreFresh, tasks_in};
 ghost use Rattle.programs.specs.Meaning.{children};
 ghost use Rattle.programs.specs.History.{HasRun, HasRunTo};
 ghost use Rattle.worker_pool.specs.JobPlan.{limit_of, IsJobPlan};
-ghost use Rattle.stretch_queue.specs.Refusals.{IsOfWorkers};
+ghost use Rattle.stretch_groups.specs.Refusals.{IsOfWorkers};
 ghost use Rattle.stretch_queue.specs.Watched.{IsOpened};
 
 use crate::run::{limit_in, run_engine, stretches_wanted};

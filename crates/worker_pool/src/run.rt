@@ -7,12 +7,12 @@ ghost use Rattle.advance_rule.specs.Plan.{end_ends_at};
 ghost use Rattle.tier_shape.specs.Leaves.{leaves_of};
 ghost use Rattle.tier_shape.specs.Preferred.{leaf_at};
 ghost use Rattle.tier_table.specs.Ruled.{IsNew};
-ghost use Rattle.stretch_queue.specs.AtRest.{CanBegin};
-ghost use Rattle.stretch_queue.specs.Groups.{groups_with};
-ghost use Rattle.stretch_queue.specs.HandedOut.{AreNew, AreNamed};
+ghost use Rattle.stretch_groups.specs.AtRest.{CanBegin};
+ghost use Rattle.stretch_groups.specs.Groups.{groups_with};
+ghost use Rattle.stretch_queue.specs.PassLists.{AreNew, AreNamed};
 ghost use Rattle.worker_pool.specs.JobPlan.{limit_of, IsJobPlan};
-ghost use Rattle.stretch_queue.specs.Living.{all_below};
-ghost use Rattle.stretch_queue.specs.Refusals.{IsOfWorkers, refusal_of};
+ghost use Rattle.stretch_groups.specs.Living.{all_below};
+ghost use Rattle.stretch_groups.specs.Refusals.{IsOfWorkers, refusal_of};
 ghost use Rattle.programs.specs.Meaning.{children};
 
 use crate::leaves::{Leaves, leaves_in};

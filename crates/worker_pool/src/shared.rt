@@ -1,6 +1,6 @@
 //! What the workers of a run share.
 ghost use Rattle.std.specs.Prelude.{◌≡◌, ◌++◌, ◌∷◌, [], IfErr, OnOk};
-ghost use Rattle.stretch_queue.specs.declared.fault.Reason.TheVariants as reason;
+ghost use Rattle.stretch_groups.specs.declared.fault.Reason.TheVariants as reason;
 
 use crate::tree::WorkerTree;
 use programs::deeds::Change;
@@ -58,15 +58,15 @@ fn room_for(changes: &[Change]) -> usize {
 
 impl<E: Engine, J: Running, L: GroupList, F: Fn(u32, u32) -> bool> Shared<E, J, L, F> {
     ghost use Rattle.std.specs.Prelude.{◌≡◌, ◌<◌, ◌++◌, ◌∷◌, [], true, false, Some, is_some, IfOk, IfErr, OnOk, map};
-    ghost use Rattle.stretch_queue.specs.declared.fault.Reason.TheVariants as reason;
+    ghost use Rattle.stretch_groups.specs.declared.fault.Reason.TheVariants as reason;
     ghost use Rattle.advance_rule.specs.Stored.{Answers};
     ghost use Rattle.advance_rule.specs.Plan.{end_ends_at};
-    ghost use Rattle.stretch_queue.specs.Changes.{Tells};
-    ghost use Rattle.stretch_queue.specs.HandedOut.{AreLeft};
-    ghost use Rattle.stretch_queue.specs.Living.{living_after, living_by};
+    ghost use Rattle.stretch_groups.specs.Changes.{Tells};
+    ghost use Rattle.stretch_groups.specs.HandedOut.{AreLeft};
+    ghost use Rattle.stretch_groups.specs.Living.{living_after, living_by};
     ghost use Rattle.programs.specs.Changes.{change_of};
     ghost use Rattle.programs.specs.InPlace.{kept};
-    ghost use Rattle.stretch_queue.specs.Refusals.{IsOfWorkers};
+    ghost use Rattle.stretch_groups.specs.Refusals.{IsOfWorkers};
 
     /// Returns what a worker does next. Waits until a stretch is ready or workers stop. Fails only if memory runs out.
     pub(crate) fn next<R: Wait>(&self, rt: &R) -> Result<Next<E, J>, AllocError> {

@@ -4,7 +4,7 @@ ghost use Rattle.std.specs.Thread.{IsSync};
 ghost use Rattle.advance_rule.specs.Action.{AnswersAction};
 ghost use Rattle.advance_rule.specs.Stored.{Answers};
 ghost use Rattle.advance_rule.specs.Plan.{end_ends_at};
-ghost use Rattle.stretch_queue.specs.Refusals.{IsOfWorkers};
+ghost use Rattle.stretch_groups.specs.Refusals.{IsOfWorkers};
 
 use crate::shared::Shared;
 use crate::work::work;

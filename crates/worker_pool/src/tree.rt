@@ -44,8 +44,8 @@ impl<J: Running, F: Fn(u32, u32) -> bool> WorkerTree<J, F> {
     ghost use Rattle.tier_table.specs.Openings.{asked_tier};
     ghost use Rattle.tier_shape.specs.Preferred.{leaf_at};
     ghost use Rattle.worker_pool.specs.Entries.{IsOf, IsAtLeaf};
-    ghost use Rattle.stretch_queue.specs.Refusals.{IsOfTree};
-    ghost use Rattle.stretch_queue.specs.declared.fault.Reason.TheVariants as reason;
+    ghost use Rattle.stretch_groups.specs.Refusals.{IsOfTree};
+    ghost use Rattle.stretch_groups.specs.declared.fault.Reason.TheVariants as reason;
     ghost use Rattle.tier_table.specs.Arrives.{HasPassed};
     ghost use Rattle.tier_steps.specs.declared.view.Passage.TheVariants.{Arrival};
 

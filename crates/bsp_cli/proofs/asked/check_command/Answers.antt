@@ -1,10 +1,6 @@
-use Rattle.std.proofs.Common.{◌∙◌, ap₂, refl}
-use Rattle.clap.specs.Words.{with_rule}
+use Rattle.std.proofs.Common.{codes}
+use Rattle.bsp_cli.specs.CommandLine.{all_rule, text_app}
 use Rattle.bsp_cli.proofs.asked.check_command.Goals as goal
 
 pub returns-clause-app : goal.returns-clause-app
-returns-clause-app c =
-    c.in_ok-with_all.ensures.shape c.all_option.ensures.local ∙ ap₂ with_rule c.in_ok-bare.ensures.app c.all_option.ensures.rule
-
-pub returns-clause-local : goal.returns-clause-local
-returns-clause-local c = rw (c.in_ok-with_all.ensures.globals, c.all_option.ensures.local, c.in_ok-bare.ensures.local) refl
+returns-clause-app c = c.with_argument.ensures.app (text_app (codes "check")) all_rule c.text_command-bare.ensures.app c.all_option.ensures.rule

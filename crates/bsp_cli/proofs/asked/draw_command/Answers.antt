@@ -1,22 +1,13 @@
-use Rattle.std.proofs.Common.{◌∙◌, ap₂, refl}
-use Rattle.clap.specs.Words.{with_rule}
+use Rattle.std.proofs.Common.{codes}
+use Rattle.clap.specs.Words.{App, with_rule}
+use Rattle.bsp_cli.specs.CommandLine.{job_app, text_rule}
 use Rattle.bsp_cli.proofs.asked.draw_command.Goals as goal
 
 pub returns-clause-app : goal.returns-clause-app
 returns-clause-app c =
-    let width_is = c.in_ok-with_width.ensures.shape c.width_option.ensures.local ∙ ap₂ with_rule c.in_ok-bare.ensures.app c.width_option.ensures.rule in
-    let time_is = c.in_ok-with_time.ensures.shape c.over_time_option.ensures.local ∙ ap₂ with_rule width_is c.over_time_option.ensures.rule in
-    c.in_ok-with_title.ensures.shape c.title_option.ensures.local ∙ ap₂ with_rule time_is c.title_option.ensures.rule
-
-pub returns-clause-local : goal.returns-clause-local
-returns-clause-local c =
-    rw (
-      c.in_ok-with_title.ensures.globals,
-      c.title_option.ensures.local,
-      c.in_ok-with_time.ensures.globals,
-      c.over_time_option.ensures.local,
-      c.in_ok-with_width.ensures.globals,
-      c.width_option.ensures.local,
-      c.in_ok-bare.ensures.local,
-    )
-    refl
+    let width = text_rule (codes "width") in
+    let time = text_rule (codes "over-time") in
+    let with_width : App = with_rule (job_app (codes "draw")) width in
+    let width_is = c.with_argument-with_width.ensures.app (job_app (codes "draw")) width c.job_command-bare.ensures.app c.width_option.ensures.rule in
+    let time_is = c.with_argument-with_time.ensures.app with_width time width_is c.over_time_option.ensures.rule in
+    c.with_argument.ensures.app (with_rule with_width time) (text_rule (codes "title")) time_is c.title_option.ensures.rule

@@ -1,18 +1,19 @@
-use Rattle.std.proofs.Common.{◌∙◌, ap, ap₂}
-use Rattle.clap.specs.Words.{App, Shape, with_subcommand}
+use Rattle.std.proofs.Common.{codes, true}
+use Rattle.clap.specs.Words.{App, with_subcommand}
+use Rattle.bsp_cli.specs.CommandLine.{bare, check_app, draw_app, explain_app, run_app, text_app}
 use Rattle.bsp_cli.proofs.asked.parser.Goals as goal
 
 pub returns-clause-app : goal.returns-clause-app
 returns-clause-app c =
-    let top : App → Shape = λ (a : App). a.top in
-    let first = c.in_ok-with_trace.ensures.shape c.in_ok-trace_command.ensures.local
-    ∙ ap₂ with_subcommand c.bare_program.ensures (ap top c.in_ok-trace_command.ensures.app) in
-    let second = c.in_ok-with_check.ensures.shape c.in_ok-check_command.ensures.local
-    ∙ ap₂ with_subcommand first (ap top c.in_ok-check_command.ensures.app) in
-    let third = c.in_ok-with_upgrade.ensures.shape c.in_ok-upgrade_command.ensures.local
-    ∙ ap₂ with_subcommand second (ap top c.in_ok-upgrade_command.ensures.app) in
-    let fourth = c.in_ok-with_run.ensures.shape c.in_ok-run_command.ensures.local
-    ∙ ap₂ with_subcommand third (ap top c.in_ok-run_command.ensures.app) in
-    let fifth = c.in_ok-with_draw.ensures.shape c.in_ok-draw_command.ensures.local
-    ∙ ap₂ with_subcommand fourth (ap top c.in_ok-draw_command.ensures.app) in
-    c.in_ok-with_explain.ensures.shape c.in_ok-explain_command.ensures.local ∙ ap₂ with_subcommand fifth (ap top c.in_ok-explain_command.ensures.app)
+    let none : App = record bare { top = record bare.top { subcommand_required = true; has_version = true } } in
+    let one = with_subcommand none (text_app (codes "trace")).top in
+    let two = with_subcommand one check_app.top in
+    let three = with_subcommand two (text_app (codes "upgrade")).top in
+    let four = with_subcommand three run_app.top in
+    let five = with_subcommand four draw_app.top in
+    let trace_is = c.with_subcommand-with_trace.ensures.app none (text_app (codes "trace")) c.bare_program.ensures c.trace_command.ensures.app in
+    let check_is = c.with_subcommand-with_check.ensures.app one check_app trace_is c.check_command.ensures.app in
+    let upgrade_is = c.with_subcommand-with_upgrade.ensures.app two (text_app (codes "upgrade")) check_is c.upgrade_command.ensures.app in
+    let run_is = c.with_subcommand-with_run.ensures.app three run_app upgrade_is c.run_command.ensures.app in
+    let draw_is = c.with_subcommand-with_draw.ensures.app four draw_app run_is c.draw_command.ensures.app in
+    c.with_subcommand.ensures.app five explain_app draw_is c.explain_command.ensures.app

@@ -1,22 +1,11 @@
-use Rattle.std.proofs.Common.{◌∙◌, ap₂, refl}
-use Rattle.clap.specs.Words.{with_rule}
+use Rattle.std.proofs.Common.{codes}
+use Rattle.clap.specs.Words.{App, with_rule}
+use Rattle.bsp_cli.specs.CommandLine.{job_app, json_rule, progress_rule, stream_rule}
 use Rattle.bsp_cli.proofs.asked.run_command.Goals as goal
 
 pub returns-clause-app : goal.returns-clause-app
 returns-clause-app c =
-    let progress_is = c.in_ok-with_progress.ensures.shape c.progress_option.ensures.local ∙ ap₂ with_rule c.in_ok-bare.ensures.app c.progress_option.ensures.rule in
-    let json_is = c.in_ok-with_json.ensures.shape c.json_option.ensures.local ∙ ap₂ with_rule progress_is c.json_option.ensures.rule in
-    c.in_ok-with_stream.ensures.shape c.stream_option.ensures.local ∙ ap₂ with_rule json_is c.stream_option.ensures.rule
-
-pub returns-clause-local : goal.returns-clause-local
-returns-clause-local c =
-    rw (
-      c.in_ok-with_stream.ensures.globals,
-      c.stream_option.ensures.local,
-      c.in_ok-with_json.ensures.globals,
-      c.json_option.ensures.local,
-      c.in_ok-with_progress.ensures.globals,
-      c.progress_option.ensures.local,
-      c.in_ok-bare.ensures.local,
-    )
-    refl
+    let with_progress : App = with_rule (job_app (codes "run")) progress_rule in
+    let progress_is = c.with_argument-with_progress.ensures.app (job_app (codes "run")) progress_rule c.job_command-bare.ensures.app c.progress_option.ensures.rule in
+    let json_is = c.with_argument-with_json.ensures.app with_progress json_rule progress_is c.json_option.ensures.rule in
+    c.with_argument.ensures.app (with_rule with_progress json_rule) stream_rule json_is c.stream_option.ensures.rule

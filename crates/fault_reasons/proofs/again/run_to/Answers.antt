@@ -1,5 +1,5 @@
 use Rattle.std.proofs.Common.{map}
-use Rattle.task_lang.specs.Views.{plans, task_of}
+use Rattle.task_actions.specs.Views.{plans, task_of}
 use Rattle.fault_reasons.proofs.RanAgain.{run-again}
 use Rattle.fault_reasons.proofs.again.run_to.Goals as goal
 

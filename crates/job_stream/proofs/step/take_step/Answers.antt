@@ -1,7 +1,7 @@
 use Rattle.std.proofs.Common.{List, ap, sym, subst}
 use Rattle.snapshot_log.specs.Agreed.{WasBefore}
 use Rattle.program_stretches.specs.Opening.{OpeningValue}
-use Rattle.program_stretches.specs.Parts.{reading_of}
+use Rattle.stretch_parts.specs.Parts.{reading_of}
 use Rattle.program_stretches.specs.StretchesValue.{StretchesValue}
 use Rattle.job_stream.proofs.Streams.{given_after}
 use Rattle.job_stream.proofs.step.take_step.Goals as goal

@@ -1,5 +1,5 @@
 use Rattle.std.proofs.Common.{◌≡◌, List, length}
-use Rattle.task_lang.specs.Meaning.{Plan}
+use Rattle.task_actions.specs.Meaning.{Plan}
 use Rattle.step_parts.specs.Slots.{slots_of, first_missing}
 use Rattle.step_parts.proofs.closing.find_missing.Given as goal
 

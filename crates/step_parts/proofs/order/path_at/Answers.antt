@@ -1,5 +1,5 @@
 use Rattle.std.proofs.Common.{◌∙◌, ap, sym, Some, ℕ, List}
-use Rattle.task_lang.specs.TaskValue.{TaskValue}
+use Rattle.task_actions.specs.TaskValue.{TaskValue}
 use Rattle.step_parts.proofs.Deeds.{path_got}
 use Rattle.step_parts.proofs.order.path_at.Goals as goal
 

@@ -1,10 +1,10 @@
 use Rattle.std.proofs.Common.{◌∙◌, sym, ap, subst, length, map, slice_get, is_some}
 use Rattle.job_program.specs.declared.job.JobProgram.{JobProgram}
-use Rattle.task_lang.specs.TaskValue.{TaskValue}
+use Rattle.task_actions.specs.TaskValue.{TaskValue}
 use Rattle.step_parts.specs.SlotParts.{path_in}
 use Rattle.program_stretches.specs.StretchesValue.{StretchesValue, ready_at, tasks_at, status_in, can_leave}
 use Rattle.program_stretches.specs.Closing.{AllStay}
-use Rattle.stretch_queue.specs.AtRest.{CanBegin}
+use Rattle.stretch_groups.specs.AtRest.{CanBegin}
 use Rattle.stretch_queue.specs.Leaving.{out_at}
 use Rattle.stretch_queue.proofs.Reopened.{begins}
 use Rattle.stream_workers.specs.Handed.{HandingValue}

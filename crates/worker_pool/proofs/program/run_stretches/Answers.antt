@@ -2,7 +2,7 @@ use Rattle.std.proofs.Common.{◌≡◌, ◌∙◌, ◌++◌, [], map, ap, sym, 
 use Rattle.programs.specs.Meaning.{children}
 use Rattle.programs.specs.History.{HasRunTo}
 use Rattle.program_stretches.specs.Opening.{OpeningValue, live_of}
-use Rattle.program_stretches.specs.Parts.{reading_of, AreFresh, tasks_in}
+use Rattle.stretch_parts.specs.Parts.{reading_of, AreFresh, tasks_in}
 use Rattle.program_stretches.specs.StretchesValue.{StretchesValue, status_in}
 use Rattle.program_stretches.proofs.Course.{last_same}
 use Rattle.stretch_queue.specs.Watched.{HasLeftWatched, IsOpened}

@@ -1,5 +1,5 @@
 use Rattle.std.proofs.Common.{◌≡◌, ◌∙◌, ◌++◌, ◌∷◌, [], ap, rules}
-use Rattle.stretch_queue.proofs.Grouping.{one_start_more}
+use Rattle.stretch_groups.proofs.Grouping.{one_start_more}
 use Rattle.worker_pool.proofs.run.register_all.Goals as goal
 
 pub loop-number-preserved : goal.loop-number-preserved

@@ -1,6 +1,6 @@
 use Rattle.std.proofs.Common.{◌≡◌, ◌∙◌, List, ap, sym, subst}
 use Rattle.snapshot_log.specs.Agreed.{LogValue, WasBefore}
-use Rattle.program_stretches.specs.Parts.{reading_of}
+use Rattle.stretch_parts.specs.Parts.{reading_of}
 use Rattle.program_stretches.specs.Opening.{OpeningValue}
 use Rattle.program_stretches.specs.StretchesValue.{StretchesValue, IsCourse}
 use Rattle.program_stretches.specs.StretchesView.{stretches_of}

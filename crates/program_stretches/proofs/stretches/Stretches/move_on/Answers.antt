@@ -4,7 +4,7 @@ use Rattle.superstep_memory.specs.PathOrder.{in_path_order}
 use Rattle.phase_records.specs.declared.record.PhaseRecord.{PhaseRecord}
 use Rattle.programs.specs.InPlace.{living_with}
 use Rattle.programs.proofs.InPlace.{few_left}
-use Rattle.program_stretches.specs.Parts.{reading_of, AreFresh, tasks_in, puts_in, deeds_in, prints_in}
+use Rattle.stretch_parts.specs.Parts.{reading_of, AreFresh, tasks_in, puts_in, deeds_in, prints_in}
 use Rattle.program_stretches.specs.StretchesValue.{StretchesValue, IsAfter, IsCourse, status_in}
 use Rattle.program_stretches.specs.StretchesView.{stretches_of}
 use Rattle.program_stretches.specs.Closing.{opened_with}

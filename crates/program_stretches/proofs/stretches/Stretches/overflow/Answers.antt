@@ -1,6 +1,6 @@
 use Rattle.std.proofs.Common.{◌≡◌, ◌∙◌, ap, sym, subst, Some, None, Option, ℕ, List, map}
 use Rattle.program_stretches.specs.declared.fault.Outcome.TheVariants.{Overflowed}
-use Rattle.program_stretches.specs.Parts.{reading_of}
+use Rattle.stretch_parts.specs.Parts.{reading_of}
 use Rattle.program_stretches.specs.Opening.{live_of}
 use Rattle.program_stretches.specs.Closing.{EndsBy}
 use Rattle.program_stretches.proofs.Closed.{ends_over, closed_end}

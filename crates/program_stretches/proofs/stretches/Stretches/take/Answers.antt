@@ -2,8 +2,8 @@ use Rattle.std.proofs.Common.{◌≡◌, ◌∙◌, ℕ, List, Bool, true, Optio
 use Rattle.std.specs.Prelude.{ℤ}
 use Rattle.std.specs.Vec.{with_item}
 use Rattle.snapshot_log.specs.Agreed.{LogValue}
-use Rattle.program_stretches.specs.PartValue.{PartValue}
-use Rattle.program_stretches.specs.Parts.{reading_of, IsPartOf}
+use Rattle.stretch_parts.specs.PartValue.{PartValue}
+use Rattle.stretch_parts.specs.Parts.{reading_of, IsPartOf}
 use Rattle.program_stretches.specs.Opening.{OpeningValue, live_of}
 use Rattle.program_stretches.specs.StretchesValue.{StretchesValue, ready_at, with_slot, IsCourse}
 use Rattle.program_stretches.specs.StretchesView.{stretches_of}

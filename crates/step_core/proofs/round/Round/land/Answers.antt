@@ -1,7 +1,7 @@
 use Rattle.std.proofs.Common.{◌≤◌, ◌∙◌, refl, sym, ap, arith, length, map}
 use Rattle.std.specs.Arc.{arc_value}
 use Rattle.std.proofs.lemmas.List.{length-map}
-use Rattle.task_lang.specs.Views.{plans}
+use Rattle.task_actions.specs.Views.{plans}
 use Rattle.superstep_memory.specs.PathOrder.{in_path_order}
 use Rattle.step_parts.specs.Slots.{missing_in}
 use Rattle.step_parts.specs.SlotParts.{path_in, living_in, fresh_slot}

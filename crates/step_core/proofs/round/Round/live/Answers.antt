@@ -1,6 +1,6 @@
 use Rattle.std.proofs.Common.{◌∙◌, ap, map, sym}
 use Rattle.std.proofs.lemmas.Result.{IfOk-weaker}
-use Rattle.task_lang.specs.Views.{plans}
+use Rattle.task_actions.specs.Views.{plans}
 use Rattle.step_parts.specs.Superstep.{live_paths}
 use Rattle.step_parts.specs.SlotParts.{path_in}
 use Rattle.step_parts.specs.RoundValue.{RoundValue, state_of}

@@ -1,7 +1,7 @@
 use Rattle.std.proofs.Common.{◌≡◌, ◌∙◌, List, Option, map, length, sym, ap, arith}
 use Rattle.std.specs.Arc.{arc_value}
 use Rattle.superstep_memory.specs.PathOrder.{in_path_order}
-use Rattle.task_lang.specs.SegmentValue.{SegmentValue}
+use Rattle.task_actions.specs.SegmentValue.{SegmentValue}
 use Rattle.step_parts.specs.SlotParts.{beside, path_in, fresh_slot, living_by}
 use Rattle.step_parts.proofs.Beside.{beside_fresh, shown_living}
 use Rattle.step_parts.proofs.live.Live.take_superstep.Goals as goal

@@ -2,7 +2,7 @@ use Rattle.std.proofs.Common.{◌≡◌, ◌∙◌, map, ap, subst}
 use Rattle.std.specs.Prelude.{is_some}
 use Rattle.programs.specs.Changes.{change_in}
 use Rattle.step_parts.specs.SlotParts.{path_in}
-use Rattle.stretch_queue.specs.Living.{living_after}
+use Rattle.stretch_groups.specs.Living.{living_after}
 use Rattle.stretch_queue.proofs.SlotPaths.{living_told, none_there}
 use Rattle.stream_workers.specs.Handed.{HandedValue}
 use Rattle.stream_workers.proofs.engine.HandedStretch.all_stay.Goals as goal

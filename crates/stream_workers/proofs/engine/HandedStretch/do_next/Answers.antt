@@ -1,7 +1,7 @@
 use Rattle.std.proofs.Common.{◌≡◌, ◌∙◌, map, ap, subst, false}
 use Rattle.std.specs.Prelude.{OnOk, is_some}
 use Rattle.job_program.specs.declared.job.JobProgram.{JobProgram}
-use Rattle.task_lang.specs.TaskValue.{TaskValue}
+use Rattle.task_actions.specs.TaskValue.{TaskValue}
 use Rattle.step_parts.specs.SlotParts.{path_in}
 use Rattle.program_stretches.specs.StretchesValue.{StretchValue}
 use Rattle.stretch_queue.proofs.SlotPaths.{if_calm}

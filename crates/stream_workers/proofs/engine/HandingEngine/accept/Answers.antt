@@ -1,14 +1,14 @@
 use Rattle.std.proofs.Common.{◌≡◌, ◌∙◌, false, map, sym, ap, subst, slice_get}
 use Rattle.std.specs.Prelude.{is_some}
 use Rattle.job_program.specs.declared.job.JobProgram.{JobProgram}
-use Rattle.task_lang.specs.TaskValue.{TaskValue}
+use Rattle.task_actions.specs.TaskValue.{TaskValue}
 use Rattle.programs.specs.Changes.{change_in}
 use Rattle.programs.specs.InPlace.{left_in, spawned_in}
 use Rattle.step_parts.specs.SlotParts.{path_in}
 use Rattle.program_stretches.specs.StretchesValue.{StretchesValue, ready_at, living_at, faulted_at}
 use Rattle.program_stretches.specs.Closing.{AllStay}
 use Rattle.stretch_queue.specs.Leaving.{out_at}
-use Rattle.stretch_queue.specs.Living.{living_after}
+use Rattle.stretch_groups.specs.Living.{living_after}
 use Rattle.stretch_queue.proofs.SlotPaths.{read_same}
 use Rattle.stretch_queue.proofs.Slots.{back_rest, back_slot, back_here, back_living, back_faulted, back_stays}
 use Rattle.stream_workers.specs.Handed.{HandingValue, HandedValue}

@@ -7,7 +7,7 @@ use Rattle.program_stretches.specs.Closing.{AllStay}
 use Rattle.stretch_queue.specs.Leaving.{out_at}
 use Rattle.stretch_queue.specs.Watched.{RunValue, IsWatched}
 use Rattle.stretch_queue.proofs.Watched.{watched_slot}
-use Rattle.stretch_queue.specs.Living.{living_after}
+use Rattle.stretch_groups.specs.Living.{living_after}
 use Rattle.stretch_queue.proofs.SlotPaths.{read_same}
 use Rattle.stretch_queue.proofs.Slots.{back_rest, back_slot, back_here, back_living, back_faulted, back_stays}
 use Rattle.stretch_queue.proofs.program_engine.RunEngine.accept.Goals as goal

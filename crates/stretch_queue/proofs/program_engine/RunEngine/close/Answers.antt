@@ -2,10 +2,10 @@ use Rattle.std.proofs.Common.{◌≡◌, ◌<◌, ◌+◌, ◌∙◌, ℕ, false
 use Rattle.superstep_memory.specs.PathOrder.{in_path_order}
 use Rattle.program_stretches.specs.StretchesValue.{tasks_at, living_at, faulted_at}
 use Rattle.program_stretches.specs.Closing.{AllStay}
-use Rattle.stretch_queue.specs.declared.engine.Closed as closings
-use Rattle.stretch_queue.specs.declared.engine.Closed.TheVariants as closed
+use Rattle.stretch_groups.specs.declared.engine.Closed as closings
+use Rattle.stretch_groups.specs.declared.engine.Closed.TheVariants as closed
 use Rattle.stretch_queue.specs.Leaving.{Reopens}
-use Rattle.stretch_queue.specs.Living.{all_below}
+use Rattle.stretch_groups.specs.Living.{all_below}
 use Rattle.stretch_queue.specs.Watched.{RunValue}
 use Rattle.stretch_queue.proofs.Slots.{none_left}
 use Rattle.stretch_queue.proofs.Reopened.{none_out_next, leaves_next, next_begins, calm_ran, same_next, living_next}

@@ -1,5 +1,5 @@
 use Rattle.std.proofs.Common.{◌∙◌, Bool, ap, subst}
-use Rattle.program_stretches.specs.Parts.{reading_of}
+use Rattle.stretch_parts.specs.Parts.{reading_of}
 use Rattle.stretch_queue.specs.Watched.{RunValue, IsWatched}
 use Rattle.stretch_queue.proofs.Watched.{both_left, left_so, ended_watched, stopped_watched}
 use Rattle.stretch_queue.proofs.program_engine.RunEngine.into_outcome.Goals as goal

@@ -2,7 +2,7 @@ use Rattle.std.proofs.Common.{◌≡◌, ◌∙◌, map, ap, subst}
 use Rattle.std.specs.Prelude.{is_some}
 use Rattle.programs.specs.Changes.{change_in}
 use Rattle.program_stretches.specs.StretchesValue.{StretchValue}
-use Rattle.stretch_queue.specs.Living.{living_after}
+use Rattle.stretch_groups.specs.Living.{living_after}
 use Rattle.stretch_queue.proofs.SlotPaths.{living_told, none_there}
 use Rattle.stretch_queue.proofs.program_engine.TakenStretch.all_stay.Goals as goal
 

@@ -1,8 +1,8 @@
 use Rattle.std.proofs.Common.{◌∙◌, ◌<◌, Ok, sym, ap, subst, refl}
-use Rattle.stretch_queue.specs.Groups.{numbers_of, places_for}
-use Rattle.stretch_queue.specs.HandedOut.{Each}
+use Rattle.stretch_groups.specs.Groups.{numbers_of, places_for}
+use Rattle.stretch_groups.specs.HandedOut.{Each}
 use Rattle.stretch_queue.specs.QueueValue.{is_over}
-use Rattle.stretch_queue.specs.Steady.{AreDistinct}
+use Rattle.stretch_groups.specs.Steady.{AreDistinct}
 use Rattle.stretch_queue.proofs.Steady.{landed_by}
 use Rattle.stretch_queue.proofs.Queueing.{same_again, cut_anew, closed_out, back_within, back_apart, ok_if}
 use Rattle.stretch_queue.proofs.queue.Queue.close.Goals as goal

@@ -1,7 +1,7 @@
 use Rattle.std.proofs.Common.{◌∙◌, ◌∷◌, sym, ap, subst}
 use Rattle.pass_list.specs.Passed.{ticket}
-use Rattle.stretch_queue.specs.Changes.{Tells}
-use Rattle.stretch_queue.specs.Living.{LeftValue, living_by}
+use Rattle.stretch_groups.specs.Changes.{Tells}
+use Rattle.stretch_groups.specs.Living.{LeftValue, living_by}
 use Rattle.stretch_queue.proofs.HandedOut.{found, struck}
 use Rattle.stretch_queue.proofs.Living.{living_known, stays_told}
 use Rattle.stretch_queue.proofs.Queueing.{came_back}

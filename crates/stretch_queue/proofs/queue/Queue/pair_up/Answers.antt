@@ -1,6 +1,6 @@
 use Rattle.std.proofs.Common.{◌≡◌, ◌∙◌, sym, ap, arith}
 use Rattle.stretch_queue.specs.QueueValue.{is_over}
-use Rattle.stretch_queue.proofs.Places.{full_if}
+use Rattle.stretch_groups.proofs.Places.{full_if}
 use Rattle.stretch_queue.proofs.Queueing.{all_back, paired}
 use Rattle.stretch_queue.proofs.queue.Queue.pair_up.Goals as goal
 

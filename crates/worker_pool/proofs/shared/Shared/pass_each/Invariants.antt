@@ -1,6 +1,6 @@
 use Rattle.std.proofs.Common.{◌≡◌, ◌++◌, [], map}
 use Rattle.programs.specs.Changes.{change_of}
-use Rattle.stretch_queue.specs.Living.{living_after}
+use Rattle.stretch_groups.specs.Living.{living_after}
 use Rattle.worker_pool.proofs.shared.Shared.pass_each.Given as goal
 
 abbrev pub invariant-loop-participant : goal.invariant-loop-participant

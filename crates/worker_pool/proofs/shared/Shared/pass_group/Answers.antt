@@ -1,7 +1,7 @@
 use Rattle.std.proofs.Common.{◌∙◌, sym, ap, map}
 use Rattle.std.proofs.lemmas.Result.{on_ok_weaker}
 use Rattle.std.proofs.lemmas.Simd.{map-map}
-use Rattle.stretch_queue.specs.Living.{living_by}
+use Rattle.stretch_groups.specs.Living.{living_by}
 use Rattle.worker_pool.proofs.shared.Shared.pass_group.Goals as goal
 
 pub returns-in-Same : goal.returns-in-Same

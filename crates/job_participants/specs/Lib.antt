@@ -1,0 +1,2 @@
+pub mod ParticipantValue
+pub mod Moves

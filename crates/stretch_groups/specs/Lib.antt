@@ -1,0 +1,11 @@
+pub mod Refusals
+pub mod Living
+pub mod Segments
+pub mod Sorted
+pub mod Changes
+pub mod HandedOut
+pub mod Grouping
+pub mod Groups
+pub mod AtRest
+pub mod EngineReading
+pub mod Steady

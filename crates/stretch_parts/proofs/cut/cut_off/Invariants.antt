@@ -1,0 +1,14 @@
+use Rattle.std.proofs.Common.{◌≡◌, ◌<◌, ◌++◌, length, reverse}
+use Rattle.std.specs.Vec.{vec_len, vec_capacity}
+use Rattle.stretch_parts.specs.Parts.{AreFresh, tasks_in}
+use Rattle.stretch_parts.proofs.cut.cut_off.Given as goal
+
+abbrev pub invariant-loop-alloc : goal.invariant-loop-alloc
+invariant-loop-alloc g l = record {
+  room : vec_len l.parts < vec_capacity l.parts;
+  fresh : AreFresh (length l.rest.items) (reverse l.parts.items);
+  tasks : l.rest.items ++ tasks_in (reverse l.parts.items) ≡ l.fn.rest.items;
+}
+
+abbrev pub decreases-loop-alloc : goal.decreases-loop-alloc
+decreases-loop-alloc g l = length l.rest.items

@@ -1,0 +1,3 @@
+pub mod PartValue
+pub mod Parts
+pub mod PartView

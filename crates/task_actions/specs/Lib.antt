@@ -1,0 +1,6 @@
+pub mod Meaning
+pub mod FaultCode
+pub mod TaskValue
+pub mod SegmentValue
+pub mod Views
+pub mod Puts
