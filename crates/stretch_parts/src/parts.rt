@@ -114,7 +114,7 @@ pub fn count_spawned<T: OnPath>(parts: &[Option<Part<T>>], most: usize) -> Optio
 
 /// How many values were printed, unless that number is too large to be kept.
 pub fn count_prints<T: OnPath>(parts: &[Option<Part<T>>]) -> Option<usize>
-    ensures { IfSome result (λ count. count ≡ length (prints_in parts.now)) }
+    ensures { MatchOption result (18446744073709551615 < length (prints_in parts.now)) (λ count. count ≡ length (prints_in parts.now)) }
 {
     let mut count: usize = 0;
     let mut place = 0;

@@ -87,9 +87,9 @@ impl<E: Engine, J: Running, L: GroupList> Model for Queue<E, J, L> {
 }
 
 impl<E: Engine, J: Running, L: GroupList> Queue<E, J, L> {
-    ghost use Rattle.std.specs.Prelude.{◌≡◌, ◌≢◌, [], None, Some, Err, true, false, is_some, IsTrue, IfOk, IfSome, IfErr, OnOk, OnErr};
+    ghost use Rattle.std.specs.Prelude.{◌≡◌, ◌≢◌, [], None, Some, Err, true, false, is_some, IsTrue, IfOk, IfSome, IfErr, OnOk, OnErr, MatchOption};
     ghost use Rattle.stretch_queue.specs.PassLists.{AreNew, AreNamed};
-    ghost use Rattle.stretch_queue.specs.QueueValue.{with_engine, refused_by, is_over, is_idle};
+    ghost use Rattle.stretch_queue.specs.QueueValue.{with_engine, refused_by, is_over, is_idle, closing};
     ghost use Rattle.stretch_groups.specs.AtRest.{CanBegin};
     ghost use Rattle.stretch_groups.specs.Groups.{groups_with};
     ghost use Rattle.stretch_groups.specs.Changes.{Tells};
@@ -304,6 +304,9 @@ impl<E: Engine, J: Running, L: GroupList> Queue<E, J, L> {
         ensures whole { OnOk result (E.whole self.old.engine ≡ true) }
         ensures internal { result ≡ Err reason.Internal → E.whole self.old.engine ≡ false }
         ensures memory { result ≡ Err reason.Memory → E.whole self.old.engine ≡ true }
+        ensures closed { IfOk result (λ back. MatchOption (closing back) ⊥ (E.closes self.old.engine self.new.engine)) }
+        ensures noted { IfErr result (λ reason. self.new.first ≡ Some (refusal_of reason)) }
+        ensures unrefused { OnOk result (self.new.first ≡ self.old.first) }
     {
         let len = self.engine.len();
         match self.engine.close(alloc) {
@@ -336,8 +339,8 @@ impl<E: Engine, J: Running, L: GroupList> Queue<E, J, L> {
     }
 
     /// Takes back the group of a stretch whose tasks have arrived or left in this superstep. If one of them advanced the tree
-    /// (`led`), closes the superstep. If workers must stop, drops the group. Fails with `Internal` only if the tree has advanced
-    /// although a stretch isn't back.
+    /// (`led`), closes the superstep. If workers must stop, drops the group. If it fails, workers must stop: the run is refused for
+    /// that reason, with `Internal` only if the tree has advanced although a stretch isn't back.
     pub fn hand_back(
         &mut self,
         alloc: Global,
@@ -348,12 +351,19 @@ impl<E: Engine, J: Running, L: GroupList> Queue<E, J, L> {
         ensures unled { led ≡ None → self.new.engine ≡ self.old.engine }
         ensures over { is_over E.ended self.old ≡ true → self.new ≡ self.old }
         ensures internal { result ≡ Err reason.Internal → (is_some led ≡ true) × (E.whole self.old.engine ≡ false) }
+        ensures closed { is_some led ≡ true → is_over E.ended self.old ≡ false → held.step ≡ E.step self.old.engine → IfOk result (λ back. MatchOption (closing back) ⊥ (E.closes self.old.engine self.new.engine)) }
+        ensures noted { IfErr result (λ reason. self.new.first ≡ Some (refusal_of reason)) }
+        ensures unrefused { OnOk result (self.new.first ≡ self.old.first) }
     {
         if self.is_over() {
             return Ok(HandedBack::Unchanged);
         }
         if self.engine.step() != held.step {
-            return after_late(self.take_back_late(held));
+            return match self.take_back_late(held) {
+                Ok(true) => Ok(HandedBack::Ready),
+                Ok(false) => Ok(HandedBack::Unchanged),
+                Err(_) => Err(Reason::Memory),
+            };
         }
         match self.take_back(held) {
             Ok(()) if led.is_some() => self.close(alloc),
@@ -382,17 +392,6 @@ impl<E: Engine, J: Running, L: GroupList> Queue<E, J, L> {
             Some(refused) => Err(refused),
             None => outcome_by(alloc, engine),
         }
-    }
-}
-
-// Returns the effect of handing back a late group; `ready` is the result of `take_back_late`.
-fn after_late(ready: Result<bool, AllocError>) -> Result<HandedBack, Reason>
-    ensures { IfErr result (λ fault. fault ≡ reason.Memory) }
-{
-    match ready {
-        Ok(true) => Ok(HandedBack::Ready),
-        Ok(false) => Ok(HandedBack::Unchanged),
-        Err(_) => Err(Reason::Memory),
     }
 }
 
