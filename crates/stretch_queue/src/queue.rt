@@ -87,7 +87,7 @@ impl<E: Engine, J: Running, L: GroupList> Model for Queue<E, J, L> {
 }
 
 impl<E: Engine, J: Running, L: GroupList> Queue<E, J, L> {
-    ghost use Rattle.std.specs.Prelude.{◌≡◌, ◌≢◌, [], None, Some, Err, true, false, is_some, IsTrue, IfOk, IfSome, IfErr, OnOk, OnErr, MatchOption};
+    ghost use Rattle.std.specs.Prelude.{◌≡◌, ◌≢◌, [], None, Some, Err, true, false, is_some, IsTrue, IfOk, IfSome, IfErr, Ok, OnOk, OnErr, MatchOption};
     ghost use Rattle.stretch_queue.specs.PassLists.{AreNew, AreNamed};
     ghost use Rattle.stretch_queue.specs.QueueValue.{with_engine, refused_by, is_over, is_idle, closing};
     ghost use Rattle.stretch_groups.specs.AtRest.{CanBegin};
@@ -98,6 +98,8 @@ impl<E: Engine, J: Running, L: GroupList> Queue<E, J, L> {
     ghost use Rattle.stretch_groups.specs.Refusals.{IsOfWorkers, refusal_of};
     ghost use Rattle.stretch_groups.specs.declared.fault.Reason.TheVariants as reason;
     ghost use Rattle.stretch_groups.specs.declared.fault.Refused.TheVariants as refused;
+    ghost use Rattle.stretch_groups.specs.declared.engine.Closed.TheVariants as closed;
+    ghost use Rattle.stretch_queue.specs.declared.queue.HandedBack.TheVariants as back;
 
     /// Creates a queue for this engine. None of its stretches is out or has run. `ready` has the groups of all its stretches, by
     /// number, unless the run is refused from the start.
@@ -234,6 +236,7 @@ impl<E: Engine, J: Running, L: GroupList> Queue<E, J, L> {
     fn pair_up(&mut self) -> Result<bool, AllocError>
         requires running { is_over E.ended self.old ≡ false }
         requires awaits { self.old.awaits ≡ true }
+        ensures waits { result ≡ Ok false → self.new ≡ self.old }
         ensures done { OnOk result (self.new ≡ record self.old { ready = self.new.ready; awaits = self.new.awaits }) }
         ensures failed { OnErr result (self.new ≡ record self.old { first = Some refused.Memory }) }
     {
@@ -279,6 +282,7 @@ impl<E: Engine, J: Running, L: GroupList> Queue<E, J, L> {
         requires running { is_over E.ended self.old ≡ false }
         requires late { held.step ≢ E.step self.old.engine }
         requires passed { AreLeft held.pass held.group.paths }
+        ensures waits { result ≡ Ok false → self.new ≡ self.old }
         ensures done { OnOk result (self.new ≡ record self.old { ready = self.new.ready; awaits = self.new.awaits }) }
         ensures failed { OnErr result (self.new ≡ record self.old { first = Some refused.Memory; ready = self.new.ready }) }
     {
@@ -352,6 +356,8 @@ impl<E: Engine, J: Running, L: GroupList> Queue<E, J, L> {
         ensures over { is_over E.ended self.old ≡ true → self.new ≡ self.old }
         ensures internal { result ≡ Err reason.Internal → (is_some led ≡ true) × (E.whole self.old.engine ≡ false) }
         ensures closed { is_some led ≡ true → is_over E.ended self.old ≡ false → held.step ≡ E.step self.old.engine → IfOk result (λ back. MatchOption (closing back) ⊥ (E.closes self.old.engine self.new.engine)) }
+        ensures ended { result ≡ Ok back.Ended → E.closes self.old.engine self.new.engine closed.Ended }
+        ensures unchanged { result ≡ Ok back.Unchanged → self.new ≡ self.old }
         ensures noted { IfErr result (λ reason. self.new.first ≡ Some (refusal_of reason)) }
         ensures unrefused { OnOk result (self.new.first ≡ self.old.first) }
     {
