@@ -2,7 +2,7 @@
 ghost use Rattle.std.specs.Prelude.{◌≡◌, IfOk};
 ghost use Rattle.std.specs.Option.{option_map};
 ghost use Rattle.fault_reasons.specs.AgainSeen.{again_seen};
-ghost use Rattle.fault_reasons.specs.Explains.{again, Explains, ExplainsJob, SaysFault};
+ghost use Rattle.fault_reasons.specs.Explains.{again, Explains, ExplainsJob, SaysEnd, SaysFault};
 ghost use Rattle.fault_reasons.specs.Texts.{fault_text as fault_text_of, limit_text as limit_text_of};
 
 use crate::again::run_to;
@@ -73,6 +73,28 @@ fn limit_text(alloc: Global, at: Superstep<'_>) -> Result<Vec<u8>, AllocError>
     Ok(out)
 }
 
+// Returns why a job ended that left this.
+fn ran_reason(
+    alloc: Global,
+    text: &[u8],
+    job: &Job,
+    ran: &Ran<Task>,
+) -> Result<Option<Vec<u8>>, AllocError>
+    ensures { IfOk result (λ reason. SaysEnd text.now job.now ran.now.report ran.now.tasks.items ran.now.report.status (option_map (λ v. v.items) reason)) }
+{
+    match &ran.report.status {
+        JobStatus::Ended(_) => Ok(None),
+        JobStatus::Fault { code, step, path } => {
+            let reason = fault_reason(alloc, text, job, *code, *step, path)?;
+            Ok(Some(reason))
+        }
+        JobStatus::Limit(step) => {
+            let reason = limit_text(alloc, superstep(text, job, ran, *step))?;
+            Ok(Some(reason))
+        }
+    }
+}
+
 // Returns why a job ended by a fault or at this limit.
 fn job_reason(
     alloc: Global,
@@ -83,17 +105,7 @@ fn job_reason(
     ensures { IfOk result (λ reason. ExplainsJob text.now job.now limit (option_map (λ v. v.items) reason)) }
 {
     let ran = run_to(alloc, job, limit)?;
-    match &ran.report.status {
-        JobStatus::Ended(_) => Ok(None),
-        JobStatus::Fault { code, step, path } => {
-            let reason = fault_reason(alloc, text, job, *code, *step, path)?;
-            Ok(Some(reason))
-        }
-        JobStatus::Limit(step) => {
-            let reason = limit_text(alloc, superstep(text, job, &ran, *step))?;
-            Ok(Some(reason))
-        }
-    }
+    ran_reason(alloc, text, job, &ran)
 }
 
 /// Returns why the job of a text ended by a fault or at this limit of supersteps, in words for people, or `None` if it ended

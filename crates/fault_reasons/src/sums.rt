@@ -184,6 +184,15 @@ fn push_at(
     push_put(alloc, out, at, path, puts, place, puts[place])
 }
 
+// Returns the place of the first of these puts that overflows, if there is one.
+fn first_over(alloc: Global, at: Superstep<'_>, puts: &[Put]) -> Result<Option<usize>, AllocError>
+    ensures { IfOk result (λ place. place ≡ over_in (again_seen at.entry).arrays [] 0 puts.now) }
+{
+    let mut arrays = at.arrays.copy(alloc)?;
+    let mut olds = Vec::new(alloc);
+    land_log(&mut arrays, puts, &mut olds)
+}
+
 /// Appends which sum overflows in a superstep: the cell, what it came to, and what the task of this path adds.
 pub(crate) fn push_overflow(
     alloc: Global,
@@ -194,9 +203,7 @@ pub(crate) fn push_overflow(
     ensures { OnOk result (out.new.items ≡ out.old.items ++ overflow (again_seen at.entry) path.now) }
 {
     let puts = all_puts(alloc, at)?;
-    let mut arrays = at.arrays.copy(alloc)?;
-    let mut olds = Vec::new(alloc);
-    match land_log(&mut arrays, &puts, &mut olds)? {
+    match first_over(alloc, at, &puts)? {
         Some(place) => push_at(alloc, out, at, path, &puts, place),
         None => Ok(()),
     }

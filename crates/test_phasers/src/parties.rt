@@ -1,8 +1,8 @@
 //! The calls of the crate `phasers`, and what no clause says: threads meet, and a hook runs once at each advance.
 use phasers::barrier::{Barrier, GateFault, NoAction};
 use phasers::tree::{
-    ArrivedInPlace, Departed, EndPlan, Forced, Joined, Met, OnAdvance, Owed, Party, PhaserTree,
-    Polled, Settled, Shape,
+    ArrivedInPlace, Departed, EndPlan, Forced, Guest, Joined, Met, OnAdvance, Owed, Party,
+    PhaserTree, Polled, Settled, Shape,
 };
 use std::process::Abort;
 use std::sync::Wait;
@@ -33,18 +33,37 @@ fn threads_meet_in_a_scope(rt: HostRuntime) {
     assert!(rt; matches!(guest.join(&rt, 0), Joined::Ended(_, _)));
 }
 
-// A token's calls on a separate tree.
-fn calls<R: Wait + Abort>(rt: &R, tree: &mut PhaserTree) {
+// A token of a tree of three tiers, and two members of another at its tier 1.
+fn registered<'a, R: Wait + Abort>(rt: &R, tree: &'a mut PhaserTree) -> (Guest<'a>, Party<'a>) {
     assert!(rt; tree.shape().count() == 3);
     let mut guest = tree.guest();
-    let Joined::Joined(mut party, 0) = guest.split().register(rt, 1, 2) else {
-        panic!(rt; "not joined");
-    };
-    assert!(rt; (party.tier(), party.size(), party.unarrived(), party.phase()) == (1, 2, 2, 0));
-    assert!(rt; matches!(party.arrive(rt), ArrivedInPlace::Done { .. }));
-    assert!(rt; party.unarrived() == 1);
-    assert!(rt; matches!(guest.force(16), Forced::Ended(_)));
-    assert!(rt; matches!(party.arrive(rt), ArrivedInPlace::Ended(_)));
+    match guest.split().register(rt, 1, 2) {
+        Joined::Joined(party, 0) => (guest, party),
+        _ => panic!(rt; "not registered"),
+    }
+}
+
+// Whether a party is at tier 1, in phase 0, with two members that haven't arrived.
+fn is_new(party: &Party<'_>) -> bool {
+    (party.tier(), party.size(), party.unarrived(), party.phase()) == (1, 2, 2, 0)
+}
+
+// Whether one member of two arrives.
+fn one_arrives<R: Wait>(rt: &R, party: &mut Party<'_>) -> bool {
+    matches!(party.arrive(rt), ArrivedInPlace::Done { .. }) && party.unarrived() == 1
+}
+
+// Whether the next member learns that the tree has ended.
+fn learns_the_end<R: Wait>(rt: &R, party: &mut Party<'_>) -> bool {
+    matches!(party.arrive(rt), ArrivedInPlace::Ended(_))
+}
+
+// A token's calls on a separate tree.
+fn calls<R: Wait + Abort>(rt: &R, tree: &mut PhaserTree) {
+    let (mut guest, mut party) = registered(rt, tree);
+    let arrived = is_new(&party) && one_arrives(rt, &mut party);
+    let ended = matches!(guest.force(16), Forced::Ended(_)) && learns_the_end(rt, &mut party);
+    assert!(rt; arrived && ended);
 }
 
 #[test]
@@ -80,24 +99,43 @@ fn tried<'a, R: Wait + Abort>(rt: &R, party: Party<'a>, tries: u32) -> (Party<'a
     }
 }
 
-// Two parties meet without waiting.
-fn two_meet<R: Wait + Abort>(rt: &R, tree: &mut PhaserTree) {
-    let mut guest = tree.guest();
-    let Joined::Joined(one, 0) = guest.split().join(rt, 0) else {
-        panic!(rt; "not joined");
-    };
-    let Joined::Joined(other, 0) = guest.split().join(rt, 1) else {
-        panic!(rt; "not joined");
-    };
+// A party of one member at the leaf of this number, which joins in phase 0.
+fn joined<'a, R: Wait + Abort>(rt: &R, guest: Guest<'a>, leaf: usize) -> Party<'a> {
+    match guest.join(rt, leaf) {
+        Joined::Joined(party, 0) => party,
+        _ => panic!(rt; "not joined"),
+    }
+}
+
+// Two parties meet in phase 0, and the first of them then finds that it is over.
+fn both_meet<'a, R: Wait + Abort>(
+    rt: &R,
+    one: Party<'a>,
+    other: Party<'a>,
+) -> (Party<'a>, Party<'a>) {
     let (one, none) = tried(rt, one, 0);
     let (mut one, owed) = tried(rt, one, 1);
     let (other, over) = tried(rt, other, 16);
-    assert!(rt; (none, owed, over) == (0, 3, 2));
-    assert!(rt; matches!(one.poll(), Polled::Passed(1)));
+    let has_passed = matches!(one.poll(), Polled::Passed(1));
+    assert!(rt; has_passed && (none, owed, over) == (0, 3, 2));
+    (one, other)
+}
+
+// They meet again, and the tree ends.
+fn both_end<'a, R: Wait + Abort>(rt: &R, one: Party<'a>, other: Party<'a>) {
     let (_one, waits) = tried(rt, one, 16);
     let (mut other, ended) = tried(rt, other, 16);
-    assert!(rt; (waits, ended) == (1, 0));
-    assert!(rt; matches!(other.poll(), Polled::Ended(_)));
+    let has_ended = matches!(other.poll(), Polled::Ended(_));
+    assert!(rt; has_ended && (waits, ended) == (1, 0));
+}
+
+// Two parties meet without waiting.
+fn two_meet<R: Wait + Abort>(rt: &R, tree: &mut PhaserTree) {
+    let mut guest = tree.guest();
+    let one = joined(rt, guest.split(), 0);
+    let other = joined(rt, guest.split(), 1);
+    let (one, other) = both_meet(rt, one, other);
+    both_end(rt, one, other);
 }
 
 #[test]
@@ -111,16 +149,24 @@ fn two_meet_without_waiting(rt: HostRuntime) {
     }
 }
 
+// Whether the only caller gets its turn, and no caller waits who could be taken away.
+fn gives_turns<R: Wait>(rt: &R, barrier: &Barrier) -> bool {
+    barrier.await_turn(rt, 7) == Ok(0) && barrier.abandon(rt, 7).is_err()
+}
+
+// Whether it is broken until it is reset, and keeps nothing then.
+fn breaks<R: Wait>(rt: &R, barrier: &Barrier) -> bool {
+    barrier.break_off(rt).is_empty()
+        && barrier.await_turn(rt, 7) == Err(GateFault::Broken)
+        && barrier.reset(rt).is_empty()
+        && barrier.kept(rt) == 0
+}
+
 #[test]
 fn a_barrier(rt: HostRuntime) {
     let barrier = Barrier::new(rt.alloc(), 1, NoAction).expect(&rt, "one party");
-    assert!(rt; barrier.await_turn(&rt, 7) == Ok(0));
-    assert!(rt; barrier.abandon(&rt, 7).is_err());
-    assert!(rt; barrier.break_off(&rt).is_empty());
-    assert!(rt; barrier.await_turn(&rt, 7) == Err(GateFault::Broken));
-    assert!(rt; barrier.reset(&rt).is_empty());
-    assert!(rt; barrier.kept(&rt) == 0);
-    assert!(rt; barrier.await_turn(&rt, 7) == Ok(0));
+    assert!(rt; gives_turns(&rt, &barrier));
+    assert!(rt; breaks(&rt, &barrier) && gives_turns(&rt, &barrier));
 }
 
 #[derive(Drop)]

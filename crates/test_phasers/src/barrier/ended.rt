@@ -177,23 +177,28 @@ fn is_told<R: Threads + Wait + Abort + Sync>(
     are(&told, one, other)
 }
 
+// The generation in which the action fails, how the wait ends, and what the two threads are answered.
+type Row = (
+    Option<u64>,
+    Ending,
+    Result<u32, GateFault>,
+    Result<u32, GateFault>,
+);
+
+const BROKEN: Result<u32, GateFault> = Err(GateFault::Broken);
+
+const ROWS: [Row; 6] = [
+    (None, Ending::Comes, Ok(1), Ok(0)),
+    (Some(0), Ending::Comes, BROKEN, Err(GateFault::ActionFailed)),
+    (Some(1), Ending::ComesAgain, Ok(1), Ok(0)),
+    (None, Ending::Resets, BROKEN, Ok(7)),
+    (None, Ending::BreaksOff, BROKEN, Ok(7)),
+    (None, Ending::TakesAway, BROKEN, Ok(7)),
+];
+
 #[test]
 fn who_waits_is_answered(rt: HostRuntime) {
-    let alloc = rt.alloc();
-    let broken = Err(GateFault::Broken);
-    assert!(rt; is_told(&rt, alloc, None, Ending::Comes, Ok(1), Ok(0)));
-    assert!(rt;
-        is_told(
-            &rt,
-            alloc,
-            Some(0),
-            Ending::Comes,
-            broken,
-            Err(GateFault::ActionFailed)
-        )
-    );
-    assert!(rt; is_told(&rt, alloc, Some(1), Ending::ComesAgain, Ok(1), Ok(0)));
-    assert!(rt; is_told(&rt, alloc, None, Ending::Resets, broken, Ok(7)));
-    assert!(rt; is_told(&rt, alloc, None, Ending::BreaksOff, broken, Ok(7)));
-    assert!(rt; is_told(&rt, alloc, None, Ending::TakesAway, broken, Ok(7)));
+    for (fails, ending, one, other) in &ROWS {
+        assert!(rt; is_told(&rt, rt.alloc(), *fails, *ending, *one, *other));
+    }
 }

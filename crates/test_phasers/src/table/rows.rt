@@ -46,17 +46,13 @@ fn beside(
         panic!(rt; "no door");
     };
     assert!(rt; crew.unarrived() > 0);
-    match tree.join_here(&mut crew, door, 1, row.2) {
-        Registered::Busy(door) => {
-            assert!(rt; row.3 == Told::Busy);
-            (Holder::Inside(crew), Holder::Outside(door))
-        }
-        Registered::Joined(new, phase) => {
-            assert!(rt; row.3 == Told::Joined(phase));
-            (Holder::Inside(crew), Holder::Inside(new))
-        }
+    let (other, told) = match tree.join_here(&mut crew, door, 1, row.2) {
+        Registered::Busy(door) => (Holder::Outside(door), Told::Busy),
+        Registered::Joined(new, phase) => (Holder::Inside(new), Told::Joined(phase)),
         _ => panic!(rt; "not joined"),
-    }
+    };
+    assert!(rt; told == row.3);
+    (Holder::Inside(crew), other)
 }
 
 // The token that a row names is asked as it says.
