@@ -4,8 +4,9 @@ import java.util.concurrent.CyclicBarrier;
 import java.util.concurrent.Phaser;
 
 /**
- * Threads that meet at a Phaser or a CyclicBarrier: Meet phaser WIDTHS THREADS PHASES, or Meet barrier THREADS PHASES. It prints
- * how many nanoseconds the second of two equal runs took, so that the first has what is compiled while it runs.
+ * Threads that meet at a Phaser or a CyclicBarrier: Meet phaser WIDTHS THREADS PHASES, or Meet barrier THREADS PHASES. By Meet
+ * groups WIDTHS THREADS MEMBERS PHASES each thread stands for so many members. It prints how many nanoseconds the second of two
+ * equal runs took, so that the first has what is compiled while it runs.
  */
 final class Meet {
     interface Turn {
@@ -62,17 +63,26 @@ final class Meet {
             }
             return turns;
         }
+        int members = words[0].equals("groups") ? Integer.parseInt(words[3]) : 1;
         List<Phaser> leaves = leaves(words[1]);
         for (int i = 0; i < count; i++) {
             Phaser leaf = leaves.get(i % leaves.size());
-            leaf.register();
-            turns.add(leaf::arriveAndAwaitAdvance);
+            leaf.bulkRegister(members);
+            turns.add(members == 1 ? leaf::arriveAndAwaitAdvance : () -> arriveAll(leaf, members));
         }
         return turns;
     }
 
+    /** One thread lets so many members arrive, one after another, and waits with the last. */
+    static void arriveAll(Phaser leaf, int members) {
+        for (int i = 1; i < members; i++) {
+            leaf.arrive();
+        }
+        leaf.arriveAndAwaitAdvance();
+    }
+
     public static void main(String[] words) throws Exception {
-        int count = Integer.parseInt(words[words.length - 2]);
+        int count = Integer.parseInt(words[words[0].equals("groups") ? 2 : words.length - 2]);
         int phases = Integer.parseInt(words[words.length - 1]);
         List<Turn> turns = turns(words, count);
         timed(turns, phases);

@@ -4,13 +4,14 @@ use Rattle.phaser_word.specs.Fields.{Fields}
 use Rattle.tier_calls.specs.Closes.{TallyWithOthers, IsLeftBy}
 use Rattle.tier_calls.specs.Holding.{Named, Holding, IsSat, split_once, sight_held}
 use Rattle.tier_calls.specs.InPlace.{ArrivesInPlace, FindsArrived}
+use Rattle.tier_calls.specs.Led.{LedInPlaceWaited}
 use Rattle.tier_calls.specs.JoinsHere.{JoinsHere}
 use Rattle.tier_calls.specs.Made.{HasLooked}
 use Rattle.tier_calls.specs.Registers.{EnteredBy, token_of}
 use Rattle.tier_calls.specs.declared.in_place.ArrivedInPlace.{ArrivedInPlace}
 use Rattle.tier_calls.specs.declared.joining.Registered.{Registered}
 use Rattle.tier_calls.specs.declared.joining.Registered.TheVariants as registered
-use Rattle.tier_table.specs.AtLast.{AwaitsAdvance, CaughtUpBy}
+use Rattle.tier_table.specs.AtLast.{AwaitsAdvance, AwaitWaited, CaughtUpBy}
 use Rattle.tier_table.specs.declared.waiting.AwaitedAdvance.{AwaitedAdvance}
 use Rattle.tier_table.specs.declared.waiting.RegisteredAtLast.{RegisteredAtLast}
 use Rattle.tier_table.specs.declared.waiting.RegisteredAtLast.TheVariants as admitted
@@ -49,7 +50,9 @@ pub record Meets (old new : Holding) (answer : AwaitedAdvance) : Type 0 where
   pub came : ArrivedInPlace
   pub arrives : ArrivesInPlace old between came
   pub found : FindsArrived old between came
+  pub led : LedInPlaceWaited between came
   pub awaits : AwaitsAdvance between new answer
+  pub waited : AwaitWaited between new answer
   pub looked : HasLooked between.steps new.steps
   pub caught_up : CaughtUpBy answer new
 

@@ -4,6 +4,8 @@ use Rattle.tier_steps.specs.declared.view.Passage.TheVariants.{Arrival}
 use Rattle.tier_calls.specs.Holding.{Holding}
 use Rattle.tier_calls.specs.Arrives.{Arrives, FindsArrived}
 use Rattle.tier_calls.specs.Polls.{Polls, CaughtUpBy}
+use Rattle.tier_calls.specs.Led.{LedWaited}
+use Rattle.tier_calls.specs.Waited.{PollWaited}
 use Rattle.tier_calls.specs.declared.arriving.Arrived.{Arrived}
 use Rattle.tier_calls.specs.declared.arriving.Arrived.TheVariants as arrived
 use Rattle.tier_calls.specs.declared.arriving.Resumed.{Resumed}
@@ -27,8 +29,10 @@ pub record MeetsBy (old new : Holding) (tries : ℕ) (answer : Polled) : Type 0 
   pub came : Arrived
   pub arrives : Arrives Arrival old tries came
   pub found : FindsArrived old came
+  pub led : LedWaited came
   pub over : IsOver between came
   pub polls : Polls between new answer
+  pub waited : PollWaited between new answer
   pub caught_up : CaughtUpBy answer new
 
 abbrev pub TriesToMeet : {A : Type 0} → Holding → ℕ → Met A → Type 0

@@ -13,6 +13,9 @@
 //!   member at the leaf of a number, `register` several at a tier; `force` ends the tree.
 //! * [`Party`](tree::Party): a token with members, all at one tier. `meet` arrives and waits; `arrive` and `await_advance`
 //!   are its two halves; `poll` and `try_meet` don't wait. `bring` registers more members, `leave` takes one away.
+//! * [`Parties`](parties::Parties): members that arrive together, for a thread that takes part for many. `Guest::join_all`
+//!   registers them; `meet_all` arrives with all of them and waits, `arrive_with` also lets new members join
+//!   and old ones leave, `leave_all` lets all leave. Each takes one exchange of a word, however many members they are.
 //! * [`OnAdvance`](tree::OnAdvance): a hook of your own, which `PhaserTree::with_hook` runs at each advance.
 //!
 //! `PhaserTree::close` returns the words of the tiers at the end, when all tokens are gone.
@@ -159,6 +162,7 @@
 #![tactic(auto)]
 
 pub mod barrier;
+pub mod parties;
 pub mod phaser;
 mod shared;
 pub mod tree;

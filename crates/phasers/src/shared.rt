@@ -1,17 +1,21 @@
 //! What the tokens of a tree share: its tiers, the plan that ends it, its leaves, and the hook of its advances.
 
-ghost use Rattle.std.specs.Prelude.{◌≡◌, ◌<◌, ◌≤◌, ℕ, Some, [], length, IfOk};
+ghost use Rattle.std.specs.Prelude.{◌≡◌, ◌<◌, ◌≤◌, ◌+◌, ℕ, Some, [], length, IfOk};
 ghost use Rattle.advance_rule.specs.Plan.{end_ends_at};
 ghost use Rattle.tier_steps.specs.View.{new_view};
 ghost use Rattle.tier_steps.specs.Start.{empty_word};
 ghost use Rattle.tier_calls.specs.Arrives.{Arrives, Resumes};
 ghost use Rattle.tier_calls.specs.Arrives as arrives;
+ghost use Rattle.tier_calls.specs.Led.{LedWaited, LedOnWaited, LedInPlaceWaited};
 ghost use Rattle.tier_calls.specs.InPlace.{ArrivesInPlace};
 ghost use Rattle.tier_calls.specs.InPlace as in_place;
 ghost use Rattle.tier_shape.specs.Leaves.{leaves_of};
 ghost use Rattle.tier_shape.specs.Preferred.{leaf_at};
 ghost use Rattle.tier_steps.specs.declared.view.Passage.TheVariants.{Arrival, Departure};
-ghost use Rattle.tier_table.specs.AtLast.{token_counted, ArrivesAtLast, HasEndedArrival, PassedBy};
+ghost use Rattle.tier_table.specs.AtLast.{token_counted, ArrivesAtLast, LedAtLast, HasEndedArrival, PassedBy};
+ghost use Rattle.tier_calls.specs.ArrivesWith.{OnlySplit};
+ghost use Rattle.tier_table.specs.GroupsAtLast.{ArrivesAllAtLast, ArrivesWithAtLast, MeetsAll, tokens_arrived};
+ghost use Rattle.tier_table.specs.GroupMembersAtLast.{LeavesAllAtLast, tree_left};
 
 use advance_rule::{EndPlan, StoredAdvance};
 use std::alloc::{AllocError, Global};
@@ -24,7 +28,10 @@ use tier_calls::tokens::{Crew, Door, Errand};
 use tier_shape::Shape;
 use tier_shape::leaves::leaf_at;
 use tier_steps::view::Passage;
-use tier_table::waiting::{ArrivedAtLast, pass_wait};
+use tier_table::TRIES;
+use tier_table::group_members::{GroupLeft, leave_all_wait};
+use tier_table::groups::{Group, GroupArrived, arrive_all_wait, arrive_with_wait, meet_all_wait};
+use tier_table::waiting::{ArrivedAtLast, AwaitedAdvance, pass_wait};
 
 /// An action at each advance of a tree (Java SE 21, `Phaser.onAdvance`).
 ///
@@ -122,6 +129,7 @@ impl<A: OnAdvance> SharedTree<A> {
     pub(crate) fn arrive(&self, crew: Crew, tries: u32) -> Arrived
         requires own { crew.tree ≡ self.now }
         ensures answer { Arrives Arrival crew tries result }
+        ensures waited { LedWaited result }
         ensures found { arrives.FindsArrived crew result }
         ensures ended { (phase : ℕ) → crew.view.end_seen ≡ Some phase → arrives.HasEnded result }
     {
@@ -132,7 +140,8 @@ impl<A: OnAdvance> SharedTree<A> {
     /// Resumes an arrival that was counted, with at most `tries` tries.
     pub(crate) fn resume(&self, errand: Errand, tries: u32) -> Resumed
         requires own { errand.token.tree ≡ self.now }
-        ensures { Resumes errand tries result }
+        ensures answer { Resumes errand tries result }
+        ensures waited { LedOnWaited result }
     {
         let rule = StoredAdvance::new(|phase: u32, count: u32| self.ends(phase, count), self.plan);
         self.tiers.pass_on(errand, &rule, tries)
@@ -142,6 +151,7 @@ impl<A: OnAdvance> SharedTree<A> {
     pub(crate) fn arrive_in_place<R: Wait>(&self, rt: &R, crew: &mut Crew) -> ArrivedInPlace
         requires own { crew.old.tree ≡ self.now }
         ensures answer { ArrivesInPlace crew.old crew.new result }
+        ensures waited { LedInPlaceWaited crew.new result }
         ensures found { in_place.FindsArrived crew.old crew.new result }
         ensures ended { (phase : ℕ) → crew.old.view.end_seen ≡ Some phase → in_place.HasEnded result }
     {
@@ -153,11 +163,62 @@ impl<A: OnAdvance> SharedTree<A> {
     pub(crate) fn leave_wait<R: Wait>(&self, rt: &R, crew: Crew) -> ArrivedAtLast
         requires own { crew.tree ≡ self.now }
         ensures answer { ArrivesAtLast Departure crew result }
+        ensures waited { LedAtLast result }
         ensures unsplit { (token_counted result).opened ≡ crew.opened }
         ensures made { PassedBy Departure crew.steps result }
         ensures ended { (phase : ℕ) → crew.view.end_seen ≡ Some phase → HasEndedArrival result }
     {
         let rule = StoredAdvance::new(|phase: u32, count: u32| self.ends(phase, count), self.plan);
         pass_wait(&self.tiers, rt, crew, Passage::Departure, &rule)
+    }
+
+    /// Lets all members of `group` arrive.
+    pub(crate) fn arrive_all<R: Wait>(&self, rt: &R, group: Group) -> GroupArrived
+        requires own { group.tree ≡ self.now }
+        ensures tree { (tokens_arrived result).tree ≡ group.tree }
+        ensures answer { ArrivesAllAtLast TRIES group result }
+    {
+        let rule = StoredAdvance::new(|phase: u32, count: u32| self.ends(phase, count), self.plan);
+        arrive_all_wait(&self.tiers, rt, group, &rule)
+    }
+
+    /// Lets `joining` new members join and arrive, `leaving` members of `group` leave, and the others arrive.
+    pub(crate) fn arrive_with<R: Wait>(
+        &self,
+        rt: &R,
+        door: &mut Door,
+        group: Group,
+        joining: u32,
+        leaving: u32,
+    ) -> GroupArrived
+        requires own { (door.old.tree ≡ self.now) × (group.tree ≡ self.now) }
+        requires few { leaving ≤ length group.tokens }
+        requires come { leaving < joining + length group.tokens }
+        ensures door { OnlySplit door.old door.new }
+        ensures tree { (tokens_arrived result).tree ≡ group.tree }
+        ensures answer { ArrivesWithAtLast TRIES joining leaving group result }
+    {
+        let rule = StoredAdvance::new(|phase: u32, count: u32| self.ends(phase, count), self.plan);
+        arrive_with_wait(&self.tiers, rt, door, group, joining, leaving, &rule)
+    }
+
+    /// Lets all members of `group` arrive, and waits until the phase is over.
+    pub(crate) fn meet_all<R: Wait>(&self, rt: &R, group: Group) -> (Group, AwaitedAdvance)
+        requires own { group.tree ≡ self.now }
+        ensures tree { result.0.tree ≡ group.tree }
+        ensures answer { MeetsAll TRIES group result.0 result.1 }
+    {
+        let rule = StoredAdvance::new(|phase: u32, count: u32| self.ends(phase, count), self.plan);
+        meet_all_wait(&self.tiers, rt, group, &rule)
+    }
+
+    /// Lets all members of `group` leave.
+    pub(crate) fn leave_all<R: Wait>(&self, rt: &R, group: Group) -> GroupLeft
+        requires own { group.tree ≡ self.now }
+        ensures tree { tree_left result ≡ group.tree }
+        ensures answer { LeavesAllAtLast TRIES group result }
+    {
+        let rule = StoredAdvance::new(|phase: u32, count: u32| self.ends(phase, count), self.plan);
+        leave_all_wait(&self.tiers, rt, group, &rule)
     }
 }

@@ -3,15 +3,17 @@
 
 ghost use Rattle.std.specs.Prelude.{◌≡◌, ◌<◌, ◌≤◌, ◌+◌, ℕ, None, Some, Ok, Err, length, IfOk, IfErr};
 ghost use Rattle.tier_calls.specs.Holding.{IsSat, split_once};
+ghost use Rattle.tier_calls.specs.Led.{LedInPlaceWaited};
 ghost use Rattle.tier_calls.specs.InPlace.{ArrivesInPlace};
 ghost use Rattle.tier_calls.specs.InPlace as in_place;
 ghost use Rattle.tier_calls.specs.Polls.{Polls};
 ghost use Rattle.tier_calls.specs.Polls as polls;
+ghost use Rattle.tier_calls.specs.Waited.{PollWaited};
 ghost use Rattle.tier_calls.specs.Forces.{Forces, ForcedBy};
 ghost use Rattle.tier_calls.specs.Forces as forces;
 ghost use Rattle.tier_steps.specs.declared.view.Passage.TheVariants.{Departure};
 ghost use Rattle.tier_calls.specs.Made.{HasEntered, HasLooked};
-ghost use Rattle.tier_table.specs.AtLast.{token_admitted, token_counted, PassedBy, RegistersAtLast, ArrivesAtLast, AwaitsAdvance, HasEndedJoin, HasEndedArrival, HasEndedWait};
+ghost use Rattle.tier_table.specs.AtLast.{token_admitted, token_counted, PassedBy, RegistersAtLast, ArrivesAtLast, LedAtLast, AwaitsAdvance, AwaitWaited, HasEndedJoin, HasEndedArrival, HasEndedWait};
 ghost use Rattle.tier_table.specs.AtLast as at_last;
 ghost use Rattle.tier_shape.specs.Leaves.{leaves_of};
 ghost use Rattle.tier_shape.specs.Preferred.{leaf_at};
@@ -76,8 +78,8 @@ impl<A: OnAdvance> Model for PhaserTree<A> {
 /// A token without members, which can register some.
 #[derive(Drop)]
 pub struct Guest<'a, A: OnAdvance = NoHook> {
-    shared: &'a SharedTree<A>,
-    door: Door,
+    pub(crate) shared: &'a SharedTree<A>,
+    pub(crate) door: Door,
 }
 
 impl<'a, A: OnAdvance> Model for Guest<'a, A> {
@@ -367,16 +369,19 @@ impl<'a, A: OnAdvance> Party<'a, A> {
     /// Lets a member arrive. Doesn't wait for others to arrive.
     pub fn arrive<R: Wait>(&mut self, rt: &R) -> ArrivedInPlace
         ensures answer { ArrivesInPlace self.old self.new result }
+        ensures waited { LedInPlaceWaited self.new result }
         ensures found { in_place.FindsArrived self.old self.new result }
         ensures ended { (phase : ℕ) → self.old.view.end_seen ≡ Some phase → in_place.HasEnded result }
     {
         self.shared.arrive_in_place(rt, &mut self.crew)
     }
 
-    /// Checks whether the phase in which all members have arrived is over. Doesn't wait.
+    /// Checks whether the phase in which all members have arrived is over. Doesn't wait. Returns `Passed` only after an
+    /// advance of the tree that found every member of every party arrived in that phase (clause `waited`).
     pub fn poll(&mut self) -> Polled
         ensures tree { self.new.tree ≡ self.old.tree }
         ensures answer { Polls self.old self.new result }
+        ensures waited { PollWaited self.old self.new result }
         ensures caught_up { polls.CaughtUpBy result self.new }
         ensures ended { (phase : ℕ) → self.old.view.end_seen ≡ Some phase → polls.HasEnded result }
     {
@@ -386,9 +391,14 @@ impl<'a, A: OnAdvance> Party<'a, A> {
 
     /// Waits until the phase in which all members have arrived is over. Returns at once if a member has not arrived, or
     /// the tree has ended.
+    ///
+    /// Returns `Passed` only after an advance of the tree that found every member of every party arrived in that phase
+    /// (clause `waited`): some run of steps leads to what this party saw, and the last advance of every such run found so.
+    /// That the call returns is not part of its contract.
     pub fn await_advance<R: Wait>(&mut self, rt: &R) -> AwaitedAdvance
         ensures tree { self.new.tree ≡ self.old.tree }
         ensures answer { AwaitsAdvance self.old self.new result }
+        ensures waited { AwaitWaited self.old self.new result }
         ensures unsplit { self.new.opened ≡ self.old.opened }
         ensures made { HasLooked self.old.steps self.new.steps }
         ensures caught_up { at_last.CaughtUpBy result self.new }
@@ -400,6 +410,10 @@ impl<'a, A: OnAdvance> Party<'a, A> {
 
     /// Lets a member arrive, and waits until the phase in which all members have arrived is over. A party of one member
     /// meets all others by this call. With several members, each but the last only arrives, and the call returns `Here`.
+    /// [`Parties`](crate::parties::Parties) lets several members arrive at once.
+    ///
+    /// Returns `Passed` only after an advance of the tree that found every member of every party arrived in the phase in
+    /// which this party arrived.
     pub fn meet<R: Wait>(&mut self, rt: &R) -> AwaitedAdvance
         ensures tree { self.new.tree ≡ self.old.tree }
         ensures answer { Meets self.old self.new result }
@@ -441,6 +455,7 @@ impl<'a, A: OnAdvance> Party<'a, A> {
     /// Lets a member leave. Its departure counts as its arrival.
     pub fn leave<R: Wait>(self, rt: &R) -> Departed<'a, A>
         ensures answer { ArrivesAtLast Departure self.entry (counted_of result) }
+        ensures waited { LedAtLast (counted_of result) }
         ensures unsplit { (token_counted (counted_of result)).opened ≡ self.entry.opened }
         ensures made { PassedBy Departure self.entry.steps (counted_of result) }
         ensures ended { (phase : ℕ) → self.entry.view.end_seen ≡ Some phase → HasEndedArrival (counted_of result) }

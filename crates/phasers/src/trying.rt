@@ -1,5 +1,6 @@
 //! Meetings that don't wait: for callers that may not, as they have no `rt` that waits.
 
+ghost use Rattle.tier_calls.specs.Led.{LedOnWaited};
 ghost use Rattle.tier_calls.specs.Arrives.{Resumes};
 ghost use Rattle.phasers.specs.Trying.{TriesToMeet, resumed_of};
 
@@ -61,7 +62,8 @@ pub enum Settled<'a, A: OnAdvance = NoHook> {
 impl<'a, A: OnAdvance> Owed<'a, A> {
     /// Resumes the arrival, with at most `tries` tries; 16 are enough if no other thread is inside a call.
     pub fn settle(self, tries: u32) -> Settled<'a, A>
-        ensures { Resumes self.entry tries (resumed_of result) }
+        ensures answer { Resumes self.entry tries (resumed_of result) }
+        ensures waited { LedOnWaited (resumed_of result) }
     {
         let Owed { shared, errand } = self;
         match shared.resume(errand, tries) {

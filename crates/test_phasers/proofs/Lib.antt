@@ -1,1 +1,2 @@
+pub mod AtLeaves
 pub mod Held

@@ -8,6 +8,7 @@ pub mod calls;
 mod closures;
 #[cfg(test)]
 mod examples;
+pub mod groups;
 #[cfg(test)]
 mod lists;
 #[cfg(test)]

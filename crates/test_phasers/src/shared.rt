@@ -1,6 +1,6 @@
 //! The tree on atomic words: threads that share a tree.
 #[cfg(test)]
-mod counts;
+pub(crate) mod counts;
 #[cfg(test)]
 mod duties;
 #[cfg(test)]

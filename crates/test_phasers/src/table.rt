@@ -4,6 +4,6 @@ mod rows;
 #[cfg(test)]
 mod runs;
 #[cfg(test)]
-mod trees;
+pub(crate) mod trees;
 #[cfg(test)]
 mod waits;

@@ -59,7 +59,7 @@ seen_step above Refresh t w v h = h
 
 seen_goes : (k : Key) (from at : Position) → seen from.view.end_seen ≡ true → Goes k from at → seen at.view.end_seen ≡ true
 seen_goes k from at h starts = h
-seen_goes k from at h (steps at' w b go fits g beside says) =
+seen_goes k from at h (steps at' w b go fits g beside says found) =
     let t : ℕ = place k.shape at'.progress at'.view in
     seen_step (parent_of k.shape t) (turn_by k.shape b w at'.progress at'.view).kind t w at'.view (seen_goes k from at' h go)
 seen_goes k from at h (looks at' w go fits g beside) =
@@ -113,7 +113,7 @@ refuses_still (Refreshing passed_on) a a' g h = h
 
 refuses_goes : (k : Key) (from at : Position) → refuses from.answer from.progress ≡ true → Goes k from at → refuses at.answer at.progress ≡ true
 refuses_goes k from at h starts = h
-refuses_goes k from at h (steps at' w b go fits g beside says) = refuses_next k.shape b w at'.progress at'.view at'.answer fits g (refuses_goes k from at' h go)
+refuses_goes k from at h (steps at' w b go fits g beside says found) = refuses_next k.shape b w at'.progress at'.view at'.answer fits g (refuses_goes k from at' h go)
 refuses_goes k from at h (looks at' w go fits g beside) =
     let r : Turn = turn_by k.shape false w at'.progress at'.view in
     let t : ℕ = place k.shape at'.progress at'.view in

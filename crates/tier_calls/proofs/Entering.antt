@@ -69,7 +69,7 @@ step_enters ps b w (Refreshing passed_on) v fits g j = not_both false j refl
 
 enters_along : (k : Key) (from at : Position) → is_joining from.progress ≡ true → Goes k from at → MadeOnly is_entering from.steps at.steps
 enters_along k from at j starts = made_none is_entering from.steps
-enters_along k from at j (steps at' w b go fits g beside says) =
+enters_along k from at j (steps at' w b go fits g beside says found) =
     made_more is_entering (turn_by k.shape b w at'.progress at'.view).kind from.steps at'.steps (step_enters k.shape b w at'.progress at'.view fits g (joining_stays k from at' j go))
     (enters_along k from at' j go)
 enters_along k from at j (looks at' w go fits g beside) =

@@ -144,7 +144,7 @@ module _ (k : Key) (own : Passage) (P C : View → Type 0) (Q R : List Kind → 
     (from : Position) (shown : (at : Position) → Goes k from at → PassAt own P C at.view at.answer at.progress) where
   pub made_along : (at : Position) → MadeAt Q R from.view.led from.answer from.progress from.steps → Goes k from at → MadeAt Q R at.view.led at.answer at.progress at.steps
   made_along at m starts = m
-  made_along at m (steps at' w b go fits g beside says) =
+  made_along at m (steps at' w b go fits g beside says found) =
       step_made k.shape own P C Q R waits climbs counts at'.progress at'.view at'.answer b w at'.steps (shown at' go) fits g (made_along at' m go)
   made_along at m (looks at' w go fits g beside) =
       look_made k.shape own P C Q R waits climbs counts at' w (shown at' go) fits g beside (made_along at' m go)

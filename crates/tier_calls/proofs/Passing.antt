@@ -120,7 +120,7 @@ counted_on own v u u' c s = record {
 }
 
 -- a token that climbs or advances is in the root's phase
-current_at : (ps : List ℕ) (t : ℕ) (w : Fields) (v : View) → Beside ps t w v → (v.errand ≡ Advancing) ⊎ ((to : ℕ) × (passage : Passage) × (v.errand ≡ Climbing to passage)) → t ≡ 0 → v.phase ≡ w.phase
+pub current_at : (ps : List ℕ) (t : ℕ) (w : Fields) (v : View) → Beside ps t w v → (v.errand ≡ Advancing) ⊎ ((to : ℕ) × (passage : Passage) × (v.errand ≡ Climbing to passage)) → t ≡ 0 → v.phase ≡ w.phase
 current_at ps t w v b way z =
     let fits = (mine ps b.words b.front b.back v b.tally).errand in
     let root : (word_at b.words 0).phase ≡ w.phase = ap (λ (n : ℕ). (word_at b.words n).phase) (sym z) ∙ ap (λ (x : Fields). x.phase) b.word in
@@ -225,7 +225,7 @@ module _ (k : Key) (own : Passage) (P C : View → Type 0) (stays : (u u' : View
     (counts : (above t : ℕ) (w : Fields) (u : View) → u.arrived < u.size → P u → C (view_after above (own_kind own) t w u)) where
   along : (from at : Position) → PassAt own P C from.view from.answer from.progress → Goes k from at → PassAt own P C at.view at.answer at.progress
   along from at sh starts = sh
-  along from at sh (steps at' w b go fits g beside says) = step_shown k.shape own P C stays keeps counts at'.progress at'.view at'.answer b w (along from at' sh go) fits g beside
+  along from at sh (steps at' w b go fits g beside says found) = step_shown k.shape own P C stays keeps counts at'.progress at'.view at'.answer b w (along from at' sh go) fits g beside
   along from at sh (looks at' w go fits g beside) = look_shown k.shape own P C stays keeps counts at' w (along from at' sh go) fits g beside
 
 pub passes_count_once : PassesCountOnce

@@ -25,12 +25,13 @@ use Rattle.tier_core.proofs.Turns.{by_test, not_both}
 use Rattle.tier_rule.specs.declared.sight.Key.{Key}
 use Rattle.tier_rule.specs.Look.{glance, looking}
 use Rattle.tier_rule.specs.Reach.{PlanSays}
+use Rattle.tier_rule.specs.Run.{IsReached}
 use Rattle.tier_rule.specs.Tell.{Beside}
-use Rattle.tier_calls.specs.Holding.{Named, Holding, Took, Won, Lost}
+use Rattle.tier_calls.specs.Holding.{Named, Holding, sight_held, Took, Won, Lost}
 use Rattle.tier_calls.specs.Calls.{IsAt}
 use Rattle.tier_calls.specs.declared.going.Going.{Going}
 use Rattle.tier_calls.specs.Next.{meant, is_look}
-use Rattle.tier_calls.specs.Goes.{position, Goes, steps, looks, after_look, Stands, is_back, WentOn, LooksOn, EndsAsPlanned, Ran, After}
+use Rattle.tier_calls.specs.Goes.{WasFound, position, Goes, steps, looks, after_look, Stands, is_back, WentOn, LooksOn, EndsAsPlanned, Ran, After}
 use Rattle.tier_calls.proofs.Turning.{ended_root, by_cond, SeekIs, PassIs, ends, refused, claims, joins, over, behind, passes, seek_is, pass_is, NextBy, next_by, LookIs, look_is}
 
 -- after a look that is its next step a call is over, or gives a path back
@@ -272,6 +273,16 @@ module _ (n : Named) (b : Bool) (g : Going) (at : IsAt n g) (st : Stands n.key g
   pub try_says : PlanSays n.key rt.kind g.token.word
   try_says = plan_says n.key b g.token.word g.progress g.token.view at.fits st.going says
 
+  was_found : IsReached g.token.tree.key g.token.tier g.token.word (sight_held g.token) → WasFound n.key tp g.token.word g.token.view g.token.steps
+  was_found r = record {
+    sight = sight_held g.token;
+    reached = subst (λ (z : Named). IsReached z.key tp g.token.word (sight_held g.token)) at.own
+        (subst (λ (z : ℕ). IsReached g.token.tree.key z g.token.word (sight_held g.token)) st.tier r);
+    own = ap (λ (z : Named). z.key) at.own;
+    view = refl;
+    steps = refl;
+  }
+
   pub won_on : (g' : Going) (h : Holding) → Won rt.kind g.token h → g'.token ≡ h → g'.progress ≡ rt.next → g'.answer ≡ rt.answer → WentOn n 1 g g'
   won_on g' h took is p a =
       let u : View = view_after (parent_of n.key.shape tp) rt.kind tp g.token.word g.token.view in
@@ -287,7 +298,7 @@ module _ (n : Named) (b : Bool) (g : Going) (at : IsAt n g) (st : Stands n.key g
         tried = ap (λ (z : Holding). z.tried) is ∙ took.tried;
         opened = ap (λ (z : Holding). z.opened) is ∙ took.opened;
         goes = λ from before_. subst (Goes n.key from) (sym (λ i. record { progress = p i; view = view i; answer = a i; steps = (ap (λ (z : Holding). z.steps) is ∙ took.steps) i }))
-            (steps (position g) g.token.word b before_ at.fits st.going here_known try_says);
+            (steps (position g) g.token.word b before_ at.fits st.going here_known try_says (was_found took.found));
       }
 
   pub lost_on : (g' : Going) (h : Holding) → Lost rt.kind g.token h → g'.token ≡ h → After n.key.shape g.progress g.token.view g' → WentOn n 1 g g'

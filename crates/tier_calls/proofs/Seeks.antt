@@ -267,7 +267,7 @@ module _ (ps : List ℕ) (least home tier size : ℕ) where
 
 pub joins_do_as_asked : JoinsDoAsAsked
 joins_do_as_asked k least home tier size from at sh starts = sh
-joins_do_as_asked k least home tier size from at sh (steps at' w b go fits g beside says) =
+joins_do_as_asked k least home tier size from at sh (steps at' w b go fits g beside says found) =
     step_shown k.shape least home tier size at'.progress at'.view at'.answer b w (joins_do_as_asked k least home tier size from at' sh go) fits g beside
 joins_do_as_asked k least home tier size from at sh (looks at' w go fits g beside) =
     look_shown k.shape least home tier size at' w (joins_do_as_asked k least home tier size from at' sh go) fits g beside
@@ -297,7 +297,7 @@ joining_next ps b w (Refreshing passed_on) v fits j = absurd (cc)
 
 pub joining_stays : (k : Key) (from at : Position) → is_joining from.progress ≡ true → Goes k from at → is_joining at.progress ≡ true
 joining_stays k from at j starts = j
-joining_stays k from at j (steps at' w b go fits g beside says) = joining_next k.shape b w at'.progress at'.view fits (joining_stays k from at' j go)
+joining_stays k from at j (steps at' w b go fits g beside says found) = joining_next k.shape b w at'.progress at'.view fits (joining_stays k from at' j go)
 joining_stays k from at j (looks at' w go fits g beside) =
     let r : Turn = turn_by k.shape false w at'.progress at'.view in
     let t : ℕ = place k.shape at'.progress at'.view in

@@ -221,7 +221,7 @@ call_kept : (kept : Progress → Bool)
     → ((ps : List ℕ) (b : Bool) (w : Fields) (p : Progress) (v : View) → CallFits ps p v → kept p ≡ true → Only kept (turn_by ps b w p v).next)
     → (k : Key) (from at : Position) → kept from.progress ≡ true → Goes k from at → Only kept at.progress
 call_kept kept next k from at q starts = λ g. q
-call_kept kept next k from at q (steps at' w b go fits g beside says) = next k.shape b w at'.progress at'.view fits (call_kept kept next k from at' q go g)
+call_kept kept next k from at q (steps at' w b go fits g beside says found) = next k.shape b w at'.progress at'.view fits (call_kept kept next k from at' q go g)
 call_kept kept next k from at q (looks at' w go fits g beside) =
     let r : Turn = turn_by k.shape false w at'.progress at'.view in
     let t : ℕ = place k.shape at'.progress at'.view in

@@ -7,7 +7,7 @@ use Rattle.phaser_word.specs.Fields.{Fields}
 use Rattle.tier_shape.specs.Parents.{parent_of}
 use Rattle.tier_steps.specs.declared.kind.Kind.{Kind}
 use Rattle.tier_steps.specs.declared.view.Errand.TheVariants.{Rest}
-use Rattle.tier_steps.specs.Step.{Needs, view_after}
+use Rattle.tier_steps.specs.Step.{Needs, view_after, looked}
 use Rattle.tier_core.specs.Turn.{lags}
 use Rattle.tier_core.proofs.Turns.{not_both}
 use Rattle.tier_rule.specs.Look.{glance}
@@ -16,9 +16,12 @@ use Rattle.tier_steps.specs.declared.kind.Kind.TheVariants.{Look, Refresh}
 use Rattle.tier_steps.specs.Word.{next_phase_of}
 use Rattle.tier_steps.proofs.KindLaw.{mine}
 use Rattle.tier_rule.specs.Tell.{Beside}
-use Rattle.tier_calls.specs.Holding.{Named, Holding, Looked, Took, Won, Lost, IsCrew, shape_of}
+use Rattle.tier_calls.specs.Holding.{Named, Holding, sight_held, Looked, Took, Won, Lost, IsCrew, shape_of}
 use Rattle.tier_calls.specs.Arrives.{IsLooked, IsSoon}
 use Rattle.tier_calls.specs.Polls.{Polls, HasCaughtUp}
+use Rattle.tier_calls.specs.Waited.{SawAdvance, SawEnd, WaitedFor}
+use Rattle.tier_rule.proofs.Ends.{each_end_has_a_cause}
+use Rattle.tier_rule.proofs.Waited.{looked_where, each_token_is_waited_for, between_is_next}
 use Rattle.tier_calls.proofs.Greeting.{known_by, waits_here}
 use Rattle.tier_calls.specs.declared.polling.Polled.TheVariants.{Passed, Waiting, Here}
 use Rattle.tier_calls.specs.Passes.{IsFresh}
@@ -68,6 +71,34 @@ module _ (h h' new : Holding) (crew : IsCrew h) (took : Looked Look 0 h h') (goi
         made,
       )
 
+-- if the look has brought the token into another phase, all had arrived in the one before
+pub polls_waited : (h h' new : Holding) → Looked Look 0 h h' → h'.word.ended ≡ false → new.view ≡ h'.view → (phase : ℕ) → phase ≡ h'.view.phase → h'.view.phase ≢ h.view.phase → SawAdvance h new phase
+polls_waited h h' new took going same phase is other =
+    let view : h'.view.phase ≡ (looked h'.word h.view).phase = ap (λ (v : View). v.phase) took.view in
+    record {
+      root = h'.word;
+      going = going;
+      now = ⊎_elim (λ (e : (looked h'.word h.view).phase ≡ h.view.phase). absurd (other (view ∙ e))) (λ (e : (looked h'.word h.view).phase ≡ h'.word.phase). sym (is ∙ (view ∙ e)))
+          (looked_where h'.word h.view);
+      saw = same ∙ took.view;
+      found = took.found;
+      waited = each_token_is_waited_for h.tree.key h.view.phase phase (λ e. other (sym is ∙ e));
+    }
+
+pub polls_end : (h h' : Holding) → Looked Look 0 h h' → h'.word.ended ≡ true → SawEnd h h'
+polls_end h h' took over = record {
+  root = h'.word;
+  ended = over;
+  saw = took.view;
+  found = took.found;
+  waited = λ other. each_token_is_waited_for h.tree.key h.view.phase h'.word.phase other;
+  cause = each_end_has_a_cause h.tree.key;
+}
+
+-- What a token says that saw an advance tells by itself which phase it was: no other answer meets it.
+pub saw_next : (old new : Holding) (phase : ℕ) → 0 < old.view.size → SawAdvance old new phase → phase ≡ next_phase_of old.view.phase
+saw_next old new phase members saw = between_is_next old.tree.key old.view.phase phase saw.root (sight_held old) saw.waited saw.found saw.now members refl
+
 -- A look at a tier below the root leaves the view, and so does a refresh there, whether it is taken or lost.
 below_same : (above t : ℕ) (w : Fields) (v : View) → t ≢ 0 → view_after above (glance t) t w v ≡ v
 below_same above zero w v off = absurd (off refl)
@@ -80,7 +111,7 @@ pub refreshed_view : (b : Bool) (h h' : Holding) → h.tier ≢ 0 → MatchBool 
 refreshed_view true h h' off won = won.view
 refreshed_view false h h' off lost = lost.took.view ∙ below_same (parent_of (shape_of h) h.tier) h.tier h'.word h.view off
 
-lags_parts : (w : Fields) (v : View) → lags w v ≡ true → (0 < w.parties) × (w.unarrived ≡ 0) × (w.phase ≢ v.phase)
+pub lags_parts : (w : Fields) (v : View) → lags w v ≡ true → (0 < w.parties) × (w.unarrived ≡ 0) × (w.phase ≢ v.phase)
 lags_parts w v e =
     let a = both_true (ltb 0 w.parties) (eqb w.unarrived 0 && not (eqb w.phase v.phase)) e in
     let b = both_true (eqb w.unarrived 0) (not (eqb w.phase v.phase)) a.1 in
@@ -153,3 +184,6 @@ caught_up_by_look {h} {h'} {t} here below rests some took still =
       took.tier ∙ sym at,
       inl (in_phase b (ap (λ (v : View). v.errand) same ∙ rests) at (subst (λ (v : View). v.arrived < v.size) (sym same) some) going still),
     )
+
+pub waited_for : (n : Named) (left now : ℕ) → now ≢ left → WaitedFor n left now
+waited_for n left now differs = each_token_is_waited_for n.key left now differs

@@ -122,7 +122,7 @@ stays_claimed ps w (Refreshing moved) v s quiet = not_both false s refl
 pub watches_along : (k : Key) (from at : Position) → is_joining from.progress ≡ true → Goes k from at → is_seeking at.progress ≡ true → claimed_by at.view.errand ≡ 0
     → MadeOnly is_look from.steps at.steps
 watches_along k from at j starts s none = made_none is_look from.steps
-watches_along k from at j (steps at' w b go fits g beside says) s none = absurd (seeks_no_more k.shape b w at'.progress at'.view fits (joining_stays k from at' j go) s none)
+watches_along k from at j (steps at' w b go fits g beside says found) s none = absurd (seeks_no_more k.shape b w at'.progress at'.view fits (joining_stays k from at' j go) s none)
 watches_along k from at j (looks at' w go fits g beside) s none =
     let r : Turn = turn_by k.shape false w at'.progress at'.view in
     let t : ℕ = place k.shape at'.progress at'.view in

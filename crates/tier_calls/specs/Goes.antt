@@ -14,6 +14,8 @@ use Rattle.tier_core.specs.declared.call.Turn.{Turn}
 use Rattle.tier_core.specs.Machine.{CallFits, is_due, is_going}
 use Rattle.tier_core.specs.Turn.{place, turn_by, end_shown}
 use Rattle.tier_rule.specs.declared.sight.Key.{Key}
+use Rattle.tier_rule.specs.declared.sight.Sight.{Sight}
+use Rattle.tier_rule.specs.Run.{IsReached}
 use Rattle.tier_rule.specs.Look.{looking}
 use Rattle.tier_rule.specs.Reach.{PlanSays}
 use Rattle.tier_rule.specs.Tell.{Beside}
@@ -48,10 +50,19 @@ after_look parents w at =
     let v : View = view_after (parent_of parents t) kind t w at.view in
     if is_look r.kind then record { progress = r.next; view = v; answer = r.answer; steps = kind ∷ at.steps } else record { progress = at.progress; view = v; answer = GoesOn; steps = kind ∷ at.steps }
 
+-- Some run of steps leads to a state in which the tier t has this word, and some seat a token of this tree with this view that has taken these steps.
+pub record WasFound (k : Key) (t : ℕ) (w : Fields) (v : View) (made : List Kind) : Type 0 where
+  pub sight : Sight
+  pub reached : IsReached k t w sight
+  pub own : sight.key ≡ k
+  pub view : sight.view ≡ v
+  pub steps : sight.steps ≡ made
+
 pub data Goes (k : Key) (from : Position) : Position → Type 0 where
   starts : Goes k from from
   steps : (at : Position) (w : Fields) (ends : Bool) → Goes k from at → CallFits k.shape at.progress at.view → is_going at.progress ≡ true
       → Beside k.shape (place k.shape at.progress at.view) w at.view → PlanSays k (turn_by k.shape ends w at.progress at.view).kind w
+      → WasFound k (place k.shape at.progress at.view) w at.view at.steps
       → Goes k from (after_step k.shape ends w at)
   looks : (at : Position) (w : Fields) → Goes k from at → CallFits k.shape at.progress at.view → is_going at.progress ≡ true
       → Beside k.shape (place k.shape at.progress at.view) w at.view

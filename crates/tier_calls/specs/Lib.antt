@@ -14,3 +14,17 @@ pub mod Forces
 pub mod Closes
 pub mod JoinsHere
 pub mod InPlace
+pub mod Groups
+pub mod Waited
+pub mod LastOnes
+pub mod ArrivesAll
+pub mod Splits
+pub mod Settles
+pub mod NewTokens
+pub mod Exchanges
+pub mod ArrivesWith
+pub mod Finishes
+pub mod Led
+pub mod LeavesAll
+pub mod JoinsAll
+pub mod RegistersAll

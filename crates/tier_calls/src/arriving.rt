@@ -4,6 +4,7 @@ ghost use Rattle.std.specs.Prelude.{◌≡◌, ℕ, Some};
 ghost use Rattle.advance_rule.specs.Stored.{Answers};
 ghost use Rattle.advance_rule.specs.Plan.{end_ends_at};
 ghost use Rattle.tier_calls.specs.Calls.{under};
+ghost use Rattle.tier_calls.specs.Led.{LedWaited, LedOnWaited};
 ghost use Rattle.tier_calls.specs.Arrives.{Arrives, FindsArrived, Resumes, HasEnded, MaySettle, MayEnd, Settles, Ends};
 
 use crate::going::{Course, Going};
@@ -134,6 +135,7 @@ impl Tiers {
         requires rule { Answers (F.pre rule.now.closure) (F.post rule.now.closure) (end_ends_at rule.now.plan) }
         requires plan { rule.now.plan ≡ self.now.key.plan }
         ensures answer { Arrives own crew tries result }
+        ensures waited { LedWaited result }
         ensures found { FindsArrived crew result }
         ensures ended { (phase : ℕ) → crew.view.end_seen ≡ Some phase → HasEnded result }
     {
@@ -166,7 +168,8 @@ impl Tiers {
         requires own { errand.token.tree ≡ self.now }
         requires rule { Answers (F.pre rule.now.closure) (F.post rule.now.closure) (end_ends_at rule.now.plan) }
         requires plan { rule.now.plan ≡ self.now.key.plan }
-        ensures { Resumes errand tries result }
+        ensures answer { Resumes errand tries result }
+        ensures waited { LedOnWaited result }
     {
         let Errand { going: at } = errand;
         let Going {

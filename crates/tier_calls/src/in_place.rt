@@ -9,6 +9,7 @@ ghost use Rattle.tier_steps.specs.declared.view.Passage.TheVariants.{Arrival};
 ghost use Rattle.tier_calls.specs.Calls.{IsAt, under};
 ghost use Rattle.tier_calls.specs.Next.{is_passing};
 ghost use Rattle.tier_calls.specs.Goes.{WentOn};
+ghost use Rattle.tier_calls.specs.Led.{LedInPlaceWaited};
 ghost use Rattle.tier_calls.specs.InPlace.{ArrivesInPlace, FindsArrived, HasEnded, MayCome, Comes, RanOver};
 
 use crate::TRIES;
@@ -143,6 +144,7 @@ impl Tiers {
         requires rule { Answers (F.pre rule.now.closure) (F.post rule.now.closure) (end_ends_at rule.now.plan) }
         requires plan { rule.now.plan ≡ self.now.key.plan }
         ensures answer { ArrivesInPlace crew.old crew.new result }
+        ensures waited { LedInPlaceWaited crew.new result }
         ensures found { FindsArrived crew.old crew.new result }
         ensures ended { (phase : ℕ) → crew.old.view.end_seen ≡ Some phase → HasEnded result }
     {

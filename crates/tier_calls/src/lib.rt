@@ -42,14 +42,20 @@
 #![tactic(auto)]
 
 pub mod arriving;
+pub mod arriving_with;
 mod beside;
 pub mod closing;
+pub mod finishing;
 pub mod forcing;
 mod going;
+pub mod groups;
 pub mod in_place;
 pub mod joining;
+pub mod joining_all;
+pub mod leaving_all;
 mod next;
 pub mod polling;
+pub mod registering_all;
 mod seated;
 mod seen;
 mod stepping;

@@ -10,20 +10,21 @@ use prog.Atomic.{either}
 use Rattle.atomic_table.specs.Table.{State, Me, step, keeps, stepped, Allows, Splits, Joins, opening}
 use Rattle.phaser_word.specs.Fields.{Fields, IsLegal}
 use Rattle.phaser_word.specs.Packed.{packed}
-use Rattle.tier_shape.specs.Parents.{parent_of}
 use Rattle.tier_shape.specs.Paths.{IsTiers}
 use Rattle.tier_steps.specs.declared.view.View.{View}
 use Rattle.tier_steps.specs.declared.kind.Kind.{Kind}
 use Rattle.tier_steps.specs.declared.kind.Kind.TheVariants.{Look, Glance, Refuse, Join, Arrive, Leave, Advance, Force, Claim, Settle, SettleBack, Climb, Refresh}
 use Rattle.tier_steps.specs.View.{new_view}
 use Rattle.tier_steps.specs.Tally.{blank, word_at, Tallies}
-use Rattle.tier_steps.specs.Step.{Needs, Refuses, IsDue, added, word_after, view_after}
+use Rattle.tier_steps.specs.Step.{Needs, Refuses, IsDue, added, word_after}
 use Rattle.tier_steps.specs.Laws.{words_after}
 use Rattle.tier_steps.specs.Start.{empty_word, empty_words}
 use Rattle.tier_rule.specs.declared.sight.Key.{Key}
 use Rattle.tier_rule.specs.declared.sight.Sight.{Sight}
 use Rattle.tier_rule.specs.Look.{glance, refusing, looking, turns_away, MayLook}
-use Rattle.tier_rule.specs.Reach.{first_sight, first_sights, sat_sight, cut_once, PlanSays, IsTried, Learns, Reached, opens, steps, cuts, sits, joins, looks, parts, Kept}
+use Rattle.tier_rule.specs.Reach.{first_sight, first_sights, sat_sight, cut_once, PlanSays, IsTried, Reached, opens, steps, cuts, sits, joins, parts, Kept}
+use Rattle.tier_rule.specs.Group.{stepped_sight as after}
+use Rattle.tier_rule.specs.Run.{IsReached}
 use Rattle.tier_rule.specs.Tell.{Beside, Stepped, Tried, Saw, Sat, SawBoth}
 use Rattle.flat_phaser.proofs.Everyone.{both_true}
 use Rattle.tier_steps.specs.Word.{is_being_opened}
@@ -31,12 +32,13 @@ use Rattle.tier_core.specs.Turn.{has_no_room, is_refusing}
 use Rattle.tier_rule.proofs.Packing.{packed_once}
 use Rattle.tier_rule.proofs.Seats.{around}
 use Rattle.tier_rule.proofs.Seats.{beside as around_new}
-use Rattle.tier_rule.proofs.Reaching.{shaped, reached_states_tally}
+use Rattle.tier_rule.proofs.Reaching.{shaped, same_words, reached_states_tally}
+use Rattle.tier_rule.proofs.Going.{goes_on, looks_go}
 
-abbrev St : Type 0
+abbrev pub St : Type 0
 St = State Kind (List Sight)
 
-word_number : (ws : List Fields) (t : ℕ) → t < length ws → get_or (map packed ws) t 0 ≡ packed (word_at ws t)
+pub word_number : (ws : List Fields) (t : ℕ) → t < length ws → get_or (map packed ws) t 0 ≡ packed (word_at ws t)
 word_number [] t h = absurd (omega arith)
 word_number (w ∷ ws) zero h = refl
 word_number (w ∷ ws) (suc t) h = word_number ws t (omega arith)
@@ -110,16 +112,9 @@ may_look ps (SettleBack tier claimed size) t w v n = tt
 may_look ps (Climb passage) t w v n = tt
 may_look ps Refresh t w v n = tt
 
-abbrev after : Kind → ℕ → Fields → ℕ → Sight → Sight
-after kind t w tries x = record {
-  key = x.key;
-  view = view_after (parent_of x.key.shape t) kind t w x.view;
-  tier = t;
-  word = word_after kind t w x.view;
-  tried = x.tried + tries;
-  steps = kind ∷ x.steps;
-  opened = x.opened;
-}
+-- what a step finds
+found_at : (k : Key) (ws : List Fields) (vs : List (List Sight)) (id t : ℕ) (w : Fields) (f : List Sight) (x : Sight) (b : List Sight) → Reached k ws vs → get_elem? vs id ≡ some (f ++ x ∷ b) → t < length ws → word_at ws t ≡ w → IsReached k t w x
+found_at k ws vs id t w f x b r at inside here = record { words = ws; seats = vs; reached = r; within = inside; word = here; stands = record { id = id; front = f; back = b; seat = at } }
 
 -- a step of this kind at the tier t
 record Moves (s : St) (id t : ℕ) (kind : Kind) (w : Fields) (tries left : ℕ) (x : Sight) : Type 0 where
@@ -139,7 +134,7 @@ moves_here s id t tries left x kind kept few at inside new needs says =
     let tally = reached_states_tally k ws s.views kept.reached in
     let long = tally.long in
     let within : t < length ws = omega arith in
-    let r : Reached k (words_after ws kind t x.view) (set s.views id (y ∷ [])) = steps ws s.views id t tries x y kind kept.reached at within needs says refl (record { key = refl; view = refl; tier = refl; word = refl; tried = refl; steps = refl; opened = refl }) few in
+    let r : Reached k (words_after ws kind t x.view) (set s.views id (y ∷ [])) = steps ws s.views id t tries [] [] x y kind kept.reached at within needs says refl (record { key = refl; view = refl; tier = refl; word = refl; tried = refl; steps = refl; opened = refl }) few in
     let same : length (words_after ws kind t x.view) ≡ length ws = length-set ws t (word_after kind t w x.view) in
     record {
       kept = record {
@@ -175,6 +170,7 @@ moves_here s id t tries left x kind kept few at inside new needs says =
           tally = subst (λ (vs : List View). Tallies k.shape (words_after ws kind t x.view) vs) (a.after y)
               (reached_states_tally k (words_after ws kind t x.view) (set s.views id (y ∷ [])) r);
         };
+        found = found_at k ws s.views id t w [] x [] kept.reached at within refl;
       };
     }
 
@@ -197,11 +193,11 @@ same_sight : (x x' : Sight) → ◌≡◌ {A = Me Kind (List Sight)} (x ∷ [], 
 same_sight x x' is = ap (λ (m : Me Kind (List Sight)). first_of x m.0) is
 
 -- the word that is found
-record Found (s : St) (k : Key) (t : ℕ) (kept : Kept k s) : Type 0 where
-  legal : IsLegal (word_at kept.words t)
-  number : get_or s.words t 0 ≡ packed (word_at kept.words t)
+pub record Found (s : St) (k : Key) (t : ℕ) (kept : Kept k s) : Type 0 where
+  pub legal : IsLegal (word_at kept.words t)
+  pub number : get_or s.words t 0 ≡ packed (word_at kept.words t)
 
-found : (s : St) (k : Key) (t : ℕ) (kept : Kept k s) → t < length k.shape → Found s k t kept
+pub found : (s : St) (k : Key) (t : ℕ) (kept : Kept k s) → t < length k.shape → Found s k t kept
 found s k t kept inside =
     let tally = reached_states_tally k kept.words s.views kept.reached in
     let long = tally.long in
@@ -215,7 +211,7 @@ looks_here slots id t x kind inside may s kept long at small =
     let f = found s x.key t kept inside in
     let look = is_look x.key kind t w x.view may in
     let y : Sight = after (looking kind t w) t w 0 x in
-    let m = moves s id t 0 (get_or s.words t 0) x (looking kind t w) w kept (record { few = omega arith; changes = λ c. absurd (c look.stays) }) at inside refl (f.number ∙ ap packed (sym look.stays)) look.needs look.says in
+    let m = moves s id t 0 (get_or s.words t 0) x (looking kind t w) w kept (record { few = omega arith; changes = λ c j. absurd (c look.stays) }) at inside refl (f.number ∙ ap packed (sym look.stays)) look.needs look.says in
     (y ∷ [], keeps, tt, m.kept, λ x' is. (y, refl, w, f.legal, f.number, subst (λ (z : Sight). Stepped (looking kind t w) t w 0 z y) (same_sight x x' is) m.step))
 
 pub looks_allow : (k : Key) (slots id t : ℕ) (x : Sight) (kind : Kind) → x.key ≡ k → t < length x.key.shape → MayLook x.key.shape kind t x.view
@@ -235,7 +231,7 @@ tries_here slots id old new t x kind inside legal is to needs says s kept long a
     (λ hit.
     let y : Sight = after kind t x.word 1 x in
     let here : w ≡ x.word = packed_once w x.word f.legal legal (sym f.number ∙ (hit ∙ is)) in
-    let m = moves s id t 1 new x kind x.word kept (record { few = omega arith; changes = λ c. refl }) at inside here to needs says in (
+    let m = moves s id t 1 new x kind x.word kept (record { few = omega arith; changes = λ c j. refl }) at inside here to needs says in (
       y ∷ [],
       keeps,
       tt,
@@ -252,7 +248,7 @@ tries_here slots id old new t x kind inside legal is to needs says s kept long a
     (λ miss.
     let look = is_look x.key kind t w x.view (may_look x.key.shape kind t x.word x.view needs) in
     let y : Sight = after (looking kind t w) t w 1 x in
-    let m = moves s id t 1 n x (looking kind t w) w kept (record { few = omega arith; changes = λ c. absurd (c look.stays) }) at inside refl (f.number ∙ ap packed (sym look.stays)) look.needs look.says in (
+    let m = moves s id t 1 n x (looking kind t w) w kept (record { few = omega arith; changes = λ c j. absurd (c look.stays) }) at inside refl (f.number ∙ ap packed (sym look.stays)) look.needs look.says in (
       y ∷ [],
       keeps,
       tt,
@@ -275,7 +271,7 @@ tries_allow k slots id old new t x kind own inside legal is to needs says =
     (tries_here slots id old new t x kind inside legal is to needs says)
 
 -- a number that is read stays
-same_number : (ns : List ℕ) → set ns 0 (get_or ns 0 0) ≡ ns
+pub same_number : (ns : List ℕ) → set ns 0 (get_or ns 0 0) ≡ ns
 same_number [] = refl
 same_number (n ∷ ns) = refl
 
@@ -284,7 +280,7 @@ sits_allow k slots id inside s kept long at small =
     let w : Fields = word_at kept.words 0 in
     let f = found s k 0 kept inside in
     let y : Sight = sat_sight k w in
-    let r = sits kept.words s.views id y kept.reached at refl in
+    let r : Reached k kept.words (set s.views id (y ∷ [])) = sits kept.words s.views id 1 kept.reached at in
     let tally = reached_states_tally k kept.words (set s.views id (y ∷ [])) r in
     let a = around_new s.views id [] at in
     let b : Beside k.shape 0 w (new_view w.phase) = record {
@@ -314,11 +310,8 @@ record Looks (k : Key) (s : St) (id : ℕ) (w : Fields) (x y : Sight) : Type 0 w
   first : Stepped Look 0 w 0 x (after Look 0 w 0 x)
   second : Stepped Look 0 w 0 y (after Look 0 w 0 y)
 
-look_learns : (ws : List Fields) (x : Sight) → Learns Look 0 ws 0 x (after Look 0 (word_at ws 0) 0 x)
-look_learns ws x = record { key = refl; view = refl; tier = refl; word = refl; tried = refl; steps = refl; opened = refl }
-
-look_steps : (w : Fields) (x : Sight) → Beside x.key.shape 0 w x.view → Beside x.key.shape 0 w (after Look 0 w 0 x).view → Stepped Look 0 w 0 x (after Look 0 w 0 x)
-look_steps w x b a = record { key = refl; view = refl; tier = refl; word = refl; tried = refl; steps = refl; opened = refl; before = b; after = a }
+look_steps : (w : Fields) (x : Sight) → Beside x.key.shape 0 w x.view → Beside x.key.shape 0 w (after Look 0 w 0 x).view → IsReached x.key 0 w x → Stepped Look 0 w 0 x (after Look 0 w 0 x)
+look_steps w x b a f = record { key = refl; view = refl; tier = refl; word = refl; tried = refl; steps = refl; opened = refl; before = b; after = a; found = f }
 
 one_beside : (k : Key) (ws : List Fields) (front : List View) (u : View) (back : List View) → IsTiers k.shape → Tallies k.shape ws (front ++ u ∷ back) → Beside k.shape 0 (word_at ws 0) u
 one_beside k ws front u back shape t = record { words = ws; front = front; back = back; shape = shape; within = t.some; word = refl; tally = t }
@@ -333,15 +326,19 @@ looks_both k s id x y kept own own' at =
     let w : Fields = word_at ws 0 in
     let x' : Sight = after Look 0 w 0 x in
     let y' : Sight = after Look 0 w 0 y in
-    let r = looks ws s.views id x y x' y' kept.reached at own own' (look_learns ws x) (look_learns ws y) in
+    let tally = reached_states_tally k ws s.views kept.reached in
+    let r : Reached k ws (set s.views id (x' ∷ y' ∷ [])) = subst (λ (us : List Fields). Reached k us (set s.views id (x' ∷ y' ∷ []))) (same_words ws)
+    (goes_on k 0 w w (x ∷ y ∷ []) (x' ∷ y' ∷ []) (looks_go k 0 w 0 (omega arith) (x ∷ y ∷ []) (own, (own', tt))) [] ws s.views id kept.reached at tally.some refl) in
     let shape = shaped k ws s.views kept.reached in
     let a = around_new s.views id (x ∷ y ∷ []) at in
     let t0 = subst (λ (vs : List View). Tallies k.shape ws vs) a.is (reached_states_tally k ws s.views kept.reached) in
     let t1 = subst (λ (vs : List View). Tallies k.shape ws vs) (a.after (x' ∷ y' ∷ [])) (reached_states_tally k ws (set s.views id (x' ∷ y' ∷ [])) r) in
     record {
       kept = record { words = ws; packed = same_number s.words ∙ kept.packed; reached = r };
-      first = look_steps w x (subst (λ (z : Key). Beside z.shape 0 w x.view) (sym own) (one_beside k ws a.front x.view (y.view ∷ a.back) shape t0)) (subst (λ (z : Key). Beside z.shape 0 w x'.view) (sym own) (one_beside k ws a.front x'.view (y'.view ∷ a.back) shape t1));
-      second = look_steps w y (subst (λ (z : Key). Beside z.shape 0 w y.view) (sym own') (two_beside k ws a.front x.view y.view a.back shape t0)) (subst (λ (z : Key). Beside z.shape 0 w y'.view) (sym own') (two_beside k ws a.front x'.view y'.view a.back shape t1));
+      first = look_steps w x (subst (λ (z : Key). Beside z.shape 0 w x.view) (sym own) (one_beside k ws a.front x.view (y.view ∷ a.back) shape t0)) (subst (λ (z : Key). Beside z.shape 0 w x'.view) (sym own) (one_beside k ws a.front x'.view (y'.view ∷ a.back) shape t1))
+          (subst (λ (z : Key). IsReached z 0 w x) (sym own) (found_at k ws s.views id 0 w [] x (y ∷ []) kept.reached at tally.some refl));
+      second = look_steps w y (subst (λ (z : Key). Beside z.shape 0 w y.view) (sym own') (two_beside k ws a.front x.view y.view a.back shape t0)) (subst (λ (z : Key). Beside z.shape 0 w y'.view) (sym own') (two_beside k ws a.front x'.view y'.view a.back shape t1))
+          (subst (λ (z : Key). IsReached z 0 w y) (sym own') (found_at k ws s.views id 0 w (x ∷ []) y [] kept.reached at tally.some refl));
     }
 
 pub both_allow : (k : Key) (slots id : ℕ) (x y : Sight) → x.key ≡ k → y.key ≡ k → 0 < length k.shape
@@ -369,10 +366,10 @@ both_allow k slots id x y own own' inside s kept long at small =
     )
 
 pub cuts_allow : (k : Key) (id : ℕ) (x : Sight) → Splits (Kept k) id (x ∷ []) (cut_once x ∷ []) []
-cuts_allow k id x s kept at = record { words = kept.words; packed = kept.packed; reached = cuts kept.words s.views id x kept.reached at }
+cuts_allow k id x s kept at = record { words = kept.words; packed = kept.packed; reached = cuts kept.words s.views id (x ∷ []) kept.reached at }
 
 pub parts_allow : (k : Key) (id : ℕ) (x y : Sight) → Splits (Kept k) id (x ∷ y ∷ []) (x ∷ []) (y ∷ [])
-parts_allow k id x y s kept at = record { words = kept.words; packed = kept.packed; reached = parts kept.words s.views id x y kept.reached at }
+parts_allow k id x y s kept at = record { words = kept.words; packed = kept.packed; reached = parts kept.words s.views id x [] y [] kept.reached at }
 
 pub joins_allow : (k : Key) (id other : ℕ) (l m : List Sight) → Joins (Kept k) id l other m (l ++ m) []
 joins_allow k id other l m s kept at apart there =

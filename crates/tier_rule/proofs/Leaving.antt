@@ -1,21 +1,17 @@
 -- The root leaves its phase only if everyone has arrived.
-use Rattle.std.proofs.Common.{◌≡◌, ℕ, ◌⊎◌, inl, inr, ⊎_elim, Bool, true, false, cond, eqb, List, [], ◌∷◌, ◌++◌, refl, sym, ◌∙◌, ap, subst, arith}
+use Rattle.std.proofs.Common.{◌≡◌, ℕ, ◌⊎◌, inl, inr, ⊎_elim, Bool, true, false, cond, eqb, List, [], ◌∷◌, refl, sym, ◌∙◌, ap, arith}
 use Rattle.std.specs.List.{AllByRecursion}
 use Rattle.std.proofs.lemmas.Bool.{eqb-true}
 use Rattle.flat_phaser.proofs.Everyone.{either}
 use Rattle.tier_steps.specs.declared.view.View.{View}
 use Rattle.tier_steps.specs.declared.kind.Kind.{Kind}
 use Rattle.tier_steps.specs.declared.kind.Kind.TheVariants.{Look, Glance, Refuse, Join, Arrive, Leave, Advance, Force, Claim, Settle, SettleBack, Climb, Refresh}
-use Rattle.tier_steps.specs.Tally.{word_at, root_phase, ViewFits, Tallies}
-use Rattle.tier_steps.specs.Laws.{IsStep}
+use Rattle.tier_steps.specs.Tally.{ViewFits}
 use Rattle.tier_steps.specs.Due.{is_advance}
-use Rattle.tier_steps.proofs.Due.{IsHere, everyone_here}
-use Rattle.tier_steps.proofs.Ready.{advances_are_due, phases_stay}
-use Rattle.tier_rule.specs.Laws.{HasArrived, AdvancesWaitForAll}
-use Rattle.tier_rule.proofs.Seats.{around}
-use Rattle.tier_rule.proofs.Reaching.{shaped, reached_states_tally}
+use Rattle.tier_steps.proofs.Due.{IsHere}
+use Rattle.tier_rule.specs.Laws.{HasArrived}
 
-advance_or_not : (kind : Kind) → (is_advance kind ≡ false) ⊎ ((ends : Bool) × (kind ≡ Advance ends))
+pub advance_or_not : (kind : Kind) → (is_advance kind ≡ false) ⊎ ((ends : Bool) × (kind ≡ Advance ends))
 advance_or_not Look = inl refl
 advance_or_not Glance = inl refl
 advance_or_not (Refuse tier claimed size) = inl refl
@@ -36,20 +32,6 @@ here_arrived p v is some = ⊎_elim
     (λ (e : eqb v.phase p ≡ false). let z : v.size ≡ 0 = is ∙ ap (λ (b : Bool). cond {A = ℕ} b v.arrived 0) e in absurd (omega arith))
     (either (eqb v.phase p))
 
-all_arrived : (ps : List ℕ) (p : ℕ) (ended : Bool) (vs : List View) → AllByRecursion (ViewFits ps p ended) vs → AllByRecursion (IsHere p) vs → AllByRecursion (HasArrived p) vs
+pub all_arrived : (ps : List ℕ) (p : ℕ) (ended : Bool) (vs : List View) → AllByRecursion (ViewFits ps p ended) vs → AllByRecursion (IsHere p) vs → AllByRecursion (HasArrived p) vs
 all_arrived ps p ended [] fits here = tt
 all_arrived ps p ended (v ∷ vs) fits here = (here_arrived p v (here.0 fits.0.within), all_arrived ps p ended vs fits.1 here.1)
-
-pub advances_wait_for_all : AdvancesWaitForAll
-advances_wait_for_all k words seats id t x kind reached at within needs leaves =
-    let a = around seats id x at in
-    let tally : Tallies k.shape words (a.front ++ x.view ∷ a.back) = subst (λ (vs : List View). Tallies k.shape words vs) a.is (reached_states_tally k words seats reached) in
-    let step : IsStep k.shape words a.front x.view a.back t kind = record { shape = (shaped k words seats reached).shape; within = within; tally = tally; needs = needs } in
-    subst (λ (vs : List View). AllByRecursion (HasArrived (word_at words 0).phase) vs) (sym a.is)
-    (⊎_elim
-    (λ (no_advance : is_advance kind ≡ false). absurd (leaves (phases_stay k.shape words a.front x.view a.back t kind 0 step no_advance tally.some refl)))
-    (λ (e : (ends : Bool) × (kind ≡ Advance ends)).
-    let ready = advances_are_due k.shape words a.front x.view a.back t e.0 (subst (λ (z : Kind). IsStep k.shape words a.front x.view a.back t z) e.1 step) in
-    all_arrived k.shape (root_phase words) (word_at words 0).ended (a.front ++ x.view ∷ a.back) tally.fits
-    (everyone_here (root_phase words) 0 (a.front ++ x.view ∷ a.back) ready.everyone))
-    (advance_or_not kind))

@@ -1,50 +1,30 @@
 -- The flat phaser that the table represents, and the cause of its end.
-use Rattle.std.proofs.Common.{◌≡◌, ℕ, zero, suc, ◌<◌, ◌==◌, ◌⊎◌, inl, inr, ⊎_elim, Bool, true, false, List, [], ◌∷◌, ◌++◌, length, set, refl, sym, ◌∙◌, ap, subst, arith, ne_eqb, get_or-set_same}
+use Rattle.std.proofs.Common.{◌≡◌, ℕ, zero, suc, ◌+◌, ◌<◌, ◌==◌, ◌⊎◌, inl, inr, ⊎_elim, Bool, true, false, List, [], ◌∷◌, ◌++◌, length, set, replicate, refl, sym, ◌∙◌, ap, subst, arith, ne_eqb, get_or-set_same, length-append}
 use Rattle.advance_rule.specs.Plan.{end_ends}
 use Rattle.flat_phaser.specs.Flat.{registered}
 use Rattle.phaser_word.specs.Fields.{Fields}
 use Rattle.tier_steps.specs.declared.view.View.{View}
 use Rattle.tier_steps.specs.declared.kind.Kind.{Kind}
 use Rattle.tier_steps.specs.declared.kind.Kind.TheVariants.{Look, Glance, Refuse, Join, Arrive, Leave, Advance, Force, Claim, Settle, SettleBack, Climb, Refresh}
-use Rattle.tier_steps.specs.Tally.{blank, word_at, Tallies}
+use Rattle.tier_steps.specs.Tally.{blank, word_at}
 use Rattle.tier_steps.specs.Step.{word_after}
-use Rattle.tier_steps.specs.Laws.{words_after, stepped_view, IsStep}
-use Rattle.tier_steps.specs.Image.{image, label, labelled, IsAllowedLabel, LooksAlike}
+use Rattle.tier_steps.specs.Laws.{words_after}
+use Rattle.tier_steps.specs.Image.{image}
 use Rattle.tier_steps.specs.Start.{empty_words}
 use Rattle.tier_steps.proofs.KindLaw.{ended_same}
-use Rattle.tier_steps.proofs.FlatLaw.{kinds_are_flat}
 use Rattle.tier_steps.proofs.Passing.{ended_passed}
 use Rattle.tier_steps.proofs.Ready.{advances_are_due}
 use Rattle.tier_steps.specs.declared.view.Passage.TheVariants.{Arrival, Departure}
 use Rattle.tier_rule.specs.declared.sight.Key.{Key}
 use Rattle.tier_rule.specs.declared.sight.Sight.{Sight}
-use Rattle.tier_rule.specs.Reach.{views_of, cut_once, sat_sight, Reached, opens, steps, cuts, sits, joins, looks, parts}
-use Rattle.tier_rule.specs.Laws.{MayStep, number_of, StepsAreFlat, EndsAreForcedOrPlanned, IsEnd, EndsHaveAStep, NewTreesAreEmpty}
+use Rattle.tier_rule.specs.Reach.{cut_off, sat_sight, Reached, opens, steps, cuts, sits, joins, parts}
+use Rattle.tier_rule.specs.Laws.{MayStep, EndsAreForcedOrPlanned, IsEnd, EndsHaveAStep, NewTreesAreEmpty}
 use Rattle.std.specs.List.{AllByRecursion}
 use mathlib.Core.Option.{some, some-injective, some-ne-none}
 use lib.ListN.{get_elem?}
 use Rattle.atomic_table.proofs.Lists.{set_else}
-use Rattle.tier_rule.proofs.Seats.{around}
-use Rattle.tier_rule.proofs.Reaching.{shaped, reached_states_tally}
-
--- the step among all views
-step_among : (k : Key) (ws : List Fields) (vs : List (List Sight)) (id t : ℕ) (x : Sight) (kind : Kind) → (m : MayStep k ws vs id t x kind)
-    → IsStep k.shape ws (around vs id x m.seat).front x.view (around vs id x m.seat).back t kind
-step_among k ws vs id t x kind m =
-    let a = around vs id x m.seat in record {
-      shape = (shaped k ws vs m.reached).shape;
-      within = m.within;
-      tally = subst (λ (us : List View). Tallies k.shape ws us) a.is (reached_states_tally k ws vs m.reached);
-      needs = m.needs;
-    }
-
-pub steps_are_flat : StepsAreFlat
-steps_are_flat k ws vs id t x y kind f m is alike =
-    let a = around vs id x m.seat in
-    let n : length a.front ≡ number_of vs id = ap length (sym a.before) in
-    let flat = kinds_are_flat k.shape ws a.front x.view a.back t kind f (step_among k ws vs id t x kind m) (subst (λ (us : List View). LooksAlike f (image ws us)) a.is alike) in
-    let after : a.front ++ stepped_view k.shape ws kind t x.view ∷ a.back ≡ views_of (set vs id (y ∷ [])) = ap (λ (v : View). a.front ++ v ∷ a.back) (sym is) ∙ sym (a.after y) in
-    subst (λ (z : ℕ × List View). IsAllowedLabel (label z.0 kind) f × LooksAlike (labelled (label z.0 kind) f) (image (words_after ws kind t x.view) z.1)) (λ i. (n i, after i)) flat
+use Rattle.tier_rule.proofs.Seats.{amid}
+use Rattle.tier_rule.proofs.Groups.{step_amid}
 
 -- a step other than an advance or a force leaves the root's end
 word_end : (kind : Kind) (t : ℕ) (w : Fields) (v : View) → ((ends : Bool) → kind ≡ Advance ends → ⊥) → (kind ≡ Force → ⊥) → (word_after kind t w v).ended ≡ w.ended
@@ -78,55 +58,56 @@ root_set ws t w z h =
     ap (λ (n : ℕ). (word_at (set ws n w) 0).ended) z ∙ ap (λ (u : Fields). u.ended) (get_or-set_same ws 0 w blank (subst (λ (n : ℕ). n < length ws) z h))
 
 pub ends_are_forced_or_planned : EndsAreForcedOrPlanned
-ends_are_forced_or_planned k ws vs id t x Look m = root_end ws Look t x.view m.within (λ e p. absurd (cc)) (λ p. absurd (cc))
-ends_are_forced_or_planned k ws vs id t x Glance m = root_end ws Glance t x.view m.within (λ e p. absurd (cc)) (λ p. absurd (cc))
-ends_are_forced_or_planned k ws vs id t x (Refuse tier claimed size) m = root_end ws (Refuse tier claimed size) t x.view m.within (λ e p. absurd (cc)) (λ p. absurd (cc))
-ends_are_forced_or_planned k ws vs id t x (Join tier claimed size) m = root_end ws (Join tier claimed size) t x.view m.within (λ e p. absurd (cc)) (λ p. absurd (cc))
-ends_are_forced_or_planned k ws vs id t x Arrive m = root_end ws Arrive t x.view m.within (λ e p. absurd (cc)) (λ p. absurd (cc))
-ends_are_forced_or_planned k ws vs id t x Leave m = root_end ws Leave t x.view m.within (λ e p. absurd (cc)) (λ p. absurd (cc))
-ends_are_forced_or_planned k ws vs id t x (Advance ends) m =
-    let a = around vs id x m.seat in
-    let ready = advances_are_due k.shape ws a.front x.view a.back t ends (step_among k ws vs id t x (Advance ends) m) in
+ends_are_forced_or_planned k ws vs id t f x b Look m = root_end ws Look t x.view m.within (λ e p. absurd (cc)) (λ p. absurd (cc))
+ends_are_forced_or_planned k ws vs id t f x b Glance m = root_end ws Glance t x.view m.within (λ e p. absurd (cc)) (λ p. absurd (cc))
+ends_are_forced_or_planned k ws vs id t f x b (Refuse tier claimed size) m = root_end ws (Refuse tier claimed size) t x.view m.within (λ e p. absurd (cc)) (λ p. absurd (cc))
+ends_are_forced_or_planned k ws vs id t f x b (Join tier claimed size) m = root_end ws (Join tier claimed size) t x.view m.within (λ e p. absurd (cc)) (λ p. absurd (cc))
+ends_are_forced_or_planned k ws vs id t f x b Arrive m = root_end ws Arrive t x.view m.within (λ e p. absurd (cc)) (λ p. absurd (cc))
+ends_are_forced_or_planned k ws vs id t f x b Leave m = root_end ws Leave t x.view m.within (λ e p. absurd (cc)) (λ p. absurd (cc))
+ends_are_forced_or_planned k ws vs id t f x b (Advance ends) m =
+    let a = amid vs id f x b m.seat in
+    let ready = advances_are_due k.shape ws a.front x.view a.back t ends (step_amid k ws vs id t f x b (Advance ends) m) in
     let none = same_zero (word_at ws 0).parties (registered (image ws (a.front ++ x.view ∷ a.back))) ready.nobody.0 ready.nobody.1 in
     let z : t ≡ 0 = m.needs.0 in
     root_set ws t (word_after (Advance ends) t (word_at ws t) x.view) z m.within
     ∙ (m.says ∙ (ap (λ (n : ℕ). end_ends k.plan (word_at ws n).phase ((word_at ws n).parties == 0)) z
-    ∙ (ap (λ (b : Bool). end_ends k.plan (word_at ws 0).phase b) none ∙ ap (λ (us : List View). end_ends k.plan (word_at ws 0).phase (registered (image ws us) == 0)) (sym a.is))))
-ends_are_forced_or_planned k ws vs id t x Force m = root_set ws t (word_after Force t (word_at ws t) x.view) m.needs m.within
-ends_are_forced_or_planned k ws vs id t x (Claim tier claimed size) m = root_end ws (Claim tier claimed size) t x.view m.within (λ e p. absurd (cc)) (λ p. absurd (cc))
-ends_are_forced_or_planned k ws vs id t x (Settle tier claimed size) m = root_end ws (Settle tier claimed size) t x.view m.within (λ e p. absurd (cc)) (λ p. absurd (cc))
-ends_are_forced_or_planned k ws vs id t x (SettleBack tier claimed size) m = root_end ws (SettleBack tier claimed size) t x.view m.within (λ e p. absurd (cc)) (λ p. absurd (cc))
-ends_are_forced_or_planned k ws vs id t x (Climb passage) m = root_end ws (Climb passage) t x.view m.within (λ e p. absurd (cc)) (λ p. absurd (cc))
-ends_are_forced_or_planned k ws vs id t x Refresh m = root_end ws Refresh t x.view m.within (λ e p. absurd (cc)) (λ p. absurd (cc))
+    ∙ (ap (λ (z : Bool). end_ends k.plan (word_at ws 0).phase z) none ∙ ap (λ (us : List View). end_ends k.plan (word_at ws 0).phase (registered (image ws us) == 0)) (sym a.is))))
+ends_are_forced_or_planned k ws vs id t f x b Force m = root_set ws t (word_after Force t (word_at ws t) x.view) m.needs m.within
+ends_are_forced_or_planned k ws vs id t f x b (Claim tier claimed size) m = root_end ws (Claim tier claimed size) t x.view m.within (λ e p. absurd (cc)) (λ p. absurd (cc))
+ends_are_forced_or_planned k ws vs id t f x b (Settle tier claimed size) m = root_end ws (Settle tier claimed size) t x.view m.within (λ e p. absurd (cc)) (λ p. absurd (cc))
+ends_are_forced_or_planned k ws vs id t f x b (SettleBack tier claimed size) m = root_end ws (SettleBack tier claimed size) t x.view m.within (λ e p. absurd (cc)) (λ p. absurd (cc))
+ends_are_forced_or_planned k ws vs id t f x b (Climb passage) m = root_end ws (Climb passage) t x.view m.within (λ e p. absurd (cc)) (λ p. absurd (cc))
+ends_are_forced_or_planned k ws vs id t f x b Refresh m = root_end ws Refresh t x.view m.within (λ e p. absurd (cc)) (λ p. absurd (cc))
 
 -- the root of a new tree goes on
-open_at_first : (shape : List ℕ) (phase : ℕ) → (word_at (empty_words shape phase) 0).ended ≡ false
+pub open_at_first : (shape : List ℕ) (phase : ℕ) → (word_at (empty_words shape phase) 0).ended ≡ false
 open_at_first [] phase = refl
 open_at_first (p ∷ ps) phase = refl
 
 pub ends_have_a_step : EndsHaveAStep
 ends_have_a_step k ws vs (opens x shape small is) ended = absurd (let a = sym ended ∙ open_at_first k.shape k.phase in cc)
-ends_have_a_step k ws vs (steps us ts id t tries x y kind r at within needs says own is few) ended =
-    let m : MayStep k us ts id t x kind = record { reached = r; seat = at; within = within; needs = needs; says = says } in
-    elim (word_at us 0).ended as (λ b. (word_at us 0).ended ≡ b → IsEnd k) [
+ends_have_a_step k ws vs (steps us ts id t tries f b x y kind r at within needs says own is few) ended =
+    let m : MayStep k us ts id t f x b kind = record { reached = r; seat = at; within = within; needs = needs; says = says } in
+    elim (word_at us 0).ended as (λ c. (word_at us 0).ended ≡ c → IsEnd k) [
       | true ↦ λ e. ends_have_a_step k us ts r e
       | false ↦ λ e. record {
         words = us;
         seats = ts;
         id = id;
         tier = t;
+        front = f;
         sight = x;
+        back = b;
         kind = kind;
         may = m;
         going = e;
-        ends = sym (ends_are_forced_or_planned k us ts id t x kind m) ∙ ended;
+        ends = sym (ends_are_forced_or_planned k us ts id t f x b kind m) ∙ ended;
       }
     ] refl
-ends_have_a_step k ws vs (cuts us ts id x r at) ended = ends_have_a_step k us ts r ended
-ends_have_a_step k ws vs (sits us ts id x r at is) ended = ends_have_a_step k us ts r ended
+ends_have_a_step k ws vs (cuts us ts id l r at) ended = ends_have_a_step k us ts r ended
+ends_have_a_step k ws vs (sits us ts id n r at) ended = ends_have_a_step k us ts r ended
 ends_have_a_step k ws vs (joins us ts id other l m r at apart there) ended = ends_have_a_step k us ts r ended
-ends_have_a_step k ws vs (looks us ts id x y x' y' r at own own' is is') ended = ends_have_a_step k us ts r ended
-ends_have_a_step k ws vs (parts us ts id x y r at) ended = ends_have_a_step k us ts r ended
+ends_have_a_step k ws vs (parts us ts id x l y m r at) ended = ends_have_a_step k us ts r ended
 
 -- a sight that is not that of a new tree's first token
 abbrev IsUsed : Sight → Type 0
@@ -145,19 +126,23 @@ abbrev FirstOrUsed : Key → List Fields → List (List Sight) → Type 0
 FirstOrUsed k ws vs = IsFirst k ws vs ⊎ AllByRecursion AreUsed vs
 
 module _ {A : Type 0} (P : A → Type 0) where
-  all_at : (ls : List A) (i : ℕ) (l : A) → get_elem? ls i ≡ some l → AllByRecursion P ls → P l
+  pub all_at : (ls : List A) (i : ℕ) (l : A) → get_elem? ls i ≡ some l → AllByRecursion P ls → P l
   all_at [] i l at all = absurd (some-ne-none l (sym at))
   all_at (m ∷ ls) zero l at all = subst P (some-injective m l at) all.0
   all_at (m ∷ ls) (suc i) l at all = all_at ls i l at all.1
 
-  all_put : (ls : List A) (i : ℕ) (l : A) → P l → AllByRecursion P ls → AllByRecursion P (set ls i l)
+  pub all_put : (ls : List A) (i : ℕ) (l : A) → P l → AllByRecursion P ls → AllByRecursion P (set ls i l)
   all_put [] i l p all = tt
   all_put (m ∷ ls) zero l p all = (p, all.1)
   all_put (m ∷ ls) (suc i) l p all = (all.0, all_put ls i l p all.1)
 
-  all_both : (ls ms : List A) → AllByRecursion P ls → AllByRecursion P ms → AllByRecursion P (ls ++ ms)
+  pub all_both : (ls ms : List A) → AllByRecursion P ls → AllByRecursion P ms → AllByRecursion P (ls ++ ms)
   all_both [] ms a b = b
   all_both (l ∷ ls) ms a b = (a.0, all_both ls ms a.1 b)
+
+  pub all_parts : (ls ms : List A) → AllByRecursion P (ls ++ ms) → AllByRecursion P ls × AllByRecursion P ms
+  all_parts [] ms a = (tt, a)
+  all_parts (l ∷ ls) ms a = let r = all_parts ls ms a.1 in ((a.0, r.0), r.1)
 
 -- the seats of a new tree are one
 only_one : (x : Sight) (id : ℕ) (l : List Sight) → get_elem? ((x ∷ []) ∷ []) id ≡ some l → (id ≡ 0) × (l ≡ x ∷ [])
@@ -180,23 +165,47 @@ used_now {k} {ws} {vs} id l m at used before =
 stepped_used : (kind : Kind) (x y : Sight) → y.steps ≡ kind ∷ x.steps → IsUsed y
 stepped_used kind x y e n z = let a : 0 ≡ suc (length x.steps) = ap length (sym n ∙ e) in omega arith
 
-cut_used : (x : Sight) → IsUsed (cut_once x)
-cut_used x n z = absurd (omega arith)
+cut_used : (l : List Sight) → AreUsed l → AreUsed (cut_off l)
+cut_used [] all = tt
+cut_used (x ∷ xs) all = ((λ n z. absurd (omega arith)), all.1)
 
-sat_used : (us : List Fields) (x : Sight) (k : Key) → x ≡ sat_sight k (word_at us 0) → IsUsed x
-sat_used us x k is n z = let a : 0 ≡ suc 0 = ap length (sym n ∙ ap (λ (s : Sight). s.steps) is) in omega arith
+cut_first : (x : Sight) → AreUsed (cut_off (x ∷ []))
+cut_first x = ((λ n z. absurd (omega arith)), tt)
 
-longer : (x z : Sight) (y : Sight) → x ∷ y ∷ [] ≡ z ∷ [] → ⊥
-longer x z y e = let a = ap length e in omega arith
+sat_used : (w : Fields) (k : Key) (n : ℕ) → AreUsed (replicate n (sat_sight k w))
+sat_used w k zero = tt
+sat_used w k (suc n) = ((λ e z. let a : 1 ≡ 0 = ap length e in omega arith), sat_used w k n)
+
+-- a step by one token leaves the others
+step_used : (f b : List Sight) (x y : Sight) → IsUsed y → AreUsed (f ++ x ∷ b) → AreUsed (f ++ y ∷ b)
+step_used [] b x y u all = (u, all.1)
+step_used (z ∷ f) b x y u all = (all.0, step_used f b x y u all.1)
+
+step_first : (f b : List Sight) (x y z : Sight) → IsUsed y → f ++ x ∷ b ≡ z ∷ [] → AreUsed (f ++ y ∷ b)
+step_first [] [] x y z u e = (u, tt)
+step_first [] (c ∷ b) x y z u e = absurd (let a = ap length e in omega arith)
+step_first (c ∷ f) b x y z u e = absurd (let a : suc (length (f ++ x ∷ b)) ≡ 1 = ap length e in let n : length (f ++ x ∷ b) ≡ length f + suc (length b) = length-append f (x ∷ b) in omega arith)
+
+longer : (x : Sight) (l : List Sight) (y : Sight) (m : List Sight) (z : Sight) → x ∷ (l ++ y ∷ m) ≡ z ∷ [] → ⊥
+longer x l y m z e = let a : suc (length (l ++ y ∷ m)) ≡ 1 = ap length e in let n : length (l ++ y ∷ m) ≡ length l + suc (length m) = length-append l (y ∷ m) in omega arith
 
 first_or_used : (k : Key) (ws : List Fields) (vs : List (List Sight)) → Reached k ws vs → FirstOrUsed k ws vs
 first_or_used k ws vs (opens x shape small is) = inl (record { sight = x; words = refl; alone = refl })
-first_or_used k ws vs (steps us ts id t tries x y kind r at within needs says own is few) =
-    inr (used_now id (x ∷ []) (y ∷ []) at (stepped_used kind x y is.steps, tt) (first_or_used k us ts r))
-first_or_used k ws vs (cuts us ts id x r at) =
-    inr (all_both AreUsed (set ts id (cut_once x ∷ [])) ([] ∷ []) (used_now id (x ∷ []) (cut_once x ∷ []) at (cut_used x, tt) (first_or_used k us ts r)) (tt, tt))
-first_or_used k ws vs (sits us ts id x r at is) =
-    inr (used_now id [] (x ∷ []) at (sat_used us x k is, tt) (first_or_used k us ts r))
+first_or_used k ws vs (steps us ts id t tries f b x y kind r at within needs says own is few) =
+    let used = stepped_used kind x y is.steps in
+    inr (⊎_elim
+    (λ (g : IsFirst k us ts). used_first g id (f ++ x ∷ b) (f ++ y ∷ b) at (step_first f b x y g.sight used (at_first g id (f ++ x ∷ b) at).1))
+    (λ (all : AllByRecursion AreUsed ts). all_put AreUsed ts id (f ++ y ∷ b) (step_used f b x y used (all_at AreUsed ts id (f ++ x ∷ b) at all)) all)
+    (first_or_used k us ts r))
+first_or_used k ws vs (cuts us ts id l r at) =
+    inr (all_both AreUsed (set ts id (cut_off l)) ([] ∷ [])
+    (⊎_elim
+    (λ (g : IsFirst k us ts). used_first g id l (cut_off l) at (subst (λ (m : List Sight). AreUsed (cut_off m)) (sym (at_first g id l at).1) (cut_first g.sight)))
+    (λ (all : AllByRecursion AreUsed ts). all_put AreUsed ts id (cut_off l) (cut_used l (all_at AreUsed ts id l at all)) all)
+    (first_or_used k us ts r))
+    (tt, tt))
+first_or_used k ws vs (sits us ts id n r at) =
+    inr (used_now id [] (replicate n (sat_sight k (word_at us 0))) at (sat_used (word_at us 0) k n) (first_or_used k us ts r))
 first_or_used k ws vs (joins us ts id other l m r at apart there) =
     ⊎_elim
     (λ (f : IsFirst k us ts).
@@ -208,14 +217,13 @@ first_or_used k ws vs (joins us ts id other l m r at apart there) =
     let others = all_at AreUsed ts other m (sym (set_else ts id other (l ++ m) apart) ∙ there) all in
     inr (all_put AreUsed (set ts id (l ++ m)) other [] tt (all_put AreUsed ts id (l ++ m) (all_both IsUsed l m mine others) all)))
     (first_or_used k us ts r)
-first_or_used k ws vs (looks us ts id x y x' y' r at own own' is is') =
-    inr (used_now id (x ∷ y ∷ []) (x' ∷ y' ∷ []) at (stepped_used Look x x' is.steps, (stepped_used Look y y' is'.steps, tt)) (first_or_used k us ts r))
-first_or_used k ws vs (parts us ts id x y r at) =
+first_or_used k ws vs (parts us ts id x l y m r at) =
     ⊎_elim
-    (λ (f : IsFirst k us ts). absurd (longer x f.sight y (at_first f id (x ∷ y ∷ []) at).1))
+    (λ (g : IsFirst k us ts). absurd (longer x l y m g.sight (at_first g id (x ∷ (l ++ y ∷ m)) at).1))
     (λ (all : AllByRecursion AreUsed ts).
-    let both = all_at AreUsed ts id (x ∷ y ∷ []) at all in
-    inr (all_both AreUsed (set ts id (x ∷ [])) ((y ∷ []) ∷ []) (all_put AreUsed ts id (x ∷ []) (both.0, tt) all) ((both.1.0, tt), tt)))
+    let both = all_at AreUsed ts id (x ∷ (l ++ y ∷ m)) at all in
+    let parted = all_parts IsUsed l (y ∷ m) both.1 in
+    inr (all_both AreUsed (set ts id (x ∷ l)) ((y ∷ m) ∷ []) (all_put AreUsed ts id (x ∷ l) (both.0, parted.0) all) (parted.1, tt)))
     (first_or_used k us ts r)
 
 pub new_trees_are_empty : NewTreesAreEmpty

@@ -1,5 +1,5 @@
 -- The states of the words and of the seats' views that steps of the tree reach (not part of Java's API).
-use Rattle.std.specs.Prelude.{◌≡◌, ◌≢◌, ℕ, ◌+◌, ◌≤◌, ◌<◌, ◌==◌, List, [], ◌∷◌, ◌++◌, map, length, set}
+use Rattle.std.specs.Prelude.{◌≡◌, ◌≢◌, ℕ, ◌+◌, ◌≤◌, ◌<◌, ◌==◌, List, [], ◌∷◌, ◌++◌, map, length, set, replicate, Bool, true, false}
 use mathlib.Core.Option.{some}
 use lib.ListN.{get_elem?}
 use Rattle.atomic_table.specs.Table.{State}
@@ -11,7 +11,7 @@ use Rattle.tier_steps.specs.View.{new_view}
 use Rattle.tier_shape.specs.Paths.{IsTiers}
 use Rattle.tier_steps.specs.Tally.{word_at, Tallies}
 use Rattle.tier_steps.specs.declared.kind.Kind.{Kind}
-use Rattle.tier_steps.specs.declared.kind.Kind.TheVariants.{Look, Advance}
+use Rattle.tier_steps.specs.declared.kind.Kind.TheVariants.{Look, Join, Advance}
 use Rattle.tier_steps.specs.Step.{Needs, word_after}
 use Rattle.tier_steps.specs.Laws.{words_after, stepped_view}
 use Rattle.tier_steps.specs.Start.{empty_word, empty_words}
@@ -70,32 +70,33 @@ pub record Learns (kind : Kind) (t : ℕ) (ws : List Fields) (tries : ℕ) (x y 
   pub steps : y.steps ≡ kind ∷ x.steps
   pub opened : y.opened ≡ x.opened
 
--- at most one try, and exactly one if the step changes the word
+abbrev pub is_join : Kind → Bool
+is_join (Join tier claimed size) = true
+is_join _ = false
+
+-- At most one try, and exactly one if the step changes the word. Only a join may leave its try to the step that the same exchange takes after it.
 pub record IsTried (kind : Kind) (t : ℕ) (w : Fields) (tries : ℕ) (x : Sight) : Type 0 where
   pub few : tries ≤ 1
-  pub changes : word_after kind t w x.view ≢ w → tries ≡ 1
+  pub changes : word_after kind t w x.view ≢ w → is_join kind ≡ false → tries ≡ 1
 
--- A tree begins with empty tiers and one seat. A seat with one view takes a step of the tree. A seat without views is split off it, which the seat counts, and
--- becomes that of a new token when it looks at the root. A seat takes the views of another. A seat with two views looks at the root for both, and parts with the
--- second.
+-- A tree begins with empty tiers and one seat. A token, anywhere among those of its seat, takes a step of the tree. A seat without views is split off another,
+-- which counts it, and becomes that of some new tokens when it looks at the root. A seat takes the views of another. A seat with several views parts with the last
+-- ones, and keeps some.
 pub data Reached (k : Key) : List Fields → List (List Sight) → Type 0 where
   opens : (x : Sight) → IsTiers k.shape → k.phase ≤ 2147483647 → x ≡ first_sight k (empty_word k.phase) → Reached k (empty_words k.shape k.phase) ((x ∷ []) ∷ [])
-  steps : (ws : List Fields) (vs : List (List Sight)) (id t tries : ℕ) (x y : Sight) (kind : Kind)
-      → Reached k ws vs → get_elem? vs id ≡ some (x ∷ []) → t < length ws
+  steps : (ws : List Fields) (vs : List (List Sight)) (id t tries : ℕ) (f b : List Sight) (x y : Sight) (kind : Kind)
+      → Reached k ws vs → get_elem? vs id ≡ some (f ++ x ∷ b) → t < length ws
       → Needs k.shape kind t (word_at ws t) x.view → PlanSays k kind (word_at ws t) → x.key ≡ k → Learns kind t ws tries x y → IsTried kind t (word_at ws t) tries x
-      → Reached k (words_after ws kind t x.view) (set vs id (y ∷ []))
-  cuts : (ws : List Fields) (vs : List (List Sight)) (id : ℕ) (x : Sight)
-      → Reached k ws vs → get_elem? vs id ≡ some (x ∷ []) → Reached k ws (set vs id (cut_once x ∷ []) ++ [] ∷ [])
-  sits : (ws : List Fields) (vs : List (List Sight)) (id : ℕ) (x : Sight)
-      → Reached k ws vs → get_elem? vs id ≡ some [] → x ≡ sat_sight k (word_at ws 0) → Reached k ws (set vs id (x ∷ []))
+      → Reached k (words_after ws kind t x.view) (set vs id (f ++ y ∷ b))
+  cuts : (ws : List Fields) (vs : List (List Sight)) (id : ℕ) (l : List Sight)
+      → Reached k ws vs → get_elem? vs id ≡ some l → Reached k ws (set vs id (cut_off l) ++ [] ∷ [])
+  sits : (ws : List Fields) (vs : List (List Sight)) (id n : ℕ)
+      → Reached k ws vs → get_elem? vs id ≡ some [] → Reached k ws (set vs id (replicate n (sat_sight k (word_at ws 0))))
   joins : (ws : List Fields) (vs : List (List Sight)) (id other : ℕ) (l m : List Sight)
       → Reached k ws vs → get_elem? vs id ≡ some l → other ≢ id → get_elem? (set vs id (l ++ m)) other ≡ some m
       → Reached k ws (set (set vs id (l ++ m)) other [])
-  looks : (ws : List Fields) (vs : List (List Sight)) (id : ℕ) (x y x' y' : Sight)
-      → Reached k ws vs → get_elem? vs id ≡ some (x ∷ y ∷ []) → x.key ≡ k → y.key ≡ k → Learns Look 0 ws 0 x x' → Learns Look 0 ws 0 y y'
-      → Reached k ws (set vs id (x' ∷ y' ∷ []))
-  parts : (ws : List Fields) (vs : List (List Sight)) (id : ℕ) (x y : Sight)
-      → Reached k ws vs → get_elem? vs id ≡ some (x ∷ y ∷ []) → Reached k ws (set vs id (x ∷ []) ++ (y ∷ []) ∷ [])
+  parts : (ws : List Fields) (vs : List (List Sight)) (id : ℕ) (x : Sight) (l : List Sight) (y : Sight) (m : List Sight)
+      → Reached k ws vs → get_elem? vs id ≡ some (x ∷ (l ++ y ∷ m)) → Reached k ws (set vs id (x ∷ l) ++ (y ∷ m) ∷ [])
 
 -- the rule of the table
 pub record Kept (k : Key) (s : State Kind (List Sight)) : Type 0 where

@@ -17,7 +17,7 @@ use Rattle.tier_steps.proofs.Seats.{seats_around}
 use Rattle.tier_steps.proofs.Joined.{joined_sum, seats_append}
 
 -- how many members of a token have a mark that passes a test
-abbrev marked_share : (Option ℕ → Bool) → View → ℕ
+abbrev pub marked_share : (Option ℕ → Bool) → View → ℕ
 marked_share test v = v.arrived * cond {A = ℕ} (test (Some v.phase)) 1 0 + (v.size - v.arrived) * cond {A = ℕ} (test None) 1 0
 
 marks_sum : (test : Option ℕ → Bool) (owner : ℕ) (views : List View)
@@ -45,7 +45,7 @@ all_by_count phase (m ∷ members) =
     none_more true n = ap (λ k. eqb k 0) (omega arith)
     none_more false n = sym (ne_eqb (1 + n) 0 (omega arith))
 
-abbrev climb_share : View → ℕ
+abbrev pub climb_share : View → ℕ
 climb_share v = cond {A = ℕ} (is_climbing v.errand) 1 0
 
 climbs_by_count : (views : List View) → some_climbing views ≡ not (eqb (sum_by climb_share views) 0)
@@ -60,7 +60,7 @@ climbs_by_count (v ∷ views) =
     one_more false n = ap (λ k. not (eqb k 0)) (omega arith)
 
 -- views whose sums agree give images that differ in owners alone
-same_but_owners : (words : List Fields) (xs ys : List View)
+pub same_but_owners : (words : List Fields) (xs ys : List View)
     → ((test : Option ℕ → Bool) → sum_by (marked_share test) xs ≡ sum_by (marked_share test) ys) → sum_by climb_share xs ≡ sum_by climb_share ys
     → IsSameButOwners (image words xs) (image words ys)
 same_but_owners words xs ys marks climbs =
@@ -96,7 +96,7 @@ new_sum f front back p none =
     let d = sum_around f (seated_views front) (seated_views back) (new_view p) in
     omega arith
 
-no_share : (a b : ℕ) → 0 * a + 0 * b ≡ 0
+pub no_share : (a b : ℕ) → 0 * a + 0 * b ≡ 0
 no_share a b = omega arith
 
 pub new_seats_look_the_same : NewSeatsLookTheSame

@@ -1,5 +1,5 @@
 -- What calls that wait answer, by the view of their token: as the calls that they repeat, without a number of tries (own).
-use Rattle.std.specs.Prelude.{◌≡◌, ℕ, ◌<◌, Result, Ok, Err, List, ◌∷◌}
+use Rattle.std.specs.Prelude.{◌≡◌, ℕ, ◌<◌, true, Result, Ok, Err, List, ◌∷◌}
 use Rattle.tier_steps.specs.declared.kind.Kind.{Kind}
 use Rattle.tier_steps.specs.declared.kind.Kind.TheVariants.{Look}
 use Rattle.tier_steps.specs.declared.view.Errand.TheVariants.{Rest}
@@ -11,7 +11,9 @@ use Rattle.tier_calls.specs.Passes.{IsSame, EndSeen, IsFresh}
 use Rattle.tier_calls.specs.Arrives.{IsLooked, HasPassed}
 use Rattle.tier_calls.specs.Joins.{IsJoined, Refusal}
 use Rattle.tier_calls.specs.Polls.{HasPassedOn, HasCaughtUp}
-use Rattle.tier_calls.specs.Made.{MadeOnly, HasLooked, HasStepped, LedBy, is_upward}
+use Rattle.tier_calls.specs.Waited.{SawAdvance, SawEnd}
+use Rattle.tier_calls.specs.Led.{LedAfterAll}
+use Rattle.tier_calls.specs.Made.{MadeOnly, HasLooked, HasStepped, LedBy, is_quiet, is_upward}
 use Rattle.tier_table.specs.declared.waiting.RegisteredAtLast.{RegisteredAtLast}
 use Rattle.tier_table.specs.declared.waiting.RegisteredAtLast.TheVariants as admitted
 use Rattle.tier_table.specs.declared.waiting.ArrivedAtLast.{ArrivedAtLast}
@@ -49,6 +51,18 @@ abbrev pub AwaitsAdvance : Holding → Holding → AwaitedAdvance → Type 0
 AwaitsAdvance old new (awaited.Passed phase) = IsLooked old.view new.view × IsFresh new.view × HasPassedOn old new × (phase ≡ new.view.phase)
 AwaitsAdvance old new (awaited.Here phase) = IsLooked old.view new.view × IsFresh new.view × (new.view.arrived < new.view.size) × (phase ≡ new.view.phase)
 AwaitsAdvance old new (awaited.Ended shown) = IsLooked old.view new.view × EndSeen new.view shown
+
+-- the crew before the last look of its wait: it had only looked
+pub record HasOnlyLooked (old last : Holding) : Type 0 where
+  pub tree : last.tree ≡ old.tree
+  pub view : IsSame old.view last.view
+  pub made : MadeOnly is_quiet old.steps last.steps
+
+-- A crew that waits answers that its phase has passed only if all had arrived in it.
+abbrev pub AwaitWaited : Holding → Holding → AwaitedAdvance → Type 0
+AwaitWaited old new (awaited.Passed phase) = (last : Holding) × HasOnlyLooked old last × SawAdvance last new phase
+AwaitWaited old new (awaited.Here phase) = Unit {0}
+AwaitWaited old new (awaited.Ended shown) = (last : Holding) × HasOnlyLooked old last × SawEnd last new
 
 -- the token that is handed back
 abbrev pub token_admitted : RegisteredAtLast → Holding
@@ -92,6 +106,13 @@ abbrev pub CaughtUpBy : AwaitedAdvance → Holding → Type 0
 CaughtUpBy (awaited.Passed phase) new = HasCaughtUp new
 CaughtUpBy (awaited.Here phase) new = HasCaughtUp new
 CaughtUpBy (awaited.Ended shown) new = Unit {0}
+
+-- An arrival or a departure answers that it led only if all had arrived.
+abbrev pub LedAtLast : ArrivedAtLast → Type 0
+LedAtLast (counted.Done crew phase led) = led ≡ true → LedAfterAll crew phase
+LedAtLast (counted.Left door phase led) = led ≡ true → LedAfterAll door phase
+LedAtLast (counted.AlreadyArrived crew phase) = Unit {0}
+LedAtLast (counted.Ended crew shown) = Unit {0}
 
 -- this many tokens were split off it
 abbrev pub HasSplit : ℕ → Result RegisteredAtLast Holding → Type 0

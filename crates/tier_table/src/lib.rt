@@ -2,6 +2,7 @@
 //!
 //! * [`tree`]: the tree, and its calls that never wait.
 //! * [`waiting`]: its calls that wait, and the same as functions over the tiers and the rule.
+//! * [`beginning`]: a new tree with members at its leaves.
 //! * [`tokens`]: who calls: doors, without members, and crews, with members.
 //! * [`arriving`], [`in_place`], [`joining`], [`polling`], [`forcing`], [`closing`]: the answers.
 //!
@@ -11,8 +12,13 @@
 //! * `proofs/Lasting.antt`: answers that last.
 #![tactic(auto)]
 
+pub mod beginning;
 pub mod closing;
+pub mod group_members;
+pub mod groups;
 pub mod tree;
 pub mod waiting;
 
-pub use tier_calls::{TRIES, arriving, forcing, in_place, joining, polling, tokens};
+pub use tier_calls::{
+    TRIES, arriving, arriving_with, finishing, forcing, in_place, joining, polling, tokens,
+};

@@ -20,6 +20,8 @@ ghost use Rattle.tier_calls.specs.Registers as registers;
 ghost use Rattle.tier_calls.specs.JoinsHere.{JoinsHere};
 ghost use Rattle.tier_calls.specs.Polls.{Polls};
 ghost use Rattle.tier_calls.specs.Polls as polls;
+ghost use Rattle.tier_calls.specs.Led.{LedWaited, LedOnWaited};
+ghost use Rattle.tier_calls.specs.Waited.{PollWaited};
 ghost use Rattle.tier_calls.specs.Forces.{Forces, ForcedBy};
 ghost use Rattle.tier_calls.specs.Forces as forces;
 
@@ -184,6 +186,7 @@ impl<F: Fn(u32, u32) -> bool> Tree<F> {
         requires own { crew.tree ≡ self.now.tree }
         requires rule { Answers (F.pre self.now.rule.closure) (F.post self.now.rule.closure) (end_ends_at self.now.rule.plan) }
         ensures answer { Arrives Arrival crew tries result }
+        ensures waited { LedWaited result }
         ensures found { FindsArrived crew result }
         ensures ended { (phase : ℕ) → crew.view.end_seen ≡ Some phase → arrives.HasEnded result }
     {
@@ -196,6 +199,7 @@ impl<F: Fn(u32, u32) -> bool> Tree<F> {
         requires own { crew.tree ≡ self.now.tree }
         requires rule { Answers (F.pre self.now.rule.closure) (F.post self.now.rule.closure) (end_ends_at self.now.rule.plan) }
         ensures answer { Arrives Departure crew tries result }
+        ensures waited { LedWaited result }
         ensures found { FindsArrived crew result }
         ensures ended { (phase : ℕ) → crew.view.end_seen ≡ Some phase → arrives.HasEnded result }
     {
@@ -207,7 +211,8 @@ impl<F: Fn(u32, u32) -> bool> Tree<F> {
     pub fn resume(&self, errand: Errand, tries: u32) -> Resumed
         requires own { errand.token.tree ≡ self.now.tree }
         requires rule { Answers (F.pre self.now.rule.closure) (F.post self.now.rule.closure) (end_ends_at self.now.rule.plan) }
-        ensures { Resumes errand tries result }
+        ensures answer { Resumes errand tries result }
+        ensures waited { LedOnWaited result }
     {
         self.tiers.pass_on(errand, &self.rule, tries)
     }
@@ -223,6 +228,7 @@ impl<F: Fn(u32, u32) -> bool> Tree<F> {
         requires own { crew.old.tree ≡ self.now.tree }
         ensures tree { crew.new.tree ≡ crew.old.tree }
         ensures answer { Polls crew.old crew.new result }
+        ensures waited { PollWaited crew.old crew.new result }
         ensures caught_up { polls.CaughtUpBy result crew.new }
         ensures ended { (phase : ℕ) → crew.old.view.end_seen ≡ Some phase → polls.HasEnded result }
     {

@@ -13,9 +13,10 @@ ghost use Rattle.tier_calls.specs.Holding.{Holding};
 ghost use Rattle.tier_calls.specs.Arrives.{IsLooked, HasPassed};
 ghost use Rattle.tier_calls.specs.Made.{MadeOnly, HasEntered, HasLooked, HasStepped, is_entering};
 ghost use Rattle.tier_steps.specs.declared.kind.Kind.{Kind};
+ghost use Rattle.tier_calls.specs.Led.{LedInPlaceWaited};
 ghost use Rattle.tier_calls.specs.InPlace.{ArrivesInPlace};
 ghost use Rattle.tier_calls.specs.InPlace as in_place;
-ghost use Rattle.tier_table.specs.AtLast.{token_admitted, token_counted, steps_of, HasSplit, HasWaited, PassedBy, ResumedBy, CaughtUpBy, RegistersAtLast, OpensAtLast, ArrivesAtLast, ResumesAtLast, AwaitsAdvance, HasEndedJoin, HasEndedArrival, HasEndedWait};
+ghost use Rattle.tier_table.specs.AtLast.{token_admitted, token_counted, steps_of, HasSplit, HasWaited, LedAtLast, PassedBy, ResumedBy, CaughtUpBy, RegistersAtLast, OpensAtLast, ArrivesAtLast, ResumesAtLast, AwaitsAdvance, AwaitWaited, HasEndedJoin, HasEndedArrival, HasEndedWait};
 
 use crate::tree::Tree;
 use advance_rule::StoredAdvance;
@@ -148,7 +149,7 @@ pub fn register_wait<R: Wait>(
 }
 
 // Resumes an arrival or a departure that was counted, until it is over.
-fn resume_wait<R: Wait, F: Fn(u32, u32) -> bool>(
+pub(crate) fn resume_wait<R: Wait, F: Fn(u32, u32) -> bool>(
     tiers: &Tiers,
     rt: &R,
     errand: Errand,
@@ -158,6 +159,7 @@ fn resume_wait<R: Wait, F: Fn(u32, u32) -> bool>(
     requires rule { Answers (F.pre rule.now.closure) (F.post rule.now.closure) (end_ends_at rule.now.plan) }
     requires plan { rule.now.plan ≡ tiers.now.key.plan }
     ensures answer { ResumesAtLast errand.token result }
+    ensures waited { LedAtLast result }
     ensures unsplit { (token_counted result).opened ≡ errand.token.opened }
     ensures made { ResumedBy errand.token.steps result }
 {
@@ -185,6 +187,7 @@ fn settle_wait<R: Wait, F: Fn(u32, u32) -> bool>(
     requires rule { Answers (F.pre rule.now.closure) (F.post rule.now.closure) (end_ends_at rule.now.plan) }
     requires plan { rule.now.plan ≡ tiers.now.key.plan }
     ensures answer { (h : Holding) → 0 < h.view.size → errand.token.tree ≡ h.tree → HasPassed own h.view errand.token.view → ArrivesAtLast own h result }
+    ensures waited { LedAtLast result }
     ensures unsplit { (token_counted result).opened ≡ errand.token.opened }
     ensures made { (old : List Kind) → HasStepped own old errand.token.steps → PassedBy own old result }
 {
@@ -211,6 +214,7 @@ fn pass_once<R: Wait, F: Fn(u32, u32) -> bool>(
     requires plan { rule.now.plan ≡ tiers.now.key.plan }
     ensures some { 0 < crew.view.size }
     ensures answer { MatchResult result (λ a. ArrivesAtLast own crew a) (λ next. (next.tree ≡ crew.tree) × IsLooked crew.view next.view) }
+    ensures waited { MatchResult result LedAtLast (λ next. Unit {0}) }
     ensures unsplit { MatchResult result (λ a. (token_counted a).opened ≡ crew.opened) (λ next. next.opened ≡ crew.opened) }
     ensures made { MatchResult result (λ a. PassedBy own crew.steps a) (λ next. HasWaited crew next) }
     ensures ended { (phase : ℕ) → crew.view.end_seen ≡ Some phase → MatchResult result HasEndedArrival (λ next. ⊥) }
@@ -239,6 +243,7 @@ pub fn pass_wait<R: Wait, F: Fn(u32, u32) -> bool>(
     requires rule { Answers (F.pre rule.now.closure) (F.post rule.now.closure) (end_ends_at rule.now.plan) }
     requires plan { rule.now.plan ≡ tiers.now.key.plan }
     ensures answer { ArrivesAtLast own crew result }
+    ensures waited { LedAtLast result }
     ensures unsplit { (token_counted result).opened ≡ crew.opened }
     ensures made { PassedBy own crew.steps result }
     ensures ended { (phase : ℕ) → crew.view.end_seen ≡ Some phase → HasEndedArrival result }
@@ -260,6 +265,7 @@ pub fn await_advance<R: Wait>(tiers: &Tiers, rt: &R, crew: &mut Crew) -> Awaited
     requires own { crew.old.tree ≡ tiers.now }
     ensures tree { crew.new.tree ≡ crew.old.tree }
     ensures answer { AwaitsAdvance crew.old crew.new result }
+    ensures waited { AwaitWaited crew.old crew.new result }
     ensures unsplit { crew.new.opened ≡ crew.old.opened }
     ensures made { HasLooked crew.old.steps crew.new.steps }
     ensures caught_up { CaughtUpBy result crew.new }
@@ -312,6 +318,7 @@ impl<F: Fn(u32, u32) -> bool> Tree<F> {
         requires own { crew.tree ≡ self.now.tree }
         requires rule { Answers (F.pre self.now.rule.closure) (F.post self.now.rule.closure) (end_ends_at self.now.rule.plan) }
         ensures answer { ArrivesAtLast Arrival crew result }
+        ensures waited { LedAtLast result }
         ensures unsplit { (token_counted result).opened ≡ crew.opened }
         ensures made { PassedBy Arrival crew.steps result }
         ensures ended { (phase : ℕ) → crew.view.end_seen ≡ Some phase → HasEndedArrival result }
@@ -326,6 +333,7 @@ impl<F: Fn(u32, u32) -> bool> Tree<F> {
         requires own { crew.old.tree ≡ self.now.tree }
         requires rule { Answers (F.pre self.now.rule.closure) (F.post self.now.rule.closure) (end_ends_at self.now.rule.plan) }
         ensures answer { ArrivesInPlace crew.old crew.new result }
+        ensures waited { LedInPlaceWaited crew.new result }
         ensures found { in_place.FindsArrived crew.old crew.new result }
         ensures ended { (phase : ℕ) → crew.old.view.end_seen ≡ Some phase → in_place.HasEnded result }
     {
@@ -338,6 +346,7 @@ impl<F: Fn(u32, u32) -> bool> Tree<F> {
         requires own { crew.tree ≡ self.now.tree }
         requires rule { Answers (F.pre self.now.rule.closure) (F.post self.now.rule.closure) (end_ends_at self.now.rule.plan) }
         ensures answer { ArrivesAtLast Departure crew result }
+        ensures waited { LedAtLast result }
         ensures unsplit { (token_counted result).opened ≡ crew.opened }
         ensures made { PassedBy Departure crew.steps result }
         ensures ended { (phase : ℕ) → crew.view.end_seen ≡ Some phase → HasEndedArrival result }
@@ -353,6 +362,7 @@ impl<F: Fn(u32, u32) -> bool> Tree<F> {
         requires own { crew.old.tree ≡ self.now.tree }
         ensures tree { crew.new.tree ≡ crew.old.tree }
         ensures answer { AwaitsAdvance crew.old crew.new result }
+        ensures waited { AwaitWaited crew.old crew.new result }
         ensures unsplit { crew.new.opened ≡ crew.old.opened }
         ensures made { HasLooked crew.old.steps crew.new.steps }
         ensures caught_up { CaughtUpBy result crew.new }

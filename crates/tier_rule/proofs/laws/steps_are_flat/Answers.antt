@@ -1,4 +1,4 @@
-use Rattle.tier_rule.proofs.Standing.{steps_are_flat}
+use Rattle.tier_rule.proofs.Groups.{steps_are_flat}
 use Rattle.tier_rule.proofs.laws.steps_are_flat.Goals as goal
 
 pub returns : goal.returns

@@ -5,6 +5,7 @@ use Rattle.tier_calls.specs.Calls.{under}
 use Rattle.tier_calls.proofs.Seating.{took_by}
 use Rattle.tier_calls.proofs.Settling.{unseen, not_ended}
 use Rattle.tier_calls.proofs.Staying.{first_stays, may_come, still_crew, stays}
+use Rattle.tier_calls.proofs.Leading.{led_in_place}
 use Rattle.tier_calls.proofs.tiers.Tiers.arrive_in_place.Goals as goal
 
 pub returns-then-view-clause-answer : goal.returns-then-view-clause-answer
@@ -33,3 +34,9 @@ pub invariant_of-crew-2 : goal.invariant_of-crew-2
 invariant_of-crew-2 g c =
     still_crew c.args.self.now c.args.crew.now c.look_at_root.new.token (under c.go_to_end.new.token c.go_to_end.new.course) c.requires.own (subst IsCrew c.crew.view_is c.crew.invariant) (took_by c.crew.view_is c.look_at_root.ensures)
     (not_ended c.word.view_is c.word-word.ensures.word c.if-word.false) (λ e. c.if-view.false (ap (λ (v : View). v.arrived) c.view-view.ensures ∙ (e ∙ sym (ap (λ (v : View). v.size) c.view-view.ensures)))) c.go_to_end.ensures
+
+pub returns-clause-waited : goal.returns-clause-waited
+returns-clause-waited g c =
+    led_in_place c.args.self.now c.args.crew.now c.look_at_root.new.token (under c.go_to_end.new.token c.go_to_end.new.course) c.requires.own (subst IsCrew c.crew.view_is c.crew.invariant) (took_by c.crew.view_is c.look_at_root.ensures)
+    (not_ended c.word.view_is c.word-word.ensures.word c.if-word.false) (λ e. c.if-view.false (ap (λ (v : View). v.arrived) c.view-view.ensures ∙ (e ∙ sym (ap (λ (v : View). v.size) c.view-view.ensures)))) c.go_to_end.ensures
+    c.answer_over.result c.answer_over.ensures

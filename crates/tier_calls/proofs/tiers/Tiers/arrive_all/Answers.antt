@@ -1,0 +1,55 @@
+use Rattle.std.proofs.Common.{rules, ◌<◌, length, sym, ap, subst, ◌∙◌}
+use Rattle.std.proofs.lemmas.Int.{to_z-of_z}
+use mir.Syntax.{w32}
+use mir.Val.{SFits}
+use Rattle.phaser_word.specs.Fields.{Fields}
+use Rattle.phaser_word.specs.Phase.{shown_of}
+use Rattle.tier_calls.specs.Holding.{Named}
+use Rattle.tier_calls.specs.Groups.{GroupHeld}
+use Rattle.tier_calls.proofs.ArrivingAll.{first_look, first_fresh_all, end_shown_all, no_more, waited, done_all, owing_all, to_arrive}
+use Rattle.tier_calls.proofs.tiers.Tiers.arrive_all.Goals as goal
+
+pub returns-then-root : goal.returns-then-root
+returns-then-root c =
+    let e = ap (λ (w : Fields). w.ended) (sym c.root.view_is) ∙ c.if-root.true in
+    let w = no_more c.args.tries (first_look c.look_all-root.ensures) in
+    let f : SFits w32 c.shown.result = search rules in
+    (w.tree, w.looked, (c.look_all-root.result.phase, end_shown_all c.look_all-root.ensures e, to_z-of_z w32 c.shown.result f ∙ c.shown.ensures ∙ ap (shown_of c.look_all-root.result.phase) e), w.tokens)
+
+pub returns-then-group-eq1 : goal.returns-then-group-eq1
+returns-then-group-eq1 c =
+    let w = no_more c.args.tries (first_look c.look_all-root.ensures) in (
+      w.tree,
+      w.looked,
+      first_fresh_all c.look_all-root.ensures (ap (λ (w : Fields). w.ended) (sym c.root.view_is) ∙ c.if-root.false),
+      ap (λ (z : GroupHeld). z.view.arrived) (sym c.group.view_is) ∙ c.if-group-eq1.true,
+      c.phase-phase.ensures,
+      w.tokens,
+    )
+
+pub try_all-requires-clause-place : goal.try_all-requires-clause-place
+try_all-requires-clause-place c = subst (λ (n : Named). c.look_all-root.new.group.view.tier < length n.key.shape) c.requires.own (first_look c.look_all-root.ensures).place
+
+pub try_all-requires-clause-unled : goal.try_all-requires-clause-unled
+try_all-requires-clause-unled c = (first_look c.look_all-root.ensures).unled
+
+pub try_all-requires-clause-unarrived : goal.try_all-requires-clause-unarrived
+try_all-requires-clause-unarrived c =
+    to_arrive c.look_all-root.new.group.view c.look_all-root.ensures.group.view (λ e. c.if-group-eq1.false (ap (λ (z : GroupHeld). z.view.arrived) c.group.view_is ∙ e))
+
+pub returns-in-Yet : goal.returns-in-Yet
+returns-in-Yet c =
+    let w = waited c.args.tries (first_look c.look_all-root.ensures) c.in-Yet.ensures in
+    (w.tree, w.looked, c.in-Yet.ensures.view.same.arrived ∙ to_arrive c.look_all-root.new.group.view c.look_all-root.ensures.group.view (λ e. c.if-group-eq1.false (ap (λ (z : GroupHeld). z.view.arrived) c.group.view_is ∙ e)), w.tokens)
+
+pub returns-in-Done : goal.returns-in-Done
+returns-in-Done c = done_all c.args.tries _ (first_look c.look_all-root.ensures) c.in-Done.ensures c.phase-phase-in-Done.ensures
+
+pub returns-in-Owing : goal.returns-in-Owing
+returns-in-Owing c = owing_all c.args.tries (first_look c.look_all-root.ensures) c.in-Owing.ensures
+
+pub returns-in-Ended : goal.returns-in-Ended
+returns-in-Ended c =
+    let w = waited c.args.tries (first_look c.look_all-root.ensures) c.in-Ended.ensures.0 in
+    let f : SFits w32 c.shown-in-Ended.result = search rules in
+    (w.tree, w.looked, (c.in-Ended.word.phase, c.in-Ended.ensures.2, to_z-of_z w32 c.shown-in-Ended.result f ∙ c.shown-in-Ended.ensures ∙ ap (shown_of c.in-Ended.word.phase) c.in-Ended.ensures.1), w.tokens)

@@ -1,0 +1,106 @@
+use Rattle.std.proofs.Common.{ℕ, ◌∷◌, sym, ap, subst, ◌∙◌, arith}
+use Rattle.phaser_word.specs.Fields.{Fields}
+use Rattle.tier_steps.specs.Step.{CanPass}
+use Rattle.tier_core.specs.Turn.{lags}
+use Rattle.tier_calls.specs.Holding.{sight_held}
+use Rattle.tier_calls.specs.LastOnes.{tokens_in}
+use Rattle.tier_calls.specs.Groups.{GroupHeld}
+use Rattle.tier_calls.proofs.NewTokens.{are_blank, are_many}
+use Rattle.tier_calls.proofs.ArrivingAll.{looked_yet, none_now, ready, keeps_then, keeps_wider, last_count, end_shown_all, looked_keeps, yet}
+use Rattle.tier_calls.proofs.ExchangeTries.{lost_pass, eager_now, has_parties, still_many, passed_from, others_from}
+use Rattle.tier_calls.proofs.tiers.Tiers.try_with_once.Goals as goal
+
+pub returns-then-word-clause-went : goal.returns-then-word-clause-went
+returns-then-word-clause-went c =
+    let e = ap (λ (w : Fields). w.ended) (sym c.word.view_is) ∙ c.if-word.true in
+    (looked_keeps 1 (omega arith) c.tier-tier.ensures (yet c.args.group.view c.look_all-word.ensures.was.view c.requires.unarrived) c.look_all-word.ensures, e, end_shown_all c.look_all-word.ensures e)
+
+pub returns-then-is_behind-clause-went : goal.returns-then-is_behind-clause-went
+returns-then-is_behind-clause-went c = keeps_then 0 1 1 (omega arith) (looked_yet c.look_all-word.ensures c.tier-tier.ensures c.requires.unarrived) c.refresh_first.ensures
+
+pub returns-then-joining-word-clause-went : goal.returns-then-joining-word-clause-went
+returns-then-joining-word-clause-went c =
+    (keeps_wider 0 1 (omega arith) (looked_yet c.look_all-word.ensures c.tier-tier.ensures c.requires.unarrived), (let a = c.if-joining-word.true in omega arith))
+
+pub exchange_early-requires-clause-blank : goal.exchange_early-requires-clause-blank
+exchange_early-requires-clause-blank c = are_blank c.new_tokens-new_tokens.ensures.new
+
+pub exchange_early-requires-clause-may : goal.exchange_early-requires-clause-may
+exchange_early-requires-clause-may c = ready c.look_all-word.ensures c.tier-tier.ensures c.requires.unarrived (ap (λ (w : Fields). w.ended) (sym c.word.view_is) ∙ c.if-word.false) (ap (λ (z : GroupHeld). lags c.look_all-word.result z.view) (sym c.group.view_is) ∙ (sym c.is_behind.ensures ∙ c.if-is_behind.false))
+
+pub exchange_early-requires-clause-eager : goal.exchange_early-requires-clause-eager
+exchange_early-requires-clause-eager c = eager_now c.look_all-word.ensures c.tier-tier.ensures c.requires.unarrived c.requires.eager (ap (λ (w : Fields). w.ended) (sym c.word.view_is) ∙ c.if-word.false)
+
+pub exchange_early-requires-clause-some : goal.exchange_early-requires-clause-some
+exchange_early-requires-clause-some c =
+    let k = looked_yet c.look_all-word.ensures c.tier-tier.ensures c.requires.unarrived in
+    has_parties c.look_all-word.ensures (c.tier-tier.ensures ∙ sym k.view.same.tier) (ready c.look_all-word.ensures c.tier-tier.ensures c.requires.unarrived (ap (λ (w : Fields). w.ended) (sym c.word.view_is) ∙ c.if-word.false) (ap (λ (z : GroupHeld). lags c.look_all-word.result z.view) (sym c.group.view_is) ∙ (sym c.is_behind.ensures ∙ c.if-is_behind.false)))
+
+pub exchange_early-requires-clause-room : goal.exchange_early-requires-clause-room
+exchange_early-requires-clause-room c =
+    let a = are_many c.new_tokens-new_tokens.ensures.new in let b = c.if-joining-word.false in let d = ap (λ (z : Fields). z.parties) c.word-2.view_is in let e = c.word-2.invariant.parties in omega arith
+
+pub exchange_early-requires-clause-few : goal.exchange_early-requires-clause-few
+exchange_early-requires-clause-few c = let a = still_many c.look_all-word.ensures in let b = c.requires.few in omega arith
+
+pub exchange_early-requires-clause-come : goal.exchange_early-requires-clause-come
+exchange_early-requires-clause-come c = let a = still_many c.look_all-word.ensures in let b = c.requires.come in let d = are_many c.new_tokens-new_tokens.ensures.new in omega arith
+
+pub exchange_last-requires-clause-blank : goal.exchange_last-requires-clause-blank
+exchange_last-requires-clause-blank c = are_blank c.new_tokens-new_tokens.ensures.new
+
+pub exchange_last-requires-clause-may : goal.exchange_last-requires-clause-may
+exchange_last-requires-clause-may c = ready c.look_all-word.ensures c.tier-tier.ensures c.requires.unarrived (ap (λ (w : Fields). w.ended) (sym c.word.view_is) ∙ c.if-word.false) (ap (λ (z : GroupHeld). lags c.look_all-word.result z.view) (sym c.group.view_is) ∙ (sym c.is_behind.ensures ∙ c.if-is_behind.false))
+
+pub exchange_last-requires-clause-eager : goal.exchange_last-requires-clause-eager
+exchange_last-requires-clause-eager c = eager_now c.look_all-word.ensures c.tier-tier.ensures c.requires.unarrived c.requires.eager (ap (λ (w : Fields). w.ended) (sym c.word.view_is) ∙ c.if-word.false)
+
+pub exchange_last-requires-clause-some : goal.exchange_last-requires-clause-some
+exchange_last-requires-clause-some c =
+    let k = looked_yet c.look_all-word.ensures c.tier-tier.ensures c.requires.unarrived in
+    has_parties c.look_all-word.ensures (c.tier-tier.ensures ∙ sym k.view.same.tier) (ready c.look_all-word.ensures c.tier-tier.ensures c.requires.unarrived (ap (λ (w : Fields). w.ended) (sym c.word.view_is) ∙ c.if-word.false) (ap (λ (z : GroupHeld). lags c.look_all-word.result z.view) (sym c.group.view_is) ∙ (sym c.is_behind.ensures ∙ c.if-is_behind.false)))
+
+pub exchange_last-requires-clause-room : goal.exchange_last-requires-clause-room
+exchange_last-requires-clause-room c =
+    let a = are_many c.new_tokens-new_tokens.ensures.new in let b = c.if-joining-word.false in let d = ap (λ (z : Fields). z.parties) c.word-2.view_is in let e = c.word-2.invariant.parties in omega arith
+
+pub exchange_last-requires-clause-few : goal.exchange_last-requires-clause-few
+exchange_last-requires-clause-few c = let a = still_many c.look_all-word.ensures in let b = c.requires.few in omega arith
+
+pub exchange_last-requires-clause-come : goal.exchange_last-requires-clause-come
+exchange_last-requires-clause-come c = let a = still_many c.look_all-word.ensures in let b = c.requires.come in let d = are_many c.new_tokens-new_tokens.ensures.new in omega arith
+
+pub exchange_last-requires-clause-last : goal.exchange_last-requires-clause-last
+exchange_last-requires-clause-last c =
+    let can = ready c.look_all-word.ensures c.tier-tier.ensures c.requires.unarrived (ap (λ (w : Fields). w.ended) (sym c.word.view_is) ∙ c.if-word.false) (ap (λ (z : GroupHeld). lags c.look_all-word.result z.view) (sym c.group.view_is) ∙ (sym c.is_behind.ensures ∙ c.if-is_behind.false)) in
+    let k = looked_yet c.look_all-word.ensures c.tier-tier.ensures c.requires.unarrived in
+    let few = last_count c.look_all-word.ensures (subst (λ (n : ℕ). CanPass n c.look_all-word.result c.look_all-word.new.group.view) (k.view.same.tier ∙ sym c.tier-tier.ensures) can) in
+    let a = c.size.ensures.size in
+    let b = ap (λ (z : Fields). z.unarrived) c.word-2.view_is in
+    let d = c.if-word-size.false in
+    omega arith
+
+pub returns-in-Done-clause-went : goal.returns-in-Done-clause-went
+returns-in-Done-clause-went c =
+    let e = c.in-Done.ensures in
+    passed_from {e = c.look_all-word.new.group.view.errand} c.look_all-word.result c.args.joining c.args.leaving c.in-Done.group.tokens e.2.0 (looked_yet c.look_all-word.ensures c.tier-tier.ensures c.requires.unarrived) c.requires.own.1 c.new_tokens-new_tokens.ensures.new e.0 e.1 e.2.1 e.2.2
+
+pub returns-in-Lost-clause-went : goal.returns-in-Lost-clause-went
+returns-in-Lost-clause-went c =
+    let k = looked_yet c.look_all-word.ensures c.tier-tier.ensures c.requires.unarrived in
+    let e = c.in-Lost.ensures in
+    keeps_then 0 1 1 (omega arith) k (lost_pass _ (yet c.look_all-word.new.group.view c.look_all-word.ensures.group.view (none_now k c.requires.unarrived)) e.1 e.2 e.3)
+
+pub returns-in-Owing-clause-went : goal.returns-in-Owing-clause-went
+returns-in-Owing-clause-went c =
+    let k = looked_yet c.look_all-word.ensures c.tier-tier.ensures c.requires.unarrived in
+    let e = c.in-Owing.ensures in (
+      passed_from {e = c.in-Owing.errand.token.view.errand} c.look_all-word.result c.args.joining c.args.leaving (sight_held c.in-Owing.errand.token ∷ tokens_in c.in-Owing.others) e.3.0 k c.requires.own.1 c.new_tokens-new_tokens.ensures.new e.0 e.1 e.3.1 e.3.2,
+      others_from c.in-Owing.others k e.2,
+    )
+
+pub returns-in-Lost-exchange_last-clause-went : goal.returns-in-Lost-exchange_last-clause-went
+returns-in-Lost-exchange_last-clause-went c =
+    let k = looked_yet c.look_all-word.ensures c.tier-tier.ensures c.requires.unarrived in
+    let e = c.in-Lost-exchange_last.ensures in
+    keeps_then 0 1 1 (omega arith) k (lost_pass _ (yet c.look_all-word.new.group.view c.look_all-word.ensures.group.view (none_now k c.requires.unarrived)) e.1 e.2 e.3)

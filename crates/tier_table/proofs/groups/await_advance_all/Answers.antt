@@ -1,0 +1,40 @@
+use Rattle.std.proofs.Common.{◌≡◌, ℕ, ◌<◌, ◌∙◌, refl, sym, inl, inr, subst, arith, rules}
+use Rattle.std.proofs.lemmas.Bool.{false≢true}
+use Rattle.tier_table.proofs.GroupsLasting.{waited_first, waited_more}
+use Rattle.tier_table.proofs.groups.await_advance_all.Goals as goal
+
+pub loop-init : goal.loop-init
+loop-init g c = (tt, tt, waited_first c.args.group.now)
+
+pub poll_all-requires : goal.poll_all-requires
+poll_all-requires g c = record { own = c.loop.invariant.2.tree ∙ c.requires.own }
+
+pub loop-preserved : goal.loop-preserved
+loop-preserved g c =
+    let told = c.in-Waiting.ensures.answer in
+    let kept = c.loop.invariant.2 in
+    (tt, tt, waited_more 1 (kept.view.size ∙ c.size.ensures.one) kept told.0 told.1 told.3 told.4)
+
+pub loop-preserved-derived : goal.loop-preserved-derived
+loop-preserved-derived g c = (tt, tt)
+
+pub returns-in-Passed-clause-answer : goal.returns-in-Passed-clause-answer
+returns-in-Passed-clause-answer g c = record { last = c.loop.group; waited = c.loop.invariant.2; polls = c.in-Passed.ensures.answer; all = c.in-Passed.ensures.waited }
+
+pub returns-in-Here-clause-answer : goal.returns-in-Here-clause-answer
+returns-in-Here-clause-answer g c = record { last = c.loop.group; waited = c.loop.invariant.2; polls = c.in-Here.ensures.answer; all = tt }
+
+pub returns-in-Ended-clause-answer : goal.returns-in-Ended-clause-answer
+returns-in-Ended-clause-answer g c = let told = c.in-Ended.ensures.answer in record { last = c.loop.group; waited = c.loop.invariant.2; polls = (told.0, told.1, (told.2.0, told.2.1, search rules), told.3); all = c.in-Ended.ensures.waited }
+
+pub unreachable-requires : goal.unreachable-requires
+unreachable-requires g c = false≢true c.in-None.ensures.steps
+
+pub returns-in-Passed-clause-tree : goal.returns-in-Passed-clause-tree
+returns-in-Passed-clause-tree g c = c.in-Passed.ensures.answer.0 ∙ c.loop.invariant.2.tree
+
+pub returns-in-Here-clause-tree : goal.returns-in-Here-clause-tree
+returns-in-Here-clause-tree g c = c.in-Here.ensures.answer.0 ∙ c.loop.invariant.2.tree
+
+pub returns-in-Ended-clause-tree : goal.returns-in-Ended-clause-tree
+returns-in-Ended-clause-tree g c = c.in-Ended.ensures.answer.0 ∙ c.loop.invariant.2.tree
