@@ -1,5 +1,5 @@
 //! Four threads meet at a tree, which ends with phase 9: thread 0 brings a member in phase 3, thread 1 leaves in phase 5.
-//! Then each of four threads stands for a thousand members, which come and go for a thousand phases.
+//! Then each of four threads takes part for a thousand members, which come and go for a thousand phases.
 #![tactic(auto)]
 
 use phasers::parties::{JoinedParties, Parties, PartiesArrived};

@@ -21,9 +21,11 @@
 //! `PhaserTree::close` returns the words of the tiers at the end, when all tokens are gone.
 //!
 //! Four threads meet on a root with two children that have two leaves each. Thread 0 brings a member in phase 3, thread 1
-//! leaves in phase 5, and the plan ends the tree:
+//! leaves in phase 5, and the plan ends the tree. Then each of four threads takes part for a thousand members, which come
+//! and go for a thousand phases:
 //!
 //! ```
+//! use phasers::parties::{JoinedParties, Parties, PartiesArrived};
 //! use phasers::tree::{AwaitedAdvance, Brought, EndPlan, Joined, Party, PhaserTree};
 //! use std::sync::Wait;
 //! use std::thread;
@@ -49,6 +51,36 @@
 //!     last
 //! }
 //!
+//! // In each phase p up to 999, lets p % 5 new members join and arrive, p % 3 of the old ones leave, and the others arrive.
+//! // Returns how many are left. Then all of them leave.
+//! fn stands_for<R: Wait>(rt: &R, mut parties: Parties<'_>) -> u32 {
+//!     for _ in rt.forever() {
+//!         let phase = parties.phase();
+//!         if phase >= 1000 {
+//!             break;
+//!         }
+//!         let leaving = (phase % 3).min(parties.size() - 1);
+//!         match parties.arrive_with(rt, phase % 5, leaving) {
+//!             PartiesArrived::Done {
+//!                 parties: mut next,
+//!                 ..
+//!             } => {
+//!                 next.await_advance(rt);
+//!                 parties = next;
+//!             }
+//!             PartiesArrived::Full(next, _)
+//!             | PartiesArrived::AlreadyArrived(next, _)
+//!             | PartiesArrived::Ended(next, _) => {
+//!                 parties = next;
+//!                 break;
+//!             }
+//!         }
+//!     }
+//!     let left = parties.size();
+//!     parties.leave_all(rt);
+//!     left
+//! }
+//!
 //! fn main(rt: HostRuntime) -> anyhow::Result<()> {
 //!     let mut tree = PhaserTree::from_widths(rt.alloc(), "2x2", EndPlan::at_phase(9))?;
 //!     let mut guest = tree.guest();
@@ -60,11 +92,27 @@
 //!     }
 //!     let last = thread::map_vec(&rt, parties, &|it: (usize, Party<'_>)| last_phase(&rt, it))?;
 //!     println!(rt; "{last:?}")?;
+//!
+//!     // Each thread ends with 1000 + 2000 - 999 members: in a thousand phases, 2000 join and 999 leave.
+//!     let mut tree = PhaserTree::from_widths(rt.alloc(), "2x2", EndPlan::when_empty())?;
+//!     let mut guest = tree.guest();
+//!     let mut thousands = Vec::new(rt.alloc());
+//!     for number in 0..4 {
+//!         if let JoinedParties::Joined(parties, _) = guest.split().join_all(&rt, number, 1000) {
+//!             thousands.push(parties)?;
+//!         }
+//!     }
+//!     let left = thread::map_vec(
+//!         &rt,
+//!         thousands,
+//!         &|parties: Parties<'_>| stands_for(&rt, parties),
+//!     )?;
+//!     println!(rt; "{left:?}")?;
 //!     Ok(())
 //! }
 //! ```
 //!
-//! It prints `[9, 5, 9, 9]`.
+//! It prints `[9, 5, 9, 9]` and `[2001, 2001, 2001, 2001]`.
 //!
 //! Register all who meet in phase 0 before the first thread starts: who joins later joins the phase that runs then.
 //!
